@@ -13,7 +13,7 @@
 ghost use Rattle.std.specs.Prelude.{◌≡◌};
 
 use anyhow::{Result, bail};
-use gt_frames::{Frame, FrameName, Frames, Ground, Pool, Spot, Visits, Writ};
+use gt_frames::{Frame, FrameName, Frames, WriteBasis, Pool, Spot, FrameAccesses, Writ};
 use gt_handles::Handles;
 use gt_types::{Config, DomId, DomainConfig, FRAME_SIZE, Range, TypeId};
 use std::alloc::Global;
@@ -24,7 +24,7 @@ const OWNER: DomId = DomId(1);
 
 const BY_OWNER: Writ = Writ {
     writer: OWNER,
-    basis: Ground::Owned,
+    basis: WriteBasis::Owned,
 };
 
 /// The whole of a frame.
@@ -150,7 +150,7 @@ fn copy_named(frames: &mut Frames, times: u32) -> u32 {
 }
 
 /// Locks a frame and frees it, and answers how often.
-fn lock_all<R: Wait>(rt: &R, pool: &Pool, visits: &mut Visits, times: u32) -> u32 {
+fn lock_all<R: Wait>(rt: &R, pool: &Pool, visits: &mut FrameAccesses, times: u32) -> u32 {
     for done in 0..times {
         match pool.lock(rt, far()) {
             Some(frame) => frame.free(visits),
@@ -161,7 +161,7 @@ fn lock_all<R: Wait>(rt: &R, pool: &Pool, visits: &mut Visits, times: u32) -> u3
 }
 
 /// Copies one whole frame to another under their locks, and answers how often.
-fn copy_locked<R: Wait>(rt: &R, pool: &Pool, visits: &mut Visits, times: u32) -> u32 {
+fn copy_locked<R: Wait>(rt: &R, pool: &Pool, visits: &mut FrameAccesses, times: u32) -> u32 {
     for done in 0..times {
         let Some(mut ends) = pool.lock_both(rt, far(), near()) else {
             return done;

@@ -1,5 +1,5 @@
 //! How calls are recorded, and how much is done.
-use gt_running::Running;
+use gt_running::TestDomain;
 use gt_types::Allows;
 
 /// How the calls of a domain are recorded.
@@ -19,7 +19,7 @@ pub enum Audit {
 const RECORDS_AHEAD: usize = 400_000;
 
 /// Has the calls of a domain recorded so. Answers whether it could.
-pub(crate) fn record_calls<P: Allows>(domain: &mut Running<'_, P>, audit: Audit) -> bool {
+pub(crate) fn record_calls<P: Allows>(domain: &mut TestDomain<'_, P>, audit: Audit) -> bool {
     match audit {
         Audit::On | Audit::Taken => true,
         Audit::Ahead => domain.reserve_records(RECORDS_AHEAD).is_ok(),

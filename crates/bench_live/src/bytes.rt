@@ -7,7 +7,7 @@ use gt_calls::{CopyArgs, End};
 use gt_entry::Entry;
 use gt_live::Monitor;
 use gt_policy::Policy;
-use gt_running::{Running, WRITABLE, all_running};
+use gt_running::{TestDomain, WRITABLE, all_running};
 use gt_types::{Allows, DOMID_SELF, DomId, GrantRef};
 use std::alloc::Global;
 use std::sync::Wait;
@@ -28,7 +28,7 @@ pub(crate) enum Moves {
 
 #[derive(Drop)]
 struct Worker<'m, P: Allows> {
-    domain: Running<'m, P>,
+    domain: TestDomain<'m, P>,
     gref: GrantRef,
 }
 
@@ -66,7 +66,7 @@ fn copy_of(moves: Moves, gref: GrantRef, len: u16) -> CopyArgs {
 // Makes one access, and answers whether it was done.
 fn access_once<R: Wait, P: Allows>(
     rt: &R,
-    domain: &mut Running<'_, P>,
+    domain: &mut TestDomain<'_, P>,
     access: &Access<'_>,
     buffer: &mut [u8],
 ) -> bool {
@@ -113,7 +113,7 @@ fn work<R: Wait, P: Allows>(
 }
 
 // Grants the owner's page with this number to a domain, under the reference with this number.
-fn grant_page<P: Allows>(owner: &mut Running<'_, P>, number: u32, dom: DomId) -> bool {
+fn grant_page<P: Allows>(owner: &mut TestDomain<'_, P>, number: u32, dom: DomId) -> bool {
     let page = Entry::Page {
         dom,
         ro: false,
@@ -124,8 +124,8 @@ fn grant_page<P: Allows>(owner: &mut Running<'_, P>, number: u32, dom: DomId) ->
 
 // Grants a page of the owner's to the domain between, which lets this domain go on to it.
 fn grant_way<P: Allows>(
-    owner: &mut Running<'_, P>,
-    middle: &mut Running<'_, P>,
+    owner: &mut TestDomain<'_, P>,
+    middle: &mut TestDomain<'_, P>,
     number: u32,
     dom: DomId,
 ) -> bool {
@@ -140,9 +140,9 @@ fn grant_way<P: Allows>(
 
 // A worker with the reference of a page that the owner granted to it, or of an entry that leads to one.
 fn worker_with_page<'m, P: Allows>(
-    owner: &mut Running<'_, P>,
-    middle: &mut Running<'_, P>,
-    domain: Running<'m, P>,
+    owner: &mut TestDomain<'_, P>,
+    middle: &mut TestDomain<'_, P>,
+    domain: TestDomain<'m, P>,
     moves: Moves,
     place: u16,
 ) -> Result<Worker<'m, P>> {

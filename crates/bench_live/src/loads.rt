@@ -6,7 +6,7 @@ use gt_audit::Trail;
 use gt_entry::Entry;
 use gt_live::Monitor;
 use gt_policy::Policy;
-use gt_running::{READ_ONLY, Running, all_running};
+use gt_running::{READ_ONLY, TestDomain, all_running};
 use gt_types::{Allows, Config, DomId, DomainConfig, LAST_GENERATION, MAX_TABLE_FRAMES, TypeId};
 use std::alloc::{AllocError, Global};
 use std::thread::{self, Threads};
@@ -84,7 +84,7 @@ enum Part {
 
 #[derive(Drop)]
 struct Worker<'m, P: Allows> {
-    domain: Running<'m, P>,
+    domain: TestDomain<'m, P>,
     part: Part,
 }
 
@@ -121,7 +121,7 @@ fn page(dom: DomId) -> Entry {
 }
 
 // Grants the entries of a load, each to its mapper.
-fn grant_each<P: Allows>(owner: &mut Running<'_, P>, spread: Spread) -> bool {
+fn grant_each<P: Allows>(owner: &mut TestDomain<'_, P>, spread: Spread) -> bool {
     let mut all = true;
     'entries: for place in 0..spread.count {
         let (gref, dom) = spread.at(u64::from(place));
@@ -132,7 +132,7 @@ fn grant_each<P: Allows>(owner: &mut Running<'_, P>, spread: Spread) -> bool {
 
 // Revokes the entries and grants them again by turns, so often, each time with as many tries as it takes. Answers how
 // often: less if entries are worn.
-fn revoke_and_grant<P: Allows>(owner: &mut Running<'_, P>, spread: Spread, rounds: u32) -> u32 {
+fn revoke_and_grant<P: Allows>(owner: &mut TestDomain<'_, P>, spread: Spread, rounds: u32) -> u32 {
     let mut done = 0;
     'rounds: for turn in 0..u64::MAX {
         if done >= rounds || done >= LAST_GENERATION - 1 {
@@ -148,7 +148,7 @@ fn revoke_and_grant<P: Allows>(owner: &mut Running<'_, P>, spread: Spread, round
 
 // Withdraws the entries by turns, and grants each again once it has no pin, so often, each time with as many tries as
 // it takes. Answers how often: less if entries are worn.
-fn withdraw_and_grant<P: Allows>(owner: &mut Running<'_, P>, spread: Spread, rounds: u32) -> u32 {
+fn withdraw_and_grant<P: Allows>(owner: &mut TestDomain<'_, P>, spread: Spread, rounds: u32) -> u32 {
     let mut done = 0;
     let mut withdrawn = false;
     'rounds: for _ in 0..u64::MAX {
@@ -167,7 +167,7 @@ fn withdraw_and_grant<P: Allows>(owner: &mut Running<'_, P>, spread: Spread, rou
 }
 
 // Maps an entry and unmaps it, so often, each time with as many tries as it takes.
-fn map_and_unmap<P: Allows>(domain: &mut Running<'_, P>, gref: u32, rounds: u32) -> u32 {
+fn map_and_unmap<P: Allows>(domain: &mut TestDomain<'_, P>, gref: u32, rounds: u32) -> u32 {
     let mut done = 0;
     'rounds: for _ in 0..u64::MAX {
         if done >= rounds {
@@ -183,7 +183,7 @@ fn map_and_unmap<P: Allows>(domain: &mut Running<'_, P>, gref: u32, rounds: u32)
 // The same, in parts after each of which the records are taken.
 fn map_and_take<P: Allows>(
     alloc: Global,
-    domain: &mut Running<'_, P>,
+    domain: &mut TestDomain<'_, P>,
     gref: u32,
     rounds: u32,
 ) -> u32 {
@@ -219,7 +219,7 @@ fn work<P: Allows>(alloc: Global, worker: Worker<'_, P>, audit: Audit, rounds: u
 // The workers of a load, whose entries are granted.
 fn workers<'m, P: Allows>(
     alloc: Global,
-    domains: Vec<Running<'m, P>>,
+    domains: Vec<TestDomain<'m, P>>,
     load: Load,
     threads: u32,
 ) -> Result<Vec<Worker<'m, P>>> {

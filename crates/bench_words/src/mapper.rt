@@ -6,7 +6,7 @@ ghost use Rattle.gt_words.specs.Rule.{position_in};
 ghost use Rattle.gt_words.specs.Conditions.{HasLooked, Holds, IsEntryOf, IsSameSeat, IsSeatOf, KeepsPins};
 ghost use Rattle.bench_words.specs.Mapping.{CanMap, MayMap, KeepsPinsBeyond};
 
-use gt_entry::{Control, Entry, Half, Header, Kind};
+use gt_entry::{Control, Entry, BodyWord, Header, EntryKind};
 use gt_types::{Dir, DomId, GrantRef, MAX_PINS, Range, TABLE_ENTRIES, Use};
 use gt_words::{Pin, Seat, Words};
 
@@ -46,9 +46,9 @@ fn look(words: &Words, seat: &mut Seat, dom: DomId, gref: GrantRef) -> Sight
 {
     let word = words.load_control(seat, dom, gref);
     let control = Control::unpack(word);
-    let first = words.load_body(seat, dom, gref, Half::First);
-    let second = if control.kind == Kind::Sub {
-        words.load_body(seat, dom, gref, Half::Second)
+    let first = words.load_body(seat, dom, gref, BodyWord::First);
+    let second = if control.kind == EntryKind::Sub {
+        words.load_body(seat, dom, gref, BodyWord::Second)
     } else {
         0
     };
@@ -70,10 +70,10 @@ fn look_at_page(words: &Words, seat: &mut Seat, dom: DomId, gref: GrantRef) -> O
 {
     let word = words.load_control(seat, dom, gref);
     let control = Control::unpack(word);
-    if control.kind != Kind::Page {
+    if control.kind != EntryKind::Page {
         return None;
     }
-    let frame = words.load_body(seat, dom, gref, Half::First);
+    let frame = words.load_body(seat, dom, gref, BodyWord::First);
     let entry = Entry::spelled(control, frame, 0);
     Some(Sight { word, entry })
 }

@@ -5,7 +5,7 @@ ghost use Rattle.gt_words.specs.Views.{last_of, own_body};
 ghost use Rattle.gt_words.specs.Conditions.{HasDomain, IsSeatOf, IsSameSeat};
 ghost use Rattle.bench_words.specs.Mapping.{Owns, OwnsStill};
 
-use gt_entry::{Control, Entry, Half};
+use gt_entry::{Control, Entry, BodyWord};
 use gt_types::{DomId, GrantRef, LAST_GENERATION, TABLE_ENTRIES};
 use gt_words::{Seat, Words};
 
@@ -23,14 +23,14 @@ fn store_body(words: &Words, seat: &mut Seat, gref: GrantRef, entry: Entry)
     requires reference { gref.0 < TABLE_ENTRIES }
     requires invalid { (last_of gref.0 seat.old.view).entry ≡ Entry.Invalid }
     ensures seat { IsSameSeat seat.old seat.new }
-    ensures spelled { IsSpelled entry (own_body gref.0 Half.First seat.new.view)
-        (own_body gref.0 Half.Second seat.new.view) }
+    ensures spelled { IsSpelled entry (own_body gref.0 BodyWord.First seat.new.view)
+        (own_body gref.0 BodyWord.Second seat.new.view) }
     ensures row { last_of gref.0 seat.new.view ≡ last_of gref.0 seat.old.view }
     ensures others { (r : ℕ) → gref.0 ≢ r → last_of r seat.new.view ≡ last_of r seat.old.view }
 {
-    words.store_body(seat, gref, Half::First, entry.first_body());
+    words.store_body(seat, gref, BodyWord::First, entry.first_body());
     if let Entry::Sub { .. } = entry {
-        words.store_body(seat, gref, Half::Second, entry.second_body());
+        words.store_body(seat, gref, BodyWord::Second, entry.second_body());
     }
 }
 

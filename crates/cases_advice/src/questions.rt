@@ -1,5 +1,5 @@
 //! What is answered.
-use gt_advice::{Answer, Question, why};
+use gt_advice::{WhyAnswer, WhyQuestion, why};
 use std::alloc::Global;
 
 // The type that a word asks for, none for any.
@@ -8,13 +8,13 @@ fn wanted(word: &str) -> Option<&str> {
 }
 
 // What is said of a question about a name that there is not.
-fn refusal(answer: Answer) -> &'static str {
+fn refusal(answer: WhyAnswer) -> &'static str {
     match answer {
-        Answer::Allowed => "",
-        Answer::Denied => "",
-        Answer::NoSource => "no such source\n",
-        Answer::NoTarget => "no such target\n",
-        Answer::NoPermission => "no such permission\n",
+        WhyAnswer::Allowed => "",
+        WhyAnswer::Denied => "",
+        WhyAnswer::NoSource => "no such source\n",
+        WhyAnswer::NoTarget => "no such target\n",
+        WhyAnswer::NoPermission => "no such permission\n",
     }
 }
 
@@ -27,7 +27,7 @@ pub fn answer_said(
     target: &str,
     perm: &str,
 ) -> anyhow::Result<String> {
-    let question = Question {
+    let question = WhyQuestion {
         source: wanted(source),
         target: wanted(target),
         perm,

@@ -1,5 +1,5 @@
 //! What is wrong or useless in policies.
-use gt_advice::{Finding, Kind, check, push_json, push_report};
+use gt_advice::{Finding, FindingKind, check, push_json, push_report};
 use std::alloc::Global;
 
 /// What is found in a policy, as text and then as JSON.
@@ -18,7 +18,7 @@ const WIDE: &str = "日本 e\u{301}\u{1b}x";
 pub fn wide_said(alloc: Global) -> anyhow::Result<String> {
     let mut found = Vec::new(alloc);
     found.push(Finding {
-        kind: Kind::Note,
+        kind: FindingKind::Note,
         line: 1,
         column: 12,
         message: Vec::from_slice(alloc, b"the caret stands below the last letter")?,

@@ -2,8 +2,8 @@
 use crate::scarce::{Place, Scarce};
 use anyhow::bail;
 use gt_core::{Answer, Begun, Core, Request, Ticked};
-use gt_host::Rights;
-use gt_running::Running;
+use gt_host::ScriptPolicy;
+use gt_running::TestDomain;
 use gt_types::{DomId, DomainConfig, Rule};
 use std::alloc::Global;
 use std::sync::Wait;
@@ -15,8 +15,8 @@ const MOST_STEPS: u32 = 71;
 /// monitor and has a record is counted.
 #[derive(Drop)]
 pub struct Both<'m> {
-    pub core: Core<Rights>,
-    pub domains: Vec<Running<'m, Rights>>,
+    pub core: Core<ScriptPolicy>,
+    pub domains: Vec<TestDomain<'m, ScriptPolicy>>,
     pub refused: usize,
 }
 
@@ -31,7 +31,7 @@ pub enum Asked {
 
 // The next tick, in the memory that it finds; none if memory was refused.
 fn tick_once(
-    core: &mut Core<Rights>,
+    core: &mut Core<ScriptPolicy>,
     scarce: &mut Scarce,
     dom: DomId,
 ) -> anyhow::Result<Option<Ticked>> {
@@ -43,7 +43,7 @@ fn tick_once(
 
 // The next tick, made again each time that memory is refused.
 fn ticked(
-    core: &mut Core<Rights>,
+    core: &mut Core<ScriptPolicy>,
     scarce: &mut Scarce,
     dom: DomId,
     request: Request<'_>,
@@ -59,7 +59,7 @@ fn ticked(
 
 // The open call's answer, once its steps are made.
 fn ended(
-    core: &mut Core<Rights>,
+    core: &mut Core<ScriptPolicy>,
     scarce: &mut Scarce,
     dom: DomId,
     request: Request<'_>,
@@ -74,7 +74,7 @@ fn ended(
 
 // A call of the core, begun in the memory that it finds; none if memory was refused.
 fn begin_once(
-    core: &mut Core<Rights>,
+    core: &mut Core<ScriptPolicy>,
     scarce: &mut Scarce,
     dom: DomId,
     request: Request<'_>,
@@ -87,7 +87,7 @@ fn begin_once(
 
 // A call of the core, begun again each time that memory is refused.
 fn begun(
-    core: &mut Core<Rights>,
+    core: &mut Core<ScriptPolicy>,
     scarce: &mut Scarce,
     dom: DomId,
     request: Request<'_>,
@@ -103,7 +103,7 @@ fn begun(
 
 // A whole call of the core.
 fn on_core(
-    core: &mut Core<Rights>,
+    core: &mut Core<ScriptPolicy>,
     scarce: &mut Scarce,
     dom: DomId,
     request: Request<'_>,

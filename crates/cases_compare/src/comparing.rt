@@ -4,7 +4,7 @@ use crate::scarce::Scarce;
 use crate::texts::text_difference;
 use anyhow::bail;
 use gt_core::{Answer, Core, Request};
-use gt_host::{Labels, Rights, bytes_said, label_given, push_answer_line, request_of};
+use gt_host::{Labels, ScriptPolicy, call_bytes, label_given, push_answer_line, request_of};
 use gt_live::Monitor;
 use gt_running::{READ_ONLY, all_running};
 use gt_script::{Script, ScriptAction, ScriptCall, ScriptStep, Text, parse};
@@ -42,8 +42,8 @@ fn configured(alloc: Global, script: &Script<'_>) -> anyhow::Result<Config> {
     })
 }
 
-fn rights(alloc: Global, script: &Script<'_>) -> anyhow::Result<Rights> {
-    match Rights::of(alloc, script) {
+fn rights(alloc: Global, script: &Script<'_>) -> anyhow::Result<ScriptPolicy> {
+    match ScriptPolicy::of(alloc, script) {
         Ok(rights) => Ok(rights),
         Err(_) => bail!("memory"),
     }
@@ -155,7 +155,7 @@ fn call_made<'a, R: Wait>(
     names: &[Text<'_>],
 ) -> anyhow::Result<Came> {
     let call = call_of(step)?;
-    let bytes = bytes_said(alloc, call)?;
+    let bytes = call_bytes(alloc, call)?;
     let request = request_of(labels, step.dom, bytes.as_slice(), call);
     let answer = match answered(rt, alloc, both, scarce, script.domains(), step.dom, request)? {
         Ok(answer) => answer,
@@ -243,7 +243,7 @@ fn lines_compared<'a, R: Wait>(
 }
 
 // A core that the script configures.
-fn core_of(alloc: Global, script: &Script<'_>) -> anyhow::Result<Core<Rights>> {
+fn core_of(alloc: Global, script: &Script<'_>) -> anyhow::Result<Core<ScriptPolicy>> {
     let (config, allowed) = (configured(alloc, script)?, rights(alloc, script)?);
     match Core::new(alloc, config, allowed) {
         Ok(core) => Ok(core),

@@ -2,8 +2,8 @@
 use crate::asking::Both;
 use anyhow::bail;
 use gt_audit::push_line;
-use gt_host::{Rights, play};
-use gt_running::Running;
+use gt_host::{ScriptPolicy, play};
+use gt_running::TestDomain;
 use gt_script::Text;
 use gt_types::DomainConfig;
 use std::alloc::Global;
@@ -24,7 +24,7 @@ fn lines_of(alloc: Global, text: &str, dom: u16) -> anyhow::Result<String> {
 // The audit lines of a domain's records.
 fn lines_told(
     alloc: Global,
-    domain: &Running<'_, Rights>,
+    domain: &TestDomain<'_, ScriptPolicy>,
     names: &[Text<'_>],
 ) -> anyhow::Result<String> {
     let mut told = Vec::new(alloc);

@@ -9,15 +9,15 @@
 //! It uses `gt_dump` (the lines), `gt_types` (domains) and `anyhow` (errors).
 #![tactic(auto)]
 
-use gt_dump::{Asked, entries};
+use gt_dump::{DumpOptions, entries};
 use gt_types::DomId;
 use std::fs::File;
 use std::io;
 
 // What a case asks.
-fn asked_of(case: &str) -> Asked {
+fn asked_of(case: &str) -> DumpOptions {
     let has = |word: &str| case.split(' ').any(|it| it == word);
-    Asked {
+    DumpOptions {
         version: if case.starts_with("2") { 2 } else { 1 },
         hex: has("hex"),
         all: has("all"),

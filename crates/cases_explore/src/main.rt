@@ -7,7 +7,7 @@
 #![tactic(auto)]
 
 use anyhow::bail;
-use gt_explore::{Asked, explore};
+use gt_explore::{ExploreOptions, explore};
 use gt_host::play;
 use std::alloc::Global;
 use std::fs;
@@ -19,7 +19,7 @@ const LIMIT: usize = 100_000;
 fn explored(alloc: Global, script: &[u8], witness: Option<usize>) -> anyhow::Result<Vec<u8>> {
     let mut out = Vec::new(alloc);
     let mut reader = script;
-    let asked = Asked {
+    let asked = ExploreOptions {
         find: None,
         witness,
         states: LIMIT,

@@ -9,22 +9,22 @@
 
 use anyhow::bail;
 use gt_failing::{FailingWriter, failing_line};
-use gt_json::{JsonFault, Printed, write_json};
+use gt_json::{JsonFault, PrintedText, write_json};
 use std::alloc::Global;
 use std::fs;
 
 // The command that prints a text of this name.
-fn printed_by(name: &str) -> Printed {
+fn printed_by(name: &str) -> PrintedText {
     match name {
-        "policy.txt" => Printed::Policy,
-        "entries.txt" => Printed::Entries,
-        _ => Printed::Run,
+        "policy.txt" => PrintedText::Policy,
+        "entries.txt" => PrintedText::Entries,
+        _ => PrintedText::Run,
     }
 }
 
 // Each write fails after so many bytes, for each number of them; then only the flush, and then nothing. The first
 // number after which the answer is another, or what went out is no beginning of the JSON.
-fn untold_write(alloc: Global, printed: Printed, text: &[u8], json: &[u8]) -> Option<usize> {
+fn untold_write(alloc: Global, printed: PrintedText, text: &[u8], json: &[u8]) -> Option<usize> {
     for left in 0..json.len().saturating_add(2) {
         let is_short = left <= json.len();
         let mut writer = FailingWriter::new(Vec::new(alloc), left);

@@ -1,7 +1,7 @@
 //! What each beginning of a script prints.
 use crate::running::run_text;
 use gt_audit::SharedLog;
-use gt_run::Flags;
+use gt_run::FlagGate;
 use std::alloc::Global;
 use std::sync::Wait;
 use std::thread::Threads;
@@ -20,9 +20,9 @@ fn outcome<R: Threads + Wait + Sync>(
     alloc: Global,
     script: &str,
 ) -> anyhow::Result<String> {
-    let gate = Flags::new(rt, alloc)?;
+    let gate = FlagGate::new(rt, alloc)?;
     let plain = run_text(rt, alloc, script, None, &gate)?.said(alloc)?;
-    let gate = Flags::new(rt, alloc)?;
+    let gate = FlagGate::new(rt, alloc)?;
     let log = SharedLog::new(alloc)?;
     let mut audited = run_text(rt, alloc, script, Some(&log), &gate)?.said(alloc)?;
     if !adds_records(plain.as_str(), audited.as_str()) {

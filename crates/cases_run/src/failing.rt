@@ -2,7 +2,7 @@
 use crate::running::{run_failing, run_recorded};
 use gt_audit::SharedLog;
 use gt_failing::failing_line;
-use gt_run::Flags;
+use gt_run::FlagGate;
 use std::alloc::Global;
 use std::sync::Wait;
 use std::thread::Threads;
@@ -16,7 +16,7 @@ fn untold_read<R: Threads + Wait + Sync>(
 ) -> anyhow::Result<Option<usize>> {
     for left in 0..script.len() {
         let limits = (left, usize::MAX);
-        let gate = Flags::new(rt, alloc)?;
+        let gate = FlagGate::new(rt, alloc)?;
         let ended = run_failing(rt, alloc, script, limits, None, &gate)?;
         if !ended.is("".as_bytes(), "read") {
             return Ok(Some(left));
@@ -35,7 +35,7 @@ fn untold_write<R: Threads + Wait + Sync>(
 ) -> anyhow::Result<Option<usize>> {
     for left in 0..text.len() + 2 {
         let limits = (usize::MAX, left);
-        let gate = Flags::new(rt, alloc)?;
+        let gate = FlagGate::new(rt, alloc)?;
         let log = SharedLog::new(alloc)?;
         let ended = run_failing(rt, alloc, script, limits, Some(&log), &gate)?;
         let fault = if left <= text.len() { "write" } else { "" };

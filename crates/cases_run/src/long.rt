@@ -1,7 +1,7 @@
 //! Lists of as many lines as a script has room for.
 use crate::running::run_text;
 use gt_audit::SharedLog;
-use gt_run::Flags;
+use gt_run::FlagGate;
 use std::alloc::{AllocError, Global};
 use std::fmt::Write;
 use std::sync::Wait;
@@ -62,7 +62,7 @@ pub fn long_said<R: Threads + Wait + Sync>(rt: &R, alloc: Global) -> anyhow::Res
     for long in [QUERIES, UNMAPS] {
         let text = script(alloc, long)?;
         let wanted = answers(alloc, long)?;
-        let gate = Flags::new(rt, alloc)?;
+        let gate = FlagGate::new(rt, alloc)?;
         let log = SharedLog::new(alloc)?;
         let shared = if long.record.is_empty() {
             None

@@ -33,7 +33,7 @@ use beginnings::beginnings_said;
 use failing::failing_said;
 use gates::{Turns, gate_said, records_said};
 use gt_audit::SharedLog;
-use gt_run::{Flags, run};
+use gt_run::{FlagGate, run};
 use long::long_said;
 use many::many_said;
 use refusing::refusing_said;
@@ -87,7 +87,7 @@ fn run_file<R: Runtime + Threads + Wait + Sync>(
     let mut script = File::open(rt, path)?;
     let log = SharedLog::new(alloc)?;
     let shared = if audit { Some(&log) } else { None };
-    let gate = Flags::new(rt, alloc)?;
+    let gate = FlagGate::new(rt, alloc)?;
     let mut out = io::writer(rt);
     if let Err(fault) = run(rt, alloc, &mut script, &mut out, shared, &gate) {
         println!(rt; "{fault}")?;

@@ -4,7 +4,7 @@ use crate::running::{run_recorded, run_text};
 use crate::scarce::{End, GAP, Place, Scarce, run_scarce};
 use gt_audit::SharedLog;
 use gt_flood::Flood;
-use gt_run::Flags;
+use gt_run::FlagGate;
 use std::alloc::{AllocError, Global};
 use std::fmt::Write;
 use std::sync::{Mutex, Wait};
@@ -108,7 +108,7 @@ fn keep_stacks<R: Threads + Wait + Sync>(
         writeln!(script, "domain {} u:r:a_t 1 1 1", before.saturating_add(1))?;
     }
     writeln!(script, "tell 1 x")?;
-    let gate = Flags::new(rt, alloc)?;
+    let gate = FlagGate::new(rt, alloc)?;
     run_text(rt, alloc, script.as_str(), None, &gate)?;
     Ok(())
 }

@@ -1,7 +1,7 @@
 //! Runs over memory.
 use gt_audit::SharedLog;
 use gt_failing::{FailingReader, FailingWriter};
-use gt_run::{Flags, Gate, RunFault, run};
+use gt_run::{FlagGate, Gate, RunFault, run};
 use std::alloc::{AllocError, Global};
 use std::sync::Wait;
 use std::thread::Threads;
@@ -62,7 +62,7 @@ pub fn run_recorded<R: Threads + Wait + Sync>(
     alloc: Global,
     script: &str,
 ) -> anyhow::Result<Ended> {
-    let gate = Flags::new(rt, alloc)?;
+    let gate = FlagGate::new(rt, alloc)?;
     let log = SharedLog::new(alloc)?;
     Ok(run_text(rt, alloc, script, Some(&log), &gate)?)
 }

@@ -2,7 +2,7 @@
 use gt_audit::SharedLog;
 use gt_flood::Flood;
 use gt_host::PlayFault;
-use gt_run::{Flags, Gate, RunFault, run};
+use gt_run::{FlagGate, Gate, RunFault, run};
 use gt_types::Memory;
 use std::alloc::Global;
 use std::io::{self, Write};
@@ -40,7 +40,7 @@ pub enum End {
 #[derive(Drop)]
 pub struct Scarce<'r, R: Wait> {
     rt: &'r R,
-    flags: Flags<'r, R>,
+    flags: FlagGate<'r, R>,
     flood: &'r Mutex<Flood>,
     place: Place,
     left: usize,
@@ -58,7 +58,7 @@ impl<'r, R: Wait> Scarce<'r, R> {
     ) -> Result<Self, Memory> {
         Ok(Scarce {
             rt,
-            flags: Flags::new(rt, alloc)?,
+            flags: FlagGate::new(rt, alloc)?,
             flood,
             place,
             left,

@@ -69,14 +69,14 @@ fn steps_said(alloc: Global, steps: &[ScriptStep<'_>]) -> Result<String, AllocEr
     let mut out = String::new(alloc);
     for step in steps {
         let action = &step.action;
-        let bytes = bytes_said(alloc, action)?;
+        let bytes = call_bytes(alloc, action)?;
         let said = format!(in alloc; "{} {} {action:?}{bytes}\n", step.line, step.dom.0)?;
         out.push_str(said.as_str())?;
     }
     Ok(out)
 }
 
-fn bytes_said(alloc: Global, action: &ScriptAction<'_>) -> Result<String, AllocError> {
+fn call_bytes(alloc: Global, action: &ScriptAction<'_>) -> Result<String, AllocError> {
     match hex_in(action) {
         Some(hex) => {
             let bytes = hex_bytes(alloc, hex)?;

@@ -12,9 +12,9 @@ use Rattle.gt_entry.specs.declared.entry.Entry.TheVariants.{Invalid, Page, Sub, 
 use Rattle.gt_entry.specs.Permits.{permits, forwards, leads_to, is_of_frame}
 use Rattle.gt_words.specs.Rule.{Layout}
 use Rattle.gt_words.specs.Conditions.{SeatOf}
-use Rattle.gt_calls.specs.declared.held.Held.{Held}
-use Rattle.gt_calls.specs.declared.held.Route.{Route}
-use Rattle.gt_calls.specs.declared.held.Route.TheVariants.{Own, Direct, Through}
+use Rattle.gt_calls.specs.declared.held.HeldPin.{HeldPin}
+use Rattle.gt_calls.specs.declared.held.AccessPath.{AccessPath}
+use Rattle.gt_calls.specs.declared.held.AccessPath.TheVariants.{Own, Direct, Through}
 use Rattle.gt_calls.specs.Resting.{GivesHeld}
 use Rattle.gt_types.specs.declared.places.FrameName.{FrameName}
 use Rattle.gt_frames.specs.Frames.{covers}
@@ -29,13 +29,13 @@ to_copy (Sub dom ro frame start size) d dir ForCopy off len is = is
 to_copy (Sub dom ro frame start size) d dir ForMap off len is = grind (arith, nat_tests)
 
 -- an entry that leads to a pin leads to the pin's domain
-to_owner : (e : Entry) (p : Held) (owner : DomId) → GivesHeld e p → p.dom ≡ owner → leads_to e owner ≡ true
+to_owner : (e : Entry) (p : HeldPin) (owner : DomId) → GivesHeld e p → p.dom ≡ owner → leads_to e owner ≡ true
 to_owner (Via dom ro dom2 gref) p owner leads is = eq-eqb dom2.0 owner.0 (ap (λ (d : DomId). d.0) (sym leads.0 ∙ is))
 to_owner Invalid p owner leads is = absurd leads
 to_owner (Page dom ro frame) p owner leads is = absurd leads
 to_owner (Sub dom ro frame off len) p owner leads is = absurd leads
 
-pub covers_by : (k : Layout) (s : SeatOf) (purpose : Use) (name : FrameName) (off len : ℕ) (route : Route)
+pub covers_by : (k : Layout) (s : SeatOf) (purpose : Use) (name : FrameName) (off len : ℕ) (route : AccessPath)
     → ReachesBy k s Write purpose name off len route → IsTrue (covers (writ_by s.dom route) name.owner name.number off len)
 covers_by k s purpose name off len Own is = eq-eqb s.dom.0 name.owner.0 (ap (λ (d : DomId). d.0) is)
 covers_by k s purpose name off len (Direct p) is =
@@ -46,6 +46,6 @@ covers_by k s purpose name off len (Through via p) is =
     (and_from (forwards via.entry s.dom Write) (leads_to via.entry name.owner) is.1.forwarded (to_owner via.entry p name.owner is.1.leads is.2.owner_is)) last
 
 -- a route that reaches a range of one frame reaches it of the frame of the same name
-pub reaches_named : (k : Layout) (s : SeatOf) (dir : Dir) (purpose : Use) (name other : FrameName) (off len : ℕ) (route : Route)
+pub reaches_named : (k : Layout) (s : SeatOf) (dir : Dir) (purpose : Use) (name other : FrameName) (off len : ℕ) (route : AccessPath)
     → ReachesBy k s dir purpose name off len route → other ≡ name → ReachesBy k s dir purpose other off len route
 reaches_named k s dir purpose name other off len route is same = subst (λ (n : FrameName). ReachesBy k s dir purpose n off len route) (sym same) is

@@ -2,7 +2,7 @@
 use Rattle.std.specs.Prelude.{◌≡◌, ℕ, ◌<◌, Bool, true, List, [], ◌∷◌, ◌++◌}
 use Rattle.gt_access.specs.Prelude.{DomId, Dir, Read, Write, Use, ForCopy, TypeId, Perms, DomainConfig, TABLE_ENTRIES}
 use Rattle.gt_access.specs.Prelude.{copy, permits, forwards, is_of_frame, generation_of, Layout, position_in, SeatOf}
-use Rattle.gt_access.specs.Prelude.{HasDomain, IsAmong, live_pins, steps_on, EntryRecord, View, Held, Pins, Route, Own}
+use Rattle.gt_access.specs.Prelude.{HasDomain, IsAmong, live_pins, steps_on, EntryRecord, View, HeldPin, CallPins, AccessPath, Own}
 use Rattle.gt_access.specs.Prelude.{Direct}
 use Rattle.gt_access.specs.Prelude.{Through, owner_by, IsAllowed, GivesHeld, label_of, map_perms, triples, FrameName}
 use Rattle.gt_access.specs.Prelude.{Writ, Owned, Granted, Forwarded}
@@ -10,24 +10,24 @@ use Rattle.gt_access.specs.Prelude.{Writ, Owned, Granted, Forwarded}
 -- pins
 
 -- what the owner's record was when the pin was taken
-abbrev pub entry_record_of : Held → EntryRecord
+abbrev pub entry_record_of : HeldPin → EntryRecord
 entry_record_of p = record { generation = generation_of p.word; entry = p.entry }
 
 -- the view has this pin, of the entry that it was taken from
-pub record HasPin (k : Layout) (v : View) (p : Held) : Type 0 where
+pub record HasPin (k : Layout) (v : View) (p : HeldPin) : Type 0 where
   pub run : HasDomain k p.dom
   pub inside : p.gref.0 < TABLE_ENTRIES
   pub held : IsAmong (p.dir, entry_record_of p) (live_pins (steps_on (position_in k.ids p.dom) p.gref.0 v))
 
 -- a pin that serves this direction: to write, a write pin
-abbrev pub ServesAccess : Dir → Held → Type 0
+abbrev pub ServesAccess : Dir → HeldPin → Type 0
 ServesAccess Read p = Unit {0}
 ServesAccess Write p = p.dir ≡ Write
 
 -- the seat has this pin, of an entry of this frame which permitted the domain
 -- this direction, use and range (after grant_table.h)
 pub record IsPinnedFor (k : Layout) (s : SeatOf) (grantee : DomId) (dir : Dir) (purpose : Use) (name : FrameName)
-    (off len : ℕ) (p : Held) : Type 0 where
+    (off len : ℕ) (p : HeldPin) : Type 0 where
   pub pin : HasPin k s.view p
   pub serves : ServesAccess dir p
   pub owner_is : p.dom ≡ name.owner
@@ -36,7 +36,7 @@ pub record IsPinnedFor (k : Layout) (s : SeatOf) (grantee : DomId) (dir : Dir) (
 
 -- the seat has this pin, of a transitive entry which forwarded its domain in this direction
 -- to the entry of the other pin (after grant_table.h, transitive)
-pub record IsPinnedOn (k : Layout) (s : SeatOf) (dir : Dir) (via p : Held) : Type 0 where
+pub record IsPinnedOn (k : Layout) (s : SeatOf) (dir : Dir) (via p : HeldPin) : Type 0 where
   pub pin : HasPin k s.view via
   pub serves : ServesAccess dir via
   pub forwarded : forwards via.entry s.dom dir ≡ true
@@ -44,7 +44,7 @@ pub record IsPinnedOn (k : Layout) (s : SeatOf) (dir : Dir) (via p : Held) : Typ
 
 -- the seat's domain reaches this range of the frame by the route: the frame is its own, or a pin of the frame's owner
 -- permits it, or, for a copy, a pin of a transitive entry forwards it to one that permits the domain between
-abbrev pub ReachesBy : Layout → SeatOf → Dir → Use → FrameName → ℕ → ℕ → Route → Type 0
+abbrev pub ReachesBy : Layout → SeatOf → Dir → Use → FrameName → ℕ → ℕ → AccessPath → Type 0
 ReachesBy k s dir purpose name off len Own = s.dom ≡ name.owner
 ReachesBy k s dir purpose name off len (Direct p) = IsPinnedFor k s s.dom dir purpose name off len p
 ReachesBy k s dir purpose name off len (Through via p) =
@@ -53,27 +53,27 @@ ReachesBy k s dir purpose name off len (Through via p) =
 -- rights
 
 -- the access goes through no mapping, or the policy allows what the mapping's map asked
-abbrev pub MayAccessBy : List DomainConfig → (TypeId → TypeId → Perms → Bool) → DomId → Route → Type 0
+abbrev pub MayAccessBy : List DomainConfig → (TypeId → TypeId → Perms → Bool) → DomId → AccessPath → Type 0
 MayAccessBy domains may caller Own = Unit {0}
 MayAccessBy domains may caller (Direct p) =
     IsAllowed may (triples (label_of domains caller) (label_of domains p.dom) (map_perms p.dir))
 MayAccessBy domains may caller (Through via p) = ⊥
 
 -- the domain that an end of a copy names
-abbrev pub named_by : DomId → Route → DomId
+abbrev pub named_by : DomId → AccessPath → DomId
 named_by caller Own = caller
 named_by caller (Direct p) = p.dom
 named_by caller (Through via p) = via.dom
 
 -- this pair, if the route goes through a transitive entry
-abbrev pub pair_beyond : Route → DomId × DomId → List (DomId × DomId)
+abbrev pub pair_beyond : AccessPath → DomId × DomId → List (DomId × DomId)
 pair_beyond Own pair = []
 pair_beyond (Direct p) pair = []
 pair_beyond (Through via p) pair = pair ∷ []
 
 -- the pairs for which a copy asks: the domains named; past a transitive source its frame's owner and the
 -- destination named; past a transitive destination the owners of both frames
-abbrev pub pairs_asked : DomId → Pins → List (DomId × DomId)
+abbrev pub pairs_asked : DomId → CallPins → List (DomId × DomId)
 pairs_asked caller p =
     (named_by caller p.source, named_by caller p.dest)
     ∷ pair_beyond p.source (owner_by caller p.source, named_by caller p.dest)
@@ -87,13 +87,13 @@ MayCopyEach domains may (pair ∷ pairs) =
     × MayCopyEach domains may pairs
 
 -- the policy allows the copy by these routes
-abbrev pub MayCopyBy : List DomainConfig → (TypeId → TypeId → Perms → Bool) → DomId → Pins → Type 0
+abbrev pub MayCopyBy : List DomainConfig → (TypeId → TypeId → Perms → Bool) → DomId → CallPins → Type 0
 MayCopyBy domains may caller p = MayCopyEach domains may (pairs_asked caller p)
 
 -- writs
 
 -- the writ of a domain by this route: it is made of the entries that the route's pins were taken from
-abbrev pub writ_by : DomId → Route → Writ
+abbrev pub writ_by : DomId → AccessPath → Writ
 writ_by caller Own = record { writer = caller; basis = Owned }
 writ_by caller (Direct p) = record { writer = caller; basis = Granted p.entry }
 writ_by caller (Through via p) = record { writer = caller; basis = Forwarded via.entry via.dom p.entry }

@@ -7,16 +7,16 @@ ghost use Rattle.gt_access.specs.Accesses.{IsReadOf, writing_at, copying_at};
 ghost use Rattle.gt_access.specs.Routes.{MayAccessBy, MayCopyBy, ReachesBy, writ_by};
 ghost use Rattle.gt_access.specs.Visiting.{VisitsToCopy, VisitsToRead, VisitsToWrite};
 
-use crate::under::{Run, copy_under, fill_under, read_under, write_under};
-use gt_calls::{Pins, Route};
-use gt_frames::{Copied, Filled, FrameName, Read, Spot, Visits, Written};
+use crate::under::{AccessContext, copy_under, fill_under, read_under, write_under};
+use gt_calls::{CallPins, AccessPath};
+use gt_frames::{Copied, Filled, FrameName, Read, Spot, FrameAccesses, Written};
 use gt_types::{Allows, FRAME_SIZE, Memory, Range};
 use gt_words::Seat;
 use std::sync::Wait;
 
 /// Why an access was not made. Nothing has changed then.
 #[derive(Clone, Copy, Debug, PartialEq, Eq)]
-pub enum Refused {
+pub enum AccessFault {
     /// There is no such frame, or another one is in its place.
     Gone,
     /// Memory was refused.
@@ -28,10 +28,10 @@ pub enum Refused {
 #[tactic(auto, using(crate::proofs::Covering::reaches_named, crate::proofs::Visited::read_visit))]
 pub fn read_by<R: Wait, P: Allows>(
     rt: &R,
-    run: &Run<'_, P>,
+    run: &AccessContext<'_, P>,
     seat: &Seat,
-    visits: &mut Visits,
-    route: &Route,
+    visits: &mut FrameAccesses,
+    route: &AccessPath,
     name: FrameName,
     range: Range,
     room: Vec<u8>,
@@ -56,10 +56,10 @@ pub fn read_by<R: Wait, P: Allows>(
 #[tactic(auto, using(crate::proofs::Covering::reaches_named, crate::proofs::Visited::read_visit))]
 pub fn fill_by<R: Wait, P: Allows>(
     rt: &R,
-    run: &Run<'_, P>,
+    run: &AccessContext<'_, P>,
     seat: &Seat,
-    visits: &mut Visits,
-    route: &Route,
+    visits: &mut FrameAccesses,
+    route: &AccessPath,
     name: FrameName,
     off: u16,
     out: &mut [u8],
@@ -84,18 +84,18 @@ pub fn fill_by<R: Wait, P: Allows>(
 ///
 /// # Errors
 ///
-/// [`Refused`], with all frames as they were.
+/// [`AccessFault`], with all frames as they were.
 #[tactic(auto, using(crate::proofs::Covering::reaches_named, crate::proofs::Visited::write_visit, crate::proofs::Visited::unwritten_visit))]
 pub fn write_by<'a, R: Wait, P: Allows>(
     rt: &R,
-    run: &Run<'_, P>,
+    run: &AccessContext<'_, P>,
     seat: &Seat,
-    visits: &mut Visits,
-    route: &Route,
+    visits: &mut FrameAccesses,
+    route: &AccessPath,
     name: FrameName,
     off: u16,
     bytes: &'a [u8],
-) -> Result<Written<'a>, Refused>
+) -> Result<Written<'a>, AccessFault>
     requires seat { IsSeatOf run.now.words.now seat.now }
     requires reached { ReachesBy run.now.words.now.layout seat.now dirs.Write uses.Map
         name off (length bytes.now) route.now }
@@ -106,13 +106,13 @@ pub fn write_by<'a, R: Wait, P: Allows>(
         result visits.old visits.new }
 {
     let Some(mut frame) = run.pool.lock(rt, name) else {
-        return Err(Refused::Gone);
+        return Err(AccessFault::Gone);
     };
     let written = write_under(run, seat, &mut frame, route, off, bytes);
     frame.free(visits);
     match written {
         Ok(written) => Ok(written),
-        Err(Memory) => Err(Refused::Memory),
+        Err(Memory) => Err(AccessFault::Memory),
     }
 }
 
@@ -120,18 +120,18 @@ pub fn write_by<'a, R: Wait, P: Allows>(
 ///
 /// # Errors
 ///
-/// [`Refused`], with all frames as they were.
+/// [`AccessFault`], with all frames as they were.
 #[tactic(auto, using(crate::proofs::Covering::reaches_named, crate::proofs::Visited::copy_visit, crate::proofs::Visited::uncopied_visit))]
 pub fn copy_by<R: Wait, P: Allows>(
     rt: &R,
-    run: &Run<'_, P>,
+    run: &AccessContext<'_, P>,
     seat: &Seat,
-    visits: &mut Visits,
-    routes: &Pins,
+    visits: &mut FrameAccesses,
+    routes: &CallPins,
     from: Spot,
     to: Spot,
     len: u16,
-) -> Result<Copied, Refused>
+) -> Result<Copied, AccessFault>
     requires seat { IsSeatOf run.now.words.now seat.now }
     requires source { ReachesBy run.now.words.now.layout seat.now dirs.Read uses.Copy
         from.frame from.off len routes.now.source }
@@ -144,13 +144,13 @@ pub fn copy_by<R: Wait, P: Allows>(
     ensures visited { VisitsToCopy (writ_by seat.now.dom routes.now.dest) from to len result visits.old visits.new }
 {
     let Some(mut ends) = run.pool.lock_both(rt, from.frame, to.frame) else {
-        return Err(Refused::Gone);
+        return Err(AccessFault::Gone);
     };
     let range = Range { off: from.off, len };
     let copied = copy_under(run, seat, &mut ends, routes, range, to.off);
     ends.free(visits);
     match copied {
         Ok(copied) => Ok(copied),
-        Err(Memory) => Err(Refused::Memory),
+        Err(Memory) => Err(AccessFault::Memory),
     }
 }

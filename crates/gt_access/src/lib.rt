@@ -1,6 +1,6 @@
 //! Accesses to frames under locks: the bytes that a domain reads, writes or copies by its pins.
 //!
-//! A [`Run`] lends what accesses are judged by. [`read_under`], [`write_under`] and [`copy_under`] are
+//! A [`AccessContext`] lends what accesses are judged by. [`read_under`], [`write_under`] and [`copy_under`] are
 //! lent locked frames, the caller's seat and the route to each frame. Their conditions: the route's
 //! pins are in the view of that seat and justify the range, the policy allows the access, and the writ
 //! is of those pins' entries. They then do just what a frame's own calls do, and hand on the frame's
@@ -8,7 +8,7 @@
 //!
 //! [`read_by`], [`write_by`] and [`copy_by`] lock the frames that the routes lead to and free them
 //! again. Only they may wait. A frame under another name than the one wanted, or none, is
-//! [`Refused::Gone`].
+//! [`AccessFault::Gone`].
 //!
 //! It uses `gt_frames` (frames, pool), `gt_words` (seats and their views), `gt_calls` (routes),
 //! `gt_positions` (the configuration), `gt_entry` and `gt_types`.
@@ -17,5 +17,5 @@
 mod by;
 mod under;
 
-pub use by::{Refused, copy_by, fill_by, read_by, write_by};
-pub use under::{Run, copy_under, fill_under, read_under, writ_by, write_under};
+pub use by::{AccessFault, copy_by, fill_by, read_by, write_by};
+pub use under::{AccessContext, copy_under, fill_under, read_under, writ_by, write_under};

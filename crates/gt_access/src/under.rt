@@ -9,23 +9,23 @@ ghost use Rattle.gt_frames.specs.Receipts.{reading_of, writing_of, copying_of};
 ghost use Rattle.gt_frames.specs.Sets.{name_of};
 ghost use Rattle.gt_access.specs.Routes.{MayAccessBy, MayCopyBy, ReachesBy, writ_by};
 
-use gt_calls::{Pins, Route};
-use gt_frames::{Copied, Ends, Filled, Ground, Lent, Pool, Read, Writ, Written};
+use gt_calls::{CallPins, AccessPath};
+use gt_frames::{Copied, LockedPair, Filled, WriteBasis, LockedFrame, Pool, Read, Writ, Written};
 use gt_positions::Roster;
 use gt_types::{Allows, DomId, FRAME_SIZE, Memory, Range};
 use gt_words::{Seat, Words};
 
 /// The run that an access belongs to: its words, its domains, what its policy allows, and its frames.
-pub struct Run<'m, P> {
+pub struct AccessContext<'m, P> {
     pub words: &'m Words,
     pub config: &'m Roster,
     pub rights: &'m P,
     pub pool: &'m Pool,
 }
 
-impl<P> Drop for Run<'_, P> {
+impl<P> Drop for AccessContext<'_, P> {
     fn drop(self) {
-        let Run {
+        let AccessContext {
             words: _,
             config: _,
             rights: _,
@@ -35,13 +35,13 @@ impl<P> Drop for Run<'_, P> {
 }
 
 /// The writ of a domain that writes by this route.
-pub fn writ_by(caller: DomId, route: &Route) -> Writ
+pub fn writ_by(caller: DomId, route: &AccessPath) -> Writ
     ensures { result ≡ writ_by caller route.now }
 {
     let basis = match *route {
-        Route::Own => Ground::Owned,
-        Route::Direct(held) => Ground::Granted(held.entry),
-        Route::Through { via, held } => Ground::Forwarded {
+        AccessPath::Own => WriteBasis::Owned,
+        AccessPath::Direct(held) => WriteBasis::Granted(held.entry),
+        AccessPath::Through { via, held } => WriteBasis::Forwarded {
             via: via.entry,
             middle: via.dom,
             entry: held.entry,
@@ -55,10 +55,10 @@ pub fn writ_by(caller: DomId, route: &Route) -> Writ
 
 /// Reads a range of a locked frame into `room`, which is empty and has room for it.
 pub fn read_under<P: Allows>(
-    run: &Run<'_, P>,
+    run: &AccessContext<'_, P>,
     seat: &Seat,
-    frame: &Lent<'_>,
-    route: &Route,
+    frame: &LockedFrame<'_>,
+    route: &AccessPath,
     range: Range,
     room: Vec<u8>,
 ) -> Read
@@ -76,10 +76,10 @@ pub fn read_under<P: Allows>(
 
 /// Reads the bytes of a locked frame from `off` on over all of `out`.
 pub fn fill_under<P: Allows>(
-    run: &Run<'_, P>,
+    run: &AccessContext<'_, P>,
     seat: &Seat,
-    frame: &Lent<'_>,
-    route: &Route,
+    frame: &LockedFrame<'_>,
+    route: &AccessPath,
     off: u16,
     out: &mut [u8],
 ) -> Filled
@@ -102,10 +102,10 @@ pub fn fill_under<P: Allows>(
 /// `Memory`, with the frame as it was.
 #[tactic(auto, using(crate::proofs::Covering::covers_by))]
 pub fn write_under<'a, P: Allows>(
-    run: &Run<'_, P>,
+    run: &AccessContext<'_, P>,
     seat: &Seat,
-    frame: &mut Lent<'_>,
-    route: &Route,
+    frame: &mut LockedFrame<'_>,
+    route: &AccessPath,
     off: u16,
     bytes: &'a [u8],
 ) -> Result<Written<'a>, Memory>
@@ -131,10 +131,10 @@ pub fn write_under<'a, P: Allows>(
 ///
 /// `Memory`, with both frames as they were.
 pub fn copy_under<P: Allows>(
-    run: &Run<'_, P>,
+    run: &AccessContext<'_, P>,
     seat: &Seat,
-    ends: &mut Ends<'_>,
-    routes: &Pins,
+    ends: &mut LockedPair<'_>,
+    routes: &CallPins,
     range: Range,
     to_off: u16,
 ) -> Result<Copied, Memory>

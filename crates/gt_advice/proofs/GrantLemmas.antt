@@ -22,9 +22,9 @@ use Rattle.gt_policy.specs.declared.statements.Statement.{Statement}
 use Rattle.gt_policy.specs.declared.statements.Statement.TheVariants.{DeclareType, DeclareAttribute, GiveAttributes}
 use Rattle.gt_policy.specs.declared.statements.Statement.TheVariants.{Allow}
 use Rattle.gt_advice.specs.declared.members.Member.{Member}
-use Rattle.gt_advice.specs.declared.asking.Answer.{Answer}
-use Rattle.gt_advice.specs.declared.asking.Answer.TheVariants.{Allowed, Denied, NoSource, NoTarget, NoPermission}
-use Rattle.gt_advice.specs.declared.asking.Question.{Question}
+use Rattle.gt_advice.specs.declared.asking.WhyAnswer.{WhyAnswer}
+use Rattle.gt_advice.specs.declared.asking.WhyAnswer.TheVariants.{Allowed, Denied, NoSource, NoTarget, NoPermission}
+use Rattle.gt_advice.specs.declared.asking.WhyQuestion.{WhyQuestion}
 use Rattle.gt_advice.specs.Granting.{puts_in, takes_out, elements_hold, reaches_by, gives_source, gives_by, gives_some}
 use Rattle.gt_advice.specs.Granting.{near_some}
 use Rattle.gt_advice.specs.Members.{names_given, names_in_lines, membership_of, is_asked, members_in, members_of}
@@ -161,11 +161,11 @@ gives_named xs w a b (Allow r) =
     ∙ any_same (λ t. gives_source w (membership_of xs s) r && reaches_by (membership_of xs s) (membership_of xs t) r) (λ t. text.statement_grants (statements_in xs) s t w (Allow r)) (λ t. by_names xs w s t r) (types_asked xs b))
     (types_asked xs a)
 
-gives_asked : (xs : List LinedStatement) (q : Question) (x : Statement) → gives_some q.perm.now (members_of xs (source_asked q)) (members_of xs (target_asked q)) x ≡ grants_asked xs q x
+gives_asked : (xs : List LinedStatement) (q : WhyQuestion) (x : Statement) → gives_some q.perm.now (members_of xs (source_asked q)) (members_of xs (target_asked q)) x ≡ grants_asked xs q x
 gives_asked xs q x = gives_named xs q.perm.now (source_asked q) (target_asked q) x
 
 -- the answer
-pub answers : (xs : List LinedStatement) (q : Question) → answer_by q.perm.now (members_of xs (source_asked q)) (members_of xs (target_asked q)) xs ≡ why_answer xs q
+pub answers : (xs : List LinedStatement) (q : WhyQuestion) → answer_by q.perm.now (members_of xs (source_asked q)) (members_of xs (target_asked q)) xs ≡ why_answer xs q
 answers xs q =
     ap (λ (b : Bool). if is_none (permission_of q.perm.now) then NoPermission else (if b then NoSource else (if length (members_of xs (target_asked q)) == 0 then NoTarget
     else (if list_any (λ x. gives_some q.perm.now (members_of xs (source_asked q)) (members_of xs (target_asked q)) x.statement) xs then Allowed else Denied)))) (none_asked xs (source_asked q))
@@ -187,7 +187,7 @@ passed test other file sources targets same (x ∷ xs) =
     ∙ ap (λ (b : Bool). (if b then report_entry_text file sources targets x else []) ++ flat_map (report_entry_text file sources targets) (filter (λ y. other y.statement) xs)) (same x.statement)
     ∙ sym (one_passed (report_entry_text file sources targets) x (filter (λ y. other y.statement) xs) (other x.statement))
 
-pub all_lines : (answer : Answer) (file : List ℕ) (xs : List LinedStatement) (q : Question) → lines_with answer file q.perm.now (members_of xs (source_asked q)) (members_of xs (target_asked q)) xs ≡ lines_of answer file xs q
+pub all_lines : (answer : WhyAnswer) (file : List ℕ) (xs : List LinedStatement) (q : WhyQuestion) → lines_with answer file q.perm.now (members_of xs (source_asked q)) (members_of xs (target_asked q)) xs ≡ lines_of answer file xs q
 all_lines Allowed file xs q =
     ap (λ (l : List ℕ). codes "allowed\n" ++ l)
     (passed (gives_some q.perm.now (members_of xs (source_asked q)) (members_of xs (target_asked q))) (grants_asked xs q) file (members_of xs (source_asked q)) (members_of xs (target_asked q)) (gives_asked xs q) xs)

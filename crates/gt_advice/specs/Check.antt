@@ -3,13 +3,13 @@ use Rattle.std.specs.Prelude.{◌≡◌, ℕ, Bool, true, false, not, ◌&&◌, 
 use Rattle.std.specs.Prelude.{if◌then◌else◌}
 use Rattle.gt_advice.specs.Prelude.{flat_map, list_any, every_permission, permission_name, Meaning, statement_grants}
 use Rattle.gt_advice.specs.Prelude.{IsLined, statements_in, has_grant, types_in, Says, TokenFault, LinedStatement}
-use Rattle.gt_advice.specs.Prelude.{Statement, DeclareType, DeclareAttribute, GiveAttributes, Allow, Finding, Kind}
+use Rattle.gt_advice.specs.Prelude.{Statement, DeclareType, DeclareAttribute, GiveAttributes, Allow, Finding, FindingKind}
 use Rattle.gt_advice.specs.Prelude.{Fault, OtherClass, OtherPermission, AllowsNothing, NeverAsked, Repeats, NeverNamed}
 use Rattle.gt_advice.specs.Prelude.{NoDomain, NeverMatters, NeverMapped, Note, Member}
 use Rattle.gt_advice.specs.Granting.{exceeds_some, gives_some}
 
 -- the finding is an error
-abbrev pub is_error : Kind → Bool
+abbrev pub is_error : FindingKind → Bool
 is_error Fault = true
 is_error OtherClass = false
 is_error OtherPermission = false
@@ -23,7 +23,7 @@ is_error NeverMapped = false
 is_error Note = false
 
 -- the finding is that a statement allows nothing
-abbrev pub is_of_nothing : Kind → Bool
+abbrev pub is_of_nothing : FindingKind → Bool
 is_of_nothing Fault = false
 is_of_nothing OtherClass = false
 is_of_nothing OtherPermission = false
@@ -37,7 +37,7 @@ is_of_nothing NeverMapped = false
 is_of_nothing Note = false
 
 -- the finding is that a statement repeats an earlier one
-abbrev pub is_of_repeat : Kind → Bool
+abbrev pub is_of_repeat : FindingKind → Bool
 is_of_repeat Fault = false
 is_of_repeat OtherClass = false
 is_of_repeat OtherPermission = false

@@ -48,8 +48,8 @@ gives_some w sources targets (GiveAttributes m ms) = false
 gives_some w sources targets (Allow a) = list_any (λ s. gives_by w targets s a) sources
 
 -- some of the targets is reached, and the permission is listed or the source set holds the source
-abbrev pub comes_near : List ℕ → List Member → Member → Allowance → Bool
-comes_near w targets s a =
+abbrev pub is_near_miss : List ℕ → List Member → Member → Allowance → Bool
+is_near_miss w targets s a =
     (has_grant a.classes && (lists_word a.perms w || elements_hold s.names a.source))
     && list_any (λ t. reaches_by s t a) targets
 
@@ -58,7 +58,7 @@ abbrev pub near_some : List ℕ → List Member → List Member → Statement �
 near_some w sources targets (DeclareType v ms) = false
 near_some w sources targets (DeclareAttribute v) = false
 near_some w sources targets (GiveAttributes m ms) = false
-near_some w sources targets (Allow a) = list_any (λ s. comes_near w targets s a) sources
+near_some w sources targets (Allow a) = list_any (λ s. is_near_miss w targets s a) sources
 
 -- a statement grants it to the source on the target
 abbrev pub gives_one : List ℕ → Member → Member → Statement → Bool

@@ -1,9 +1,9 @@
 -- The names of other crates, and of the code, that the definitions here speak of.
 pub use Rattle.gt_advice.specs.declared.findings.Finding.{Finding}
-pub use Rattle.gt_advice.specs.declared.findings.Kind.{Kind}
-pub use Rattle.gt_advice.specs.declared.findings.Kind.TheVariants.{AllowsNothing, Fault, NeverAsked, NeverMapped}
-pub use Rattle.gt_advice.specs.declared.findings.Kind.TheVariants.{NeverMatters, NeverNamed, NoDomain, OtherClass}
-pub use Rattle.gt_advice.specs.declared.findings.Kind.TheVariants.{Note, OtherPermission, Repeats}
+pub use Rattle.gt_advice.specs.declared.findings.FindingKind.{FindingKind}
+pub use Rattle.gt_advice.specs.declared.findings.FindingKind.TheVariants.{AllowsNothing, Fault, NeverAsked, NeverMapped}
+pub use Rattle.gt_advice.specs.declared.findings.FindingKind.TheVariants.{NeverMatters, NeverNamed, NoDomain, OtherClass}
+pub use Rattle.gt_advice.specs.declared.findings.FindingKind.TheVariants.{Note, OtherPermission, Repeats}
 pub use Rattle.gt_advice.specs.declared.members.Member.{Member}
 pub use Rattle.gt_policy.specs.Allowing.{Meaning}
 pub use Rattle.gt_policy.specs.Granting.{statement_grants}

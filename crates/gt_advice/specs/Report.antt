@@ -2,14 +2,14 @@
 use Rattle.std.specs.Prelude.{ℕ, List, ◌++◌, codes}
 use Rattle.std.specs.Fmt.{decimal}
 use Rattle.gt_advice.specs.declared.findings.Finding.{Finding}
-use Rattle.gt_advice.specs.declared.findings.Kind.{Kind}
-use Rattle.gt_advice.specs.declared.findings.Kind.TheVariants.{Fault, OtherClass, OtherPermission, AllowsNothing}
-use Rattle.gt_advice.specs.declared.findings.Kind.TheVariants.{NeverAsked}
-use Rattle.gt_advice.specs.declared.findings.Kind.TheVariants.{Repeats, NeverNamed, NoDomain, NeverMatters, NeverMapped}
-use Rattle.gt_advice.specs.declared.findings.Kind.TheVariants.{Note}
+use Rattle.gt_advice.specs.declared.findings.FindingKind.{FindingKind}
+use Rattle.gt_advice.specs.declared.findings.FindingKind.TheVariants.{Fault, OtherClass, OtherPermission, AllowsNothing}
+use Rattle.gt_advice.specs.declared.findings.FindingKind.TheVariants.{NeverAsked}
+use Rattle.gt_advice.specs.declared.findings.FindingKind.TheVariants.{Repeats, NeverNamed, NoDomain, NeverMatters, NeverMapped}
+use Rattle.gt_advice.specs.declared.findings.FindingKind.TheVariants.{Note}
 
 -- how bad a finding is
-abbrev pub severity_text : Kind → List ℕ
+abbrev pub severity_text : FindingKind → List ℕ
 severity_text Fault = codes "error"
 severity_text OtherClass = codes "warning"
 severity_text OtherPermission = codes "warning"

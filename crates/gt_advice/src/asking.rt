@@ -21,7 +21,7 @@ use std::alloc::{AllocError, Global};
 
 /// What is asked: may a type do this to another? No name asks for any type.
 #[derive(Clone, Copy)]
-pub struct Question<'q> {
+pub struct WhyQuestion<'q> {
     pub source: Option<&'q str>,
     pub target: Option<&'q str>,
     pub perm: &'q str,
@@ -29,7 +29,7 @@ pub struct Question<'q> {
 
 /// What a policy answers.
 #[derive(Clone, Copy, Debug, PartialEq, Eq)]
-pub enum Answer {
+pub enum WhyAnswer {
     /// Some statement grants it.
     Allowed,
     /// No statement does.
@@ -46,7 +46,7 @@ pub enum Answer {
 /// is not there has no line.
 #[derive(Debug, Drop)]
 pub struct Explanation {
-    pub answer: Answer,
+    pub answer: WhyAnswer,
     pub lines: Vec<u8>,
 }
 
@@ -67,25 +67,25 @@ fn answer_with(
     sources: &[Member],
     targets: &[Member],
     perm: &str,
-) -> Answer
+) -> WhyAnswer
     ensures { result ≡ answer_by perm.now sources.now targets.now statements.now }
 {
     if Perms::named(perm.as_bytes()).is_none() {
-        Answer::NoPermission
+        WhyAnswer::NoPermission
     } else if sources.is_empty() {
-        Answer::NoSource
+        WhyAnswer::NoSource
     } else if targets.is_empty() {
-        Answer::NoTarget
+        WhyAnswer::NoTarget
     } else if is_allowed(statements, sources, targets, perm) {
-        Answer::Allowed
+        WhyAnswer::Allowed
     } else {
-        Answer::Denied
+        WhyAnswer::Denied
     }
 }
 
 // Whether a statement is listed under an answer: it grants the permission if that is allowed, and else comes near.
 fn is_listed(
-    answer: Answer,
+    answer: WhyAnswer,
     statement: &Statement,
     sources: &[Member],
     targets: &[Member],
@@ -94,7 +94,7 @@ fn is_listed(
     ensures { result ≡ is_listed_under answer perm.now sources.now targets.now statement.now }
 {
     match answer {
-        Answer::Allowed => gives_some(statement, sources, targets, perm),
+        WhyAnswer::Allowed => gives_some(statement, sources, targets, perm),
         _ => near_some(statement, sources, targets, perm),
     }
 }
@@ -102,7 +102,7 @@ fn is_listed(
 // Appends the lines of the statements that are listed under the answer.
 fn push_listed(
     out: &mut Vec<u8>,
-    answer: Answer,
+    answer: WhyAnswer,
     file: &str,
     statements: &[LinedStatement],
     sources: &[Member],
@@ -123,7 +123,7 @@ fn push_listed(
 // Appends the lines of an answer.
 fn push_lines(
     out: &mut Vec<u8>,
-    answer: Answer,
+    answer: WhyAnswer,
     file: &str,
     statements: &[LinedStatement],
     sources: &[Member],
@@ -134,11 +134,11 @@ fn push_lines(
         ++ lines_with answer file.now perm.now sources.now targets.now statements.now) }
 {
     match answer {
-        Answer::Allowed => {
+        WhyAnswer::Allowed => {
             push_text(out, "allowed\n")?;
             push_listed(out, answer, file, statements, sources, targets, perm)
         }
-        Answer::Denied => {
+        WhyAnswer::Denied => {
             push_text(out, "denied\n")?;
             push_listed(out, answer, file, statements, sources, targets, perm)
         }
@@ -151,7 +151,7 @@ fn explained(
     alloc: Global,
     file: &str,
     statements: &[LinedStatement],
-    question: &Question,
+    question: &WhyQuestion,
 ) -> Result<Explanation, AllocError>
     ensures { IfOk result (λ e. IsExplained file.now question.now statements.now e) }
 {
@@ -185,7 +185,7 @@ pub fn why(
     alloc: Global,
     file: &str,
     text: &str,
-    question: &Question,
+    question: &WhyQuestion,
 ) -> Result<Explanation, PolicyFault>
     ensures ok { IfOk result (λ e. (m : Meaning) × (xs : List LinedStatement) × Says text.now (Ok m)
         × IsLined text.now xs × IsExplained file.now question.now xs e) }

@@ -36,7 +36,7 @@ pub(crate) const PERMISSIONS: [&str; 7] = [
 
 /// What is said beside an error or a warning, and where.
 #[derive(Drop)]
-pub(crate) struct Note {
+pub(crate) struct FindingNote {
     pub line: u32,
     pub column: u32,
     pub message: Vec<u8>,
@@ -47,7 +47,7 @@ pub(crate) struct Note {
 pub(crate) struct Explained {
     pub column: u32,
     pub message: Vec<u8>,
-    pub note: Option<Note>,
+    pub note: Option<FindingNote>,
 }
 
 // The line on which a text stops.
@@ -216,8 +216,8 @@ fn misfit_column(alloc: Global, bytes: &[u8], line: &LineTokens) -> Result<u32, 
 }
 
 // Says where a name is declared.
-fn declared_here(alloc: Global, declared: &Declared, said: &str) -> Result<Note, AllocError> {
-    Ok(Note {
+fn declared_here(alloc: Global, declared: &Declared, said: &str) -> Result<FindingNote, AllocError> {
+    Ok(FindingNote {
         line: declared.line,
         column: declared.column,
         message: said_of(alloc, declared.name, said)?,

@@ -10,7 +10,7 @@ ghost use Rattle.gt_advice.specs.Check.{no_more_with, nothing_lines, repeat_line
 ghost use Rattle.gt_advice.specs.Check.{repeats_with, useless_line};
 ghost use Rattle.gt_advice.specs.Granting.{exceeds_some, gives_some};
 
-use crate::fault::{Explained, Note, PERMISSIONS, explain, push_hint, said_of};
+use crate::fault::{Explained, FindingNote, PERMISSIONS, explain, push_hint, said_of};
 use crate::granting::{exceeds_some, gives_some, has_grant, names_type};
 use crate::members::{Member, is_same, members_of};
 use crate::places::{LineTokens, column_of_word, line_tokens};
@@ -25,7 +25,7 @@ use std::alloc::{AllocError, Global};
 
 /// What a finding is about.
 #[derive(Clone, Copy, Debug, PartialEq, Eq)]
-pub enum Kind {
+pub enum FindingKind {
     /// The text's first fault: it is no policy.
     Fault,
     /// A class that is not `grant`: its permissions grant nothing here.
@@ -47,13 +47,13 @@ pub enum Kind {
     /// A label of a script that no map before it has.
     NeverMapped,
     /// What is said beside the error or the warning before it.
-    Note,
+    FindingNote,
 }
 
 /// Something in a text that is wrong or useless. Lines and columns are counted from 1.
 #[derive(Debug, Drop)]
 pub struct Finding {
-    pub kind: Kind,
+    pub kind: FindingKind,
     pub line: u32,
     pub column: u32,
     pub message: Vec<u8>,
@@ -119,12 +119,12 @@ fn push_quiet(found: &mut Vec<Finding>, finding: Finding) -> Result<(), AllocErr
 }
 
 // Adds a note, if there is one.
-fn push_note(found: &mut Vec<Finding>, note: Option<Note>) -> Result<(), AllocError>
+fn push_note(found: &mut Vec<Finding>, note: Option<FindingNote>) -> Result<(), AllocError>
     ensures { OnOk result (Quiet found.old.items found.new.items) }
 {
     match note {
         Some(
-            Note {
+            FindingNote {
                 line,
                 column,
                 message,
@@ -132,7 +132,7 @@ fn push_note(found: &mut Vec<Finding>, note: Option<Note>) -> Result<(), AllocEr
         ) => push_quiet(
             found,
             Finding {
-                kind: Kind::Note,
+                kind: FindingKind::Note,
                 line,
                 column,
                 message,
@@ -144,7 +144,7 @@ fn push_note(found: &mut Vec<Finding>, note: Option<Note>) -> Result<(), AllocEr
 
 // The line on which a statement begins.
 #[derive(Clone, Copy)]
-struct Line<'t> {
+struct StatementLine<'t> {
     bytes: &'t [u8],
     tokens: &'t LineTokens,
     number: u32,
@@ -153,8 +153,8 @@ struct Line<'t> {
 // Tells something of a word of a line, which is no error, nor about a statement that allows nothing or repeats another.
 fn push_of_word(
     found: &mut Vec<Finding>,
-    kind: Kind,
-    line: &Line,
+    kind: FindingKind,
+    line: &StatementLine,
     word: &str,
     message: Vec<u8>,
 ) -> Result<(), AllocError>
@@ -179,7 +179,7 @@ fn push_of_word(
 fn warn_class(
     alloc: Global,
     found: &mut Vec<Finding>,
-    line: &Line,
+    line: &StatementLine,
     class: &str,
 ) -> Result<(), AllocError>
     ensures { OnOk result (Quiet found.old.items found.new.items) }
@@ -190,21 +190,21 @@ fn warn_class(
     let said = " is another class than grant: what it lists is granted by no call here";
     let mut message = said_of(alloc, class, said)?;
     push_hint(alloc, &mut message, class, ["grant"].as_slice())?;
-    push_of_word(found, Kind::OtherClass, line, class, message)
+    push_of_word(found, FindingKind::OtherClass, line, class, message)
 }
 
 // Tells a word among the permissions of class `grant` that is none of them, or that no call asks for.
 fn warn_perm(
     alloc: Global,
     found: &mut Vec<Finding>,
-    line: &Line,
+    line: &StatementLine,
     word: &str,
 ) -> Result<(), AllocError>
     ensures { OnOk result (Quiet found.old.items found.new.items) }
 {
     if word == "transfer" {
         let message = said_of(alloc, word, " is asked by no call")?;
-        return push_of_word(found, Kind::NeverAsked, line, word, message);
+        return push_of_word(found, FindingKind::NeverAsked, line, word, message);
     }
     if Perms::named(word.as_bytes()).is_some() {
         return Ok(());
@@ -212,14 +212,14 @@ fn warn_perm(
     let said = " is no permission of class grant, which grants nothing by it";
     let mut message = said_of(alloc, word, said)?;
     push_hint(alloc, &mut message, word, PERMISSIONS.as_slice())?;
-    push_of_word(found, Kind::OtherPermission, line, word, message)
+    push_of_word(found, FindingKind::OtherPermission, line, word, message)
 }
 
 // Tells what is useless among the classes.
 fn warn_classes(
     alloc: Global,
     found: &mut Vec<Finding>,
-    line: &Line,
+    line: &StatementLine,
     classes: &[TextPiece],
 ) -> Result<(), AllocError>
     ensures { OnOk result (Quiet found.old.items found.new.items) }
@@ -234,7 +234,7 @@ fn warn_classes(
 fn warn_perms(
     alloc: Global,
     found: &mut Vec<Finding>,
-    line: &Line,
+    line: &StatementLine,
     perms: &[TextPiece],
 ) -> Result<(), AllocError>
     ensures { OnOk result (Quiet found.old.items found.new.items) }
@@ -249,7 +249,7 @@ fn warn_perms(
 fn warn_words(
     alloc: Global,
     found: &mut Vec<Finding>,
-    line: &Line,
+    line: &StatementLine,
     allowed: &Allowance,
 ) -> Result<(), AllocError>
     ensures { OnOk result (Quiet found.old.items found.new.items) }
@@ -311,7 +311,7 @@ fn warn_nothing(
         return push_nothing(
             found,
             Finding {
-                kind: Kind::AllowsNothing,
+                kind: FindingKind::AllowsNothing,
                 line: stated.line,
                 column,
                 message,
@@ -344,13 +344,13 @@ fn repeat_note(
     alloc: Global,
     bytes: &[u8],
     earlier: &[LinedStatement],
-) -> Result<Option<Note>, AllocError> {
+) -> Result<Option<FindingNote>, AllocError> {
     let Some((first, before)) = earlier.split_last() else {
         return Ok(None);
     };
     let tokens = line_tokens(alloc, bytes, first.line)?;
     let skipped = allows_on(before, first.line);
-    Ok(Some(Note {
+    Ok(Some(FindingNote {
         line: first.line,
         column: column_of_word(bytes, &tokens, b"allow".as_slice(), skipped),
         message: message_of(alloc, "this statement allows it first")?,
@@ -359,7 +359,7 @@ fn repeat_note(
 
 // The types of a policy, whether there is a script, and the types that its domains have.
 #[derive(Clone, Copy)]
-struct Types<'m, 'a> {
+struct CheckedTypes<'m, 'a> {
     members: &'m [Member<'a>],
     is_script: bool,
     worn: &'m [Member<'a>],
@@ -381,7 +381,7 @@ fn is_named(statements: &[LinedStatement], members: &[Member], name: &TextPiece)
 }
 
 // Whether there is a script, and no domain of it has this type.
-fn has_no_domain(types: &Types, name: &TextPiece) -> bool {
+fn has_no_domain(types: &CheckedTypes, name: &TextPiece) -> bool {
     types.is_script && !is_member(types.worn, name)
 }
 
@@ -389,9 +389,9 @@ fn has_no_domain(types: &Types, name: &TextPiece) -> bool {
 fn warn_type(
     alloc: Global,
     found: &mut Vec<Finding>,
-    line: &Line,
+    line: &StatementLine,
     statements: &[LinedStatement],
-    types: &Types,
+    types: &CheckedTypes,
     name: &TextPiece,
 ) -> Result<(), AllocError>
     ensures { OnOk result (Quiet found.old.items found.new.items) }
@@ -399,17 +399,17 @@ fn warn_type(
     let word = name.as_str();
     if !is_named(statements, types.members, name) {
         let message = said_of(alloc, word, " is in no set of an allow statement")?;
-        return push_of_word(found, Kind::NeverNamed, line, word, message);
+        return push_of_word(found, FindingKind::NeverNamed, line, word, message);
     }
     if has_no_domain(types, name) {
         let message = said_of(alloc, word, " is the type of no domain of this script")?;
-        return push_of_word(found, Kind::NoDomain, line, word, message);
+        return push_of_word(found, FindingKind::NoDomain, line, word, message);
     }
     Ok(())
 }
 
 // Whether there is a script, and a statement allows something, but nothing to domains of the script.
-fn never_matters(statement: &Statement, types: &Types) -> bool {
+fn never_matters(statement: &Statement, types: &CheckedTypes) -> bool {
     types.is_script
         && allows_something(statement, types.members)
         && !allows_something(statement, types.worn)
@@ -421,7 +421,7 @@ fn warn_matter(
     found: &mut Vec<Finding>,
     column: u32,
     stated: &LinedStatement,
-    types: &Types,
+    types: &CheckedTypes,
 ) -> Result<(), AllocError>
     ensures { OnOk result (Quiet found.old.items found.new.items) }
 {
@@ -430,7 +430,7 @@ fn warn_matter(
     }
     let said = "this statement allows nothing to the domains of this script";
     let message = message_of(alloc, said)?;
-    let kind = Kind::NeverMatters;
+    let kind = FindingKind::NeverMatters;
     push_quiet(
         found,
         Finding {
@@ -446,10 +446,10 @@ fn warn_matter(
 fn warn_parts(
     alloc: Global,
     found: &mut Vec<Finding>,
-    line: &Line,
+    line: &StatementLine,
     stated: &LinedStatement,
     statements: &[LinedStatement],
-    types: &Types,
+    types: &CheckedTypes,
 ) -> Result<(), AllocError>
     ensures { OnOk result (Quiet found.old.items found.new.items) }
 {
@@ -502,7 +502,7 @@ fn warn_repeat(
         push_repeat(
             found,
             Finding {
-                kind: Kind::Repeats,
+                kind: FindingKind::Repeats,
                 line: stated.line,
                 column,
                 message,
@@ -522,7 +522,7 @@ fn warn(
     stated: &LinedStatement,
     before: &[LinedStatement],
     statements: &[LinedStatement],
-    types: &Types,
+    types: &CheckedTypes,
 ) -> Result<(), AllocError>
     ensures { OnOk result (TellsUseless found.old.items found.new.items (useless_line types.now.members.now stated.now)
         (repeat_line types.now.members.now before.now stated.now)) }
@@ -531,7 +531,7 @@ fn warn(
     let tokens = line_tokens(alloc, bytes, number)?;
     let skipped = allows_on(before, number);
     let column = column_of_word(bytes, &tokens, b"allow".as_slice(), skipped);
-    let line = Line {
+    let line = StatementLine {
         bytes,
         tokens: &tokens,
         number,
@@ -547,7 +547,7 @@ fn warn_all(
     alloc: Global,
     bytes: &[u8],
     statements: &[LinedStatement],
-    types: &Types,
+    types: &CheckedTypes,
 ) -> Result<Vec<Finding>, AllocError>
     ensures no_error { IfOk result (λ v. error_lines v.items ≡ []) }
     ensures nothing { IfOk result (λ v. nothing_lines v.items
@@ -602,7 +602,7 @@ fn warn_with(
         ≡ flat_map (λ x. useless_line members.now x) statements.now) }
     ensures repeated { IfOk result (λ v. repeat_lines v.items ≡ repeated_with members.now [] statements.now) }
 {
-    let types = Types {
+    let types = CheckedTypes {
         members,
         is_script,
         worn,
@@ -651,7 +651,7 @@ fn errors(alloc: Global, text: &str, fault: &PolicyFault) -> Result<Vec<Finding>
     } = explain(alloc, text, fault)?;
     let mut found = Vec::new(alloc);
     found.push(Finding {
-        kind: Kind::Fault,
+        kind: FindingKind::Fault,
         line: fault.line,
         column,
         message,

@@ -6,7 +6,7 @@ ghost use Rattle.gt_policy.specs.Granting.{lists_word, is_self};
 ghost use Rattle.gt_policy.specs.Resolving.{has_grant};
 ghost use Rattle.gt_advice.specs.Granting.{puts_in, takes_out, elements_hold, reaches_by, gives_source, gives_by};
 ghost use Rattle.gt_advice.specs.Granting.{gives_some};
-ghost use Rattle.gt_advice.specs.Granting.{comes_near, exceeds_on, exceeds_some, gives_one, near_some};
+ghost use Rattle.gt_advice.specs.Granting.{is_near_miss, exceeds_on, exceeds_some, gives_one, near_some};
 
 use crate::members::{Member, is_same};
 use gt_policy::{Allowance, Permissions, SetElement, Statement, TextPiece};
@@ -153,8 +153,8 @@ pub(crate) fn gives_some<'a>(
 
 // Whether a statement comes near a grant to the source: it lists the permission or holds the source, and reaches some
 // of the targets.
-fn comes_near(allowed: &Allowance, source: &Member, targets: &[Member], perm: &str) -> bool
-    ensures { result ≡ comes_near perm.now targets.now source.now allowed.now }
+fn is_near_miss(allowed: &Allowance, source: &Member, targets: &[Member], perm: &str) -> bool
+    ensures { result ≡ is_near_miss perm.now targets.now source.now allowed.now }
 {
     has_grant(allowed.classes.as_slice())
         && (lists(&allowed.perms, perm)
@@ -164,11 +164,11 @@ fn comes_near(allowed: &Allowance, source: &Member, targets: &[Member], perm: &s
 
 // Whether a statement comes near a grant to some of the sources.
 fn near_any(allowed: &Allowance, sources: &[Member], targets: &[Member], perm: &str) -> bool
-    ensures { result ≡ list_any (λ s. comes_near perm.now targets.now s allowed.now) sources.now }
+    ensures { result ≡ list_any (λ s. is_near_miss perm.now targets.now s allowed.now) sources.now }
 {
     sources
         .iter()
-        .any(|source| comes_near(allowed, source, targets, perm))
+        .any(|source| is_near_miss(allowed, source, targets, perm))
 }
 
 /// Whether a statement comes near: it has the target and the permission, or the target and the source.

@@ -32,7 +32,7 @@ pub(crate) fn line_span(bytes: &[u8], line: u32) -> Span {
 
 // Whether a token that began so goes on with this byte: a name with the bytes of names, and a character that is not
 // ASCII with its other bytes.
-fn goes_on(first: u8, byte: u8) -> bool {
+fn is_continuation(first: u8, byte: u8) -> bool {
     if first.is_ascii_alphabetic() {
         byte.is_ascii_alphabetic()
             || byte.is_ascii_digit()
@@ -50,7 +50,7 @@ pub(crate) fn tokens_in(alloc: Global, line: &[u8]) -> Result<Vec<Span>, AllocEr
     let mut open: Option<(usize, u8)> = None;
     for (i, byte) in line.iter().enumerate() {
         if let Some((start, first)) = open {
-            if goes_on(first, *byte) {
+            if is_continuation(first, *byte) {
                 continue;
             }
             tokens.push(Span { start, end: i })?;

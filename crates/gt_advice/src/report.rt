@@ -2,14 +2,14 @@
 ghost use Rattle.std.specs.Prelude.{◌≡◌, ◌++◌, OnOk};
 ghost use Rattle.gt_advice.specs.Report.{severity_text, heading_text};
 
-use crate::findings::{Finding, Kind};
+use crate::findings::{Finding, FindingKind};
 use crate::places::{bytes_of, line_span};
 use gt_streams::{push_text, text_of};
 use itoa::Buffer;
 use std::alloc::AllocError;
 use unicode_width::UnicodeWidthChar;
 
-impl Kind {
+impl FindingKind {
     ghost use Rattle.std.specs.Prelude.{◌≡◌};
     ghost use Rattle.gt_advice.specs.Report.{severity_text};
 
@@ -18,8 +18,8 @@ impl Kind {
         ensures { result.now ≡ severity_text self }
     {
         match self {
-            Kind::Fault => "error",
-            Kind::Note => "note",
+            FindingKind::Fault => "error",
+            FindingKind::Note => "note",
             _ => "warning",
         }
     }

@@ -6,10 +6,10 @@ use Rattle.std.specs.Io.KnownBytes.{Appends}
 use Rattle.std.specs.Str.{IsUtf8}
 use Rattle.gt_advice.specs.Check.{Judges, faulty, sound, error_lines, is_error}
 use Rattle.gt_advice.specs.Why.{IsExplained}
-use Rattle.gt_advice.specs.declared.asking.Answer.{Answer}
-use Rattle.gt_advice.specs.declared.asking.Answer.TheVariants as answers
+use Rattle.gt_advice.specs.declared.asking.WhyAnswer.{WhyAnswer}
+use Rattle.gt_advice.specs.declared.asking.WhyAnswer.TheVariants as answers
 use Rattle.gt_advice.specs.declared.asking.Explanation.{Explanation}
-use Rattle.gt_advice.specs.declared.asking.Question.{Question}
+use Rattle.gt_advice.specs.declared.asking.WhyQuestion.{WhyQuestion}
 use Rattle.gt_advice.specs.declared.findings.Finding.{Finding}
 use Rattle.gt_advising.specs.Checking.{Checked, CheckedText, IsCleanText}
 use Rattle.gt_advising.specs.Explaining.{AnswersWhy, AskedOf, Explained, WritesLines, answer_for}
@@ -117,7 +117,7 @@ checked_unread known old error fault is =
 -- ---- a question
 
 -- the lines of an answer went out
-pub asked_lines : (file text lines : List ℕ) (q : Question) (e : Explanation) (allowed : Bool) (old new : Option (List ℕ)) (r : Result Bool WhyFault) → lines ≡ e.lines.items → AnswersWhy file text q (answer_for allowed) e
+pub asked_lines : (file text lines : List ℕ) (q : WhyQuestion) (e : Explanation) (allowed : Bool) (old new : Option (List ℕ)) (r : Result Bool WhyFault) → lines ≡ e.lines.items → AnswersWhy file text q (answer_for allowed) e
     → WritesLines lines allowed old new r → AskedOf file q text old new r
 asked_lines file text lines q e allowed old new (Ok answer) same is (of, went) =
     (e, subst (λ (b : Bool). AnswersWhy file text q (answer_for b) e) (sym of) is, subst (λ (l : List ℕ). Appends old new l) same went)
@@ -131,7 +131,7 @@ asked_lines file text lines q e allowed old new (Err (Text (faults.Utf8 line))) 
 asked_lines file text lines q e allowed old new (Err (Text (faults.Policy shown))) same is w = absurd w
 
 -- the text is no policy
-refused : (file text : List ℕ) (q : Question) (line : ℕ) (kind : PolicyFaultKind) (old : Option (List ℕ)) → ((f : TokenFault) → fault_shown (record { line = line; kind = kind }) ≡ Some f → Says text (Err f))
+refused : (file text : List ℕ) (q : WhyQuestion) (line : ℕ) (kind : PolicyFaultKind) (old : Option (List ℕ)) → ((f : TokenFault) → fault_shown (record { line = line; kind = kind }) ≡ Some f → Says text (Err f))
     → AskedOf file q text old old (Err (Text (listing_fault_of line kind)))
 refused file text q line kinds.Memory old says = keeps_same old
 refused file text q line kinds.Syntax old says = (_, refl, says _ refl, keeps_same old)
@@ -141,11 +141,11 @@ refused file text q line (kinds.Permission name) old says = (_, refl, says _ ref
 refused file text q line (kinds.Outside word) old says = (_, refl, says _ refl, keeps_same old)
 refused file text q line kinds.Limit old says = (_, refl, says _ refl, keeps_same old)
 
-pub asked_no : (file text : List ℕ) (q : Question) (line : ℕ) (kind : PolicyFaultKind) (fault : ListingFault) (old : Option (List ℕ)) → fault ≡ listing_fault_of line kind
+pub asked_no : (file text : List ℕ) (q : WhyQuestion) (line : ℕ) (kind : PolicyFaultKind) (fault : ListingFault) (old : Option (List ℕ)) → fault ≡ listing_fault_of line kind
     → ((f : TokenFault) → fault_shown (record { line = line; kind = kind }) ≡ Some f → Says text (Err f)) → AskedOf file q text old old (Err (Text fault))
 asked_no file text q line kind fault old is says = subst (λ (f : ListingFault). AskedOf file q text old old (Err (Text f))) (sym is) (refused file text q line kind old says)
 
-answered_from : (file bytes : List ℕ) (q : Question) (old new : Option (List ℕ)) (r : Result Bool WhyFault) → IsUtf8 bytes → AskedOf file q bytes old new r → Explained file q bytes old new r
+answered_from : (file bytes : List ℕ) (q : WhyQuestion) (old new : Option (List ℕ)) (r : Result Bool WhyFault) → IsUtf8 bytes → AskedOf file q bytes old new r → Explained file q bytes old new r
 answered_from file bytes q old new (Ok answer) utf8 c = (utf8, c)
 answered_from file bytes q old new (Err NoSource) utf8 c = (utf8, c)
 answered_from file bytes q old new (Err NoTarget) utf8 c = (utf8, c)
@@ -156,12 +156,12 @@ answered_from file bytes q old new (Err (Text faults.Read)) utf8 c = absurd c
 answered_from file bytes q old new (Err (Text (faults.Utf8 line))) utf8 c = absurd c
 answered_from file bytes q old new (Err (Text (faults.Policy shown))) utf8 c = (c.0, c.1, (inr utf8, c.2), c.3)
 
-pub explained_bytes : (file all bytes text : List ℕ) (q : Question) (old new : Option (List ℕ)) (r : Result Bool WhyFault) → bytes ≡ take 1048577 all → text ≡ bytes → length bytes ≤ 1048576 → IsUtf8 bytes
+pub explained_bytes : (file all bytes text : List ℕ) (q : WhyQuestion) (old new : Option (List ℕ)) (r : Result Bool WhyFault) → bytes ≡ take 1048577 all → text ≡ bytes → length bytes ≤ 1048576 → IsUtf8 bytes
     → AskedOf file q text old new r → Explained file q all old new r
 explained_bytes file all bytes text q old new r read same short utf8 c =
     subst (λ (l : List ℕ). Explained file q l old new r) (whole_read all bytes read short) (answered_from file bytes q old new r utf8 (subst (λ (l : List ℕ). AskedOf file q l old new r) same c))
 
-pub explained_no : (file all bytes : List ℕ) (q : Question) (fault : ListingFault) (old : Option (List ℕ)) → bytes ≡ take 1048577 all → IsNoText bytes fault → Explained file q all old old (Err (Text fault))
+pub explained_no : (file all bytes : List ℕ) (q : WhyQuestion) (fault : ListingFault) (old : Option (List ℕ)) → bytes ≡ take 1048577 all → IsNoText bytes fault → Explained file q all old old (Err (Text fault))
 explained_no file all bytes q (faults.Utf8 line) old read h = subst (λ (l : List ℕ). Explained file q l old old (Err (Text (faults.Utf8 line)))) (whole_read all bytes read h.0) (h, keeps_same old)
 explained_no file all bytes q (faults.Policy shown) old read h =
     let long = too_many all bytes read h.0 in (at 1 Limit, h.1, (inl long, too_long all long), keeps_same old)
@@ -169,11 +169,11 @@ explained_no file all bytes q faults.Memory old read h = absurd h
 explained_no file all bytes q faults.Read old read h = absurd h
 explained_no file all bytes q faults.Write old read h = absurd h
 
-unasked : (file all : List ℕ) (q : Question) (old : Option (List ℕ)) (error : ReadFault) → Explained file q all old old (Err (Text (listing_read_fault error)))
+unasked : (file all : List ℕ) (q : WhyQuestion) (old : Option (List ℕ)) (error : ReadFault) → Explained file q all old old (Err (Text (listing_read_fault error)))
 unasked file all q old reads.Memory = keeps_same old
 unasked file all q old reads.Read = keeps_same old
 
-pub explained_unread : (file : List ℕ) (q : Question) (known old : Option (List ℕ)) (error : ReadFault) (fault : ListingFault) → fault ≡ listing_read_fault error → OfInput known (λ input. Explained file q input old old (Err (Text fault)))
+pub explained_unread : (file : List ℕ) (q : WhyQuestion) (known old : Option (List ℕ)) (error : ReadFault) (fault : ListingFault) → fault ≡ listing_read_fault error → OfInput known (λ input. Explained file q input old old (Err (Text fault)))
 explained_unread file q known old error fault is =
     of_any_input known (λ (input : List ℕ). Explained file q input old old (Err (Text fault)))
     (λ (input : List ℕ). subst (λ (f : ListingFault). Explained file q input old old (Err (Text f))) (sym is) (unasked file input q old error))

@@ -3,10 +3,10 @@ use Rattle.std.specs.Prelude.{◌≡◌, ℕ, Bool, true, false, List, Option, S
 use Rattle.std.specs.Io.KnownBytes.{Appends, Keeps}
 use Rattle.std.specs.Str.{IsUtf8}
 use Rattle.gt_advice.specs.Why.{IsExplained}
-use Rattle.gt_advice.specs.declared.asking.Answer.{Answer}
-use Rattle.gt_advice.specs.declared.asking.Answer.TheVariants as answers
+use Rattle.gt_advice.specs.declared.asking.WhyAnswer.{WhyAnswer}
+use Rattle.gt_advice.specs.declared.asking.WhyAnswer.TheVariants as answers
 use Rattle.gt_advice.specs.declared.asking.Explanation.{Explanation}
-use Rattle.gt_advice.specs.declared.asking.Question.{Question}
+use Rattle.gt_advice.specs.declared.asking.WhyQuestion.{WhyQuestion}
 use Rattle.gt_advising.specs.declared.fault.WhyFault.{WhyFault}
 use Rattle.gt_advising.specs.declared.fault.WhyFault.TheVariants.{Text, NoSource, NoTarget, NoPermission}
 use Rattle.gt_listing.specs.Reading.{IsNotUtf8At, IsFaulty}
@@ -20,12 +20,12 @@ use Rattle.gt_policy.specs.declared.lined.LinedStatement.{LinedStatement}
 use Rattle.gt_streams.specs.Streams.{AppendsBeginning}
 
 -- the text is a policy, and what its statements explain answers so
-abbrev pub AnswersWhy : List ℕ → List ℕ → Question → Answer → Explanation → Type 0
+abbrev pub AnswersWhy : List ℕ → List ℕ → WhyQuestion → WhyAnswer → Explanation → Type 0
 AnswersWhy file text q answer e =
     (m : Meaning) × (xs : List LinedStatement) × Says text (Ok m) × IsLined text xs × IsExplained file q xs e
     × (e.answer ≡ answer)
 
-abbrev pub answer_for : Bool → Answer
+abbrev pub answer_for : Bool → WhyAnswer
 answer_for true = answers.Allowed
 answer_for false = answers.Denied
 
@@ -43,7 +43,7 @@ WritesLines lines allowed old new (Err (Text (Policy shown))) = ⊥
 
 -- what was written for a question about a text: at Ok the lines of its answer, allowed or denied; nothing where
 -- a name of the question is not there
-abbrev pub AskedOf : List ℕ → Question → List ℕ → Option (List ℕ) → Option (List ℕ) → Result Bool WhyFault → Type 0
+abbrev pub AskedOf : List ℕ → WhyQuestion → List ℕ → Option (List ℕ) → Option (List ℕ) → Result Bool WhyFault → Type 0
 AskedOf file q text old new (Ok allowed) =
     (e : Explanation) × AnswersWhy file text q (answer_for allowed) e × Appends old new e.lines.items
 AskedOf file q text old new (Err NoSource) =
@@ -60,7 +60,7 @@ AskedOf file q text old new (Err (Text (Policy shown))) =
     (f : TokenFault) × (fault_shown shown ≡ Some f) × Says text (Err f) × Keeps old new
 
 -- the same for bytes; nothing where they are too many or no UTF-8
-abbrev pub Explained : List ℕ → Question → List ℕ → Option (List ℕ) → Option (List ℕ) → Result Bool WhyFault → Type 0
+abbrev pub Explained : List ℕ → WhyQuestion → List ℕ → Option (List ℕ) → Option (List ℕ) → Result Bool WhyFault → Type 0
 Explained file q bytes old new (Ok allowed) = IsUtf8 bytes × AskedOf file q bytes old new (Ok allowed)
 Explained file q bytes old new (Err NoSource) = IsUtf8 bytes × AskedOf file q bytes old new (Err NoSource)
 Explained file q bytes old new (Err NoTarget) = IsUtf8 bytes × AskedOf file q bytes old new (Err NoTarget)

@@ -5,7 +5,7 @@ ghost use Rattle.gt_streams.specs.Streams.{OfInput};
 ghost use Rattle.gt_advising.specs.Explaining.{AskedOf, Explained, WritesLines};
 
 use crate::fault::WhyFault;
-use gt_advice::{Answer, Explanation, Question};
+use gt_advice::{WhyAnswer, Explanation, WhyQuestion};
 use gt_listing::{ListingFault, policy_text};
 use gt_streams::{finish, read_text};
 use std::alloc::Global;
@@ -25,7 +25,7 @@ fn write_lines<W: Write>(lines: &[u8], allowed: bool, writer: &mut W) -> Result<
 fn explain_text<W: Write>(
     alloc: Global,
     file: &str,
-    question: &Question,
+    question: &WhyQuestion,
     text: &str,
     writer: &mut W,
 ) -> Result<bool, WhyFault>
@@ -36,11 +36,11 @@ fn explain_text<W: Write>(
         Err(fault) => return Err(WhyFault::Text(ListingFault::from(fault))),
     };
     match answer {
-        Answer::Allowed => write_lines(lines.as_slice(), true, writer),
-        Answer::Denied => write_lines(lines.as_slice(), false, writer),
-        Answer::NoSource => Err(WhyFault::NoSource),
-        Answer::NoTarget => Err(WhyFault::NoTarget),
-        Answer::NoPermission => Err(WhyFault::NoPermission),
+        WhyAnswer::Allowed => write_lines(lines.as_slice(), true, writer),
+        WhyAnswer::Denied => write_lines(lines.as_slice(), false, writer),
+        WhyAnswer::NoSource => Err(WhyFault::NoSource),
+        WhyAnswer::NoTarget => Err(WhyFault::NoTarget),
+        WhyAnswer::NoPermission => Err(WhyFault::NoPermission),
     }
 }
 
@@ -48,7 +48,7 @@ fn explain_text<W: Write>(
 fn explain_bytes<W: Write>(
     alloc: Global,
     file: &str,
-    question: &Question,
+    question: &WhyQuestion,
     input: &[u8],
     writer: &mut W,
 ) -> Result<bool, WhyFault>
@@ -67,7 +67,7 @@ fn explain_bytes<W: Write>(
 pub fn why<R: Read, W: Write>(
     alloc: Global,
     file: &str,
-    question: &Question,
+    question: &WhyQuestion,
     reader: &mut R,
     writer: &mut W,
 ) -> Result<bool, WhyFault>

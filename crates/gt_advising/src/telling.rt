@@ -4,7 +4,7 @@ ghost use Rattle.std.specs.List.{list_any};
 ghost use Rattle.gt_advice.specs.Check.{is_error};
 ghost use Rattle.gt_advising.specs.Telling.{TellsFindings};
 
-use gt_advice::{Finding, Kind, push_json, push_report};
+use gt_advice::{Finding, FindingKind, push_json, push_report};
 use gt_listing::ListingFault;
 use gt_streams::finish;
 use std::alloc::{AllocError, Global};
@@ -16,7 +16,7 @@ fn has_error(found: &[Finding]) -> bool
 {
     found
         .iter()
-        .any(|finding| matches!(finding.kind, Kind::Fault))
+        .any(|finding| matches!(finding.kind, FindingKind::Fault))
 }
 
 // The findings as they are written.

@@ -2,7 +2,7 @@
 use Rattle.std.proofs.Common.{◌≡◌, ◌⊎◌, ℕ, ◌≤◌, List, [], Option, None, Some, Result, Ok, Err, length, inl, inr, subst}
 use Rattle.std.proofs.Common.{sym}
 use Rattle.gt_streams.specs.Streams.{OfInput}
-use Rattle.gt_json.specs.declared.places.Printed.{Printed}
+use Rattle.gt_json.specs.declared.places.PrintedText.{PrintedText}
 use Rattle.gt_as_json.specs.AsJson.{Promise, AsJson, Passes}
 
 -- what follows for each input follows for the one that there is
@@ -11,7 +11,7 @@ of_input_more None P Q f (input, few, p) = (input, few, f input p)
 of_input_more (Some all) P Q f p = f all p
 
 -- what went out for one input, once a command wrote a text so
-passed_one : {F : Type 0} (printed : Printed) (memory write : F) (Wrote : Promise F) (text : List ℕ) (outcome answer : Result (Unit {0}) F) (old new : Option (List ℕ))
+passed_one : {F : Type 0} (printed : PrintedText) (memory write : F) (Wrote : Promise F) (text : List ℕ) (outcome answer : Result (Unit {0}) F) (old new : Option (List ℕ))
     → Wrote (Some []) (Some text) outcome → Passes printed memory write text outcome old new answer → AsJson printed memory write Wrote old new answer
 passed_one printed memory write Wrote text (Ok done) (Ok passed) old new wrote went = (text, wrote, went)
 passed_one printed memory write Wrote text (Ok done) (Err fault) old new wrote (is, went) = inr (is, (text, wrote, went))
@@ -21,7 +21,7 @@ passed_one {F = F} printed memory write Wrote text (Err why) (Err fault) old new
     inl (kept, inr (text, subst (λ (f : F). Wrote (Some []) (Some text) (Err f)) (sym is) wrote))
 
 -- the same for the input that there is, of a text that began with nothing
-pub passed : {F : Type 0} (known : Option (List ℕ)) (printed : Printed) (memory write : F) (Wrote : List ℕ → Promise F) (start text given : List ℕ) (outcome answer : Result (Unit {0}) F) (old new : Option (List ℕ))
+pub passed : {F : Type 0} (known : Option (List ℕ)) (printed : PrintedText) (memory write : F) (Wrote : List ℕ → Promise F) (start text given : List ℕ) (outcome answer : Result (Unit {0}) F) (old new : Option (List ℕ))
     → start ≡ [] → given ≡ text → OfInput known (λ input. Wrote input (Some start) (Some text) outcome) → Passes printed memory write given outcome old new answer
     → OfInput known (λ input. AsJson printed memory write (Wrote input) old new answer)
 passed known printed memory write Wrote start text given outcome answer old new none is wrote went =

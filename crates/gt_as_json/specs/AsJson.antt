@@ -1,8 +1,8 @@
 -- What goes out for a command whose text is written as JSON.
 use Rattle.std.specs.Prelude.{◌≡◌, ◌⊎◌, ℕ, Bool, List, [], Option, Some, Result, Ok, Err}
-use Rattle.gt_as_json.specs.Prelude.{Appends, Keeps, AppendsBeginning, json_text, Printed, Run, Policy, Entries}
+use Rattle.gt_as_json.specs.Prelude.{Appends, Keeps, AppendsBeginning, json_text, PrintedText, Run, Policy, Entries}
 use Rattle.gt_as_json.specs.Prelude.{TellsScript}
-use Rattle.gt_as_json.specs.Prelude.{RunTells, PlayFault, Played, RunFault, Ran, ListingFault, Listed, Asked, DumpFault}
+use Rattle.gt_as_json.specs.Prelude.{RunTells, PlayFault, Played, RunFault, Ran, ListingFault, Listed, DumpOptions, DumpFault}
 use Rattle.gt_as_json.specs.Prelude.{Told}
 use Rattle.gt_streams.specs.Streams.{OfInput}
 use Rattle.gt_host.specs.declared.fault.PlayFault.TheVariants as plays
@@ -24,14 +24,14 @@ WritesJson Wrote answer text = Wrote (Some []) (Some text) answer
 
 -- Why the JSON did not go out whole. It may be that none did: memory was refused, or the command has this fault. Or
 -- memory was refused or a write failed on the way, and a beginning of it did.
-abbrev pub Failed : {F : Type 0} → Printed → F → F → Promise F → Option (List ℕ) → Option (List ℕ) → F → Type 0
+abbrev pub Failed : {F : Type 0} → PrintedText → F → F → Promise F → Option (List ℕ) → Option (List ℕ) → F → Type 0
 Failed printed memory write Wrote old new fault =
     (Keeps old new × ((fault ≡ memory) ⊎ ((text : List ℕ) × WritesJson Wrote (Err fault) text)))
     ⊎ (((fault ≡ memory) ⊎ (fault ≡ write))
     × ((text : List ℕ) × WritesJson Wrote (Ok tt) text × AppendsBeginning old new (json_text printed text)))
 
 -- what goes out: at Ok the JSON of a text that the command writes; after a fault none of it, or a beginning
-abbrev pub AsJson : {F : Type 0} → Printed → F → F → Promise F → Promise F
+abbrev pub AsJson : {F : Type 0} → PrintedText → F → F → Promise F → Promise F
 AsJson printed memory write Wrote old new (Ok done) =
     (text : List ℕ) × WritesJson Wrote (Ok tt) text × Appends old new (json_text printed text)
 AsJson printed memory write Wrote old new (Err fault) = Failed printed memory write Wrote old new fault
@@ -39,7 +39,7 @@ AsJson printed memory write Wrote old new (Err fault) = Failed printed memory wr
 -- What goes out once a command wrote a text to memory, with an answer. At Ok it is the JSON of the text, or a beginning
 -- of it, since memory was refused or a write failed. At a fault nothing does, and the fault is the
 -- command's, or that memory was refused.
-abbrev pub Passes : {F : Type 0} → Printed → F → F → List ℕ → Result (Unit {0}) F → Promise F
+abbrev pub Passes : {F : Type 0} → PrintedText → F → F → List ℕ → Result (Unit {0}) F → Promise F
 Passes printed memory write text (Ok done) old new (Ok passed) = Appends old new (json_text printed text)
 Passes printed memory write text (Ok done) old new (Err fault) =
     ((fault ≡ memory) ⊎ (fault ≡ write)) × AppendsBeginning old new (json_text printed text)
@@ -60,5 +60,5 @@ abbrev pub ListedAsJson : List ℕ → Promise ListingFault
 ListedAsJson input = AsJson Policy listings.Memory listings.Write (Listed input)
 
 -- what `entries_json` writes for an input of which this is asked
-abbrev pub ToldAsJson : Asked → List ℕ → Promise DumpFault
+abbrev pub ToldAsJson : DumpOptions → List ℕ → Promise DumpFault
 ToldAsJson asked input = AsJson Entries dumps.Memory dumps.Write (Told asked input)

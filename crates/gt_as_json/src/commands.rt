@@ -2,7 +2,7 @@
 ghost use Rattle.std.specs.Prelude.{is_some};
 ghost use Rattle.gt_streams.specs.Streams.{ConsumesAtMost};
 ghost use Rattle.gt_streams.specs.declared.streams.TheConstants.{READ_LIMIT};
-ghost use Rattle.gt_json.specs.declared.places.Printed.TheVariants as printed;
+ghost use Rattle.gt_json.specs.declared.places.PrintedText.TheVariants as printed;
 ghost use Rattle.gt_host.specs.declared.fault.PlayFault.TheVariants as plays;
 ghost use Rattle.gt_run.specs.declared.fault.RunFault.TheVariants as runs;
 ghost use Rattle.gt_listing.specs.declared.fault.ListingFault.TheVariants as listings;
@@ -10,9 +10,9 @@ ghost use Rattle.gt_dump.specs.declared.fault.DumpFault.TheVariants as dumps;
 ghost use Rattle.gt_as_json.specs.AsJson.{ForInput, PlayedAsJson, RanAsJson, ListedAsJson, ToldAsJson, Passes};
 
 use gt_audit::SharedLog;
-use gt_dump::{Asked, DumpFault, entries};
+use gt_dump::{DumpOptions, DumpFault, entries};
 use gt_host::{PlayFault, play};
-use gt_json::{JsonFault, Printed, write_json};
+use gt_json::{JsonFault, PrintedText, write_json};
 use gt_listing::{ListingFault, policy};
 use gt_run::{Gate, RunFault, run};
 use gt_streams::every_writer_keeps_what_it_has;
@@ -33,7 +33,7 @@ fn pass_play<W: Write>(
 {
     every_writer_keeps_what_it_has();
     match outcome {
-        Ok(()) => match write_json(alloc, Printed::Run, text, writer) {
+        Ok(()) => match write_json(alloc, PrintedText::Run, text, writer) {
             Ok(()) => Ok(()),
             Err(JsonFault::Memory) => Err(PlayFault::Memory),
             Err(JsonFault::Write) => Err(PlayFault::Write),
@@ -55,7 +55,7 @@ fn pass_run<W: Write>(
 {
     every_writer_keeps_what_it_has();
     match outcome {
-        Ok(()) => match write_json(alloc, Printed::Run, text, writer) {
+        Ok(()) => match write_json(alloc, PrintedText::Run, text, writer) {
             Ok(()) => Ok(()),
             Err(JsonFault::Memory) => Err(RunFault::Play(PlayFault::Memory)),
             Err(JsonFault::Write) => Err(RunFault::Play(PlayFault::Write)),
@@ -77,7 +77,7 @@ fn pass_policy<W: Write>(
 {
     every_writer_keeps_what_it_has();
     match outcome {
-        Ok(()) => match write_json(alloc, Printed::Policy, text, writer) {
+        Ok(()) => match write_json(alloc, PrintedText::Policy, text, writer) {
             Ok(()) => Ok(()),
             Err(JsonFault::Memory) => Err(ListingFault::Memory),
             Err(JsonFault::Write) => Err(ListingFault::Write),
@@ -99,7 +99,7 @@ fn pass_entries<W: Write>(
 {
     every_writer_keeps_what_it_has();
     match outcome {
-        Ok(()) => match write_json(alloc, Printed::Entries, text, writer) {
+        Ok(()) => match write_json(alloc, PrintedText::Entries, text, writer) {
             Ok(()) => Ok(()),
             Err(JsonFault::Memory) => Err(DumpFault::Memory),
             Err(JsonFault::Write) => Err(DumpFault::Write),
@@ -178,7 +178,7 @@ pub fn policy_json<R: Read, W: Write>(
 /// where memory is refused, a beginning of the JSON or nothing.
 pub fn entries_json<R: Read, W: Write>(
     alloc: Global,
-    asked: Asked,
+    asked: DumpOptions,
     reader: &mut R,
     writer: &mut W,
 ) -> Result<(), DumpFault>

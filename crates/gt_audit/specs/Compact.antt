@@ -12,10 +12,10 @@ use Rattle.gt_audit.specs.declared.record.Hypercall.TheVariants as calls
 use Rattle.gt_audit.specs.declared.record.Record.{Record}
 use Rattle.gt_audit.specs.declared.record.Reply.{Reply}
 use Rattle.gt_audit.specs.declared.record.Reply.TheVariants as replies
-use Rattle.gt_audit.specs.declared.compact.Asked.{Asked}
-use Rattle.gt_audit.specs.declared.compact.Asked.TheVariants as asks
-use Rattle.gt_audit.specs.declared.compact.Answered.{Answered}
-use Rattle.gt_audit.specs.declared.compact.Answered.TheVariants as answers
+use Rattle.gt_audit.specs.declared.compact.CallKind.{CallKind}
+use Rattle.gt_audit.specs.declared.compact.CallKind.TheVariants as asks
+use Rattle.gt_audit.specs.declared.compact.ReplyKind.{ReplyKind}
+use Rattle.gt_audit.specs.declared.compact.ReplyKind.TheVariants as answers
 use Rattle.gt_audit.specs.declared.compact.Packed.{Packed}
 
 -- the field with this number
@@ -44,7 +44,7 @@ abbrev pub type_at : ℕ → TypeId
 type_at n = record { 0 = n }
 
 -- what was asked
-abbrev pub called : Asked → Packed → Hypercall
+abbrev pub called : CallKind → Packed → Hypercall
 called asks.Map p = calls.Map (domain_kept p.dom) (reference_at p.source) p.dest
 called asks.Unmap p = calls.Unmap (Some (domain_kept p.dom, reference_at p.source))
 called asks.UnmapOfNothing p = calls.Unmap None
@@ -60,7 +60,7 @@ called asks.SetVersion p = calls.SetVersion p.source
 called asks.SetupTable p = calls.SetupTable p.source
 
 -- what a refusal rests on
-abbrev pub facts_of : Answered → Packed → Facts
+abbrev pub facts_of : ReplyKind → Packed → Facts
 facts_of answers.ByPolicy p = facts.Policy (type_at p.of) (type_at p.found) (record { 0 = p.word })
 facts_of answers.ForField p = facts.Field (field_at p.word)
 facts_of answers.ForHeader p = facts.Header (domain_kept p.of) p.word
@@ -68,7 +68,7 @@ facts_of answers.ForEntry p = facts.Entry (domain_kept p.of) (reference_at p.fou
 facts_of answered p = facts.None
 
 -- what was answered
-abbrev pub replied : Answered → Packed → Reply
+abbrev pub replied : ReplyKind → Packed → Reply
 replied answers.Done p = replies.Done
 replied answers.Frames p = replies.Frames p.word
 replied answers.Size p = replies.Size (record { frames = p.found; max = p.word })
@@ -80,12 +80,12 @@ abbrev pub unpacked : Packed → Record
 unpacked p = record { dom = domain_kept p.caller; call = called p.asked p; reply = replied p.answered p }
 
 -- the numbers of a call but a copy are of 32 bits
-abbrev pub FitsCall : Asked → Packed → Type 0
+abbrev pub FitsCall : CallKind → Packed → Type 0
 FitsCall asks.Copy p = Unit {0}
 FitsCall asked p = (p.source < 2 ^ 32) × (p.dest < 2 ^ 32)
 
 -- the numbers of an answer fit what it says
-abbrev pub FitsReply : Answered → Packed → Type 0
+abbrev pub FitsReply : ReplyKind → Packed → Type 0
 FitsReply answers.ByPolicy p = (p.found < 2 ^ 16) × (p.word < 2 ^ 8)
 FitsReply answers.Frames p = p.word < 2 ^ 32
 FitsReply answers.Size p = p.word < 2 ^ 32

@@ -11,7 +11,7 @@ use std::marker::Model;
 
 // What was asked, without its numbers.
 #[derive(Clone, Copy)]
-enum Asked {
+enum CallKind {
     Map,
     Unmap,
     UnmapOfNothing,
@@ -24,7 +24,7 @@ enum Asked {
 
 // What was answered, and what a refusal rests on, without the numbers.
 #[derive(Clone, Copy)]
-enum Answered {
+enum ReplyKind {
     Done,
     Frames,
     Size,
@@ -58,8 +58,8 @@ struct Packed {
     flags: u16,
     // The domain or the source's type that a refusal rests on.
     of: u16,
-    asked: Asked,
-    answered: Answered,
+    asked: CallKind,
+    answered: ReplyKind,
     rule: Rule,
     status: Status,
 }
@@ -79,8 +79,8 @@ const BLANK: Packed = Packed {
     len: 0,
     flags: 0,
     of: 0,
-    asked: Asked::UnmapOfNothing,
-    answered: Answered::Done,
+    asked: CallKind::UnmapOfNothing,
+    answered: ReplyKind::Done,
     rule: Rule::N1,
     status: Status::GeneralError,
 };
@@ -126,14 +126,14 @@ fn with_call(call: Hypercall, rest: Packed) -> Packed
 {
     match call {
         Hypercall::Map { dom, gref, flags } => Packed {
-            asked: Asked::Map,
+            asked: CallKind::Map,
             dom: dom.0,
             source: u64::from(gref.0),
             dest: u64::from(flags),
             ..rest
         },
         Hypercall::Unmap { subject: None } => Packed {
-            asked: Asked::UnmapOfNothing,
+            asked: CallKind::UnmapOfNothing,
             source: 0,
             dest: 0,
             ..rest
@@ -141,7 +141,7 @@ fn with_call(call: Hypercall, rest: Packed) -> Packed
         Hypercall::Unmap {
             subject: Some((dom, gref)),
         } => Packed {
-            asked: Asked::Unmap,
+            asked: CallKind::Unmap,
             dom: dom.0,
             source: u64::from(gref.0),
             dest: 0,
@@ -153,7 +153,7 @@ fn with_call(call: Hypercall, rest: Packed) -> Packed
             len,
             flags,
         } => Packed {
-            asked: Asked::Copy,
+            asked: CallKind::Copy,
             dom: source.domid.0,
             source: source.ptr,
             source_off: source.offset,
@@ -165,27 +165,27 @@ fn with_call(call: Hypercall, rest: Packed) -> Packed
             ..rest
         },
         Hypercall::QuerySize { dom } => Packed {
-            asked: Asked::QuerySize,
+            asked: CallKind::QuerySize,
             dom: dom.0,
             source: 0,
             dest: 0,
             ..rest
         },
         Hypercall::GetVersion { dom } => Packed {
-            asked: Asked::GetVersion,
+            asked: CallKind::GetVersion,
             dom: dom.0,
             source: 0,
             dest: 0,
             ..rest
         },
         Hypercall::SetVersion { version } => Packed {
-            asked: Asked::SetVersion,
+            asked: CallKind::SetVersion,
             source: u64::from(version),
             dest: 0,
             ..rest
         },
         Hypercall::SetupTable { frames } => Packed {
-            asked: Asked::SetupTable,
+            asked: CallKind::SetupTable,
             source: u64::from(frames),
             dest: 0,
             ..rest
@@ -199,7 +199,7 @@ fn with_refusal(denial: Denial, rest: Packed) -> Packed
     ensures { HasReply (Denied denial) rest result }
 {
     let refused = Packed {
-        answered: Answered::Refused,
+        answered: ReplyKind::Refused,
         rule: denial.rule,
         status: denial.status,
         ..rest
@@ -211,25 +211,25 @@ fn with_refusal(denial: Denial, rest: Packed) -> Packed
             target,
             perm,
         } => Packed {
-            answered: Answered::ByPolicy,
+            answered: ReplyKind::ByPolicy,
             of: source.0,
             found: u32::from(target.0),
             word: u64::from(perm.bits()),
             ..refused
         },
         Facts::Field(field) => Packed {
-            answered: Answered::ForField,
+            answered: ReplyKind::ForField,
             word: number_of(field),
             ..refused
         },
         Facts::Header { dom, word } => Packed {
-            answered: Answered::ForHeader,
+            answered: ReplyKind::ForHeader,
             of: dom.0,
             word,
             ..refused
         },
         Facts::Entry { dom, gref, word } => Packed {
-            answered: Answered::ForEntry,
+            answered: ReplyKind::ForEntry,
             of: dom.0,
             found: gref.0,
             word,
@@ -245,22 +245,22 @@ fn with_reply(reply: Reply, rest: Packed) -> Packed
 {
     match reply {
         Reply::Done => Packed {
-            answered: Answered::Done,
+            answered: ReplyKind::Done,
             ..rest
         },
         Reply::Frames(frames) => Packed {
-            answered: Answered::Frames,
+            answered: ReplyKind::Frames,
             word: u64::from(frames),
             ..rest
         },
         Reply::Size(size) => Packed {
-            answered: Answered::Size,
+            answered: ReplyKind::Size,
             found: size.frames,
             word: u64::from(size.max),
             ..rest
         },
         Reply::Version(version) => Packed {
-            answered: Answered::Version,
+            answered: ReplyKind::Version,
             word: u64::from(version),
             ..rest
         },
@@ -275,16 +275,16 @@ fn called(parts: &Packed) -> Hypercall
 {
     let dom = DomId(parts.dom);
     match parts.asked {
-        Asked::Map => Hypercall::Map {
+        CallKind::Map => Hypercall::Map {
             dom,
             gref: GrantRef(parts.source as u32),
             flags: parts.dest as u32,
         },
-        Asked::Unmap => Hypercall::Unmap {
+        CallKind::Unmap => Hypercall::Unmap {
             subject: Some((dom, GrantRef(parts.source as u32))),
         },
-        Asked::UnmapOfNothing => Hypercall::Unmap { subject: None },
-        Asked::Copy => Hypercall::Copy {
+        CallKind::UnmapOfNothing => Hypercall::Unmap { subject: None },
+        CallKind::Copy => Hypercall::Copy {
             source: End {
                 ptr: parts.source,
                 domid: dom,
@@ -298,12 +298,12 @@ fn called(parts: &Packed) -> Hypercall
             len: parts.len,
             flags: parts.flags,
         },
-        Asked::QuerySize => Hypercall::QuerySize { dom },
-        Asked::GetVersion => Hypercall::GetVersion { dom },
-        Asked::SetVersion => Hypercall::SetVersion {
+        CallKind::QuerySize => Hypercall::QuerySize { dom },
+        CallKind::GetVersion => Hypercall::GetVersion { dom },
+        CallKind::SetVersion => Hypercall::SetVersion {
             version: parts.source as u32,
         },
-        Asked::SetupTable => Hypercall::SetupTable {
+        CallKind::SetupTable => Hypercall::SetupTable {
             frames: parts.source as u32,
         },
     }
@@ -315,17 +315,17 @@ fn facts(parts: &Packed) -> Facts
     ensures { result ≡ facts_of parts.now.answered parts.now }
 {
     match parts.answered {
-        Answered::ByPolicy => Facts::Policy {
+        ReplyKind::ByPolicy => Facts::Policy {
             source: TypeId(parts.of),
             target: TypeId(parts.found as u16),
             perm: Perms::from_bits_retain(parts.word as u8),
         },
-        Answered::ForField => Facts::Field(field_at(parts.word)),
-        Answered::ForHeader => Facts::Header {
+        ReplyKind::ForField => Facts::Field(field_at(parts.word)),
+        ReplyKind::ForHeader => Facts::Header {
             dom: DomId(parts.of),
             word: parts.word,
         },
-        Answered::ForEntry => Facts::Entry {
+        ReplyKind::ForEntry => Facts::Entry {
             dom: DomId(parts.of),
             gref: GrantRef(parts.found),
             word: parts.word,
@@ -340,13 +340,13 @@ fn replied(parts: &Packed) -> Reply
     ensures { result ≡ replied parts.now.answered parts.now }
 {
     match parts.answered {
-        Answered::Done => Reply::Done,
-        Answered::Frames => Reply::Frames(parts.word as u32),
-        Answered::Size => Reply::Size(Size {
+        ReplyKind::Done => Reply::Done,
+        ReplyKind::Frames => Reply::Frames(parts.word as u32),
+        ReplyKind::Size => Reply::Size(Size {
             frames: parts.found,
             max: parts.word as u32,
         }),
-        Answered::Version => Reply::Version(parts.word as u32),
+        ReplyKind::Version => Reply::Version(parts.word as u32),
         _ => Reply::Denied(Denial {
             rule: parts.rule,
             status: parts.status,

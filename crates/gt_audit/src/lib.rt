@@ -26,5 +26,5 @@ pub use lines::{line, push_line, push_lost};
 pub use pieces::MOST_RESERVED;
 pub use record::{Hypercall, Record, Reply};
 pub use shared::{Pushed, SharedLog};
-pub use told::Told;
+pub use told::DomainLog;
 pub use trail::Trail;

@@ -1,6 +1,6 @@
 //! Records that domains share while they run.
 use crate::compact::Compact;
-use crate::record::Record;
+use crate::record::EncodedRecord;
 use boxcar::Vec;
 use gt_types::DomId;
 use std::alloc::{AllocError, Global};

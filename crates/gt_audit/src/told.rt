@@ -1,5 +1,5 @@
 //! What one domain pushed into a shared log.
-use crate::record::Record;
+use crate::record::EncodedRecord;
 use crate::shared::{Pushed, SharedLog};
 use gt_types::DomId;
 use std::alloc::{AllocError, Global};
@@ -8,14 +8,14 @@ use std::sync::Wait;
 
 /// What one domain pushed into a log: its records, each under its number, in order, and how many were lost.
 #[derive(Drop)]
-pub struct Told<'l> {
+pub struct DomainLog<'l> {
     log: &'l SharedLog,
     dom: DomId,
     tokens: Vec<Pushed>,
     lost: u64,
 }
 
-impl<'l> Model for Told<'l> {
+impl<'l> Model for DomainLog<'l> {
     ghost use Rattle.std.specs.Prelude.{map, All};
     ghost use Rattle.gt_audit.specs.Log.{IsPushedBy, numbered_of};
     ghost use Rattle.gt_audit.specs.Telling.{Account};
@@ -27,7 +27,7 @@ impl<'l> Model for Told<'l> {
     ghost invariant = { λ t. All (IsPushedBy t.log.now t.dom) t.tokens.items };
 }
 
-impl<'l> Told<'l> {
+impl<'l> DomainLog<'l> {
     ghost use Rattle.std.specs.Prelude.{◌≡◌, IfOk, map};
     ghost use Rattle.gt_audit.specs.Telling.{nothing_told, TellsUnder};
 
@@ -35,7 +35,7 @@ impl<'l> Told<'l> {
     pub fn new(alloc: Global, log: &'l SharedLog, dom: DomId) -> Self
         ensures { result ≡ nothing_told dom }
     {
-        Told {
+        DomainLog {
             log,
             dom,
             tokens: Vec::new(alloc),

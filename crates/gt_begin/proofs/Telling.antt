@@ -10,17 +10,17 @@ use Rattle.gt_policy.specs.Whole.{Says}
 use Rattle.gt_policy.specs.declared.fault.TokenFault.{TokenFault}
 use Rattle.gt_begin.specs.Beginning.{IsFaultOf, IsLabelFault, IsSetBy, IsTextFault}
 use Rattle.gt_begin.specs.Faults.{config_told, policy_told}
-use Rattle.gt_begin.specs.declared.faults.Fault.{Fault}
+use Rattle.gt_begin.specs.declared.faults.EncodedFault.{EncodedFault}
 use Rattle.gt_begin.specs.declared.settings.DomainSettings.{DomainSettings}
 
 -- the fault of a policy is one of its text
-pub of-text : (text : List ℕ) (o : Option TokenFault) (fault : Fault) → ((f : TokenFault) → o ≡ Some f → Says text (Err f))
+pub of-text : (text : List ℕ) (o : Option TokenFault) (fault : EncodedFault) → ((f : TokenFault) → o ≡ Some f → Says text (Err f))
     → fault ≡ policy_told o → IsTextFault text fault
 of-text text (Some f) fault says e = inr (inr (f, says f refl, e))
 of-text text None fault says e = inl e
 
 -- the fault of a start is one of the settings
-pub of-settings : (settings : List DomainSettings) (first_gen : ℕ) (text : List ℕ) (c : Config) (s : StartFault) (fault : Fault)
+pub of-settings : (settings : List DomainSettings) (first_gen : ℕ) (text : List ℕ) (c : Config) (s : StartFault) (fault : EncodedFault)
     → IsSetBy settings first_gen c → IsStartFault c s → fault ≡ config_told s → IsFaultOf settings first_gen text fault
 of-settings settings first_gen text c (starts.Config f) fault set is e = inr (inr (c, f, set, is.1, e))
 of-settings settings first_gen text c starts.Memory fault set is e = inl (inl e)
@@ -30,7 +30,7 @@ pub same-count : (p : KeptPolicy) (m : Meaning) → PolicyShows p m → length p
 same-count p m shows = ap (λ (a : Allowed). length a.types) shows
 
 -- the fault of a label is one of the settings
-pub of-label : (settings : List DomainSettings) (first_gen : ℕ) (text : List ℕ) (p : KeptPolicy) (m : Meaning) (types : ℕ) (fault : Fault)
+pub of-label : (settings : List DomainSettings) (first_gen : ℕ) (text : List ℕ) (p : KeptPolicy) (m : Meaning) (types : ℕ) (fault : EncodedFault)
     → Says text (Ok m) → PolicyShows p m → types ≡ length p.types → IsLabelFault types settings fault
     → IsFaultOf settings first_gen text fault
 of-label settings first_gen text p m types fault says shows count is =

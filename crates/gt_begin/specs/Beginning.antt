@@ -13,7 +13,7 @@ use Rattle.gt_policy.specs.declared.fault.TokenFault.{TokenFault}
 use Rattle.gt_allow.specs.Looking.{Table, looks_up}
 use Rattle.gt_seat.specs.Seated.{Seated}
 use Rattle.gt_seat.specs.Starting.{AreNewGuests}
-use Rattle.gt_begin.specs.declared.faults.Fault.{Fault}
+use Rattle.gt_begin.specs.declared.faults.EncodedFault.{EncodedFault}
 use Rattle.gt_begin.specs.declared.settings.DomainSettings.{DomainSettings}
 use Rattle.gt_begin.specs.Faults.{label_told, limit_told, no_memory, no_text, no_type, token_told}
 
@@ -54,34 +54,34 @@ pub record Begins (settings : List DomainSettings) (first_gen : ℕ) (text : Lis
   pub guests_are : AreNewGuests may config rights guests
 
 -- the fault is that of a text: it is no UTF-8, or it has this fault, its first, or memory was refused
-abbrev pub IsTextFault : List ℕ → Fault → Type 0
+abbrev pub IsTextFault : List ℕ → EncodedFault → Type 0
 IsTextFault text fault =
     (fault ≡ no_memory)
     ⊎ (((¬ IsUtf8 text) × (fault ≡ no_text)) ⊎ ((f : TokenFault) × Says text (Err f) × (fault ≡ token_told f)))
 
 -- the fault is that of the first label that is not among so many types
-abbrev pub IsLabelFault : ℕ → List DomainSettings → Fault → Type 0
+abbrev pub IsLabelFault : ℕ → List DomainSettings → EncodedFault → Type 0
 IsLabelFault types settings fault =
     (i : ℕ) × (s : DomainSettings) × (position (is_past types) settings ≡ Some i) × (slice_get settings i ≡ Some s)
     × (fault ≡ label_told (record { 0 = s.id }))
 
 -- the fault is that of the first label that is no type of the policy that the text says
-abbrev pub IsUnlabelled : List DomainSettings → List ℕ → Fault → Type 0
+abbrev pub IsUnlabelled : List DomainSettings → List ℕ → EncodedFault → Type 0
 IsUnlabelled settings text fault =
     (m : Meaning) × Says text (Ok m) × IsLabelFault (length m.types) settings fault
 
 -- the fault is the first one of the configuration that the settings give
-abbrev pub IsLimitFault : List DomainSettings → ℕ → Fault → Type 0
+abbrev pub IsLimitFault : List DomainSettings → ℕ → EncodedFault → Type 0
 IsLimitFault settings first_gen fault =
     (c : Config) × (f : ConfigFault) × IsSetBy settings first_gen c × IsFirstFault c f × (fault ≡ limit_told f)
 
 -- why no run began with these settings under this text
-abbrev pub IsFaultOf : List DomainSettings → ℕ → List ℕ → Fault → Type 0
+abbrev pub IsFaultOf : List DomainSettings → ℕ → List ℕ → EncodedFault → Type 0
 IsFaultOf settings first_gen text fault =
     IsTextFault text fault ⊎ (IsUnlabelled settings text fault ⊎ IsLimitFault settings first_gen fault)
 
 -- why no type of this name was found: the text has a fault, or no type of this name
-abbrev pub IsNameFault : List ℕ → List ℕ → Fault → Type 0
+abbrev pub IsNameFault : List ℕ → List ℕ → EncodedFault → Type 0
 IsNameFault text name fault =
     IsTextFault text fault
     ⊎ ((m : Meaning) × Says text (Ok m) × (type_named m.types name ≡ None) × (fault ≡ no_type))

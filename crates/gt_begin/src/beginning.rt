@@ -4,16 +4,16 @@ ghost use Rattle.gt_policy.specs.Allowing.{Meaning, PolicyShows, type_named};
 ghost use Rattle.gt_policy.specs.Whole.{Says};
 ghost use Rattle.gt_begin.specs.Beginning.{Begins, IsFaultOf, IsNameFault, IsTextFault};
 
-use crate::faults::{Fault, MEMORY, NO_TYPE, TEXT, config_fault, policy_fault};
+use crate::faults::{EncodedFault, MEMORY, NO_TYPE, TEXT, config_fault, policy_fault};
 use crate::settings::{DomainSettings, configured, label_past};
 use gt_allow::AllowTable;
 use gt_policy::Policy;
-use gt_seat::{Guest, start};
+use gt_seat::{AttachedDomain, start};
 use gt_types::TypeId;
 use std::alloc::Global;
 
 // The policy of a text.
-fn policy_of(alloc: Global, text: &[u8]) -> Result<Policy, Fault>
+fn policy_of(alloc: Global, text: &[u8]) -> Result<Policy, EncodedFault>
     ensures policy { IfOk result (λ policy. (m : Meaning) × Says text.now (Ok m) × PolicyShows policy m) }
     ensures fault { IfErr result (IsTextFault text.now) }
 {
@@ -37,7 +37,7 @@ pub fn begin(
     settings: &[DomainSettings],
     first_gen: u32,
     policy: &[u8],
-) -> Result<Vec<Guest<AllowTable>>, Fault>
+) -> Result<Vec<AttachedDomain<AllowTable>>, EncodedFault>
     ensures begun { IfOk result (λ guests. Begins settings.now first_gen policy.now guests.items) }
     ensures count { IfOk result (λ guests. length guests.items ≡ length settings.now) }
     ensures fault { IfErr result (IsFaultOf settings.now first_gen policy.now) }
@@ -65,7 +65,7 @@ pub fn begin(
 ///
 /// # Errors
 /// The first fault of the text, or that it declares no type of this name, or `memory`.
-pub fn type_of(alloc: Global, policy: &[u8], name: &[u8]) -> Result<TypeId, Fault>
+pub fn type_of(alloc: Global, policy: &[u8], name: &[u8]) -> Result<TypeId, EncodedFault>
     ensures named { IfOk result (λ id.
         (m : Meaning) × Says policy.now (Ok m) × (type_named m.types name.now ≡ Some id)) }
     ensures fault { IfErr result (IsNameFault policy.now name.now) }

@@ -9,7 +9,7 @@ use gt_types::{ConfigFault, DomId, StartFault};
 /// Why a run did not begin, and where the fault is.
 #[repr(C)]
 #[derive(Clone, Copy)]
-pub struct Fault {
+pub struct EncodedFault {
     /// 0: none. 1 memory; 2 the handles; 3 to 9 the policy; 10 to 17 the configuration; 18 a null pointer; 19 a label; 20 a type's
     /// name.
     pub kind: u32,
@@ -19,10 +19,10 @@ pub struct Fault {
     pub dom: u32,
 }
 
-fn fault_at(kind: u32, line: u32, dom: DomId) -> Fault
+fn fault_at(kind: u32, line: u32, dom: DomId) -> EncodedFault
     ensures { result ≡ record { kind = kind; line = line; dom = dom.0 } }
 {
-    Fault {
+    EncodedFault {
         kind,
         line,
         dom: u32::from(dom.0),
@@ -30,42 +30,42 @@ fn fault_at(kind: u32, line: u32, dom: DomId) -> Fault
 }
 
 /// The run began.
-pub const NONE: Fault = Fault {
+pub const NONE: EncodedFault = EncodedFault {
     kind: 0,
     line: 0,
     dom: 0,
 };
 
 /// Memory was refused.
-pub const MEMORY: Fault = Fault {
+pub const MEMORY: EncodedFault = EncodedFault {
     kind: 1,
     line: 0,
     dom: 0,
 };
 
 /// The handles are not as many as the domains, or one of them has a domain.
-pub const HANDLES: Fault = Fault {
+pub const HANDLES: EncodedFault = EncodedFault {
     kind: 2,
     line: 0,
     dom: 0,
 };
 
 /// The policy is no UTF-8.
-pub(crate) const TEXT: Fault = Fault {
+pub(crate) const TEXT: EncodedFault = EncodedFault {
     kind: 9,
     line: 0,
     dom: 0,
 };
 
 /// The policy declares no type of the name that is looked for.
-pub(crate) const NO_TYPE: Fault = Fault {
+pub(crate) const NO_TYPE: EncodedFault = EncodedFault {
     kind: 20,
     line: 0,
     dom: 0,
 };
 
 // The fault of a policy.
-pub(crate) fn policy_fault(refused: PolicyFault) -> Fault
+pub(crate) fn policy_fault(refused: PolicyFault) -> EncodedFault
     ensures { result ≡ policy_told (fault_shown refused) }
 {
     let nobody = DomId(0);
@@ -81,7 +81,7 @@ pub(crate) fn policy_fault(refused: PolicyFault) -> Fault
 }
 
 // The fault of a configuration.
-pub(crate) fn config_fault(refused: StartFault) -> Fault
+pub(crate) fn config_fault(refused: StartFault) -> EncodedFault
     ensures { result ≡ config_told refused }
 {
     match refused {
@@ -100,7 +100,7 @@ pub(crate) fn config_fault(refused: StartFault) -> Fault
 }
 
 // The label of a domain is past the policy's types.
-pub(crate) fn label_fault(dom: DomId) -> Fault
+pub(crate) fn label_fault(dom: DomId) -> EncodedFault
     ensures { result ≡ label_told dom }
 {
     fault_at(19, 0, dom)

@@ -2,7 +2,7 @@
 ghost use Rattle.std.specs.Prelude.{◌≡◌, position, map, MatchOption, None, IfOk};
 ghost use Rattle.gt_begin.specs.Beginning.{IsLabelFault, IsSetBy, domain_set, is_past};
 
-use crate::faults::{Fault, label_fault};
+use crate::faults::{EncodedFault, label_fault};
 use gt_types::{Config, DomId, DomainConfig, TypeId};
 use std::alloc::{AllocError, Global};
 
@@ -53,7 +53,7 @@ fn first_past(settings: &[DomainSettings], types: u16) -> Option<usize>
 }
 
 // The fault of the first label that is not below the number of types, if there is one.
-pub(crate) fn label_past(settings: &[DomainSettings], types: u16) -> Option<Fault>
+pub(crate) fn label_past(settings: &[DomainSettings], types: u16) -> Option<EncodedFault>
     ensures { MatchOption result (position (is_past types) settings.now ≡ None)
         (λ fault. IsLabelFault types settings.now fault) }
 {

@@ -9,10 +9,10 @@ use Rattle.std_alloc.proofs.BoxSteps.Form.{Bx}
 use Rattle.std_heap.specs.contracts.Global as Heap
 use Rattle.std_heap.specs.contracts.GlobalAllocator.TheImpl.{ghosts, dict}
 use Rattle.std_heap.proofs.Global.TheLaws as heap
-use Rattle.gt_c.specs.contracts.here.Here as Here
-use Rattle.gt_c.proofs.here.Here.TheLaws as here
-use Rattle.gt_c.specs.contracts.parts.Parts as Parts
-use Rattle.gt_c.specs.contracts.held.Held as Held
+use Rattle.gt_c.specs.contracts.here.CDomain as Here
+use Rattle.gt_c.proofs.here.CDomain.TheLaws as here
+use Rattle.gt_c.specs.contracts.parts.BoxParts as Parts
+use Rattle.gt_c.specs.contracts.held.RawBox as Held
 
 abbrev pub E : Bx
 E = record { row = Here.the_row; laws = here.the_row_laws; al = record { row = Heap.the_row; laws = heap.the_row_laws; g = ghosts; d = dict; drops = impl [] tnil dnil } }

@@ -7,8 +7,8 @@ use Rattle.std.proofs.Math.Seq.{take-suc, take-suc-set}
 use Rattle.std.specs.List.{list_any}
 use Rattle.std.specs.Prelude.{slice_index_or}
 use Rattle.gt_c.specs.Starting.{domain_of_handle, holding}
-use Rattle.gt_c.specs.declared.handle.Handle.{Handle}
-use Rattle.gt_c.specs.declared.here.Here.{Here}
+use Rattle.gt_c.specs.declared.handle.DomainHandle.{DomainHandle}
+use Rattle.gt_c.specs.declared.here.CDomain.{CDomain}
 
 or-left : (a b : Bool) → (a || b) ≡ false → a ≡ false
 or-left true b e = e
@@ -19,7 +19,7 @@ or-right true b e = absurd cc
 or-right false b e = e
 
 -- no handle has a domain, if none is live
-pub all-idle : (hs : List Handle) → list_any (λ h. h.is_live) hs ≡ false → (k : ℕ) (d : Handle) → k < length hs
+pub all-idle : (hs : List DomainHandle) → list_any (λ h. h.is_live) hs ≡ false → (k : ℕ) (d : DomainHandle) → k < length hs
     → domain_of_handle (slice_index_or hs k d) ≡ None
 all-idle [] e k d lt = absurd (omega (arith, lt))
 all-idle (h ∷ hs) e zero d lt = h.idle (or-left h.is_live (list_any (λ x. x.is_live) hs) e)
@@ -30,16 +30,16 @@ map-append f [] ys = refl
 map-append f (x ∷ xs) ys = ap (λ zs. f x ∷ zs) (map-append f xs ys)
 
 -- one more handle got the domain at its place
-pub one-more : {B : Type 0} (f : B → Option Here) (out : List Handle) (all : List B) (place : ℕ) (h : Handle) (b d : B)
+pub one-more : {B : Type 0} (f : B → Option CDomain) (out : List DomainHandle) (all : List B) (place : ℕ) (h : DomainHandle) (b d : B)
     → place < length out → place < length all → map domain_of_handle (take place out) ≡ map f (take place all)
     → domain_of_handle h ≡ f b → b ≡ get_or all place d
     → map domain_of_handle (take (place + 1) (set out place h)) ≡ map f (take (place + 1) all)
 one-more f out all place h b d lt lu so got is =
     ap (λ (n : ℕ). map domain_of_handle (take n (set out place h))) (add-one place)
-    ∙ ap (λ (hs : List Handle). map domain_of_handle hs) (take-suc-set out place h lt)
+    ∙ ap (λ (hs : List DomainHandle). map domain_of_handle hs) (take-suc-set out place h lt)
     ∙ map-append domain_of_handle (take place out) (h ∷ [])
-    ∙ ap (λ (xs : List (Option Here)). xs ++ domain_of_handle h ∷ []) so
-    ∙ ap (λ (x : Option Here). map f (take place all) ++ x ∷ []) (got ∙ ap f is)
+    ∙ ap (λ (xs : List (Option CDomain)). xs ++ domain_of_handle h ∷ []) so
+    ∙ ap (λ (x : Option CDomain). map f (take place all) ++ x ∷ []) (got ∙ ap f is)
     ∙ sym (map-append f (take place all) (get_or all place d ∷ []))
     ∙ ap (λ xs. map f xs) (sym (take-suc all place d lu))
     ∙ ap (λ (n : ℕ). map f (take n all)) (sym (add-one place))
@@ -49,7 +49,7 @@ map-map f g [] = refl
 map-map f g (x ∷ xs) = ap (λ ys. f (g x) ∷ ys) (map-map f g xs)
 
 -- the handles have the guests, if they have the boxes of the guests
-pub handed-over : {B S : Type 0} (value : B → Here) (here : S → Here) (bs : List B) (gs : List S) (os : List (Option Here))
+pub handed-over : {B S : Type 0} (value : B → CDomain) (here : S → CDomain) (bs : List B) (gs : List S) (os : List (Option CDomain))
     → os ≡ map (λ b. holding (value b)) bs → map value bs ≡ map here gs → os ≡ map (λ g. holding (here g)) gs
 handed-over value here bs gs os e same =
     e ∙ sym (map-map holding value bs) ∙ ap (λ xs. map holding xs) same ∙ map-map holding here gs

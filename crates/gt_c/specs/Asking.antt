@@ -5,18 +5,18 @@ use Rattle.gt_entry.specs.declared.entry.Entry.TheVariants.{Page, Sub, Via}
 use Rattle.gt_handles.specs.declared.handles.Handle.{Handle as Name}
 use Rattle.gt_c.specs.declared.calls.EntryBytes.{EntryBytes}
 use Rattle.gt_c.specs.declared.calls.MapHandle.{MapHandle}
-use Rattle.gt_c.specs.declared.here.Here.{Here}
+use Rattle.gt_c.specs.declared.here.CDomain.{CDomain}
 
 -- a handle that no mapping is ever given: serials end before it
 abbrev pub no_handle : Name
 no_handle = record { serial = 2 ^ 64 - 1; key = 2 ^ 64 - 1 }
 
 -- the name is of a mapping of this domain in this run
-abbrev pub is_of_domain : Here → MapHandle → Bool
+abbrev pub is_of_domain : CDomain → MapHandle → Bool
 is_of_domain d name = (name.run == d.run) && (name.dom == d.guest.domain.seat.dom.0)
 
 -- the handle that a name stands for in a call of this domain: none, if it is the name of another domain or run
-abbrev pub handle_named : Here → MapHandle → Name
+abbrev pub handle_named : CDomain → MapHandle → Name
 handle_named d name = if is_of_domain d name then record { serial = name.serial; key = name.key } else no_handle
 
 -- for reading only, if the number is not 0

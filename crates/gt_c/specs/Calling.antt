@@ -1,80 +1,80 @@
 -- What an export answers, of the call that it made.
 use Rattle.std.specs.Prelude.{◌≡◌, ◌≤◌, ◌⊎◌, ℕ, Option, Some, None, IsSome, Result, Ok, Err, OnOk, OnErr}
 use Rattle.gt_c.specs.Prelude.{GrantRef, DomId, Memory, Size, Denial, Table, may, Hypercall, Kept}
-use Rattle.gt_c.specs.Prelude.{HasNone, Tells, Verdict, Mapped, Request, Name, Domain, Answered, AnswersQuietly}
-use Rattle.gt_c.specs.Prelude.{AnswersTold, KeepsPinned, Leaves, Remains, Resets, taken_of}
+use Rattle.gt_c.specs.Prelude.{HasNone, Tells, CallResult, Mapped, Request, Name, Domain, Answered, AnswersQuietly}
+use Rattle.gt_c.specs.Prelude.{AnswersTold, KeepsPinned, Leaves, Departure, Resets, taken_of}
 use Rattle.gt_c.specs.Prelude.{MapAnswered, mapping_reply, subject_of, told_of, verdict_of, Removes, encoded}
 use Rattle.gt_c.specs.Prelude.{EndsAccess}
-use Rattle.gt_c.specs.Prelude.{Seated, StaysIdle, Answer, Outcome, Here}
-use Rattle.gt_seat.specs.declared.answer.Outcome.TheVariants as outcomes
+use Rattle.gt_c.specs.Prelude.{Seated, StaysIdle, EncodedAnswer, AttachedOutcome, CDomain}
+use Rattle.gt_seat.specs.declared.answer.AttachedOutcome.TheVariants as outcomes
 
 -- the handle was not taken, stays as it was, and the answer says why: it has no domain, or one that is in a copy
-abbrev pub TurnedAway : Option Here → Option Here → Answer → Type 0
+abbrev pub TurnedAway : Option CDomain → Option CDomain → EncodedAnswer → Type 0
 TurnedAway None after answer = (after ≡ None) × (answer ≡ encoded outcomes.NoDomain)
 TurnedAway (Some d) after answer =
     (after ≡ Some d) × IsSome d.guest.copying × (answer ≡ encoded outcomes.Busy)
 
 -- a handle's domain was taken for a call; it is in no copy
-abbrev pub Enters : Option Here → Option Here → Here → Type 0
+abbrev pub Enters : Option CDomain → Option CDomain → CDomain → Type 0
 Enters before after d = (before ≡ Some d) × (after ≡ None) × (d.guest.copying ≡ None)
 
 -- a call was made on the handle's domain, which was in no copy: the handle has it afterwards, and this holds of it
 -- before and after
-pub record MadeOn (before after : Option Here) (Holds : Here → Here → Type 0) : Type 0 where
-  pub was : Here
-  pub is : Here
+pub record MadeOn (before after : Option CDomain) (Holds : CDomain → CDomain → Type 0) : Type 0 where
+  pub was : CDomain
+  pub is : CDomain
   pub before_is : before ≡ Some was
   pub after_is : after ≡ Some is
   pub idle : was.guest.copying ≡ None
   pub holds : Holds was is
 
 -- the handle was turned away, or the call was made
-abbrev pub CallsGuest : Option Here → Option Here → Answer → (Here → Here → Type 0) → Type 0
+abbrev pub CallsGuest : Option CDomain → Option CDomain → EncodedAnswer → (CDomain → CDomain → Type 0) → Type 0
 CallsGuest before after answer Holds = TurnedAway before after answer ⊎ MadeOn before after Holds
 
 -- the same of a call that tells more than its answer: turned away, it tells nothing
-abbrev pub CallsTelling : Option Here → Option Here → Answer → Type 0 → (Here → Here → Type 0) → Type 0
+abbrev pub CallsTelling : Option CDomain → Option CDomain → EncodedAnswer → Type 0 → (CDomain → CDomain → Type 0) → Type 0
 CallsTelling before after answer TellsNothing Holds =
     (TurnedAway before after answer × TellsNothing) ⊎ MadeOn before after Holds
 
 -- the outcomes of a call without a value, and of calls with one
-abbrev pub outcome : Result (Unit {0}) Denial → Outcome
+abbrev pub outcome : Result (Unit {0}) Denial → AttachedOutcome
 outcome (Ok done) = outcomes.Done
 outcome (Err denial) = outcomes.Denied denial
 
-abbrev pub outcome_mapped : DomId → ℕ → Result Name Denial → Outcome
+abbrev pub outcome_mapped : DomId → ℕ → Result Name Denial → AttachedOutcome
 outcome_mapped dom run (Ok handle) = outcomes.Mapped (record { handle = handle; dom = dom; run = run })
 outcome_mapped dom run (Err denial) = outcomes.Denied denial
 
-abbrev pub outcome_frames : Result ℕ Denial → Outcome
+abbrev pub outcome_frames : Result ℕ Denial → AttachedOutcome
 outcome_frames (Ok frames) = outcomes.Frames frames
 outcome_frames (Err denial) = outcomes.Denied denial
 
-abbrev pub outcome_version : Result ℕ Denial → Outcome
+abbrev pub outcome_version : Result ℕ Denial → AttachedOutcome
 outcome_version (Ok version) = outcomes.Version version
 outcome_version (Err denial) = outcomes.Denied denial
 
-abbrev pub outcome_size : Result Size Denial → Outcome
+abbrev pub outcome_size : Result Size Denial → AttachedOutcome
 outcome_size (Ok size) = outcomes.Size size
 outcome_size (Err denial) = outcomes.Denied denial
 
 -- the answer encodes a result, of which this holds; the domain keeps its monitor, and is in no copy
-pub record SaysAs {R : Type 0} (said : Result R Denial → Outcome) (Holds : Result R Denial → Type 0) (answer : Answer)
-    (d e : Here) : Type 0 where
+pub record SaysAs {R : Type 0} (said : Result R Denial → AttachedOutcome) (Holds : Result R Denial → Type 0) (answer : EncodedAnswer)
+    (d e : CDomain) : Type 0 where
   pub result : Result R Denial
   pub encodes : answer ≡ encoded (said result)
   pub stays : StaysIdle d.guest e.guest
   pub holds : Holds result
 
 -- this request of the domain was answered so, by the steps of its path; mappings, pins and records are as before
-abbrev pub SaysDone : Request → Answer → Here → Here → Type 0
+abbrev pub SaysDone : Request → EncodedAnswer → CDomain → CDomain → Type 0
 SaysDone request answer d e =
     SaysAs outcome (λ r. AnswersQuietly may d.guest.monitor d.guest.domain request (verdict_of r) e.guest.domain)
     answer d e
 
 -- the same of a call that is recorded, whose result gives this verdict
-abbrev pub SaysTold : {R : Type 0} → (Result R Denial → Outcome) → (Result R Denial → Verdict) → Request → Hypercall
-    → Answer → Here → Here → Type 0
+abbrev pub SaysTold : {R : Type 0} → (Result R Denial → AttachedOutcome) → (Result R Denial → CallResult) → Request → Hypercall
+    → EncodedAnswer → CDomain → CDomain → Type 0
 SaysTold said verdict request call answer d e =
     SaysAs said (λ r. AnswersTold may d.guest.monitor d.guest.domain request call (verdict r) e.guest.domain) answer d e
 
@@ -83,13 +83,13 @@ abbrev pub map_told : Domain → Hypercall → Result Name Denial → Kept
 map_told d call r = record { dom = d.seat.dom; call = call; reply = mapping_reply r }
 
 -- the same of a map, whose mapping is kept, and named by its domain and run
-abbrev pub SaysMapped : Request → Hypercall → Answer → Here → Here → Type 0
+abbrev pub SaysMapped : Request → Hypercall → EncodedAnswer → CDomain → CDomain → Type 0
 SaysMapped request call answer d e =
     SaysAs (outcome_mapped d.guest.domain.seat.dom d.run) (λ r. MapAnswered may d.guest.monitor d.guest.domain request r e.guest.domain
     × Tells d.guest.domain.trail (map_told d.guest.domain call r) e.guest.domain.trail) answer d e
 
 -- the same of an unmap, whose mapping is gone
-abbrev pub SaysUnmapped : Request → (Option (DomId × GrantRef) → Hypercall) → Name → Answer → Here → Here → Type 0
+abbrev pub SaysUnmapped : Request → (Option (DomId × GrantRef) → Hypercall) → Name → EncodedAnswer → CDomain → CDomain → Type 0
 SaysUnmapped request call name answer d e =
     SaysAs outcome (λ r. Answered may d.guest.monitor d.guest.domain request (verdict_of r) e.guest.domain
     × OnOk r ((p : Mapped) × Removes d.guest.domain.mappings e.guest.domain.mappings name p)
@@ -98,18 +98,18 @@ SaysUnmapped request call name answer d e =
     e.guest.domain.trail) answer d e
 
 -- it keeps at most so many records from now on, and nothing else changed
-abbrev pub KeepsAtMost : ℕ → Answer → Here → Here → Type 0
+abbrev pub KeepsAtMost : ℕ → EncodedAnswer → CDomain → CDomain → Type 0
 KeepsAtMost most answer d e =
     (answer ≡ encoded outcomes.Done) × StaysIdle d.guest e.guest
     × (e.guest.domain ≡ record d.guest.domain { trail = record d.guest.domain.trail { most = most } })
 
 -- the outcome of a call that takes memory
-abbrev pub outcome_reserved : Result (Unit {0}) Memory → Outcome
+abbrev pub outcome_reserved : Result (Unit {0}) Memory → AttachedOutcome
 outcome_reserved (Ok done) = outcomes.Done
 outcome_reserved (Err refused) = outcomes.NoMemory
 
 -- there is room for so many records if the answer is Ok, and nothing else changed
-pub record Reserves (records : ℕ) (answer : Answer) (d e : Here) : Type 0 where
+pub record Reserves (records : ℕ) (answer : EncodedAnswer) (d e : CDomain) : Type 0 where
   pub result : Result (Unit {0}) Memory
   pub encodes : answer ≡ encoded (outcome_reserved result)
   pub stays : StaysIdle d.guest e.guest
@@ -124,41 +124,41 @@ abbrev pub Settles : Seated Table → Seated Table → Type 0
 Settles s t = (((s.copying ≡ None) × (t ≡ s))) ⊎ EndsAccess s t
 
 -- the domain left the run, after the end of its copy if it was in one, and this remains
-pub record LeavesGuest (s : Seated Table) (remains : Remains) : Type 0 where
+pub record LeavesGuest (s : Seated Table) (remains : Departure) : Type 0 where
   pub settled : Seated Table
   pub settles : Settles s settled
   pub leaves : Leaves may settled.monitor settled.domain remains
 
 -- the same, and the answer encodes what remains
-pub record LeavesWith (s : Seated Table) (answer : Answer) : Type 0 where
-  pub remains : Remains
+pub record LeavesWith (s : Seated Table) (answer : EncodedAnswer) : Type 0 where
+  pub remains : Departure
   pub encodes : answer ≡ encoded (outcomes.Left remains)
   pub leaves : LeavesGuest s remains
 
 -- the domain of a handle left, and the answer encodes what remains; or the handle had none, and the answer says so
-abbrev pub Finishes : Answer → Option Here → Option Here → Type 0
+abbrev pub Finishes : EncodedAnswer → Option CDomain → Option CDomain → Type 0
 Finishes answer None after = (after ≡ None) × (answer ≡ encoded outcomes.NoDomain)
 Finishes answer (Some d) after = (after ≡ None) × LeavesWith d.guest answer
 
 -- a domain is made ready for the next guest in its place, after the end of its copy if it was in one: it has no copy
 -- and no mapping, each of its entries was closed, and the answer encodes what remains
-pub record MakesReady (s t : Seated Table) (answer : Answer) : Type 0 where
+pub record MakesReady (s t : Seated Table) (answer : EncodedAnswer) : Type 0 where
   pub settled : Seated Table
   pub settles : Settles s settled
-  pub remains : Remains
+  pub remains : Departure
   pub encodes : answer ≡ encoded (outcomes.Left remains)
   pub stays : StaysIdle settled t
   pub resets : Resets may settled.monitor settled.domain remains.in_use t.domain
   pub lost : remains.lost ≡ settled.domain.trail.lost
 
 -- the domain of a handle was made ready; or the handle had none, and the answer says so
-abbrev pub ResetsGuest : Answer → Option Here → Option Here → Type 0
+abbrev pub ResetsGuest : EncodedAnswer → Option CDomain → Option CDomain → Type 0
 ResetsGuest answer None after = (after ≡ None) × (answer ≡ encoded outcomes.NoDomain)
 ResetsGuest answer (Some d) None = ⊥
 ResetsGuest answer (Some d) (Some e) = (e.run ≡ d.run) × MakesReady d.guest e.guest answer
 
 -- the records of a domain went, how many they were and how many were lost before is encoded, and nothing else changed
-abbrev pub TakesAll : Answer → Here → Here → Type 0
+abbrev pub TakesAll : EncodedAnswer → CDomain → CDomain → Type 0
 TakesAll answer d e =
     (answer ≡ encoded (outcomes.Taken (taken_of d.guest.domain.trail))) × StaysIdle d.guest e.guest
     × HasNone e.guest.domain.trail × (e.guest.domain.trail.most ≡ d.guest.domain.trail.most)

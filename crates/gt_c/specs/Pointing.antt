@@ -5,10 +5,10 @@ use base.Fraction.{full_share}
 use denote.RattleType.{RattleType}
 use denote.RawPtr.{Ptr, null_ptr, block_ptr, lies_at}
 use Rattle.gt_seat.specs.Encoding.{encoded}
-use Rattle.gt_seat.specs.declared.answer.Answer.{Answer}
-use Rattle.gt_seat.specs.declared.answer.Outcome.TheVariants as outcomes
-use Rattle.gt_c.specs.declared.handle.Handle.{Handle}
-use Rattle.gt_c.specs.declared.here.Here.{Here}
+use Rattle.gt_seat.specs.declared.answer.EncodedAnswer.{EncodedAnswer}
+use Rattle.gt_seat.specs.declared.answer.AttachedOutcome.TheVariants as outcomes
+use Rattle.gt_c.specs.declared.handle.DomainHandle.{DomainHandle}
+use Rattle.gt_c.specs.declared.here.CDomain.{CDomain}
 
 -- the pointer is null, or this value lies there
 abbrev pub pointed_at : (R : RattleType) → Ptr → Option R.Denot → Fml
@@ -18,12 +18,12 @@ pointed_at R (block_ptr b o) None = ffalse
 pointed_at R (block_ptr b o) (Some x) = lies_at R full_share (block_ptr b o) x
 
 -- the answer to a null pointer
-abbrev pub nowhere : Answer
+abbrev pub nowhere : EncodedAnswer
 nowhere = encoded outcomes.NullPointer
 
 -- a call promises this of the domain of the handle behind a pointer, before and after; of a null pointer it says
 -- that, and nothing else
-abbrev pub PointsTo : {T : Type 0} → Option Handle → Option Handle → T → T → (Option Here → Option Here → Type 0)
+abbrev pub PointsTo : {T : Type 0} → Option DomainHandle → Option DomainHandle → T → T → (Option CDomain → Option CDomain → Type 0)
     → Type 0
 PointsTo None after said null Promises = (after ≡ None) × (said ≡ null)
 PointsTo (Some h) None said null Promises = ⊥

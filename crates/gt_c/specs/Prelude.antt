@@ -2,29 +2,29 @@
 pub use Rattle.gt_allow.specs.Looking.{Table}
 pub use Rattle.gt_begin.specs.Beginning.{Begins, IsFaultOf, may}
 pub use Rattle.gt_begin.specs.Faults.{no_fault, wrong_handles}
-pub use Rattle.gt_begin.specs.declared.faults.Fault.{Fault}
+pub use Rattle.gt_begin.specs.declared.faults.EncodedFault.{EncodedFault}
 pub use Rattle.gt_begin.specs.declared.settings.DomainSettings.{DomainSettings}
 pub use Rattle.gt_audit.specs.Telling.{HasNone, Tells}
 pub use Rattle.gt_audit.specs.declared.record.Hypercall.{Hypercall}
-pub use Rattle.gt_audit.specs.declared.record.Record.{Record as Kept}
+pub use Rattle.gt_audit.specs.declared.record.Record.{EncodedRecord as Kept}
 pub use Rattle.gt_c.specs.declared.copies.CopySettings.{CopySettings}
-pub use Rattle.gt_c.specs.declared.copies.PlaceTold.{PlaceTold}
-pub use Rattle.gt_c.specs.declared.copies.PlacesTold.{PlacesTold}
-pub use Rattle.gt_c.specs.declared.handle.Handle.{Handle}
-pub use Rattle.gt_c.specs.declared.here.Here.{Here}
+pub use Rattle.gt_c.specs.declared.copies.PlaceReport.{PlaceReport}
+pub use Rattle.gt_c.specs.declared.copies.PlacesReport.{PlacesReport}
+pub use Rattle.gt_c.specs.declared.handle.DomainHandle.{DomainHandle}
+pub use Rattle.gt_c.specs.declared.here.CDomain.{CDomain}
 pub use Rattle.gt_c.specs.declared.telling.EntryStatus.{EntryStatus}
-pub use Rattle.gt_c.specs.declared.telling.Mapping.{Mapping}
+pub use Rattle.gt_c.specs.declared.telling.MappedFrame.{MappedFrame}
 pub use Rattle.gt_types.specs.declared.places.Spot.{Spot}
-pub use Rattle.gt_calls.specs.declared.action.Verdict.{Verdict}
-pub use Rattle.gt_calls.specs.declared.held.Held.{Held as Mapped}
+pub use Rattle.gt_calls.specs.declared.action.CallResult.{CallResult}
+pub use Rattle.gt_calls.specs.declared.held.HeldPin.{HeldPin as Mapped}
 pub use Rattle.gt_types.specs.declared.copies.CopyArgs.{CopyArgs}
 pub use Rattle.gt_types.specs.declared.copies.End.{End}
 pub use Rattle.gt_calls.specs.declared.request.Request.{Request}
 pub use Rattle.gt_entry.specs.Entries.{frame_of}
 pub use Rattle.gt_entry.specs.declared.control.Control.{Control}
-pub use Rattle.gt_entry.specs.declared.control.Kind.{Kind}
+pub use Rattle.gt_entry.specs.declared.control.EntryKind.{EntryKind}
 pub use Rattle.gt_handles.specs.Handles.{value_of}
-pub use Rattle.gt_handles.specs.declared.handles.Handle.{Handle as Name}
+pub use Rattle.gt_handles.specs.declared.handles.Handle.{DomainHandle as Name}
 pub use Rattle.gt_live.specs.Closing.{LooksAtOwn, Resets}
 pub use Rattle.gt_live.specs.Domains.{Answered, AnswersQuietly, AnswersTold, KeepsPinned, MapAnswered}
 pub use Rattle.gt_live.specs.Domains.{mapping_reply, subject_of, told_of}
@@ -34,12 +34,12 @@ pub use Rattle.gt_live.specs.declared.domain.Domain.{Domain}
 pub use Rattle.gt_seat.specs.Encoding.{encoded}
 pub use Rattle.gt_seat.specs.Recording.{no_end, record_kept}
 pub use Rattle.gt_seat.specs.Seated.{BeginsAccess, EndsAccess, Leaves, Seated, StaysIdle, taken_of}
-pub use Rattle.gt_seat.specs.declared.answer.Answer.{Answer}
-pub use Rattle.gt_seat.specs.declared.answer.Outcome.{Outcome}
-pub use Rattle.gt_seat.specs.declared.answer.Remains.{Remains}
-pub use Rattle.gt_seat.specs.declared.guest.Places.{Places}
+pub use Rattle.gt_seat.specs.declared.answer.EncodedAnswer.{EncodedAnswer}
+pub use Rattle.gt_seat.specs.declared.answer.AttachedOutcome.{AttachedOutcome}
+pub use Rattle.gt_seat.specs.declared.answer.Departure.{Departure}
+pub use Rattle.gt_seat.specs.declared.guest.CopyPlaces.{CopyPlaces}
 pub use Rattle.gt_seat.specs.declared.record.CopyEnd.{CopyEnd}
-pub use Rattle.gt_seat.specs.declared.record.Record.{Record}
+pub use Rattle.gt_seat.specs.declared.record.EncodedRecord.{EncodedRecord}
 pub use Rattle.gt_types.specs.declared.Dir.{Dir}
 pub use Rattle.gt_types.specs.declared.Dir.TheVariants.{Read, Write}
 pub use Rattle.gt_types.specs.declared.DomId.{DomId}

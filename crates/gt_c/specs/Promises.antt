@@ -4,15 +4,15 @@ use Rattle.std.specs.Borrow.{Bor}
 use Rattle.gt_audit.specs.declared.record.Hypercall.TheVariants as calls
 use Rattle.gt_calls.specs.declared.request.Request.TheVariants as requests
 use Rattle.gt_live.specs.Domains.{verdict_of, verdict_of_frames, verdict_of_size, verdict_of_version}
-use Rattle.gt_seat.specs.declared.answer.Answer.{Answer}
+use Rattle.gt_seat.specs.declared.answer.EncodedAnswer.{EncodedAnswer}
 use Rattle.gt_c.specs.declared.calls.EntryBytes.{EntryBytes}
 use Rattle.gt_c.specs.declared.calls.MapHandle.{MapHandle}
-use Rattle.gt_c.specs.declared.copies.BegunTold.{BegunTold}
+use Rattle.gt_c.specs.declared.copies.BegunReport.{BegunReport}
 use Rattle.gt_c.specs.declared.copies.CopySettings.{CopySettings}
-use Rattle.gt_c.specs.declared.here.Here.{Here}
-use Rattle.gt_c.specs.declared.telling.EntryTold.{EntryTold}
-use Rattle.gt_c.specs.declared.telling.MappingTold.{MappingTold}
-use Rattle.gt_c.specs.declared.telling.RecordTold.{RecordTold}
+use Rattle.gt_c.specs.declared.here.CDomain.{CDomain}
+use Rattle.gt_c.specs.declared.telling.EntryReport.{EntryReport}
+use Rattle.gt_c.specs.declared.telling.MappingReport.{MappingReport}
+use Rattle.gt_c.specs.declared.telling.RecordReport.{RecordReport}
 use Rattle.gt_c.specs.Asking.{handle_named, page, spelled, sub, via}
 use Rattle.gt_c.specs.Calling.{CallsGuest, CallsTelling, KeepsAtMost, Reserves, SaysDone, SaysMapped, SaysTold}
 use Rattle.gt_c.specs.Calling.{SaysUnmapped, TakesAll, dom_of, ref_at}
@@ -21,101 +21,101 @@ use Rattle.gt_c.specs.Telling.{SaysBegun, SaysEntry, SaysMapping, SaysRecord, co
 use Rattle.gt_c.specs.Telling.{no_places, no_record}
 
 -- a page of its own is granted
-abbrev pub GrantsPage : ℕ → ℕ → ℕ → ℕ → Answer → Option Here → Option Here → Type 0
+abbrev pub GrantsPage : ℕ → ℕ → ℕ → ℕ → EncodedAnswer → Option CDomain → Option CDomain → Type 0
 GrantsPage gref to frame ro answer before after =
     CallsGuest before after answer (SaysDone (requests.Grant (ref_at gref) (page to frame ro)) answer)
 
 -- bytes of a page of its own are granted
-abbrev pub GrantsSub : ℕ → ℕ → ℕ → ℕ → ℕ → ℕ → Answer → Option Here → Option Here → Type 0
+abbrev pub GrantsSub : ℕ → ℕ → ℕ → ℕ → ℕ → ℕ → EncodedAnswer → Option CDomain → Option CDomain → Type 0
 GrantsSub gref to frame off len ro answer before after =
     CallsGuest before after answer (SaysDone (requests.Grant (ref_at gref) (sub to frame off len ro)) answer)
 
 -- another grant is granted on
-abbrev pub GrantsVia : ℕ → ℕ → ℕ → ℕ → ℕ → Answer → Option Here → Option Here → Type 0
+abbrev pub GrantsVia : ℕ → ℕ → ℕ → ℕ → ℕ → EncodedAnswer → Option CDomain → Option CDomain → Type 0
 GrantsVia gref to dom2 ref2 ro answer before after =
     CallsGuest before after answer (SaysDone (requests.Grant (ref_at gref) (via to dom2 ref2 ro)) answer)
 
 -- what the bytes of an entry spell is granted
-abbrev pub GrantsBytes : ℕ → EntryBytes → Answer → Option Here → Option Here → Type 0
+abbrev pub GrantsBytes : ℕ → EntryBytes → EncodedAnswer → Option CDomain → Option CDomain → Type 0
 GrantsBytes gref bytes answer before after =
     CallsGuest before after answer (λ d e.
     (s : Bor (List ℕ)) × (s.now ≡ spelled bytes) × SaysDone (requests.GrantBytes (ref_at gref) s) answer d e)
 
 -- an entry is revoked, withdrawn, demoted, promoted
-abbrev pub RevokesEntry : ℕ → Answer → Option Here → Option Here → Type 0
+abbrev pub RevokesEntry : ℕ → EncodedAnswer → Option CDomain → Option CDomain → Type 0
 RevokesEntry gref answer before after = CallsGuest before after answer (SaysDone (requests.Revoke (ref_at gref)) answer)
 
-abbrev pub Withdraws : ℕ → Answer → Option Here → Option Here → Type 0
+abbrev pub Withdraws : ℕ → EncodedAnswer → Option CDomain → Option CDomain → Type 0
 Withdraws gref answer before after = CallsGuest before after answer (SaysDone (requests.Withdraw (ref_at gref)) answer)
 
-abbrev pub DemotesEntry : ℕ → Answer → Option Here → Option Here → Type 0
+abbrev pub DemotesEntry : ℕ → EncodedAnswer → Option CDomain → Option CDomain → Type 0
 DemotesEntry gref answer before after = CallsGuest before after answer (SaysDone (requests.Demote (ref_at gref)) answer)
 
-abbrev pub Promotes : ℕ → Answer → Option Here → Option Here → Type 0
+abbrev pub Promotes : ℕ → EncodedAnswer → Option CDomain → Option CDomain → Type 0
 Promotes gref answer before after = CallsGuest before after answer (SaysDone (requests.Promote (ref_at gref)) answer)
 
 -- an entry of a domain is mapped
-abbrev pub Maps : ℕ → ℕ → ℕ → Answer → Option Here → Option Here → Type 0
+abbrev pub Maps : ℕ → ℕ → ℕ → EncodedAnswer → Option CDomain → Option CDomain → Type 0
 Maps dom gref flags answer before after =
     CallsGuest before after answer
     (SaysMapped (requests.Map (dom_of dom) (ref_at gref) flags) (calls.Map (dom_of dom) (ref_at gref) flags) answer)
 
 -- a mapping is given up
-abbrev pub Unmaps : MapHandle → Answer → Option Here → Option Here → Type 0
+abbrev pub Unmaps : MapHandle → EncodedAnswer → Option CDomain → Option CDomain → Type 0
 Unmaps name answer before after =
     CallsGuest before after answer (λ d e.
     SaysUnmapped (requests.Unmap (handle_named d name)) calls.Unmap (handle_named d name) answer d e)
 
 -- the table gets a version, or frames
-abbrev pub SetsVersion : ℕ → Answer → Option Here → Option Here → Type 0
+abbrev pub SetsVersion : ℕ → EncodedAnswer → Option CDomain → Option CDomain → Type 0
 SetsVersion version answer before after =
     CallsGuest before after answer
     (SaysTold outcome verdict_of (requests.SetVersion version) (calls.SetVersion version) answer)
 
-abbrev pub SetsUp : ℕ → Answer → Option Here → Option Here → Type 0
+abbrev pub SetsUp : ℕ → EncodedAnswer → Option CDomain → Option CDomain → Type 0
 SetsUp frames answer before after =
     CallsGuest before after answer
     (SaysTold outcome_frames verdict_of_frames (requests.SetupTable frames) (calls.SetupTable frames) answer)
 
 -- the table of a domain is asked about
-abbrev pub AsksSize : ℕ → Answer → Option Here → Option Here → Type 0
+abbrev pub AsksSize : ℕ → EncodedAnswer → Option CDomain → Option CDomain → Type 0
 AsksSize dom answer before after =
     CallsGuest before after answer
     (SaysTold outcome_size verdict_of_size (requests.QuerySize (dom_of dom)) (calls.QuerySize (dom_of dom)) answer)
 
-abbrev pub AsksVersion : ℕ → Answer → Option Here → Option Here → Type 0
+abbrev pub AsksVersion : ℕ → EncodedAnswer → Option CDomain → Option CDomain → Type 0
 AsksVersion dom answer before after =
     CallsGuest before after answer
     (SaysTold outcome_version verdict_of_version (requests.GetVersion (dom_of dom)) (calls.GetVersion (dom_of dom)) answer)
 
 -- a mapping, or a record, is told
-abbrev pub TellsMapping : MapHandle → MappingTold → Option Here → Option Here → Type 0
+abbrev pub TellsMapping : MapHandle → MappingReport → Option CDomain → Option CDomain → Type 0
 TellsMapping name told before after =
     CallsTelling before after told.answer (told.mapping ≡ no_mapping)
     (λ d e. SaysMapping (handle_named d name) told.mapping told.answer d e)
 
-abbrev pub TellsRecord : ℕ → RecordTold → Option Here → Option Here → Type 0
+abbrev pub TellsRecord : ℕ → RecordReport → Option CDomain → Option CDomain → Type 0
 TellsRecord index told before after =
     CallsTelling before after told.answer (told.kept ≡ no_record) (SaysRecord index told.kept told.answer)
 
 -- an entry of the domain's own is told
-abbrev pub TellsEntry : ℕ → EntryTold → Option Here → Option Here → Type 0
+abbrev pub TellsEntry : ℕ → EntryReport → Option CDomain → Option CDomain → Type 0
 TellsEntry gref told before after =
     CallsTelling before after told.answer (told.entry ≡ no_entry) (SaysEntry (ref_at gref) told.entry told.answer)
 
 -- the records are taken
-abbrev pub TakesRecords : Answer → Option Here → Option Here → Type 0
+abbrev pub TakesRecords : EncodedAnswer → Option CDomain → Option CDomain → Type 0
 TakesRecords answer before after = CallsGuest before after answer (TakesAll answer)
 
 -- the records are bounded, or room is made for them
-abbrev pub Bounds : ℕ → Answer → Option Here → Option Here → Type 0
+abbrev pub Bounds : ℕ → EncodedAnswer → Option CDomain → Option CDomain → Type 0
 Bounds records answer before after = CallsGuest before after answer (KeepsAtMost records answer)
 
-abbrev pub MakesRoom : ℕ → Answer → Option Here → Option Here → Type 0
+abbrev pub MakesRoom : ℕ → EncodedAnswer → Option CDomain → Option CDomain → Type 0
 MakesRoom records answer before after = CallsGuest before after answer (Reserves records answer)
 
 -- a copy begins
-abbrev pub BeginsCopy : CopySettings → BegunTold → Option Here → Option Here → Type 0
+abbrev pub BeginsCopy : CopySettings → BegunReport → Option CDomain → Option CDomain → Type 0
 BeginsCopy copy told before after =
     CallsTelling before after told.answer (told.places ≡ no_places)
     (SaysBegun (copy_asked copy) told.places told.answer)

@@ -1,51 +1,51 @@
 -- How a run starts for C.
 use Rattle.std.specs.Prelude.{◌≡◌, ◌≢◌, ◌⊎◌, ℕ, true, List, Option, Some, Ok, length, map}
 use Rattle.std.specs.List.{list_any}
-use Rattle.gt_c.specs.Prelude.{Begins, DomainSettings, Fault, Handle, Here, IsFaultOf, Seated, Table}
+use Rattle.gt_c.specs.Prelude.{Begins, DomainSettings, EncodedFault, DomainHandle, CDomain, IsFaultOf, Seated, Table}
 use Rattle.gt_c.specs.Prelude.{no_fault, wrong_handles}
 use Rattle.gt_begin.specs.Beginning.{IsNameFault}
 use Rattle.gt_policy.specs.Allowing.{Meaning, type_named}
 use Rattle.gt_policy.specs.Whole.{Says}
-use Rattle.gt_c.specs.declared.beginning.TypeTold.{TypeTold}
+use Rattle.gt_c.specs.declared.beginning.TypeReport.{TypeReport}
 
 -- the domain of a handle, if it has one
-abbrev pub domain_of_handle : Handle → Option Here
+abbrev pub domain_of_handle : DomainHandle → Option CDomain
 domain_of_handle h = h.held.value
 
 -- a guest of the run of this number, as a handle has it
-abbrev pub here_of : ℕ → Seated Table → Here
+abbrev pub here_of : ℕ → Seated Table → CDomain
 here_of run g = record { guest = g; run = run }
 
 -- a handle has this domain
-abbrev pub holding : Here → Option Here
+abbrev pub holding : CDomain → Option CDomain
 holding d = Some d
 
 -- the handles are not as many as the domains, or one of them has a domain
-abbrev pub AreWrong : List DomainSettings → List Handle → Type 0
+abbrev pub AreWrong : List DomainSettings → List DomainHandle → Type 0
 AreWrong settings handles =
     (length handles ≢ length settings) ⊎ (list_any (λ h. h.is_live) handles ≡ true)
 
 -- a run of this number began, and the handle at each place has the guest of the domain at that place
-pub record Starts (settings : List DomainSettings) (first_gen run : ℕ) (policy : List ℕ) (handles : List Handle)
+pub record Starts (settings : List DomainSettings) (first_gen run : ℕ) (policy : List ℕ) (handles : List DomainHandle)
     : Type 0 where
   pub guests : List (Seated Table)
   pub begun : Begins settings first_gen policy guests
   pub handed : map domain_of_handle handles ≡ map (λ g. holding (here_of run g)) guests
 
 -- why no run started
-abbrev pub IsStartFault : List DomainSettings → ℕ → List ℕ → List Handle → Fault → Type 0
+abbrev pub IsStartFault : List DomainSettings → ℕ → List ℕ → List DomainHandle → EncodedFault → Type 0
 IsStartFault settings first_gen policy handles fault =
     ((fault ≡ wrong_handles) × AreWrong settings handles)
     ⊎ IsFaultOf settings first_gen policy fault
 
 -- a run started; or it did not, the fault says why, and the handles are as they were
-abbrev pub StartsWith : List DomainSettings → ℕ → ℕ → List ℕ → Fault → List Handle → List Handle → Type 0
+abbrev pub StartsWith : List DomainSettings → ℕ → ℕ → List ℕ → EncodedFault → List DomainHandle → List DomainHandle → Type 0
 StartsWith settings first_gen run policy fault old new =
     ((fault ≡ no_fault) × Starts settings first_gen run policy new)
     ⊎ ((new ≡ old) × IsStartFault settings first_gen policy old fault)
 
 -- a type's label is told, if the policy's text declares a type of this name; else why not, beside 0
-abbrev pub TellsType : List ℕ → List ℕ → TypeTold → Type 0
+abbrev pub TellsType : List ℕ → List ℕ → TypeReport → Type 0
 TellsType policy name told =
     ((told.fault ≡ no_fault)
     × ((m : Meaning) × Says policy (Ok m) × (type_named m.types name ≡ Some (record { 0 = told.label }))))

@@ -1,15 +1,15 @@
 -- What exports tell in layouts of C: the places of a copy, a mapping, a record.
 use Rattle.std.specs.Prelude.{◌≡◌, ◌⊎◌, ℕ, Bool, true, false, Option, Some, None, Result, Ok, Err}
 use Rattle.gt_c.specs.Prelude.{slice_get, Dir, Read, Write, Denial, Kept, Spot, Mapped, CopyArgs, End, frame_of, Name}
-use Rattle.gt_c.specs.Prelude.{value_of, encoded, no_end, record_kept, BeginsAccess, EndsAccess, Answer, Outcome}
-use Rattle.gt_c.specs.Prelude.{Places, CopyEnd, may, Control, Kind, EntryStatus, GrantRef, LooksAtOwn, StaysIdle}
-use Rattle.gt_entry.specs.declared.control.Kind.TheVariants.{Invalid, Page, Sub, Via}
-use Rattle.gt_c.specs.Prelude.{Record, CopySettings, PlaceTold, PlacesTold, Mapping, Here}
-use Rattle.gt_seat.specs.declared.answer.Outcome.TheVariants as outcomes
-use Rattle.gt_c.specs.declared.copies.BegunTold.{BegunTold}
-use Rattle.gt_c.specs.declared.telling.EntryTold.{EntryTold}
-use Rattle.gt_c.specs.declared.telling.MappingTold.{MappingTold}
-use Rattle.gt_c.specs.declared.telling.RecordTold.{RecordTold}
+use Rattle.gt_c.specs.Prelude.{value_of, encoded, no_end, record_kept, BeginsAccess, EndsAccess, EncodedAnswer, AttachedOutcome}
+use Rattle.gt_c.specs.Prelude.{CopyPlaces, CopyEnd, may, Control, EntryKind, EntryStatus, GrantRef, LooksAtOwn, StaysIdle}
+use Rattle.gt_entry.specs.declared.control.EntryKind.TheVariants.{Invalid, Page, Sub, Via}
+use Rattle.gt_c.specs.Prelude.{EncodedRecord, CopySettings, PlaceReport, PlacesReport, MappedFrame, CDomain}
+use Rattle.gt_seat.specs.declared.answer.AttachedOutcome.TheVariants as outcomes
+use Rattle.gt_c.specs.declared.copies.BegunReport.{BegunReport}
+use Rattle.gt_c.specs.declared.telling.EntryReport.{EntryReport}
+use Rattle.gt_c.specs.declared.telling.MappingReport.{MappingReport}
+use Rattle.gt_c.specs.declared.telling.RecordReport.{RecordReport}
 use Rattle.gt_c.specs.Pointing.{nowhere}
 
 -- an end of a copy as C asks it
@@ -21,36 +21,36 @@ abbrev pub copy_asked : CopySettings → CopyArgs
 copy_asked c = record { source = end_asked c.source; dest = end_asked c.dest; len = c.len; flags = c.flags }
 
 -- a place as C reads it
-abbrev pub place_told : Spot → PlaceTold
-place_told p = record { frame = p.frame.number; owner = p.frame.owner.0; off = p.off }
+abbrev pub place_report : Spot → PlaceReport
+place_report p = record { frame = p.frame.number; owner = p.frame.owner.0; off = p.off }
 
 -- no place
-abbrev pub no_place : PlaceTold
+abbrev pub no_place : PlaceReport
 no_place = record { frame = 0; owner = 0; off = 0 }
 
 -- the places of a copy that did not begin
-abbrev pub no_places : PlacesTold
+abbrev pub no_places : PlacesReport
 no_places = record { from = no_place; to = no_place; len = 0 }
 
 -- the places of a copy that began; none, if it was refused
-abbrev pub places_told : Result Places Denial → PlacesTold
-places_told (Ok p) = record { from = place_told p.from; to = place_told p.to; len = p.len }
-places_told (Err denial) = no_places
+abbrev pub places_report : Result CopyPlaces Denial → PlacesReport
+places_report (Ok p) = record { from = place_report p.from; to = place_report p.to; len = p.len }
+places_report (Err denial) = no_places
 
 -- the outcome of a copy's beginning
-abbrev pub outcome_begun : Result Places Denial → Outcome
+abbrev pub outcome_begun : Result CopyPlaces Denial → AttachedOutcome
 outcome_begun (Ok places) = outcomes.Done
 outcome_begun (Err denial) = outcomes.Denied denial
 
 -- a copy of the domain was begun so: the answer encodes whether, and its places are told
-pub record SaysBegun (copy : CopyArgs) (places : PlacesTold) (answer : Answer) (d e : Here) : Type 0 where
-  pub result : Result Places Denial
+pub record SaysBegun (copy : CopyArgs) (places : PlacesReport) (answer : EncodedAnswer) (d e : CDomain) : Type 0 where
+  pub result : Result CopyPlaces Denial
   pub encodes : answer ≡ encoded (outcome_begun result)
-  pub told : places ≡ places_told result
+  pub told : places ≡ places_report result
   pub begins : BeginsAccess may d.guest copy result e.guest
 
 -- the copy of a handle's domain was ended; or there was none, or no domain, and the answer says so
-abbrev pub CopyEnds : Answer → Option Here → Option Here → Type 0
+abbrev pub CopyEnds : EncodedAnswer → Option CDomain → Option CDomain → Type 0
 CopyEnds answer None after = (after ≡ None) × (answer ≡ encoded outcomes.NoDomain)
 CopyEnds answer (Some d) None = ⊥
 CopyEnds answer (Some d) (Some e) =
@@ -63,28 +63,28 @@ writes Read = 0
 writes Write = 1
 
 -- no mapping
-abbrev pub no_mapping : Mapping
+abbrev pub no_mapping : MappedFrame
 no_mapping = record { frame = 0; gref = 0; owner = 0; writes = 0 }
 
 -- a mapping as C reads it
-abbrev pub mapping_told : Option Mapped → Mapping
-mapping_told None = no_mapping
-mapping_told (Some p) =
+abbrev pub mapping_report : Option Mapped → MappedFrame
+mapping_report None = no_mapping
+mapping_report (Some p) =
     record { frame = frame_of p.entry; gref = p.gref.0; owner = p.dom.0; writes = writes p.dir }
 
 -- whether there is one
-abbrev pub outcome_present : {A : Type 0} → Option A → Outcome
+abbrev pub outcome_present : {A : Type 0} → Option A → AttachedOutcome
 outcome_present None = outcomes.Absent
 outcome_present (Some a) = outcomes.Done
 
 -- the mapping under this handle is told, if there is one, and nothing changed
-abbrev pub SaysMapping : Name → Mapping → Answer → Here → Here → Type 0
+abbrev pub SaysMapping : Name → MappedFrame → EncodedAnswer → CDomain → CDomain → Type 0
 SaysMapping name mapping answer d e =
     (answer ≡ encoded (outcome_present (value_of d.guest.domain.mappings name)))
-    × (mapping ≡ mapping_told (value_of d.guest.domain.mappings name)) × (e ≡ d)
+    × (mapping ≡ mapping_report (value_of d.guest.domain.mappings name)) × (e ≡ d)
 
 -- no record
-abbrev pub no_record : Record
+abbrev pub no_record : EncodedRecord
 no_record =
     record {
       call = 0;
@@ -99,62 +99,62 @@ no_record =
     }
 
 -- a record as C reads it
-abbrev pub kept_record : Option Kept → Record
+abbrev pub kept_record : Option Kept → EncodedRecord
 kept_record None = no_record
 kept_record (Some r) = record_kept r
 
 -- the record at this place is told, if there is one, and nothing changed
-abbrev pub SaysRecord : ℕ → Record → Answer → Here → Here → Type 0
+abbrev pub SaysRecord : ℕ → EncodedRecord → EncodedAnswer → CDomain → CDomain → Type 0
 SaysRecord index kept answer d e =
     (answer ≡ encoded (outcome_present (slice_get d.guest.domain.trail.records index)))
     × (kept ≡ kept_record (slice_get d.guest.domain.trail.records index)) × (e ≡ d)
 
 -- the number of a kind of entry
-abbrev pub kind_told : Kind → ℕ
-kind_told Invalid = 0
-kind_told Page = 1
-kind_told Sub = 2
-kind_told Via = 3
+abbrev pub kind_code : EntryKind → ℕ
+kind_code Invalid = 0
+kind_code Page = 1
+kind_code Sub = 2
+kind_code Via = 3
 
 -- 1 for an entry that only lets read, else 0
-abbrev pub read_only_told : Bool → ℕ
-read_only_told true = 1
-read_only_told false = 0
+abbrev pub read_only_code : Bool → ℕ
+read_only_code true = 1
+read_only_code false = 0
 
 -- no entry
 abbrev pub no_entry : EntryStatus
 no_entry = record { kind = 0; generation = 0; reads = 0; writes = 0; to = 0; read_only = 0 }
 
 -- an entry as C reads it
-abbrev pub entry_told : Option Control → EntryStatus
-entry_told None = no_entry
-entry_told (Some c) =
+abbrev pub entry_status : Option Control → EntryStatus
+entry_status None = no_entry
+entry_status (Some c) =
     record {
-      kind = kind_told c.kind;
+      kind = kind_code c.kind;
       generation = c.generation;
       reads = c.reads;
       writes = c.writes;
       to = c.dom.0;
-      read_only = read_only_told c.ro;
+      read_only = read_only_code c.ro;
     }
 
 -- a look at this entry is told, if the domain's table has it
-pub record SaysEntry (gref : GrantRef) (entry : EntryStatus) (answer : Answer) (d e : Here) : Type 0 where
+pub record SaysEntry (gref : GrantRef) (entry : EntryStatus) (answer : EncodedAnswer) (d e : CDomain) : Type 0 where
   pub found : Option Control
   pub encodes : answer ≡ encoded (outcome_present found)
-  pub told : entry ≡ entry_told found
+  pub told : entry ≡ entry_status found
   pub stays : StaysIdle d.guest e.guest
   pub looks : LooksAtOwn d.guest.monitor.words.layout d.guest.domain gref found e.guest.domain
 
 -- what is told of a null pointer
-abbrev pub mapping_nowhere : MappingTold
+abbrev pub mapping_nowhere : MappingReport
 mapping_nowhere = record { answer = nowhere; mapping = no_mapping }
 
-abbrev pub entry_nowhere : EntryTold
+abbrev pub entry_nowhere : EntryReport
 entry_nowhere = record { answer = nowhere; entry = no_entry }
 
-abbrev pub record_nowhere : RecordTold
+abbrev pub record_nowhere : RecordReport
 record_nowhere = record { answer = nowhere; kept = no_record }
 
-abbrev pub begun_nowhere : BegunTold
+abbrev pub begun_nowhere : BegunReport
 begun_nowhere = record { answer = nowhere; places = no_places }

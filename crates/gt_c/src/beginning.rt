@@ -4,37 +4,37 @@ ghost use Rattle.std.specs.List.{list_any};
 ghost use Rattle.gt_c.specs.Calling.{Finishes, LeavesWith, MakesReady, ResetsGuest, Settles};
 ghost use Rattle.gt_c.specs.Starting.{StartsWith, TellsType, domain_of_handle, here_of, holding};
 
-use crate::handle::Handle;
-use crate::here::Here;
+use crate::handle::DomainHandle;
+use crate::here::CDomain;
 use gt_allow::AllowTable;
-use gt_begin::{DomainSettings, Fault, HANDLES, MEMORY, NONE, begin, type_of};
-use gt_seat::{Answer, Guest, Outcome};
+use gt_begin::{DomainSettings, EncodedFault, HANDLES, MEMORY, NONE, begin, type_of};
+use gt_seat::{EncodedAnswer, AttachedDomain, AttachedOutcome};
 use std::alloc::{AllocError, Global};
 
 // A box for each guest of the run of this number, in order.
 fn boxed(
     alloc: Global,
     run: u32,
-    guests: Vec<Guest<AllowTable>>,
-) -> Result<Vec<Box<Here>>, AllocError>
+    guests: Vec<AttachedDomain<AllowTable>>,
+) -> Result<Vec<Box<CDomain>>, AllocError>
     ensures { IfOk result (λ v. map (λ b. b.value) v.items ≡ map (here_of run) guests.items) }
 {
     let mut all = Vec::new(alloc);
     for guest in guests {
-        let here = Box::new(alloc, Here { guest, run })?;
+        let here = Box::new(alloc, CDomain { guest, run })?;
         all.push(here)?;
     }
     Ok(all)
 }
 
-fn is_any_live(handles: &[Handle]) -> bool
+fn is_any_live(handles: &[DomainHandle]) -> bool
     ensures { result ≡ list_any (λ h. h.is_live) handles.now }
 {
     handles.iter().any(|handle| handle.is_live)
 }
 
 // Puts a domain into each handle, in order.
-fn hand_out(all: Vec<Box<Here>>, out: &mut [Handle])
+fn hand_out(all: Vec<Box<CDomain>>, out: &mut [DomainHandle])
     requires idle { All (λ h. domain_of_handle h ≡ None) out.old }
     requires count { length all.items ≡ length out.old }
     ensures { map domain_of_handle out.new ≡ map (λ b. holding b.value) all.items }
@@ -57,8 +57,8 @@ pub extern "C" fn gthost_start_at(
     first_gen: u32,
     run: u32,
     policy: &[u8],
-    out: &mut [Handle],
-) -> Fault
+    out: &mut [DomainHandle],
+) -> EncodedFault
     ensures { StartsWith settings.now first_gen run policy.now result out.old out.new }
 {
     if out.len() != settings.len() || is_any_live(out) {
@@ -76,7 +76,7 @@ pub extern "C" fn gthost_start_at(
 }
 
 // Ends the copy of a guest, if it is in one.
-fn settle(guest: &mut Guest<AllowTable>)
+fn settle(guest: &mut AttachedDomain<AllowTable>)
     ensures settled { Settles guest.old guest.new }
     ensures idle { guest.new.copying ≡ None }
 {
@@ -86,43 +86,43 @@ fn settle(guest: &mut Guest<AllowTable>)
 }
 
 // The domain leaves, after the end of its copy if it is in one.
-fn left(guest: Guest<AllowTable>) -> Answer
+fn left(guest: AttachedDomain<AllowTable>) -> EncodedAnswer
     ensures { LeavesWith guest result }
 {
     let mut guest = guest;
     settle(&mut guest);
     let remains = guest.finish();
-    Answer::of(Outcome::Left(remains))
+    EncodedAnswer::of(AttachedOutcome::Left(remains))
 }
 
 /// The domain leaves its run: its mappings and their pins are given up, its entries are withdrawn, and the handle is one
 /// of none. The last one frees the monitor. Answers how many records were lost, and how many entries are still in use.
-pub(crate) fn finish_on(alloc: Global, domain: &mut Handle) -> Answer
+pub(crate) fn finish_on(alloc: Global, domain: &mut DomainHandle) -> EncodedAnswer
     ensures { Finishes result domain.old.held.value domain.new.held.value }
 {
     let Some(here) = domain.take(alloc) else {
-        return Answer::of(Outcome::NoDomain);
+        return EncodedAnswer::of(AttachedOutcome::NoDomain);
     };
     let here = Box::into_inner(here);
     left(here.guest)
 }
 
 // The same of a guest that stays, for the next one in its place.
-fn made_ready(guest: &mut Guest<AllowTable>) -> Answer
+fn made_ready(guest: &mut AttachedDomain<AllowTable>) -> EncodedAnswer
     ensures { MakesReady guest.old guest.new result }
 {
     settle(guest);
     let remains = guest.reset();
-    Answer::of(Outcome::Left(remains))
+    EncodedAnswer::of(AttachedOutcome::Left(remains))
 }
 
 /// The domain ends its copy, gives up its mappings and closes its table, for the next guest in its place. Answers how
 /// many records were lost, and how many entries are still in use.
-pub(crate) fn reset_on(alloc: Global, domain: &mut Handle) -> Answer
+pub(crate) fn reset_on(alloc: Global, domain: &mut DomainHandle) -> EncodedAnswer
     ensures { ResetsGuest result domain.old.held.value domain.new.held.value }
 {
     let Some(mut here) = domain.take(alloc) else {
-        return Answer::of(Outcome::NoDomain);
+        return EncodedAnswer::of(AttachedOutcome::NoDomain);
     };
     let answer = made_ready(&mut here.guest);
     domain.put(here);
@@ -132,21 +132,21 @@ pub(crate) fn reset_on(alloc: Global, domain: &mut Handle) -> Answer
 /// A type's label, or why it was not found.
 #[repr(C)]
 #[derive(Clone, Copy)]
-pub struct TypeTold {
-    pub fault: Fault,
+pub struct TypeReport {
+    pub fault: EncodedFault,
     pub label: u32,
 }
 
 /// The label of the type of this name in a policy's text: 0 beside a fault.
 #[unsafe(no_mangle)]
-pub extern "C" fn gthost_type_of(alloc: Global, policy: &[u8], name: &[u8]) -> TypeTold
+pub extern "C" fn gthost_type_of(alloc: Global, policy: &[u8], name: &[u8]) -> TypeReport
     ensures { TellsType policy.now name.now result }
 {
     match type_of(alloc, policy, name) {
-        Ok(id) => TypeTold {
+        Ok(id) => TypeReport {
             fault: NONE,
             label: u32::from(id.0),
         },
-        Err(fault) => TypeTold { fault, label: 0 },
+        Err(fault) => TypeReport { fault, label: 0 },
     }
 }

@@ -1,7 +1,7 @@
 //! The calls of a domain on the entries of its table, and on those of others.
 ghost use Rattle.std.specs.Prelude.{◌≡◌, IfOk, IfErr};
 ghost use Rattle.gt_seat.specs.Encoding.{encoded};
-ghost use Rattle.gt_seat.specs.declared.answer.Outcome.TheVariants as outcomes;
+ghost use Rattle.gt_seat.specs.declared.answer.AttachedOutcome.TheVariants as outcomes;
 ghost use Rattle.gt_c.specs.Asking.{handle_named, page, spelled, sub, via};
 ghost use Rattle.gt_c.specs.Calling.{Enters, TurnedAway, outcome, outcome_frames, outcome_mapped, outcome_size};
 ghost use Rattle.gt_c.specs.Calling.{outcome_version};
@@ -9,11 +9,11 @@ ghost use Rattle.gt_c.specs.Promises.{AsksSize, AsksVersion, DemotesEntry, Grant
 ghost use Rattle.gt_c.specs.Promises.{GrantsVia};
 ghost use Rattle.gt_c.specs.Promises.{Maps, Promotes, RevokesEntry, SetsUp, SetsVersion, Unmaps, Withdraws};
 
-use crate::handle::Handle;
-use crate::here::Here;
+use crate::handle::DomainHandle;
+use crate::here::CDomain;
 use gt_calls::Handle as Name;
 use gt_entry::Entry;
-use gt_seat::{Answer, Name as Named, Outcome};
+use gt_seat::{EncodedAnswer, MappingName as Named, AttachedOutcome};
 use gt_types::{Denial, DomId, GrantRef, Size};
 use std::alloc::Global;
 
@@ -35,7 +35,7 @@ const NO_HANDLE: Name = Name {
 
 // The handle that a name stands for in a call of this domain: that of no mapping, if it is a name of another domain or
 // of another run.
-pub(crate) fn handle_named(here: &Here, name: MapHandle) -> Name
+pub(crate) fn handle_named(here: &CDomain, name: MapHandle) -> Name
     ensures { result ≡ handle_named here.now name }
 {
     if name.run != here.run || name.dom != here.guest.dom().0 {
@@ -68,71 +68,71 @@ fn spelled(bytes: &EntryBytes) -> &[u8]
 // Takes the domain of a handle for a call. If it has none, or one in a copy, the answer says so, and the handle stays
 // as it was.
 #[inline(always)]
-pub(crate) fn enter(alloc: Global, domain: &mut Handle) -> Result<Box<Here>, Answer>
+pub(crate) fn enter(alloc: Global, domain: &mut DomainHandle) -> Result<Box<CDomain>, EncodedAnswer>
     ensures ok { IfOk result (λ b. Enters domain.old.held.value domain.new.held.value b.value) }
     ensures turned_away { IfErr result (λ a. TurnedAway domain.old.held.value domain.new.held.value a) }
 {
     let Some(here) = domain.take(alloc) else {
-        return Err(Answer::of(Outcome::NoDomain));
+        return Err(EncodedAnswer::of(AttachedOutcome::NoDomain));
     };
     if here.guest.is_copying() {
         domain.put(here);
-        return Err(Answer::of(Outcome::Busy));
+        return Err(EncodedAnswer::of(AttachedOutcome::Busy));
     }
     Ok(here)
 }
 
 // The answer to a null pointer.
-pub(crate) fn nowhere() -> Answer
+pub(crate) fn nowhere() -> EncodedAnswer
     ensures { result ≡ encoded outcomes.NullPointer }
 {
-    Answer::of(Outcome::NullPointer)
+    EncodedAnswer::of(AttachedOutcome::NullPointer)
 }
 
 #[inline(always)]
-fn done(answer: Result<(), Denial>) -> Outcome
+fn done(answer: Result<(), Denial>) -> AttachedOutcome
     ensures { result ≡ outcome answer }
 {
     match answer {
-        Ok(()) => Outcome::Done,
-        Err(denial) => Outcome::Denied(denial),
+        Ok(()) => AttachedOutcome::Done,
+        Err(denial) => AttachedOutcome::Denied(denial),
     }
 }
 
 #[inline(always)]
-fn mapped(answer: Result<Name, Denial>, dom: DomId, run: u32) -> Outcome
+fn mapped(answer: Result<Name, Denial>, dom: DomId, run: u32) -> AttachedOutcome
     ensures { result ≡ outcome_mapped dom run answer }
 {
     match answer {
-        Ok(handle) => Outcome::Mapped(Named { handle, dom, run }),
-        Err(denial) => Outcome::Denied(denial),
+        Ok(handle) => AttachedOutcome::Mapped(Named { handle, dom, run }),
+        Err(denial) => AttachedOutcome::Denied(denial),
     }
 }
 
-fn frames_said(answer: Result<u32, Denial>) -> Outcome
+fn frames_outcome(answer: Result<u32, Denial>) -> AttachedOutcome
     ensures { result ≡ outcome_frames answer }
 {
     match answer {
-        Ok(frames) => Outcome::Frames(frames),
-        Err(denial) => Outcome::Denied(denial),
+        Ok(frames) => AttachedOutcome::Frames(frames),
+        Err(denial) => AttachedOutcome::Denied(denial),
     }
 }
 
-fn version_said(answer: Result<u32, Denial>) -> Outcome
+fn version_outcome(answer: Result<u32, Denial>) -> AttachedOutcome
     ensures { result ≡ outcome_version answer }
 {
     match answer {
-        Ok(version) => Outcome::Version(version),
-        Err(denial) => Outcome::Denied(denial),
+        Ok(version) => AttachedOutcome::Version(version),
+        Err(denial) => AttachedOutcome::Denied(denial),
     }
 }
 
-fn size_said(answer: Result<Size, Denial>) -> Outcome
+fn size_outcome(answer: Result<Size, Denial>) -> AttachedOutcome
     ensures { result ≡ outcome_size answer }
 {
     match answer {
-        Ok(size) => Outcome::Size(size),
-        Err(denial) => Outcome::Denied(denial),
+        Ok(size) => AttachedOutcome::Size(size),
+        Err(denial) => AttachedOutcome::Denied(denial),
     }
 }
 
@@ -173,19 +173,19 @@ fn via(to: u16, dom2: u16, ref2: u32, ro: u32) -> Entry
 /// Grants a page of its own to a domain, for reading if `ro` is not 0.
 pub(crate) fn grant_page_on(
     alloc: Global,
-    domain: &mut Handle,
+    domain: &mut DomainHandle,
     gref: u32,
     to: u16,
     frame: u64,
     ro: u32,
-) -> Answer
+) -> EncodedAnswer
     ensures { GrantsPage gref to frame ro result domain.old.held.value domain.new.held.value }
 {
     let mut here = match enter(alloc, domain) {
         Ok(here) => here,
         Err(turned_away) => return turned_away,
     };
-    let answer = Answer::of(done(here.guest.grant(GrantRef(gref), &page(to, frame, ro))));
+    let answer = EncodedAnswer::of(done(here.guest.grant(GrantRef(gref), &page(to, frame, ro))));
     domain.put(here);
     answer
 }
@@ -193,21 +193,21 @@ pub(crate) fn grant_page_on(
 /// Grants bytes of a page of its own to a domain, for copies only.
 pub(crate) fn grant_sub_on(
     alloc: Global,
-    domain: &mut Handle,
+    domain: &mut DomainHandle,
     gref: u32,
     to: u16,
     frame: u64,
     off: u16,
     len: u16,
     ro: u32,
-) -> Answer
+) -> EncodedAnswer
     ensures { GrantsSub gref to frame off len ro result domain.old.held.value domain.new.held.value }
 {
     let mut here = match enter(alloc, domain) {
         Ok(here) => here,
         Err(turned_away) => return turned_away,
     };
-    let answer = Answer::of(done(
+    let answer = EncodedAnswer::of(done(
         here.guest
             .grant(GrantRef(gref), &sub(to, frame, off, len, ro)),
     ));
@@ -218,20 +218,20 @@ pub(crate) fn grant_sub_on(
 /// Lets a domain copy by the grant `ref2` of the domain `dom2`.
 pub(crate) fn grant_via_on(
     alloc: Global,
-    domain: &mut Handle,
+    domain: &mut DomainHandle,
     gref: u32,
     to: u16,
     dom2: u16,
     ref2: u32,
     ro: u32,
-) -> Answer
+) -> EncodedAnswer
     ensures { GrantsVia gref to dom2 ref2 ro result domain.old.held.value domain.new.held.value }
 {
     let mut here = match enter(alloc, domain) {
         Ok(here) => here,
         Err(turned_away) => return turned_away,
     };
-    let answer = Answer::of(done(here.guest.grant(GrantRef(gref), &via(to, dom2, ref2, ro))));
+    let answer = EncodedAnswer::of(done(here.guest.grant(GrantRef(gref), &via(to, dom2, ref2, ro))));
     domain.put(here);
     answer
 }
@@ -239,75 +239,75 @@ pub(crate) fn grant_via_on(
 /// Grants what the entry's bytes spell.
 pub(crate) fn grant_bytes_on(
     alloc: Global,
-    domain: &mut Handle,
+    domain: &mut DomainHandle,
     gref: u32,
     bytes: EntryBytes,
-) -> Answer
+) -> EncodedAnswer
     ensures { GrantsBytes gref bytes result domain.old.held.value domain.new.held.value }
 {
     let mut here = match enter(alloc, domain) {
         Ok(here) => here,
         Err(turned_away) => return turned_away,
     };
-    let answer = Answer::of(done(here.guest.grant_bytes(GrantRef(gref), spelled(&bytes))));
+    let answer = EncodedAnswer::of(done(here.guest.grant_bytes(GrantRef(gref), spelled(&bytes))));
     domain.put(here);
     answer
 }
 
 /// Makes an entry of its own invalid, where it has no pins.
-pub(crate) fn revoke_on(alloc: Global, domain: &mut Handle, gref: u32) -> Answer
+pub(crate) fn revoke_on(alloc: Global, domain: &mut DomainHandle, gref: u32) -> EncodedAnswer
     ensures { RevokesEntry gref result domain.old.held.value domain.new.held.value }
 {
     let mut here = match enter(alloc, domain) {
         Ok(here) => here,
         Err(turned_away) => return turned_away,
     };
-    let answer = Answer::of(done(here.guest.revoke(GrantRef(gref))));
+    let answer = EncodedAnswer::of(done(here.guest.revoke(GrantRef(gref))));
     domain.put(here);
     answer
 }
 
 /// Makes an entry of its own invalid, with or without pins.
-pub(crate) fn withdraw_on(alloc: Global, domain: &mut Handle, gref: u32) -> Answer
+pub(crate) fn withdraw_on(alloc: Global, domain: &mut DomainHandle, gref: u32) -> EncodedAnswer
     ensures { Withdraws gref result domain.old.held.value domain.new.held.value }
 {
     let mut here = match enter(alloc, domain) {
         Ok(here) => here,
         Err(turned_away) => return turned_away,
     };
-    let answer = Answer::of(done(here.guest.withdraw(GrantRef(gref))));
+    let answer = EncodedAnswer::of(done(here.guest.withdraw(GrantRef(gref))));
     domain.put(here);
     answer
 }
 
 /// Makes an entry of its own read-only, where it has no write pins.
-pub(crate) fn demote_on(alloc: Global, domain: &mut Handle, gref: u32) -> Answer
+pub(crate) fn demote_on(alloc: Global, domain: &mut DomainHandle, gref: u32) -> EncodedAnswer
     ensures { DemotesEntry gref result domain.old.held.value domain.new.held.value }
 {
     let mut here = match enter(alloc, domain) {
         Ok(here) => here,
         Err(turned_away) => return turned_away,
     };
-    let answer = Answer::of(done(here.guest.demote(GrantRef(gref))));
+    let answer = EncodedAnswer::of(done(here.guest.demote(GrantRef(gref))));
     domain.put(here);
     answer
 }
 
 /// Makes an entry of its own writable.
-pub(crate) fn promote_on(alloc: Global, domain: &mut Handle, gref: u32) -> Answer
+pub(crate) fn promote_on(alloc: Global, domain: &mut DomainHandle, gref: u32) -> EncodedAnswer
     ensures { Promotes gref result domain.old.held.value domain.new.held.value }
 {
     let mut here = match enter(alloc, domain) {
         Ok(here) => here,
         Err(turned_away) => return turned_away,
     };
-    let answer = Answer::of(done(here.guest.promote(GrantRef(gref))));
+    let answer = EncodedAnswer::of(done(here.guest.promote(GrantRef(gref))));
     domain.put(here);
     answer
 }
 
 /// Maps an entry of a domain: flags 2 for reading and writing, 6 for reading.
-pub(crate) fn map_on(alloc: Global, domain: &mut Handle, dom: u16, gref: u32, flags: u32) -> Answer
+pub(crate) fn map_on(alloc: Global, domain: &mut DomainHandle, dom: u16, gref: u32, flags: u32) -> EncodedAnswer
     ensures { Maps dom gref flags result domain.old.held.value domain.new.held.value }
 {
     let mut here = match enter(alloc, domain) {
@@ -317,11 +317,11 @@ pub(crate) fn map_on(alloc: Global, domain: &mut Handle, dom: u16, gref: u32, fl
     let (caller, run) = (here.guest.dom(), here.run);
     let told = here.guest.map(DomId(dom), GrantRef(gref), flags);
     domain.put(here);
-    Answer::of(mapped(told, caller, run))
+    EncodedAnswer::of(mapped(told, caller, run))
 }
 
 /// Gives a mapping up.
-pub(crate) fn unmap_on(alloc: Global, domain: &mut Handle, name: MapHandle) -> Answer
+pub(crate) fn unmap_on(alloc: Global, domain: &mut DomainHandle, name: MapHandle) -> EncodedAnswer
     ensures { Unmaps name result domain.old.held.value domain.new.held.value }
 {
     let mut here = match enter(alloc, domain) {
@@ -331,57 +331,57 @@ pub(crate) fn unmap_on(alloc: Global, domain: &mut Handle, name: MapHandle) -> A
     let handle = handle_named(&here, name);
     let told = here.guest.unmap(handle);
     domain.put(here);
-    Answer::of(done(told))
+    EncodedAnswer::of(done(told))
 }
 
 /// Gives its table this version, 1 or 2.
-pub(crate) fn set_version_on(alloc: Global, domain: &mut Handle, version: u32) -> Answer
+pub(crate) fn set_version_on(alloc: Global, domain: &mut DomainHandle, version: u32) -> EncodedAnswer
     ensures { SetsVersion version result domain.old.held.value domain.new.held.value }
 {
     let mut here = match enter(alloc, domain) {
         Ok(here) => here,
         Err(turned_away) => return turned_away,
     };
-    let answer = Answer::of(done(here.guest.set_version(version)));
+    let answer = EncodedAnswer::of(done(here.guest.set_version(version)));
     domain.put(here);
     answer
 }
 
 /// Gives its table so many frames, where it has fewer.
-pub(crate) fn setup_table_on(alloc: Global, domain: &mut Handle, frames: u32) -> Answer
+pub(crate) fn setup_table_on(alloc: Global, domain: &mut DomainHandle, frames: u32) -> EncodedAnswer
     ensures { SetsUp frames result domain.old.held.value domain.new.held.value }
 {
     let mut here = match enter(alloc, domain) {
         Ok(here) => here,
         Err(turned_away) => return turned_away,
     };
-    let answer = Answer::of(frames_said(here.guest.setup_table(frames)));
+    let answer = EncodedAnswer::of(frames_outcome(here.guest.setup_table(frames)));
     domain.put(here);
     answer
 }
 
 /// The size of the table of a domain.
-pub(crate) fn query_size_on(alloc: Global, domain: &mut Handle, dom: u16) -> Answer
+pub(crate) fn query_size_on(alloc: Global, domain: &mut DomainHandle, dom: u16) -> EncodedAnswer
     ensures { AsksSize dom result domain.old.held.value domain.new.held.value }
 {
     let mut here = match enter(alloc, domain) {
         Ok(here) => here,
         Err(turned_away) => return turned_away,
     };
-    let answer = Answer::of(size_said(here.guest.query_size(DomId(dom))));
+    let answer = EncodedAnswer::of(size_outcome(here.guest.query_size(DomId(dom))));
     domain.put(here);
     answer
 }
 
 /// The version of the table of a domain.
-pub(crate) fn get_version_on(alloc: Global, domain: &mut Handle, dom: u16) -> Answer
+pub(crate) fn get_version_on(alloc: Global, domain: &mut DomainHandle, dom: u16) -> EncodedAnswer
     ensures { AsksVersion dom result domain.old.held.value domain.new.held.value }
 {
     let mut here = match enter(alloc, domain) {
         Ok(here) => here,
         Err(turned_away) => return turned_away,
     };
-    let answer = Answer::of(version_said(here.guest.get_version(DomId(dom))));
+    let answer = EncodedAnswer::of(version_outcome(here.guest.get_version(DomId(dom))));
     domain.put(here);
     answer
 }

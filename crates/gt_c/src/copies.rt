@@ -2,12 +2,12 @@
 ghost use Rattle.std.specs.Prelude.{◌≡◌};
 ghost use Rattle.gt_c.specs.Promises.{BeginsCopy};
 ghost use Rattle.gt_c.specs.Telling.{CopyEnds, begun_nowhere, copy_asked, end_asked, no_places, outcome_begun};
-ghost use Rattle.gt_c.specs.Telling.{place_told, places_told};
+ghost use Rattle.gt_c.specs.Telling.{place_report, places_report};
 
 use crate::calls::{enter, nowhere};
-use crate::handle::Handle;
+use crate::handle::DomainHandle;
 use gt_calls::{CopyArgs, End, Spot};
-use gt_seat::{Answer, CopyEnd, Outcome, Places};
+use gt_seat::{EncodedAnswer, CopyEnd, AttachedOutcome, CopyPlaces};
 use gt_types::{Denial, DomId};
 use std::alloc::Global;
 
@@ -24,7 +24,7 @@ pub struct CopySettings {
 /// A place in a frame.
 #[repr(C)]
 #[derive(Clone, Copy)]
-pub struct PlaceTold {
+pub struct PlaceReport {
     pub frame: u64,
     pub owner: u16,
     pub off: u16,
@@ -33,18 +33,18 @@ pub struct PlaceTold {
 /// Where a copy may read and write: so many bytes, from the one place to the other.
 #[repr(C)]
 #[derive(Clone, Copy)]
-pub struct PlacesTold {
-    pub from: PlaceTold,
-    pub to: PlaceTold,
+pub struct PlacesReport {
+    pub from: PlaceReport,
+    pub to: PlaceReport,
     pub len: u16,
 }
 
 /// Whether a copy began, and what it may touch: all zeros if it did not.
 #[repr(C)]
 #[derive(Clone, Copy)]
-pub struct BegunTold {
-    pub answer: Answer,
-    pub places: PlacesTold,
+pub struct BegunReport {
+    pub answer: EncodedAnswer,
+    pub places: PlacesReport,
 }
 
 fn end_asked(end: CopyEnd) -> End
@@ -68,27 +68,27 @@ fn copy_asked(copy: CopySettings) -> CopyArgs
     }
 }
 
-fn place_told(place: Spot) -> PlaceTold
-    ensures { result ≡ place_told place }
+fn place_report(place: Spot) -> PlaceReport
+    ensures { result ≡ place_report place }
 {
-    PlaceTold {
+    PlaceReport {
         frame: place.frame.number,
         owner: place.frame.owner.0,
         off: place.off,
     }
 }
 
-const NO_PLACE: PlaceTold = PlaceTold {
+const NO_PLACE: PlaceReport = PlaceReport {
     frame: 0,
     owner: 0,
     off: 0,
 };
 
 // The places of a copy that did not begin.
-fn no_places() -> PlacesTold
+fn no_places() -> PlacesReport
     ensures { result ≡ no_places }
 {
-    PlacesTold {
+    PlacesReport {
         from: NO_PLACE,
         to: NO_PLACE,
         len: 0,
@@ -96,33 +96,33 @@ fn no_places() -> PlacesTold
 }
 
 // The places, if the copy began.
-fn places_told(begun: Result<Places, Denial>) -> PlacesTold
-    ensures { result ≡ places_told begun }
+fn places_report(begun: Result<CopyPlaces, Denial>) -> PlacesReport
+    ensures { result ≡ places_report begun }
 {
     match begun {
-        Ok(told) => PlacesTold {
-            from: place_told(told.from),
-            to: place_told(told.to),
+        Ok(told) => PlacesReport {
+            from: place_report(told.from),
+            to: place_report(told.to),
             len: told.len,
         },
         Err(_) => no_places(),
     }
 }
 
-fn begun(answer: Result<Places, Denial>) -> Outcome
+fn begun(answer: Result<CopyPlaces, Denial>) -> AttachedOutcome
     ensures { result ≡ outcome_begun answer }
 {
     match answer {
-        Ok(_) => Outcome::Done,
-        Err(denial) => Outcome::Denied(denial),
+        Ok(_) => AttachedOutcome::Done,
+        Err(denial) => AttachedOutcome::Denied(denial),
     }
 }
 
 // The answer to a null pointer.
-pub(crate) fn begun_nowhere() -> BegunTold
+pub(crate) fn begun_nowhere() -> BegunReport
     ensures { result ≡ begun_nowhere }
 {
-    BegunTold {
+    BegunReport {
         answer: nowhere(),
         places: no_places(),
     }
@@ -130,37 +130,37 @@ pub(crate) fn begun_nowhere() -> BegunTold
 
 /// Begins a copy: the domain's pins for it are taken, and `places` says what may be touched until it ends. Refused, no
 /// pin is kept.
-pub(crate) fn copy_begin_on(alloc: Global, domain: &mut Handle, copy: CopySettings) -> BegunTold
+pub(crate) fn copy_begin_on(alloc: Global, domain: &mut DomainHandle, copy: CopySettings) -> BegunReport
     ensures { BeginsCopy copy result domain.old.held.value domain.new.held.value }
 {
     let mut here = match enter(alloc, domain) {
         Ok(here) => here,
         Err(answer) => {
-            return BegunTold {
+            return BegunReport {
                 answer,
                 places: no_places(),
             };
         }
     };
     let result = here.guest.copy_begin(&copy_asked(copy));
-    let answer = Answer::of(begun(result));
-    let places = places_told(result);
+    let answer = EncodedAnswer::of(begun(result));
+    let places = places_report(result);
     domain.put(here);
-    BegunTold { answer, places }
+    BegunReport { answer, places }
 }
 
 /// Ends the copy that the domain is in: its pins are given back, the last one first.
-pub(crate) fn copy_end_on(alloc: Global, domain: &mut Handle) -> Answer
+pub(crate) fn copy_end_on(alloc: Global, domain: &mut DomainHandle) -> EncodedAnswer
     ensures { CopyEnds result domain.old.held.value domain.new.held.value }
 {
     let Some(mut here) = domain.take(alloc) else {
-        return Answer::of(Outcome::NoDomain);
+        return EncodedAnswer::of(AttachedOutcome::NoDomain);
     };
     if !here.guest.is_copying() {
         domain.put(here);
-        return Answer::of(Outcome::NoCopy);
+        return EncodedAnswer::of(AttachedOutcome::NoCopy);
     }
     here.guest.copy_end();
     domain.put(here);
-    Answer::of(Outcome::Done)
+    EncodedAnswer::of(AttachedOutcome::Done)
 }

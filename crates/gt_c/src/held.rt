@@ -1,12 +1,12 @@
 //! A box as a pointer that C may hold, or none.
 ghost use Rattle.std.specs.Prelude.{◌≡◌, Option, Some, None, IsSome};
 ghost use Rattle.std.specs.Box.Ownership.{box_owns};
-ghost use Rattle.gt_c.specs.declared.here.Here.{Here};
+ghost use Rattle.gt_c.specs.declared.here.CDomain.{CDomain};
 ghost use Rattle.std.specs.contracts.impls.GlobalAllocator.TheImpl.{ghosts};
-ghost use Rattle.gt_c.specs.contracts.here.Here.{the_row as here_row};
+ghost use Rattle.gt_c.specs.contracts.here.CDomain.{the_row as here_row};
 
-use crate::here::Here;
-use crate::parts::Parts;
+use crate::here::CDomain;
+use crate::parts::BoxParts;
 use std::alloc::Global;
 use std::marker::Model;
 use std::ptr;
@@ -14,49 +14,49 @@ use std::ptr;
 /// A box as a pointer that C may hold.
 #[repr(C)]
 #[derive(Drop)]
-pub struct Held {
+pub struct RawBox {
     pub at: *mut u8,
     pub alloc: Global,
-    pub ghost value: { Option Here },
+    pub ghost value: { Option CDomain },
 }
 
-impl Model for Held {
+impl Model for RawBox {
     ghost use Rattle.std.specs.Prelude.{Option};
     ghost use Rattle.std.specs.Box.Ownership.{box_owns};
     ghost use Rattle.std.specs.contracts.impls.GlobalAllocator.TheImpl.{ghosts};
-    ghost use Rattle.gt_c.specs.contracts.here.Here.{the_row as here_row};
+    ghost use Rattle.gt_c.specs.contracts.here.CDomain.{the_row as here_row};
     ghost use Rattle.gt_c.specs.Owning.{owned};
 
     ghost also_owns = { λ p. owned (box_owns (ghosts.dealloc_token p.alloc) here_row p.at) p.value };
 }
 
-impl Held {
-    pub fn none(alloc: Global) -> Held
+impl RawBox {
+    pub fn none(alloc: Global) -> RawBox
         ensures { result.value ≡ None }
     {
-        Held {
+        RawBox {
             at: ptr::null_mut(),
             alloc,
         }
     }
 
-    pub fn of_parts(parts: Parts<Here, Global>) -> Held
+    pub fn of_parts(parts: BoxParts<CDomain, Global>) -> RawBox
         ensures { result.value ≡ Some parts.value }
     {
-        let Parts { ptr, alloc } = parts;
-        Held {
+        let BoxParts { ptr, alloc } = parts;
+        RawBox {
             at: ptr as *mut u8,
             alloc,
         }
     }
 
-    pub fn into_parts(self) -> Parts<Here, Global>
+    pub fn into_parts(self) -> BoxParts<CDomain, Global>
         requires { IsSome self.value }
         ensures { Some result.value ≡ self.value }
     {
-        let Held { at, alloc } = self;
-        Parts {
-            ptr: at as *mut Here,
+        let RawBox { at, alloc } = self;
+        BoxParts {
+            ptr: at as *mut CDomain,
             alloc,
         }
     }

@@ -1,11 +1,11 @@
 //! A domain of this run, as a handle stands for it.
 
 use gt_allow::AllowTable;
-use gt_seat::Guest;
+use gt_seat::AttachedDomain;
 
 /// A domain under the rights of a compiled policy, and the number that its run was given.
 #[derive(Drop)]
-pub struct Here {
-    pub guest: Guest<AllowTable>,
+pub struct CDomain {
+    pub guest: AttachedDomain<AllowTable>,
     pub run: u32,
 }

@@ -1,6 +1,6 @@
 //! The running monitor for a program in C: one export for each call of a domain that waits for nobody.
 //!
-//! `include/gthost.h` declares all of it. A [`Handle`] stands for a domain, or for none if it is all zeros. A call
+//! `include/gthost.h` declares all of it. A [`DomainHandle`] stands for a domain, or for none if it is all zeros. A call
 //! takes the domain out of its handle, makes the call of `gt_seat` on it, puts it back, and writes an `Answer`. It
 //! takes no memory for that.
 //!
@@ -26,4 +26,4 @@ mod seam;
 mod telling;
 
 pub use calls::{EntryBytes, MapHandle};
-pub use handle::Handle;
+pub use handle::DomainHandle;

@@ -3,8 +3,8 @@
 ghost use Rattle.std.specs.Prelude.{◌≡◌, ◌^◌, ◌<◌, Option};
 ghost use Rattle.std.specs.Borrow.{sem};
 ghost use denote.RawPtr.{count_of};
-ghost use Rattle.gt_c.specs.contracts.handle.Handle.{the_row as handle};
-ghost use Rattle.gt_c.specs.declared.handle.Handle.{Handle};
+ghost use Rattle.gt_c.specs.contracts.handle.DomainHandle.{the_row as handle};
+ghost use Rattle.gt_c.specs.declared.handle.DomainHandle.{DomainHandle};
 ghost use Rattle.gt_c.specs.Calling.{Finishes, ResetsGuest};
 ghost use Rattle.gt_c.specs.Pointing.{PointsTo, nowhere, pointed_at};
 ghost use Rattle.gt_c.specs.Promises.{AsksSize, AsksVersion, BeginsCopy, Bounds, DemotesEntry, GrantsBytes, GrantsPage};
@@ -19,13 +19,13 @@ use crate::calls::{
     grant_via_on, map_on, nowhere, promote_on, query_size_on, revoke_on, set_version_on,
     setup_table_on, unmap_on, withdraw_on,
 };
-use crate::copies::{BegunTold, CopySettings, begun_nowhere, copy_begin_on, copy_end_on};
-use crate::handle::Handle;
+use crate::copies::{BegunReport, CopySettings, begun_nowhere, copy_begin_on, copy_end_on};
+use crate::handle::DomainHandle;
 use crate::telling::{
-    EntryTold, MappingTold, RecordTold, entry_nowhere, entry_on, keep_at_most_on, mapping_nowhere,
+    EntryReport, MappingReport, RecordReport, entry_nowhere, entry_on, keep_at_most_on, mapping_nowhere,
     mapping_on, record_nowhere, record_on, reserve_records_on, take_records_on,
 };
-use gt_seat::Answer;
+use gt_seat::EncodedAnswer;
 use std::alloc::Global;
 use std::ptr;
 
@@ -33,15 +33,15 @@ use std::ptr;
 #[unsafe(no_mangle)]
 pub unsafe extern "C" fn gthost_grant_page(
     alloc: Global,
-    domain: *mut Handle,
+    domain: *mut DomainHandle,
     gref: u32,
     to: u16,
     frame: u64,
     ro: u32,
-) -> Answer
-    ghost was: { Option Handle }
+) -> EncodedAnswer
+    ghost was: { Option DomainHandle }
     requires* { sem 𝓛 (pointed_at handle domain was) ∗ ⌜ count_of domain < 2 ^ 63 ⌝ }
-    ensures* { ∃ₛ (λ (is : Option Handle). sem 𝓛 (pointed_at handle domain is)
+    ensures* { ∃ₛ (λ (is : Option DomainHandle). sem 𝓛 (pointed_at handle domain is)
         ∗ ⌜ PointsTo was is result nowhere (GrantsPage gref to frame ro result) ⌝) }
 {
     if domain == ptr::null_mut() {
@@ -54,17 +54,17 @@ pub unsafe extern "C" fn gthost_grant_page(
 #[unsafe(no_mangle)]
 pub unsafe extern "C" fn gthost_grant_sub(
     alloc: Global,
-    domain: *mut Handle,
+    domain: *mut DomainHandle,
     gref: u32,
     to: u16,
     frame: u64,
     off: u16,
     len: u16,
     ro: u32,
-) -> Answer
-    ghost was: { Option Handle }
+) -> EncodedAnswer
+    ghost was: { Option DomainHandle }
     requires* { sem 𝓛 (pointed_at handle domain was) ∗ ⌜ count_of domain < 2 ^ 63 ⌝ }
-    ensures* { ∃ₛ (λ (is : Option Handle). sem 𝓛 (pointed_at handle domain is)
+    ensures* { ∃ₛ (λ (is : Option DomainHandle). sem 𝓛 (pointed_at handle domain is)
         ∗ ⌜ PointsTo was is result nowhere (GrantsSub gref to frame off len ro result) ⌝) }
 {
     if domain == ptr::null_mut() {
@@ -77,16 +77,16 @@ pub unsafe extern "C" fn gthost_grant_sub(
 #[unsafe(no_mangle)]
 pub unsafe extern "C" fn gthost_grant_via(
     alloc: Global,
-    domain: *mut Handle,
+    domain: *mut DomainHandle,
     gref: u32,
     to: u16,
     dom2: u16,
     ref2: u32,
     ro: u32,
-) -> Answer
-    ghost was: { Option Handle }
+) -> EncodedAnswer
+    ghost was: { Option DomainHandle }
     requires* { sem 𝓛 (pointed_at handle domain was) ∗ ⌜ count_of domain < 2 ^ 63 ⌝ }
-    ensures* { ∃ₛ (λ (is : Option Handle). sem 𝓛 (pointed_at handle domain is)
+    ensures* { ∃ₛ (λ (is : Option DomainHandle). sem 𝓛 (pointed_at handle domain is)
         ∗ ⌜ PointsTo was is result nowhere (GrantsVia gref to dom2 ref2 ro result) ⌝) }
 {
     if domain == ptr::null_mut() {
@@ -99,13 +99,13 @@ pub unsafe extern "C" fn gthost_grant_via(
 #[unsafe(no_mangle)]
 pub unsafe extern "C" fn gthost_grant_bytes(
     alloc: Global,
-    domain: *mut Handle,
+    domain: *mut DomainHandle,
     gref: u32,
     bytes: EntryBytes,
-) -> Answer
-    ghost was: { Option Handle }
+) -> EncodedAnswer
+    ghost was: { Option DomainHandle }
     requires* { sem 𝓛 (pointed_at handle domain was) ∗ ⌜ count_of domain < 2 ^ 63 ⌝ }
-    ensures* { ∃ₛ (λ (is : Option Handle). sem 𝓛 (pointed_at handle domain is)
+    ensures* { ∃ₛ (λ (is : Option DomainHandle). sem 𝓛 (pointed_at handle domain is)
         ∗ ⌜ PointsTo was is result nowhere (GrantsBytes gref bytes result) ⌝) }
 {
     if domain == ptr::null_mut() {
@@ -116,10 +116,10 @@ pub unsafe extern "C" fn gthost_grant_bytes(
 
 /// Makes an entry of its own invalid, where it has no pins.
 #[unsafe(no_mangle)]
-pub unsafe extern "C" fn gthost_revoke(alloc: Global, domain: *mut Handle, gref: u32) -> Answer
-    ghost was: { Option Handle }
+pub unsafe extern "C" fn gthost_revoke(alloc: Global, domain: *mut DomainHandle, gref: u32) -> EncodedAnswer
+    ghost was: { Option DomainHandle }
     requires* { sem 𝓛 (pointed_at handle domain was) ∗ ⌜ count_of domain < 2 ^ 63 ⌝ }
-    ensures* { ∃ₛ (λ (is : Option Handle). sem 𝓛 (pointed_at handle domain is)
+    ensures* { ∃ₛ (λ (is : Option DomainHandle). sem 𝓛 (pointed_at handle domain is)
         ∗ ⌜ PointsTo was is result nowhere (RevokesEntry gref result) ⌝) }
 {
     if domain == ptr::null_mut() {
@@ -130,10 +130,10 @@ pub unsafe extern "C" fn gthost_revoke(alloc: Global, domain: *mut Handle, gref:
 
 /// Makes an entry of its own invalid, with or without pins.
 #[unsafe(no_mangle)]
-pub unsafe extern "C" fn gthost_withdraw(alloc: Global, domain: *mut Handle, gref: u32) -> Answer
-    ghost was: { Option Handle }
+pub unsafe extern "C" fn gthost_withdraw(alloc: Global, domain: *mut DomainHandle, gref: u32) -> EncodedAnswer
+    ghost was: { Option DomainHandle }
     requires* { sem 𝓛 (pointed_at handle domain was) ∗ ⌜ count_of domain < 2 ^ 63 ⌝ }
-    ensures* { ∃ₛ (λ (is : Option Handle). sem 𝓛 (pointed_at handle domain is)
+    ensures* { ∃ₛ (λ (is : Option DomainHandle). sem 𝓛 (pointed_at handle domain is)
         ∗ ⌜ PointsTo was is result nowhere (Withdraws gref result) ⌝) }
 {
     if domain == ptr::null_mut() {
@@ -144,10 +144,10 @@ pub unsafe extern "C" fn gthost_withdraw(alloc: Global, domain: *mut Handle, gre
 
 /// Makes an entry of its own read-only, where it has no write pins.
 #[unsafe(no_mangle)]
-pub unsafe extern "C" fn gthost_demote(alloc: Global, domain: *mut Handle, gref: u32) -> Answer
-    ghost was: { Option Handle }
+pub unsafe extern "C" fn gthost_demote(alloc: Global, domain: *mut DomainHandle, gref: u32) -> EncodedAnswer
+    ghost was: { Option DomainHandle }
     requires* { sem 𝓛 (pointed_at handle domain was) ∗ ⌜ count_of domain < 2 ^ 63 ⌝ }
-    ensures* { ∃ₛ (λ (is : Option Handle). sem 𝓛 (pointed_at handle domain is)
+    ensures* { ∃ₛ (λ (is : Option DomainHandle). sem 𝓛 (pointed_at handle domain is)
         ∗ ⌜ PointsTo was is result nowhere (DemotesEntry gref result) ⌝) }
 {
     if domain == ptr::null_mut() {
@@ -158,10 +158,10 @@ pub unsafe extern "C" fn gthost_demote(alloc: Global, domain: *mut Handle, gref:
 
 /// Makes an entry of its own writable.
 #[unsafe(no_mangle)]
-pub unsafe extern "C" fn gthost_promote(alloc: Global, domain: *mut Handle, gref: u32) -> Answer
-    ghost was: { Option Handle }
+pub unsafe extern "C" fn gthost_promote(alloc: Global, domain: *mut DomainHandle, gref: u32) -> EncodedAnswer
+    ghost was: { Option DomainHandle }
     requires* { sem 𝓛 (pointed_at handle domain was) ∗ ⌜ count_of domain < 2 ^ 63 ⌝ }
-    ensures* { ∃ₛ (λ (is : Option Handle). sem 𝓛 (pointed_at handle domain is)
+    ensures* { ∃ₛ (λ (is : Option DomainHandle). sem 𝓛 (pointed_at handle domain is)
         ∗ ⌜ PointsTo was is result nowhere (Promotes gref result) ⌝) }
 {
     if domain == ptr::null_mut() {
@@ -174,14 +174,14 @@ pub unsafe extern "C" fn gthost_promote(alloc: Global, domain: *mut Handle, gref
 #[unsafe(no_mangle)]
 pub unsafe extern "C" fn gthost_map(
     alloc: Global,
-    domain: *mut Handle,
+    domain: *mut DomainHandle,
     dom: u16,
     gref: u32,
     flags: u32,
-) -> Answer
-    ghost was: { Option Handle }
+) -> EncodedAnswer
+    ghost was: { Option DomainHandle }
     requires* { sem 𝓛 (pointed_at handle domain was) ∗ ⌜ count_of domain < 2 ^ 63 ⌝ }
-    ensures* { ∃ₛ (λ (is : Option Handle). sem 𝓛 (pointed_at handle domain is)
+    ensures* { ∃ₛ (λ (is : Option DomainHandle). sem 𝓛 (pointed_at handle domain is)
         ∗ ⌜ PointsTo was is result nowhere (Maps dom gref flags result) ⌝) }
 {
     if domain == ptr::null_mut() {
@@ -192,10 +192,10 @@ pub unsafe extern "C" fn gthost_map(
 
 /// Gives a mapping up.
 #[unsafe(no_mangle)]
-pub unsafe extern "C" fn gthost_unmap(alloc: Global, domain: *mut Handle, name: MapHandle) -> Answer
-    ghost was: { Option Handle }
+pub unsafe extern "C" fn gthost_unmap(alloc: Global, domain: *mut DomainHandle, name: MapHandle) -> EncodedAnswer
+    ghost was: { Option DomainHandle }
     requires* { sem 𝓛 (pointed_at handle domain was) ∗ ⌜ count_of domain < 2 ^ 63 ⌝ }
-    ensures* { ∃ₛ (λ (is : Option Handle). sem 𝓛 (pointed_at handle domain is)
+    ensures* { ∃ₛ (λ (is : Option DomainHandle). sem 𝓛 (pointed_at handle domain is)
         ∗ ⌜ PointsTo was is result nowhere (Unmaps name result) ⌝) }
 {
     if domain == ptr::null_mut() {
@@ -208,12 +208,12 @@ pub unsafe extern "C" fn gthost_unmap(alloc: Global, domain: *mut Handle, name: 
 #[unsafe(no_mangle)]
 pub unsafe extern "C" fn gthost_set_version(
     alloc: Global,
-    domain: *mut Handle,
+    domain: *mut DomainHandle,
     version: u32,
-) -> Answer
-    ghost was: { Option Handle }
+) -> EncodedAnswer
+    ghost was: { Option DomainHandle }
     requires* { sem 𝓛 (pointed_at handle domain was) ∗ ⌜ count_of domain < 2 ^ 63 ⌝ }
-    ensures* { ∃ₛ (λ (is : Option Handle). sem 𝓛 (pointed_at handle domain is)
+    ensures* { ∃ₛ (λ (is : Option DomainHandle). sem 𝓛 (pointed_at handle domain is)
         ∗ ⌜ PointsTo was is result nowhere (SetsVersion version result) ⌝) }
 {
     if domain == ptr::null_mut() {
@@ -226,12 +226,12 @@ pub unsafe extern "C" fn gthost_set_version(
 #[unsafe(no_mangle)]
 pub unsafe extern "C" fn gthost_setup_table(
     alloc: Global,
-    domain: *mut Handle,
+    domain: *mut DomainHandle,
     frames: u32,
-) -> Answer
-    ghost was: { Option Handle }
+) -> EncodedAnswer
+    ghost was: { Option DomainHandle }
     requires* { sem 𝓛 (pointed_at handle domain was) ∗ ⌜ count_of domain < 2 ^ 63 ⌝ }
-    ensures* { ∃ₛ (λ (is : Option Handle). sem 𝓛 (pointed_at handle domain is)
+    ensures* { ∃ₛ (λ (is : Option DomainHandle). sem 𝓛 (pointed_at handle domain is)
         ∗ ⌜ PointsTo was is result nowhere (SetsUp frames result) ⌝) }
 {
     if domain == ptr::null_mut() {
@@ -242,10 +242,10 @@ pub unsafe extern "C" fn gthost_setup_table(
 
 /// The size of the table of a domain.
 #[unsafe(no_mangle)]
-pub unsafe extern "C" fn gthost_query_size(alloc: Global, domain: *mut Handle, dom: u16) -> Answer
-    ghost was: { Option Handle }
+pub unsafe extern "C" fn gthost_query_size(alloc: Global, domain: *mut DomainHandle, dom: u16) -> EncodedAnswer
+    ghost was: { Option DomainHandle }
     requires* { sem 𝓛 (pointed_at handle domain was) ∗ ⌜ count_of domain < 2 ^ 63 ⌝ }
-    ensures* { ∃ₛ (λ (is : Option Handle). sem 𝓛 (pointed_at handle domain is)
+    ensures* { ∃ₛ (λ (is : Option DomainHandle). sem 𝓛 (pointed_at handle domain is)
         ∗ ⌜ PointsTo was is result nowhere (AsksSize dom result) ⌝) }
 {
     if domain == ptr::null_mut() {
@@ -256,10 +256,10 @@ pub unsafe extern "C" fn gthost_query_size(alloc: Global, domain: *mut Handle, d
 
 /// The version of the table of a domain.
 #[unsafe(no_mangle)]
-pub unsafe extern "C" fn gthost_get_version(alloc: Global, domain: *mut Handle, dom: u16) -> Answer
-    ghost was: { Option Handle }
+pub unsafe extern "C" fn gthost_get_version(alloc: Global, domain: *mut DomainHandle, dom: u16) -> EncodedAnswer
+    ghost was: { Option DomainHandle }
     requires* { sem 𝓛 (pointed_at handle domain was) ∗ ⌜ count_of domain < 2 ^ 63 ⌝ }
-    ensures* { ∃ₛ (λ (is : Option Handle). sem 𝓛 (pointed_at handle domain is)
+    ensures* { ∃ₛ (λ (is : Option DomainHandle). sem 𝓛 (pointed_at handle domain is)
         ∗ ⌜ PointsTo was is result nowhere (AsksVersion dom result) ⌝) }
 {
     if domain == ptr::null_mut() {
@@ -272,12 +272,12 @@ pub unsafe extern "C" fn gthost_get_version(alloc: Global, domain: *mut Handle, 
 #[unsafe(no_mangle)]
 pub unsafe extern "C" fn gthost_mapping(
     alloc: Global,
-    domain: *mut Handle,
+    domain: *mut DomainHandle,
     name: MapHandle,
-) -> MappingTold
-    ghost was: { Option Handle }
+) -> MappingReport
+    ghost was: { Option DomainHandle }
     requires* { sem 𝓛 (pointed_at handle domain was) ∗ ⌜ count_of domain < 2 ^ 63 ⌝ }
-    ensures* { ∃ₛ (λ (is : Option Handle). sem 𝓛 (pointed_at handle domain is)
+    ensures* { ∃ₛ (λ (is : Option DomainHandle). sem 𝓛 (pointed_at handle domain is)
         ∗ ⌜ PointsTo was is result mapping_nowhere (TellsMapping name result) ⌝) }
 {
     if domain == ptr::null_mut() {
@@ -290,12 +290,12 @@ pub unsafe extern "C" fn gthost_mapping(
 #[unsafe(no_mangle)]
 pub unsafe extern "C" fn gthost_record(
     alloc: Global,
-    domain: *mut Handle,
+    domain: *mut DomainHandle,
     index: usize,
-) -> RecordTold
-    ghost was: { Option Handle }
+) -> RecordReport
+    ghost was: { Option DomainHandle }
     requires* { sem 𝓛 (pointed_at handle domain was) ∗ ⌜ count_of domain < 2 ^ 63 ⌝ }
-    ensures* { ∃ₛ (λ (is : Option Handle). sem 𝓛 (pointed_at handle domain is)
+    ensures* { ∃ₛ (λ (is : Option DomainHandle). sem 𝓛 (pointed_at handle domain is)
         ∗ ⌜ PointsTo was is result record_nowhere (TellsRecord index result) ⌝) }
 {
     if domain == ptr::null_mut() {
@@ -308,12 +308,12 @@ pub unsafe extern "C" fn gthost_record(
 #[unsafe(no_mangle)]
 pub unsafe extern "C" fn gthost_keep_at_most(
     alloc: Global,
-    domain: *mut Handle,
+    domain: *mut DomainHandle,
     records: usize,
-) -> Answer
-    ghost was: { Option Handle }
+) -> EncodedAnswer
+    ghost was: { Option DomainHandle }
     requires* { sem 𝓛 (pointed_at handle domain was) ∗ ⌜ count_of domain < 2 ^ 63 ⌝ }
-    ensures* { ∃ₛ (λ (is : Option Handle). sem 𝓛 (pointed_at handle domain is)
+    ensures* { ∃ₛ (λ (is : Option DomainHandle). sem 𝓛 (pointed_at handle domain is)
         ∗ ⌜ PointsTo was is result nowhere (Bounds records result) ⌝) }
 {
     if domain == ptr::null_mut() {
@@ -326,12 +326,12 @@ pub unsafe extern "C" fn gthost_keep_at_most(
 #[unsafe(no_mangle)]
 pub unsafe extern "C" fn gthost_reserve_records(
     alloc: Global,
-    domain: *mut Handle,
+    domain: *mut DomainHandle,
     records: usize,
-) -> Answer
-    ghost was: { Option Handle }
+) -> EncodedAnswer
+    ghost was: { Option DomainHandle }
     requires* { sem 𝓛 (pointed_at handle domain was) ∗ ⌜ count_of domain < 2 ^ 63 ⌝ }
-    ensures* { ∃ₛ (λ (is : Option Handle). sem 𝓛 (pointed_at handle domain is)
+    ensures* { ∃ₛ (λ (is : Option DomainHandle). sem 𝓛 (pointed_at handle domain is)
         ∗ ⌜ PointsTo was is result nowhere (MakesRoom records result) ⌝) }
 {
     if domain == ptr::null_mut() {
@@ -345,12 +345,12 @@ pub unsafe extern "C" fn gthost_reserve_records(
 #[unsafe(no_mangle)]
 pub unsafe extern "C" fn gthost_copy_begin(
     alloc: Global,
-    domain: *mut Handle,
+    domain: *mut DomainHandle,
     copy: CopySettings,
-) -> BegunTold
-    ghost was: { Option Handle }
+) -> BegunReport
+    ghost was: { Option DomainHandle }
     requires* { sem 𝓛 (pointed_at handle domain was) ∗ ⌜ count_of domain < 2 ^ 63 ⌝ }
-    ensures* { ∃ₛ (λ (is : Option Handle). sem 𝓛 (pointed_at handle domain is)
+    ensures* { ∃ₛ (λ (is : Option DomainHandle). sem 𝓛 (pointed_at handle domain is)
         ∗ ⌜ PointsTo was is result begun_nowhere (BeginsCopy copy result) ⌝) }
 {
     if domain == ptr::null_mut() {
@@ -361,10 +361,10 @@ pub unsafe extern "C" fn gthost_copy_begin(
 
 /// Ends the copy that the domain is in: its pins are given back, the last one first.
 #[unsafe(no_mangle)]
-pub unsafe extern "C" fn gthost_copy_end(alloc: Global, domain: *mut Handle) -> Answer
-    ghost was: { Option Handle }
+pub unsafe extern "C" fn gthost_copy_end(alloc: Global, domain: *mut DomainHandle) -> EncodedAnswer
+    ghost was: { Option DomainHandle }
     requires* { sem 𝓛 (pointed_at handle domain was) ∗ ⌜ count_of domain < 2 ^ 63 ⌝ }
-    ensures* { ∃ₛ (λ (is : Option Handle). sem 𝓛 (pointed_at handle domain is)
+    ensures* { ∃ₛ (λ (is : Option DomainHandle). sem 𝓛 (pointed_at handle domain is)
         ∗ ⌜ PointsTo was is result nowhere (CopyEnds result) ⌝) }
 {
     if domain == ptr::null_mut() {
@@ -376,10 +376,10 @@ pub unsafe extern "C" fn gthost_copy_end(alloc: Global, domain: *mut Handle) -> 
 /// The domain leaves its run: its mappings and their pins are given up, and the handle is one of none. The last one
 /// frees the monitor. Answers how many records were lost.
 #[unsafe(no_mangle)]
-pub unsafe extern "C" fn gthost_finish(alloc: Global, domain: *mut Handle) -> Answer
-    ghost was: { Option Handle }
+pub unsafe extern "C" fn gthost_finish(alloc: Global, domain: *mut DomainHandle) -> EncodedAnswer
+    ghost was: { Option DomainHandle }
     requires* { sem 𝓛 (pointed_at handle domain was) ∗ ⌜ count_of domain < 2 ^ 63 ⌝ }
-    ensures* { ∃ₛ (λ (is : Option Handle). sem 𝓛 (pointed_at handle domain is)
+    ensures* { ∃ₛ (λ (is : Option DomainHandle). sem 𝓛 (pointed_at handle domain is)
         ∗ ⌜ PointsTo was is result nowhere (Finishes result) ⌝) }
 {
     if domain == ptr::null_mut() {
@@ -390,10 +390,10 @@ pub unsafe extern "C" fn gthost_finish(alloc: Global, domain: *mut Handle) -> An
 
 /// One look at an entry of its own: its kind, its generation and its pins.
 #[unsafe(no_mangle)]
-pub unsafe extern "C" fn gthost_entry(alloc: Global, domain: *mut Handle, gref: u32) -> EntryTold
-    ghost was: { Option Handle }
+pub unsafe extern "C" fn gthost_entry(alloc: Global, domain: *mut DomainHandle, gref: u32) -> EntryReport
+    ghost was: { Option DomainHandle }
     requires* { sem 𝓛 (pointed_at handle domain was) ∗ ⌜ count_of domain < 2 ^ 63 ⌝ }
-    ensures* { ∃ₛ (λ (is : Option Handle). sem 𝓛 (pointed_at handle domain is)
+    ensures* { ∃ₛ (λ (is : Option DomainHandle). sem 𝓛 (pointed_at handle domain is)
         ∗ ⌜ PointsTo was is result entry_nowhere (TellsEntry gref result) ⌝) }
 {
     if domain == ptr::null_mut() {
@@ -404,10 +404,10 @@ pub unsafe extern "C" fn gthost_entry(alloc: Global, domain: *mut Handle, gref: 
 
 /// Lets the domain's records go, and keeps their room.
 #[unsafe(no_mangle)]
-pub unsafe extern "C" fn gthost_take_records(alloc: Global, domain: *mut Handle) -> Answer
-    ghost was: { Option Handle }
+pub unsafe extern "C" fn gthost_take_records(alloc: Global, domain: *mut DomainHandle) -> EncodedAnswer
+    ghost was: { Option DomainHandle }
     requires* { sem 𝓛 (pointed_at handle domain was) ∗ ⌜ count_of domain < 2 ^ 63 ⌝ }
-    ensures* { ∃ₛ (λ (is : Option Handle). sem 𝓛 (pointed_at handle domain is)
+    ensures* { ∃ₛ (λ (is : Option DomainHandle). sem 𝓛 (pointed_at handle domain is)
         ∗ ⌜ PointsTo was is result nowhere (TakesRecords result) ⌝) }
 {
     if domain == ptr::null_mut() {
@@ -418,10 +418,10 @@ pub unsafe extern "C" fn gthost_take_records(alloc: Global, domain: *mut Handle)
 
 /// Ends the copy, gives up the mappings and closes the table, for the next guest in its place.
 #[unsafe(no_mangle)]
-pub unsafe extern "C" fn gthost_reset(alloc: Global, domain: *mut Handle) -> Answer
-    ghost was: { Option Handle }
+pub unsafe extern "C" fn gthost_reset(alloc: Global, domain: *mut DomainHandle) -> EncodedAnswer
+    ghost was: { Option DomainHandle }
     requires* { sem 𝓛 (pointed_at handle domain was) ∗ ⌜ count_of domain < 2 ^ 63 ⌝ }
-    ensures* { ∃ₛ (λ (is : Option Handle). sem 𝓛 (pointed_at handle domain is)
+    ensures* { ∃ₛ (λ (is : Option DomainHandle). sem 𝓛 (pointed_at handle domain is)
         ∗ ⌜ PointsTo was is result nowhere (ResetsGuest result) ⌝) }
 {
     if domain == ptr::null_mut() {

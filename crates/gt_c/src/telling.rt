@@ -2,22 +2,22 @@
 ghost use Rattle.std.specs.Prelude.{◌≡◌};
 ghost use Rattle.gt_c.specs.Calling.{outcome_reserved};
 ghost use Rattle.gt_c.specs.Promises.{Bounds, MakesRoom, TakesRecords, TellsEntry, TellsMapping, TellsRecord};
-ghost use Rattle.gt_c.specs.Telling.{entry_nowhere, entry_told, kind_told, no_entry, read_only_told};
-ghost use Rattle.gt_c.specs.Telling.{mapping_nowhere, mapping_told, no_mapping, no_record, outcome_present, kept_record};
+ghost use Rattle.gt_c.specs.Telling.{entry_nowhere, entry_status, kind_code, no_entry, read_only_code};
+ghost use Rattle.gt_c.specs.Telling.{mapping_nowhere, mapping_report, no_mapping, no_record, outcome_present, kept_record};
 ghost use Rattle.gt_c.specs.Telling.{record_nowhere, writes};
 
 use crate::calls::{MapHandle, enter, handle_named, nowhere};
-use crate::handle::Handle;
-use gt_calls::Held;
-use gt_entry::{Control, Kind};
-use gt_seat::{Answer, CopyEnd, Outcome, Record};
+use crate::handle::DomainHandle;
+use gt_calls::HeldPin;
+use gt_entry::{Control, EntryKind};
+use gt_seat::{EncodedAnswer, CopyEnd, AttachedOutcome, EncodedRecord};
 use gt_types::{Dir, GrantRef, Memory};
 use std::alloc::Global;
 
 /// What is mapped: this frame of this owner, by this entry. It may be written if `writes` is 1.
 #[repr(C)]
 #[derive(Clone, Copy)]
-pub struct Mapping {
+pub struct MappedFrame {
     pub frame: u64,
     pub gref: u32,
     pub owner: u16,
@@ -27,9 +27,9 @@ pub struct Mapping {
 /// Whether there is such a mapping, and which: all zeros if there is none.
 #[repr(C)]
 #[derive(Clone, Copy)]
-pub struct MappingTold {
-    pub answer: Answer,
-    pub mapping: Mapping,
+pub struct MappingReport {
+    pub answer: EncodedAnswer,
+    pub mapping: MappedFrame,
 }
 
 /// What one look at an entry found: its kind (0 Invalid, 1 a page, 2 bytes of one, 3 another grant), its generation, its
@@ -48,17 +48,17 @@ pub struct EntryStatus {
 /// Whether the table has such an entry, and what a look found: all zeros if it has none.
 #[repr(C)]
 #[derive(Clone, Copy)]
-pub struct EntryTold {
-    pub answer: Answer,
+pub struct EntryReport {
+    pub answer: EncodedAnswer,
     pub entry: EntryStatus,
 }
 
 /// Whether there is such a record, and which: all zeros if there is none.
 #[repr(C)]
 #[derive(Clone, Copy)]
-pub struct RecordTold {
-    pub answer: Answer,
-    pub kept: Record,
+pub struct RecordReport {
+    pub answer: EncodedAnswer,
+    pub kept: EncodedRecord,
 }
 
 fn writes(dir: Dir) -> u16
@@ -71,10 +71,10 @@ fn writes(dir: Dir) -> u16
 }
 
 // No mapping.
-fn no_mapping() -> Mapping
+fn no_mapping() -> MappedFrame
     ensures { result ≡ no_mapping }
 {
-    Mapping {
+    MappedFrame {
         frame: 0,
         gref: 0,
         owner: 0,
@@ -83,12 +83,12 @@ fn no_mapping() -> Mapping
 }
 
 // The mapping, if there is one.
-fn mapping_told(found: Option<Held>) -> Mapping
-    ensures { result ≡ mapping_told found }
+fn mapping_report(found: Option<HeldPin>) -> MappedFrame
+    ensures { result ≡ mapping_report found }
 {
     match found {
         None => no_mapping(),
-        Some(held) => Mapping {
+        Some(held) => MappedFrame {
             frame: held.entry.frame(),
             gref: held.gref.0,
             owner: held.dom.0,
@@ -97,19 +97,19 @@ fn mapping_told(found: Option<Held>) -> Mapping
     }
 }
 
-fn kind_told(kind: Kind) -> u32
-    ensures { result ≡ kind_told kind }
+fn kind_code(kind: EntryKind) -> u32
+    ensures { result ≡ kind_code kind }
 {
     match kind {
-        Kind::Invalid => 0,
-        Kind::Page => 1,
-        Kind::Sub => 2,
-        Kind::Via => 3,
+        EntryKind::Invalid => 0,
+        EntryKind::Page => 1,
+        EntryKind::Sub => 2,
+        EntryKind::Via => 3,
     }
 }
 
-fn read_only_told(ro: bool) -> u16
-    ensures { result ≡ read_only_told ro }
+fn read_only_code(ro: bool) -> u16
+    ensures { result ≡ read_only_code ro }
 {
     if ro { 1 } else { 0 }
 }
@@ -129,18 +129,18 @@ fn no_entry() -> EntryStatus
 }
 
 // What was found, if there is such an entry.
-fn entry_told(found: Option<Control>) -> EntryStatus
-    ensures { result ≡ entry_told found }
+fn entry_status(found: Option<Control>) -> EntryStatus
+    ensures { result ≡ entry_status found }
 {
     match found {
         None => no_entry(),
         Some(control) => EntryStatus {
-            kind: kind_told(control.kind),
+            kind: kind_code(control.kind),
             generation: control.generation,
             reads: control.reads,
             writes: control.writes,
             to: control.dom.0,
-            read_only: read_only_told(control.ro),
+            read_only: read_only_code(control.ro),
         },
     }
 }
@@ -152,10 +152,10 @@ const NO_END: CopyEnd = CopyEnd {
 };
 
 // No record.
-fn no_record() -> Record
+fn no_record() -> EncodedRecord
     ensures { result ≡ no_record }
 {
-    Record {
+    EncodedRecord {
         call: 0,
         caller: 0,
         dom: 0,
@@ -164,74 +164,74 @@ fn no_record() -> Record
         len: 0,
         source: NO_END,
         dest: NO_END,
-        reply: Answer::of(Outcome::Done),
+        reply: EncodedAnswer::of(AttachedOutcome::Done),
     }
 }
 
 // The record, if there is one.
-fn record_told(found: Option<gt_audit::Record>) -> Record
+fn encoded_record(found: Option<gt_audit::Record>) -> EncodedRecord
     ensures { result ≡ kept_record found }
 {
     match found {
         None => no_record(),
-        Some(told) => Record::of(told),
+        Some(told) => EncodedRecord::of(told),
     }
 }
 
-fn present<T>(found: &Option<T>) -> Outcome
+fn present<T>(found: &Option<T>) -> AttachedOutcome
     ensures { result ≡ outcome_present found.now }
 {
     match found {
-        None => Outcome::Absent,
-        Some(_) => Outcome::Done,
+        None => AttachedOutcome::Absent,
+        Some(_) => AttachedOutcome::Done,
     }
 }
 
-fn reserved(answer: Result<(), Memory>) -> Outcome
+fn reserved(answer: Result<(), Memory>) -> AttachedOutcome
     ensures { result ≡ outcome_reserved answer }
 {
     match answer {
-        Ok(()) => Outcome::Done,
-        Err(_) => Outcome::NoMemory,
+        Ok(()) => AttachedOutcome::Done,
+        Err(_) => AttachedOutcome::NoMemory,
     }
 }
 
 // The answers to a null pointer.
-pub(crate) fn mapping_nowhere() -> MappingTold
+pub(crate) fn mapping_nowhere() -> MappingReport
     ensures { result ≡ mapping_nowhere }
 {
-    MappingTold {
+    MappingReport {
         answer: nowhere(),
         mapping: no_mapping(),
     }
 }
 
-pub(crate) fn entry_nowhere() -> EntryTold
+pub(crate) fn entry_nowhere() -> EntryReport
     ensures { result ≡ entry_nowhere }
 {
-    EntryTold {
+    EntryReport {
         answer: nowhere(),
         entry: no_entry(),
     }
 }
 
-pub(crate) fn record_nowhere() -> RecordTold
+pub(crate) fn record_nowhere() -> RecordReport
     ensures { result ≡ record_nowhere }
 {
-    RecordTold {
+    RecordReport {
         answer: nowhere(),
         kept: no_record(),
     }
 }
 
 /// The mapping under a handle.
-pub(crate) fn mapping_on(alloc: Global, domain: &mut Handle, name: MapHandle) -> MappingTold
+pub(crate) fn mapping_on(alloc: Global, domain: &mut DomainHandle, name: MapHandle) -> MappingReport
     ensures { TellsMapping name result domain.old.held.value domain.new.held.value }
 {
     let here = match enter(alloc, domain) {
         Ok(here) => here,
         Err(answer) => {
-            return MappingTold {
+            return MappingReport {
                 answer,
                 mapping: no_mapping(),
             };
@@ -239,54 +239,54 @@ pub(crate) fn mapping_on(alloc: Global, domain: &mut Handle, name: MapHandle) ->
     };
     let handle = handle_named(&here, name);
     let found = here.guest.mapping(handle);
-    let answer = Answer::of(present(&found));
-    let mapping = mapping_told(found);
+    let answer = EncodedAnswer::of(present(&found));
+    let mapping = mapping_report(found);
     domain.put(here);
-    MappingTold { answer, mapping }
+    MappingReport { answer, mapping }
 }
 
 /// One look at an entry of the domain's own.
-pub(crate) fn entry_on(alloc: Global, domain: &mut Handle, gref: u32) -> EntryTold
+pub(crate) fn entry_on(alloc: Global, domain: &mut DomainHandle, gref: u32) -> EntryReport
     ensures { TellsEntry gref result domain.old.held.value domain.new.held.value }
 {
     let mut here = match enter(alloc, domain) {
         Ok(here) => here,
         Err(answer) => {
-            return EntryTold {
+            return EntryReport {
                 answer,
                 entry: no_entry(),
             };
         }
     };
     let found = here.guest.status(GrantRef(gref));
-    let answer = Answer::of(present(&found));
-    let entry = entry_told(found);
+    let answer = EncodedAnswer::of(present(&found));
+    let entry = entry_status(found);
     domain.put(here);
-    EntryTold { answer, entry }
+    EntryReport { answer, entry }
 }
 
 /// The record at a place, counted from 0, in the order of the calls.
-pub(crate) fn record_on(alloc: Global, domain: &mut Handle, index: usize) -> RecordTold
+pub(crate) fn record_on(alloc: Global, domain: &mut DomainHandle, index: usize) -> RecordReport
     ensures { TellsRecord index result domain.old.held.value domain.new.held.value }
 {
     let here = match enter(alloc, domain) {
         Ok(here) => here,
         Err(answer) => {
-            return RecordTold {
+            return RecordReport {
                 answer,
                 kept: no_record(),
             };
         }
     };
     let found = here.guest.record_at(index);
-    let answer = Answer::of(present(&found));
-    let kept = record_told(found);
+    let answer = EncodedAnswer::of(present(&found));
+    let kept = encoded_record(found);
     domain.put(here);
-    RecordTold { answer, kept }
+    RecordReport { answer, kept }
 }
 
 /// From now on the domain keeps a record only while it has fewer than so many; with 0 its calls are not recorded.
-pub(crate) fn keep_at_most_on(alloc: Global, domain: &mut Handle, records: usize) -> Answer
+pub(crate) fn keep_at_most_on(alloc: Global, domain: &mut DomainHandle, records: usize) -> EncodedAnswer
     ensures { Bounds records result domain.old.held.value domain.new.held.value }
 {
     let mut here = match enter(alloc, domain) {
@@ -294,13 +294,13 @@ pub(crate) fn keep_at_most_on(alloc: Global, domain: &mut Handle, records: usize
         Err(turned_away) => return turned_away,
     };
     here.guest.keep_at_most(records);
-    let answer = Answer::of(Outcome::Done);
+    let answer = EncodedAnswer::of(AttachedOutcome::Done);
     domain.put(here);
     answer
 }
 
 /// Lets the records go, and keeps their room. Answers how many there were, and how many were lost before.
-pub(crate) fn take_records_on(alloc: Global, domain: &mut Handle) -> Answer
+pub(crate) fn take_records_on(alloc: Global, domain: &mut DomainHandle) -> EncodedAnswer
     ensures { TakesRecords result domain.old.held.value domain.new.held.value }
 {
     let mut here = match enter(alloc, domain) {
@@ -308,20 +308,20 @@ pub(crate) fn take_records_on(alloc: Global, domain: &mut Handle) -> Answer
         Err(turned_away) => return turned_away,
     };
     let taken = here.guest.take_records(alloc);
-    let answer = Answer::of(Outcome::Taken(taken));
+    let answer = EncodedAnswer::of(AttachedOutcome::Taken(taken));
     domain.put(here);
     answer
 }
 
 /// Makes room for so many more records, which then take no memory.
-pub(crate) fn reserve_records_on(alloc: Global, domain: &mut Handle, records: usize) -> Answer
+pub(crate) fn reserve_records_on(alloc: Global, domain: &mut DomainHandle, records: usize) -> EncodedAnswer
     ensures { MakesRoom records result domain.old.held.value domain.new.held.value }
 {
     let mut here = match enter(alloc, domain) {
         Ok(here) => here,
         Err(turned_away) => return turned_away,
     };
-    let answer = Answer::of(reserved(here.guest.reserve_records(records)));
+    let answer = EncodedAnswer::of(reserved(here.guest.reserve_records(records)));
     domain.put(here);
     answer
 }

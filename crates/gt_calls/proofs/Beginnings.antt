@@ -1,6 +1,6 @@
 -- A call before its first step: what is so of each, by what it asks.
 use Rattle.gt_calls.proofs.Words.{◌≡◌, ◌≤◌, ℕ, refl, [], Option, Some, None, sym, ap, ◌∙◌, subst, arith, DomId}
-use Rattle.gt_calls.proofs.Words.{GrantRef, Request, bytes_of, Asked, Copy, CopyArgs, Verdict, Phase, Ending}
+use Rattle.gt_calls.proofs.Words.{GrantRef, Request, bytes_of, OpenRequest, Copy, CopyArgs, CallResult, Phase, Ending}
 use Rattle.gt_calls.proofs.Words.{CallerKnowledge, begun, opens, Continuation, path, after_beginning, steps_of, remains}
 use Rattle.gt_calls.proofs.Words.{first_phase, at_source, action_at, HasShown, held_in, steps_left, IsStepAction}
 use Rattle.gt_calls.{specs.Path.most_steps, proofs.Calls.at-source, proofs.Calls.wants-action}
@@ -14,7 +14,7 @@ IsMoving phase = Unit {0}
 
 -- a call that stands here has this to come, has shown nothing yet and holds nothing, and makes a step, with so many to
 -- come at the most
-pub record Begins (k : CallerKnowledge) (grammar : Continuation) (caller : DomId) (request : Asked) (steps : Continuation) (phase : Phase) (most : ℕ) : Type 0 where
+pub record Begins (k : CallerKnowledge) (grammar : Continuation) (caller : DomId) (request : OpenRequest) (steps : Continuation) (phase : Phase) (most : ℕ) : Type 0 where
   pub same : remains k caller phase ≡ steps
   pub shown : HasShown k grammar caller request [] phase
   pub none_held : held_in phase ≡ []
@@ -25,7 +25,7 @@ copy-moves : (k : CallerKnowledge) (caller : DomId) (c : CopyArgs) → IsMoving 
 copy-moves k caller c = grind arith
 
 -- each call that no rule answers at its beginning
-pub begins : (k : CallerKnowledge) (grammar : Continuation) (caller : DomId) (r : Asked) → begun k caller r ≡ None → Begins k grammar caller r (steps_of k caller r) (first_phase k caller r) (most_steps r)
+pub begins : (k : CallerKnowledge) (grammar : Continuation) (caller : DomId) (r : OpenRequest) → begun k caller r ≡ None → Begins k grammar caller r (steps_of k caller r) (first_phase k caller r) (most_steps r)
 begins k grammar caller (Copy c) none = record {
   same = at-source k caller c;
   shown = shown-source k grammar caller (Copy c) [] none c refl;
@@ -39,11 +39,11 @@ begins k grammar caller r none = grind (arith, opens)
 moving-step : (caller : DomId) (phase : Phase) → IsMoving phase → IsStepAction (Some (action_at caller phase))
 moving-step caller phase m = grind arith
 
-pub makes-step : (k : CallerKnowledge) (caller : DomId) (r : Asked) → begun k caller r ≡ None → IsStepAction (path k caller r [])
+pub makes-step : (k : CallerKnowledge) (caller : DomId) (r : OpenRequest) → begun k caller r ≡ None → IsStepAction (path k caller r [])
 makes-step k caller r none = let b = begins k (path k caller r) caller r none in
     let steps : steps_of k caller r [] ≡ Some (action_at caller (first_phase k caller r)) =
     sym (ap (λ (t : Continuation). t []) b.same) ∙ wants-action k caller (first_phase k caller r) in
-    subst IsStepAction (sym (ap (λ (o : Option Verdict). after_beginning o (steps_of k caller r) []) none ∙ steps)) (moving-step caller (first_phase k caller r) b.moves)
+    subst IsStepAction (sym (ap (λ (o : Option CallResult). after_beginning o (steps_of k caller r) []) none ∙ steps)) (moving-step caller (first_phase k caller r) b.moves)
 
 -- a request that grants by bytes is told from all others
 abbrev pub HasNoBytes : Request → Type 0

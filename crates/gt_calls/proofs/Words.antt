@@ -18,22 +18,22 @@ pub use Rattle.gt_types.specs.{declared.limits.TheConstants.MAX_TRIES, declared.
 pub use Rattle.gt_types.specs.{declared.copies.CopyArgs.CopyArgs, Copies.is_dest_granted, Copies.is_source_granted}
 pub use Rattle.gt_entry.specs.{Bytes.IsLaidOutV2, Bytes.Spells, Bytes.SpellsV1, Bytes.SpellsV2, Bytes.field}
 pub use Rattle.gt_entry.specs.{Bytes.first_refused, Bytes.flags_of, Bytes.is_set, Spelling.entry_of}
-pub use Rattle.gt_entry.specs.{Spelling.entry_with, Words.control_of, Words.header_of, declared.change.Change.Change}
-pub use Rattle.gt_entry.specs.{declared.control.Control.Control, declared.control.Kind.Kind}
-pub use Rattle.gt_entry.specs.{declared.control.Kind.TheVariants.Sub as KindSub, declared.entry.Entry.Entry}
+pub use Rattle.gt_entry.specs.{Spelling.entry_with, Words.control_of, Words.header_of, declared.change.EntryChange.EntryChange}
+pub use Rattle.gt_entry.specs.{declared.control.Control.Control, declared.control.EntryKind.EntryKind}
+pub use Rattle.gt_entry.specs.{declared.control.EntryKind.TheVariants.Sub as KindSub, declared.entry.Entry.Entry}
 pub use Rattle.gt_entry.specs.{declared.entry.Entry.TheVariants.Invalid, declared.entry.Entry.TheVariants.Page}
 pub use Rattle.gt_entry.specs.{declared.entry.Entry.TheVariants.Sub, declared.entry.Entry.TheVariants.Via}
-pub use Rattle.gt_entry.specs.{declared.change.Half.TheVariants.First as FirstHalf}
-pub use Rattle.gt_entry.specs.{declared.change.Half.TheVariants.Second as SecondHalf}
-pub use Rattle.gt_calls.specs.{Asking.IsSaid, Asking.asked, Asking.begun_of, Asking.bytes_begun, Asking.bytes_of}
+pub use Rattle.gt_entry.specs.{declared.change.BodyWord.TheVariants.First as FirstHalf}
+pub use Rattle.gt_entry.specs.{declared.change.BodyWord.TheVariants.Second as SecondHalf}
+pub use Rattle.gt_calls.specs.{Asking.SpellsItsEntry, Asking.asked, Asking.begun_of, Asking.bytes_begun, Asking.bytes_of}
 pub use Rattle.gt_calls.specs.{Rules.grant_begun}
-pub use Rattle.gt_calls.specs.{Asking.entry_said, Asking.judged_as, Asking.plainly_asked, Counting.IsCounted}
+pub use Rattle.gt_calls.specs.{Asking.entry_spelled, Asking.judged_as, Asking.plainly_asked, Counting.IsCounted}
 pub use Rattle.gt_calls.specs.{Counting.pins_before, Counting.leg_left, Counting.leg_steps, Counting.most_steps}
 pub use Rattle.gt_calls.specs.{Counting.steps_left, Following.Advances, Following.FitsAction, Following.FitsNext}
 pub use Rattle.gt_calls.specs.{Following.Goes, Following.GoesOnWith, Following.HoldsAfter, Following.HoldsNext}
 pub use Rattle.gt_calls.specs.{Following.IsStepAction, Following.Starts, Holding.held_by, Holding.last_first}
 pub use Rattle.gt_calls.specs.{Holding.no_pins, Holding.pins_so_far, Machine.action_at, Machine.after_dest_pin}
-pub use Rattle.gt_calls.specs.{Machine.after_leg, Legs.after_look, Legs.after_miss, Machine.after_own_miss}
+pub use Rattle.gt_calls.specs.{Machine.after_leg, Legs.on_control_word, Legs.after_miss, Machine.after_own_miss}
 pub use Rattle.gt_calls.specs.{Machine.after_pin, Machine.after_pin_of, Machine.after_source_pin, Machine.after_store}
 pub use Rattle.gt_calls.specs.{Legs.after_words, Machine.at_dest, Machine.at_source, Machine.first_phase}
 pub use Rattle.gt_calls.specs.{Legs.leg_after, Legs.leg_step, Legs.leg_to_come, Legs.missed_to_come}
@@ -56,22 +56,22 @@ pub use Rattle.gt_calls.specs.{Rules.knows, Rules.pins_of, Rules.size_of, Rules.
 pub use Rattle.gt_calls.specs.{Standing.HasReadFirst, Standing.HasShown, Standing.HasTried, Standing.IsQuiet}
 pub use Rattle.gt_calls.specs.{Standing.IsTurn, Standing.StandsAt, Standing.held_in, Standing.pins_at}
 pub use Rattle.gt_calls.specs.{declared.action.Action.Action, declared.action.Action.TheVariants.Done}
-pub use Rattle.gt_calls.specs.{declared.action.Action.TheVariants.Step as Makes, declared.action.Seen.Seen}
-pub use Rattle.gt_calls.specs.{declared.action.Seen.TheVariants.Missed, declared.action.Seen.TheVariants.Nothing}
-pub use Rattle.gt_calls.specs.{declared.action.Seen.TheVariants.Taken, declared.action.Seen.TheVariants.Word}
+pub use Rattle.gt_calls.specs.{declared.action.Action.TheVariants.Step as Makes, declared.action.Observation.Observation}
+pub use Rattle.gt_calls.specs.{declared.action.Observation.TheVariants.Missed, declared.action.Observation.TheVariants.Nothing}
+pub use Rattle.gt_calls.specs.{declared.action.Observation.TheVariants.Taken, declared.action.Observation.TheVariants.Word}
 pub use Rattle.gt_calls.specs.{declared.action.Step.Step, declared.action.Step.TheVariants.LookBody}
 pub use Rattle.gt_calls.specs.{declared.action.Step.TheVariants.LookControl, declared.action.Step.TheVariants.Pin}
-pub use Rattle.gt_calls.specs.{declared.action.Step.TheVariants.StoreBody, declared.action.Verdict.Verdict}
+pub use Rattle.gt_calls.specs.{declared.action.Step.TheVariants.StoreBody, declared.action.CallResult.CallResult}
 pub use Rattle.gt_calls.specs.{declared.call.Phase.Phase, declared.call.Phase.TheVariants.Accessing}
 pub use Rattle.gt_calls.specs.{declared.call.Phase.TheVariants.Asking, declared.call.Phase.TheVariants.Changing}
 pub use Rattle.gt_calls.specs.{declared.call.Phase.TheVariants.Ending, declared.call.Phase.TheVariants.Exchanging}
 pub use Rattle.gt_calls.specs.{declared.call.Phase.TheVariants.Last, declared.call.Phase.TheVariants.Looking}
 pub use Rattle.gt_calls.specs.{declared.call.Phase.TheVariants.Storing, declared.call.Phase.TheVariants.StoringSecond}
-pub use Rattle.gt_calls.specs.{declared.call.Phase.TheVariants.Walking, declared.copying.Aim.Aim}
-pub use Rattle.gt_calls.specs.{declared.copying.Aim.TheVariants.Dest, declared.copying.Aim.TheVariants.Mapping}
-pub use Rattle.gt_calls.specs.{declared.copying.Aim.TheVariants.Source, declared.held.Held.Held}
-pub use Rattle.gt_calls.specs.{declared.held.Pins.Pins, declared.held.Route.Route}
-pub use Rattle.gt_calls.specs.{declared.held.Route.TheVariants.Direct, declared.held.Route.TheVariants.Through}
+pub use Rattle.gt_calls.specs.{declared.call.Phase.TheVariants.Walking, declared.copying.PinPurpose.PinPurpose}
+pub use Rattle.gt_calls.specs.{declared.copying.PinPurpose.TheVariants.Dest, declared.copying.PinPurpose.TheVariants.Mapping}
+pub use Rattle.gt_calls.specs.{declared.copying.PinPurpose.TheVariants.Source, declared.held.HeldPin.HeldPin}
+pub use Rattle.gt_calls.specs.{declared.held.CallPins.CallPins, declared.held.AccessPath.AccessPath}
+pub use Rattle.gt_calls.specs.{declared.held.AccessPath.TheVariants.Direct, declared.held.AccessPath.TheVariants.Through}
 pub use Rattle.gt_calls.specs.{declared.leg.Leg.Leg}
 pub use Rattle.gt_calls.specs.{declared.leg.LegNext.LegNext, declared.leg.LegNext.TheVariants.Going}
 pub use Rattle.gt_calls.specs.{declared.leg.LegNext.TheVariants.Pinned}
@@ -79,10 +79,10 @@ pub use Rattle.gt_calls.specs.{declared.leg.LegNext.TheVariants.Refused as LegRe
 pub use Rattle.gt_calls.specs.{declared.leg.LegPhase.TheVariants.Body, declared.leg.LegPhase.TheVariants.Header}
 pub use Rattle.gt_calls.specs.{declared.leg.LegPhase.TheVariants.Look, declared.leg.LegPhase.TheVariants.Pinning}
 pub use Rattle.gt_calls.specs.{declared.leg.LegPhase.TheVariants.Relook, declared.leg.LegPhase.TheVariants.Second}
-pub use Rattle.gt_calls.specs.{declared.leg.TheConstants.MORE_TRIES, declared.request.Asked.Asked}
-pub use Rattle.gt_calls.specs.{declared.request.Asked.TheVariants.Copy, declared.request.Asked.TheVariants.Grant}
-pub use Rattle.gt_calls.specs.{declared.request.Asked.TheVariants.Map}
+pub use Rattle.gt_calls.specs.{declared.leg.TheConstants.MORE_TRIES, declared.request.OpenRequest.OpenRequest}
+pub use Rattle.gt_calls.specs.{declared.request.OpenRequest.TheVariants.Copy, declared.request.OpenRequest.TheVariants.Grant}
+pub use Rattle.gt_calls.specs.{declared.request.OpenRequest.TheVariants.Map}
 pub use Rattle.gt_calls.specs.{declared.request.Request.Request, declared.call.TheConstants.MAX_STEPS}
 pub use Rattle.gt_calls.specs.{declared.call.Call.Call}
-pub use Rattle.gt_calls.specs.{declared.call.Start.TheVariants.Done as StartDone}
+pub use Rattle.gt_calls.specs.{declared.call.CallStart.TheVariants.Done as StartDone}
 unfoldable pub use Rattle.gt_calls.specs.{Path.tries, Path.turns, Rules.has_valid}

@@ -1,7 +1,7 @@
 -- What is left to do of a leg, by where it is.
 use Rattle.std.specs.Prelude.{◌-◌, ◌==◌, nat_lt, if◌then◌else◌, ℕ, [], Option, Some, None, zero, suc}
 use Rattle.gt_calls.specs.Prelude.{Rule, N9, N18, HeaderFacts, denial_of, KindSub, control_of, header_of, FirstHalf}
-use Rattle.gt_calls.specs.Prelude.{SecondHalf, Step, LookHeader, LookControl, LookBody, Pin, Seen, Word, Taken, Missed}
+use Rattle.gt_calls.specs.Prelude.{SecondHalf, Step, LookHeader, LookControl, LookBody, Pin, Observation, Word, Taken, Missed}
 use Rattle.gt_calls.specs.Prelude.{Leg, LegPhase, Header, Look, Body, Second, Pinning, Relook, LegNext, Going}
 use Rattle.gt_calls.specs.Prelude.{LegRefused, Pinned, MORE_TRIES}
 use Rattle.gt_calls.specs.Rules.{first_look, size_of, is_kind}
@@ -43,9 +43,9 @@ after_header l word =
     else LegRefused (denial_of N9 (HeaderFacts l.dom word))
 
 -- after a first look: the body words, or the rule that stands
-abbrev pub after_look : Leg → ℕ → ℕ → Option Rule → LegNext
-after_look l more word (Some rule) = LegRefused (entry_refusal l.dom l.gref rule word)
-after_look l more word None = Going (Body more word)
+abbrev pub on_control_word : Leg → ℕ → ℕ → Option Rule → LegNext
+on_control_word l more word (Some rule) = LegRefused (entry_refusal l.dom l.gref rule word)
+on_control_word l more word None = Going (Body more word)
 
 -- after the body words: the pin, or a second look if a rule stands on them
 abbrev pub after_words : ℕ → ℕ → ℕ → ℕ → Option Rule → LegNext
@@ -73,9 +73,9 @@ leg_step l (Pinning more word body second) = Pin (held_of l word body second)
 leg_step l (Relook more word rule) = LookControl l.dom l.gref
 
 -- what a leg goes on with, after what its step saw
-abbrev pub leg_after : Leg → LegPhase → Seen → LegNext
+abbrev pub leg_after : Leg → LegPhase → Observation → LegNext
 leg_after l Header (Word w) = after_header l w
-leg_after l (Look more) (Word w) = after_look l more w (first_look l (control_of w))
+leg_after l (Look more) (Word w) = on_control_word l more w (first_look l (control_of w))
 leg_after l (Body more word) (Word b) = after_body l more word b
 leg_after l (Second more word body) (Word b) = after_words more word body b (rule_of_try l word body b)
 leg_after l (Relook more word rule) (Word w) = after_relook l more word rule w

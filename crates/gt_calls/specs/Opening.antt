@@ -2,10 +2,10 @@
 use Rattle.std.specs.Prelude.{◌≡◌, ◌≢◌, ◌⊎◌, ◌+◌, ◌<◌, ◌≤◌, ℕ, Bool, true, false, List, [], ◌∷◌, Some, zero, suc}
 use Rattle.std.specs.Prelude.{Option, None}
 use Rattle.gt_calls.specs.Prelude.{arith, FRAME_SIZE, LAST_GENERATION, MAX_MAPPINGS, MAX_TABLE_FRAMES, DomId, GrantRef}
-use Rattle.gt_calls.specs.Prelude.{TypeId, Write, Perms, Triple, resolved, Entry, Change, ToReadOnly, ToWritable}
-use Rattle.gt_calls.specs.Prelude.{Handle, Asked, Grant, Revoke, Demote, Promote, Map, Unmap, Load, SetVersion}
-use Rattle.gt_calls.specs.Prelude.{SetupTable, QuerySize, GetVersion, Store, Peek, Poke, Copy, Withdraw, END_OF_SERIALS}
-use Rattle.gt_calls.specs.Prelude.{Held, CopyArgs, End, Rule, Verdict}
+use Rattle.gt_calls.specs.Prelude.{TypeId, Write, Perms, Triple, resolved, Entry, EntryChange, ToReadOnly, ToWritable}
+use Rattle.gt_calls.specs.Prelude.{Handle, OpenRequest, Grant, Revoke, Demote, Promote, Map, Unmap, Load, SetVersion}
+use Rattle.gt_calls.specs.Prelude.{SetupTable, QuerySize, GetVersion, Store, Peek, Poke, Copy, Withdraw, SERIAL_LIMIT}
+use Rattle.gt_calls.specs.Prelude.{HeldPin, CopyArgs, End, Rule, CallResult}
 use Rattle.gt_calls.specs.Rules.{CallerKnowledge, IsOfRun, is_already, cannot_stand, frame_count_of, is_invalid}
 use Rattle.gt_calls.specs.Rules.{size_of}
 use Rattle.gt_calls.specs.Rules.{map_dir, rights_to_map, rights_to_unmap, rights_to_copy, rights_to_setup}
@@ -37,7 +37,7 @@ pub record OpensRevoke (k : CallerKnowledge) (gref : GrantRef) : Type 0 where
   pub valid : is_invalid (k.entry gref.0) ≡ false
 
 -- a demotion or promotion: the reference holds an entry that is not so already and not worn
-pub record OpensTurn (k : CallerKnowledge) (change : Change) (gref : GrantRef) : Type 0 where
+pub record OpensTurn (k : CallerKnowledge) (change : EntryChange) (gref : GrantRef) : Type 0 where
   pub in_table : IsInTable k gref
   pub valid : is_invalid (k.entry gref.0) ≡ false
   pub not_already : is_already change (k.entry gref.0) ≡ false
@@ -49,23 +49,23 @@ pub record OpensMap (k : CallerKnowledge) (caller dom : DomId) (flags : ℕ) : T
   pub flags_known : (flags ≡ 2) ⊎ (flags ≡ 6)
   pub allowed : IsAllowed k.may (rights_to_map k caller (resolved caller dom) (map_dir flags))
   pub room : k.in_use < MAX_MAPPINGS
-  pub serials_left : k.maps_answered < END_OF_SERIALS
+  pub serials_left : k.maps_answered < SERIAL_LIMIT
 
 -- an unmap: the handle has this mapping, which the policy allows to give up
 pub record OpensUnmap (k : CallerKnowledge) (caller : DomId) (handle : Handle) : Type 0 where
-  pub mapping : Held
+  pub mapping : HeldPin
   pub found : k.mapping handle ≡ Some mapping
   pub allowed : IsAllowed k.may (rights_to_unmap k caller mapping.dom)
 
 -- a load: the range is inside a frame, and the handle has this mapping
 pub record OpensLoad (k : CallerKnowledge) (handle : Handle) (off len : ℕ) : Type 0 where
-  pub mapping : Held
+  pub mapping : HeldPin
   pub found : k.mapping handle ≡ Some mapping
   pub range : off + len ≤ FRAME_SIZE
 
 -- a store: the same, and the mapping lets write
 pub record OpensStore (k : CallerKnowledge) (handle : Handle) (off len : ℕ) : Type 0 where
-  pub mapping : Held
+  pub mapping : HeldPin
   pub found : k.mapping handle ≡ Some mapping
   pub writable : mapping.dir ≡ Write
   pub range : off + len ≤ FRAME_SIZE
@@ -110,7 +110,7 @@ pub record OpensQuery (k : CallerKnowledge) (caller dom : DomId) : Type 0 where
   pub allowed : IsAllowed k.may (rights_to_query k caller (resolved caller dom))
 
 -- what is so of each call that no rule answers at its beginning
-abbrev pub Opens : CallerKnowledge → DomId → Asked → Type 0
+abbrev pub Opens : CallerKnowledge → DomId → OpenRequest → Type 0
 Opens k caller (Grant gref entry) = OpensGrant k gref entry
 Opens k caller (Revoke gref) = OpensRevoke k gref
 Opens k caller (Withdraw gref) = OpensRevoke k gref
@@ -129,7 +129,7 @@ Opens k caller (QuerySize dom) = OpensQuery k caller dom
 Opens k caller (GetVersion dom) = OpensQuery k caller dom
 
 -- the first rule of a list does not stand
-pub holds-first : (b : Bool) (rule : Rule) (rest : List (Option Verdict)) → first (refused_when b rule ∷ rest) ≡ None
+pub holds-first : (b : Bool) (rule : Rule) (rest : List (Option CallResult)) → first (refused_when b rule ∷ rest) ≡ None
     → b ≡ false
 holds-first b rule rest h = grind arith
 
@@ -150,7 +150,7 @@ own-end : (k : CallerKnowledge) (caller : DomId) (granted : Bool) (end : End) �
 own-end k caller granted end foreign past g = grind arith
 
 -- none of the five parts of a copy's rules answers
-none-of : (a b c d e : Option Verdict) → first (a ∷ b ∷ c ∷ d ∷ e ∷ []) ≡ None
+none-of : (a b c d e : Option CallResult) → first (a ∷ b ∷ c ∷ d ∷ e ∷ []) ≡ None
     → (a ≡ None) × (b ≡ None) × (c ≡ None) × (d ≡ None) × (e ≡ None)
 none-of a b c d e h = grind arith
 
@@ -171,7 +171,7 @@ opens-copy k caller c h =
     }
 
 -- what is so of a call that no rule answers at its beginning
-pub opens : (k : CallerKnowledge) (caller : DomId) (request : Asked) → begun k caller request ≡ None
+pub opens : (k : CallerKnowledge) (caller : DomId) (request : OpenRequest) → begun k caller request ≡ None
     → Opens k caller request
 opens k caller (Copy c) h = opens-copy k caller c (none-of _ _ _ _ _ h)
 opens k caller request h = grind (arith, allowed, none-valid)

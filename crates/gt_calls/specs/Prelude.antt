@@ -2,60 +2,60 @@
 pub use Rattle.gt_calls.specs.declared.action.Action.{Action}
 pub use Rattle.gt_calls.specs.declared.action.Action.TheVariants.{Done, Step as Makes}
 pub use Rattle.gt_types.specs.declared.places.Spot.{Spot}
-pub use Rattle.gt_calls.specs.declared.action.Seen.{Seen}
-pub use Rattle.gt_calls.specs.declared.action.Seen.TheVariants.{Missed, Nothing, Taken, Word}
+pub use Rattle.gt_calls.specs.declared.action.Observation.{Observation}
+pub use Rattle.gt_calls.specs.declared.action.Observation.TheVariants.{Missed, Nothing, Taken, Word}
 pub use Rattle.gt_calls.specs.declared.action.Step.{Step}
 pub use Rattle.gt_calls.specs.declared.action.Step.TheVariants.{Copy as CopyBytes, Exchange, LookBody, LookControl}
 pub use Rattle.gt_calls.specs.declared.action.Step.TheVariants.{LookHeader, Pin, Read as ReadBytes, StoreBody}
 pub use Rattle.gt_calls.specs.declared.action.Step.TheVariants.{StoreHeader, Unpin, Write as WriteBytes}
-pub use Rattle.gt_calls.specs.declared.action.Value.{Value}
-pub use Rattle.gt_calls.specs.declared.action.Value.TheVariants.{Frames, Size as SizeTold, Version as VersionTold}
-pub use Rattle.gt_calls.specs.declared.action.Verdict.{Verdict}
-pub use Rattle.gt_calls.specs.declared.action.Verdict.TheVariants.{Given, Granted, Mapped, Refused}
+pub use Rattle.gt_calls.specs.declared.action.CallValue.{CallValue}
+pub use Rattle.gt_calls.specs.declared.action.CallValue.TheVariants.{Frames, Size as SizeTold, Version as VersionTold}
+pub use Rattle.gt_calls.specs.declared.action.CallResult.{CallResult}
+pub use Rattle.gt_calls.specs.declared.action.CallResult.TheVariants.{Given, Granted, Mapped, Refused}
 pub use Rattle.gt_calls.specs.declared.call.Call.{Call}
 pub use Rattle.gt_calls.specs.declared.call.Phase.{Phase}
 pub use Rattle.gt_calls.specs.declared.call.Phase.TheVariants.{Accessing, Asking, Changing, Ending, Exchanging, Last}
 pub use Rattle.gt_calls.specs.declared.call.Phase.TheVariants.{Looking, Storing, StoringSecond, Walking}
-pub use Rattle.gt_calls.specs.declared.call.Question.{Question}
-pub use Rattle.gt_calls.specs.declared.call.Question.TheVariants.{Size, Version}
-pub use Rattle.gt_calls.specs.declared.call.Start.{Start}
-pub use Rattle.gt_calls.specs.declared.call.Start.TheVariants.{Done as StartDone, Open}
+pub use Rattle.gt_calls.specs.declared.call.HeaderQuery.{HeaderQuery}
+pub use Rattle.gt_calls.specs.declared.call.HeaderQuery.TheVariants.{Size, Version}
+pub use Rattle.gt_calls.specs.declared.call.CallStart.{CallStart}
+pub use Rattle.gt_calls.specs.declared.call.CallStart.TheVariants.{Done as StartDone, Open}
 pub use Rattle.gt_calls.specs.declared.call.TheConstants.{MAX_STEPS}
-pub use Rattle.gt_calls.specs.declared.copying.Aim.{Aim}
-pub use Rattle.gt_calls.specs.declared.copying.Aim.TheVariants.{Dest, Mapping, Source}
-pub use Rattle.gt_calls.specs.declared.held.Held.{Held}
-pub use Rattle.gt_calls.specs.declared.held.Pins.{Pins}
-pub use Rattle.gt_calls.specs.declared.held.Route.{Route}
-pub use Rattle.gt_calls.specs.declared.held.Route.TheVariants.{Direct, Own, Through}
-pub use Rattle.gt_calls.specs.declared.judging.TheConstants.{END_OF_SERIALS}
-pub use Rattle.gt_calls.specs.declared.known.Known.{Known}
+pub use Rattle.gt_calls.specs.declared.copying.PinPurpose.{PinPurpose}
+pub use Rattle.gt_calls.specs.declared.copying.PinPurpose.TheVariants.{Dest, Mapping, Source}
+pub use Rattle.gt_calls.specs.declared.held.HeldPin.{HeldPin}
+pub use Rattle.gt_calls.specs.declared.held.CallPins.{CallPins}
+pub use Rattle.gt_calls.specs.declared.held.AccessPath.{AccessPath}
+pub use Rattle.gt_calls.specs.declared.held.AccessPath.TheVariants.{Direct, Own, Through}
+pub use Rattle.gt_calls.specs.declared.judging.TheConstants.{SERIAL_LIMIT}
+pub use Rattle.gt_calls.specs.declared.known.CallerState.{CallerState}
 pub use Rattle.gt_calls.specs.declared.leg.Leg.{Leg}
 pub use Rattle.gt_calls.specs.declared.leg.LegNext.{LegNext}
 pub use Rattle.gt_calls.specs.declared.leg.LegNext.TheVariants.{Going, Pinned, Refused as LegRefused}
 pub use Rattle.gt_calls.specs.declared.leg.LegPhase.{LegPhase}
 pub use Rattle.gt_calls.specs.declared.leg.LegPhase.TheVariants.{Body, Header, Look, Pinning, Relook, Second}
 pub use Rattle.gt_calls.specs.declared.leg.TheConstants.{MORE_TRIES}
-pub use Rattle.gt_calls.specs.declared.request.Asked.{Asked}
-pub use Rattle.gt_calls.specs.declared.request.Asked.TheVariants.{Copy, Demote, GetVersion, Grant, Load, Map, Peek}
-pub use Rattle.gt_calls.specs.declared.request.Asked.TheVariants.{Poke, Promote, QuerySize, Revoke, SetVersion}
-pub use Rattle.gt_calls.specs.declared.request.Asked.TheVariants.{SetupTable, Store, Unmap, Withdraw}
+pub use Rattle.gt_calls.specs.declared.request.OpenRequest.{OpenRequest}
+pub use Rattle.gt_calls.specs.declared.request.OpenRequest.TheVariants.{Copy, Demote, GetVersion, Grant, Load, Map, Peek}
+pub use Rattle.gt_calls.specs.declared.request.OpenRequest.TheVariants.{Poke, Promote, QuerySize, Revoke, SetVersion}
+pub use Rattle.gt_calls.specs.declared.request.OpenRequest.TheVariants.{SetupTable, Store, Unmap, Withdraw}
 pub use Rattle.gt_types.specs.declared.copies.CopyArgs.{CopyArgs}
 pub use Rattle.gt_types.specs.declared.copies.End.{End}
-pub use Rattle.gt_calls.specs.declared.request.Holder.TheVariants.{Leg as ByLeg, Mapping as ByHandle}
+pub use Rattle.gt_calls.specs.declared.request.PinHolder.TheVariants.{Leg as ByLeg, Mapping as ByHandle}
 pub use Rattle.gt_calls.specs.declared.request.Request.{Request}
 pub use Rattle.gt_entry.specs.Bytes.{Spells, field, first_refused, flags_of, is_set}
 pub use Rattle.gt_entry.specs.Entries.{IsEntry, frame_of}
 pub use Rattle.gt_entry.specs.Permits.{allows_direction, forwards, is_copying, permits}
 pub use Rattle.gt_entry.specs.Spelling.{entry_of}
 pub use Rattle.gt_entry.specs.Words.{control_of, control_word, header_of}
-pub use Rattle.gt_entry.specs.declared.change.Change.{Change}
-pub use Rattle.gt_entry.specs.declared.change.Change.TheVariants.{Demote as ToReadOnly, Promote as ToWritable, Publish}
-pub use Rattle.gt_entry.specs.declared.change.Change.TheVariants.{Revoke as ToInvalid, Withdraw as ToWithdrawn}
-pub use Rattle.gt_entry.specs.declared.change.Half.{Half}
-pub use Rattle.gt_entry.specs.declared.change.Half.TheVariants.{First as FirstHalf, Second as SecondHalf}
+pub use Rattle.gt_entry.specs.declared.change.EntryChange.{EntryChange}
+pub use Rattle.gt_entry.specs.declared.change.EntryChange.TheVariants.{Demote as ToReadOnly, Promote as ToWritable, Publish}
+pub use Rattle.gt_entry.specs.declared.change.EntryChange.TheVariants.{Revoke as ToInvalid, Withdraw as ToWithdrawn}
+pub use Rattle.gt_entry.specs.declared.change.BodyWord.{BodyWord}
+pub use Rattle.gt_entry.specs.declared.change.BodyWord.TheVariants.{First as FirstHalf, Second as SecondHalf}
 pub use Rattle.gt_entry.specs.declared.control.Control.{Control}
-pub use Rattle.gt_entry.specs.declared.control.Kind.TheVariants.{Invalid as KindInvalid, Page as KindPage}
-pub use Rattle.gt_entry.specs.declared.control.Kind.TheVariants.{Sub as KindSub, Via as KindVia}
+pub use Rattle.gt_entry.specs.declared.control.EntryKind.TheVariants.{Invalid as KindInvalid, Page as KindPage}
+pub use Rattle.gt_entry.specs.declared.control.EntryKind.TheVariants.{Sub as KindSub, Via as KindVia}
 pub use Rattle.gt_entry.specs.declared.entry.Entry.{Entry}
 pub use Rattle.gt_entry.specs.declared.entry.Entry.TheVariants.{Invalid, Page, Sub, Via}
 pub use Rattle.gt_handles.specs.Handles.{HandleMap, count_of, value_of}

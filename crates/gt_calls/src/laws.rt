@@ -4,11 +4,11 @@ ghost use Rattle.std.specs.Prelude.{◌≡◌, ◌+◌};
 ghost use Rattle.gt_types.specs.declared.limits.TheConstants.{FRAME_SIZE, MAX_TRIES, TABLE_ENTRIES};
 ghost use Rattle.gt_calls.specs.Following.{GoesByPhase};
 ghost use Rattle.gt_calls.specs.Rules.{CallerKnowledge};
-ghost use Rattle.gt_calls.specs.declared.action.Seen.{Seen};
+ghost use Rattle.gt_calls.specs.declared.action.Observation.{Observation};
 ghost use Rattle.gt_calls.specs.declared.call.Call.{Call};
 
 use crate::call::MAX_STEPS;
-use crate::judging::END_OF_SERIALS;
+use crate::judging::SERIAL_LIMIT;
 use crate::known::{ENTRIES, FRAME_LEN};
 use crate::leg::MORE_TRIES;
 
@@ -16,7 +16,7 @@ use crate::leg::MORE_TRIES;
 /// entries and bytes that a caller's tables and frames have.
 pub fn the_limits_of_calls()
     ensures steps { MAX_STEPS ≡ 71 }
-    ensures serials { END_OF_SERIALS ≡ 18446744073709551615 }
+    ensures serials { SERIAL_LIMIT ≡ 18446744073709551615 }
     ensures tries { (MORE_TRIES ≡ 3) × (1 + MORE_TRIES ≡ MAX_TRIES) }
     ensures rooms { (ENTRIES ≡ TABLE_ENTRIES) × (FRAME_LEN ≡ FRAME_SIZE) }
 {}
@@ -24,5 +24,5 @@ pub fn the_limits_of_calls()
 /// A law: a call goes on by its phase. Before its first step it comes to its first phase, and after a step to the phase
 /// that follows what the step saw; its next action is that phase's.
 pub fn every_call_goes_on_by_its_phase()
-    ensures { (k : CallerKnowledge) (call : Call) (seen : Seen) → GoesByPhase k call seen }
+    ensures { (k : CallerKnowledge) (call : Call) (seen : Observation) → GoesByPhase k call seen }
 {}

@@ -2,7 +2,7 @@
 use Rattle.gt_core.proofs.Words.{◌≡◌, ◌≢◌, ◌<◌, ◌+◌, ℕ, refl, Bool, true, false, List, ◌∷◌, length, Option, Some, None}
 use Rattle.gt_core.proofs.Words.{cond, sym, ap, ◌∙◌, subst, eqb-true, eq-eqb, none-some, domain_of, ◌==◌, ◌&&◌, All}
 use Rattle.gt_core.proofs.Words.{count_by, slice_get, option_map, fun_ext, DomId, Read, Write, TABLE_ENTRIES, Entry}
-use Rattle.gt_core.proofs.Words.{Header, Half, IsEntry, HandleMap, Held, control_with, knowledge_of, PinCounts, Open}
+use Rattle.gt_core.proofs.Words.{Header, BodyWord, IsEntry, HandleMap, HeldPin, control_with, knowledge_of, PinCounts, OpenCall}
 use Rattle.gt_core.proofs.Words.{Item, changed_at, State, state_of, changed_in, History, Setting, live, entry_at}
 use Rattle.gt_core.proofs.Words.{generation_at, body_at, table_at, reads_at, writes_at, control_at, known_at}
 use Rattle.gt_core.proofs.Words.{mappings_at, maps_answered_at, is_pin_on, open_call, underway_after, Underway}
@@ -51,7 +51,7 @@ pub given-none : (h : History) (d : ℕ) (given : List ℕ) → open_call h d �
 given-none h d given none = λ c call. absurd (none-some c (sym none ∙ call))
 
 -- the call of another domain stands where it stood
-call-stays : (s : Setting) (i : Item) (h : History) (d : DomId) (o : Option Open) (c : Option Underway) → (i.actor.0 == d.0) ≡ false → CallAgrees s h d o c → CallAgrees s (i ∷ h) d o c
+call-stays : (s : Setting) (i : Item) (h : History) (d : DomId) (o : Option OpenCall) (c : Option Underway) → (i.actor.0 == d.0) ≡ false → CallAgrees s h d o c → CallAgrees s (i ∷ h) d o c
 call-stays s i h d o c apart a = grind (arith, other-pins, other-known, place-stays, other-body, stood-other)
 
 -- slots
@@ -72,7 +72,7 @@ length-slots : (r : ℕ) (f : PinCounts → PinCounts) (slots : List PinCounts) 
 length-slots r f slots b e = cond_both b (changed_at r f slots) slots (λ l. length l ≡ TABLE_ENTRIES) (λ is. length-changed slots r f ∙ e) (λ is. e)
 
 -- they agree still, where the live pins and the body words are the same
-pub slots-kept : (i : Item) (h : History) (q : ℕ) (slots : List PinCounts) → live (i ∷ h) ≡ live h → ((r : ℕ) (which : Half) → body_at (i ∷ h) q r which ≡ body_at h q r which)
+pub slots-kept : (i : Item) (h : History) (q : ℕ) (slots : List PinCounts) → live (i ∷ h) ≡ live h → ((r : ℕ) (which : BodyWord) → body_at (i ∷ h) q r which ≡ body_at h q r which)
     → SlotsAgree h q slots → SlotsAgree (i ∷ h) q slots
 slots-kept i h q slots same bodies was r slot e = grind arith
 
@@ -94,14 +94,14 @@ other-agrees s i h x slots apart a len agree = record {
 -- items that change no entry, and store no word
 pub record KeepsEntries (i : Item) : Type 0 where
   pub changes : (r : ℕ) → change_at i.happened r ≡ None
-  pub stores : (r : ℕ) (which : Half) → stored_at i.happened r which ≡ None
+  pub stores : (r : ℕ) (which : BodyWord) → stored_at i.happened r which ≡ None
   pub header : header_stored i.happened ≡ None
 
-pub same-body : (i : Item) (h : History) (t r : ℕ) (which : Half) → KeepsEntries i → body_at (i ∷ h) t r which ≡ body_at h t r which
+pub same-body : (i : Item) (h : History) (t r : ℕ) (which : BodyWord) → KeepsEntries i → body_at (i ∷ h) t r which ≡ body_at h t r which
 same-body i h t r which q = unstored i h t r which (q.stores r which)
 
 -- the domain that acts: its header, pins, mappings and call may have changed
-pub actor-agrees : (s : Setting) (i : Item) (h : History) (x : State) (header : Header) (slots : List PinCounts) (mappings : HandleMap Held) (o : Option Open) (given : List ℕ) → KeepsAll i → StateStands s h x
+pub actor-agrees : (s : Setting) (i : Item) (h : History) (x : State) (header : Header) (slots : List PinCounts) (mappings : HandleMap HeldPin) (o : Option OpenCall) (given : List ℕ) → KeepsAll i → StateStands s h x
     → header ≡ table_at s (i ∷ h) x.id → length slots ≡ TABLE_ENTRIES → SlotsAgree (i ∷ h) x.id.0 slots → MappingsAgree mappings (mappings_at (i ∷ h) x.id.0) (maps_answered_at (i ∷ h) x.id.0)
     → CallAgrees s (i ∷ h) x.id o (open_call (i ∷ h) x.id.0) → GivenAgrees (i ∷ h) x.id.0 given
     → StateStands s (i ∷ h) (record x { header = header; slots = slots; mappings = mappings; underway = o; given = given })
@@ -215,11 +215,11 @@ pub kept-stands : (s : Setting) (i : Item) (h : History) (xs zs : List State) �
 kept-stands s i h xs zs k st each tables = grind (arith, all-stand, kept-live, facts-fit, kept-entry, kept-raises)
 
 -- the mappings of a domain stay, where no pin is taken or given back
-pub mappings-stay : (i : Item) (h : History) (q : ℕ) (kept : HandleMap Held) → KeepsKnown i → MappingsAgree kept (mappings_at h q) (maps_answered_at h q) → MappingsAgree kept (mappings_at (i ∷ h) q) (maps_answered_at (i ∷ h) q)
+pub mappings-stay : (i : Item) (h : History) (q : ℕ) (kept : HandleMap HeldPin) → KeepsKnown i → MappingsAgree kept (mappings_at h q) (maps_answered_at h q) → MappingsAgree kept (mappings_at (i ∷ h) q) (maps_answered_at (i ∷ h) q)
 mappings-stay i h q kept k a = grind (arith, mappings-same, kept-live, answered-stays)
 
 -- the domains stand for one item more that leaves all words and pins as they are
-pub quiet-stands : (s : Setting) (i : Item) (h : History) (xs zs : List State) (x : State) (o : Option Open) (given : List ℕ) → KeepsEntries i → KeepsKnown i → i.actor ≡ x.id → DomainsStand s h xs
+pub quiet-stands : (s : Setting) (i : Item) (h : History) (xs zs : List State) (x : State) (o : Option OpenCall) (given : List ℕ) → KeepsEntries i → KeepsKnown i → i.actor ≡ x.id → DomainsStand s h xs
     → state_of xs x.id.0 ≡ Some x → StateStands s h x → ((q : ℕ) → state_of zs q ≡ cond (x.id.0 == q) (Some (record x { underway = o; given = given })) (state_of xs q))
     → CallAgrees s (i ∷ h) x.id o (open_call (i ∷ h) x.id.0) → GivenAgrees (i ∷ h) x.id.0 given → DomainsStand s (i ∷ h) zs
 quiet-stands s i h xs zs x o given e k own st here a becomes call bytes = kept-stands s i h xs zs k st (each-stays s i h xs zs x (record x { underway = o; given = given }) st here own becomes refl
@@ -240,7 +240,7 @@ pub own-changed : (xs ys : List State) (x new : State) (g : State → State) →
 own-changed xs ys x new g keeps was q = grind (arith, becomes-changed xs ys x new x.id.0 g keeps was q)
 
 -- each domain agrees after an item that changes the slot of one entry
-pub slots-stand : (s : Setting) (i : Item) (h : History) (xs zs : List State) (x : State) (kept : HandleMap Held) (o : Option Open) (t r : ℕ) (change : CountsChange) → KeepsAll i → header_stored i.happened ≡ None → i.actor ≡ x.id
+pub slots-stand : (s : Setting) (i : Item) (h : History) (xs zs : List State) (x : State) (kept : HandleMap HeldPin) (o : Option OpenCall) (t r : ℕ) (change : CountsChange) → KeepsAll i → header_stored i.happened ≡ None → i.actor ≡ x.id
     → DomainsStand s h xs → state_of xs x.id.0 ≡ Some x → StateStands s h x → Becomes xs zs x (record x { mappings = kept; underway = o }) t (with_slot r change) → Moves h (i ∷ h) t r change
     → MappingsAgree kept (mappings_at (i ∷ h) x.id.0) (maps_answered_at (i ∷ h) x.id.0) → CallAgrees s (i ∷ h) x.id o (open_call (i ∷ h) x.id.0) → GivenAgrees (i ∷ h) x.id.0 x.given
     → (dom : DomId) → StateAgrees s (i ∷ h) dom (state_of zs dom.0)

@@ -1,89 +1,89 @@
 -- The leg that an open call walks is the one that its pins tell.
 use Rattle.gt_core.proofs.Words.{◌≡◌, ◌+◌, ℕ, refl, Bool, true, List, [], ◌∷◌, ◌++◌, map, reverse, Option, Some, None}
 use Rattle.gt_core.proofs.Words.{cond, sym, ap, ◌∙◌, false≢true, DomId, Dir, Read, Write, ForCopy, Entry, Page, Sub}
-use Rattle.gt_core.proofs.Words.{Via, permits, Asked, CopyArgs, Held, Route, Direct, Through, Aim, Mapping, Source}
+use Rattle.gt_core.proofs.Words.{Via, permits, OpenRequest, CopyArgs, HeldPin, AccessPath, Direct, Through, PinPurpose, Mapping, Source}
 use Rattle.gt_core.proofs.Words.{Dest, Leg, last_first, pins_so_far, held_by, CallerKnowledge, is_source_granted}
 use Rattle.gt_core.proofs.Words.{is_dest_granted, source_pair, dest_pair, IsLegFor, IsToward, IsReached, IsOnFrom}
 use Rattle.gt_core.proofs.Words.{GivesHeld}
 use Rattle.gt_core.proofs.Words.{History, Setting, known_at, legs_at, LegNow, numbered, begun_route, leg_now, copy_now}
 use Rattle.gt_core.proofs.Words.{toward_source, from_source, after_source, source_now, dest_now, second_now}
 use Rattle.gt_core.proofs.{Legs.IsLegOf}
-use Rattle.gt_calls.specs.declared.held.Route.TheVariants.{Own}
+use Rattle.gt_calls.specs.declared.held.AccessPath.TheVariants.{Own}
 
 -- whose right to copy to whom a Via of this leg asks
-abbrev pub pair_of : DomId → Aim → DomId → DomId × DomId
+abbrev pub pair_of : DomId → PinPurpose → DomId → DomId × DomId
 pair_of d Mapping owner = (d, owner)
 pair_of d (Source c via) owner = source_pair d c owner
 pair_of d (Dest c source via) owner = dest_pair d source owner
 
-pub unnumbered : (n : ℕ) (ps : List Held) → map (λ (p : ℕ × Held). p.1) (numbered n ps) ≡ ps
+pub unnumbered : (n : ℕ) (ps : List HeldPin) → map (λ (p : ℕ × HeldPin). p.1) (numbered n ps) ≡ ps
 unnumbered n [] = refl
-unnumbered n (p ∷ ps) = ap (λ (l : List Held). p ∷ l) (unnumbered (n + 1) ps)
+unnumbered n (p ∷ ps) = ap (λ (l : List HeldPin). p ∷ l) (unnumbered (n + 1) ps)
 
 on-from : (k : CallerKnowledge) (n : LegNow) (e : Entry) (l : Leg) → IsOnFrom k n.leg e l → second_now k n e ≡ Some (record { leg = l; pair = n.pair })
 on-from k n (Via dom ro dom2 gref) l is = ap (λ (x : Leg). Some (record { leg = x; pair = n.pair })) (sym is)
 on-from k n e l is = absurd is
 
-from-via : (k : CallerKnowledge) (d : DomId) (c : CopyArgs) (p : Held) (e : Entry) (l : Leg) → IsOnFrom k (source_now k d c).leg e l → from_source k d c p e [] ≡ Some (record { leg = l; pair = source_pair d c })
+from-via : (k : CallerKnowledge) (d : DomId) (c : CopyArgs) (p : HeldPin) (e : Entry) (l : Leg) → IsOnFrom k (source_now k d c).leg e l → from_source k d c p e [] ≡ Some (record { leg = l; pair = source_pair d c })
 from-via k d c p (Via dom ro dom2 gref) l is = on-from k (source_now k d c) (Via dom ro dom2 gref) l is
 from-via k d c p e l is = absurd is
 
-past-via : (k : CallerKnowledge) (d : DomId) (c : CopyArgs) (p q : Held) (e : Entry) (more : List Held) → GivesHeld e q → from_source k d c p e (q ∷ more) ≡ after_source k d c (Through p q) more
+past-via : (k : CallerKnowledge) (d : DomId) (c : CopyArgs) (p q : HeldPin) (e : Entry) (more : List HeldPin) → GivesHeld e q → from_source k d c p e (q ∷ more) ≡ after_source k d c (Through p q) more
 past-via k d c p q (Via dom ro dom2 gref) more leads = refl
 past-via k d c p q e more leads = absurd leads
 
-past-direct : (k : CallerKnowledge) (d judged : DomId) (dir : Dir) (off len : ℕ) (c : CopyArgs) (p : Held) (e : Entry) (more : List Held) → permits e judged dir ForCopy off len ≡ true
+past-direct : (k : CallerKnowledge) (d judged : DomId) (dir : Dir) (off len : ℕ) (c : CopyArgs) (p : HeldPin) (e : Entry) (more : List HeldPin) → permits e judged dir ForCopy off len ≡ true
     → from_source k d c p e more ≡ after_source k d c (Direct p) more
 past-direct k d judged dir off len c p (Page dom ro frame) more may = refl
 past-direct k d judged dir off len c p (Sub dom ro frame start size) more may = refl
 past-direct k d judged dir off len c p e more may = absurd (false≢true may)
 
-granted-source : (k : CallerKnowledge) (d : DomId) (c : CopyArgs) (held : List Held) → is_source_granted c ≡ true → copy_now k d c held ≡ toward_source k d c held
+granted-source : (k : CallerKnowledge) (d : DomId) (c : CopyArgs) (held : List HeldPin) → is_source_granted c ≡ true → copy_now k d c held ≡ toward_source k d c held
 granted-source k d c held e = ap (λ (b : Bool). cond b (toward_source k d c held) (after_source k d c Own held)) e
 
 -- once the source is reached, the leg is the destination's
-reached-source : (k : CallerKnowledge) (d : DomId) (c : CopyArgs) (source : Route) (held : List Held) → IsReached k d (is_source_granted c) c.source Read c.len (source_pair d c) source
+reached-source : (k : CallerKnowledge) (d : DomId) (c : CopyArgs) (source : AccessPath) (held : List HeldPin) → IsReached k d (is_source_granted c) c.source Read c.len (source_pair d c) source
     → copy_now k d c (reverse (held_by source) ++ held) ≡ after_source k d c source held
 reached-source k d c Own held is = ap (λ (b : Bool). cond b (toward_source k d c held) (after_source k d c Own held)) is.0
 reached-source k d c (Direct p) held is = granted-source k d c (p ∷ held) is.0 ∙ past-direct k d d Read c.source.offset c.len c p p.entry held is.2.permitted
 reached-source k d c (Through via p) held is = granted-source k d c (via ∷ p ∷ held) is.0 ∙ past-via k d c via p via.entry held is.2
 
-toward-dest : (k : CallerKnowledge) (d : DomId) (c : CopyArgs) (source : Route) (via : Option Held) (l : Leg) → IsToward k d (is_dest_granted c) c.dest Write c.len (dest_pair d source) via l
+toward-dest : (k : CallerKnowledge) (d : DomId) (c : CopyArgs) (source : AccessPath) (via : Option HeldPin) (l : Leg) → IsToward k d (is_dest_granted c) c.dest Write c.len (dest_pair d source) via l
     → after_source k d c source (held_by (begun_route via)) ≡ Some (record { leg = l; pair = dest_pair d source })
 toward-dest k d c source None l is =
     ap (λ (b : Bool). cond b (Some (dest_now k d c source)) None) is.0 ∙ ap (λ (x : Leg). Some (record { leg = x; pair = dest_pair d source })) (sym is.1)
 toward-dest k d c source (Some via) l is =
     ap (λ (b : Bool). cond b (second_now k (dest_now k d c source) via.entry) None) is.0 ∙ on-from k (dest_now k d c source) via.entry l is.2
 
-toward-source : (k : CallerKnowledge) (d : DomId) (c : CopyArgs) (via : Option Held) (l : Leg) → IsToward k d (is_source_granted c) c.source Read c.len (source_pair d c) via l
+toward-source : (k : CallerKnowledge) (d : DomId) (c : CopyArgs) (via : Option HeldPin) (l : Leg) → IsToward k d (is_source_granted c) c.source Read c.len (source_pair d c) via l
     → copy_now k d c (held_by (begun_route via)) ≡ Some (record { leg = l; pair = source_pair d c })
 toward-source k d c None l is = granted-source k d c [] is.0 ∙ ap (λ (x : Leg). Some (record { leg = x; pair = source_pair d c })) (sym is.1)
 toward-source k d c (Some via) l is = granted-source k d c (via ∷ []) is.0 ∙ from-via k d c via via.entry l is.2
 
 -- the pins held, the first one first
-first-source : (via : Option Held) → reverse (held_by Own ++ held_by (begun_route via)) ≡ held_by (begun_route via)
+first-source : (via : Option HeldPin) → reverse (held_by Own ++ held_by (begun_route via)) ≡ held_by (begun_route via)
 first-source None = refl
 first-source (Some via) = refl
 
-first-dest : (source : Route) (via : Option Held) → reverse (held_by (begun_route via) ++ held_by source) ≡ reverse (held_by source) ++ held_by (begun_route via)
+first-dest : (source : AccessPath) (via : Option HeldPin) → reverse (held_by (begun_route via) ++ held_by source) ≡ reverse (held_by source) ++ held_by (begun_route via)
 first-dest Own None = refl
 first-dest (Direct p) None = refl
 first-dest (Through v p) None = refl
 first-dest source via = refl
 
-walks : (k : CallerKnowledge) (d : DomId) (r : Asked) (aim : Aim) (l : Leg) → IsLegFor k d r aim l → leg_now k d r (reverse (last_first (pins_so_far aim))) ≡ Some (record { leg = l; pair = pair_of d aim })
+walks : (k : CallerKnowledge) (d : DomId) (r : OpenRequest) (aim : PinPurpose) (l : Leg) → IsLegFor k d r aim l → leg_now k d r (reverse (last_first (pins_so_far aim))) ≡ Some (record { leg = l; pair = pair_of d aim })
 walks k d r Mapping l is =
-    ap (λ (z : Asked). leg_now k d z []) is.of_map ∙ ap (λ (x : Leg). Some (record { leg = x; pair = pair_of d Mapping })) (sym is.leg_is)
+    ap (λ (z : OpenRequest). leg_now k d z []) is.of_map ∙ ap (λ (x : Leg). Some (record { leg = x; pair = pair_of d Mapping })) (sym is.leg_is)
 walks k d r (Source c via) l is =
-    ap (λ (z : Asked). leg_now k d z (reverse (last_first (pins_so_far (Source c via))))) is.0
+    ap (λ (z : OpenRequest). leg_now k d z (reverse (last_first (pins_so_far (Source c via))))) is.0
     ∙ ap (copy_now k d c) (first-source via) ∙ toward-source k d c via l is.1
 walks k d r (Dest c source via) l is =
-    ap (λ (z : Asked). leg_now k d z (reverse (last_first (pins_so_far (Dest c source via))))) is.0
+    ap (λ (z : OpenRequest). leg_now k d z (reverse (last_first (pins_so_far (Dest c source via))))) is.0
     ∙ ap (copy_now k d c) (first-dest source via) ∙ reached-source k d c source (held_by (begun_route via)) is.1 ∙ toward-dest k d c source via l is.2
 
 -- the leg of a call is the one that its steps so far tell
-pub leg-here : (s : Setting) (h : History) (d : DomId) (r : Asked) (aim : Aim) (l : Leg) → IsLegFor (known_at s h d) d r aim l → legs_at h d.0 ≡ numbered 0 (reverse (last_first (pins_so_far aim)))
+pub leg-here : (s : Setting) (h : History) (d : DomId) (r : OpenRequest) (aim : PinPurpose) (l : Leg) → IsLegFor (known_at s h d) d r aim l → legs_at h d.0 ≡ numbered 0 (reverse (last_first (pins_so_far aim)))
     → IsLegOf s h d r l (pair_of d aim)
 leg-here s h d r aim l is held =
-    ap (λ (ps : List (ℕ × Held)). leg_now (known_at s h d) d r (map (λ (p : ℕ × Held). p.1) ps)) held
+    ap (λ (ps : List (ℕ × HeldPin)). leg_now (known_at s h d) d r (map (λ (p : ℕ × HeldPin). p.1) ps)) held
     ∙ ap (leg_now (known_at s h d) d r) (unnumbered 0 (reverse (last_first (pins_so_far aim)))) ∙ walks (known_at s h d) d r aim l is

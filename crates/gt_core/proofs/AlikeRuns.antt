@@ -3,9 +3,9 @@
 use Rattle.gt_core.proofs.Words.{◌≡◌, ◌≢◌, ◌⊎◌, inl, inr, ℕ, refl, Bool, List, [], ◌∷◌, ◌++◌, Option, Some, None, sym}
 use Rattle.gt_core.proofs.Words.{ap, ◌∙◌, take, drop, option_map, domain_of, DomId, DomainConfig, Denial}
 use Rattle.gt_core.proofs.Words.{MAX_TABLE_FRAMES, Header, header_word, Handle, asked, begun_of, CallerKnowledge, path}
-use Rattle.gt_core.proofs.Words.{Held, Request, Asked, Map, Unmap, Load, Store, Peek, SetupTable, QuerySize, GetVersion}
-use Rattle.gt_core.proofs.Words.{Seen, Word, Step, LookHeader, LookControl, LookBody, PinStep, StoreHeader, Exchange}
-use Rattle.gt_core.proofs.Words.{ReadBytes, Action, Makes, Verdict, Answer, Event, Begin, Tick, Happened, Began}
+use Rattle.gt_core.proofs.Words.{HeldPin, Request, OpenRequest, Map, Unmap, Load, Store, Peek, SetupTable, QuerySize, GetVersion}
+use Rattle.gt_core.proofs.Words.{Observation, Word, Step, LookHeader, LookControl, LookBody, PinStep, StoreHeader, Exchange}
+use Rattle.gt_core.proofs.Words.{ReadBytes, Action, Makes, CallResult, Answer, Event, Begin, Tick, ItemEvent, Began}
 use Rattle.gt_core.proofs.Words.{Stepped, Item, Element, Busy, Idle, NoDomain, Did, History, Setting, Underway}
 use Rattle.gt_core.proofs.Words.{open_call, values, known_at, seen_by, exchange_sees, table_at, maps_answered_at}
 use Rattle.gt_core.proofs.Words.{contents_at, mappings_at, mapping_of, MayDo, IsRight, StepsRight, AnsweredBy}
@@ -27,23 +27,23 @@ bare_action (Makes step) = Makes (bare_step step)
 bare_action (Ends verdict) = Ends verdict
 
 -- the handle that is asked for finds the same mapping without its key
-abbrev FindsSame : (Handle → Option Held) → (Handle → Option Held) → Asked → Type 0
+abbrev FindsSame : (Handle → Option HeldPin) → (Handle → Option HeldPin) → OpenRequest → Type 0
 FindsSame bared found (Unmap a) = bared (bare_handle a) ≡ found a
 FindsSame bared found (Load a off len) = bared (bare_handle a) ≡ found a
 FindsSame bared found (Store a off len) = bared (bare_handle a) ≡ found a
 FindsSame bared found r = Unit {0}
 
-path-bare : (k : CallerKnowledge) (found : Handle → Option Held) (d : DomId) (r : Asked) (vs : List Seen) → FindsSame found k.mapping r
+path-bare : (k : CallerKnowledge) (found : Handle → Option HeldPin) (d : DomId) (r : OpenRequest) (vs : List Observation) → FindsSame found k.mapping r
     → option_map bare_action (path (record k { mapping = found }) d (bare_asked r) vs) ≡ option_map bare_action (path k d r vs)
 path-bare k found d r vs same = grind arith
 
-begun-bare : (k : CallerKnowledge) (found : Handle → Option Held) (d : DomId) (q : Request) → FindsSame found k.mapping (asked q) → begun_of (record k { mapping = found }) d (bare_request q) ≡ begun_of k d q
+begun-bare : (k : CallerKnowledge) (found : Handle → Option HeldPin) (d : DomId) (q : Request) → FindsSame found k.mapping (asked q) → begun_of (record k { mapping = found }) d (bare_request q) ≡ begun_of k d q
 begun-bare k found d q same = grind arith
 
-finds-same : (s : Setting) (h : History) (d : DomId) (r : Asked) → IsRun s h → AsksKnown h d.0 r → FindsSame (mapping_of (mappings_at (bare h) d.0)) (mapping_of (mappings_at h d.0)) r
+finds-same : (s : Setting) (h : History) (d : DomId) (r : OpenRequest) → IsRun s h → AsksKnown h d.0 r → FindsSame (mapping_of (mappings_at (bare h) d.0)) (mapping_of (mappings_at h d.0)) r
 finds-same s h d r run k = grind (arith, mapping-bare)
 
-path-at : (s : Setting) (h : History) (d : DomId) (r : Asked) (vs : List Seen) → IsRun s h → AsksKnown h d.0 r
+path-at : (s : Setting) (h : History) (d : DomId) (r : OpenRequest) (vs : List Observation) → IsRun s h → AsksKnown h d.0 r
     → option_map bare_action (path (known_at s (bare h) d) d (bare_asked r) vs) ≡ option_map bare_action (path (known_at s h d) d r vs)
 path-at s h d r vs run k = ap (λ (z : CallerKnowledge). option_map bare_action (path z d (bare_asked r) vs)) (known-bare s h d run)
     ∙ path-bare (known_at s h d) (mapping_of (mappings_at (bare h) d.0)) d r vs (finds-same s h d r run k)
@@ -63,7 +63,7 @@ seen-at s h d step run = refl
 -- answers
 
 -- what the value tells of a call that is answered Ok after this step, or at its beginning
-abbrev value_told : Setting → History → DomId → Asked → Option Step → Option (Answer ⊎ List ℕ)
+abbrev value_told : Setting → History → DomId → OpenRequest → Option Step → Option (Answer ⊎ List ℕ)
 value_told s h d (Map dom gref flags) (Some (PinStep p)) = Some (inl (answers.Mapped (record { serial = maps_answered_at h d.0; key = 0 })))
 value_told s h d (Load a off len) (Some (ReadBytes t frame o n)) = Some (inr (take n (drop o (contents_at h t.0 frame))))
 value_told s h d (Peek f off len) (Some (ReadBytes t frame o n)) = Some (inr (take n (drop o (contents_at h t.0 frame))))
@@ -73,7 +73,7 @@ value_told s h d (QuerySize dom) (Some (LookHeader t)) = Some (inl (answers.Size
 value_told s h d (GetVersion dom) (Some (LookHeader t)) = Some (inl (answers.Version (table_at s h t).version))
 value_told s h d r step = Some (inl answers.Done)
 
-value-at : (s : Setting) (h : History) (d : DomId) (r : Asked) (step : Option Step) → value_told s (bare h) d (bare_asked r) step ≡ value_told s h d r step
+value-at : (s : Setting) (h : History) (d : DomId) (r : OpenRequest) (step : Option Step) → value_told s (bare h) d (bare_asked r) step ≡ value_told s h d r step
 value-at s h d (Map dom gref flags) (Some (PinStep p)) = ap (λ (n : ℕ). Some (inl (answers.Mapped (record { serial = n; key = 0 })))) ((bared h).maps d.0)
 value-at s h d (Load a off len) (Some (ReadBytes t frame o n)) = ap (λ (l : List ℕ). Some (inr (take n (drop o l)))) (contents-bare h t.0 frame)
 value-at s h d (Peek f off len) (Some (ReadBytes t frame o n)) = ap (λ (l : List ℕ). Some (inr (take n (drop o l)))) (contents-bare h t.0 frame)
@@ -87,15 +87,15 @@ told_by (Some denial) value = Some (inl (answers.Denied denial))
 told_by None value = value
 
 -- what the answer tells of a call with this verdict
-abbrev answer_told : Setting → History → DomId → Asked → Option Step → Option Verdict → Option (Answer ⊎ List ℕ)
+abbrev answer_told : Setting → History → DomId → OpenRequest → Option Step → Option CallResult → Option (Answer ⊎ List ℕ)
 answer_told s h d r step None = None
 answer_told s h d r step (Some v) = told_by (refusal_in (Some v)) (value_told s h d r step)
 
-answer-told : (s : Setting) (h : History) (d : DomId) (r : Asked) (step : Option Step) (giving : Bool) (v : Option Verdict) (a : Option Answer) (against : Option Denial)
+answer-told : (s : Setting) (h : History) (d : DomId) (r : OpenRequest) (step : Option Step) (giving : Bool) (v : Option CallResult) (a : Option Answer) (against : Option Denial)
     → AnsweredBy s h d r step giving v a against → option_map told_part a ≡ answer_told s h d r step v
 answer-told s h d r step giving v a against is = grind arith
 
-answer-at : (s : Setting) (h : History) (d : DomId) (r : Asked) (step : Option Step) (v : Option Verdict) → answer_told s (bare h) d (bare_asked r) step v ≡ answer_told s h d r step v
+answer-at : (s : Setting) (h : History) (d : DomId) (r : OpenRequest) (step : Option Step) (v : Option CallResult) → answer_told s (bare h) d (bare_asked r) step v ≡ answer_told s h d r step v
 answer-at s h d r step v = grind (arith, value-at)
 
 -- items
@@ -103,7 +103,7 @@ answer-at s h d r step v = grind (arith, value-at)
 abbrev began_told : Setting → History → DomId → Request → ToldItem
 began_told s h d q = record { actor = d; happened = Began (bare_request q); answer = answer_told s h d (asked q) None (begun_of (known_at s h d) d q) }
 
-abbrev step_told : Setting → History → DomId → Asked → List Seen → Step → ToldItem
+abbrev step_told : Setting → History → DomId → OpenRequest → List Observation → Step → ToldItem
 step_told s h d r vs step = let seen = seen_by s h d step in
     record { actor = d; happened = Stepped step seen; answer = answer_told s h d r (Some step) (verdict_in (option_map bare_action (path (known_at s h d) d r (vs ++ seen ∷ [])))) }
 
@@ -114,14 +114,14 @@ is-began s h d q a right = grind (arith, answer-told)
 verdict-bare : (o : Option Action) → verdict_in (option_map bare_action o) ≡ verdict_in o
 verdict-bare o = grind arith
 
-is-stepped : (s : Setting) (h : History) (d : DomId) (step : Step) (seen : Seen) (a : Option Answer) (c : Underway) → StepsRight s h (record { actor = d; happened = Stepped step seen; answer = a }) step seen c
+is-stepped : (s : Setting) (h : History) (d : DomId) (step : Step) (seen : Observation) (a : Option Answer) (c : Underway) → StepsRight s h (record { actor = d; happened = Stepped step seen; answer = a }) step seen c
     → told_item (record { actor = d; happened = Stepped step seen; answer = a }) ≡ step_told s h d c.request (values c) (bare_step step)
 is-stepped s h d step seen a c right = grind (arith, answer-told, verdict-bare)
 
 began-at : (s : Setting) (h : History) (d : DomId) (q : Request) → IsRun s h → AsksKnown h d.0 (asked q) → began_told s (bare h) d (bare_request q) ≡ began_told s h d q
 began-at s h d q run k = grind (arith, asked-bare, begun-at, answer-at)
 
-stepped-at : (s : Setting) (h : History) (d : DomId) (r : Asked) (vs : List Seen) (step : Step) → IsRun s h → AsksKnown h d.0 r → step_told s (bare h) d (bare_asked r) vs step ≡ step_told s h d r vs step
+stepped-at : (s : Setting) (h : History) (d : DomId) (r : OpenRequest) (vs : List Observation) (step : Step) → IsRun s h → AsksKnown h d.0 r → step_told s (bare h) d (bare_asked r) vs step ≡ step_told s h d r vs step
 stepped-at s h d r vs step run k = grind (arith, seen-at, path-at, answer-at)
 
 -- elements
@@ -157,11 +157,11 @@ is-within o x y some e = grind arith
 is-busy : (s : Setting) (h : History) (d : DomId) (q : Request) (c : Option Underway) → c ≢ None → inl Busy ≡ begin_told s h d q c
 is-busy s h d q c some = grind arith
 
-begin-item : (s : Setting) (h : History) (d : DomId) (q : Request) (actor : DomId) (x : Happened) (a : Option Answer) → actor ≡ d → x ≡ Began q → IsRight s h (record { actor = actor; happened = x; answer = a })
+begin-item : (s : Setting) (h : History) (d : DomId) (q : Request) (actor : DomId) (x : ItemEvent) (a : Option Answer) → actor ≡ d → x ≡ Began q → IsRight s h (record { actor = actor; happened = x; answer = a })
     → element_told (Did (record { actor = actor; happened = x; answer = a })) ≡ begin_told s h d q (open_call h d.0)
 begin-item s h d q actor x a own is right = grind (arith, is-began)
 
-tick-item : (s : Setting) (h : History) (d : DomId) (actor : DomId) (x : Happened) (a : Option Answer) → MayDo s h (Tick d) (Did (record { actor = actor; happened = x; answer = a }))
+tick-item : (s : Setting) (h : History) (d : DomId) (actor : DomId) (x : ItemEvent) (a : Option Answer) → MayDo s h (Tick d) (Did (record { actor = actor; happened = x; answer = a }))
     → element_told (Did (record { actor = actor; happened = x; answer = a })) ≡ tick_told s h d (open_call h d.0)
 tick-item s h d actor x a m = grind (arith, is-stepped)
 
@@ -202,7 +202,7 @@ does-alike s g h e f one other alike same j k m n = same-element one other
     ∙ ap (λ (l : History). doing s l (bare_event e)) (bare-same g h alike.same) ∙ ap (doing s (bare h)) same
     ∙ does-bare s h f alike.second k ∙ sym (does s h f other n))
 
-item-known : (h : History) (e : Event) (actor : DomId) (x : Happened) (a : Option Answer) → IsOfKnown h e → IsItemOf e (record { actor = actor; happened = x; answer = a }) → HappensKnown h (record { actor = actor; happened = x; answer = a })
+item-known : (h : History) (e : Event) (actor : DomId) (x : ItemEvent) (a : Option Answer) → IsOfKnown h e → IsItemOf e (record { actor = actor; happened = x; answer = a }) → HappensKnown h (record { actor = actor; happened = x; answer = a })
 item-known h e actor x a k is = grind arith
 
 done-right : (s : Setting) (h : History) (e : Event) (i : Item) → MayDo s h e (Did i) → IsItemOf e i × IsRight s h i

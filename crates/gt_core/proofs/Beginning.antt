@@ -2,16 +2,16 @@
 use Rattle.gt_core.proofs.Words.{arith, ◌≤◌, ◌≡◌, ◌≢◌, ◌<◌, ◌+◌, inl, ℕ, refl, true, false, List, [], ◌∷◌, length}
 use Rattle.gt_core.proofs.Words.{Option, Some, None, sym, ap, ◌∙◌, subst, get_or, set, reverse, eqb-true}
 use Rattle.gt_core.proofs.Words.{slice_get_read, position-Some, ◌==◌, is_some, position, slice_get, domain_of, DomId}
-use Rattle.gt_core.proofs.Words.{Header, Held, Request, Asked, Seen, Verdict, Makes, Done, Call, Phase, asked, begun_of}
+use Rattle.gt_core.proofs.Words.{Header, HeldPin, Request, OpenRequest, Observation, CallResult, Makes, Done, Call, Phase, asked, begun_of}
 use Rattle.gt_core.proofs.Words.{bytes_given_by, CallerKnowledge, first, begun, knowledge_of, action_at, StandsAt}
 use Rattle.gt_core.proofs.Words.{held_in}
-use Rattle.gt_core.proofs.Words.{pins_at, GoesOnWith, Goes, Starts, Nothing, Step, Action, Rests, Pins, most_steps}
-use Rattle.gt_core.proofs.Words.{steps_left, Item, Began, Answer, Open, State, state_of, kept_by, with_open_call}
+use Rattle.gt_core.proofs.Words.{pins_at, GoesOnWith, Goes, Starts, Nothing, Step, Action, Rests, CallPins, most_steps}
+use Rattle.gt_core.proofs.Words.{steps_left, Item, Began, Answer, OpenCall, State, state_of, kept_by, with_open_call}
 use Rattle.gt_core.proofs.Words.{History}
 use Rattle.gt_core.proofs.Words.{Setting, table_at, known_at, Underway, open_call, legs_at, one_if_mapped, stood}
 use Rattle.gt_core.proofs.Words.{AnsweredBy, GivesValue, refusal_in, refusal_of, IsRight, IsClean, phase_refusal}
 use Rattle.gt_core.proofs.Words.{FitsAsked, PhaseStands, OpenAgrees, CallAgrees, FitsGiven, GivenAgrees, StateStands}
-use Rattle.gt_core.proofs.Words.{StateAgrees, DomainsStand, OpensAs, numbered, misses, ◌^◌, IsSaid, first_phase, IsAt}
+use Rattle.gt_core.proofs.Words.{StateAgrees, DomainsStand, OpensAs, numbered, misses, ◌^◌, SpellsItsEntry, first_phase, IsAt}
 use Rattle.gt_core.proofs.Words.{pins_by_call, steps_to_come, asks_memory, WantsMemory, IsOpenCall, answer_of}
 use Rattle.gt_core.proofs.Words.{cond_both}
 use Rattle.gt_core.proofs.Words.{StartOpen, Ok}
@@ -34,19 +34,19 @@ began-keeps dom request answer e = record { changes = λ r. refl; pins = λ befo
 began-entries : (dom : DomId) (request : Request) (answer : Option Answer) → KeepsEntries (began dom request answer)
 began-entries dom request answer = record { changes = λ r. refl; stores = λ r which. refl; header = refl }
 
-pub call-none : (s : Setting) (h : History) (id : DomId) (o : Option Open) (c : Option Underway) → o ≡ None → CallAgrees s h id o c → (c ≡ None) × (legs_at h id.0 ≡ [])
+pub call-none : (s : Setting) (h : History) (id : DomId) (o : Option OpenCall) (c : Option Underway) → o ≡ None → CallAgrees s h id o c → (c ≡ None) × (legs_at h id.0 ≡ [])
 call-none s h id o c e a = grind arith
 
-pub call-some : (s : Setting) (h : History) (id : DomId) (o : Option Open) (c : Option Underway) → is_some o ≡ true → CallAgrees s h id o c → c ≢ None
+pub call-some : (s : Setting) (h : History) (id : DomId) (o : Option OpenCall) (c : Option Underway) → is_some o ≡ true → CallAgrees s h id o c → c ≢ None
 call-some s h id o c e a n = grind arith
 
 -- an opened call
 
 -- holding nothing, and with no rule against it where it then stands
-first-fine : (k : CallerKnowledge) (d : DomId) (r : Asked) → begun k d r ≡ None → (held_in (first_phase k d r) ≡ []) × (phase_refusal (first_phase k d r) ≡ None)
+first-fine : (k : CallerKnowledge) (d : DomId) (r : OpenRequest) → begun k d r ≡ None → (held_in (first_phase k d r) ≡ []) × (phase_refusal (first_phase k d r) ≡ None)
 first-fine k d r e = grind arith
 
-first-place : (s : Setting) (h : History) (d : DomId) (r : Asked) → begun (known_at s h d) d r ≡ None → PhaseStands s h d r [] (first_phase (known_at s h d) d r)
+first-place : (s : Setting) (h : History) (d : DomId) (r : OpenRequest) → begun (known_at s h d) d r ≡ None → PhaseStands s h d r [] (first_phase (known_at s h d) d r)
 unfolding misses
 first-place s h d r e = grind arith
 
@@ -68,7 +68,7 @@ given-begins : (i : Item) (h : History) (d : DomId) (request : Request) (given :
 given-begins i h d request given now same fits = grind arith
 
 -- where a call stands, by its phase
-pub is-at : (k : CallerKnowledge) (call : Call) (shown : List Seen) (p : Phase) → call.phase ≡ Some p → IsAt k call shown → StandsAt k call.caller call.request shown p
+pub is-at : (k : CallerKnowledge) (call : Call) (shown : List Observation) (p : Phase) → call.phase ≡ Some p → IsAt k call shown → StandsAt k call.caller call.request shown p
 is-at k call shown p e a = subst (λ (c : Call). IsAt k c shown) (ap (λ (o : Option Phase). record call { phase = o }) e) a
 
 pub to-come : (call : Call) (p : Phase) → call.phase ≡ Some p → steps_to_come call ≡ steps_left p
@@ -77,7 +77,7 @@ to-come call p e = ap (λ (o : Option Phase). steps_to_come (record call { phase
 pub pins-there : (call : Call) (p : Phase) → call.phase ≡ Some p → pins_by_call call ≡ pins_at p
 pins-there call p e = ap (λ (o : Option Phase). pins_by_call (record call { phase = o })) e
 
-begin-opens : (s : Setting) (h : History) (d : State) (request : Request) (o : Open) → FitsAsked o.call.request → StateStands s h d → d.underway ≡ None
+begin-opens : (s : Setting) (h : History) (d : State) (request : Request) (o : OpenCall) → FitsAsked o.call.request → StateStands s h d → d.underway ≡ None
     → IsOpenCall (knowledge_of s.domains s.first_generation s.may d.own d.header d.mappings) d.id request o
     → IsRight s h (began d.id request None)
     × CallAgrees s (began d.id request None ∷ h) d.id (Some o) (open_call (began d.id request None ∷ h) d.id.0)
@@ -86,7 +86,7 @@ begin-opens s h d request o fits a closed op = let i = began d.id request None i
     let keeps = began-keeps d.id request None refl in let r = asked request in let was = known-same s h d a in
     let still = was ∙ sym (kept-known s i h d.id keeps refl) in let k = known_at s (i ∷ h) d.id in
     let unanswered : begun_of (known_at s h d.id) d.id request ≡ None = ap (λ (k : CallerKnowledge). begun_of k d.id request) (sym was) ∙ op.unanswered in
-    let said : IsSaid (table_at s h d.id) request = subst (λ (x : Header). IsSaid x request) a.header op.said in
+    let said : SpellsItsEntry (table_at s h d.id) request = subst (λ (x : Header). SpellsItsEntry x request) a.header op.said in
     let none : begun k d.id r ≡ None = ap (λ (k : CallerKnowledge). begun k d.id r) (sym still) ∙ op.none in
     let fair : stood s (i ∷ h) d.id.0 ≡ None = stood-own s i h ∙ ap refusal_in unanswered in
     let empty = call-none s h d.id d.underway (open_call h d.id.0) closed a.call in
@@ -98,38 +98,38 @@ begin-opens s h d request o fits a closed op = let i = began d.id request None i
       asks = op.asks;
       phase = first_phase k d.id r;
       here = here;
-      at = subst (λ (z : DomId). StandsAt k z r [] (first_phase k d.id r)) op.caller (subst (λ (z : Asked). StandsAt k o.call.caller z [] (first_phase k d.id r)) op.asks stands);
+      at = subst (λ (z : DomId). StandsAt k z r [] (first_phase k d.id r)) op.caller (subst (λ (z : OpenRequest). StandsAt k o.call.caller z [] (first_phase k d.id r)) op.asks stands);
       acts = ap (λ (k : CallerKnowledge). action_at d.id (first_phase k d.id r)) (sym still) ∙ op.acts;
       follows = subst (λ (k : CallerKnowledge). GoesOnWith k d.id r [] (Makes o.step)) still op.follows;
-      rests = subst (λ (z : Pins). Rests k d.id r z [] (Makes o.step)) (pins-there o.call (first_phase k d.id r) here) (subst (λ (k : CallerKnowledge). Rests k d.id r (pins_by_call o.call) [] (Makes o.step)) still op.rests);
+      rests = subst (λ (z : CallPins). Rests k d.id r z [] (Makes o.step)) (pins-there o.call (first_phase k d.id r) here) (subst (λ (k : CallerKnowledge). Rests k d.id r (pins_by_call o.call) [] (Makes o.step)) still op.rests);
       place = first-place s (i ∷ h) d.id r none;
       fair = fair ∙ sym (first-fine k d.id r none).1;
       fits = subst FitsAsked op.asks fits;
       clean = clean-nothing (first_phase k d.id r);
-      held = kept-legs i h d.id.0 keeps ∙ empty.1 ∙ sym (ap (λ (l : List Held). numbered 0 (reverse l)) (first-fine k d.id r none).0);
+      held = kept-legs i h d.id.0 keeps ∙ empty.1 ∙ sym (ap (λ (l : List HeldPin). numbered 0 (reverse l)) (first-fine k d.id r none).0);
       few = (omega arith);
     } in (
-      (empty.0, subst (λ (v : Option Verdict). AnsweredBy s h d.id r None false v None (stood s (i ∷ h) d.id.0)) (sym unanswered) (inl fair), λ e. said),
+      (empty.0, subst (λ (v : Option CallResult). AnsweredBy s h d.id r None false v None (stood s (i ∷ h) d.id.0)) (sym unanswered) (inl fair), λ e. said),
       subst (λ (c : Option Underway). CallAgrees s (i ∷ h) d.id (Some o) c) (sym (open_call-own i h)) agrees,
-      given-begins i h d.id request (kept_by o.call.request (bytes_given_by request)) (open_call-own i h) (ap (λ (z : Asked). kept_by z (bytes_given_by request)) op.asks ∙ kept-given request) (given-fits (known_at s h d.id) d.id request unanswered),
+      given-begins i h d.id request (kept_by o.call.request (bytes_given_by request)) (open_call-own i h) (ap (λ (z : OpenRequest). kept_by z (bytes_given_by request)) op.asks ∙ kept-given request) (given-fits (known_at s h d.id) d.id request unanswered),
     )
 
 -- a call that is answered at once
 
-pub plain-unmapped : (v : Verdict) → one_if_mapped (Some (answer_of v)) ≡ 0
+pub plain-unmapped : (v : CallResult) → one_if_mapped (Some (answer_of v)) ≡ 0
 plain-unmapped v = grind arith
 
-pub plain-refusal : (v : Verdict) → refusal_of (answer_of v) ≡ refusal_in (Some v)
+pub plain-refusal : (v : CallResult) → refusal_of (answer_of v) ≡ refusal_in (Some v)
 plain-refusal v = grind arith
 
 -- what holds of a verdict, if there is one
 
-abbrev OnVerdict : (Verdict → Type 0) → Option Verdict → Type 0
+abbrev OnVerdict : (CallResult → Type 0) → Option CallResult → Type 0
 OnVerdict Q None = Unit {0}
 OnVerdict Q (Some v) = Q v
 
 -- a value that is given at a beginning, or nothing, for a call that is asked so
-abbrev Fits : Setting → History → DomId → Asked → Verdict → Type 0
+abbrev Fits : Setting → History → DomId → OpenRequest → CallResult → Type 0
 Fits s h d r v = GivesValue s h d r None (answer_of v)
 
 -- the value of a call that is answered at its beginning
@@ -138,7 +138,7 @@ value-fits s h k d (requests.Revoke gref) same = grind arith
 value-fits s h k d (requests.Withdraw gref) same = grind arith
 value-fits s h k d request same = grind arith
 
-begin-done : (s : Setting) (h : History) (d : State) (request : Request) (v : Verdict) → StateStands s h d → d.underway ≡ None
+begin-done : (s : Setting) (h : History) (d : State) (request : Request) (v : CallResult) → StateStands s h d → d.underway ≡ None
     → begun_of (knowledge_of s.domains s.first_generation s.may d.own d.header d.mappings) d.id request ≡ Some v
     → IsRight s h (began d.id request (Some (answer_of v)))
     × CallAgrees s (began d.id request (Some (answer_of v)) ∷ h) d.id d.underway (open_call (began d.id request (Some (answer_of v)) ∷ h) d.id.0)
@@ -151,11 +151,11 @@ begin-done s h d request v a closed op = let i = began d.id request (Some (answe
     let now : open_call (i ∷ h) d.id.0 ≡ None = open_call-own i h in (
       (
         empty.0,
-        subst (λ (x : Option Verdict). AnsweredBy s h d.id (asked request) None false x (Some (answer_of v)) (stood s (i ∷ h) d.id.0)) (sym at_once)
+        subst (λ (x : Option CallResult). AnsweredBy s h d.id (asked request) None false x (Some (answer_of v)) (stood s (i ∷ h) d.id.0)) (sym at_once)
             (plain-refusal v, plain-refusal v ∙ sym against, (subst (OnVerdict (Fits s h d.id (asked request))) at_once (value-fits s h (known_at s h d.id) d.id request refl))),
         λ e. let f : Some (answer_of v) ≡ None = e in cc,
       ),
-      subst (λ (o : Option Open). CallAgrees s (i ∷ h) d.id o (open_call (i ∷ h) d.id.0)) (sym closed)
+      subst (λ (o : Option OpenCall). CallAgrees s (i ∷ h) d.id o (open_call (i ∷ h) d.id.0)) (sym closed)
           (subst (λ (c : Option Underway). CallAgrees s (i ∷ h) d.id None c) (sym now) (kept-legs i h d.id.0 keeps ∙ empty.1)),
       given-none (i ∷ h) d.id.0 d.given now,
     )
@@ -175,10 +175,10 @@ pub begin-busy : (s : Setting) (h : History) (domains : List State) (dom : DomId
 begin-busy s h domains dom at x p here busy st = let a = agrees-found s h domains dom at x p here st in
     (a.0, subst (λ (d : DomId). open_call h d.0 ≢ None) a.1 (call-some s h x.id x.underway (open_call h x.id.0) busy a.2.call))
 
-pub closed-from : (o : Option Open) → is_some o ≡ false → o ≡ None
+pub closed-from : (o : Option OpenCall) → is_some o ≡ false → o ≡ None
 closed-from o e = grind arith
 
-pub begin-answers : (s : Setting) (h : History) (domains : List State) (dom : DomId) (at : ℕ) (x : State) (request : Request) (v : Verdict) (y : Answer) → y ≡ answer_of v
+pub begin-answers : (s : Setting) (h : History) (domains : List State) (dom : DomId) (at : ℕ) (x : State) (request : Request) (v : CallResult) (y : Answer) → y ≡ answer_of v
     → position (has_id dom.0) domains ≡ Some at → x ≡ get_or domains at x → is_some x.underway ≡ false
     → begun_of (knowledge_of s.domains s.first_generation s.may x.own x.header x.mappings) dom request ≡ Some v → DomainsStand s h domains
     → (domain_of s.domains dom ≢ None) × IsRight s h (began dom request (Some y)) × DomainsStand s (began dom request (Some y) ∷ h) domains
@@ -192,7 +192,7 @@ begin-answers s h domains dom at x request v y e p here idle op st = let a = agr
           refl st g a.2 (λ q. (cond_both (x.id.0 == q) (Some x) (state_of domains q) (λ o. state_of domains q ≡ o) (λ w. ap (state_of domains) (sym (eqb-true x.id.0 q w)) ∙ g) (λ w. refl))) b.1 b.2,
     )) op f in (a.0, both.0, both.1)
 
-pub begin-opened : (s : Setting) (h : History) (domains : List State) (dom : DomId) (at : ℕ) (x : State) (request : Request) (o : Open)
+pub begin-opened : (s : Setting) (h : History) (domains : List State) (dom : DomId) (at : ℕ) (x : State) (request : Request) (o : OpenCall)
     → FitsAsked o.call.request → position (has_id dom.0) domains ≡ Some at → x ≡ get_or domains at x → is_some x.underway ≡ false
     → OpensAs (knowledge_of s.domains s.first_generation s.may x.own x.header x.mappings) dom request (Ok o) → DomainsStand s h domains
     → (domain_of s.domains dom ≢ None) × IsRight s h (began dom request None) × DomainsStand s (began dom request None ∷ h) (set domains at (with_open_call o (kept_by o.call.request (bytes_given_by request)) x))
@@ -219,7 +219,7 @@ tick-idle s h domains dom at x p here closed st = let a = agrees-found s h domai
     (a.0, subst (λ (d : DomId). open_call h d.0 ≡ None) a.1 (call-none s h x.id x.underway (open_call h x.id.0) closed a.2.call).0)
 
 -- a beginning for which memory is wanted
-pub begin-wants : (s : Setting) (h : History) (domains : List State) (dom : DomId) (at : ℕ) (x : State) (request : Request) (o : Open)
+pub begin-wants : (s : Setting) (h : History) (domains : List State) (dom : DomId) (at : ℕ) (x : State) (request : Request) (o : OpenCall)
     → asks_memory o.call.request ≡ true → position (has_id dom.0) domains ≡ Some at → x ≡ get_or domains at x → is_some x.underway ≡ false
     → OpensAs (knowledge_of s.domains s.first_generation s.may x.own x.header x.mappings) dom request (Ok o) → DomainsStand s h domains → WantsMemory s h dom request
 begin-wants s h domains dom at x request o asks p here idle op st =
@@ -231,7 +231,7 @@ begin-wants s h domains dom at x request o asks p here idle op st =
     )
 
 -- a map that opens has a serial left
-pub serial-left : (k : CallerKnowledge) (d : DomId) (request : Request) (r : Asked) → r ≡ asked request → begun k d (asked request) ≡ None → IsMapping (Some r) → k.maps_answered + 1 < 2 ^ 64
+pub serial-left : (k : CallerKnowledge) (d : DomId) (request : Request) (r : OpenRequest) → r ≡ asked request → begun k d (asked request) ≡ None → IsMapping (Some r) → k.maps_answered + 1 < 2 ^ 64
 serial-left k d request r same none m = grind arith
 
 -- a call that starts, and makes its first step, is opened
@@ -240,5 +240,5 @@ pub opened : (k : CallerKnowledge) (dom : DomId) (request : Request) (first new 
 opened k dom request first new action step starts goes is by asked_as = grind arith
 
 -- it makes a step
-pub not-done : (k : CallerKnowledge) (dom : DomId) (request : Request) (first new : Call) (action : Action) (v : Verdict) → Starts k dom request (StartOpen first) → Goes k first Nothing new action → action ≡ Done v → ⊥
+pub not-done : (k : CallerKnowledge) (dom : DomId) (request : Request) (first new : Call) (action : Action) (v : CallResult) → Starts k dom request (StartOpen first) → Goes k first Nothing new action → action ≡ Done v → ⊥
 not-done k dom request first new action v starts goes is = grind arith

@@ -1,15 +1,15 @@
 -- How a call that nothing stood against is over, and how long the states are after a step.
 use Rattle.gt_core.proofs.Words.{◌≡◌, ◌++◌, ℕ, refl, List, length, take, ap, ◌∙◌, DomId, Step, PinStep, Unpin}
-use Rattle.gt_core.proofs.Words.{StoreBody, StoreHeader, Exchange, Seen, Taken, Unpinned, Stored, State, changed_in}
+use Rattle.gt_core.proofs.Words.{StoreBody, StoreHeader, Exchange, Observation, Taken, Unpinned, Stored, State, changed_in}
 use Rattle.gt_core.proofs.Words.{applied, with_slot, with_own, with_header, without_holder, take_more, map-append, ◌<◌}
 use Rattle.gt_core.proofs.Words.{◌+◌, ◌%◌, map, get_or, [], ◌∷◌, Some, None, sym, set, replicate, min, HandleMap}
-use Rattle.gt_core.proofs.Words.{DomainConfig, Invalid, ENTRIES, LAST_GENERATION, Own, Held, PinCounts, Asked, Load}
+use Rattle.gt_core.proofs.Words.{DomainConfig, Invalid, ENTRIES, LAST_GENERATION, OwnerEntry, HeldPin, PinCounts, OpenRequest, Load}
 use Rattle.gt_core.proofs.Words.{Peek, ReadBytes, first_state, IsLoading, with_underway, AnswerDone, Closed, IsLoadOf}
-use Rattle.gt_core.proofs.Words.{FrameSet, Answer, Call, Ends, Verdict, Granted, KeptPin, Given, Refused, answer_of}
+use Rattle.gt_core.proofs.Words.{FrameSet, Answer, Call, Ends, CallResult, Granted, KeptPin, Given, Refused, answer_of}
 use Rattle.gt_core.proofs.Words.{Settled}
 use Rattle.gt_core.{specs.declared.pin_counts.CountsChange.TheVariants.Pinned, proofs.Rows.length-changed_in}
 
-pub length-applied : (d : DomId) (step : Step) (seen : Seen) (xs : List State) → length (applied d step seen xs) ≡ length xs
+pub length-applied : (d : DomId) (step : Step) (seen : Observation) (xs : List State) → length (applied d step seen xs) ≡ length xs
 length-applied d (PinStep p) Taken xs = length-changed_in xs p.dom.0 (with_slot p.gref.0 (Pinned p.dir))
 length-applied d (Exchange gref looked change) Taken xs = length-changed_in xs d.0 (with_own gref.0 change)
 length-applied d (Unpin p holder) seen xs =
@@ -19,13 +19,13 @@ length-applied d (StoreHeader version frames) seen xs = length-changed_in xs d.0
 length-applied d step seen xs = refl
 
 -- the room of a load is as long as what it asks
-pub loaded : (r : Asked) (m n : ℕ) → IsLoading (Some r) m → IsLoadOf r n → m ≡ n
+pub loaded : (r : OpenRequest) (m n : ℕ) → IsLoading (Some r) m → IsLoadOf r n → m ≡ n
 loaded (Load handle off len) m n a b = a ∙ b
 loaded (Peek frame off len) m n a b = a ∙ b
 loaded r m n a b = absurd b
 
 -- a domain at rest, by its parts
-pub at-rest : (d : DomainConfig) (first_gen n : ℕ) (own : List Own) (slots : List PinCounts) (mappings : HandleMap Held) (given : List ℕ)
+pub at-rest : (d : DomainConfig) (first_gen n : ℕ) (own : List OwnerEntry) (slots : List PinCounts) (mappings : HandleMap HeldPin) (given : List ℕ)
     → n ≡ ENTRIES → own ≡ replicate n (record { entry = Invalid; generation = min first_gen LAST_GENERATION })
     → slots ≡ replicate n (record { reads = 0; writes = 0; first = 0; second = 0 }) → mappings ≡ record { slots = []; given = 0; room = 0 } → given ≡ []
     → ◌≡◌ {A = State} (record { id = d.id; header = record { version = d.version % 4; frames = d.table_frames % 256 }; own = own; slots = slots; mappings = mappings; underway = None; given = given }) (first_state first_gen d)
@@ -46,8 +46,8 @@ closed-plain fs xs new at d (ReadBytes dom frame off len) r e = absurd (r dom fr
 closed-plain fs xs new at d step r e = (refl, e)
 
 -- a call that gives no bytes and no mapping is over
-pub ended-plain : (fs : FrameSet) (xs new : List State) (at : ℕ) (d : State) (step : Step) (call : Call) (v : Verdict) (a : Answer)
-    → (v ≡ Granted → ⊥) → ((p : Held) → v ≡ KeptPin p → ⊥) → a ≡ answer_of v
+pub ended-plain : (fs : FrameSet) (xs new : List State) (at : ℕ) (d : State) (step : Step) (call : Call) (v : CallResult) (a : Answer)
+    → (v ≡ Granted → ⊥) → ((p : HeldPin) → v ≡ KeptPin p → ⊥) → a ≡ answer_of v
     → new ≡ set xs at (with_underway None d) → Settled fs xs at d step call (Ends v) (Some a) new
 ended-plain fs xs new at d step call Granted a r k e after = absurd (r refl)
 ended-plain fs xs new at d step call (KeptPin p) a r k e after = absurd (k p refl)

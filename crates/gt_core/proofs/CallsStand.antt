@@ -1,14 +1,14 @@
 -- Where a call stands, it stands after an item of another domain, and after one that leaves its body words.
 use Rattle.gt_core.proofs.Words.{ℕ, None, Option, Some, arith, refl, subst, sym, ◌+◌, ◌∙◌, ◌∷◌, ◌≡◌, ◌≢◌, ◌≤◌, DomId}
-use Rattle.gt_core.proofs.Words.{Rule, entry_of, first_body, control_of, Change, Publish, ToInvalid, ToWithdrawn, Half}
+use Rattle.gt_core.proofs.Words.{Rule, entry_of, first_body, control_of, EntryChange, Publish, ToInvalid, ToWithdrawn, BodyWord}
 use Rattle.gt_core.proofs.Words.{FirstHalf, SecondHalf, Entry, Invalid, first, Phase, Accessing, Exchanging, Storing}
 use Rattle.gt_core.proofs.Words.{StoringSecond, Walking, Leg, LegPhase, Body, AtHeader, Look, Pinning, Relook, Second}
-use Rattle.gt_core.proofs.Words.{Asked, History, Setting, change_of, changed_entry_of, generation_at, raise_after}
+use Rattle.gt_core.proofs.Words.{OpenRequest, History, Setting, change_of, changed_entry_of, generation_at, raise_after}
 use Rattle.gt_core.proofs.Words.{IsSpelled}
 use Rattle.gt_core.proofs.Words.{StepsSoFar, LegHasLooked, LegHasRead, IsShown, LegStands, PhaseStands, WhileSame, Item}
 use Rattle.gt_core.proofs.Words.{body_at, entry_at, raises_at}
 
-same-after : (before first generation : ℕ) (Holds : Entry → Type 0) (entry : Entry) (c : Option Change) → generation ≤ first + before
+same-after : (before first generation : ℕ) (Holds : Entry → Type 0) (entry : Entry) (c : Option EntryChange) → generation ≤ first + before
     → (first + before ≡ generation → entry ≢ Invalid → Holds entry)
     → first + (before + raise_after c) ≡ generation → changed_entry_of c entry ≢ Invalid → Holds (changed_entry_of c entry)
 same-after before first generation Holds entry None le was e valid = was (omega arith) valid
@@ -50,7 +50,7 @@ leg-keeps s i h l so_far (Relook more word rule) a =
 
 -- the domain's own body words are as they were
 abbrev pub BodyStays : Item → History → ℕ → Type 0
-BodyStays i h d = (r : ℕ) (which : Half) → body_at (i ∷ h) d r which ≡ body_at h d r which
+BodyStays i h d = (r : ℕ) (which : BodyWord) → body_at (i ∷ h) d r which ≡ body_at h d r which
 
 pub spelled-stays : (i : Item) (h : History) (t r : ℕ) (entry : Entry) → BodyStays i h t → IsSpelled entry (body_at h t r FirstHalf) (body_at h t r SecondHalf)
     → IsSpelled entry (body_at (i ∷ h) t r FirstHalf) (body_at (i ∷ h) t r SecondHalf)
@@ -59,7 +59,7 @@ spelled-stays i h t r entry b a =
     (subst (λ (n : ℕ). IsSpelled entry (body_at h t r FirstHalf) n) (sym (b r SecondHalf)) a)
 
 -- where a call stands, it stands after an item that leaves its domain's body words
-pub place-stays : (s : Setting) (i : Item) (h : History) (d : DomId) (r : Asked) (so_far : StepsSoFar) (phase : Phase) → BodyStays i h d.0 → PhaseStands s h d r so_far phase → PhaseStands s (i ∷ h) d r so_far phase
+pub place-stays : (s : Setting) (i : Item) (h : History) (d : DomId) (r : OpenRequest) (so_far : StepsSoFar) (phase : Phase) → BodyStays i h d.0 → PhaseStands s h d r so_far phase → PhaseStands s (i ∷ h) d r so_far phase
 place-stays s i h d r so_far (Storing gref entry) b a = tt
 place-stays s i h d r so_far (StoringSecond gref entry) b a = b gref.0 FirstHalf ∙ a
 place-stays s i h d r so_far (Exchanging gref looked (Publish entry)) b a = spelled-stays i h d.0 gref.0 entry b a

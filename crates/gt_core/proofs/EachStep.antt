@@ -1,7 +1,7 @@
 -- What holds of each step of an open call: a line for each phase, by the file of the step that it makes.
 use Rattle.gt_core.proofs.Words.{◌≡◌, ◌≢◌, ◌⊎◌, inl, inr, ℕ, refl, false, List, [], ◌∷◌, Option, Some, None, sym, ap}
-use Rattle.gt_core.proofs.Words.{subst, ◌==◌, domain_of, DomId, GrantRef, Change, control_of, Asked, Copy, CopyArgs}
-use Rattle.gt_core.proofs.Words.{Step, Exchange, Seen, Taken, Missed, Makes, Aim, Mapping, Source, Dest, Phase, Storing}
+use Rattle.gt_core.proofs.Words.{subst, ◌==◌, domain_of, DomId, GrantRef, EntryChange, control_of, OpenRequest, Copy, CopyArgs}
+use Rattle.gt_core.proofs.Words.{Step, Exchange, Observation, Taken, Missed, Makes, PinPurpose, Mapping, Source, Dest, Phase, Storing}
 use Rattle.gt_core.proofs.Words.{StoringSecond, Exchanging, Looking, Changing, Walking, Accessing, Asking, Last, Ending}
 use Rattle.gt_core.proofs.Words.{Leg, LegPhase, Pinning, LegNext, Going, LegRefused, Pinned, last_first, pins_so_far}
 use Rattle.gt_core.proofs.Words.{CallerKnowledge, begun, path, is_stopped, IsLegFor, phase_after, action_at, after_leg}
@@ -19,7 +19,7 @@ use Rattle.gt_core.proofs.{Phases.Placed, Steps.Unpin.give-placed, Steps.Pin.mis
 use Rattle.gt_core.proofs.{Steps.Store.IsStore, Steps.Pin.taken-leads, Steps.Look.look-placed}
 
 -- the pins of a walk that ends are a copy's, or none
-walk-over : (k : CallerKnowledge) (d : DomId) (r : Asked) (aim : Aim) (l : Leg) → IsLegFor k d r aim l → (last_first (pins_so_far aim) ≡ []) ⊎ ((copy : CopyArgs) × (r ≡ Copy copy) × Unit {0})
+walk-over : (k : CallerKnowledge) (d : DomId) (r : OpenRequest) (aim : PinPurpose) (l : Leg) → IsLegFor k d r aim l → (last_first (pins_so_far aim) ≡ []) ⊎ ((copy : CopyArgs) × (r ≡ Copy copy) × Unit {0})
 walk-over k d r Mapping l is = inl refl
 walk-over k d r (Source c via) l is = inr (c, is.0, tt)
 walk-over k d r (Dest c source via) l is = inr (c, is.0, tt)
@@ -32,24 +32,24 @@ TakesNone s h d l (Pinning more word body second) = (word_at s h l.dom.0 l.gref.
 TakesNone s h d l phase = Unit {0}
 
 -- the aim is not a call for a leg: no demote walks one
-plain-leg : (k : CallerKnowledge) (d : DomId) (r : Asked) (aim : Aim) (l : Leg) → IsLegFor k d r aim l → is_demote r ≡ false
+plain-leg : (k : CallerKnowledge) (d : DomId) (r : OpenRequest) (aim : PinPurpose) (l : Leg) → IsLegFor k d r aim l → is_demote r ≡ false
 plain-leg k d r Mapping l is = ap is_demote is.of_map
 plain-leg k d r aim l is = ap is_demote is.0
 
-pub walk-comes : (s : Setting) (h : History) (d : DomId) (r : Asked) (so_far : StepsSoFar) (aim : Aim) (l : Leg) (at : LegPhase) → Words s h l → IsLegFor (known_at s h d) d r aim l → IsLegOf s h d r l (pair_of d aim) → LegStands s h l so_far at
+pub walk-comes : (s : Setting) (h : History) (d : DomId) (r : OpenRequest) (so_far : StepsSoFar) (aim : PinPurpose) (l : Leg) (at : LegPhase) → Words s h l → IsLegFor (known_at s h d) d r aim l → IsLegOf s h d r l (pair_of d aim) → LegStands s h l so_far at
     → TakesNone s h d l at → ComesTo s h l ((leg_step l at, seen_by s h d (leg_step l at)) ∷ so_far) (first_at s h d r so_far (leg_step l at)) (leg_after l at (seen_by s h d (leg_step l at)))
 walk-comes s h d r so_far aim l (Pinning more word body second) ws is leg a none = missed-comes s h l d r more word body second so_far (word_at s h l.dom.0 l.gref.0 == word) none a.0
 walk-comes s h d r so_far aim l at ws is leg a none = looks-come s h l ws d r (pair_of d aim) leg (plain-leg (known_at s h d) d r aim l is) so_far at a tt
 
-module _ (s : Setting) (h : History) (d : DomId) (r : Asked) where
-  leg-leads : (aim : Aim) (l : Leg) (now : StepsSoFar) (rule : Option Denial) (next : LegNext) → IsLegFor (known_at s h d) d r aim l → domain_of s.domains l.dom ≢ None → ComesTo s h l now rule next
+module _ (s : Setting) (h : History) (d : DomId) (r : OpenRequest) where
+  leg-leads : (aim : PinPurpose) (l : Leg) (now : StepsSoFar) (rule : Option Denial) (next : LegNext) → IsLegFor (known_at s h d) d r aim l → domain_of s.domains l.dom ≢ None → ComesTo s h l now rule next
       → Leads s h d r now rule (after_leg (known_at s h d) d aim l next)
   leg-leads aim l now rule (Going phase) is some a = (sym a.0, (some, a.1))
   leg-leads aim l now rule (LegRefused denial) is some a = (sym a, walk-over (known_at s h d) d r aim l is)
   leg-leads aim l now rule (Pinned p) is some a = absurd a
 
   -- each step of a walk
-  walk-leads : (so_far : StepsSoFar) (aim : Aim) (l : Leg) (at : LegPhase) → Words s h l → IsLegFor (known_at s h d) d r aim l → IsLegOf s h d r l (pair_of d aim) → begun (known_at s h d) d r ≡ None
+  walk-leads : (so_far : StepsSoFar) (aim : PinPurpose) (l : Leg) (at : LegPhase) → Words s h l → IsLegFor (known_at s h d) d r aim l → IsLegOf s h d r l (pair_of d aim) → begun (known_at s h d) d r ≡ None
       → PhaseStands s h d r so_far (Walking aim l at) → Judged s h d r so_far (Walking aim l at) (leg_step l at) × Placed s h d r so_far (Walking aim l at) (leg_step l at)
   walk-leads so_far aim l (Pinning more word body second) ws is leg none a = by (word_at s h l.dom.0 l.gref.0 == word) refl
     where
@@ -65,10 +65,10 @@ module _ (s : Setting) (h : History) (d : DomId) (r : Asked) where
 -- at each step: it is on words that there are. It leaves all as it was or ends its call with
 -- Ok. The first rule that stands, here or before, is the refusal that its words lead to. Each step but a store leads
 -- where the next phase says
-abbrev pub OfStep : Setting → History → List State → DomId → Asked → StepsSoFar → Phase → Step → Type 0
+abbrev pub OfStep : Setting → History → List State → DomId → OpenRequest → StepsSoFar → Phase → Step → Type 0
 OfStep s h xs d r so_far p z = IsWithin xs d z × LeavesOrEnds s h d p z × Judged s h d r so_far p z × ((IsStore z → ⊥) → Placed s h d r so_far p z)
 
-pub each-step : (s : Setting) (h : History) (xs : List State) (d : DomId) (r : Asked) (shown : List Seen) (so_far : StepsSoFar) (phase : Phase) (step : Step) → IsHere s h xs d r shown so_far phase step → OfStep s h xs d r so_far phase step
+pub each-step : (s : Setting) (h : History) (xs : List State) (d : DomId) (r : OpenRequest) (shown : List Observation) (so_far : StepsSoFar) (phase : Phase) (step : Step) → IsHere s h xs d r shown so_far phase step → OfStep s h xs d r so_far phase step
 each-step s h xs d r shown so_far phase step i = subst (OfAction (Led phase)) i.acts (by phase i.at.has_shown i.place i.acts i.held)
   where
     k : CallerKnowledge
@@ -77,9 +77,9 @@ each-step s h xs d r shown so_far phase step i = subst (OfAction (Led phase)) i.
     Led : Phase → Step → Type 0
     Led = OfStep s h xs d r so_far
 
-    exchanged : (p : Phase) (gref : GrantRef) (looked : ℕ) (change : Change) → ((steps : List (Step × Seen)) → IsClean (phase_after k d p Taken) steps) → LeavesOrEnds s h d p (Exchange gref looked change)
+    exchanged : (p : Phase) (gref : GrantRef) (looked : ℕ) (change : EntryChange) → ((steps : List (Step × Observation)) → IsClean (phase_after k d p Taken) steps) → LeavesOrEnds s h d p (Exchange gref looked change)
     exchanged p gref looked change clean = cond_both (word_at s h d.0 gref.0 == looked) Taken (Missed (word_at s h d.0 gref.0))
-        (λ v. LeavesAll (Exchange gref looked change, v) ⊎ ((steps : List (Step × Seen)) → IsClean (phase_after k d p v) steps)) (λ is. inr clean) (λ is. inl tt)
+        (λ v. LeavesAll (Exchange gref looked change, v) ⊎ ((steps : List (Step × Observation)) → IsClean (phase_after k d p v) steps)) (λ is. inr clean) (λ is. inl tt)
 
     by : (p : Phase) → HasShown k (path k d r) d r shown p → PhaseStands s h d r so_far p → action_at d p ≡ Makes step → legs_at h d.0 ≡ numbered 0 (reverse (last_first (pins_at p))) → OfAction (Led p) (action_at d p)
     by (Storing gref entry) a b e held = (tt, inl tt, stored-refusal k gref entry, λ quiet. absurd (quiet tt))

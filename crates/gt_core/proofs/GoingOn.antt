@@ -2,14 +2,14 @@
 use Rattle.gt_core.proofs.Words.{◌≡◌, ◌≢◌, ◌==◌, ℕ, refl, false, List, [], ◌∷◌, ◌++◌, length, Option, Some}
 use Rattle.gt_core.proofs.Words.{None, Bool, cond, cond_both, sym, ap, ◌∙◌, subst, reverse, same_Some, none-some}
 use Rattle.gt_core.proofs.Words.{eqb-true, position-Some, position, get_or, set, slice_get, is_some, DomId, domain_of}
-use Rattle.gt_core.proofs.Words.{Handle, Held, HandleMap, Seen, Nothing, Verdict, Granted, Given, KeptPin}
+use Rattle.gt_core.proofs.Words.{Handle, HeldPin, HandleMap, Observation, Nothing, CallResult, Granted, Given, KeptPin}
 use Rattle.gt_core.proofs.Words.{Refused, Step, PinStep, ReadBytes, Action, Makes, Done, Call, Phase, knowledge_of}
-use Rattle.gt_core.proofs.Words.{CallerKnowledge, path, action_at, Goes, Starts, Open, Answer, AnswerDone, Mapped}
+use Rattle.gt_core.proofs.Words.{CallerKnowledge, path, action_at, Goes, Starts, OpenCall, Answer, AnswerDone, Mapped}
 use Rattle.gt_core.proofs.Words.{State, state_of, sees, History, Setting, known_at, seen_by, Underway, values}
 use Rattle.gt_core.proofs.Words.{open_call, DomainsStand, StateStands, CallAgrees, OpenAgrees, StateAgrees, applied}
 use Rattle.gt_core.proofs.Words.{with_underway, with_mapping, Adds, AccessedBy, FrameSet, IsRight, CoreStands}
 use Rattle.gt_core.proofs.Words.{FramesStand, core_of, Settled, Closed, answer_with, ticked_with, ticked_element, MayDo}
-use Rattle.gt_core.proofs.Words.{grown, MappingsAgree, mappings_at, maps_answered_at, begun_of, asked, IsSaid, Request}
+use Rattle.gt_core.proofs.Words.{grown, MappingsAgree, mappings_at, maps_answered_at, begun_of, asked, SpellsItsEntry, Request}
 use Rattle.gt_core.proofs.Words.{Begin, Tick, journal_in, map, WriteBytes, CopyBytes, Denied, Did, Element}
 use Rattle.gt_core.proofs.Words.{eq-eqb, CoreState, unwrap_or, nat_lt, replicate, WriteRecord, IsTrue, all_rightful}
 use Rattle.gt_core.proofs.Words.{frames_of_all, pool_number, AreKept, all_zeros, frame_counts, first_state}
@@ -17,7 +17,7 @@ use Rattle.gt_calls.specs.Machine.{standing_after}
 use Rattle.gt_frames.specs.declared.places.FrameCount.{FrameCount}
 use Rattle.gt_calls.specs.Asking.{FitsAsked, judged_as}
 use Rattle.gt_calls.proofs.Advancing.{continues, opens as starts-open}
-use Rattle.gt_calls.specs.declared.call.Start.TheVariants.{Open as StartOpen}
+use Rattle.gt_calls.specs.declared.call.CallStart.TheVariants.{OpenCall as StartOpen}
 use Rattle.gt_core.specs.GoingOn.{AccessAnsweredSo, AnsweredSo, CallsCanBegin, IsAccess, IsOnWords, CanBeReached}
 use Rattle.gt_core.specs.GoingOn.{OpenCallsCanAccess, OpenCallsCanGoOn, RunsStart}
 use Rattle.gt_core.specs.GoingOn.{begin_answer, beginning, step_after}
@@ -38,7 +38,7 @@ use Rattle.gt_core.specs.History.{contents_at}
 use Rattle.gt_core.specs.declared.trace.Answer.TheVariants.{Bytes as BytesAnswer}
 use Rattle.gt_core.specs.declared.trace.Bytes.{Bytes}
 use Rattle.gt_core.specs.Acting.{answer_of, IsOpenCall}
-use Rattle.gt_core.specs.declared.core_state.Begun.TheVariants.{Open as BegunOpen, Done as BegunDone}
+use Rattle.gt_core.specs.declared.core_state.Begun.TheVariants.{OpenCall as BegunOpen, Done as BegunDone}
 use Rattle.gt_core.proofs.{Beginning.begin-answers, Beginning.begin-opened, Beginning.not-done, Beginning.opened}
 use Rattle.gt_core.proofs.{AgreementKept.known-same, Performing.kept-part, Performing.stepped-state}
 use Rattle.gt_core.proofs.{Playing.core-starts}
@@ -62,12 +62,12 @@ placed xs d x is = by (position (has_id d) xs) refl where
   by None e = absurd (none-some x (sym (not-found xs d e) ∙ is))
   by (Some at) e = (at, e, same_Some x (get_or xs at x) (sym is ∙ found xs d at x e))
 
-idle : (s : Setting) (h : History) (d : DomId) (o : Option Open) (c : Option Underway) → CallAgrees s h d o c → c ≡ None → is_some o ≡ false
+idle : (s : Setting) (h : History) (d : DomId) (o : Option OpenCall) (c : Option Underway) → CallAgrees s h d o c → c ≡ None → is_some o ≡ false
 idle s h d None c a e = refl
 idle s h d (Some o) None a e = absurd a
 idle s h d (Some o) (Some c) a e = absurd (none-some c (sym e))
 
-opened-by : (s : Setting) (h : History) (d : DomId) (u : Option Open) (v : Option Underway) (c : Underway) → CallAgrees s h d u v → v ≡ Some c → (o : Open) × (u ≡ Some o) × OpenAgrees s h d o c
+opened-by : (s : Setting) (h : History) (d : DomId) (u : Option OpenCall) (v : Option Underway) (c : Underway) → CallAgrees s h d u v → v ≡ Some c → (o : OpenCall) × (u ≡ Some o) × OpenAgrees s h d o c
 opened-by s h d None None c a e = absurd (none-some c e)
 opened-by s h d None (Some z) c a e = absurd a
 opened-by s h d (Some o) None c a e = absurd a
@@ -79,7 +79,7 @@ abbrev unstarted : DomId → Request → Call
 unstarted d request = record { caller = d; request = asked request; phase = None }
 
 -- a call that no rule answers makes a first step
-opens-so : (k : CallerKnowledge) (d : DomId) (request : Request) → begun_of k d request ≡ None → IsSaid k.header request → (o : Open) × IsOpenCall k d request o
+opens-so : (k : CallerKnowledge) (d : DomId) (request : Request) → begun_of k d request ≡ None → SpellsItsEntry k.header request → (o : OpenCall) × IsOpenCall k d request o
 opens-so k d request none said = let first = unstarted d request in
     let p : Phase = standing_after k d (asked request) None Nothing in
     let new : Call = record { caller = d; request = asked request; phase = Some p } in
@@ -88,7 +88,7 @@ opens-so k d request none said = let first = unstarted d request in
     by new (action_at d p) start goes refl refl refl
   where
     by : (new : Call) (action : Action) → Starts k d request (StartOpen (unstarted d request)) → Goes k (unstarted d request) Nothing new action → new.caller ≡ (unstarted d request).caller → new.request ≡ (unstarted d request).request
-        → action ≡ action → (o : Open) × IsOpenCall k d request o
+        → action ≡ action → (o : OpenCall) × IsOpenCall k d request o
     by new (Makes step) start goes caller asks e = (record { call = new; step = step }, opened k d request (unstarted d request) new (Makes step) step start goes refl caller asks)
     by new (Done v) start goes caller asks e = absurd (not-done k d request (unstarted d request) new (Done v) v start goes refl)
 
@@ -100,11 +100,11 @@ calls-can-begin s h d request (core, st) named closed fits said =
     let k = knowledge_of s.domains s.first_generation s.may x.own x.header x.mappings in
     let was : k ≡ known_at s h d = known-same s h x a ∙ ap (known_at s h) t.2 in
     let same : (begun_of k d request ≡ begun_of (known_at s h d) d request) = ap (λ (z : CallerKnowledge). begun_of z d request) was in
-    let header : IsSaid k.header request = subst (λ (z : CallerKnowledge). IsSaid z.header request) (sym was) said in
+    let header : SpellsItsEntry k.header request = subst (λ (z : CallerKnowledge). SpellsItsEntry z.header request) (sym was) said in
     by (begun_of (known_at s h d) d request) x same p.0 p.1 p.2 rest header
   where
-    by : (v : Option Verdict) (x : State) → begun_of (knowledge_of s.domains s.first_generation s.may x.own x.header x.mappings) d request ≡ v → (at : ℕ) → position (has_id d.0) core.domains ≡ Some at → x ≡ get_or core.domains at x
-        → is_some x.underway ≡ false → IsSaid x.header request → IsRight s h (beginning d request (begin_answer v)) × CanBeReached s (beginning d request (begin_answer v) ∷ h)
+    by : (v : Option CallResult) (x : State) → begun_of (knowledge_of s.domains s.first_generation s.may x.own x.header x.mappings) d request ≡ v → (at : ℕ) → position (has_id d.0) core.domains ≡ Some at → x ≡ get_or core.domains at x
+        → is_some x.underway ≡ false → SpellsItsEntry x.header request → IsRight s h (beginning d request (begin_answer v)) × CanBeReached s (beginning d request (begin_answer v) ∷ h)
     by (Some v) x is at place here rest header = let b = begin-answers s h core.domains d at x request v (answer_of v) refl place here rest is st.domains in (
       b.1,
       (
@@ -164,7 +164,7 @@ told-words fs step quiet = refl
 -- how the call is answered in a state, whose mappings are kept so
 abbrev EndsIn : FrameSet → Step → State → Action → Option Answer → Type 0
 EndsIn fs step x (Makes next) answer = answer ≡ None
-EndsIn fs step x (Done (KeptPin held)) answer = (handle : Handle) × (answer ≡ Some (Mapped handle)) × ((new : HandleMap Held) × Adds x.mappings new handle held)
+EndsIn fs step x (Done (KeptPin held)) answer = (handle : Handle) × (answer ≡ Some (Mapped handle)) × ((new : HandleMap HeldPin) × Adds x.mappings new handle held)
 EndsIn fs step x (Done Granted) answer = (z : Answer) × (answer ≡ Some z) × IsToldBy fs step z
 EndsIn fs step x (Done verdict) answer = answer ≡ Some (answer_of verdict)
 
@@ -173,20 +173,20 @@ abbrev Gives : Setting → History → DomId → Step → Option Answer → Type
 Gives s h d step answer = IsRight s h (step_after s h d step answer) × CanBeReached s (step_after s h d step answer ∷ h)
 
 -- where the call is after its step, and the call there
-abbrev moved : Setting → List State → State → Open → Phase
+abbrev moved : Setting → List State → State → OpenCall → Phase
 moved s xs x o = standing_after (knowledge_of s.domains s.first_generation s.may x.own x.header x.mappings) o.call.caller o.call.request o.call.phase (sees xs x.id o.step)
 
-abbrev call_then : Setting → List State → State → Open → Call
+abbrev call_then : Setting → List State → State → OpenCall → Call
 call_then s xs x o = record { caller = o.call.caller; request = o.call.request; phase = Some (moved s xs x o) }
 
-abbrev action_then : Setting → List State → State → Open → Action
+abbrev action_then : Setting → List State → State → OpenCall → Action
 action_then s xs x o = action_at o.call.caller (moved s xs x o)
 
-goes-then : (s : Setting) (xs : List State) (x : State) (o : Open)
+goes-then : (s : Setting) (xs : List State) (x : State) (o : OpenCall)
     → Goes (knowledge_of s.domains s.first_generation s.may x.own x.header x.mappings) o.call (sees xs x.id o.step) (call_then s xs x o) (action_then s xs x o)
 goes-then s xs x o = continues (knowledge_of s.domains s.first_generation s.may x.own x.header x.mappings) o.call.caller o.call.request o.call.phase (sees xs x.id o.step) (Some (moved s xs x o)) (action_then s xs x o) refl refl
 
-module _ (s : Setting) (h : History) (xs : List State) (fs : FrameSet) (x : State) (o : Open) (c : Underway) (action : Action) (answer : Option Answer)
+module _ (s : Setting) (h : History) (xs : List State) (fs : FrameSet) (x : State) (o : OpenCall) (c : Underway) (action : Action) (answer : Option Answer)
     (st : CoreStands s h (core_of xs fs)) (named : domain_of s.domains x.id ≢ None) (here : state_of xs x.id.0 ≡ Some x) (a : StateStands s h x) (under : x.underway ≡ Some o) (call : open_call h x.id.0 ≡ Some c)
     (stands : OpenAgrees s h x.id o c) (gs : FrameSet) (wrote : AccessedBy x o.call o.step fs gs) (next : path (known_at s h x.id) x.id c.request (values c ++ seen_by s h x.id o.step ∷ []) ≡ Some action) (ends : EndsIn gs o.step x action answer) where
   ticked : (sees xs x.id o.step ≡ seen_by s h x.id o.step) × Ticks s h xs x o c (call_then s xs x o) (action_then s xs x o)
@@ -204,11 +204,11 @@ module _ (s : Setting) (h : History) (xs : List State) (fs : FrameSet) (x : Stat
       let pin : o.step ≡ PinStep held = (call-ends s h xs x.id c.request (values c) (reverse c.steps) ticked.1.stands.phase o.step ticked.1.i (KeptPin held) (sym ticked.1.acts ∙ e)).is in
       let same : y.mappings ≡ x.mappings = kept-part (λ (z : State). z.mappings) x.id (PinStep held) (sees xs x.id o.step) xs at x y (λ z r n. refl) was
       (subst (λ (z : Step). slice_get (applied x.id z (sees xs x.id o.step) xs) at ≡ Some y) pin now) in
-      (set (applied x.id o.step (sees xs x.id o.step) xs) at (with_mapping new y), (Mapped handle, is, (handle, new, refl, subst (λ (m : HandleMap Held). Adds m new handle held) (sym same) adds, refl)))
+      (set (applied x.id o.step (sees xs x.id o.step) xs) at (with_mapping new y), (Mapped handle, is, (handle, new, refl, subst (λ (m : HandleMap HeldPin). Adds m new handle held) (sym same) adds, refl)))
   left-by at y was now (Done (Given value)) e end = (set (applied x.id o.step (sees xs x.id o.step) xs) at (with_underway None y), (answer_with value, end, (refl, refl)))
   left-by at y was now (Done (Refused denial)) e end = (set (applied x.id o.step (sees xs x.id o.step) xs) at (with_underway None y), (Denied denial, end, (refl, refl)))
 
-  element-of : (seen : Seen) (z : Option Answer) → ticked_element x.id (ticked_with o.step seen z) ≡ Did (stepped x.id o.step seen z)
+  element-of : (seen : Observation) (z : Option Answer) → ticked_element x.id (ticked_with o.step seen z) ≡ Did (stepped x.id o.step seen z)
   element-of seen None = refl
   element-of seen (Some z) = refl
 
@@ -221,11 +221,11 @@ module _ (s : Setting) (h : History) (xs : List State) (fs : FrameSet) (x : Stat
       let does = tick-does s fs gs gs xs l.0 x.id p.0 x o saw (call_then s xs x o) (action_then s xs x o) answer (ticked_with o.step saw answer) refl b wrote
       (λ d there. subst (λ (z : State). Settled gs ws p.0 z o.step (call_then s xs x o) (action_then s xs x o) answer l.0) (same_Some y.0 d (sym y.1 ∙ there)) l.1) refl h st in
       let r = subst (λ (z : Element). MayDo s h (Tick x.id) z × CoreStands s (grown h z) (core_of l.0 gs)) (element-of saw answer) does in
-      subst (λ (v : Seen). IsRight s h (stepped x.id o.step v answer) × CanBeReached s (stepped x.id o.step v answer ∷ h)) ticked.0 (r.0.2, (core_of l.0 gs, r.1))
+      subst (λ (v : Observation). IsRight s h (stepped x.id o.step v answer) × CanBeReached s (stepped x.id o.step v answer ∷ h)) ticked.0 (r.0.2, (core_of l.0 gs, r.1))
 
 -- the states with other handles for the same mappings of one domain
 
-rehandled : (s : Setting) (h : History) (xs : List State) (x : State) (at : ℕ) (m : HandleMap Held) → DomainsStand s h xs → position (has_id x.id.0) xs ≡ Some at → x ≡ get_or xs at x → state_of xs x.id.0 ≡ Some x
+rehandled : (s : Setting) (h : History) (xs : List State) (x : State) (at : ℕ) (m : HandleMap HeldPin) → DomainsStand s h xs → position (has_id x.id.0) xs ≡ Some at → x ≡ get_or xs at x → state_of xs x.id.0 ≡ Some x
     → domain_of s.domains x.id ≢ None → StateStands s h x → MappingsAgree m (mappings_at h x.id.0) (maps_answered_at h x.id.0)
     → DomainsStand s h (set xs at (record x { mappings = m })) × (state_of (set xs at (record x { mappings = m })) x.id.0 ≡ Some (record x { mappings = m })) × StateStands s h (record x { mappings = m })
 rehandled s h xs x at m st place here was named a agrees = (
@@ -262,7 +262,7 @@ module _ (s : Setting) (h : History) (core : CoreState) (c : Underway) (step : S
       let next' = subst (λ (z : Step). path (known_at s h x.id) x.id c.request (values c ++ seen_by s h x.id z ∷ []) ≡ Some action) (sym same) next in
       subst (λ (z : Step). Gives s h x.id z answer) same (by o u.1 u.2 quiet' next' action refl so)
     where
-      by : (o : Open) → x.underway ≡ Some o → OpenAgrees s h x.id o c → IsOnWords o.step → path (known_at s h x.id) x.id c.request (values c ++ seen_by s h x.id o.step ∷ []) ≡ Some action
+      by : (o : OpenCall) → x.underway ≡ Some o → OpenAgrees s h x.id o c → IsOnWords o.step → path (known_at s h x.id) x.id c.request (values c ++ seen_by s h x.id o.step ∷ []) ≡ Some action
           → (z : Action) → action ≡ z → AnsweredSo h x.id z answer → Gives s h x.id o.step answer
       by o under stands quiet next (Done (KeptPin held)) e (handle, is, may) = let p = placed core.domains x.id.0 x here in
           let r = rehandled s h core.domains x p.0 may.old st.domains p.1 p.2 here named a may.agrees in
@@ -355,7 +355,7 @@ module _ (s : Setting) (h : History) (core : CoreState) (c : Underway) (step : S
       let admitted : IsAdmitted core.frames x o.call o.step = open-admitted s h core.domains core.frames x o c st.domains st.frames a call u.2 in
       let m = can-access s h core.frames st.frames x o.call o.step action answer (subst IsAccess (sym same) access) admitted (subst (λ (z : Step). AccessAnsweredSo h z action answer) (sym same) so) in
       let next' : path (known_at s h x.id) x.id c.request (values c ++ seen_by s h x.id o.step ∷ []) ≡ Some action =
-      ap (λ (v : Seen). path (known_at s h x.id) x.id c.request (values c ++ v ∷ [])) (seen-nothing s h x.id o.step (subst IsAccess (sym same) access)) ∙ next in
+      ap (λ (v : Observation). path (known_at s h x.id) x.id c.request (values c ++ v ∷ [])) (seen-nothing s h x.id o.step (subst IsAccess (sym same) access)) ∙ next in
       subst (λ (z : Step). Gives s h x.id z answer) same (goes-on-at s h core.domains core.frames x o c action answer st named here a u.1 call u.2 m.0 m.1 next' m.2)
 
 pub open-calls-can-access : OpenCallsCanAccess

@@ -1,9 +1,9 @@
 -- The handles that domains were answered: each serial once, and each mapping under one of them.
 use Rattle.gt_core.proofs.Words.{◌≡◌, ◌≤◌, ◌<◌, ◌+◌, inl, inr, ℕ, refl, Bool, true, false, List, [], ◌∷◌, Option, Some}
 use Rattle.gt_core.proofs.Words.{None, cond, sym, ap, ◌∙◌, subst, arith, ◌==◌, ◌&&◌, eqb-true, eq-eqb, DomId, Denial}
-use Rattle.gt_core.proofs.Words.{Handle, END_OF_SERIALS, Asked, Holder, ByMapping, ByLeg, Held, Seen, Step, Unpin}
-use Rattle.gt_core.proofs.Words.{Makes, Verdict, asked, CallerKnowledge, begun, Continuation, after_beginning, steps_of}
-use Rattle.gt_core.proofs.Words.{IsMapping, Answer, Happened, Began, Stepped, Item, History, Setting, Underway, Pin}
+use Rattle.gt_core.proofs.Words.{Handle, SERIAL_LIMIT, OpenRequest, PinHolder, ByMapping, ByLeg, HeldPin, Observation, Step, Unpin}
+use Rattle.gt_core.proofs.Words.{Makes, CallResult, asked, CallerKnowledge, begun, Continuation, after_beginning, steps_of}
+use Rattle.gt_core.proofs.Words.{IsMapping, Answer, ItemEvent, Began, Stepped, Item, History, Setting, Underway, Pin}
 use Rattle.gt_core.proofs.Words.{live, same_handle, pinned_by, unpinned_by, open_call, underway_after, maps_answered_at}
 use Rattle.gt_core.proofs.Words.{one_if_mapped, known_at, values, IsRight, StepsRightIn, AnsweredBy, bare_handle}
 use Rattle.gt_core.proofs.Words.{IsGiven, IsKnown, AsksKnown, HappensKnown, IsRun, cond_both, All-nil, All}
@@ -14,34 +14,34 @@ use Rattle.gt_core.specs.declared.trace.Answer.TheVariants as answers
 -- a map that is answered
 
 -- only a map's pin is answered a mapping, under the next serial of its domain
-abbrev pub IsNext : History → DomId → Asked → Option Step → Handle → Type 0
+abbrev pub IsNext : History → DomId → OpenRequest → Option Step → Handle → Type 0
 IsNext before d r None handle = ⊥
 IsNext before d r (Some step) handle = IsMapping (Some r) × (handle.serial ≡ maps_answered_at before d.0)
 
-answered-next : (s : Setting) (h : History) (d : DomId) (r : Asked) (step : Option Step) (giving : Bool) (v : Option Verdict) (a : Option Answer) (against : Option Denial) (handle : Handle)
+answered-next : (s : Setting) (h : History) (d : DomId) (r : OpenRequest) (step : Option Step) (giving : Bool) (v : Option CallResult) (a : Option Answer) (against : Option Denial) (handle : Handle)
     → AnsweredBy s h d r step giving v a against → a ≡ Some (answers.Mapped handle) → IsNext h d r step handle
 answered-next s h d r step giving v a against handle is e = grind arith
 
-none-begun : (v : Option Verdict) (c : Continuation) (vs : List Seen) (step : Step) → after_beginning v c vs ≡ Some (Makes step) → v ≡ None
+none-begun : (v : Option CallResult) (c : Continuation) (vs : List Observation) (step : Step) → after_beginning v c vs ≡ Some (Makes step) → v ≡ None
 none-begun v c vs step e = grind arith
 
-few-answered : (k : CallerKnowledge) (d : DomId) (r : Asked) → begun k d r ≡ None → IsMapping (Some r) → k.maps_answered < END_OF_SERIALS
+few-answered : (k : CallerKnowledge) (d : DomId) (r : OpenRequest) → begun k d r ≡ None → IsMapping (Some r) → k.maps_answered < SERIAL_LIMIT
 few-answered k d r e m = grind arith
 
 -- a handle has the next serial of its domain, which is none past the last
 abbrev pub IsFresh : History → DomId → Handle → Type 0
-IsFresh h d handle = (handle.serial ≡ maps_answered_at h d.0) × (handle.serial < END_OF_SERIALS)
+IsFresh h d handle = (handle.serial ≡ maps_answered_at h d.0) × (handle.serial < SERIAL_LIMIT)
 
-fresh-step : (s : Setting) (h : History) (i : Item) (step : Step) (seen : Seen) (handle : Handle) (c : Option Underway) → StepsRightIn s h i step seen c → i.answer ≡ Some (answers.Mapped handle) → IsFresh h i.actor handle
+fresh-step : (s : Setting) (h : History) (i : Item) (step : Step) (seen : Observation) (handle : Handle) (c : Option Underway) → StepsRightIn s h i step seen c → i.answer ≡ Some (answers.Mapped handle) → IsFresh h i.actor handle
 fresh-step s h i step seen handle None right e = absurd right
 fresh-step s h i step seen handle (Some c) right e = let k = known_at s h i.actor in
     let next = answered-next s h i.actor c.request (Some step) _ _ i.answer _ handle right.answered e in
-    let few : maps_answered_at h i.actor.0 < END_OF_SERIALS = few-answered k i.actor c.request (none-begun (begun k i.actor c.request) (steps_of k i.actor c.request) (values c) step right.continues) next.0 in
+    let few : maps_answered_at h i.actor.0 < SERIAL_LIMIT = few-answered k i.actor c.request (none-begun (begun k i.actor c.request) (steps_of k i.actor c.request) (values c) step right.continues) next.0 in
     let same : handle.serial ≡ maps_answered_at h i.actor.0 = next.1 in (same, omega arith)
 
 fresh : (s : Setting) (h : History) (i : Item) (handle : Handle) → IsRight s h i → i.answer ≡ Some (answers.Mapped handle) → IsFresh h i.actor handle
 fresh s h i handle = by i.happened where
-  by : (x : Happened) → IsRight s h (record i { happened = x }) → i.answer ≡ Some (answers.Mapped handle) → IsFresh h i.actor handle
+  by : (x : ItemEvent) → IsRight s h (record i { happened = x }) → i.answer ≡ Some (answers.Mapped handle) → IsFresh h i.actor handle
   by (Began request) right e = absurd (answered-next s h i.actor (asked request) None _ _ i.answer _ handle right.1 e)
   by (Stepped step seen) right e = fresh-step s h (record i { happened = Stepped step seen }) step seen handle (open_call h i.actor.0) right e
 
@@ -58,7 +58,7 @@ maps-one i h d handle own e = grind arith
 -- a handle that was answered has a serial below the number of its domain's maps, and below the last
 record IsBelow (h : History) (d : ℕ) (handle : Handle) : Type 0 where
   pub count : handle.serial < maps_answered_at h d
-  pub end : handle.serial < END_OF_SERIALS
+  pub end : handle.serial < SERIAL_LIMIT
 
 given-below : (s : Setting) (h : History) (d : ℕ) (handle : Handle) → IsRun s h → IsGiven h d handle → IsBelow h d handle
 unfolding IsRun IsGiven
@@ -97,7 +97,7 @@ known-tells s h d a b run g k = by (b.serial == a.serial) refl where
 
 -- pins
 
-abbrev pub HeldGiven : History → ℕ → Holder → Type 0
+abbrev pub HeldGiven : History → ℕ → PinHolder → Type 0
 HeldGiven h d (ByMapping handle) = IsGiven h d handle
 HeldGiven h d (ByLeg number) = Unit {0}
 
@@ -105,11 +105,11 @@ HeldGiven h d (ByLeg number) = Unit {0}
 abbrev pub PinsGiven : History → List Pin → Type 0
 PinsGiven h ps = All (λ p. HeldGiven h p.actor p.holder) ps
 
-held-later : (i : Item) (h : History) (d : ℕ) (holder : Holder) → HeldGiven h d holder → HeldGiven (i ∷ h) d holder
+held-later : (i : Item) (h : History) (d : ℕ) (holder : PinHolder) → HeldGiven h d holder → HeldGiven (i ∷ h) d holder
 unfolding IsGiven
 held-later i h d holder g = grind arith
 
-unpinned-given : (h : History) (d : DomId) (x : Happened) (ps : List Pin) → PinsGiven h ps → PinsGiven h (unpinned_by d x ps)
+unpinned-given : (h : History) (d : DomId) (x : ItemEvent) (ps : List Pin) → PinsGiven h ps → PinsGiven h (unpinned_by d x ps)
 unpinned-given h d (Stepped (Unpin p holder) seen) ps g = all-without (λ q. HeldGiven h q.actor q.holder) d.0 holder ps g
 unpinned-given h d x ps g = g
 
@@ -127,7 +127,7 @@ pins-given (i ∷ h) = let P : Pin → Type 0 = λ q. HeldGiven (i ∷ h) q.acto
 
 -- what open calls ask
 
-asks-later : (i : Item) (h : History) (d : ℕ) (r : Asked) → AsksKnown h d r → AsksKnown (i ∷ h) d r
+asks-later : (i : Item) (h : History) (d : ℕ) (r : OpenRequest) → AsksKnown h d r → AsksKnown (i ∷ h) d r
 unfolding IsGiven
 asks-later i h d r k = grind arith
 
@@ -149,10 +149,10 @@ open-known s (i ∷ h) d run = cond_both (i.actor.0 == d) (underway_after i (ope
     (after-known i h (open_call h i.actor.0) run.1 (subst (λ (n : ℕ). CallKnown h n (open_call h n)) (sym (eqb-true i.actor.0 d e)) (open-known s h d run.2))))
     (λ e. call-later i h d (open_call h d) (open-known s h d run.2))
 
-unpin-in : (s : Setting) (h : History) (i : Item) (p : Held) (handle : Handle) (seen : Seen) (c : Option Underway) → StepsRightIn s h i (Unpin p (ByMapping handle)) seen c → CallKnown h i.actor.0 c → IsKnown h i.actor.0 handle
+unpin-in : (s : Setting) (h : History) (i : Item) (p : HeldPin) (handle : Handle) (seen : Observation) (c : Option Underway) → StepsRightIn s h i (Unpin p (ByMapping handle)) seen c → CallKnown h i.actor.0 c → IsKnown h i.actor.0 handle
 unpin-in s h i p handle seen c right k = grind arith
 
 -- a mapping that is given up is one under a known handle
-pub unpin-known : (s : Setting) (h : History) (i : Item) (p : Held) (handle : Handle) (seen : Seen) → i.happened ≡ Stepped (Unpin p (ByMapping handle)) seen → IsRight s h i → IsRun s h → IsKnown h i.actor.0 handle
+pub unpin-known : (s : Setting) (h : History) (i : Item) (p : HeldPin) (handle : Handle) (seen : Observation) → i.happened ≡ Stepped (Unpin p (ByMapping handle)) seen → IsRight s h i → IsRun s h → IsKnown h i.actor.0 handle
 unpin-known s h i p handle seen e right run =
-    unpin-in s h (record i { happened = Stepped (Unpin p (ByMapping handle)) seen }) p handle seen (open_call h i.actor.0) (subst (λ (x : Happened). IsRight s h (record i { happened = x })) e right) (open-known s h i.actor.0 run)
+    unpin-in s h (record i { happened = Stepped (Unpin p (ByMapping handle)) seen }) p handle seen (open_call h i.actor.0) (subst (λ (x : ItemEvent). IsRight s h (record i { happened = x })) e right) (open-known s h i.actor.0 run)

@@ -1,13 +1,13 @@
 -- How a call ends, and what its steps have left as it was.
 use Rattle.gt_core.proofs.Words.{◌≡◌, ◌⊎◌, inl, inr, ℕ, refl, List, [], ◌∷◌, ◌++◌, Option, Some, None, sym, ap, subst}
-use Rattle.gt_core.proofs.Words.{All-push, All, DomId, Denial, Entry, Via, Held, Direct, Through, Pins, Asked}
-use Rattle.gt_core.proofs.Words.{ByMapping, ByLeg, Seen, Nothing, Verdict, Refused, Step, Unpin, StoreHeader, ReadBytes}
-use Rattle.gt_core.proofs.Words.{WriteBytes, Makes, Done, Aim, Mapping, Source, Dest, Phase, Walking, Accessing, Last}
+use Rattle.gt_core.proofs.Words.{All-push, All, DomId, Denial, Entry, Via, HeldPin, Direct, Through, CallPins, OpenRequest}
+use Rattle.gt_core.proofs.Words.{ByMapping, ByLeg, Observation, Nothing, CallResult, Refused, Step, Unpin, StoreHeader, ReadBytes}
+use Rattle.gt_core.proofs.Words.{WriteBytes, Makes, Done, PinPurpose, Mapping, Source, Dest, Phase, Walking, Accessing, Last}
 use Rattle.gt_core.proofs.Words.{Ending, Leg, AtHeader, LegNext, LegRefused, Pinned, last_first, pins_so_far, no_pins}
 use Rattle.gt_core.proofs.Words.{CallerKnowledge, via_judged, is_dest_granted, source_pair, dest_pair, second_leg}
 use Rattle.gt_core.proofs.Words.{end_leg, phase_after, action_at, after_leg, after_source_pin, after_dest_pin}
 use Rattle.gt_core.proofs.Words.{where_via, next_to_give, History, Setting, known_at, seen_by, StepsSoFar, LeavesAll}
-use Rattle.gt_core.proofs.Words.{refusal_in, PhaseStands, EndsAfter, IsClean, Write, cond_both, CopyArgs, Route}
+use Rattle.gt_core.proofs.Words.{refusal_in, PhaseStands, EndsAfter, IsClean, Write, cond_both, CopyArgs, AccessPath}
 use Rattle.gt_core.proofs.Words.{at_dest}
 use Rattle.gt_core.proofs.{Phases.by-leg, Phases.makes-same, Phases.by-giving, Phases.next_of, Phases.LeavesOrEnds}
 use Rattle.gt_calls.specs.declared.{held.Route.TheVariants.Own, action.Verdict.TheVariants.Mapped}
@@ -30,8 +30,8 @@ single-sees s h d (Unpin p (ByLeg n)) a = refl
 single-sees s h d step a = absurd a
 
 -- the call is over after it
-pub single-ends : (s : Setting) (h : History) (d : DomId) (r : Asked) (so_far : StepsSoFar) (phase : Phase) (step : Step) → action_at d phase ≡ Makes step → PhaseStands s h d r so_far phase → IsSingle step
-    → (verdict : Verdict) × (next_of s h d phase step ≡ Ending no_pins verdict) × EndsAfter r step verdict
+pub single-ends : (s : Setting) (h : History) (d : DomId) (r : OpenRequest) (so_far : StepsSoFar) (phase : Phase) (step : Step) → action_at d phase ≡ Makes step → PhaseStands s h d r so_far phase → IsSingle step
+    → (verdict : CallResult) × (next_of s h d phase step ≡ Ending no_pins verdict) × EndsAfter r step verdict
 single-ends s h d r so_far (Walking aim l at) step e b a = absurd (by-leg (λ (z : Step). IsSingle z → ⊥) (λ dom n. n) (λ dom gref n. n) (λ dom gref half n. n) (λ p n. n) l at (subst IsSingle (sym (makes-same _ _ e)) a))
 single-ends s h d r so_far (Last last verdict) step e b a =
     (verdict, ap (phase_after (known_at s h d) d (Last last verdict)) (single-sees s h d step a), subst (λ (z : Step). EndsAfter r z verdict) (makes-same _ _ e) b)
@@ -39,23 +39,23 @@ single-ends s h d r so_far (Ending pins verdict) step e b a = absurd (by-giving 
 single-ends s h d r so_far phase step e b a = absurd (subst IsSingle (sym (makes-same _ _ e)) a)
 
 -- it is not refused
-pub after-plain : (r : Asked) (step : Step) (verdict : Verdict) → EndsAfter r step verdict → refusal_in (Some verdict) ≡ None
-after-plain r (StoreHeader version frames) verdict (inl a) = ap (λ (v : Verdict). refusal_in (Some v)) a.1
-after-plain r (StoreHeader version frames) verdict (inr a) = ap (λ (v : Verdict). refusal_in (Some v)) a.1
-after-plain r step verdict a = ap (λ (v : Verdict). refusal_in (Some v)) a
+pub after-plain : (r : OpenRequest) (step : Step) (verdict : CallResult) → EndsAfter r step verdict → refusal_in (Some verdict) ≡ None
+after-plain r (StoreHeader version frames) verdict (inl a) = ap (λ (v : CallResult). refusal_in (Some v)) a.1
+after-plain r (StoreHeader version frames) verdict (inr a) = ap (λ (v : CallResult). refusal_in (Some v)) a.1
+after-plain r step verdict a = ap (λ (v : CallResult). refusal_in (Some v)) a
 
 -- the steps so far have left all as it was, unless the call ends with Ok
 
-clean-all : (p : Phase) (steps : List (Step × Seen)) → All LeavesAll steps → IsClean p steps
+clean-all : (p : Phase) (steps : List (Step × Observation)) → All LeavesAll steps → IsClean p steps
 clean-all (Ending pins verdict) steps a = inr a
 clean-all p steps a = a
 
 -- so the steps so far do with this one, where the step leaves all as it was or ends its call
-pub clean-next : (s : Setting) (h : History) (d : DomId) (phase : Phase) (step : Step) (steps : List (Step × Seen)) → action_at d phase ≡ Makes step → LeavesOrEnds s h d phase step → IsClean phase steps
+pub clean-next : (s : Setting) (h : History) (d : DomId) (phase : Phase) (step : Step) (steps : List (Step × Observation)) → action_at d phase ≡ Makes step → LeavesOrEnds s h d phase step → IsClean phase steps
     → IsClean (next_of s h d phase step) (steps ++ (step, seen_by s h d step) ∷ [])
 clean-next s h d (Ending pins verdict) step steps e x clean = by-giving (λ (z : Step). IsClean (next_of s h d (Ending pins verdict) z) (steps ++ (z, seen_by s h d z) ∷ [])) (λ p n. by p n clean) (last_first pins) verdict step e
   where
-    by : (p : Held) (n : ℕ) → (refusal_in (Some verdict) ≡ None) ⊎ All LeavesAll steps → (refusal_in (Some verdict) ≡ None) ⊎ All LeavesAll (steps ++ (Unpin p (ByLeg n), Nothing) ∷ [])
+    by : (p : HeldPin) (n : ℕ) → (refusal_in (Some verdict) ≡ None) ⊎ All LeavesAll steps → (refusal_in (Some verdict) ≡ None) ⊎ All LeavesAll (steps ++ (Unpin p (ByLeg n), Nothing) ∷ [])
     by p n (inl none) = inl none
     by p n (inr all) = inr (All-push LeavesAll steps (Unpin p (ByLeg n), Nothing) all tt)
 clean-next s h d phase step steps e (inl leaves) all =
@@ -65,28 +65,28 @@ clean-next s h d phase step steps e (inr ends) all = ends (steps ++ (step, seen_
 -- how a call ends
 
 -- a call whose next action is its end holds no pins
-pub ends-so : (d : DomId) (p : Phase) (v : Verdict) → action_at d p ≡ Done v → (pins : Pins) × (p ≡ Ending pins v) × (last_first pins ≡ [])
+pub ends-so : (d : DomId) (p : Phase) (v : CallResult) → action_at d p ≡ Done v → (pins : CallPins) × (p ≡ Ending pins v) × (last_first pins ≡ [])
 ends-so d (Ending pins verdict) v e = by (last_first pins) refl e where
-  by : (held : List Held) → last_first pins ≡ held → next_to_give held verdict ≡ Done v → (ps : Pins) × (Ending pins verdict ≡ Ending ps v) × (last_first ps ≡ [])
+  by : (held : List HeldPin) → last_first pins ≡ held → next_to_give held verdict ≡ Done v → (ps : CallPins) × (Ending pins verdict ≡ Ending ps v) × (last_first ps ≡ [])
   by [] is f = let w : verdict ≡ v = cc in (pins, ap (Ending pins) w, is)
   by (p ∷ ps) is f = cc
 ends-so d p v e = cc
 
 -- a call that goes on to its destination is not done
-dest-not : (k : CallerKnowledge) (d : DomId) (c : CopyArgs) (source : Route) (v : Verdict) → action_at d (at_dest k d c source) ≡ Done v → ⊥
+dest-not : (k : CallerKnowledge) (d : DomId) (c : CopyArgs) (source : AccessPath) (v : CallResult) → action_at d (at_dest k d c source) ≡ Done v → ⊥
 dest-not k d c source v e =
     cond_both (is_dest_granted c) (Walking (Dest c source None) (end_leg k d c.dest Write c.len) AtHeader) (Accessing c source Own) (λ p. action_at d p ≡ Done v → ⊥) (λ b f. cc) (λ b f. cc) e
 
 -- nor one that is judged where a Via leads
-where-not : (d : DomId) (o : Option Verdict) (aim : Aim) (second : Leg) (v : Verdict) → ((w : Verdict) → next_to_give (last_first (pins_so_far aim)) w ≡ Done v → ⊥) → action_at d (where_via o aim second) ≡ Done v → ⊥
+where-not : (d : DomId) (o : Option CallResult) (aim : PinPurpose) (second : Leg) (v : CallResult) → ((w : CallResult) → next_to_give (last_first (pins_so_far aim)) w ≡ Done v → ⊥) → action_at d (where_via o aim second) ≡ Done v → ⊥
 where-not d None aim second v held e = cc
 where-not d (Some w) aim second v held e = held w e
 
 -- how a walk ends: refused, or with the pin of a map
-pub walk-done : (k : CallerKnowledge) (d : DomId) (aim : Aim) (l : Leg) (next : LegNext) (v : Verdict) → action_at d (after_leg k d aim l next) ≡ Done v
-    → ((denial : Denial) × (v ≡ Refused denial)) ⊎ ((p : Held) × (v ≡ Mapped p) × (next ≡ Pinned p) × (aim ≡ Mapping))
+pub walk-done : (k : CallerKnowledge) (d : DomId) (aim : PinPurpose) (l : Leg) (next : LegNext) (v : CallResult) → action_at d (after_leg k d aim l next) ≡ Done v
+    → ((denial : Denial) × (v ≡ Refused denial)) ⊎ ((p : HeldPin) × (v ≡ Mapped p) × (next ≡ Pinned p) × (aim ≡ Mapping))
 walk-done k d aim l (LegRefused denial) v e = by (last_first (pins_so_far aim)) e where
-  by : (held : List Held) → next_to_give held (Refused denial) ≡ Done v → ((denial : Denial) × (v ≡ Refused denial)) ⊎ ((p : Held) × (v ≡ Mapped p) × (LegRefused denial ≡ Pinned p) × (aim ≡ Mapping))
+  by : (held : List HeldPin) → next_to_give held (Refused denial) ≡ Done v → ((denial : Denial) × (v ≡ Refused denial)) ⊎ ((p : HeldPin) × (v ≡ Mapped p) × (LegRefused denial ≡ Pinned p) × (aim ≡ Mapping))
   by [] f = let w : v ≡ Refused denial = cc in inl (denial, w)
   by (q ∷ qs) f = cc
 walk-done k d Mapping l (Pinned p) v e = let w : v ≡ Mapped p = cc in inr (p, w, refl, refl)

@@ -2,15 +2,15 @@
 -- is what the step would leave after it.
 use Rattle.gt_core.proofs.Words.{◌≡◌, ◌<◌, ◌==◌, ℕ, zero, suc, refl, Bool, List, [], ◌∷◌, length, Option, Some, None}
 use Rattle.gt_core.proofs.Words.{cond, ltb, sym, ap, ◌∙◌, subst, arith, same_Some, slice_get, get_or, set, position}
-use Rattle.gt_core.proofs.Words.{position_or_len, DomId, DomainConfig, TypeId, Perms, Own, Header, HandleMap, Held}
-use Rattle.gt_core.proofs.Words.{Entry, Via, CopyArgs, Route, Seen, Taken, Granted, Given, KeptPin, Refused, Step}
+use Rattle.gt_core.proofs.Words.{position_or_len, DomId, DomainConfig, TypeId, Perms, OwnerEntry, Header, HandleMap, HeldPin}
+use Rattle.gt_core.proofs.Words.{Entry, Via, CopyArgs, AccessPath, Observation, Taken, Granted, Given, KeptPin, Refused, Step}
 use Rattle.gt_core.proofs.Words.{PinStep, Unpin, StoreBody, StoreHeader, Exchange, ReadBytes, Action, Makes, Done, Call}
-use Rattle.gt_core.proofs.Words.{Phase, Storing, StoringSecond, Walking, Aim, Mapping, Source, Dest, Leg, LegNext}
+use Rattle.gt_core.proofs.Words.{Phase, Storing, StoringSecond, Walking, PinPurpose, Mapping, Source, Dest, Leg, LegNext}
 use Rattle.gt_core.proofs.Words.{Going, LegRefused, Pinned, CallerKnowledge, knowledge_of, phase_after, after_leg}
-use Rattle.gt_core.proofs.Words.{after_source_pin, after_dest_pin, leg_after, action_at, Open, Answer, State}
+use Rattle.gt_core.proofs.Words.{after_source_pin, after_dest_pin, leg_after, action_at, OpenCall, Answer, State}
 use Rattle.gt_core.proofs.Words.{changed_in, applied, with_slot, with_own, with_header, without_holder, with_underway}
 use Rattle.gt_core.proofs.Words.{with_mapping, Settled, Closed, FrameSet, Adds, History, Setting, Underway, OpenAgrees}
-use Rattle.gt_core.proofs.Words.{Unpinned, Stored, Holder, ByMapping, ByLeg, GrantRef, Half, FirstHalf, SecondHalf}
+use Rattle.gt_core.proofs.Words.{Unpinned, Stored, PinHolder, ByMapping, ByLeg, GrantRef, BodyWord, FirstHalf, SecondHalf}
 use Rattle.gt_core.proofs.Words.{first_body, second_body, AnswerDone, cond_both, position-Some, slice_get-get_or}
 use Rattle.gt_calls.specs.Following.{IsLeftAlike}
 use Rattle.gt_core.specs.declared.pin_counts.CountsChange.{CountsChange}
@@ -24,19 +24,19 @@ changed-swap : (xs : List State) (d t : ℕ) (f g : State → State) → ((x : S
 changed-swap [] d t f g a b c = refl
 changed-swap (z ∷ zs) d t f g a b c = grind (arith, changed-swap zs d t f g a b c, a z, b z, c z)
 
-pub kept-id : (holder : Holder) (x : State) → (without_holder holder x).id ≡ x.id
+pub kept-id : (holder : PinHolder) (x : State) → (without_holder holder x).id ≡ x.id
 kept-id (ByMapping handle) x = refl
 kept-id (ByLeg n) x = refl
 
 -- a change of the actor's state that no step makes can be made before a step or after it
-applied-swap : (d : DomId) (step : Step) (seen : Seen) (u : Option Open) (xs : List State) → changed_in d.0 (with_underway u) (applied d step seen xs) ≡ applied d step seen (changed_in d.0 (with_underway u) xs)
+applied-swap : (d : DomId) (step : Step) (seen : Observation) (u : Option OpenCall) (xs : List State) → changed_in d.0 (with_underway u) (applied d step seen xs) ≡ applied d step seen (changed_in d.0 (with_underway u) xs)
 applied-swap d (PinStep p) Taken u xs = changed-swap xs d.0 p.dom.0 (with_underway u) (with_slot p.gref.0 (PinnedCount p.dir)) (λ x. refl) (λ x. refl) (λ x. refl)
 applied-swap d (Exchange gref looked change) Taken u xs = changed-swap xs d.0 d.0 (with_underway u) (with_own gref.0 change) (λ x. refl) (λ x. refl) (λ x. refl)
 applied-swap d (Unpin p holder) seen u xs =
     changed-swap (changed_in p.dom.0 (with_slot p.gref.0 (Unpinned p.dir)) xs) d.0 d.0 (with_underway u) (without_holder holder) (λ x. refl) (kept-id holder) (swapped holder)
     ∙ ap (changed_in d.0 (without_holder holder)) (changed-swap xs d.0 p.dom.0 (with_underway u) (with_slot p.gref.0 (Unpinned p.dir)) (λ x. refl) (λ x. refl) (λ x. refl))
   where
-    swapped : (h : Holder) (x : State) → with_underway u (without_holder h x) ≡ without_holder h (with_underway u x)
+    swapped : (h : PinHolder) (x : State) → with_underway u (without_holder h x) ≡ without_holder h (with_underway u x)
     swapped (ByMapping handle) x = refl
     swapped (ByLeg n) x = refl
 applied-swap d (StoreBody gref half word) seen u xs = changed-swap xs d.0 d.0 (with_underway u) (with_slot gref.0 (Stored half word)) (λ x. refl) (λ x. refl) (λ x. refl)
@@ -44,7 +44,7 @@ applied-swap d (StoreHeader version frames) seen u xs = changed-swap xs d.0 d.0 
 applied-swap d step seen u xs = refl
 
 -- and so can that of a map that keeps its pin
-mapped-swap : (d : DomId) (p : Held) (seen : Seen) (kept : HandleMap Held) (xs : List State) → changed_in d.0 (with_mapping kept) (applied d (PinStep p) seen xs) ≡ applied d (PinStep p) seen (changed_in d.0 (with_mapping kept) xs)
+mapped-swap : (d : DomId) (p : HeldPin) (seen : Observation) (kept : HandleMap HeldPin) (xs : List State) → changed_in d.0 (with_mapping kept) (applied d (PinStep p) seen xs) ≡ applied d (PinStep p) seen (changed_in d.0 (with_mapping kept) xs)
 mapped-swap d p Taken kept xs = changed-swap xs d.0 p.dom.0 (with_mapping kept) (with_slot p.gref.0 (PinnedCount p.dir)) (λ x. refl) (λ x. refl) (λ x. refl)
 mapped-swap d p seen kept xs = refl
 
@@ -54,7 +54,7 @@ place-changed : (xs : List State) (d t : ℕ) (g : State → State) → ((x : St
 place-changed [] d t g keeps = refl
 place-changed (z ∷ zs) d t g keeps = grind (arith, place-changed zs d t g keeps, keeps z)
 
-place-applied : (d : DomId) (step : Step) (seen : Seen) (xs : List State) → position_or_len (has_id d.0) (applied d step seen xs) ≡ position_or_len (has_id d.0) xs
+place-applied : (d : DomId) (step : Step) (seen : Observation) (xs : List State) → position_or_len (has_id d.0) (applied d step seen xs) ≡ position_or_len (has_id d.0) xs
 place-applied d (PinStep p) Taken xs = place-changed xs d.0 p.dom.0 (with_slot p.gref.0 (PinnedCount p.dir)) (λ x. refl)
 place-applied d (Exchange gref looked change) Taken xs = place-changed xs d.0 d.0 (with_own gref.0 change) (λ x. refl)
 place-applied d (Unpin p holder) seen xs = place-changed (changed_in p.dom.0 (with_slot p.gref.0 (Unpinned p.dir)) xs) d.0 d.0 (without_holder holder) (kept-id holder)
@@ -64,16 +64,16 @@ place-applied d (StoreHeader version frames) seen xs = place-changed xs d.0 d.0 
 place-applied d step seen xs = refl
 
 -- a domain stands where it stood before the step
-pub still-there : (d : DomId) (step : Step) (seen : Seen) (xs : List State) → position (has_id d.0) (applied d step seen xs) ≡ position (has_id d.0) xs
+pub still-there : (d : DomId) (step : Step) (seen : Observation) (xs : List State) → position (has_id d.0) (applied d step seen xs) ≡ position (has_id d.0) xs
 still-there d step seen xs = ap (λ (n : ℕ). cond (ltb n (length (applied d step seen xs))) (Some n) None) (place-applied d step seen xs)
     ∙ ap (λ (m : ℕ). cond (ltb (position_or_len (has_id d.0) xs) m) (Some (position_or_len (has_id d.0) xs)) None) (length-applied d step seen xs)
 
-pub still-within : (d : DomId) (step : Step) (seen : Seen) (xs ws : List State) (at : ℕ) (x : State) → position (has_id d.0) xs ≡ Some at → ws ≡ applied d step seen xs → at < length ws
+pub still-within : (d : DomId) (step : Step) (seen : Observation) (xs ws : List State) (at : ℕ) (x : State) → position (has_id d.0) xs ≡ Some at → ws ≡ applied d step seen xs → at < length ws
 still-within d step seen xs ws at x place left =
     subst (λ (l : List State). at < length l) (sym left) (position-Some (has_id d.0) (applied d step seen xs) at x (still-there d step seen xs ∙ place)).0
 
 -- its state there
-pub stepped-state : (d : DomId) (step : Step) (seen : Seen) (xs : List State) (at : ℕ) (x : State) → position (has_id d.0) xs ≡ Some at
+pub stepped-state : (d : DomId) (step : Step) (seen : Observation) (xs : List State) (at : ℕ) (x : State) → position (has_id d.0) xs ≡ Some at
     → (y : State) × (slice_get (applied d step seen xs) at ≡ Some y) × (y ≡ get_or (applied d step seen xs) at y)
 stepped-state d step seen xs at x place = let ws = applied d step seen xs in let within = (position-Some (has_id d.0) ws at x (still-there d step seen xs ∙ place)).0 in
     let here = slice_get-get_or ws at x within in (get_or ws at x, here, same_Some _ _ (sym here ∙ slice_get-get_or ws at (get_or ws at x) within))
@@ -96,7 +96,7 @@ Untouched field (StoreHeader version frames) = (z : State) → field (with_heade
 Untouched field (Exchange gref looked change) = (z : State) → field (with_own gref.0 change z) ≡ field z
 Untouched field step = Unit {0}
 
-applied-keeps : {A : Type 0} (field : State → A) (d : DomId) (step : Step) (seen : Seen) (xs : List State) (k : ℕ) (y : State) → Untouched field step → slice_get (applied d step seen xs) k ≡ Some y → (x : State) × (slice_get xs k ≡ Some x) × (field y ≡ field x)
+applied-keeps : {A : Type 0} (field : State → A) (d : DomId) (step : Step) (seen : Observation) (xs : List State) (k : ℕ) (y : State) → Untouched field step → slice_get (applied d step seen xs) k ≡ Some y → (x : State) × (slice_get xs k ≡ Some x) × (field y ≡ field x)
 applied-keeps field d (PinStep p) Taken xs k y keeps e = changed-keeps field p.dom.0 (with_slot p.gref.0 (PinnedCount p.dir)) xs k y (λ z. keeps z p.gref.0 (PinnedCount p.dir)) e
 applied-keeps field d (Exchange gref looked change) Taken xs k y keeps e = changed-keeps field d.0 (with_own gref.0 change) xs k y keeps e
 applied-keeps field d (Unpin p holder) seen xs k y keeps e =
@@ -107,13 +107,13 @@ applied-keeps field d (StoreHeader version frames) seen xs k y keeps e = changed
 applied-keeps field d step seen xs k y keeps e = (y, e, refl)
 
 -- so it is the same before the step and after it
-pub kept-part : {A : Type 0} (field : State → A) (d : DomId) (step : Step) (seen : Seen) (xs : List State) (k : ℕ) (x y : State) → Untouched field step → slice_get xs k ≡ Some x → slice_get (applied d step seen xs) k ≡ Some y → field y ≡ field x
+pub kept-part : {A : Type 0} (field : State → A) (d : DomId) (step : Step) (seen : Observation) (xs : List State) (k : ℕ) (x y : State) → Untouched field step → slice_get xs k ≡ Some x → slice_get (applied d step seen xs) k ≡ Some y → field y ≡ field x
 kept-part field d step seen xs k x y keeps here there = let a = applied-keeps field d step seen xs k y keeps there in a.2 ∙ ap field (same_Some a.0 x (sym a.1 ∙ here))
 
 -- the call under way is
-pub still-underway : (d : DomId) (step : Step) (seen : Seen) (xs : List State) (k : ℕ) (x y : State) → slice_get xs k ≡ Some x → slice_get (applied d step seen xs) k ≡ Some y → y.underway ≡ x.underway
+pub still-underway : (d : DomId) (step : Step) (seen : Observation) (xs : List State) (k : ℕ) (x y : State) → slice_get xs k ≡ Some x → slice_get (applied d step seen xs) k ≡ Some y → y.underway ≡ x.underway
 still-underway d step seen xs k x y = kept-part (λ z. z.underway) d step seen xs k x y (by step) where
-  gone : (holder : Holder) (z : State) → (without_holder holder z).underway ≡ z.underway
+  gone : (holder : PinHolder) (z : State) → (without_holder holder z).underway ≡ z.underway
   gone (ByMapping handle) z = refl
   gone (ByLeg n) z = refl
 
@@ -128,22 +128,22 @@ still-underway d step seen xs k x y = kept-part (λ z. z.underway) d step seen x
 -- what is left to do of a call
 
 -- what the domain's entries, table and mappings are makes no difference once the body words of a grant are stored
-module _ (domains : List DomainConfig) (first : ℕ) (may : TypeId → TypeId → Perms → Bool) (own own' : List Own) (header header' : Header) (mappings mappings' : HandleMap Held) where
+module _ (domains : List DomainConfig) (first : ℕ) (may : TypeId → TypeId → Perms → Bool) (own own' : List OwnerEntry) (header header' : Header) (mappings mappings' : HandleMap HeldPin) where
   abbrev Before : CallerKnowledge
   Before = knowledge_of domains first may own header mappings
 
   abbrev After : CallerKnowledge
   After = knowledge_of domains first may own' header' mappings'
 
-  source-alike : (d : DomId) (c : CopyArgs) (l : Leg) (p : Held) (e : Entry) → after_source_pin Before d c l p e ≡ after_source_pin After d c l p e
+  source-alike : (d : DomId) (c : CopyArgs) (l : Leg) (p : HeldPin) (e : Entry) → after_source_pin Before d c l p e ≡ after_source_pin After d c l p e
   source-alike d c l p (Via dom ro dom2 gref) = refl
   source-alike d c l p e = refl
 
-  dest-alike : (d : DomId) (c : CopyArgs) (source : Route) (l : Leg) (p : Held) (e : Entry) → after_dest_pin Before d c source l p e ≡ after_dest_pin After d c source l p e
+  dest-alike : (d : DomId) (c : CopyArgs) (source : AccessPath) (l : Leg) (p : HeldPin) (e : Entry) → after_dest_pin Before d c source l p e ≡ after_dest_pin After d c source l p e
   dest-alike d c source l p (Via dom ro dom2 gref) = refl
   dest-alike d c source l p e = refl
 
-  leg-alike : (d : DomId) (aim : Aim) (l : Leg) (next : LegNext) → after_leg Before d aim l next ≡ after_leg After d aim l next
+  leg-alike : (d : DomId) (aim : PinPurpose) (l : Leg) (next : LegNext) → after_leg Before d aim l next ≡ after_leg After d aim l next
   leg-alike d Mapping l (Pinned p) = refl
   leg-alike d (Source c None) l (Pinned p) = source-alike d c l p p.entry
   leg-alike d (Source c (Some via)) l (Pinned p) = refl
@@ -158,20 +158,20 @@ module _ (domains : List DomainConfig) (first : ℕ) (may : TypeId → TypeId �
   IsStoring (StoringSecond gref entry) = Unit {0}
   IsStoring phase = ⊥
 
-  phase-alike : (d : DomId) (phase : Phase) (seen : Seen) → (IsStoring phase → ⊥) → phase_after Before d phase seen ≡ phase_after After d phase seen
+  phase-alike : (d : DomId) (phase : Phase) (seen : Observation) → (IsStoring phase → ⊥) → phase_after Before d phase seen ≡ phase_after After d phase seen
   phase-alike d (Storing gref entry) seen n = absurd (n tt)
   phase-alike d (StoringSecond gref entry) seen n = absurd (n tt)
   phase-alike d (Walking aim l at) seen n = leg-alike d aim l (leg_after l at seen)
   phase-alike d phase seen n = grind arith
 
 -- an open call has the same left to do by what its domain knew before its step and by what it knows after it
-pub left-alike : (s : Setting) (h : History) (xs : List State) (k : ℕ) (d : DomId) (x y : State) (o : Open) (c : Underway) (seen : Seen) → OpenAgrees s h x.id o c → slice_get xs k ≡ Some x → slice_get (applied d o.step seen xs) k ≡ Some y
+pub left-alike : (s : Setting) (h : History) (xs : List State) (k : ℕ) (d : DomId) (x y : State) (o : OpenCall) (c : Underway) (seen : Observation) → OpenAgrees s h x.id o c → slice_get xs k ≡ Some x → slice_get (applied d o.step seen xs) k ≡ Some y
     → IsLeftAlike (knowledge_of s.domains s.first_generation s.may x.own x.header x.mappings) (knowledge_of s.domains s.first_generation s.may y.own y.header y.mappings) o.call seen
 left-alike s h xs k d x y o c seen a here there = rw a.here (by a.phase a.acts) where
   Alike : Phase → Type 0
   Alike p = phase_after (knowledge_of s.domains s.first_generation s.may x.own x.header x.mappings) o.call.caller p seen ≡ phase_after (knowledge_of s.domains s.first_generation s.may y.own y.header y.mappings) o.call.caller p seen
 
-  stored : (gref : GrantRef) (half : Half) (word : ℕ) (p : Phase) → StoreBody gref half word ≡ o.step → Alike p
+  stored : (gref : GrantRef) (half : BodyWord) (word : ℕ) (p : Phase) → StoreBody gref half word ≡ o.step → Alike p
   stored gref half word p is = let step : Step = StoreBody gref half word in let at = subst (λ (z : Step). slice_get (applied d z seen xs) k ≡ Some y) (sym is) there in
       let own : y.own ≡ x.own = kept-part (λ z. z.own) d step seen xs k x y (λ z r c. refl) here at in
       let header : y.header ≡ x.header = kept-part (λ z. z.header) d step seen xs k x y (λ z r c. refl) here at in
@@ -185,22 +185,22 @@ left-alike s h xs k d x y o c seen a here there = rw a.here (by a.phase a.acts) 
 -- what the domain's call comes to
 
 -- a new state of the domain, which no step makes, stands after the step as it stood before it
-set-after : (d : DomId) (step : Step) (seen : Seen) (f : State → State) (xs : List State) (at : ℕ) (x y : State) → changed_in d.0 f (applied d step seen xs) ≡ applied d step seen (changed_in d.0 f xs) → position (has_id d.0) xs ≡ Some at
+set-after : (d : DomId) (step : Step) (seen : Observation) (f : State → State) (xs : List State) (at : ℕ) (x y : State) → changed_in d.0 f (applied d step seen xs) ≡ applied d step seen (changed_in d.0 f xs) → position (has_id d.0) xs ≡ Some at
     → x ≡ get_or xs at x → y ≡ get_or (applied d step seen xs) at y → set (applied d step seen xs) at (f y) ≡ applied d step seen (set xs at (f x))
 set-after d step seen f xs at x y swap place here there = set-state (applied d step seen xs) d.0 at f y (f y) (still-there d step seen xs ∙ place) there refl ∙ swap
     ∙ ap (applied d step seen) (sym (set-state xs d.0 at f x (f x) place here refl))
 
 -- a map's call ends with its pin
 abbrev pub EndsByPin : Step → Action → Type 0
-EndsByPin step (Done (KeptPin held)) = (p : Held) × (step ≡ PinStep p)
+EndsByPin step (Done (KeptPin held)) = (p : HeldPin) × (step ≡ PinStep p)
 EndsByPin step action = Unit {0}
 
 -- what the call comes to from the states after its step is what it comes to from those before, and then the step
-pub settled-after : (fs : FrameSet) (xs ys : List State) (at : ℕ) (d : DomId) (x y : State) (step : Step) (seen : Seen) (call : Call) (action : Action) (answer : Option Answer) → position (has_id d.0) xs ≡ Some at → x ≡ get_or xs at x
+pub settled-after : (fs : FrameSet) (xs ys : List State) (at : ℕ) (d : DomId) (x y : State) (step : Step) (seen : Observation) (call : Call) (action : Action) (answer : Option Answer) → position (has_id d.0) xs ≡ Some at → x ≡ get_or xs at x
     → y ≡ get_or (applied d step seen xs) at y → slice_get xs at ≡ Some x → slice_get (applied d step seen xs) at ≡ Some y → EndsByPin step action
     → Settled fs (applied d step seen xs) at y step call action answer ys → (zs : List State) × Settled fs xs at x step call action answer zs × (ys ≡ applied d step seen zs)
 settled-after fs xs ys at d x y step seen call action answer place here there found kept ends settled = by action ends settled where
-  rests : (u : Option Open) → set (applied d step seen xs) at (with_underway u y) ≡ applied d step seen (set xs at (with_underway u x))
+  rests : (u : Option OpenCall) → set (applied d step seen xs) at (with_underway u y) ≡ applied d step seen (set xs at (with_underway u x))
   rests u = set-after d step seen (with_underway u) xs at x y (applied-swap d step seen u xs) place here there
 
   over : List State
@@ -220,6 +220,6 @@ settled-after fs xs ys at d x y step seen call action answer place here there fo
       let at-pin = subst (λ (z : Step). slice_get (applied d z seen xs) at ≡ Some y) pins kept in
       let same : y.mappings ≡ x.mappings = kept-part (λ z. z.mappings) d (PinStep p) seen xs at x y (λ z r c. refl) found at-pin in
       let swap = subst (λ (z : Step). changed_in d.0 (with_mapping mappings) (applied d z seen xs) ≡ applied d z seen (changed_in d.0 (with_mapping mappings) xs)) (sym pins) (mapped-swap d p seen mappings xs) in
-      (set xs at (with_mapping mappings x), (a, is, (handle, mappings, gives, subst (λ (m : HandleMap Held). Adds m mappings handle held) same adds, refl)), left ∙ set-after d step seen (with_mapping mappings) xs at x y swap place here there)
+      (set xs at (with_mapping mappings x), (a, is, (handle, mappings, gives, subst (λ (m : HandleMap HeldPin). Adds m mappings handle held) same adds, refl)), left ∙ set-after d step seen (with_mapping mappings) xs at x y swap place here there)
   by (Done (Given value)) e (a, is, (gives, left)) = (over, (a, is, (gives, refl)), left ∙ rests None)
   by (Done (Refused denial)) e (a, is, (gives, left)) = (over, (a, is, (gives, refl)), left ∙ rests None)

@@ -1,28 +1,28 @@
 -- An open call by its phase: which steps it may make, and what there is to show of each (EachStep does).
 use Rattle.gt_core.proofs.Words.{◌≡◌, ◌≢◌, ℕ, refl, false, List, [], ◌∷◌, Option, Some, None, cond, sym, ap, ◌∙◌}
 use Rattle.gt_core.proofs.Words.{subst, reverse, ◌==◌, is_none, eq-eqb, true≢false, none-some, domain_of, DomId}
-use Rattle.gt_core.proofs.Words.{GrantRef, DomainConfig, Held, Asked, Verdict, Step, LookHeader, LookControl}
+use Rattle.gt_core.proofs.Words.{GrantRef, DomainConfig, HeldPin, OpenRequest, CallResult, Step, LookHeader, LookControl}
 use Rattle.gt_core.proofs.Words.{LookBody, PinStep, Unpin, StoreBody, StoreHeader, Exchange, ReadBytes, WriteBytes}
-use Rattle.gt_core.proofs.Words.{Seen, Taken, Missed, Action, Makes, Done, Phase, Leg, LegPhase, AtHeader, Look, Body}
+use Rattle.gt_core.proofs.Words.{Observation, Taken, Missed, Action, Makes, Done, Phase, Leg, LegPhase, AtHeader, Look, Body}
 use Rattle.gt_core.proofs.Words.{last_first, begun, FitsStep, action_at, leg_step, next_to_give, IsQuiet, StandsAt}
 use Rattle.gt_core.proofs.Words.{State, state_of, History, Setting, word_at, known_at, seen_by, legs_at, StepsSoFar}
 use Rattle.gt_core.proofs.Words.{DomainsStand, StateAgrees, PhaseStands, numbered, pins_at, Rests, FitsAsked, length}
-use Rattle.gt_core.proofs.Words.{ByLeg, IsExchanged, CallerKnowledge, Handle, ByMapping, Half, Call, FirstHalf}
+use Rattle.gt_core.proofs.Words.{ByLeg, IsExchanged, CallerKnowledge, Handle, ByMapping, BodyWord, Call, FirstHalf}
 use Rattle.gt_core.proofs.Words.{SecondHalf, Second, Pinning, Relook, held_of, cond_both, IsLegalHistory, ◌⊎◌}
 use Rattle.gt_core.proofs.Words.{option_or, Denial, phase_after, LeavesAll, first_at, IsClean, phase_refusal}
 use Rattle.gt_core.proofs.{Steps.See.word-shows, Steps.See.table-fits, Legs.Words, Entries.spelled}
 
-pub none-of : (k : CallerKnowledge) (d : DomId) (r q : Asked) → r ≡ q → begun k d r ≡ None → begun k d q ≡ None
-none-of k d r q is none = subst (λ (z : Asked). begun k d z ≡ None) is none
+pub none-of : (k : CallerKnowledge) (d : DomId) (r q : OpenRequest) → r ≡ q → begun k d r ≡ None → begun k d q ≡ None
+none-of k d r q is none = subst (λ (z : OpenRequest). begun k d z ≡ None) is none
 
 -- the call by its parts
-pub call-is : (call : Call) (d : DomId) (r : Asked) (p : Phase) → call.caller ≡ d → call.request ≡ r → call.phase ≡ Some p → call ≡ record { caller = d; request = r; phase = Some p }
+pub call-is : (call : Call) (d : DomId) (r : OpenRequest) (p : Phase) → call.caller ≡ d → call.request ≡ r → call.phase ≡ Some p → call ≡ record { caller = d; request = r; phase = Some p }
 call-is call d r p a b e = ap (λ (z : DomId). record { caller = z; request = call.request; phase = call.phase }) a
-    ∙ ap (λ (z : Asked). record { caller = d; request = z; phase = call.phase }) b
+    ∙ ap (λ (z : OpenRequest). record { caller = d; request = z; phase = call.phase }) b
     ∙ ap (λ (z : Option Phase). record { caller = d; request = r; phase = z }) e
 
 -- where a call stands before its next step, in a core that stands for the history
-pub record IsHere (s : Setting) (h : History) (xs : List State) (d : DomId) (r : Asked) (shown : List Seen) (so_far : StepsSoFar) (phase : Phase) (step : Step) : Type 0 where
+pub record IsHere (s : Setting) (h : History) (xs : List State) (d : DomId) (r : OpenRequest) (shown : List Observation) (so_far : StepsSoFar) (phase : Phase) (step : Step) : Type 0 where
   pub legal : IsLegalHistory s h
   pub st : DomainsStand s h xs
   pub own : state_of xs d.0 ≢ None
@@ -42,8 +42,8 @@ OfAction P (Makes z) = P z
 OfAction P (Done v) = Unit {0}
 
 -- a leg looks, or pins
-pub by-leg : (P : Step → Type 0) → ((dom : DomId) → P (LookHeader dom)) → ((dom : DomId) (gref : GrantRef) → P (LookControl dom gref)) → ((dom : DomId) (gref : GrantRef) (half : Half) → P (LookBody dom gref half))
-    → ((p : Held) → P (PinStep p)) → (l : Leg) (at : LegPhase) → P (leg_step l at)
+pub by-leg : (P : Step → Type 0) → ((dom : DomId) → P (LookHeader dom)) → ((dom : DomId) (gref : GrantRef) → P (LookControl dom gref)) → ((dom : DomId) (gref : GrantRef) (half : BodyWord) → P (LookBody dom gref half))
+    → ((p : HeldPin) → P (PinStep p)) → (l : Leg) (at : LegPhase) → P (leg_step l at)
 by-leg P headers looks bodies pins l AtHeader = headers l.dom
 by-leg P headers looks bodies pins l (Look more) = looks l.dom l.gref
 by-leg P headers looks bodies pins l (Body more word) = bodies l.dom l.gref FirstHalf
@@ -52,7 +52,7 @@ by-leg P headers looks bodies pins l (Pinning more word body second) = pins (hel
 by-leg P headers looks bodies pins l (Relook more word rule) = looks l.dom l.gref
 
 -- a call that gives its pins back makes a step that gives one back by its place
-pub by-giving : (P : Step → Type 0) → ((p : Held) (n : ℕ) → P (Unpin p (ByLeg n))) → (held : List Held) (verdict : Verdict) (step : Step) → next_to_give held verdict ≡ Makes step → P step
+pub by-giving : (P : Step → Type 0) → ((p : HeldPin) (n : ℕ) → P (Unpin p (ByLeg n))) → (held : List HeldPin) (verdict : CallResult) (step : Step) → next_to_give held verdict ≡ Makes step → P step
 by-giving P each [] verdict step e = absurd (let f : Done verdict ≡ Makes step = e in cc)
 by-giving P each (p ∷ ps) verdict step e = subst P (makes-same _ _ e) (each p (length ps))
 
@@ -73,7 +73,7 @@ words-of s h xs l legal st = record {
 }
 
 -- what holds of each step that a call makes alone
-pub by-quiet : (P : Step → Type 0) → ((p : Held) (handle : Handle) → P (Unpin p (ByMapping handle))) → ((gref : GrantRef) (half : Half) (word : ℕ) → P (StoreBody gref half word)) → ((version frames : ℕ) → P (StoreHeader version frames))
+pub by-quiet : (P : Step → Type 0) → ((p : HeldPin) (handle : Handle) → P (Unpin p (ByMapping handle))) → ((gref : GrantRef) (half : BodyWord) (word : ℕ) → P (StoreBody gref half word)) → ((version frames : ℕ) → P (StoreHeader version frames))
     → ((dom : DomId) (frame off len : ℕ) → P (ReadBytes dom frame off len) × P (WriteBytes dom frame off len)) → (step : Step) → IsQuiet step → P step
 by-quiet P unpins bodies headers accesses (Unpin p (ByMapping handle)) q = unpins p handle
 by-quiet P unpins bodies headers accesses (StoreBody gref half word) q = bodies gref half word
@@ -98,15 +98,15 @@ seen-fits s h d step = refl
 -- where a step leads
 
 -- the first rule that stands at this step, or before it, is the refusal that the call comes to
-abbrev pub Judged : Setting → History → DomId → Asked → StepsSoFar → Phase → Step → Type 0
+abbrev pub Judged : Setting → History → DomId → OpenRequest → StepsSoFar → Phase → Step → Type 0
 Judged s h d r so_far phase step = option_or (phase_refusal phase) (first_at s h d r so_far step) ≡ phase_refusal (phase_after (known_at s h d) d phase (seen_by s h d step))
 
 -- where a step leads: the first rule that stands is the refusal there, and there the call stands
-abbrev pub Leads : Setting → History → DomId → Asked → StepsSoFar → Option Denial → Phase → Type 0
+abbrev pub Leads : Setting → History → DomId → OpenRequest → StepsSoFar → Option Denial → Phase → Type 0
 Leads s h d r now rule next = (rule ≡ phase_refusal next) × PhaseStands s h d r now next
 
 -- where a call stands after a step
-abbrev pub Placed : Setting → History → DomId → Asked → StepsSoFar → Phase → Step → Type 0
+abbrev pub Placed : Setting → History → DomId → OpenRequest → StepsSoFar → Phase → Step → Type 0
 Placed s h d r so_far phase step = PhaseStands s h d r ((step, seen_by s h d step) ∷ so_far) (phase_after (known_at s h d) d phase (seen_by s h d step))
 
 -- the next phase
@@ -115,4 +115,4 @@ next_of s h d phase step = phase_after (known_at s h d) d phase (seen_by s h d s
 
 -- a step of a call that is not at its end leaves all as it was, or ends it with Ok
 abbrev pub LeavesOrEnds : Setting → History → DomId → Phase → Step → Type 0
-LeavesOrEnds s h d phase step = LeavesAll (step, seen_by s h d step) ⊎ ((steps : List (Step × Seen)) → IsClean (next_of s h d phase step) steps)
+LeavesOrEnds s h d phase step = LeavesAll (step, seen_by s h d step) ⊎ ((steps : List (Step × Observation)) → IsClean (next_of s h d phase step) steps)

@@ -1,8 +1,8 @@
 -- The live pins and the mappings are the same without keys, where each handle that is named is told by its serial.
 use Rattle.gt_core.proofs.Words.{◌≡◌, ◌+◌, ℕ, refl, Bool, true, List, [], ◌∷◌, ◌++◌, length, Option, Some, cond, sym}
 use Rattle.gt_core.proofs.Words.{ap, ◌∙◌, subst, ◌==◌, count_by, option_map, eqb-true, sum_by-cons, fun_ext, DomId, Dir}
-use Rattle.gt_core.proofs.Words.{Read, Write, Entry, Handle, Holder, ByMapping, ByLeg, Held, Seen, Taken, PinStep}
-use Rattle.gt_core.proofs.Words.{Unpin, Answer, Happened, Stepped, History, Setting, Pin, live, without, is_holder}
+use Rattle.gt_core.proofs.Words.{Read, Write, Entry, Handle, PinHolder, ByMapping, ByLeg, HeldPin, Observation, Taken, PinStep}
+use Rattle.gt_core.proofs.Words.{Unpin, Answer, ItemEvent, Stepped, History, Setting, Pin, live, without, is_holder}
 use Rattle.gt_core.proofs.Words.{same_handle, holder_after, gather, by_leg, mapping_named, pinned_by, unpinned_by}
 use Rattle.gt_core.proofs.Words.{is_pin_on, reads_at, writes_at, mappings_at, mapping_of, entry_at, generation_at}
 use Rattle.gt_core.proofs.Words.{word_at, known_at, shown_at, subject_at, bare_handle, bare_happened, told_part}
@@ -13,7 +13,7 @@ use Rattle.gt_core.proofs.{HandlesGiven.HeldGiven, HandlesGiven.PinsGiven}
 use Rattle.gt_core.proofs.{HandlesGiven.pins-given, HandlesGiven.known-tells, HandlesGiven.unpin-known}
 use Rattle.std.proofs.lemmas.List.Elements.{All-weaker}
 
-abbrev pub bare_holder : Holder → Holder
+abbrev pub bare_holder : PinHolder → PinHolder
 bare_holder (ByMapping handle) = ByMapping (bare_handle handle)
 bare_holder (ByLeg number) = ByLeg number
 
@@ -26,10 +26,10 @@ bare_pins ps = map bare_pin ps
 -- pins that are given back
 
 -- of the domain's pins the holder is told without keys
-abbrev Tells : ℕ → Holder → Pin → Type 0
+abbrev Tells : ℕ → PinHolder → Pin → Type 0
 Tells d holder p = p.actor ≡ d → is_holder (bare_holder p.holder) (bare_holder holder) ≡ is_holder p.holder holder
 
-without-bare : (d : ℕ) (holder : Holder) (ps : List Pin) → All (Tells d holder) ps → without d (bare_holder holder) (bare_pins ps) ≡ bare_pins (without d holder ps)
+without-bare : (d : ℕ) (holder : PinHolder) (ps : List Pin) → All (Tells d holder) ps → without d (bare_holder holder) (bare_pins ps) ≡ bare_pins (without d holder ps)
 unfolding without
 without-bare d holder [] t = refl
 without-bare d holder (p ∷ ps) t = grind (arith, without-bare d holder ps (All-tail (Tells d holder) p ps t), All-tail, All-head, eqb-true)
@@ -40,7 +40,7 @@ leg-tells d n ps = grind arith
 mapping-tells : (s : Setting) (h : History) (d : ℕ) (a : Handle) (ps : List Pin) → IsRun s h → IsKnown h d a → PinsGiven h ps → All (Tells d (ByMapping a)) ps
 mapping-tells s h d a ps run k g = grind (arith, All-weaker, known-tells)
 
-unpinned-bare : (s : Setting) (h : History) (d : DomId) (x : Happened) (ps : List Pin) → IsRun s h → ((p : Held) (a : Handle) (seen : Seen) → x ≡ Stepped (Unpin p (ByMapping a)) seen → IsKnown h d.0 a) → PinsGiven h ps
+unpinned-bare : (s : Setting) (h : History) (d : DomId) (x : ItemEvent) (ps : List Pin) → IsRun s h → ((p : HeldPin) (a : Handle) (seen : Observation) → x ≡ Stepped (Unpin p (ByMapping a)) seen → IsKnown h d.0 a) → PinsGiven h ps
     → unpinned_by d (bare_happened x) (bare_pins ps) ≡ bare_pins (unpinned_by d x ps)
 unpinned-bare s h d (Stepped (Unpin p (ByMapping a)) seen) ps run k g = without-bare d.0 (ByMapping a) ps (mapping-tells s h d.0 a ps run (k p a seen refl) g)
 unpinned-bare s h d (Stepped (Unpin p (ByLeg n)) seen) ps run k g = without-bare d.0 (ByLeg n) ps (leg-tells d.0 n ps)
@@ -56,7 +56,7 @@ legs-bare d (p ∷ ps) = grind (arith, legs-bare d ps)
 holder-bare : (a : Option Answer) (n : ℕ) → holder_after (option_map answer_from (option_map told_part a)) n ≡ bare_holder (holder_after a n)
 holder-bare a n = grind arith
 
-pinned-bare : (d : DomId) (x : Happened) (a : Option Answer) (h : History) (ps : List Pin)
+pinned-bare : (d : DomId) (x : ItemEvent) (a : Option Answer) (h : History) (ps : List Pin)
     → pinned_by d (bare_happened x) (option_map answer_from (option_map told_part a)) (bare h) (bare_pins ps) ≡ bare_pins (pinned_by d x a h ps)
 pinned-bare d (Stepped (PinStep p) Taken) a h ps =
     let l = legs-bare d.0 ps in let b = holder-bare a (length (gather by_leg d.0 ps)) in let e = (bared h).entry p.dom.0 p.gref.0 in cc
@@ -95,8 +95,8 @@ word-bare s h t r run =
 
 -- mappings
 
-abbrev pub bare_mappings : List (Handle × Held) → List (Handle × Held)
-bare_mappings ms = map (λ (m : Handle × Held). (bare_handle m.0, m.1)) ms
+abbrev pub bare_mappings : List (Handle × HeldPin) → List (Handle × HeldPin)
+bare_mappings ms = map (λ (m : Handle × HeldPin). (bare_handle m.0, m.1)) ms
 
 gather-bare : (d : ℕ) (ps : List Pin) → gather mapping_named d (bare_pins ps) ≡ bare_mappings (gather mapping_named d ps)
 unfolding gather
@@ -110,7 +110,7 @@ found-bare : (s : Setting) (h : History) (d : ℕ) (a : Handle) (ps : List Pin) 
 unfolding gather
 found-bare s h d a [] run k g = refl
 found-bare s h d a (p ∷ ps) run k g = let P : Pin → Type 0 = λ q. HeldGiven h q.actor q.holder in by (p.actor == d) refl p.holder (All-head P p ps g) (found-bare s h d a ps run k (All-tail P p ps g)) where
-  by : (b : Bool) → (p.actor == d) ≡ b → (x : Holder) → HeldGiven h p.actor x → mapping_of (gather mapping_named d (bare_pins ps)) (bare_handle a) ≡ mapping_of (gather mapping_named d ps) a
+  by : (b : Bool) → (p.actor == d) ≡ b → (x : PinHolder) → HeldGiven h p.actor x → mapping_of (gather mapping_named d (bare_pins ps)) (bare_handle a) ≡ mapping_of (gather mapping_named d ps) a
       → mapping_of (cond b (mapping_named (bare_holder x) p.held) [] ++ gather mapping_named d (bare_pins ps)) (bare_handle a) ≡ mapping_of (cond b (mapping_named x p.held) [] ++ gather mapping_named d ps) a
   by true own (ByMapping m) given rest = ap (λ (b : Bool). cond b (Some p.held) (mapping_of (gather mapping_named d (bare_pins ps)) (bare_handle a))) (known-tells s h d a m run (subst (λ (n : ℕ). IsGiven h n m) (eqb-true p.actor d own) given) k)
       ∙ ap (cond (same_handle m a) (Some p.held)) rest
@@ -125,7 +125,7 @@ pub known-bare : (s : Setting) (h : History) (d : DomId) → IsRun s h → known
 known-bare s h d run = let e : ◌≡◌ {A = ℕ → Entry} (λ r. entry_at (bare h) d.0 r) (λ r. entry_at h d.0 r) = fun_ext (λ r. (bared h).entry d.0 r) in
     let g : ◌≡◌ {A = ℕ → ℕ} (λ r. generation_at s (bare h) d.0 r) (λ r. generation_at s h d.0 r) = fun_ext (λ r. ap (λ (n : ℕ). s.first_generation + n) ((bared h).raises d.0 r)) in
     let t = (bared h).table s d in let m = (bared h).maps d.0 in
-    let n : length (mappings_at (bare h) d.0) ≡ length (mappings_at h d.0) = ap length (mappings-bare s h d.0 run) ∙ length-map (mappings_at h d.0) (λ (m : Handle × Held). (bare_handle m.0, m.1)) in cc
+    let n : length (mappings_at (bare h) d.0) ≡ length (mappings_at h d.0) = ap length (mappings-bare s h d.0 run) ∙ length-map (mappings_at h d.0) (λ (m : Handle × HeldPin). (bare_handle m.0, m.1)) in cc
 
 -- what an entry shows is the same
 shown-bare : (s : Setting) (h : History) (dom : DomId) (r : ℕ) → IsRun s h → shown_at s (bare h) dom r ≡ shown_at s h dom r

@@ -2,7 +2,7 @@
 use Rattle.gt_core.proofs.Words.{◌≡◌, ◌==◌, ℕ, zero, suc, refl, Bool, true, false, List, [], ◌∷◌, length, map}
 use Rattle.gt_core.proofs.Words.{Some, None, cond, ltb, sym, ap, ◌∙◌, arith, get_or, set, position, position_or_len}
 use Rattle.gt_core.proofs.Words.{length-map, DomId, DomainConfig, Step, PinStep, Unpin, StoreBody, StoreHeader}
-use Rattle.gt_core.proofs.Words.{Exchange, Seen, Taken, State, state_of, changed_in, applied, with_slot, with_own}
+use Rattle.gt_core.proofs.Words.{Exchange, Observation, Taken, State, state_of, changed_in, applied, with_slot, with_own}
 use Rattle.gt_core.proofs.Words.{with_header, without_holder, Unpinned, Stored, first_state, Result, Ok}
 use Rattle.gt_core.proofs.Words.{Err, OnErr, take, drop, ◌++◌, drop_all, append-nil, take_all}
 use Rattle.std.specs.Prelude.{OnOk}
@@ -45,7 +45,7 @@ ids-changed [] t g keeps = refl
 ids-changed (z ∷ zs) t g keeps = grind (arith, ids-changed zs t g keeps, keeps z)
 
 -- and so does a step
-pub ids-applied : (d : DomId) (step : Step) (seen : Seen) (xs : List State) → ids_in (applied d step seen xs) ≡ ids_in xs
+pub ids-applied : (d : DomId) (step : Step) (seen : Observation) (xs : List State) → ids_in (applied d step seen xs) ≡ ids_in xs
 ids-applied d (PinStep p) Taken xs = ids-changed xs p.dom.0 (with_slot p.gref.0 (PinnedCount p.dir)) (λ x. refl)
 ids-applied d (Exchange gref looked change) Taken xs = ids-changed xs d.0 (with_own gref.0 change) (λ x. refl)
 ids-applied d (Unpin p holder) seen xs = ids-changed (changed_in p.dom.0 (with_slot p.gref.0 (Unpinned p.dir)) xs) d.0 (without_holder holder) (kept-id holder)

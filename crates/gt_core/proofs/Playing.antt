@@ -4,7 +4,7 @@ use Rattle.gt_core.proofs.Words.{take_more, Event, Element, Result, OnErr, DomId
 use Rattle.gt_core.proofs.Words.{frame_counts, FrameSet, all_zeros, AreKept, Begin, Tick, Begun, State, DomainsStand}
 use Rattle.gt_core.proofs.Words.{CoreStands, DoesEvent, setting_of, begun_element, ticked_element, History, Setting}
 use Rattle.gt_core.proofs.Words.{LegalAfter, MayDo, grown, history_after, IfOk, Ok, Err, Ticked, CoreState}
-use Rattle.gt_core.proofs.Words.{StandsForSome, DoesAlone, Memory, Bool, zeros, stands, Did, IsLegalHistory}
+use Rattle.gt_core.proofs.Words.{StandsForSome, DomainsDo, Memory, Bool, zeros, stands, Did, IsLegalHistory}
 use Rattle.gt_core.proofs.{Steps.Write.frames-begun, Steps.Write.frames-start}
 use Rattle.gt_core.specs.States.{core_of}
 
@@ -51,20 +51,20 @@ core-starts config may xs fs domains zeros kept = record { legal = tt; domains =
 
 -- a beginning changes no frame
 begun-stands : (s : Setting) (xs ys : List State) (fs : FrameSet) (dom : DomId) (request : Request) (b : Begun)
-    → DoesAlone s xs (Begin dom request) (begun_element dom request b) ys
+    → DomainsDo s xs (Begin dom request) (begun_element dom request b) ys
     → DoesEvent s (core_of xs fs) (Begin dom request) (begun_element dom request b) (core_of ys fs)
 begun-stands s xs ys fs dom request b stands h st = let r = stands h st.domains in
     (r.0, record { legal = legal-grows s h (Begin dom request) (begun_element dom request b) r.0 st.legal; domains = r.1; frames = frames-begun s h fs dom request b st.frames })
 
 pub begin-does : (s : Setting) (xs ys : List State) (fs : FrameSet) (dom : DomId) (request : Request) (r : Result Begun Memory)
-    → IfOk r (λ b. DoesAlone s xs (Begin dom request) (begun_element dom request b) ys)
+    → IfOk r (λ b. DomainsDo s xs (Begin dom request) (begun_element dom request b) ys)
     → IfOk r (λ b. DoesEvent s (core_of xs fs) (Begin dom request) (begun_element dom request b) (core_of ys fs))
 begin-does s xs ys fs dom request (Ok b) stands = begun-stands s xs ys fs dom request b stands
 begin-does s xs ys fs dom request (Err e) stands = tt
 
 -- after a beginning the core stands for some history, refused memory or not
 pub begun-all : (s : Setting) (xs ys : List State) (fs : FrameSet) (dom : DomId) (request : Request) (r : Result Begun Memory) → StandsForSome s (core_of xs fs)
-    → IfOk r (λ b. DoesAlone s xs (Begin dom request) (begun_element dom request b) ys)
+    → IfOk r (λ b. DomainsDo s xs (Begin dom request) (begun_element dom request b) ys)
     → OnErr r (ys ≡ xs) → StandsForSome s (core_of ys fs)
 begun-all s xs ys fs dom request (Ok b) (h, st) stands err =
     (grown h (begun_element dom request b), (begun-stands s xs ys fs dom request b stands h st).1)

@@ -1,10 +1,10 @@
 -- What the core shows of an entry, and of a mapping, is what the history left.
 use Rattle.gt_core.proofs.Words.{◌≡◌, ℕ, Bool, List, Option, Some, None, cond, sym, ap, ◌∙◌, get_or, position}
-use Rattle.gt_core.proofs.Words.{domain_of, DomId, DomainConfig, Handle, value_of, Held, State, History, Setting}
+use Rattle.gt_core.proofs.Words.{domain_of, DomId, DomainConfig, Handle, value_of, HeldPin, State, History, Setting}
 use Rattle.gt_core.proofs.Words.{mapping_of, mappings_at, DomainsStand, entry_place_of, subject_at, ◌<◌, ◌≤◌, refl}
 use Rattle.gt_core.proofs.Words.{true}
 use Rattle.gt_core.proofs.Words.{false, length, arith, subst, lt-ltb, nat_lt, ◌&&◌, is_some, slice_get, TABLE_ENTRIES}
-use Rattle.gt_core.proofs.Words.{Entry, Header, Own, PinCounts, size_of, row_entry, row_generation, entry_at}
+use Rattle.gt_core.proofs.Words.{Entry, Header, OwnerEntry, PinCounts, size_of, row_entry, row_generation, entry_at}
 use Rattle.gt_core.proofs.Words.{generation_at, table_at, shown_at, StateStands, shown_in, le-ltb, entry_shown}
 use Rattle.std.{specs.Prelude.option_map}
 use Rattle.gt_core.proofs.{Beginning.begin-nowhere, Beginning.agrees-found, Rows.has_id, Steps.See.table-fits}
@@ -23,7 +23,7 @@ subject-nowhere s h xs dom handle p st =
 pub subject-there : (s : Setting) (h : History) (xs : List State) (dom : DomId) (handle : Handle) (at : ℕ) (x : State) → position (has_id dom.0) xs ≡ Some at → x ≡ get_or xs at x → DomainsStand s h xs
     → option_map entry_place_of (value_of x.mappings handle) ≡ subject_at s h dom handle
 subject-there s h xs dom handle at x p here st = let a = agrees-found s h xs dom at x p here st in
-    ap (λ (f : Handle → Option Held). option_map entry_place_of (f handle)) a.2.mappings.named
+    ap (λ (f : Handle → Option HeldPin). option_map entry_place_of (f handle)) a.2.mappings.named
     ∙ ap (λ (d : DomId). option_map entry_place_of (mapping_of (mappings_at h d.0) handle)) a.1
     ∙ sym (ap (λ (b : Bool). cond b (option_map entry_place_of (mapping_of (mappings_at h dom.0) handle)) None) (some-domain (domain_of s.domains dom) a.0))
 
@@ -48,7 +48,7 @@ rows-show s h x r a within = let own = some-at x.own r (let n : length x.own ≡
     let entry : own.0.entry ≡ entry_at h x.id.0 r = sym (ap row_entry own.1) ∙ ap (λ (f : ℕ → Entry). f r) a.entries in
     let generation : own.0.generation ≡ generation_at s h x.id.0 r =
     sym (ap (row_generation s.first_generation) own.1) ∙ ap (λ (f : ℕ → ℕ). f r) a.generations in
-    ap (λ (o : Option Own). shown_in o (slice_get x.slots r)) own.1 ∙ ap (λ (o : Option PinCounts). shown_in (Some own.0) o) slot.1 ∙ (cc)
+    ap (λ (o : Option OwnerEntry). shown_in o (slice_get x.slots r)) own.1 ∙ ap (λ (o : Option PinCounts). shown_in (Some own.0) o) slot.1 ∙ (cc)
 
 -- an entry of the table
 pub shown-there : (s : Setting) (h : History) (xs : List State) (dom : DomId) (r at : ℕ) (x : State) → position (has_id dom.0) xs ≡ Some at → x ≡ get_or xs at x → r < size_of x.header → DomainsStand s h xs

@@ -3,7 +3,7 @@ use Rattle.gt_core.proofs.Words.{◌≡◌, ◌<◌, ◌≤◌, ◌+◌, ℕ, re
 use Rattle.gt_core.proofs.Words.{cond, ltb, sym, ap, ◌∙◌, arith, subst, map, replicate, min, get_or, eqb-true}
 use Rattle.gt_core.proofs.Words.{ltb-false, ltb-true, none-some, same_Some, slice_get-get_or, slice_get_past}
 use Rattle.gt_core.proofs.Words.{length-replicate, All-tail, fun_ext, ◌==◌, slice_get, All, option_map, domain_of}
-use Rattle.gt_core.proofs.Words.{DomId, TypeId, Perms, Config, DomainConfig, Invalid, Own, PinCounts, ENTRIES}
+use Rattle.gt_core.proofs.Words.{DomId, TypeId, Perms, Config, DomainConfig, Invalid, OwnerEntry, PinCounts, ENTRIES}
 use Rattle.gt_core.proofs.Words.{row_entry, row_generation, State, state_of, first_state, Setting, entry_at, raises_at}
 use Rattle.gt_core.proofs.Words.{body_at, live, maps_answered_at, open_call, table_at, control_at, setting_of}
 use Rattle.gt_core.proofs.Words.{StateStands}
@@ -38,7 +38,7 @@ get-replicate {A} n r a = cond_both (ltb r n) (Some a) None (λ o. slice_get (re
 
 -- rows of entries that are all alike
 
-row-of : {A : Type 0} (of : Option Own → A) (row : Own) (a : A) (r : ℕ) → of (Some row) ≡ a → of None ≡ a → of (slice_get (replicate ENTRIES row) r) ≡ a
+row-of : {A : Type 0} (of : Option OwnerEntry → A) (row : OwnerEntry) (a : A) (r : ℕ) → of (Some row) ≡ a → of None ≡ a → of (slice_get (replicate ENTRIES row) r) ≡ a
 row-of of row a r some none = ap of (get-replicate ENTRIES r row) ∙ cond_both (ltb r ENTRIES) (Some row) None (λ o. of o ≡ a) (λ e. some) (λ e. none)
 
 -- each domain at rest
@@ -57,7 +57,7 @@ rest-agrees : (s : Setting) (d : DomainConfig) → domain_of s.domains d.id ≡ 
 unfolding entry_at raises_at live gather maps_answered_at open_call table_at
 rest-agrees s d is f le = let g : min s.first_generation LAST_GENERATION ≡ s.first_generation = omega arith in record {
   header = room-there d.version d.table_frames (record { version = f.0; frames = f.1 }) ∙ sym (ap header_from is);
-  rows = length-replicate {A = Own} ENTRIES (record { entry = Invalid; generation = min s.first_generation LAST_GENERATION });
+  rows = length-replicate {A = OwnerEntry} ENTRIES (record { entry = Invalid; generation = min s.first_generation LAST_GENERATION });
   entries = fun_ext (λ r. row-of row_entry (record { entry = Invalid; generation = min s.first_generation LAST_GENERATION }) Invalid r refl refl);
   generations = fun_ext (λ r. row-of (row_generation s.first_generation) (record { entry = Invalid; generation = min s.first_generation LAST_GENERATION }) (min s.first_generation LAST_GENERATION) r refl refl ∙ g ∙ (let z : s.first_generation ≡ s.first_generation + 0 = omega arith in z));
   room = length-replicate {A = PinCounts} ENTRIES (record { reads = 0; writes = 0; first = 0; second = 0 });

@@ -1,15 +1,15 @@
 -- What the core does for a step of an open call: it is right, and the core stands for it.
 use Rattle.gt_core.proofs.Words.{slice_get, ◌≡◌, ◌≢◌, inl, inr, ℕ, refl, Bool, List, [], ◌∷◌, ◌++◌, length, Option}
 use Rattle.gt_core.proofs.Words.{Some, None, cond, sym, ap, ◌∙◌, subst, reverse, eqb-true, eq-eqb, length-reverse}
-use Rattle.gt_core.proofs.Words.{reverse_onto, same_Some, ◌==◌, DomId, GrantRef, Entry, Invalid, Handle, Held, Asked}
-use Rattle.gt_core.proofs.Words.{ByMapping, ByLeg, Seen, Nothing, Taken, Missed, Verdict, Granted, Given, KeptPin}
+use Rattle.gt_core.proofs.Words.{reverse_onto, same_Some, ◌==◌, DomId, GrantRef, Entry, Invalid, Handle, HeldPin, OpenRequest}
+use Rattle.gt_core.proofs.Words.{ByMapping, ByLeg, Observation, Nothing, Taken, Missed, CallResult, Granted, Given, KeptPin}
 use Rattle.gt_core.proofs.Words.{Refused, Step, PinStep, Unpin, StoreBody, StoreHeader, Exchange, ReadBytes, Action}
 use Rattle.gt_core.proofs.Words.{Makes, Done, Call, Phase, knowledge_of, path, action_at, after_store, pins_at, held_in}
-use Rattle.gt_core.proofs.Words.{Goes, Open, Item, Answer, Denied, AnswerDone, Mapped, State, state_of, sees, History}
+use Rattle.gt_core.proofs.Words.{Goes, OpenCall, Item, Answer, Denied, AnswerDone, Mapped, State, state_of, sees, History}
 use Rattle.gt_core.proofs.Words.{Setting, live, word_at, known_at, legs_at, mappings_at, mapping_of, seen_by, Underway}
 use Rattle.gt_core.proofs.Words.{values, open_call, underway_after, holder_after, one_if_mapped, StepsRight, GivesValue}
 use Rattle.gt_core.proofs.Words.{refusal_in, refusal_of, DomainsStand, StateStands, CallAgrees, OpenAgrees, numbered}
-use Rattle.gt_core.proofs.Words.{position, get_or, set, position-Some, domain_of, Value, FramesTold, BytesAnswer}
+use Rattle.gt_core.proofs.Words.{position, get_or, set, position-Some, domain_of, CallValue, FramesTold, BytesAnswer}
 use Rattle.gt_core.proofs.Words.{HandleMap, applied, with_underway, with_mapping, Adds, IsReadable, IsAdmitted}
 use Rattle.gt_core.proofs.Words.{AccessedBy, bytes_at, FrameSet, frame_at, contents_at, IsRight, StepsRightIn}
 use Rattle.gt_core.proofs.Words.{CoreStands, FramesStand, core_of, Settled, IsLawfulPin, IsLawfullyHeld, answer_with}
@@ -43,34 +43,34 @@ abbrev Replaced : List State → List State → State → State → Type 0
 Replaced xs ys x new = (q : ℕ) → state_of ys q ≡ cond (x.id.0 == q) (Some new) (state_of xs q)
 
 -- each step but the pin of a map
-module _ (s : Setting) (h : History) (xs ys : List State) (x : State) (c : Underway) (phase : Phase) (answer : Option Answer) (o' : Option Open) (here : state_of xs x.id.0 ≡ Some x) (a : StateStands s h x) (r : Replaced xs ys x (record x { underway = o' }))
+module _ (s : Setting) (h : History) (xs ys : List State) (x : State) (c : Underway) (phase : Phase) (answer : Option Answer) (o' : Option OpenCall) (here : state_of xs x.id.0 ≡ Some x) (a : StateStands s h x) (r : Replaced xs ys x (record x { underway = o' }))
     (m : one_if_mapped answer ≡ 0) (leg : (n : ℕ) → holder_after answer n ≡ ByLeg n) where
-  abbrev CallThen : Step → Seen → Type 0
+  abbrev CallThen : Step → Observation → Type 0
   CallThen step seen = CallAgrees s (stepped x.id step seen answer ∷ h) x.id o' (open_call (stepped x.id step seen answer ∷ h) x.id.0)
 
-  abbrev StandThen : Step → Seen → Type 0
+  abbrev StandThen : Step → Observation → Type 0
   StandThen step seen = DomainsStand s (stepped x.id step seen answer ∷ h) (applied x.id step seen ys)
 
-  given : (step : Step) (seen : Seen) → GivenAgrees (stepped x.id step seen answer ∷ h) x.id.0 x.given
+  given : (step : Step) (seen : Observation) → GivenAgrees (stepped x.id step seen answer ∷ h) x.id.0 x.given
   given step seen = given-goes-on x.id step seen answer h x.given a.given
 
   step-stands : (step : Step) → IsHere s h xs x.id c.request (values c) (reverse c.steps) phase step → LastFact (held_in phase) step → (IsStore step → answer ≡ None)
       → CallThen step (seen_by s h x.id step) → StandThen step (seen_by s h x.id step)
-  step-stands (PinStep p) i last store call = let w = word_at s h p.dom.0 p.gref.0 in let v : Seen = Missed w in
+  step-stands (PinStep p) i last store call = let w = word_at s h p.dom.0 p.gref.0 in let v : Observation = Missed w in
       cond_both (w == p.word) Taken v (λ seen. CallThen (PinStep p) seen → StandThen (PinStep p) seen)
       (λ is now. let can = can-pin s h xs x.id c.request (values c) (reverse c.steps) phase p i (eqb-true w p.word is) in
       pin-stands s h xs ys x p answer x.mappings o' i.st here a r can.few (subst (IsLawfullyHeld s (new_pin h x.id p answer)) (sym (leg (length (legs_at h x.id.0)))) tt)
       (pin-agrees h x.id p answer x.mappings (leg (length (legs_at h x.id.0))) m a.mappings) now (given (PinStep p) Taken))
       (λ is now. quiet-stands s (stepped x.id (PinStep p) v answer) h xs ys x o' x.given (record { changes = λ r. refl; stores = λ r which. refl; header = refl })
       (record { changes = λ r. refl; pins = λ before ps. refl; unpins = λ pins. refl; maps = m }) refl i.st here a r now (given (PinStep p) v)) call
-  step-stands (Exchange gref looked change) i last store call = let w = word_at s h x.id.0 gref.0 in let v : Seen = Missed w in
+  step-stands (Exchange gref looked change) i last store call = let w = word_at s h x.id.0 gref.0 in let v : Observation = Missed w in
       cond_both (w == looked) Taken v (λ seen. CallThen (Exchange gref looked change) seen → StandThen (Exchange gref looked change) seen)
       (λ is now. let can = can-change s h xs x.id c.request (values c) (reverse c.steps) phase gref looked change i (eqb-true w looked is) in
       exchange-stands s h xs ys x gref looked change answer o' i.st here a r can.within can.safe can.fits can.room m now (given (Exchange gref looked change) Taken))
       (λ is now. quiet-stands s (stepped x.id (Exchange gref looked change) v answer) h xs ys x o' x.given (record { changes = λ r. refl; stores = λ r which. refl; header = refl })
       (record { changes = λ r. refl; pins = λ before ps. refl; unpins = λ pins. refl; maps = m }) refl i.st here a r now (given (Exchange gref looked change) v)) call
   step-stands (Unpin p (ByLeg place)) i last store call = let l = last p place refl in
-      let legs : legs_at h x.id.0 ≡ numbered 0 (reverse l.0 ++ p ∷ []) = i.held ∙ ap (λ (z : List Held). numbered 0 (reverse z)) l.1 ∙ ap (numbered 0) (reverse_onto l.0 p []) in
+      let legs : legs_at h x.id.0 ≡ numbered 0 (reverse l.0 ++ p ∷ []) = i.held ∙ ap (λ (z : List HeldPin). numbered 0 (reverse z)) l.1 ∙ ap (numbered 0) (reverse_onto l.0 p []) in
       unpin-stands s h xs _ x p (ByLeg place) Nothing answer x.mappings o' i.st here a (becomes-unpinned xs ys x p (ByLeg place) o' r)
       (subst (λ (n : ℕ). Loses p (live h) (without x.id.0 (ByLeg n) (live h))) (length-reverse l.0 ∙ sym l.2) (loses-leg h x.id (reverse l.0) p legs))
       (unpin-agrees h x.id p place Nothing answer x.mappings m a.mappings) call (given (Unpin p (ByLeg place)) Nothing)
@@ -88,14 +88,14 @@ module _ (s : Setting) (h : History) (xs ys : List State) (x : State) (c : Under
 
 -- the actor's call after this
 
-call-over : (s : Setting) (h : History) (d : DomId) (step : Step) (seen : Seen) (answer : Answer) → legs_at (stepped d step seen (Some answer) ∷ h) d.0 ≡ [] → CallAgrees s (stepped d step seen (Some answer) ∷ h) d None (open_call (stepped d step seen (Some answer) ∷ h) d.0)
+call-over : (s : Setting) (h : History) (d : DomId) (step : Step) (seen : Observation) (answer : Answer) → legs_at (stepped d step seen (Some answer) ∷ h) d.0 ≡ [] → CallAgrees s (stepped d step seen (Some answer) ∷ h) d None (open_call (stepped d step seen (Some answer) ∷ h) d.0)
 call-over s h d step seen answer legs = subst (λ (u : Option Underway). CallAgrees s (stepped d step seen (Some answer) ∷ h) d None u) (sym (open_call-own (stepped d step seen (Some answer)) h)) legs
 
 -- what a tick is to do
-abbrev pub Ticked : Setting → History → DomId → Step → Seen → Option Answer → List State → Type 0
+abbrev pub Ticked : Setting → History → DomId → Step → Observation → Option Answer → List State → Type 0
 Ticked s h d step seen answer zs = IsRight s h (stepped d step seen answer) × DomainsStand s (stepped d step seen answer ∷ h) zs
 
-right-in : (s : Setting) (h : History) (d : DomId) (step : Step) (seen : Seen) (answer : Option Answer) (c : Underway) → open_call h d.0 ≡ Some c → StepsRight s h (stepped d step seen answer) step seen c → IsRight s h (stepped d step seen answer)
+right-in : (s : Setting) (h : History) (d : DomId) (step : Step) (seen : Observation) (answer : Option Answer) (c : Underway) → open_call h d.0 ≡ Some c → StepsRight s h (stepped d step seen answer) step seen c → IsRight s h (stepped d step seen answer)
 right-in s h d step seen answer c call a = subst (λ (u : Option Underway). StepsRightIn s h (stepped d step seen answer) step seen u) (sym call) a
 
 -- an answer with no mapping
@@ -107,11 +107,11 @@ plain : (answer : Answer) → IsPlainAnswer answer → (one_if_mapped (Some answ
 plain (Mapped handle) a = absurd a
 plain answer a = (refl, λ n. refl)
 
-after-granted : (k : CallerKnowledge) (d : DomId) (g : GrantRef) (v : Verdict) (entry : Entry) → Done v ≡ action_at d (after_store k g entry) → ⊥
+after-granted : (k : CallerKnowledge) (d : DomId) (g : GrantRef) (v : CallResult) (entry : Entry) → Done v ≡ action_at d (after_store k g entry) → ⊥
 after-granted k d g v Invalid e = cc
 after-granted k d g v entry e = cc
 
-module _ {s : Setting} {h : History} {xs : List State} {x : State} {o : Open} {c : Underway} {new : Call} where
+module _ {s : Setting} {h : History} {xs : List State} {x : State} {o : OpenCall} {c : Underway} {new : Call} where
   -- a call that goes on
   goes-core : (ys : List State) {z : Step} (t : Ticks s h xs x o c new (Makes z)) → Replaced xs ys x (record x { underway = Some (record { call = new; step = z }) }) → Ticked s h x.id o.step (seen_in t) None (applied x.id o.step (seen_in t) ys)
   goes-core ys {z} t r = let i = stepped x.id o.step (seen_in t) None in
@@ -122,30 +122,30 @@ module _ {s : Setting} {h : History} {xs : List State} {x : State} {o : Open} {c
       )
 
   -- no store ends a call
-  store-goes : {v : Verdict} → Ticks s h xs x o c new (Done v) → IsStore o.step → ⊥
+  store-goes : {v : CallResult} → Ticks s h xs x o c new (Done v) → IsStore o.step → ⊥
   store-goes {v} t store = let k = known_at s h x.id in by-storing s h x.id c.request (path k x.id c.request) (values c) (λ (p : Phase) (z : Step). Done v ≡ action_at x.id (next_of s h x.id p z) → ⊥)
       (λ g entry. after-granted k x.id g v entry) (λ g entry e. cc) t.stands.phase o.step t.stands.at.has_shown t.stands.acts store t.acts
 
   -- a call that is over
-  ends-core : (ys : List State) {v : Verdict} (answer : Answer) (t : Ticks s h xs x o c new (Done v)) → Replaced xs ys x (record x { underway = None }) → IsPlainAnswer answer → ((m : Held) → v ≡ KeptPin m → ⊥)
+  ends-core : (ys : List State) {v : CallResult} (answer : Answer) (t : Ticks s h xs x o c new (Done v)) → Replaced xs ys x (record x { underway = None }) → IsPlainAnswer answer → ((m : HeldPin) → v ≡ KeptPin m → ⊥)
       → refusal_of answer ≡ refusal_in (Some v) → GivesValue s h x.id c.request (Some o.step) answer → Ticked s h x.id o.step (seen_in t) (Some answer) (applied x.id o.step (seen_in t) ys)
   ends-core ys {v} answer t r is_plain unmapped same value = let q = plain answer is_plain in let e = ends-so x.id (phase_then t) v (sym t.acts) in
       let legs : legs_at (history_then t (Some answer)) x.id.0 ≡ [] = legs-after t (Some answer) q.0 q.1 (λ m f. unmapped m (let g : v ≡ KeptPin m = cc in g))
-      ∙ ap (λ (p : Phase). numbered 0 (reverse (held_in p))) e.1 ∙ ap (λ (l : List Held). numbered 0 (reverse l)) e.2 in (
+      ∙ ap (λ (p : Phase). numbered 0 (reverse (held_in p))) e.1 ∙ ap (λ (l : List HeldPin). numbered 0 (reverse l)) e.2 in (
         right-in s h x.id o.step (seen_in t) (Some answer) c t.call (ends-right t answer same legs value),
         step-stands s h xs ys x c t.stands.phase (Some answer) None t.here t.agrees r q.0 q.1 o.step t.i (last-fact t) (λ store. absurd (store-goes t store)) (call-over s h x.id o.step (seen_in t) answer legs),
       )
 
-  given-core : (ys : List State) {value : Value} (t : Ticks s h xs x o c new (Done (Given value))) → Replaced xs ys x (record x { underway = None }) → Ticked s h x.id o.step (seen_in t) (Some (answer_with value)) (applied x.id o.step (seen_in t) ys)
+  given-core : (ys : List State) {value : CallValue} (t : Ticks s h xs x o c new (Done (Given value))) → Replaced xs ys x (record x { underway = None }) → Ticked s h x.id o.step (seen_in t) (Some (answer_with value)) (applied x.id o.step (seen_in t) ys)
   given-core ys {value} t r = let q = by value in ends-core ys (answer_with value) t r q.0 (λ m e. cc) q.1
       (call-ends s h xs x.id c.request (values c) (reverse c.steps) t.stands.phase o.step t.i (Given value) (sym t.acts))
     where
-      by : (z : Value) → IsPlainAnswer (answer_with z) × (refusal_of (answer_with z) ≡ None)
+      by : (z : CallValue) → IsPlainAnswer (answer_with z) × (refusal_of (answer_with z) ≡ None)
       by (FramesTold n) = (tt, refl)
       by z = (tt, refl)
 
   -- a map with its pin
-  mapped-core : (ys : List State) {held : Held} (handle : Handle) (kept : HandleMap Held) (t : Ticks s h xs x o c new (Done (KeptPin held))) → Replaced xs ys x (record x { mappings = kept; underway = None })
+  mapped-core : (ys : List State) {held : HeldPin} (handle : Handle) (kept : HandleMap HeldPin) (t : Ticks s h xs x o c new (Done (KeptPin held))) → Replaced xs ys x (record x { mappings = kept; underway = None })
       → Adds x.mappings kept handle held → Ticked s h x.id o.step (seen_in t) (Some (Mapped handle)) (applied x.id o.step (seen_in t) ys)
   mapped-core ys {held} handle kept t r adds = let d = x.id in let answer : Option Answer = Some (Mapped handle) in
       let m = call-ends s h xs d c.request (values c) (reverse c.steps) t.stands.phase o.step t.i (KeptPin held) (sym t.acts) in
@@ -153,21 +153,21 @@ module _ {s : Setting} {h : History} {xs : List State} {x : State} {o : Open} {c
       let j : IsHere s h xs d c.request (values c) (reverse c.steps) t.stands.phase (PinStep held) = subst (IsHere s h xs d c.request (values c) (reverse c.steps) t.stands.phase) m.is t.i in
       let can : CanPin s h d c.request held = can-pin s h xs d c.request (values c) (reverse c.steps) t.stands.phase held j m.taken in
       let law = map-lawful s h d c.request held (values c) (pins_at t.stands.phase) j.rests.0 j.rests.1 m.dom m.gref m.flags m.of_map in
-      let lawful : IsLawfulPin s (new_pin h d held answer) = subst (λ (q : Held). IsLawfullyHeld s (record { actor = d.0; holder = ByMapping handle; held = q }) (ByMapping handle)) (sym can.is) law in
-      let legs : legs_at (pins d held answer ∷ h) d.0 ≡ [] = map-legs h d held handle ∙ t.stands.held ∙ ap (λ (l : List Held). numbered 0 (reverse l)) m.none in
-      let maps = map-agrees h d held handle x.mappings kept (subst (λ (q : Held). Adds x.mappings kept handle q) (sym can.is) adds) t.agrees.mappings in
+      let lawful : IsLawfulPin s (new_pin h d held answer) = subst (λ (q : HeldPin). IsLawfullyHeld s (record { actor = d.0; holder = ByMapping handle; held = q }) (ByMapping handle)) (sym can.is) law in
+      let legs : legs_at (pins d held answer ∷ h) d.0 ≡ [] = map-legs h d held handle ∙ t.stands.held ∙ ap (λ (l : List HeldPin). numbered 0 (reverse l)) m.none in
+      let maps = map-agrees h d held handle x.mappings kept (subst (λ (q : HeldPin). Adds x.mappings kept handle q) (sym can.is) adds) t.agrees.mappings in
       let stands = pin-stands s h xs ys x held answer kept None t.i.st t.here t.agrees r can.few lawful maps (call-over s h d (PinStep held) Taken (Mapped handle) legs) (given-goes-on d (PinStep held) Taken answer h x.given t.agrees.given) in
-      let same : stepped d o.step (seen_in t) answer ≡ pins d held answer = ap (λ (v : Seen). stepped d o.step v answer) saw ∙ ap (λ (z : Step). stepped d z Taken answer) m.is in
+      let same : stepped d o.step (seen_in t) answer ≡ pins d held answer = ap (λ (v : Observation). stepped d o.step v answer) saw ∙ ap (λ (z : Step). stepped d z Taken answer) m.is in
       let value : GivesValue s h d c.request (Some o.step) (Mapped handle) = subst (λ (z : Step). GivesValue s h d c.request (Some z) (Mapped handle)) (sym m.is)
-      (subst (λ (q : Asked). GivesValue s h d q (Some (PinStep held)) (Mapped handle)) (sym m.of_map) (adds.serial ∙ t.agrees.mappings.given)) in (
+      (subst (λ (q : OpenRequest). GivesValue s h d q (Some (PinStep held)) (Mapped handle)) (sym m.of_map) (adds.serial ∙ t.agrees.mappings.given)) in (
         right-in s h d o.step (seen_in t) answer c t.call (ends-right t (Mapped handle) refl (ap (λ (k : Item). legs_at (k ∷ h) d.0) same ∙ legs) value),
-        subst (λ (v : Seen). DomainsStand s (stepped d o.step v answer ∷ h) (applied d o.step v ys)) (sym saw)
+        subst (λ (v : Observation). DomainsStand s (stepped d o.step v answer ∷ h) (applied d o.step v ys)) (sym saw)
             (subst (λ (z : Step). DomainsStand s (stepped d z Taken answer ∷ h) (applied d z Taken ys)) (sym m.is) stands),
       )
 
 -- a call that is answered Ok with no value but bytes
 
-module _ {s : Setting} {h : History} {xs : List State} {fs : FrameSet} {x : State} {o : Open} {c : Underway} {new : Call} (t : Ticks s h xs x o c new (Done Granted)) (fr : FramesStand s h fs) where
+module _ {s : Setting} {h : History} {xs : List State} {fs : FrameSet} {x : State} {o : OpenCall} {c : Underway} {new : Call} (t : Ticks s h xs x o c new (Done Granted)) (fr : FramesStand s h fs) where
   -- what a read gave
   read-gives : (dom : DomId) (frame off len : ℕ) (b : Bytes) → o.step ≡ ReadBytes dom frame off len → b.bytes.items ≡ bytes_at (frame_at fs (record { owner = dom; number = frame })) off len
       → GivesValue s h x.id c.request (Some (ReadBytes dom frame off len)) (BytesAnswer b)
@@ -198,13 +198,13 @@ module _ {s : Setting} {h : History} {xs : List State} {fs : FrameSet} {x : Stat
 -- the ways that a tick goes
 
 -- a domain's open call
-module _ (s : Setting) (h : History) (xs : List State) (dom : DomId) (at : ℕ) (x : State) (o : Open) (place : position (has_id dom.0) xs ≡ Some at) (here : x ≡ get_or xs at x) (under : x.underway ≡ Some o) where
+module _ (s : Setting) (h : History) (xs : List State) (dom : DomId) (at : ℕ) (x : State) (o : OpenCall) (place : position (has_id dom.0) xs ≡ Some at) (here : x ≡ get_or xs at x) (under : x.underway ≡ Some o) where
   open-here : DomainsStand s h xs → (domain_of s.domains dom ≢ None) × (x.id ≡ dom) × StateStands s h x × ((c : Underway) × (open_call h x.id.0 ≡ Some c) × OpenAgrees s h x.id o c)
   open-here st = let a = agrees-found s h xs dom at x place here st in (a.0, a.1, a.2, by x.underway (open_call h x.id.0) under a.2.call) where
-    by : (u : Option Open) (call : Option Underway) → u ≡ Some o → CallAgrees s h x.id u call → (c : Underway) × (call ≡ Some c) × OpenAgrees s h x.id o c
+    by : (u : Option OpenCall) (call : Option Underway) → u ≡ Some o → CallAgrees s h x.id u call → (c : Underway) × (call ≡ Some c) × OpenAgrees s h x.id o c
     by None call e a = cc
     by (Some z) None e a = absurd a
-    by (Some z) (Some c) e a = (c, refl, subst (λ (y : Open). OpenAgrees s h x.id y c) (same_Some _ _ e) a)
+    by (Some z) (Some c) e a = (c, refl, subst (λ (y : OpenCall). OpenAgrees s h x.id y c) (same_Some _ _ e) a)
 
   -- memory is wanted for it
   pub tick-wants : DomainsStand s h xs → IsWriting o.step → WantsMemoryNow s h dom
@@ -219,12 +219,12 @@ module _ (s : Setting) (h : History) (xs : List State) (dom : DomId) (at : ℕ) 
   tick-readable fs st = let a = open-here st.domains in open-readable s h xs fs x o a.3.0 st.domains st.frames a.3.2
 
   -- the frames after it
-  tick-frames : (fs gs : FrameSet) (seen : Seen) (answer : Option Answer) → CoreStands s h (core_of xs fs) → AccessedBy x o.call o.step fs gs → FramesStand s (stepped dom o.step seen answer ∷ h) gs
+  tick-frames : (fs gs : FrameSet) (seen : Observation) (answer : Option Answer) → CoreStands s h (core_of xs fs) → AccessedBy x o.call o.step fs gs → FramesStand s (stepped dom o.step seen answer ∷ h) gs
   tick-frames fs gs seen answer st wrote = let a = open-here st.domains in let u = a.3 in
       subst (λ (d : DomId). FramesStand s (stepped d o.step seen answer ∷ h) gs) a.1 (frames-stepped s h fs gs x o.call o.step seen answer u.0 u.1 (a.2.given u.0 u.1).0 st.frames wrote)
 
 -- what a domain's tick has to begin with
-pub record Begins (s : Setting) (xs : List State) (dom : DomId) (at : ℕ) (x : State) (o : Open) (seen : Seen) (new : Call) (action : Action) : Type 0 where
+pub record Begins (s : Setting) (xs : List State) (dom : DomId) (at : ℕ) (x : State) (o : OpenCall) (seen : Observation) (new : Call) (action : Action) : Type 0 where
   pub place : position (has_id dom.0) xs ≡ Some at
   pub here : x ≡ get_or xs at x
   pub under : x.underway ≡ Some o
@@ -234,7 +234,7 @@ pub record Begins (s : Setting) (xs : List State) (dom : DomId) (at : ℕ) (x : 
   pub goes : Goes (knowledge_of s.domains s.first_generation s.may x.own x.header x.mappings) o.call seen new action
 
 -- the call went on from the states that its step left
-pub begins-after : (s : Setting) (h : History) (xs ws : List State) (fs : FrameSet) (dom : DomId) (at : ℕ) (x : State) (o : Open) (seen : Seen) (new : Call) (action : Action) → CoreStands s h (core_of xs fs) → position (has_id dom.0) xs ≡ Some at → x ≡ get_or xs at x → x.underway ≡ Some o
+pub begins-after : (s : Setting) (h : History) (xs ws : List State) (fs : FrameSet) (dom : DomId) (at : ℕ) (x : State) (o : OpenCall) (seen : Observation) (new : Call) (action : Action) → CoreStands s h (core_of xs fs) → position (has_id dom.0) xs ≡ Some at → x ≡ get_or xs at x → x.underway ≡ Some o
     → seen ≡ sees xs dom o.step → ws ≡ applied dom o.step seen xs → new.caller ≡ o.call.caller → new.request ≡ o.call.request
     → ((d : State) → slice_get ws at ≡ Some d → (k : CallerKnowledge) → IsLeftAlike k (knowledge_of s.domains s.first_generation s.may d.own d.header d.mappings) o.call seen → Goes k o.call seen new action)
     → Begins s xs dom at x o seen new action
@@ -250,7 +250,7 @@ begins-after s h xs ws fs dom at x o seen new action st place here under saw lef
     }
 
 -- what there is of it
-pub record Begun (s : Setting) (h : History) (xs : List State) (dom : DomId) (at : ℕ) (x : State) (o : Open) (seen : Seen) (new : Call) (action : Action) : Type 0 where
+pub record Begun (s : Setting) (h : History) (xs : List State) (dom : DomId) (at : ℕ) (x : State) (o : OpenCall) (seen : Observation) (new : Call) (action : Action) : Type 0 where
   pub named : domain_of s.domains dom ≢ None
   pub is : x.id ≡ dom
   pub c : Underway
@@ -258,7 +258,7 @@ pub record Begun (s : Setting) (h : History) (xs : List State) (dom : DomId) (at
   pub ticks : Ticks s h xs x o c new action
   pub replaced : (new : State) → new.id.0 ≡ x.id.0 → Replaced xs (set xs at new) x new
 
-begun : (s : Setting) (h : History) (xs : List State) (dom : DomId) (at : ℕ) (x : State) (o : Open) (seen : Seen) (new : Call) (action : Action) → IsLegalHistory s h → DomainsStand s h xs → Begins s xs dom at x o seen new action → Begun s h xs dom at x o seen new action
+begun : (s : Setting) (h : History) (xs : List State) (dom : DomId) (at : ℕ) (x : State) (o : OpenCall) (seen : Observation) (new : Call) (action : Action) → IsLegalHistory s h → DomainsStand s h xs → Begins s xs dom at x o seen new action → Begun s h xs dom at x o seen new action
 begun s h xs dom at x o seen new action legal st b = let a = open-here s h xs dom at x o b.place b.here b.under st in let u = a.3 in
     let g : state_of xs x.id.0 ≡ Some x = ap (λ (z : DomId). state_of xs z.0) a.1 ∙ found xs dom.0 at x b.place ∙ ap (λ (y : State). Some y) (sym b.here) in
     let t = ticks s h xs x o u.0 seen new action legal st g a.2 u.1 u.2 (b.saw ∙ ap (λ (z : DomId). sees xs z o.step) (sym a.1)) b.caller b.asks b.goes in
@@ -272,7 +272,7 @@ begun s h xs dom at x o seen new action legal st b = let a = open-here s h xs do
     }
 
 -- what the domain's call comes to by its action
-action-core : (s : Setting) (h : History) (fs : FrameSet) (xs zs : List State) (at : ℕ) (x : State) (o : Open) (c : Underway) (new : Call) (action : Action) (answer : Option Answer) → Ticks s h xs x o c new action → FramesStand s h fs
+action-core : (s : Setting) (h : History) (fs : FrameSet) (xs zs : List State) (at : ℕ) (x : State) (o : OpenCall) (c : Underway) (new : Call) (action : Action) (answer : Option Answer) → Ticks s h xs x o c new action → FramesStand s h fs
     → ((y : State) → y.id.0 ≡ x.id.0 → Replaced xs (set xs at y) x y) → Settled fs xs at x o.step new action answer zs
     → Ticked s h x.id o.step (seen_by s h x.id o.step) answer (applied x.id o.step (seen_by s h x.id o.step) zs)
 action-core s h fs xs zs at x o c new action answer t fr r settled = by action t settled where
@@ -290,11 +290,11 @@ action-core s h fs xs zs at x o c new action answer t fr r settled = by action t
   by (Done (Refused denial)) t (a, is, (gives, left)) = become (Some (Denied denial)) _ (is ∙ ap (λ (z : Answer). Some z) gives) left (ends-core _ (Denied denial) t (r (with_underway None x) refl) tt (λ m e. cc) refl tt)
 
 -- a map that is over had asked for its room when it began
-pub room-asked : (s : Setting) (h : History) (xs : List State) (dom : DomId) (at : ℕ) (x : State) (o : Open) (seen : Seen) (new : Call) (action : Action) → IsLegalHistory s h → DomainsStand s h xs → Begins s xs dom at x o seen new action → IsRoomFor o.call.request action
+pub room-asked : (s : Setting) (h : History) (xs : List State) (dom : DomId) (at : ℕ) (x : State) (o : OpenCall) (seen : Observation) (new : Call) (action : Action) → IsLegalHistory s h → DomainsStand s h xs → Begins s xs dom at x o seen new action → IsRoomFor o.call.request action
 room-asked s h xs dom at x o seen new (Done (KeptPin held)) legal st b =
     let n = begun s h xs dom at x o seen new (Done (KeptPin held)) legal st b in let t = n.ticks in
     let m = call-ends s h xs x.id n.c.request (values n.c) (reverse n.c.steps) t.stands.phase o.step t.i (KeptPin held) (sym t.acts) in
-    subst (λ (q : Asked). IsMapping (Some q)) (sym (t.stands.asks ∙ m.of_map)) tt
+    subst (λ (q : OpenRequest). IsMapping (Some q)) (sym (t.stands.asks ∙ m.of_map)) tt
 room-asked s h xs dom at x o seen new action legal st b = tt
 
 -- a step that reads changes no frame, so that its range is there after it too
@@ -309,13 +309,13 @@ settled-before fs gs xs new at x d old call (ReadBytes dom frame off len) (Done 
 settled-before fs gs xs new at x d old call step action answer wrote a = a
 
 -- only a pin ends a call with a mapping
-ends-by-pin : (s : Setting) (h : History) (xs : List State) (x : State) (o : Open) (c : Underway) (new : Call) (action : Action) → Ticks s h xs x o c new action → EndsByPin o.step action
+ends-by-pin : (s : Setting) (h : History) (xs : List State) (x : State) (o : OpenCall) (c : Underway) (new : Call) (action : Action) → Ticks s h xs x o c new action → EndsByPin o.step action
 ends-by-pin s h xs x o c new (Done (KeptPin held)) t = (held, (call-ends s h xs x.id c.request (values c) (reverse c.steps) t.stands.phase o.step t.i (KeptPin held) (sym t.acts)).is)
 ends-by-pin s h xs x o c new action t = tt
 
 -- what a tick does whose step is told so; the frames and the states then are those that its call's settling left, which
 -- began with those that its step left
-pub tick-does : (s : Setting) (fs gs ks : FrameSet) (xs ys : List State) (dom : DomId) (at : ℕ) (x : State) (o : Open) (seen : Seen) (new : Call) (action : Action) (answer : Option Answer) (told_part : TickTold) → told_part ≡ ticked_with o.step seen answer
+pub tick-does : (s : Setting) (fs gs ks : FrameSet) (xs ys : List State) (dom : DomId) (at : ℕ) (x : State) (o : OpenCall) (seen : Observation) (new : Call) (action : Action) (answer : Option Answer) (told_part : TickTold) → told_part ≡ ticked_with o.step seen answer
     → Begins s xs dom at x o seen new action → AccessedBy x o.call o.step fs gs → ((d : State) → slice_get (applied dom o.step seen xs) at ≡ Some d → Settled gs (applied dom o.step seen xs) at d o.step new action answer ys) → ks ≡ gs
     → DoesEvent s (core_of xs fs) (Tick dom) (ticked_element dom told_part) (core_of ys ks)
 unfolding IsLegalHistory
@@ -323,7 +323,7 @@ tick-does s fs gs ks xs ys dom at x o seen new action answer told_part is b wrot
     let n = begun s h xs dom at x o seen new action st.legal st.domains b in let y = stepped-state dom o.step seen xs at x b.place in
     let z = settled-after gs xs ys at dom x y.0 o.step seen new action answer b.place b.here y.2 (place-at xs dom.0 at x b.place b.here) y.1 (ends-by-pin s h xs x o n.c new action n.ticks) (settles y.0 y.1) in
     let t = action-core s h fs xs z.0 at x o n.c new action answer n.ticks st.frames n.replaced (settled-before fs gs xs z.0 at x x o.call new o.step action answer wrote z.1) in
-    let r = subst (λ (d : DomId). Ticked s h d o.step seen answer (applied d o.step seen z.0)) n.is (subst (λ (v : Seen). Ticked s h x.id o.step v answer (applied x.id o.step v z.0)) (sym n.same) t) in
+    let r = subst (λ (d : DomId). Ticked s h d o.step seen answer (applied d o.step seen z.0)) n.is (subst (λ (v : Observation). Ticked s h x.id o.step v answer (applied x.id o.step v z.0)) (sym n.same) t) in
     subst (λ (z : Element). MayDo s h (Tick dom) z × CoreStands s (grown h z) (core_of ys ks)) (sym (ap (ticked_element dom) is ∙ element answer)) (
       (n.named, (refl, tt), r.0),
       record {

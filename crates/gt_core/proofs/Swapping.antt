@@ -4,19 +4,19 @@ use Rattle.gt_core.proofs.Words.{Some, None, sym}
 use Rattle.gt_core.proofs.Words.{ap, ◌∙◌, subst, arith, cond, ◌==◌, append_assoc, append-nil, take, drop, map, length}
 use Rattle.gt_core.proofs.Words.{domain_of, DomId, GrantRef, Denial, Header, header_word, Handle, asked, begun_of}
 use Rattle.gt_core.proofs.Words.{CallerKnowledge, path}
-use Rattle.gt_core.proofs.Words.{Held, Holder, Request, Asked, Seen, Word, Taken, Step, LookHeader, LookControl}
+use Rattle.gt_core.proofs.Words.{HeldPin, PinHolder, Request, OpenRequest, Observation, Word, Taken, Step, LookHeader, LookControl}
 use Rattle.gt_core.proofs.Words.{LookBody, PinStep, Exchange}
-use Rattle.gt_core.proofs.Words.{ReadBytes, WriteBytes, CopyBytes, Unpin, StoreBody, Makes, Verdict, Answer}
-use Rattle.gt_core.proofs.Words.{Happened, Began, Stepped, Item}
+use Rattle.gt_core.proofs.Words.{ReadBytes, WriteBytes, CopyBytes, Unpin, StoreBody, Makes, CallResult, Answer}
+use Rattle.gt_core.proofs.Words.{ItemEvent, Began, Stepped, Item}
 use Rattle.gt_core.proofs.Words.{History, Setting, Underway, open_call, values, known_at, seen_by, exchange_sees}
 use Rattle.gt_core.proofs.Words.{table_at, maps_answered_at}
 use Rattle.gt_core.proofs.Words.{contents_at, mapping_of, IsRight, AnsweredBy}
 use Rattle.gt_core.proofs.Words.{GivesValue}
 use Rattle.gt_core.proofs.Words.{entry_at, raises_at, raise_after, live, Pin, pinned_by, unpinned_by}
 use Rattle.gt_core.proofs.Words.{change_of, gather, mapping_named}
-use Rattle.gt_core.proofs.Words.{legs_at, by_leg, body_at, stored_at, or_else, Half, without, is_holder, is_pin_on}
+use Rattle.gt_core.proofs.Words.{legs_at, by_leg, body_at, stored_at, or_else, BodyWord, without, is_holder, is_pin_on}
 use Rattle.gt_core.proofs.Words.{reads_at, writes_at, count_by}
-use Rattle.gt_core.proofs.Words.{zero, suc, eq-eqb, eqb-true, false≢true, Entry, holder_after, Any, Change, Dir, Read}
+use Rattle.gt_core.proofs.Words.{zero, suc, eq-eqb, eqb-true, false≢true, Entry, holder_after, Any, EntryChange, Dir, Read}
 use Rattle.gt_core.proofs.Words.{Write, changed_entry_of, header_stored, header_or, one_if_mapped}
 use Rattle.gt_core.specs.Swapping.{is_on_entry, on_entry, OnOtherEntries, with_holder, own_pins, SameEntry, SameOwn}
 use Rattle.gt_core.specs.Swapping.{SameLook, SameSight, SameSeen, patches_of, AreApart}
@@ -37,7 +37,7 @@ use Rattle.gt_core.specs.Justified.{ReachesThrough, EndIsJustified, CopyIsJustif
 use Rattle.gt_core.specs.Legal.{StepsRightIn, PinIsSound, NoneStands, next_in, gives_back, verdict_in}
 use Rattle.gt_core.specs.Prelude.{Load, Store, Peek, Copy, Map, SetupTable, QuerySize, GetVersion, Spot, ForMap}
 use Rattle.gt_core.specs.Prelude.{ForCopy, Publish, ToInvalid, ToReadOnly, IsSpelled, FirstHalf, SecondHalf, written}
-use Rattle.gt_core.specs.Prelude.{Denied, Mapped, Bytes, MAX_TABLE_FRAMES, IsSaid}
+use Rattle.gt_core.specs.Prelude.{Denied, Mapped, Bytes, MAX_TABLE_FRAMES, SpellsItsEntry}
 use Rattle.gt_core.specs.declared.trace.Answer.TheVariants as answers
 use Rattle.gt_core.specs.Legal.{MayDo, IsItemOf, actor_of, grown}
 use Rattle.gt_core.specs.Prelude.{Event, Begin, Tick, Element, Did, Busy, Idle, NoDomain}
@@ -46,24 +46,24 @@ use Rattle.gt_core.proofs.AgreementKept.{open_call-other}
 -- pins
 
 -- what pins give, each by its holder
-unfoldable spread : {A : Type 0} → (Holder → Held → List A) → List (Holder × Held) → List A
+unfoldable spread : {A : Type 0} → (PinHolder → HeldPin → List A) → List (PinHolder × HeldPin) → List A
 spread give [] = []
 spread give (x ∷ xs) = give x.0 x.1 ++ spread give xs
 
-spread-append : {A : Type 0} (give : Holder → Held → List A) (xs ys : List (Holder × Held))
+spread-append : {A : Type 0} (give : PinHolder → HeldPin → List A) (xs ys : List (PinHolder × HeldPin))
     → spread give (xs ++ ys) ≡ spread give xs ++ spread give ys
 unfolding spread
 spread-append give [] ys = refl
 spread-append give (x ∷ xs) ys = ap (λ l. give x.0 x.1 ++ l) (spread-append give xs ys)
     ∙ sym (append_assoc (give x.0 x.1) (spread give xs) (spread give ys))
 
-spread-gather : {A : Type 0} (give : Holder → Held → List A) (d : ℕ) (ps : List Pin)
+spread-gather : {A : Type 0} (give : PinHolder → HeldPin → List A) (d : ℕ) (ps : List Pin)
     → gather give d ps ≡ spread give (gather with_holder d ps)
 unfolding gather spread
 spread-gather give d [] = refl
 spread-gather give d (p ∷ ps) = grind (arith, spread-gather give d ps, append-nil)
 
-pins-same : {A : Type 0} (give : Holder → Held → List A) (g h : History) (d : ℕ) → own_pins g d ≡ own_pins h d
+pins-same : {A : Type 0} (give : PinHolder → HeldPin → List A) (g h : History) (d : ℕ) → own_pins g d ≡ own_pins h d
     → gather give d (live g) ≡ gather give d (live h)
 pins-same give g h d same = spread-gather give d (live g) ∙ ap (λ l. spread give l) same
     ∙ sym (spread-gather give d (live h))
@@ -74,7 +74,7 @@ known-same s g h d own = known-as s h g d own.entries own.raises own.table
     (pins-same mapping_named g h d.0 own.pins) own.maps
 
 -- a pin of the domain
-abbrev pin_of : ℕ → Holder × Held → Pin
+abbrev pin_of : ℕ → PinHolder × HeldPin → Pin
 pin_of d x = record { actor = d; holder = x.0; held = x.1 }
 
 any-none : {X : Type 0} (P : X → Type 0) → Any P [] → ⊥
@@ -126,7 +126,7 @@ any-same P g h d same own a = any-live P d (live h) (subst (λ xs. Any (λ x. P 
 
 -- what a pin that is taken is
 
-pinned-same : (s : Setting) (g h : History) (d : DomId) (x : Happened) (a : Option Answer)
+pinned-same : (s : Setting) (g h : History) (d : DomId) (x : ItemEvent) (a : Option Answer)
     → own_pins g d.0 ≡ own_pins h d.0 → SameSight s g h d x → pinned_by d x a g (live g) ≡ pinned_by d x a h (live h)
 pinned-same s g h d (Stepped (PinStep p) Taken) a own sight =
     ap (λ (e : Entry). record {
@@ -134,7 +134,7 @@ pinned-same s g h d (Stepped (PinStep p) Taken) a own sight =
       holder = holder_after a (length (gather by_leg d.0 (live g)));
       held = record p { entry = e };
     } ∷ []) sight.entry
-    ∙ ap (λ (l : List (ℕ × Held)). record {
+    ∙ ap (λ (l : List (ℕ × HeldPin)). record {
       actor = d.0;
       holder = holder_after a (length l);
       held = record p { entry = entry_at h p.dom.0 p.gref.0 };
@@ -142,18 +142,18 @@ pinned-same s g h d (Stepped (PinStep p) Taken) a own sight =
 pinned-same s g h d x a own sight = refl
 
 -- the pins of a domain without the first one that is held so
-unfoldable own_without : Holder → List (Holder × Held) → List (Holder × Held)
+unfoldable own_without : PinHolder → List (PinHolder × HeldPin) → List (PinHolder × HeldPin)
 own_without holder [] = []
 own_without holder (x ∷ xs) = cond (is_holder x.0 holder) xs (x ∷ own_without holder xs)
 
-gather-without : (d actor : ℕ) (holder : Holder) (ps : List Pin)
+gather-without : (d actor : ℕ) (holder : PinHolder) (ps : List Pin)
     → gather with_holder d (without actor holder ps) ≡ cond (actor == d) (own_without holder (gather with_holder d ps))
     (gather with_holder d ps)
 unfolding gather without own_without
 gather-without d actor holder [] = grind arith
 gather-without d actor holder (p ∷ ps) = grind (arith, gather-without d actor holder ps)
 
-unpinned-same : (g h : History) (d : ℕ) (a : DomId) (x : Happened) → own_pins g d ≡ own_pins h d
+unpinned-same : (g h : History) (d : ℕ) (a : DomId) (x : ItemEvent) → own_pins g d ≡ own_pins h d
     → gather with_holder d (unpinned_by a x (live g)) ≡ gather with_holder d (unpinned_by a x (live h))
 unpinned-same g h d a (Stepped (Unpin p holder) seen) own =
     gather-without d a.0 holder (live g) ∙ ap (λ xs. cond (a.0 == d) (own_without holder xs) xs) own
@@ -176,15 +176,15 @@ own-grows g h i d own new =
 -- how many pins there are on an entry
 
 -- how many of them go with the pin that is held so
-unfoldable going : (Held → Bool) → Holder → List (Holder × Held) → ℕ
+unfoldable going : (HeldPin → Bool) → PinHolder → List (PinHolder × HeldPin) → ℕ
 going f holder [] = 0
 going f holder (x ∷ xs) = cond (is_holder x.0 holder) (cond (f x.1) 1 0) (going f holder xs)
 
-count-cons : (f : Held → Bool) (p : Pin) (ps : List Pin) → count_by (λ (q : Pin). f q.held) (p ∷ ps)
+count-cons : (f : HeldPin → Bool) (p : Pin) (ps : List Pin) → count_by (λ (q : Pin). f q.held) (p ∷ ps)
     ≡ cond (f p.held) 1 0 + count_by (λ (q : Pin). f q.held) ps
 count-cons f p ps = sum_by-cons (λ (q : Pin). cond (f q.held) 1 0) p ps
 
-count-without : (f : Held → Bool) (d : ℕ) (holder : Holder) (ps : List Pin)
+count-without : (f : HeldPin → Bool) (d : ℕ) (holder : PinHolder) (ps : List Pin)
     → count_by (λ (q : Pin). f q.held) (without d holder ps) + going f holder (gather with_holder d ps)
     ≡ count_by (λ (q : Pin). f q.held) ps
 unfolding gather without going
@@ -196,32 +196,32 @@ count-without f d holder (p ∷ ps) = grind (
   count-cons f p (without d holder ps),
 )
 
-count-append : (f : Held → Bool) (ps qs : List Pin) → count_by (λ (q : Pin). f q.held) (ps ++ qs)
+count-append : (f : HeldPin → Bool) (ps qs : List Pin) → count_by (λ (q : Pin). f q.held) (ps ++ qs)
     ≡ count_by (λ (q : Pin). f q.held) ps + count_by (λ (q : Pin). f q.held) qs
 count-append f [] qs = omega arith
 count-append f (p ∷ ps) qs = grind (arith, count-append f ps qs, count-cons f p ps, count-cons f p (ps ++ qs))
 
 -- what an item takes of the pins, if these are its domain's
-abbrev goes_with : (Held → Bool) → Happened → List (Holder × Held) → ℕ
+abbrev goes_with : (HeldPin → Bool) → ItemEvent → List (PinHolder × HeldPin) → ℕ
 goes_with f (Stepped (Unpin p holder) seen) own = going f holder own
 goes_with f x own = 0
 
 -- what it adds to them
-abbrev comes_with : (Held → Bool) → Happened → ℕ
+abbrev comes_with : (HeldPin → Bool) → ItemEvent → ℕ
 comes_with f (Stepped (PinStep p) Taken) = cond (f p) 1 0
 comes_with f x = 0
 
-count-unpinned : (f : Held → Bool) (d : DomId) (x : Happened) (ps : List Pin)
+count-unpinned : (f : HeldPin → Bool) (d : DomId) (x : ItemEvent) (ps : List Pin)
     → count_by (λ (q : Pin). f q.held) (unpinned_by d x ps) + goes_with f x (gather with_holder d.0 ps)
     ≡ count_by (λ (q : Pin). f q.held) ps
 count-unpinned f d (Stepped (Unpin p holder) seen) ps = count-without f d.0 holder ps
 count-unpinned f d x ps = omega arith
 
 -- the kind of pins that are on an entry
-abbrev is_held_on : ℕ → ℕ → Dir → Held → Bool
+abbrev is_held_on : ℕ → ℕ → Dir → HeldPin → Bool
 is_held_on t r k p = (p.dom.0 == t) && (p.gref.0 == r) && same_dir p.dir k
 
-count-pinned : (t r : ℕ) (k : Dir) (d : DomId) (x : Happened) (a : Option Answer) (h : History) (ps : List Pin)
+count-pinned : (t r : ℕ) (k : Dir) (d : DomId) (x : ItemEvent) (a : Option Answer) (h : History) (ps : List Pin)
     → count_by (is_pin_on t r k) (pinned_by d x a h ps) ≡ comes_with (is_held_on t r k) x
 count-pinned t r k d (Stepped (PinStep p) Taken) a h ps = count-cons (is_held_on t r k)
     (record {
@@ -254,12 +254,12 @@ count-same t r k g h i own same =
 
 -- the first rule at a step
 
-leg-same : (s : Setting) (g h : History) (d : DomId) (request : Asked) → SameOwn s g h d
+leg-same : (s : Setting) (g h : History) (d : DomId) (request : OpenRequest) → SameOwn s g h d
     → leg_at s g d request ≡ leg_at s h d request
 leg-same s g h d request own =
-    ap (λ (k : CallerKnowledge). leg_now k d request (map (λ (p : ℕ × Held). p.1) (legs_at g d.0)))
+    ap (λ (k : CallerKnowledge). leg_now k d request (map (λ (p : ℕ × HeldPin). p.1) (legs_at g d.0)))
     (known-same s g h d own)
-    ∙ ap (λ (l : List (ℕ × Held)). leg_now (known_at s h d) d request (map (λ (p : ℕ × Held). p.1) l))
+    ∙ ap (λ (l : List (ℕ × HeldPin)). leg_now (known_at s h d) d request (map (λ (p : ℕ × HeldPin). p.1) l))
     (pins-same by_leg g h d.0 own.pins)
 
 control-same : (s : Setting) (g h : History) (t r : ℕ) → SameEntry g h t r → control_at s g t r ≡ control_at s h t r
@@ -305,7 +305,7 @@ look-rule s g h (Some n) dom gref so_far same =
     ∙ ap (λ c. cond (is_in_body so_far) (cond (is_other (word_at s h dom.0 gref.0) (looked_at so_far)) None
     (rule_before_pin s h n.leg dom gref)) (first_look n.leg c)) (control-same s g h dom.0 gref.0 same)
 
-pin-rule : (s : Setting) (g h : History) (d : DomId) (request : Asked) (so_far : StepsSoFar) (p : Held) (seen : Seen)
+pin-rule : (s : Setting) (g h : History) (d : DomId) (request : OpenRequest) (so_far : StepsSoFar) (p : HeldPin) (seen : Observation)
     → SameOwn s g h d → SameEntry g h p.dom.0 p.gref.0 → rule_at_pin s g d request so_far p seen
     ≡ rule_at_pin s h d request so_far p seen
 pin-rule s g h d request so_far p Taken own same =
@@ -315,7 +315,7 @@ pin-rule s g h d request so_far p Taken own same =
 pin-rule s g h d request so_far p seen own same = ap (λ w. at_entry p.dom p.gref w
     (stands (nat_le MAX_TRIES (misses ((PinStep p, seen) ∷ so_far))) N18)) (word-same s g h p.dom.0 p.gref.0 same)
 
-first-same : (s : Setting) (g h : History) (d : DomId) (request : Asked) (so_far : StepsSoFar) (z : Step)
+first-same : (s : Setting) (g h : History) (d : DomId) (request : OpenRequest) (so_far : StepsSoFar) (z : Step)
     → SameOwn s g h d → SameLook s g h d z → first_at s g d request so_far z ≡ first_at s h d request so_far z
 first-same s g h d request so_far (LookHeader dom) own look =
     ap (λ n. rule_at_header s g dom n) (leg-same s g h d request own)
@@ -350,7 +350,7 @@ first-same s g h d request so_far (Exchange gref looked change) own look =
     (misses ((Exchange gref looked change, seen_by s h d (Exchange gref looked change)) ∷ so_far)))) look.0.writes
 first-same s g h d request so_far z own look = refl
 
-in-call-same : (s : Setting) (g h : History) (d : DomId) (x : Happened) (c : Option Underway) → SameOwn s g h d
+in-call-same : (s : Setting) (g h : History) (d : DomId) (x : ItemEvent) (c : Option Underway) → SameOwn s g h d
     → SameSight s g h d x → first_in_call s g d x c ≡ first_in_call s h d x c
 in-call-same s g h d (Began request) c own sight = ap (λ k. refusal_in (begun_of k d request)) (known-same s g h d own)
 in-call-same s g h d (Stepped z seen) None own sight = refl
@@ -370,11 +370,11 @@ stood-grows s g h i d same new =
 
 -- what may follow
 
-ask-same : (s : Setting) (g h : History) (d : DomId) (request : Asked) → SameOwn s g h d → MayAsk s g d request
+ask-same : (s : Setting) (g h : History) (d : DomId) (request : OpenRequest) → SameOwn s g h d → MayAsk s g d request
     → MayAsk s h d request
-ask-same s g h d (Load handle off len) own may = subst (λ (ms : List (Handle × Held)). MayUseMapping s d
+ask-same s g h d (Load handle off len) own may = subst (λ (ms : List (Handle × HeldPin)). MayUseMapping s d
     (mapping_of ms handle)) (pins-same mapping_named g h d.0 own.pins) may
-ask-same s g h d (Store handle off len) own may = subst (λ (ms : List (Handle × Held)). MayUseMapping s d
+ask-same s g h d (Store handle off len) own may = subst (λ (ms : List (Handle × HeldPin)). MayUseMapping s d
     (mapping_of ms handle)) (pins-same mapping_named g h d.0 own.pins) may
 ask-same s g h d request own may = may
 
@@ -384,7 +384,7 @@ access-same s g h d dir at len own (inl is) = inl is
 access-same s g h d dir at len own (inr any) = inr (any-same (Reaches d d dir ForMap at len) g h d.0 own.pins
     (λ p reach. reach.of_actor) any)
 
-range-same : (s : Setting) (g h : History) (d : DomId) (request : Asked) (dir : Dir) (at : Spot) (len : ℕ)
+range-same : (s : Setting) (g h : History) (d : DomId) (request : OpenRequest) (dir : Dir) (at : Spot) (len : ℕ)
     → SameOwn s g h d → AccessIsJustified s g d request dir at len → AccessIsJustified s h d request dir at len
 range-same s g h d request dir at len own just = (
   just.0,
@@ -414,7 +414,7 @@ end-same s g h d granted dir at len named owners own (inr (inl e)) =
 end-same s g h d granted dir at len named owners own (inr (inr e)) = inr
     (inr (e.0, through-same s g h d dir at len named own e.1, e.2))
 
-copy-same : (s : Setting) (g h : History) (d : DomId) (request : Asked) (from to : Spot) (len : ℕ) → SameOwn s g h d
+copy-same : (s : Setting) (g h : History) (d : DomId) (request : OpenRequest) (from to : Spot) (len : ℕ) → SameOwn s g h d
     → CopyIsJustified s g d request from to len → CopyIsJustified s h d request from to len
 copy-same s g h d (Copy c) from to len own just = (
   just.0,
@@ -425,15 +425,15 @@ copy-same s g h d (Copy c) from to len own just = (
 )
 copy-same s g h d request from to len own just = absurd just
 
-justified-same : (s : Setting) (g h : History) (d : DomId) (request : Asked) (z : Step) → SameOwn s g h d
+justified-same : (s : Setting) (g h : History) (d : DomId) (request : OpenRequest) (z : Step) → SameOwn s g h d
     → Justified s g d request z → Justified s h d request z
 justified-same s g h d request (ReadBytes dom frame off len) own just = range-same s g h d request Read _ len own just
 justified-same s g h d request (WriteBytes dom frame off len) own just = range-same s g h d request Write _ len own just
 justified-same s g h d request (CopyBytes from to len) own just = copy-same s g h d request from to len own just
 justified-same s g h d request z own just = just
 
-change-same : (g h : History) (t r : ℕ) (change : Change) → SameEntry g h t r
-    → ((half : Half) → body_at g t r half ≡ body_at h t r half) → IsSafeChange g t r change → IsSafeChange h t r change
+change-same : (g h : History) (t r : ℕ) (change : EntryChange) → SameEntry g h t r
+    → ((half : BodyWord) → body_at g t r half ≡ body_at h t r half) → IsSafeChange g t r change → IsSafeChange h t r change
 change-same g h t r (Publish entry) same bodies safe = (
   sym same.entry ∙ safe.0,
   subst (λ w. IsSpelled entry w (body_at h t r SecondHalf)) (bodies FirstHalf)
@@ -445,10 +445,10 @@ change-same g h t r ToInvalid same bodies safe = (sym same.reads ∙ safe.0, sym
 change-same g h t r ToReadOnly same bodies safe = sym same.writes ∙ safe
 change-same g h t r change same bodies safe = safe
 
-abbrev item : DomId → Happened → Option Answer → Item
+abbrev item : DomId → ItemEvent → Option Answer → Item
 item d x a = record { actor = d; happened = x; answer = a }
 
-safe-same : (s : Setting) (g h : History) (d : DomId) (x : Happened) (a : Option Answer) → SameOwn s g h d
+safe-same : (s : Setting) (g h : History) (d : DomId) (x : ItemEvent) (a : Option Answer) → SameOwn s g h d
     → SameSight s g h d x → IsSafe s g (item d x a) → IsSafe s h (item d x a)
 safe-same s g h d (Stepped (Exchange gref looked change) Taken) a own sight safe = change-same g h d.0 gref.0 change
     sight.0 sight.1 safe
@@ -463,7 +463,7 @@ none-same s g h dom gref (Some n) same none = (
   sym (before-rule s g h n.leg dom gref same) ∙ none.1,
 )
 
-sound-same : (s : Setting) (g h : History) (d : DomId) (request : Asked) (z : Step) (seen : Seen) → SameOwn s g h d
+sound-same : (s : Setting) (g h : History) (d : DomId) (request : OpenRequest) (z : Step) (seen : Observation) → SameOwn s g h d
     → SameLook s g h d z → PinIsSound s g d request z seen → PinIsSound s h d request z seen
 sound-same s g h d request (PinStep p) Taken own look sound =
     subst (λ n. NoneStands s h p.dom p.gref n) (leg-same s g h d request own)
@@ -475,7 +475,7 @@ abbrev LookIf : Setting → History → History → DomId → Option Step → Ty
 LookIf s g h d None = Unit {0}
 LookIf s g h d (Some z) = SameLook s g h d z
 
-gives-same : (s : Setting) (g h : History) (d : DomId) (request : Asked) (z : Option Step) (a : Answer)
+gives-same : (s : Setting) (g h : History) (d : DomId) (request : OpenRequest) (z : Option Step) (a : Answer)
     → SameOwn s g h d → LookIf s g h d z → GivesValue s g d request z a → GivesValue s h d request z a
 gives-same s g h d request z (Denied denial) own look v = tt
 gives-same s g h d (Map dom gref flags) (Some (PinStep p)) (Mapped handle) own look v = v ∙ own.maps
@@ -490,28 +490,28 @@ gives-same s g h d (GetVersion dom) (Some (LookHeader t)) a own look v = v
     ∙ ap (λ (x : Header). answers.Version x.version) look
 gives-same s g h d request z a own look v = v
 
-answered-same : (s : Setting) (g h : History) (d : DomId) (request : Asked) (z : Option Step) (giving : Bool)
-    (v : Option Verdict) (a : Option Answer) (against : Option Denial)
+answered-same : (s : Setting) (g h : History) (d : DomId) (request : OpenRequest) (z : Option Step) (giving : Bool)
+    (v : Option CallResult) (a : Option Answer) (against : Option Denial)
     → SameOwn s g h d → LookIf s g h d z → AnsweredBy s g d request z giving v a against
     → AnsweredBy s h d request z giving v a against
 answered-same s g h d request z giving (Some verdict) (Some answer) against own look is =
     (is.0, is.1, gives-same s g h d request z answer own look is.2)
 answered-same s g h d request z giving v a against own look is = is
 
-own-after : (s : Setting) (g h : History) (d : DomId) (x : Happened) (a : Option Answer) → SameOwn s g h d
+own-after : (s : Setting) (g h : History) (d : DomId) (x : ItemEvent) (a : Option Answer) → SameOwn s g h d
     → SameSight s g h d x → own_pins (item d x a ∷ g) d.0 ≡ own_pins (item d x a ∷ h) d.0
 own-after s g h d x a own sight = own-grows g h (item d x a) d.0 own.pins (pinned-same s g h d x a own.pins sight)
 
-stood-after : (s : Setting) (g h : History) (d : DomId) (x : Happened) (a : Option Answer) → SameOwn s g h d
+stood-after : (s : Setting) (g h : History) (d : DomId) (x : ItemEvent) (a : Option Answer) → SameOwn s g h d
     → SameSight s g h d x → stood s (item d x a ∷ g) d.0 ≡ stood s (item d x a ∷ h) d.0
 stood-after s g h d x a own sight = stood-grows s g h (item d x a) d.0 own.against
     (item-same s g h (item d x a) own sight)
 
-next-same : (s : Setting) (g h : History) (d : DomId) (c : Underway) (seen : Seen) → SameOwn s g h d
+next-same : (s : Setting) (g h : History) (d : DomId) (c : Underway) (seen : Observation) → SameOwn s g h d
     → next_in s g d c seen ≡ next_in s h d c seen
 next-same s g h d c seen own = ap (λ k. path k d c.request (values c ++ seen ∷ [])) (known-same s g h d own)
 
-steps-same : (s : Setting) (g h : History) (d : DomId) (z : Step) (seen : Seen) (a : Option Answer)
+steps-same : (s : Setting) (g h : History) (d : DomId) (z : Step) (seen : Observation) (a : Option Answer)
     (c : Option Underway) → SameOwn s g h d → SameLook s g h d z
     → StepsRightIn s g (item d (Stepped z seen) a) z seen c → StepsRightIn s h (item d (Stepped z seen) a) z seen c
 steps-same s g h d z seen a None own look right = absurd right
@@ -535,7 +535,7 @@ steps-same s g h d z seen a (Some c) own look right = record {
       (verdict_in (next_in s g d c seen)) a (stood s (item d (Stepped z seen) a ∷ g) d.0) own look right.answered));
 }
 
-right-of : (s : Setting) (g h : History) (d : DomId) (x : Happened) (a : Option Answer) → SameOwn s g h d
+right-of : (s : Setting) (g h : History) (d : DomId) (x : ItemEvent) (a : Option Answer) → SameOwn s g h d
     → SameSight s g h d x → IsRight s g (item d x a) → IsRight s h (item d x a)
 right-of s g h d (Began q) a own sight right = (
   sym own.call ∙ right.0,
@@ -545,7 +545,7 @@ right-of s g h d (Began q) a own sight right = (
       (stood-after s g h d (Began q) a own sight)
       (answered-same s g h d (asked q) None false (begun_of (known_at s g d) d q) a
       (stood s (item d (Began q) a ∷ g) d.0) own tt right.1)),
-  λ none. subst (λ t. IsSaid t q) own.table (right.2 none),
+  λ none. subst (λ t. SpellsItsEntry t q) own.table (right.2 none),
 )
 right-of s g h d (Stepped z seen) a own sight right =
     subst (λ c. StepsRightIn s h (item d (Stepped z seen) a) z seen c) own.call
@@ -566,7 +566,7 @@ look-of s g h d (ReadBytes dom frame off len) same = same.patches dom.0 frame
 look-of s g h d (CopyBytes from to len) same = same.patches from.frame.owner.0 from.frame.number
 look-of s g h d z same = tt
 
-sight-of : (s : Setting) (g h : History) (d : DomId) (x : Happened) → SameSeen s g h → SameSight s g h d x
+sight-of : (s : Setting) (g h : History) (d : DomId) (x : ItemEvent) → SameSeen s g h → SameSight s g h d x
 sight-of s g h d (Began q) same = tt
 sight-of s g h d (Stepped z seen) same = look-of s g h d z same
 
@@ -585,7 +585,7 @@ raises-grows : (g h : History) (i : Item) (t r : ℕ) → raises_at g t r ≡ ra
 unfolding raises_at
 raises-grows g h i t r same = ap (λ n. n + raise_after (change_of i t r)) same
 
-body-grows : (g h : History) (i : Item) (t r : ℕ) (which : Half) → body_at g t r which ≡ body_at h t r which
+body-grows : (g h : History) (i : Item) (t r : ℕ) (which : BodyWord) → body_at g t r which ≡ body_at h t r which
     → body_at (i ∷ g) t r which ≡ body_at (i ∷ h) t r which
 unfolding body_at
 body-grows g h i t r which same = ap (λ w. or_else (cond (i.actor.0 == t) (stored_at i.happened r which) None) w) same
@@ -609,7 +609,7 @@ call-grows g h i d same = ap (λ c. cond (i.actor.0 == d) (underway_after i c) c
 abbrev made : History → Item → Option WriteMade
 made h i = written_by i.happened (given_in (open_call h i.actor.0)) (contents_at h)
 
-made-same : (s : Setting) (g h : History) (d : DomId) (x : Happened) → open_call g d.0 ≡ open_call h d.0
+made-same : (s : Setting) (g h : History) (d : DomId) (x : ItemEvent) → open_call g d.0 ≡ open_call h d.0
     → SameSight s g h d x
     → written_by x (given_in (open_call g d.0)) (contents_at g)
     ≡ written_by x (given_in (open_call h d.0)) (contents_at h)
@@ -701,7 +701,7 @@ look-back s g h d (ReadBytes dom frame off len) look = sym look
 look-back s g h d (CopyBytes from to len) look = sym look
 look-back s g h d z look = tt
 
-sight-back : (s : Setting) (g h : History) (d : DomId) (x : Happened) → SameSight s g h d x → SameSight s h g d x
+sight-back : (s : Setting) (g h : History) (d : DomId) (x : ItemEvent) → SameSight s g h d x → SameSight s h g d x
 sight-back s g h d (Began q) sight = tt
 sight-back s g h d (Stepped z seen) sight = look-back s g h d z sight
 
@@ -843,7 +843,7 @@ began-look s h d q a e (ReadBytes dom frame off len) = none-patched h d q a dom.
 began-look s h d q a e (CopyBytes from to len) = none-patched h d q a from.frame.owner.0 from.frame.number
 began-look s h d q a e z = tt
 
-began-sight : (s : Setting) (h : History) (d : DomId) (q : Request) (a : Option Answer) (e : DomId) (x : Happened)
+began-sight : (s : Setting) (h : History) (d : DomId) (q : Request) (a : Option Answer) (e : DomId) (x : ItemEvent)
     → SameSight s (item d (Began q) a ∷ h) h e x
 began-sight s h d q a e (Began r) = tt
 began-sight s h d q a e (Stepped z seen) = began-look s h d q a e z
@@ -1028,7 +1028,7 @@ cond-zero a b none = grind arith
 -- an item that changes nothing of an entry
 leaves-entry : (h : History) (i : Item) (t r : ℕ) → change_of i t r ≡ None
     → ((k : Dir) → comes_with (is_held_on t r k) i.happened ≡ 0)
-    → ((k : Dir) (own : List (Holder × Held)) → goes_with (is_held_on t r k) i.happened own ≡ 0)
+    → ((k : Dir) (own : List (PinHolder × HeldPin)) → goes_with (is_held_on t r k) i.happened own ≡ 0)
     → SameEntry (i ∷ h) h t r
 leaves-entry h i t r none comes goes = record {
   entry = exchanged-entry h i t r ∙ ap (λ c. changed_entry_of c (entry_at h t r)) none;
@@ -1039,21 +1039,21 @@ leaves-entry h i t r none comes goes = record {
       omega (arith, e, c, g));
 }
 
-body-left : (h : History) (i : Item) (t r : ℕ) (half : Half) → cond (i.actor.0 == t) (stored_at i.happened r half) None
+body-left : (h : History) (i : Item) (t r : ℕ) (half : BodyWord) → cond (i.actor.0 == t) (stored_at i.happened r half) None
     ≡ None → body_at (i ∷ h) t r half ≡ body_at h t r half
 unfolding body_at
 body-left h i t r half none = ap (λ o. or_else o (body_at h t r half)) none
 
-pin-changes : (d : DomId) (p : Held) (seen : Seen) (a : Option Answer) (t r : ℕ)
+pin-changes : (d : DomId) (p : HeldPin) (seen : Observation) (a : Option Answer) (t r : ℕ)
     → change_of (item d (Stepped (PinStep p) seen) a) t r ≡ None
 pin-changes d p seen a t r = cond-same (d.0 == t) None
 
-pin-comes : (t r : ℕ) (p : Held) (seen : Seen) → ((p.dom.0 == t) && (p.gref.0 == r)) ≡ false → (k : Dir)
+pin-comes : (t r : ℕ) (p : HeldPin) (seen : Observation) → ((p.dom.0 == t) && (p.gref.0 == r)) ≡ false → (k : Dir)
     → comes_with (is_held_on t r k) (Stepped (PinStep p) seen) ≡ 0
 pin-comes t r p Taken off k = cond-zero ((p.dom.0 == t) && (p.gref.0 == r)) (same_dir p.dir k) off
 pin-comes t r p seen off k = refl
 
-exchange-off : (d : DomId) (gref : GrantRef) (looked : ℕ) (change : Change) (seen : Seen) (a : Option Answer) (t r : ℕ)
+exchange-off : (d : DomId) (gref : GrantRef) (looked : ℕ) (change : EntryChange) (seen : Observation) (a : Option Answer) (t r : ℕ)
     → ((d.0 == t) && (gref.0 == r)) ≡ false
     → change_of (item d (Stepped (Exchange gref looked change) seen) a) t r ≡ None
 exchange-off d gref looked change Taken a t r off = cond-none (d.0 == t) (gref.0 == r) (Some change) off
@@ -1061,9 +1061,9 @@ exchange-off d gref looked change seen a t r off = cond-same (d.0 == t) None
 
 -- what a step on another entry leaves
 abbrev LeavesWord : History → Item → ℕ → ℕ → Type 0
-LeavesWord h i t r = SameEntry (i ∷ h) h t r × ((half : Half) → body_at (i ∷ h) t r half ≡ body_at h t r half)
+LeavesWord h i t r = SameEntry (i ∷ h) h t r × ((half : BodyWord) → body_at (i ∷ h) t r half ≡ body_at h t r half)
 
-word-left : (h : History) (d : DomId) (z : Step) (seen : Seen) (a : Option Answer) (t r : ℕ) → is_on_entry z ≡ true
+word-left : (h : History) (d : DomId) (z : Step) (seen : Observation) (a : Option Answer) (t r : ℕ) → is_on_entry z ≡ true
     → on_entry d z t r ≡ false → LeavesWord h (item d (Stepped z seen) a) t r
 word-left h d (LookControl dom gref) seen a t r is off = (
   leaves-entry h (item d (Stepped (LookControl dom gref) seen) a) t r (cond-same (d.0 == t) None) (λ k. refl)
@@ -1110,13 +1110,13 @@ not-true : (b : Bool) → (b ≡ true → ⊥) → b ≡ false
 not-true true none = absurd (none refl)
 not-true false none = refl
 
-writes-nothing : (h : History) (d : DomId) (z : Step) (seen : Seen) (a : Option Answer) (t f : ℕ) → is_on_entry z ≡ true
+writes-nothing : (h : History) (d : DomId) (z : Step) (seen : Observation) (a : Option Answer) (t f : ℕ) → is_on_entry z ≡ true
     → patches_of h (item d (Stepped z seen) a) t f ≡ []
 writes-nothing h d (WriteBytes dom frame off len) seen a t f is = absurd (false≢true is)
 writes-nothing h d (CopyBytes from to len) seen a t f is = absurd (false≢true is)
 writes-nothing h d z seen a t f is = refl
 
-pub words-apart : (s : Setting) (h : History) (d e : DomId) (y z : Step) (v w : Seen) (a b : Option Answer)
+pub words-apart : (s : Setting) (h : History) (d e : DomId) (y z : Step) (v w : Observation) (a b : Option Answer)
     → OnOtherEntries d y e z → AreApart s h (item d (Stepped y v) a) (item e (Stepped z w) b)
 words-apart s h d e y z v w a b on = record {
   actors = on.actors;
@@ -1127,7 +1127,7 @@ words-apart s h d e y z v w a b on = record {
   frames = λ t f. inl (writes-nothing h d y v a t f on.first);
 }
 
-pub words-apart-in : (s : Setting) (h : History) (i j : Item) (y z : Step) (v w : Seen)
+pub words-apart-in : (s : Setting) (h : History) (i j : Item) (y z : Step) (v w : Observation)
     → OnOtherEntries i.actor y j.actor z → i.happened ≡ Stepped y v → j.happened ≡ Stepped z w → AreApart s h i j
 words-apart-in s h i j y z v w on one other =
     subst (λ x. AreApart s h (item i.actor x i.answer) j) (sym one)

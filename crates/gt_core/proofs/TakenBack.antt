@@ -3,9 +3,9 @@ use Rattle.gt_core.proofs.Words.{Event, Element, LegalAfter, grown, history_afte
 use Rattle.gt_core.proofs.Words.{inl, inr, ℕ, refl, Bool, true, false, List, [], ◌∷◌, ◌++◌, Option, Some, None, cond}
 use Rattle.gt_core.proofs.Words.{sym, ap, ◌∙◌, subst, arith, All, Any, count_by, sum_by-cons, eq-eqb}
 use Rattle.gt_core.proofs.Words.{false≢true, All-nil, All-cons, All-head, All-tail, DomId, Dir, Read}
-use Rattle.gt_core.proofs.Words.{Write, Entry, Page, Sub, Invalid, Via, permits, frame_of, Change, Publish, ToInvalid}
-use Rattle.gt_core.proofs.Words.{ToWithdrawn, Seen, Taken, Step, Exchange, PinStep, Unpin, Spot}
-use Rattle.gt_core.proofs.Words.{ReadBytes, WriteBytes, CopyBytes, Asked, Copy, ForMap, ForCopy, Answer, Happened}
+use Rattle.gt_core.proofs.Words.{Write, Entry, Page, Sub, Invalid, Via, permits, frame_of, EntryChange, Publish, ToInvalid}
+use Rattle.gt_core.proofs.Words.{ToWithdrawn, Observation, Taken, Step, Exchange, PinStep, Unpin, Spot}
+use Rattle.gt_core.proofs.Words.{ReadBytes, WriteBytes, CopyBytes, OpenRequest, Copy, ForMap, ForCopy, Answer, ItemEvent}
 use Rattle.gt_core.proofs.Words.{Stepped, Item, History, Setting, Pin, entry_at, live, pinned_by, unpinned_by}
 use Rattle.gt_core.proofs.Words.{is_pin_on, same_dir, reads_at, writes_at, IsRight, IsSafeChange, StepsRightIn}
 use Rattle.gt_core.proofs.Words.{EndIsJustified, CopyIsJustified, Justified, Forwards, IsLegalHistory, open_call}
@@ -50,12 +50,12 @@ trace-legal s events trace legal = after-legal s [] events trace tt legal
 -- pins
 
 -- what held of all pins holds of those that are left
-unpinned-all : (P : Pin → Type 0) (d : DomId) (x : Happened) (ps : List Pin) → All P ps → All P (unpinned_by d x ps)
+unpinned-all : (P : Pin → Type 0) (d : DomId) (x : ItemEvent) (ps : List Pin) → All P ps → All P (unpinned_by d x ps)
 unpinned-all P d (Stepped (Unpin p holder) seen) ps a = all-without P d.0 holder ps a
 unpinned-all P d x ps a = a
 
 -- what is pinned is just one pin
-pinned-one : (d : DomId) (x : Happened) (a : Option Answer) (h : History) (ps : List Pin) → All (λ p. pinned_by d x a h ps ≡ p ∷ []) (pinned_by d x a h ps)
+pinned-one : (d : DomId) (x : ItemEvent) (a : Option Answer) (h : History) (ps : List Pin) → All (λ p. pinned_by d x a h ps ≡ p ∷ []) (pinned_by d x a h ps)
 pinned-one d (Stepped (PinStep p) Taken) a h ps = let qs = pinned_by d (Stepped (PinStep p) Taken) a h ps in All-cons (λ q. qs ≡ q ∷ []) _ [] refl (All-nil (λ q. qs ≡ q ∷ []))
 pinned-one d x a h ps = All-nil (λ q. [] ≡ q ∷ [])
 
@@ -93,7 +93,7 @@ none-on h t r reads writes = λ k d lt.
 -- pins of an earlier record
 
 -- at a revocation and at a publication no pin is live
-ended-by : (s : Setting) (h : History) (d : DomId) (x : Happened) (a : Option Answer) (t r : ℕ) → let i : Item = record { actor = d; happened = x; answer = a } in
+ended-by : (s : Setting) (h : History) (d : DomId) (x : ItemEvent) (a : Option Answer) (t r : ℕ) → let i : Item = record { actor = d; happened = x; answer = a } in
     IsRight s h i → EndsPinsOn t r i → (reads_at h t r ≡ 0) × (writes_at h t r ≡ 0)
 ended-by s h d (Stepped (Exchange gref looked ToInvalid) Taken) a t r right ends =
     let safe = of-safe s h (exchanged d gref looked ToInvalid a) _ _ (open_call h d.0) right in
@@ -104,7 +104,7 @@ ended-by s h d (Stepped (Exchange gref looked (Publish entry)) Taken) a t r righ
 ended-by s h d x a t r right ends = absurd ends.1
 
 -- nor does it take one
-ended-live : (d : DomId) (x : Happened) (a : Option Answer) (h : History) (t r : ℕ) → let i : Item = record { actor = d; happened = x; answer = a } in EndsPinsOn t r i → live (i ∷ h) ≡ live h
+ended-live : (d : DomId) (x : ItemEvent) (a : Option Answer) (h : History) (t r : ℕ) → let i : Item = record { actor = d; happened = x; answer = a } in EndsPinsOn t r i → live (i ∷ h) ≡ live h
 ended-live d (Stepped (Exchange gref looked ToInvalid) Taken) a h t r ends = exchanged-live h d gref looked ToInvalid a
 ended-live d (Stepped (Exchange gref looked (Publish entry)) Taken) a h t r ends = exchanged-live h d gref looked (Publish entry) a
 ended-live d x a h t r ends = absurd ends.1
@@ -143,18 +143,18 @@ abbrev Fits : History → Pin → Type 0
 Fits h p = IsOfEntry p (entry_at h p.held.dom.0 p.held.gref.0)
 
 -- after a change of the entry
-change-fits : (h : History) (u g : ℕ) (change : Change) (p : Pin) → IsSafeChange h u g change → (reads_at h u g ≡ 0 → writes_at h u g ≡ 0 → IsPinOn u g p → ⊥) → IsPinOn u g p
+change-fits : (h : History) (u g : ℕ) (change : EntryChange) (p : Pin) → IsSafeChange h u g change → (reads_at h u g ≡ 0 → writes_at h u g ≡ 0 → IsPinOn u g p → ⊥) → IsPinOn u g p
     → IsOfEntry p (entry_at h u g) → IsOfEntry p (changed_entry change (entry_at h u g))
 change-fits h u g (Publish entry) p safe none on was = λ valid f. absurd (none safe.2 safe.3 on)
 change-fits h u g ToInvalid p safe none on was = λ valid f. absurd (valid refl)
 change-fits h u g ToWithdrawn p safe none on was = λ valid f. absurd (valid refl)
 change-fits h u g change p safe none on was = λ valid f. was (ro-valid _ (entry_at h u g) valid) f ∙ sym (ro-frame _ (entry_at h u g) f)
 
-kept-fits : (s : Setting) (h : History) (d : DomId) (x : Happened) (a : Option Answer) → let i : Item = record { actor = d; happened = x; answer = a } in IsRight s h i
+kept-fits : (s : Setting) (h : History) (d : DomId) (x : ItemEvent) (a : Option Answer) → let i : Item = record { actor = d; happened = x; answer = a } in IsRight s h i
     → All (Fits h) (live h) → All (Fits (i ∷ h)) (live h)
 unfolding entry_at
 kept-fits s h d (Stepped (Exchange gref looked change) Taken) a right was = λ k b lt. let p = slice_index_or (live h) k b in
-    at-change (λ (u g : ℕ) (c : Option Change). IsPinOn u g p → IsOfEntry p (changed_entry_of c (entry_at h u g))) d.0 gref.0 change p.held.dom.0 p.held.gref.0
+    at-change (λ (u g : ℕ) (c : Option EntryChange). IsPinOn u g p → IsOfEntry p (changed_entry_of c (entry_at h u g))) d.0 gref.0 change p.held.dom.0 p.held.gref.0
     (λ on. change-fits h d.0 gref.0 change p (of-safe s h (exchanged d gref looked change a) _ _ (open_call h d.0) right) (λ reads writes. none-on h d.0 gref.0 reads writes k b lt) on
     (subst (λ (u : ℕ). IsOfEntry p (entry_at h u gref.0)) on.0 (subst (λ (g : ℕ). IsOfEntry p (entry_at h p.held.dom.0 g)) on.1 (was k b lt))))
     (λ on. was k b lt) (refl, refl)
@@ -162,7 +162,7 @@ kept-fits s h d x a right was = let i : Item = record { actor = d; happened = x;
     λ k b lt. let p = slice_index_or (live h) k b in subst (IsOfEntry p) (sym (kept-entry i h p.held.dom.0 p.held.gref.0 (λ r. refl))) (was k b lt)
 
 -- a new pin is of the entry as it is
-new-fits : (d : DomId) (x : Happened) (a : Option Answer) (h : History) → let i : Item = record { actor = d; happened = x; answer = a } in All (Fits (i ∷ h)) (pinned_by d x a h (live h))
+new-fits : (d : DomId) (x : ItemEvent) (a : Option Answer) (h : History) → let i : Item = record { actor = d; happened = x; answer = a } in All (Fits (i ∷ h)) (pinned_by d x a h (live h))
 new-fits d (Stepped (PinStep p) Taken) a h = let i : Item = record { actor = d; happened = Stepped (PinStep p) Taken; answer = a } in
     All-cons (Fits (i ∷ h)) _ [] (λ valid f. ap (λ (e : Entry). is_of_frame e f) (sym (kept-entry i h p.dom.0 p.gref.0 (λ r. refl)))) (All-nil (Fits (i ∷ h)))
 new-fits d x a h = let i : Item = record { actor = d; happened = x; answer = a } in All-nil (Fits (i ∷ h))
@@ -198,27 +198,27 @@ not-true : (b : Bool) → (b ≡ true → ⊥) → b ≡ false
 not-true true n = absurd (n refl)
 not-true false n = refl
 
-change-out : (change : Change) (e : Entry) (f : ℕ) → ((entry : Entry) → change ≡ Publish entry → is_of_frame entry f ≡ false) → is_of_frame e f ≡ false → is_of_frame (changed_entry change e) f ≡ false
+change-out : (change : EntryChange) (e : Entry) (f : ℕ) → ((entry : Entry) → change ≡ Publish entry → is_of_frame entry f ≡ false) → is_of_frame e f ≡ false → is_of_frame (changed_entry change e) f ≡ false
 change-out (Publish entry) e f silent was = silent entry refl
 change-out ToInvalid e f silent was = refl
 change-out ToWithdrawn e f silent was = refl
 change-out change e f silent was = ro-frame _ e f ∙ was
 
 -- no entry is of the frame after one item more
-entries-out : (d : DomId) (x : Happened) (a : Option Answer) (h : History) (t f r : ℕ) → let i : Item = record { actor = d; happened = x; answer = a } in
+entries-out : (d : DomId) (x : ItemEvent) (a : Option Answer) (h : History) (t f r : ℕ) → let i : Item = record { actor = d; happened = x; answer = a } in
     (Grants t f i → ⊥) → ((r : ℕ) → is_of_frame (entry_at h t r) f ≡ false) → is_of_frame (entry_at (i ∷ h) t r) f ≡ false
 unfolding entry_at
 entries-out d (Stepped (Exchange gref looked change) Taken) a h t f r silent was =
-    at-change (λ (u g : ℕ) (c : Option Change). u ≡ t → is_of_frame (changed_entry_of c (entry_at h u g)) f ≡ false) d.0 gref.0 change t r
+    at-change (λ (u g : ℕ) (c : Option EntryChange). u ≡ t → is_of_frame (changed_entry_of c (entry_at h u g)) f ≡ false) d.0 gref.0 change t r
     (λ own. change-out change (entry_at h d.0 gref.0) f (granted change silent own) (subst (λ (u : ℕ). is_of_frame (entry_at h u gref.0) f ≡ false) (sym own) (was gref.0)))
     (λ own. was r) refl
   where
-    granted : (c : Change) → (Grants t f (exchanged d gref looked c a) → ⊥) → d.0 ≡ t → (entry : Entry) → c ≡ Publish entry → is_of_frame entry f ≡ false
-    granted c quiet own entry e = not-true (is_of_frame entry f) (λ y. subst (λ (b : Change). Grants t f (exchanged d gref looked b a) → ⊥) e quiet (own, y))
+    granted : (c : EntryChange) → (Grants t f (exchanged d gref looked c a) → ⊥) → d.0 ≡ t → (entry : Entry) → c ≡ Publish entry → is_of_frame entry f ≡ false
+    granted c quiet own entry e = not-true (is_of_frame entry f) (λ y. subst (λ (b : EntryChange). Grants t f (exchanged d gref looked b a) → ⊥) e quiet (own, y))
 entries-out d x a h t f r silent was = let i : Item = record { actor = d; happened = x; answer = a } in
     ap (λ (e : Entry). is_of_frame e f) (kept-entry i h t r (λ r. refl)) ∙ was r
 
-new-out : (d : DomId) (x : Happened) (a : Option Answer) (h : History) (t f : ℕ) → ((r : ℕ) → is_of_frame (entry_at h t r) f ≡ false) → All (IsApart t f) (pinned_by d x a h (live h))
+new-out : (d : DomId) (x : ItemEvent) (a : Option Answer) (h : History) (t f : ℕ) → ((r : ℕ) → is_of_frame (entry_at h t r) f ≡ false) → All (IsApart t f) (pinned_by d x a h (live h))
 new-out d (Stepped (PinStep p) Taken) a h t f was = All-cons (IsApart t f) _ [] (λ is. subst (λ (u : ℕ). is_of_frame (entry_at h u p.gref.0) f ≡ false) (sym is) (was p.gref.0)) (All-nil (IsApart t f))
 new-out d x a h t f was = All-nil (IsApart t f)
 
@@ -255,7 +255,7 @@ end-out s h d granted dir at len named owners t f out other own is (inr (inr e))
     all-none (IsApart t f) (λ p. Any (λ via. Forwards d dir named p via × Reaches d named dir ForCopy at len p) (live h)) (live h) out.pins
     (λ p apart any. no-reach d named dir ForCopy at len t f p own is apart any.4.1) e.1
 
-copy-out : (s : Setting) (h : History) (d : DomId) (request : Asked) (from to : Spot) (len t f : ℕ) → IsOut h t f → d.0 ≢ t → CopyIsJustified s h d request from to len
+copy-out : (s : Setting) (h : History) (d : DomId) (request : OpenRequest) (from to : Spot) (len t f : ℕ) → IsOut h t f → d.0 ≢ t → CopyIsJustified s h d request from to len
     → ((from.frame.owner.0 ≡ t) × (from.frame.number ≡ f)) ⊎ ((to.frame.owner.0 ≡ t) × (to.frame.number ≡ f)) → ⊥
 copy-out s h d (Copy c) from to len t f out other just (inl e) = end-out s h d _ Read from len _ _ t f out other e.0 e.1 just.3
 copy-out s h d (Copy c) from to len t f out other just (inr e) = end-out s h d _ Write to len _ _ t f out other e.0 e.1 just.4
@@ -265,17 +265,17 @@ range-out : (h : History) (d : DomId) (dir : Dir) (at : Spot) (len t f : ℕ) �
 range-out h d dir at len t f out other own is (inl e) = other (sym e ∙ own)
 range-out h d dir at len t f out other own is (inr e) = all-none (IsApart t f) (Reaches d d dir ForMap at len) (live h) out.pins (λ p. no-reach d d dir ForMap at len t f p own is) e
 
-just-out : (s : Setting) (h : History) (d : DomId) (request : Asked) (step : Step) (seen : Seen) (a : Option Answer) (t f : ℕ) → IsOut h t f → Justified s h d request step → IsForeignAccess t f (stepped d step seen a) → ⊥
+just-out : (s : Setting) (h : History) (d : DomId) (request : OpenRequest) (step : Step) (seen : Observation) (a : Option Answer) (t f : ℕ) → IsOut h t f → Justified s h d request step → IsForeignAccess t f (stepped d step seen a) → ⊥
 just-out s h d request (ReadBytes dom frame off len) seen a t f out just foreign = range-out h d Read (record { frame = record { owner = dom; number = frame }; off = off }) len t f out foreign.0 foreign.1.0 foreign.1.1 just.1
 just-out s h d request (WriteBytes dom frame off len) seen a t f out just foreign = range-out h d Write (record { frame = record { owner = dom; number = frame }; off = off }) len t f out foreign.0 foreign.1.0 foreign.1.1 just.1
 just-out s h d request (CopyBytes from to len) seen a t f out just foreign = copy-out s h d request from to len t f out foreign.0 just foreign.1
 just-out s h d request step seen a t f out just foreign = absurd foreign.1
 
-step-out : (s : Setting) (h : History) (d : DomId) (step : Step) (seen : Seen) (a : Option Answer) (t f : ℕ) (c : Option Underway) → IsOut h t f → StepsRightIn s h (stepped d step seen a) step seen c → IsForeignAccess t f (stepped d step seen a) → ⊥
+step-out : (s : Setting) (h : History) (d : DomId) (step : Step) (seen : Observation) (a : Option Answer) (t f : ℕ) (c : Option Underway) → IsOut h t f → StepsRightIn s h (stepped d step seen a) step seen c → IsForeignAccess t f (stepped d step seen a) → ⊥
 step-out s h d step seen a t f None out right foreign = absurd right
 step-out s h d step seen a t f (Some c) out right foreign = just-out s h d c.request step seen a t f out right.justified foreign
 
-item-out : (s : Setting) (h : History) (d : DomId) (x : Happened) (a : Option Answer) (t f : ℕ) → let i : Item = record { actor = d; happened = x; answer = a } in IsOut h t f → IsRight s h i → IsForeignAccess t f i → ⊥
+item-out : (s : Setting) (h : History) (d : DomId) (x : ItemEvent) (a : Option Answer) (t f : ℕ) → let i : Item = record { actor = d; happened = x; answer = a } in IsOut h t f → IsRight s h i → IsForeignAccess t f i → ⊥
 item-out s h d (Stepped step seen) a t f out right foreign = step-out s h d step seen a t f (open_call h d.0) out right foreign
 item-out s h d x a t f out right foreign = absurd foreign.1
 

@@ -2,12 +2,12 @@
 use Rattle.gt_core.proofs.Words.{◌≡◌, ◌≢◌, ◌<◌, ◌+◌, ◌⊎◌, inl, inr, ℕ, suc, refl, true, List, [], ◌∷◌, ◌++◌, length}
 use Rattle.gt_core.proofs.Words.{Option, Some, None, sym, ap, ◌∙◌, subst, reverse, arith, eqb-true, map-append}
 use Rattle.gt_core.proofs.Words.{length-append, length-reverse, reverse_onto, none-some, same_Some, ◌==◌, All, DomId}
-use Rattle.gt_core.proofs.Words.{GrantRef, Denial, Change, Held, Pins, Asked, ByMapping, ByLeg, Seen, Nothing, Taken}
-use Rattle.gt_core.proofs.Words.{Missed, Verdict, Granted, KeptPin, Step, PinStep, Unpin, StoreBody, StoreHeader}
+use Rattle.gt_core.proofs.Words.{GrantRef, Denial, EntryChange, HeldPin, CallPins, OpenRequest, ByMapping, ByLeg, Observation, Nothing, Taken}
+use Rattle.gt_core.proofs.Words.{Missed, CallResult, Granted, KeptPin, Step, PinStep, Unpin, StoreBody, StoreHeader}
 use Rattle.gt_core.proofs.Words.{Exchange, ReadBytes, WriteBytes, CopyBytes, Action, Makes, Done, Call, Phase, Ending}
 use Rattle.gt_core.proofs.Words.{last_first, no_pins, CallerKnowledge, knowledge_of, path, Rests, phase_after}
 use Rattle.gt_core.proofs.Words.{action_at, next_to_give, StandsAt, pins_at, held_in, Goes, GoesOnWith, steps_left}
-use Rattle.gt_core.proofs.Words.{Open}
+use Rattle.gt_core.proofs.Words.{OpenCall}
 use Rattle.gt_core.proofs.Words.{Answer, State, state_of, sees, History, Setting, Pin, entry_at, word_at, known_at}
 use Rattle.gt_core.proofs.Words.{legs_at, seen_by, Underway, values, open_call, underway_after, holder_after}
 use Rattle.gt_core.proofs.Words.{one_if_mapped, StepsSoFar, StepsRight, Justified, IsSafe, PinIsSound, AnsweredBy}
@@ -33,11 +33,11 @@ use Rattle.gt_core.proofs.{Steps.Store.second-leads}
 use Rattle.gt_calls.specs.Following.{Advances}
 
 -- a call in this phase
-abbrev pub call_at : DomId → Asked → Phase → Call
+abbrev pub call_at : DomId → OpenRequest → Phase → Call
 call_at d r phase = record { caller = d; request = r; phase = Some phase }
 
 -- what is known of a step of an open call, which saw what the history left
-pub record Ticks (s : Setting) (h : History) (xs : List State) (x : State) (o : Open) (c : Underway) (new : Call) (action : Action) : Type 0 where
+pub record Ticks (s : Setting) (h : History) (xs : List State) (x : State) (o : OpenCall) (c : Underway) (new : Call) (action : Action) : Type 0 where
   pub here : state_of xs x.id.0 ≡ Some x
   pub agrees : StateStands s h x
   pub call : open_call h x.id.0 ≡ Some c
@@ -49,7 +49,7 @@ pub record Ticks (s : Setting) (h : History) (xs : List State) (x : State) (o : 
   pub acts : action ≡ action_at x.id (next_of s h x.id stands.phase o.step)
   pub holds : HoldsAfter o.step (seen_by s h x.id o.step) (held_in stands.phase) (held_in (next_of s h x.id stands.phase o.step)) action
 
-pub ticks : (s : Setting) (h : History) (xs : List State) (x : State) (o : Open) (c : Underway) (seen : Seen) (new : Call) (action : Action) → IsLegalHistory s h → DomainsStand s h xs → state_of xs x.id.0 ≡ Some x → StateStands s h x → open_call h x.id.0 ≡ Some c
+pub ticks : (s : Setting) (h : History) (xs : List State) (x : State) (o : OpenCall) (c : Underway) (seen : Observation) (new : Call) (action : Action) → IsLegalHistory s h → DomainsStand s h xs → state_of xs x.id.0 ≡ Some x → StateStands s h x → open_call h x.id.0 ≡ Some c
     → OpenAgrees s h x.id o c → seen ≡ sees xs x.id o.step → new.caller ≡ o.call.caller → new.request ≡ o.call.request
     → Goes (knowledge_of s.domains s.first_generation s.may x.own x.header x.mappings) o.call seen new action → (seen ≡ seen_by s h x.id o.step) × Ticks s h xs x o c new action
 ticks s h xs x o c seen new action legal st here agrees call a saw caller asks goes = let k = known_at s h x.id in
@@ -61,7 +61,7 @@ ticks s h xs x o c seen new action legal st here agrees call a saw caller asks g
     let g : Goes k old (seen_by s h x.id step) new action =
     subst (λ (z : Call). Goes k z (seen_by s h x.id step) new action) (call-is o.call x.id c.request a.phase a.caller a.asks a.here)
     (subst (λ (z : CallerKnowledge). Goes z o.call (seen_by s h x.id step) new action) (known-same s h x agrees)
-    (subst (λ (v : Seen). Goes (knowledge_of s.domains s.first_generation s.may x.own x.header x.mappings) o.call v new action) same goes)) in
+    (subst (λ (v : Observation). Goes (knowledge_of s.domains s.first_generation s.may x.own x.header x.mappings) o.call v new action) same goes)) in
     let moved : new ≡ call_at x.id c.request next = call-is new x.id c.request next (caller ∙ a.caller) (asks ∙ a.asks) g.moves in
     let fits : FitsNext (path k x.id c.request (values c)) (seen_by s h x.id step) = subst (λ (z : Option Action). FitsNext z (seen_by s h x.id step)) (sym a.follows) (seen-fits s h x.id step) in
     let g2 : Goes k old (seen_by s h x.id step) (call_at x.id c.request next) action = subst (λ (z : Call). Goes k old (seen_by s h x.id step) z action) moved g in
@@ -70,7 +70,7 @@ ticks s h xs x o c seen new action legal st here agrees call a saw caller asks g
 
 -- the call with one step more
 
-pub given-goes-on : (d : DomId) (step : Step) (seen : Seen) (answer : Option Answer) (h : History) (given : List ℕ) → GivenAgrees h d.0 given → GivenAgrees (stepped d step seen answer ∷ h) d.0 given
+pub given-goes-on : (d : DomId) (step : Step) (seen : Observation) (answer : Option Answer) (h : History) (given : List ℕ) → GivenAgrees h d.0 given → GivenAgrees (stepped d step seen answer ∷ h) d.0 given
 given-goes-on d step seen answer h given a = λ c call. by answer (open_call h d.0) refl c (sym (open_call-own (stepped d step seen answer) h) ∙ call)
   where
     by : (answer : Option Answer) (u : Option Underway) → open_call h d.0 ≡ u → (c : Underway) → underway_after (stepped d step seen answer) u ≡ Some c → (given ≡ c.given) × FitsGiven c.request c.given
@@ -80,40 +80,40 @@ given-goes-on d step seen answer h given a = λ c call. by answer (open_call h d
 taken-word : (word looked : ℕ) → exchange_sees word looked ≡ Taken → word ≡ looked
 taken-word word looked e = cond_both (word == looked) Taken (Missed word) (λ z. z ≡ Taken → word ≡ looked) (λ is f. eqb-true word looked is) (λ is f. cc) e
 
-numbered-push : (n : ℕ) (ps : List Held) (p : Held) → numbered n (ps ++ p ∷ []) ≡ numbered n ps ++ (n + length ps, p) ∷ []
+numbered-push : (n : ℕ) (ps : List HeldPin) (p : HeldPin) → numbered n (ps ++ p ∷ []) ≡ numbered n ps ++ (n + length ps, p) ∷ []
 numbered-push n [] p = let e : n ≡ n + 0 = omega arith in ap (λ (m : ℕ). (m, p) ∷ []) e
-numbered-push n (q ∷ ps) p = ap (λ (l : List (ℕ × Held)). (n, q) ∷ l) (numbered-push (n + 1) ps p)
+numbered-push n (q ∷ ps) p = ap (λ (l : List (ℕ × HeldPin)). (n, q) ∷ l) (numbered-push (n + 1) ps p)
     ∙ (let e : n + 1 + length ps ≡ n + suc (length ps) = omega arith in ap (λ (m : ℕ). (n, q) ∷ numbered (n + 1) ps ++ (m, p) ∷ []) e)
 
-length-numbered : (n : ℕ) (ps : List Held) → length (numbered n ps) ≡ length ps
+length-numbered : (n : ℕ) (ps : List HeldPin) → length (numbered n ps) ≡ length ps
 length-numbered n [] = refl
 length-numbered n (p ∷ ps) = let e = length-numbered (n + 1) ps in omega arith
 
 -- the pin that is taken is of the entry as it is
-abbrev PinFact : History → Step → Seen → Type 0
-PinFact h step seen = (p : Held) → step ≡ PinStep p → seen ≡ Taken → record p { entry = entry_at h p.dom.0 p.gref.0 } ≡ p
+abbrev PinFact : History → Step → Observation → Type 0
+PinFact h step seen = (p : HeldPin) → step ≡ PinStep p → seen ≡ Taken → record p { entry = entry_at h p.dom.0 p.gref.0 } ≡ p
 
 -- the pin that is given back is the last one held
-abbrev pub LastFact : List Held → Step → Type 0
-LastFact old step = (p : Held) (place : ℕ) → step ≡ Unpin p (ByLeg place) → (others : List Held) × (old ≡ p ∷ others) × (place ≡ length others)
+abbrev pub LastFact : List HeldPin → Step → Type 0
+LastFact old step = (p : HeldPin) (place : ℕ) → step ≡ Unpin p (ByLeg place) → (others : List HeldPin) × (old ≡ p ∷ others) × (place ≡ length others)
 
-legs-by : (h : History) (d : DomId) (answer : Option Answer) (old new : List Held) (action : Action) (step : Step) (seen : Seen) → one_if_mapped answer ≡ 0 → ((n : ℕ) → holder_after answer n ≡ ByLeg n) → ((m : Held) → action ≡ Done (KeptPin m) → ⊥)
+legs-by : (h : History) (d : DomId) (answer : Option Answer) (old new : List HeldPin) (action : Action) (step : Step) (seen : Observation) → one_if_mapped answer ≡ 0 → ((n : ℕ) → holder_after answer n ≡ ByLeg n) → ((m : HeldPin) → action ≡ Done (KeptPin m) → ⊥)
     → legs_at h d.0 ≡ numbered 0 (reverse old) → HoldsAfter step seen old new action → PinFact h step seen → LastFact old step → legs_at (stepped d step seen answer ∷ h) d.0 ≡ numbered 0 (reverse new)
 legs-by h d answer old new action step seen m leg unmapped held holds pinned last = by step seen holds pinned last where
-  pin : (p : Held) → (new ≡ p ∷ old) ⊎ ((action ≡ Done (KeptPin p)) × (new ≡ old)) → record p { entry = entry_at h p.dom.0 p.gref.0 } ≡ p → legs_at (pins d p answer ∷ h) d.0 ≡ numbered 0 (reverse new)
+  pin : (p : HeldPin) → (new ≡ p ∷ old) ⊎ ((action ≡ Done (KeptPin p)) × (new ≡ old)) → record p { entry = entry_at h p.dom.0 p.gref.0 } ≡ p → legs_at (pins d p answer ∷ h) d.0 ≡ numbered 0 (reverse new)
   pin p (inr b) is = absurd (unmapped p b.0)
   pin p (inl b) is =
-      let n : length (legs_at h d.0) ≡ 0 + length (reverse old) = ap (λ (l : List (ℕ × Held)). length l) held ∙ length-numbered 0 (reverse old) ∙ sym (from-zero (length (reverse old))) in
-      leg-grows h d p answer (leg (length (legs_at h d.0))) ∙ ap (λ (q : Held). legs_at h d.0 ++ (length (legs_at h d.0), q) ∷ []) is ∙ ap (λ (k : ℕ). legs_at h d.0 ++ (k, p) ∷ []) n
-      ∙ ap (λ (l : List (ℕ × Held)). l ++ (0 + length (reverse old), p) ∷ []) held
-      ∙ sym (numbered-push 0 (reverse old) p) ∙ ap (numbered 0) (sym (reverse_onto old p [])) ∙ ap (λ (l : List Held). numbered 0 (reverse l)) (sym b)
+      let n : length (legs_at h d.0) ≡ 0 + length (reverse old) = ap (λ (l : List (ℕ × HeldPin)). length l) held ∙ length-numbered 0 (reverse old) ∙ sym (from-zero (length (reverse old))) in
+      leg-grows h d p answer (leg (length (legs_at h d.0))) ∙ ap (λ (q : HeldPin). legs_at h d.0 ++ (length (legs_at h d.0), q) ∷ []) is ∙ ap (λ (k : ℕ). legs_at h d.0 ++ (k, p) ∷ []) n
+      ∙ ap (λ (l : List (ℕ × HeldPin)). l ++ (0 + length (reverse old), p) ∷ []) held
+      ∙ sym (numbered-push 0 (reverse old) p) ∙ ap (numbered 0) (sym (reverse_onto old p [])) ∙ ap (λ (l : List HeldPin). numbered 0 (reverse l)) (sym b)
 
-  give : (p : Held) (place : ℕ) (v : Seen) → old ≡ p ∷ new → (others : List Held) × (old ≡ p ∷ others) × (place ≡ length others) → legs_at (unpins d p (ByLeg place) v answer ∷ h) d.0 ≡ numbered 0 (reverse new)
+  give : (p : HeldPin) (place : ℕ) (v : Observation) → old ≡ p ∷ new → (others : List HeldPin) × (old ≡ p ∷ others) × (place ≡ length others) → legs_at (unpins d p (ByLeg place) v answer ∷ h) d.0 ≡ numbered 0 (reverse new)
   give p place v e (others, is, at) = let same : others ≡ new = cc in
-      let legs : legs_at h d.0 ≡ numbered 0 (reverse new ++ p ∷ []) = held ∙ ap (λ (l : List Held). numbered 0 (reverse l)) e ∙ ap (numbered 0) (reverse_onto new p []) in
-      ap (λ (k : ℕ). legs_at (unpins d p (ByLeg k) v answer ∷ h) d.0) (at ∙ ap (λ (l : List Held). length l) same ∙ sym (length-reverse new)) ∙ leg-left h d (reverse new) p v answer legs
+      let legs : legs_at h d.0 ≡ numbered 0 (reverse new ++ p ∷ []) = held ∙ ap (λ (l : List HeldPin). numbered 0 (reverse l)) e ∙ ap (numbered 0) (reverse_onto new p []) in
+      ap (λ (k : ℕ). legs_at (unpins d p (ByLeg k) v answer ∷ h) d.0) (at ∙ ap (λ (l : List HeldPin). length l) same ∙ sym (length-reverse new)) ∙ leg-left h d (reverse new) p v answer legs
 
-  by : (z : Step) (v : Seen) → HoldsAfter z v old new action → PinFact h z v → LastFact old z → legs_at (stepped d z v answer ∷ h) d.0 ≡ numbered 0 (reverse new)
+  by : (z : Step) (v : Observation) → HoldsAfter z v old new action → PinFact h z v → LastFact old z → legs_at (stepped d z v answer ∷ h) d.0 ≡ numbered 0 (reverse new)
   by (PinStep p) Taken e f g = pin p e (f p refl refl)
   by (Unpin p (ByLeg place)) v e f g = give p place v e (g p place refl)
   by (Unpin p (ByMapping handle)) v e f g = mapping-legs h d p handle v answer ∙ rw e held
@@ -121,7 +121,7 @@ legs-by h d answer old new action step seen m leg unmapped held holds pinned las
   by z v e f g = kept-legs (stepped d z v answer) h d.0 (record { changes = λ r. refl; pins = λ before ps. refl; unpins = λ pins. refl; maps = m }) ∙ rw e held
 
 -- what the domain knows stays, where its call goes on
-known-by : (s : Setting) (h : History) (d : DomId) (step : Step) (seen : Seen) → (IsSingle step → ⊥) → ((gref : GrantRef) (looked : ℕ) (change : Change) → step ≡ Exchange gref looked change → seen ≡ Taken → ⊥)
+known-by : (s : Setting) (h : History) (d : DomId) (step : Step) (seen : Observation) → (IsSingle step → ⊥) → ((gref : GrantRef) (looked : ℕ) (change : EntryChange) → step ≡ Exchange gref looked change → seen ≡ Taken → ⊥)
     → known_at s (stepped d step seen None ∷ h) d ≡ known_at s h d
 known-by s h d (PinStep p) Taken single exchange = let i = pins d p None in
     known-as s h (i ∷ h) d (λ r. kept-entry i h d.0 r (λ r. refl)) (λ r. kept-raises i h d.0 r (λ r. refl)) (kept-table s i h d refl) (leg-maps h d p None refl) (answered-stays h i d.0 refl)
@@ -132,12 +132,12 @@ known-by s h d (StoreHeader version frames) v single exchange = absurd (single t
 known-by s h d (Exchange gref looked change) Taken single exchange = absurd (exchange gref looked change refl refl)
 known-by s h d z v single exchange = kept-known s (stepped d z v None) h d (record { changes = λ r. refl; pins = λ before ps. refl; unpins = λ pins. refl; maps = refl }) refl
 
-goes-not : (d : DomId) (z : Step) (p : Phase) (pins : Pins) (v : Verdict) → last_first pins ≡ [] → Makes z ≡ action_at d p → p ≡ Ending pins v → ⊥
-goes-not d z p pins v none e is = let f : Makes z ≡ Done v = e ∙ ap (action_at d) is ∙ ap (λ (l : List Held). next_to_give l v) none in cc
+goes-not : (d : DomId) (z : Step) (p : Phase) (pins : CallPins) (v : CallResult) → last_first pins ≡ [] → Makes z ≡ action_at d p → p ≡ Ending pins v → ⊥
+goes-not d z p pins v none e is = let f : Makes z ≡ Done v = e ∙ ap (action_at d) is ∙ ap (λ (l : List HeldPin). next_to_give l v) none in cc
 
 -- a step of a call, which saw what the history left
-module _ {s : Setting} {h : History} {xs : List State} {x : State} {o : Open} {c : Underway} {new : Call} {action : Action} (t : Ticks s h xs x o c new action) where
-  abbrev pub seen_in : Seen
+module _ {s : Setting} {h : History} {xs : List State} {x : State} {o : OpenCall} {c : Underway} {new : Call} {action : Action} (t : Ticks s h xs x o c new action) where
+  abbrev pub seen_in : Observation
   seen_in = seen_by s h x.id o.step
 
   abbrev pub phase_then : Phase
@@ -165,7 +165,7 @@ module _ {s : Setting} {h : History} {xs : List State} {x : State} {o : Open} {c
       (r.others, r.held, r.place_is)
 
   -- the pins that the call then holds are those of its next phase
-  pub legs-after : (answer : Option Answer) → one_if_mapped answer ≡ 0 → ((n : ℕ) → holder_after answer n ≡ ByLeg n) → ((m : Held) → action ≡ Done (KeptPin m) → ⊥) → legs_at (history_then answer) x.id.0 ≡ numbered 0 (reverse (held_in phase_then))
+  pub legs-after : (answer : Option Answer) → one_if_mapped answer ≡ 0 → ((n : ℕ) → holder_after answer n ≡ ByLeg n) → ((m : HeldPin) → action ≡ Done (KeptPin m) → ⊥) → legs_at (history_then answer) x.id.0 ≡ numbered 0 (reverse (held_in phase_then))
   legs-after answer m leg unmapped = legs-by h x.id answer (held_in t.stands.phase) (held_in phase_then) action o.step seen_in m leg unmapped t.stands.held t.holds pin-fact last-fact
 
   place-after : PhaseStands s (history_then None) x.id c.request ((o.step, seen_in) ∷ reverse c.steps) phase_then
@@ -182,7 +182,7 @@ module _ {s : Setting} {h : History} {xs : List State} {x : State} {o : Open} {c
         (λ r which. unstored (stepped x.id step (seen_by s h x.id step) None) h x.id.0 r which refl) ((subst (OfStep s h xs x.id c.request (reverse c.steps) t.stands.phase) is each).3 (λ n. n))
 
 -- a call that goes on
-module _ {s : Setting} {h : History} {xs : List State} {x : State} {o : Open} {c : Underway} {new : Call} {z : Step} (t : Ticks s h xs x o c new (Makes z)) where
+module _ {s : Setting} {h : History} {xs : List State} {x : State} {o : OpenCall} {c : Underway} {new : Call} {z : Step} (t : Ticks s h xs x o c new (Makes z)) where
   known-after : known_at s (history_then t None) x.id ≡ known_at s h x.id
   known-after = known-by s h x.id o.step (seen_in t)
       (λ single. let e = single-ends s h x.id c.request (reverse c.steps) t.stands.phase o.step t.stands.acts t.stands.place single in goes-not x.id z _ no_pins e.0 refl t.acts e.1)
@@ -193,18 +193,18 @@ module _ {s : Setting} {h : History} {xs : List State} {x : State} {o : Open} {c
   -- it is where this step has led it
   pub open-after : OpenAgrees s (history_then t None) x.id (record { call = new; step = z }) (record { request = c.request; given = c.given; steps = c.steps ++ (o.step, seen_in t) ∷ [] })
   open-after = let u : Underway = record { request = c.request; given = c.given; steps = c.steps ++ (o.step, seen_in t) ∷ [] } in
-      let shown : values c ++ seen_in t ∷ [] ≡ values u = sym (map-append (λ (p : Step × Seen). p.1) c.steps ((o.step, seen_in t) ∷ [])) in
+      let shown : values c ++ seen_in t ∷ [] ≡ values u = sym (map-append (λ (p : Step × Observation). p.1) c.steps ((o.step, seen_in t) ∷ [])) in
       let longer : length (c.steps ++ (o.step, seen_in t) ∷ []) ≡ length c.steps + 1 = length-append c.steps ((o.step, seen_in t) ∷ []) in
       let few = t.stands.few in let fewer = t.fewer in record {
         caller = ap (λ (z : Call). z.caller) t.new_is;
         asks = ap (λ (z : Call). z.request) t.new_is;
         phase = phase_then t;
         here = ap (λ (z : Call). z.phase) t.new_is;
-        at = subst (λ (k : CallerKnowledge). StandsAt k x.id c.request (values u) (phase_then t)) (sym known-after) (subst (λ (vs : List Seen). StandsAt (known_at s h x.id) x.id c.request vs (phase_then t)) shown t.on.at);
+        at = subst (λ (k : CallerKnowledge). StandsAt k x.id c.request (values u) (phase_then t)) (sym known-after) (subst (λ (vs : List Observation). StandsAt (known_at s h x.id) x.id c.request vs (phase_then t)) shown t.on.at);
         acts = sym t.acts;
-        follows = subst (λ (k : CallerKnowledge). GoesOnWith k x.id c.request (values u) (Makes z)) (sym known-after) (subst (λ (vs : List Seen). GoesOnWith (known_at s h x.id) x.id c.request vs (Makes z)) shown t.on.follows);
+        follows = subst (λ (k : CallerKnowledge). GoesOnWith k x.id c.request (values u) (Makes z)) (sym known-after) (subst (λ (vs : List Observation). GoesOnWith (known_at s h x.id) x.id c.request vs (Makes z)) shown t.on.follows);
         rests = subst (λ (k : CallerKnowledge). Rests k x.id c.request (pins_at (phase_then t)) (values u) (Makes z)) (sym known-after)
-            (subst (λ (vs : List Seen). Rests (known_at s h x.id) x.id c.request (pins_at (phase_then t)) vs (Makes z)) shown t.on.rests);
+            (subst (λ (vs : List Observation). Rests (known_at s h x.id) x.id c.request (pins_at (phase_then t)) vs (Makes z)) shown t.on.rests);
         place = subst (λ (so_far : StepsSoFar). PhaseStands s (history_then t None) x.id c.request so_far (phase_then t)) (sym (reverse-append c.steps ((o.step, seen_in t) ∷ []))) (place-after t);
         fair = stood-after t None;
         fits = t.stands.fits;
@@ -215,7 +215,7 @@ module _ {s : Setting} {h : History} {xs : List State} {x : State} {o : Open} {c
 
 -- a step is right
 
-module _ (s : Setting) (h : History) (xs : List State) (d : DomId) (r : Asked) (shown : List Seen) (so_far : StepsSoFar) (phase : Phase) where
+module _ (s : Setting) (h : History) (xs : List State) (d : DomId) (r : OpenRequest) (shown : List Observation) (so_far : StepsSoFar) (phase : Phase) where
   step-justified : (step : Step) → IsHere s h xs d r shown so_far phase step → Justified s h d r step
   step-justified (ReadBytes dom frame off len) i = read-justified s h xs d r dom frame off len i.st i.rests.0 i.rests.1
   step-justified (WriteBytes dom frame off len) i = write-justified s h xs d r dom frame off len i.st i.rests.0 i.rests.1
@@ -242,7 +242,7 @@ goes-fair : (d : DomId) (p : Phase) (z : Step) → action_at d p ≡ Makes z →
 goes-fair d (Ending pins verdict) z e = inr (by-giving (λ (y : Step). gives_back (Some (Makes y)) ≡ true) (λ p n. refl) (last_first pins) verdict z e)
 goes-fair d p z e = inl refl
 
-module _ {s : Setting} {h : History} {xs : List State} {x : State} {o : Open} {c : Underway} {new : Call} {action : Action} (t : Ticks s h xs x o c new action) where
+module _ {s : Setting} {h : History} {xs : List State} {x : State} {o : OpenCall} {c : Underway} {new : Call} {action : Action} (t : Ticks s h xs x o c new action) where
   right : (answer : Option Answer) → (answer ≡ None → length c.steps + 1 < most_steps c.request) → (refusal_if answer ≢ None → All LeavesAll (c.steps ++ (o.step, seen_in t) ∷ []) × (legs_at (history_then t answer) x.id.0 ≡ []))
       → AnsweredBy s h x.id c.request (Some o.step) (gives_back (Some action)) (verdict_in (Some action)) answer (stood s (history_then t answer) x.id.0) → StepsRight s h (stepped x.id o.step (seen_in t) answer) o.step (seen_in t) c
   right answer soon left answered = record {
@@ -256,7 +256,7 @@ module _ {s : Setting} {h : History} {xs : List State} {x : State} {o : Open} {c
     answered = subst (λ (a : Option Action). AnsweredBy s h x.id c.request (Some o.step) (gives_back a) (verdict_in a) answer (stood s (history_then t answer) x.id.0)) (sym t.on.follows) answered;
   }
 
-pub goes-right : {s : Setting} {h : History} {xs : List State} {x : State} {o : Open} {c : Underway} {new : Call} {z : Step} (t : Ticks s h xs x o c new (Makes z)) → StepsRight s h (stepped x.id o.step (seen_in t) None) o.step (seen_in t) c
+pub goes-right : {s : Setting} {h : History} {xs : List State} {x : State} {o : OpenCall} {c : Underway} {new : Call} {z : Step} (t : Ticks s h xs x o c new (Makes z)) → StepsRight s h (stepped x.id o.step (seen_in t) None) o.step (seen_in t) c
 goes-right {s} {h} {xs} {x} {o} {c} {new} {z} t = let few = t.stands.few in let fewer = t.fewer in let counted = t.on.counted in
     right t None (λ none. (omega arith)) (λ some. absurd (some refl)) (fair (goes-fair x.id (phase_then t) z (sym t.acts))) where
       fair : (phase_refusal (phase_then t) ≡ None) ⊎ (gives_back (Some (Makes z)) ≡ true) → (stood s (history_then t None) x.id.0 ≡ None) ⊎ (gives_back (Some (Makes z)) ≡ true)
@@ -264,7 +264,7 @@ goes-right {s} {h} {xs} {x} {o} {c} {new} {z} t = let few = t.stands.few in let 
       fair (inr e) = inr e
 
 -- a call that is answered
-pub ends-right : {s : Setting} {h : History} {xs : List State} {x : State} {o : Open} {c : Underway} {new : Call} {v : Verdict} (t : Ticks s h xs x o c new (Done v)) (answer : Answer) → refusal_of answer ≡ refusal_in (Some v)
+pub ends-right : {s : Setting} {h : History} {xs : List State} {x : State} {o : OpenCall} {c : Underway} {new : Call} {v : CallResult} (t : Ticks s h xs x o c new (Done v)) (answer : Answer) → refusal_of answer ≡ refusal_in (Some v)
     → legs_at (history_then t (Some answer)) x.id.0 ≡ [] → GivesValue s h x.id c.request (Some o.step) answer → StepsRight s h (stepped x.id o.step (seen_in t) (Some answer)) o.step (seen_in t) c
 ends-right {s} {h} {xs} {x} {o} {c} {new} {v} t answer same legs value = let e = ends-so x.id (phase_then t) v (sym t.acts) in
     let clean : IsClean (Ending e.0 v) (c.steps ++ (o.step, seen_in t) ∷ []) =

@@ -1,9 +1,9 @@
 -- What an answer of a call is, by its last step.
 use Rattle.gt_core.proofs.Words.{◌≡◌, ◌⊎◌, inl, inr, ℕ, refl, Bool, true, false, List, [], ◌∷◌, length, Option, Some}
 use Rattle.gt_core.proofs.Words.{cond, sym, ap, ◌∙◌, subst, eqb-true, ◌==◌, nat_lt, DomId, GrantRef, Denial, N18, N19}
-use Rattle.gt_core.proofs.Words.{Entry, Header, Change, control_of, header_of, header_word, Held, Asked, Map, ByLeg}
-use Rattle.gt_core.proofs.Words.{Seen, Taken, Missed, Verdict, Granted, Given, Refused, Step, LookHeader, PinStep}
-use Rattle.gt_core.proofs.Words.{Unpin, StoreBody, Exchange, ReadBytes, Action, Makes, Done, Aim, Mapping, AsksSize}
+use Rattle.gt_core.proofs.Words.{Entry, Header, EntryChange, control_of, header_of, header_word, HeldPin, OpenRequest, Map, ByLeg}
+use Rattle.gt_core.proofs.Words.{Observation, Taken, Missed, CallResult, Granted, Given, Refused, Step, LookHeader, PinStep}
+use Rattle.gt_core.proofs.Words.{Unpin, StoreBody, Exchange, ReadBytes, Action, Makes, Done, PinPurpose, Mapping, AsksSize}
 use Rattle.gt_core.proofs.Words.{AsksVersion, Phase, Storing, StoringSecond, Exchanging, Looking, Changing, Walking}
 use Rattle.gt_core.proofs.Words.{Accessing, Asking, Last, Ending, Leg, LegPhase, Pinning, Pinned, last_first}
 use Rattle.gt_core.proofs.Words.{pins_so_far, CallerKnowledge, path, held_of, is_stopped, Continuation, IsLegFor}
@@ -12,19 +12,19 @@ use Rattle.gt_core.proofs.Words.{refused_as, next_to_give, HasShown, IsQuiet, Is
 use Rattle.gt_core.proofs.Words.{History, Setting, word_at, table_at, known_at, seen_by, StepsSoFar, GivesValue}
 use Rattle.gt_core.proofs.Words.{PhaseStands, EndsAfter, EndsCopy, answer_with, MAX_TABLE_FRAMES, ◌-◌, without_last}
 use Rattle.gt_core.proofs.Words.{Size, Version, cond_both, FirstHalf, SecondHalf, first_body, second_body, CopyBytes}
-use Rattle.gt_core.proofs.Words.{CopyArgs, Copy, LookControl, Pins, LegStands, legs_at, numbered, pins_at, reverse}
+use Rattle.gt_core.proofs.Words.{CopyArgs, Copy, LookControl, CallPins, LegStands, legs_at, numbered, pins_at, reverse}
 use Rattle.gt_core.proofs.Words.{arith, stands}
 use Rattle.gt_core.proofs.{Phases.OfAction, Phases.IsHere, Phases.makes-same, EachStep.walk-comes, Legs.ComesTo}
 use Rattle.gt_core.proofs.{Legs.IsLegOf, Legs.Words, Aims.pair_of, Aims.leg-here, Phases.words-of, Phases.next_of}
 use Rattle.gt_core.proofs.{Outcomes.walk-done, Steps.See.table-fits}
-use Rattle.gt_calls.specs.{declared.action.Verdict.TheVariants.Mapped, Path.place_of}
+use Rattle.gt_calls.specs.{declared.action.CallResult.TheVariants.Mapped, Path.place_of}
 
 -- the next phase of a call that stands at a question
-abbrev Next : Setting → History → DomId → Phase → Step → Verdict → Type 0
+abbrev Next : Setting → History → DomId → Phase → Step → CallResult → Type 0
 Next s h d p step v = action_at d (next_of s h d p step) ≡ Done v
 
 -- a map is over with the pin that it took
-pub record MapEnds (s : Setting) (h : History) (d : DomId) (r : Asked) (phase : Phase) (step : Step) (m : Held) : Type 0 where
+pub record MapEnds (s : Setting) (h : History) (d : DomId) (r : OpenRequest) (phase : Phase) (step : Step) (m : HeldPin) : Type 0 where
   pub is : step ≡ PinStep m
   pub taken : word_at s h m.dom.0 m.gref.0 ≡ m.word
   pub dom : DomId
@@ -34,70 +34,70 @@ pub record MapEnds (s : Setting) (h : History) (d : DomId) (r : Asked) (phase : 
   pub none : held_in phase ≡ []
 
 -- what is so of a call that ends with this verdict
-abbrev pub EndsWith : Setting → History → DomId → Asked → Phase → Step → Verdict → Type 0
+abbrev pub EndsWith : Setting → History → DomId → OpenRequest → Phase → Step → CallResult → Type 0
 EndsWith s h d r phase step Granted = ((dom : DomId) (frame off len : ℕ) → step ≡ ReadBytes dom frame off len → ⊥) → GivesValue s h d r (Some step) AnswerDone
 EndsWith s h d r phase step (Given value) = GivesValue s h d r (Some step) (answer_with value)
 EndsWith s h d r phase step (Mapped m) = MapEnds s h d r phase step m
 EndsWith s h d r phase step (Refused denial) = Unit {0}
 
-granted : (s : Setting) (h : History) (d : DomId) (r q : Asked) (step : Step) → r ≡ q → GivesValue s h d q (Some step) AnswerDone → GivesValue s h d r (Some step) AnswerDone
-granted s h d r q step is g = subst (λ (z : Asked). GivesValue s h d z (Some step) AnswerDone) (sym is) g
+granted : (s : Setting) (h : History) (d : DomId) (r q : OpenRequest) (step : Step) → r ≡ q → GivesValue s h d q (Some step) AnswerDone → GivesValue s h d r (Some step) AnswerDone
+granted s h d r q step is g = subst (λ (z : OpenRequest). GivesValue s h d z (Some step) AnswerDone) (sym is) g
 
 -- by its last step
-last-ends : (s : Setting) (h : History) (d : DomId) (r : Asked) (phase : Phase) (last : Step) (verdict : Verdict) → IsQuiet last → RestsOnRequest (known_at s h d) d r last → EndsAfter r last verdict → EndsWith s h d r phase last verdict
+last-ends : (s : Setting) (h : History) (d : DomId) (r : OpenRequest) (phase : Phase) (last : Step) (verdict : CallResult) → IsQuiet last → RestsOnRequest (known_at s h d) d r last → EndsAfter r last verdict → EndsWith s h d r phase last verdict
 last-ends s h d r phase last verdict q a b = grind arith
 
-last-next : (s : Setting) (h : History) (d : DomId) (last : Step) (verdict v : Verdict) → IsQuiet last → Next s h d (Last last verdict) last v → verdict ≡ v
+last-next : (s : Setting) (h : History) (d : DomId) (last : Step) (verdict v : CallResult) → IsQuiet last → Next s h d (Last last verdict) last v → verdict ≡ v
 last-next s h d last verdict v q = grind arith
 
-turn-value : (s : Setting) (h : History) (d : DomId) (r : Asked) (gref : GrantRef) (change : Change) (step : Option Step) → IsTurn r gref change → GivesValue s h d r step AnswerDone
+turn-value : (s : Setting) (h : History) (d : DomId) (r : OpenRequest) (gref : GrantRef) (change : EntryChange) (step : Option Step) → IsTurn r gref change → GivesValue s h d r step AnswerDone
 turn-value s h d r gref change step a = grind arith
 
-once-value : (s : Setting) (h : History) (way : Continuation) (d : DomId) (r : Asked) (shown : List Seen) (so_far : StepsSoFar) (gref : GrantRef) (looked : ℕ) (change : Change) (step : Option Step) → RestsOnWord (known_at s h d) way d r shown gref looked change
+once-value : (s : Setting) (h : History) (way : Continuation) (d : DomId) (r : OpenRequest) (shown : List Observation) (so_far : StepsSoFar) (gref : GrantRef) (looked : ℕ) (change : EntryChange) (step : Option Step) → RestsOnWord (known_at s h d) way d r shown gref looked change
     → PhaseStands s h d r so_far (Exchanging gref looked change) → GivesValue s h d r step AnswerDone
 once-value s h way d r shown so_far gref looked change step a b = grind arith
 
 -- what is so of the end of a phase, if it is one
-abbrev AtEnd : (Verdict → Type 0) → Action → Type 0
+abbrev AtEnd : (CallResult → Type 0) → Action → Type 0
 AtEnd Q (Makes step) = Unit {0}
 AtEnd Q (Done v) = Q v
 
 -- an end by Ok or by a refusal
-abbrev Plain : (Verdict → Type 0) → Type 0
+abbrev Plain : (CallResult → Type 0) → Type 0
 Plain Q = Q Granted × ((denial : Denial) → Q (Refused denial))
 
-store-end : (Q : Verdict → Type 0) (k : CallerKnowledge) (d : DomId) (gref : GrantRef) (entry : Entry) → AtEnd Q (action_at d (after_store k gref entry))
+store-end : (Q : CallResult → Type 0) (k : CallerKnowledge) (d : DomId) (gref : GrantRef) (entry : Entry) → AtEnd Q (action_at d (after_store k gref entry))
 store-end Q k d gref entry = grind arith
 
-give-end : (Q : Verdict → Type 0) (held : List Held) (v : Verdict) → Q v → AtEnd Q (next_to_give held v)
+give-end : (Q : CallResult → Type 0) (held : List HeldPin) (v : CallResult) → Q v → AtEnd Q (next_to_give held v)
 give-end Q held v a = grind arith
 
-at-end : (Q : Verdict → Type 0) (a : Action) (v : Verdict) → AtEnd Q a → a ≡ Done v → Q v
+at-end : (Q : CallResult → Type 0) (a : Action) (v : CallResult) → AtEnd Q a → a ≡ Done v → Q v
 at-end Q a v q e = subst (AtEnd Q) e q
 
-copy-end : (Q : Verdict → Type 0) (v : Verdict) → EndsCopy v → Plain Q → Q v
+copy-end : (Q : CallResult → Type 0) (v : CallResult) → EndsCopy v → Plain Q → Q v
 copy-end Q v e plain = grind arith
 
-pinned-leg : (s : Setting) (h : History) (d : DomId) (r : Asked) (so_far : StepsSoFar) (aim : Aim) (l : Leg) (at : LegPhase) (m : Held) → Words s h l → IsLegFor (known_at s h d) d r aim l → IsLegOf s h d r l (pair_of d aim) → LegStands s h l so_far at
+pinned-leg : (s : Setting) (h : History) (d : DomId) (r : OpenRequest) (so_far : StepsSoFar) (aim : PinPurpose) (l : Leg) (at : LegPhase) (m : HeldPin) → Words s h l → IsLegFor (known_at s h d) d r aim l → IsLegOf s h d r l (pair_of d aim) → LegStands s h l so_far at
     → leg_after l at (seen_by s h d (leg_step l at)) ≡ Pinned m → (leg_step l at ≡ PinStep m) × (word_at s h m.dom.0 m.gref.0 ≡ m.word)
 pinned-leg s h d r so_far aim l (Pinning more word body second) m ws is leg a e = by (word_at s h l.dom.0 l.gref.0 == word) refl where
-  q : Held
+  q : HeldPin
   q = held_of l word body second
 
   by : (b : Bool) → (word_at s h l.dom.0 l.gref.0 == word) ≡ b → (PinStep q ≡ PinStep m) × (word_at s h m.dom.0 m.gref.0 ≡ m.word)
   by true same =
       let f : Pinned q ≡ Pinned m = sym (ap (λ (b : Bool). leg_after l (Pinning more word body second) (cond b Taken (Missed (word_at s h l.dom.0 l.gref.0)))) same) ∙ e in
       let p : q ≡ m = cc in
-      (ap PinStep p, subst (λ (z : Held). word_at s h z.dom.0 z.gref.0 ≡ z.word) p (eqb-true (word_at s h l.dom.0 l.gref.0) word same))
+      (ap PinStep p, subst (λ (z : HeldPin). word_at s h z.dom.0 z.gref.0 ≡ z.word) p (eqb-true (word_at s h l.dom.0 l.gref.0) word same))
   by false same = absurd (subst (ComesTo s h l _ _) e (walk-comes s h d r so_far aim l (Pinning more word body second) ws is leg a same))
 pinned-leg s h d r so_far aim l at m ws is leg a e = absurd (subst (ComesTo s h l _ _) e (walk-comes s h d r so_far aim l at ws is leg a tt))
 
-of-map : (k : CallerKnowledge) (d : DomId) (r : Asked) (aim : Aim) (l : Leg) → IsLegFor k d r aim l → aim ≡ Mapping → (dom : DomId) × (gref : GrantRef) × (flags : ℕ) × (r ≡ Map dom gref flags)
+of-map : (k : CallerKnowledge) (d : DomId) (r : OpenRequest) (aim : PinPurpose) (l : Leg) → IsLegFor k d r aim l → aim ≡ Mapping → (dom : DomId) × (gref : GrantRef) × (flags : ℕ) × (r ≡ Map dom gref flags)
 of-map k d r aim l a is = grind arith
 
 -- a call that stands here, and is over after its step, ends so
-pub call-ends : (s : Setting) (h : History) (xs : List State) (d : DomId) (r : Asked) (shown : List Seen) (so_far : StepsSoFar) (phase : Phase) (step : Step) → IsHere s h xs d r shown so_far phase step
-    → (v : Verdict) → Next s h d phase step v → EndsWith s h d r phase step v
+pub call-ends : (s : Setting) (h : History) (xs : List State) (d : DomId) (r : OpenRequest) (shown : List Observation) (so_far : StepsSoFar) (phase : Phase) (step : Step) → IsHere s h xs d r shown so_far phase step
+    → (v : CallResult) → Next s h d phase step v → EndsWith s h d r phase step v
 call-ends s h xs d r shown so_far phase step i = subst (OfAction (Led phase)) i.acts (by phase i.at.has_shown i.place i.acts i.held) where
   k : CallerKnowledge
   k = known_at s h d
@@ -106,18 +106,18 @@ call-ends s h xs d r shown so_far phase step i = subst (OfAction (Led phase)) i.
   w gref = word_at s h d.0 gref.0
 
   Led : Phase → Step → Type 0
-  Led p z = (v : Verdict) → Next s h d p z v → EndsWith s h d r p z v
+  Led p z = (v : CallResult) → Next s h d p z v → EndsWith s h d r p z v
 
   led : (p : Phase) (z : Step) → AtEnd (EndsWith s h d r p z) (action_at d (next_of s h d p z)) → Led p z
   led p z q v n = at-end (EndsWith s h d r p z) _ v q n
 
-  walked : (aim : Aim) (l : Leg) (at : LegPhase) (v : Verdict) → IsLegFor k d r aim l → IsLegOf s h d r l (pair_of d aim) → LegStands s h l so_far at
-      → ((denial : Denial) × (v ≡ Refused denial)) ⊎ ((p : Held) × (v ≡ Mapped p) × (leg_after l at (seen_by s h d (leg_step l at)) ≡ Pinned p) × (aim ≡ Mapping)) → EndsWith s h d r (Walking aim l at) (leg_step l at) v
+  walked : (aim : PinPurpose) (l : Leg) (at : LegPhase) (v : CallResult) → IsLegFor k d r aim l → IsLegOf s h d r l (pair_of d aim) → LegStands s h l so_far at
+      → ((denial : Denial) × (v ≡ Refused denial)) ⊎ ((p : HeldPin) × (v ≡ Mapped p) × (leg_after l at (seen_by s h d (leg_step l at)) ≡ Pinned p) × (aim ≡ Mapping)) → EndsWith s h d r (Walking aim l at) (leg_step l at) v
   walked aim l at v is leg stands (inl x) = subst (EndsWith s h d r (Walking aim l at) (leg_step l at)) (sym x.1) tt
   walked aim l at v is leg stands (inr x) = let g = pinned-leg s h d r so_far aim l at x.0 (words-of s h xs l i.legal i.st) is leg stands x.2 in let map = of-map k d r aim l is x.3 in subst (EndsWith s h d r (Walking aim l at) (leg_step l at)) (sym x.1)
-      (record { is = g.0; taken = g.1; dom = map.0; gref = map.1; flags = map.2; of_map = map.3; none = ap (λ (z : Aim). last_first (pins_so_far z)) x.3 })
+      (record { is = g.0; taken = g.1; dom = map.0; gref = map.1; flags = map.2; of_map = map.3; none = ap (λ (z : PinPurpose). last_first (pins_so_far z)) x.3 })
 
-  ending : (pins : Pins) (verdict : Verdict) (held : List Held) → next_to_give held verdict ≡ Makes step → (copy : CopyArgs) × (r ≡ Copy copy) × EndsCopy verdict → Led (Ending pins verdict) step
+  ending : (pins : CallPins) (verdict : CallResult) (held : List HeldPin) → next_to_give held verdict ≡ Makes step → (copy : CopyArgs) × (r ≡ Copy copy) × EndsCopy verdict → Led (Ending pins verdict) step
   ending pins verdict [] f c = cc
   ending pins verdict (q ∷ qs) f c = let z = Unpin q (ByLeg (length qs)) in let Q = EndsWith s h d r (Ending pins verdict) z in subst (Led (Ending pins verdict)) (makes-same z step f)
       (led (Ending pins verdict) z (give-end Q (last_first (without_last pins)) verdict (copy-end Q verdict c.2 (λ read. granted s h d r _ z c.1 refl, λ denial. tt))))
@@ -136,10 +136,10 @@ call-ends s h xs d r shown so_far phase step i = subst (OfAction (Led phase)) i.
   by (Accessing c source dest) a b e held = let z = CopyBytes (place_of d c.source source) (place_of d c.dest dest) c.len in
       led (Accessing c source dest) z (give-end (EndsWith s h d r (Accessing c source dest) z) (last_first (record { source = source; dest = dest })) Granted (λ read. granted s h d r _ z a.0 refl))
   by (Asking dom AsksSize) a b e held = let t = header_of (header_word (table_at s h dom)) in led (Asking dom AsksSize) (LookHeader dom)
-      (subst (λ (z : Asked). GivesValue s h d z (Some (LookHeader dom)) (Size (record { frames = t.frames; max = MAX_TABLE_FRAMES }))) (sym b.1)
+      (subst (λ (z : OpenRequest). GivesValue s h d z (Some (LookHeader dom)) (Size (record { frames = t.frames; max = MAX_TABLE_FRAMES }))) (sym b.1)
       (ap (λ (x : Header). Size (record { frames = x.frames; max = MAX_TABLE_FRAMES })) (table-fits _ (i.st.tables dom)).1))
   by (Asking dom AsksVersion) a b e held = let t = header_of (header_word (table_at s h dom)) in led (Asking dom AsksVersion) (LookHeader dom)
-      (subst (λ (z : Asked). GivesValue s h d z (Some (LookHeader dom)) (Version t.version)) (sym b.1) (ap (λ (x : Header). Version x.version) (table-fits _ (i.st.tables dom)).1))
+      (subst (λ (z : OpenRequest). GivesValue s h d z (Some (LookHeader dom)) (Version t.version)) (sym b.1) (ap (λ (x : Header). Version x.version) (table-fits _ (i.st.tables dom)).1))
   by (Last last verdict) a b e held = λ v n. subst (EndsWith s h d r (Last last verdict) last) (last-next s h d last verdict v a.0 n) (last-ends s h d r (Last last verdict) last verdict a.0 a.1 b)
-  by (Ending pins verdict) a (inl none) e held = absurd (let f : Done verdict ≡ Makes step = sym (ap (λ (l : List Held). next_to_give l verdict) none) ∙ e in cc)
+  by (Ending pins verdict) a (inl none) e held = absurd (let f : Done verdict ≡ Makes step = sym (ap (λ (l : List HeldPin). next_to_give l verdict) none) ∙ e in cc)
   by (Ending pins verdict) a (inr c) e held = subst (OfAction (Led (Ending pins verdict))) (sym e) (ending pins verdict (last_first pins) e c)

@@ -1,16 +1,16 @@
 -- What a history leaves is the same without keys.
 use Rattle.gt_core.proofs.Words.{◌≡◌, ◌+◌, ◌⊎◌, inl, inr, ℕ, refl, Bool, true, false, List, [], ◌∷◌, ◌++◌, map, Option}
 use Rattle.gt_core.proofs.Words.{Some, None, cond, sym, ap, ◌∙◌, ◌==◌, option_map, fun_ext, DomId, Entry, Header}
-use Rattle.gt_core.proofs.Words.{Change, Half, asked, bytes_given_by, Request, Asked, Unmap, Load, Store, ByMapping}
-use Rattle.gt_core.proofs.Words.{Seen}
-use Rattle.gt_core.proofs.Words.{Step, Unpin, Answer, Happened, Began, Stepped, Item, Patch, written, History, Setting}
+use Rattle.gt_core.proofs.Words.{EntryChange, BodyWord, asked, bytes_given_by, Request, OpenRequest, Unmap, Load, Store, ByMapping}
+use Rattle.gt_core.proofs.Words.{Observation}
+use Rattle.gt_core.proofs.Words.{Step, Unpin, Answer, ItemEvent, Began, Stepped, Item, Patch, written, History, Setting}
 use Rattle.gt_core.proofs.Words.{Underway, WriteMade, entry_at, changed_entry_of, change_at, change_of, raises_at}
 use Rattle.gt_core.proofs.Words.{raise_after}
 use Rattle.gt_core.proofs.Words.{body_at, or_else, stored_at, table_at, header_or, header_stored, open_call}
 use Rattle.gt_core.proofs.Words.{underway_with, underway_after, maps_answered_at, one_if_mapped, contents_at}
 use Rattle.gt_core.proofs.Words.{patches_by, patches_at, written_by, given_in, values, bare_handle, bare_request}
 use Rattle.gt_core.proofs.Words.{bare_step, bare_happened, told_part, told_item, told_items, ToldItem, SameHistory}
-use Rattle.gt_core.proofs.Words.{Held}
+use Rattle.gt_core.proofs.Words.{HeldPin}
 use Rattle.gt_core.proofs.Words.{Handle, arith}
 use Rattle.gt_core.specs.declared.trace.Answer.TheVariants.{Done}
 
@@ -43,8 +43,8 @@ bare-same g h same = bare-told g ∙ ap items_from same ∙ sym (bare-told h)
 -- entries and tables
 
 -- what tells no request from another, and no handle, is the same of what happened without its key
-happened-bare : {A : Type 0} (f : Happened → A) → ((p : Held) (a b : Handle) (seen : Seen) → f (Stepped (Unpin p (ByMapping a)) seen) ≡ f (Stepped (Unpin p (ByMapping b)) seen)) → ((q r : Request) → f (Began q) ≡ f (Began r))
-    → (x : Happened) → f (bare_happened x) ≡ f x
+happened-bare : {A : Type 0} (f : ItemEvent → A) → ((p : HeldPin) (a b : Handle) (seen : Observation) → f (Stepped (Unpin p (ByMapping a)) seen) ≡ f (Stepped (Unpin p (ByMapping b)) seen)) → ((q r : Request) → f (Began q) ≡ f (Began r))
+    → (x : ItemEvent) → f (bare_happened x) ≡ f x
 happened-bare f steps begins x = grind arith
 
 pub mapped-bare : (a : Option Answer) → one_if_mapped (option_map answer_from (option_map told_part a)) ≡ one_if_mapped a
@@ -53,13 +53,13 @@ mapped-bare a = grind arith
 -- calls
 
 -- what is asked, without the key of a handle
-abbrev pub bare_asked : Asked → Asked
+abbrev pub bare_asked : OpenRequest → OpenRequest
 bare_asked (Unmap handle) = Unmap (bare_handle handle)
 bare_asked (Load handle off len) = Load (bare_handle handle) off len
 bare_asked (Store handle off len) = Store (bare_handle handle) off len
 bare_asked request = request
 
-abbrev pub bare_steps : List (Step × Seen) → List (Step × Seen)
+abbrev pub bare_steps : List (Step × Observation) → List (Step × Observation)
 bare_steps [] = []
 bare_steps (p ∷ ps) = (bare_step p.0, p.1) ∷ bare_steps ps
 
@@ -72,17 +72,17 @@ asked-bare request = grind arith
 pub given-bare : (request : Request) → bytes_given_by (bare_request request) ≡ bytes_given_by request
 given-bare request = grind arith
 
-steps-more : (ps qs : List (Step × Seen)) → bare_steps ps ++ bare_steps qs ≡ bare_steps (ps ++ qs)
+steps-more : (ps qs : List (Step × Observation)) → bare_steps ps ++ bare_steps qs ≡ bare_steps (ps ++ qs)
 steps-more [] qs = refl
-steps-more (p ∷ ps) qs = ap (λ (l : List (Step × Seen)). (bare_step p.0, p.1) ∷ l) (steps-more ps qs)
+steps-more (p ∷ ps) qs = ap (λ (l : List (Step × Observation)). (bare_step p.0, p.1) ∷ l) (steps-more ps qs)
 
-with-bare : (x : Happened) (c : Option Underway) → underway_with (bare_happened x) (option_map bare_call c) ≡ option_map bare_call (underway_with x c)
+with-bare : (x : ItemEvent) (c : Option Underway) → underway_with (bare_happened x) (option_map bare_call c) ≡ option_map bare_call (underway_with x c)
 with-bare (Began request) c =
-    ap (λ (r : Asked). Some (record { request = r; given = bytes_given_by (bare_request request); steps = [] })) (asked-bare request)
+    ap (λ (r : OpenRequest). Some (record { request = r; given = bytes_given_by (bare_request request); steps = [] })) (asked-bare request)
     ∙ ap (λ (bytes : List ℕ). Some (record { request = bare_asked (asked request); given = bytes; steps = [] })) (given-bare request)
 with-bare (Stepped step seen) None = refl
 with-bare (Stepped step seen) (Some c) =
-    ap (λ (l : List (Step × Seen)). Some (record { request = bare_asked c.request; given = c.given; steps = l })) (steps-more c.steps ((step, seen) ∷ []))
+    ap (λ (l : List (Step × Observation)). Some (record { request = bare_asked c.request; given = c.given; steps = l })) (steps-more c.steps ((step, seen) ∷ []))
 
 after-bare : (i : Item) (c : Option Underway) → underway_after (item_from (told_item i)) (option_map bare_call c) ≡ option_map bare_call (underway_after i c)
 after-bare i c = by i.answer where
@@ -92,9 +92,9 @@ after-bare i c = by i.answer where
 
 pub values-bare : (c : Underway) → values (bare_call c) ≡ values c
 values-bare c = by c.steps where
-  by : (ps : List (Step × Seen)) → map (λ (p : Step × Seen). p.1) (bare_steps ps) ≡ map (λ (p : Step × Seen). p.1) ps
+  by : (ps : List (Step × Observation)) → map (λ (p : Step × Observation). p.1) (bare_steps ps) ≡ map (λ (p : Step × Observation). p.1) ps
   by [] = refl
-  by (p ∷ ps) = ap (λ (l : List Seen). p.1 ∷ l) (by ps)
+  by (p ∷ ps) = ap (λ (l : List Observation). p.1 ∷ l) (by ps)
 
 -- bytes
 
@@ -109,7 +109,7 @@ cond-map f false x y p q e g = g
 pub record Bared (h : History) : Type 0 where
   pub entry : (t r : ℕ) → entry_at (bare h) t r ≡ entry_at h t r
   pub raises : (t r : ℕ) → raises_at (bare h) t r ≡ raises_at h t r
-  pub body : (t r : ℕ) (which : Half) → body_at (bare h) t r which ≡ body_at h t r which
+  pub body : (t r : ℕ) (which : BodyWord) → body_at (bare h) t r which ≡ body_at h t r which
   pub table : (s : Setting) (t : DomId) → table_at s (bare h) t ≡ table_at s h t
   pub maps : (d : ℕ) → maps_answered_at (bare h) d ≡ maps_answered_at h d
   pub open_calls : (d : ℕ) → open_call (bare h) d ≡ option_map bare_call (open_call h d)
@@ -119,8 +119,8 @@ pub bared : (h : History) → Bared h
 unfolding entry_at raises_at body_at table_at maps_answered_at open_call patches_at bare
 bared [] = record { entry = λ t r. refl; raises = λ t r. refl; body = λ t r which. refl; table = λ s t. refl; maps = λ d. refl; open_calls = λ d. refl; patches = λ t f. refl }
 bared (i ∷ h) = let b = bared h in let x = i.happened in let given = given_in (open_call h i.actor.0) in record {
-  entry = λ t r. ap (λ (c : Option Change). changed_entry_of (cond (i.actor.0 == t) c None) (entry_at (bare h) t r)) (happened-bare (λ z. change_at z r) (λ p a b seen. refl) (λ q r. refl) x) ∙ ap (λ (e : Entry). changed_entry_of (change_of i t r) e) (b.entry t r);
-  raises = λ t r. ap (λ (c : Option Change). raises_at (bare h) t r + raise_after (cond (i.actor.0 == t) c None)) (happened-bare (λ z. change_at z r) (λ p a b seen. refl) (λ q r. refl) x) ∙ ap (λ (n : ℕ). n + raise_after (change_of i t r)) (b.raises t r);
+  entry = λ t r. ap (λ (c : Option EntryChange). changed_entry_of (cond (i.actor.0 == t) c None) (entry_at (bare h) t r)) (happened-bare (λ z. change_at z r) (λ p a b seen. refl) (λ q r. refl) x) ∙ ap (λ (e : Entry). changed_entry_of (change_of i t r) e) (b.entry t r);
+  raises = λ t r. ap (λ (c : Option EntryChange). raises_at (bare h) t r + raise_after (cond (i.actor.0 == t) c None)) (happened-bare (λ z. change_at z r) (λ p a b seen. refl) (λ q r. refl) x) ∙ ap (λ (n : ℕ). n + raise_after (change_of i t r)) (b.raises t r);
   body = λ t r which. ap (λ (o : Option ℕ). or_else (cond (i.actor.0 == t) o None) (body_at (bare h) t r which)) (happened-bare (λ z. stored_at z r which) (λ p a b seen. refl) (λ q r. refl) x)
       ∙ ap (λ (n : ℕ). or_else (cond (i.actor.0 == t) (stored_at x r which) None) n) (b.body t r which);
   table = λ s t. ap (λ (o : Option Header). header_or (cond (i.actor.0 == t.0) o None) (table_at s (bare h) t)) (happened-bare header_stored (λ p a b seen. refl) (λ q r. refl) x) ∙ ap (λ (z : Header). header_or (cond (i.actor.0 == t.0) (header_stored x) None) z) (b.table s t);

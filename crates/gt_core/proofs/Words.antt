@@ -55,20 +55,20 @@ pub use Rattle.gt_types.specs.{declared.rights.Triple.Triple, declared.Memory.Me
 pub use Rattle.gt_entry.specs.{Entries.IsEntry, Entries.frame_of, Entries.is_invalid, Laws.control-round}
 pub use Rattle.gt_entry.specs.{Laws.entry-read, Permits.allows_direction, Permits.forwards, Permits.is_copying}
 pub use Rattle.gt_entry.specs.{Permits.permits, Spelling.entry_of, Spelling.first_body, Words.control_of}
-pub use Rattle.gt_entry.specs.{Words.control_word, Words.header_of, Words.header_word, declared.change.Change.Change}
-pub use Rattle.gt_entry.specs.{declared.change.Change.TheVariants.Demote as ToReadOnly}
-pub use Rattle.gt_entry.specs.{declared.change.Change.TheVariants.Promote as ToWritable}
-pub use Rattle.gt_entry.specs.{declared.change.Change.TheVariants.Publish}
-pub use Rattle.gt_entry.specs.{declared.change.Change.TheVariants.Revoke as ToInvalid}
-pub use Rattle.gt_entry.specs.{declared.change.Change.TheVariants.Withdraw as ToWithdrawn, declared.change.Half.Half}
-pub use Rattle.gt_entry.specs.{declared.change.Half.TheVariants.First as FirstHalf}
-pub use Rattle.gt_entry.specs.{declared.change.Half.TheVariants.Second as SecondHalf, declared.control.Control.Control}
-pub use Rattle.gt_entry.specs.{declared.control.Kind.TheVariants.Sub as KindSub, declared.entry.Entry.Entry}
+pub use Rattle.gt_entry.specs.{Words.control_word, Words.header_of, Words.header_word, declared.change.EntryChange.EntryChange}
+pub use Rattle.gt_entry.specs.{declared.change.EntryChange.TheVariants.Demote as ToReadOnly}
+pub use Rattle.gt_entry.specs.{declared.change.EntryChange.TheVariants.Promote as ToWritable}
+pub use Rattle.gt_entry.specs.{declared.change.EntryChange.TheVariants.Publish}
+pub use Rattle.gt_entry.specs.{declared.change.EntryChange.TheVariants.Revoke as ToInvalid}
+pub use Rattle.gt_entry.specs.{declared.change.EntryChange.TheVariants.Withdraw as ToWithdrawn, declared.change.BodyWord.BodyWord}
+pub use Rattle.gt_entry.specs.{declared.change.BodyWord.TheVariants.First as FirstHalf}
+pub use Rattle.gt_entry.specs.{declared.change.BodyWord.TheVariants.Second as SecondHalf, declared.control.Control.Control}
+pub use Rattle.gt_entry.specs.{declared.control.EntryKind.TheVariants.Sub as KindSub, declared.entry.Entry.Entry}
 pub use Rattle.gt_entry.specs.{declared.entry.Entry.TheVariants.Invalid, declared.entry.Entry.TheVariants.Page}
 pub use Rattle.gt_entry.specs.{declared.entry.Entry.TheVariants.Sub, declared.entry.Entry.TheVariants.Via}
 pub use Rattle.gt_entry.specs.{declared.header.Header.Header}
 pub use Rattle.gt_handles.specs.{Handles.HandleMap, Handles.count_of, Handles.value_of, declared.handles.Handle.Handle}
-pub use Rattle.gt_handles.specs.{declared.handles.Slot.Slot}
+pub use Rattle.gt_handles.specs.{declared.handles.HandleSlot.HandleSlot}
 pub use Rattle.gt_frames.specs.{Bytes.Patch, Bytes.overlay, Bytes.replay, Bytes.written, Frames.FrameState}
 pub use Rattle.gt_frames.specs.{Frames.all_rightful, Frames.bytes_at, Frames.patch_of, Frames.patches}
 pub use Rattle.gt_frames.specs.{Frames.permits_writing, Frames.suffices, Places.frame_counts}
@@ -80,12 +80,12 @@ pub use Rattle.gt_types.specs.{Copies.is_dest_granted, Copies.is_source_granted,
 pub use Rattle.gt_types.specs.{declared.copies.End.End, declared.places.Spot.Spot}
 pub use Rattle.gt_frames.specs.{declared.writ.Writ.Writ, declared.writ.WriteRecord.WriteRecord}
 unfoldable pub use Rattle.gt_frames.specs.Bytes.{zeros}
-pub use Rattle.gt_calls.specs.{Asking.IsSaid, Asking.asked, Asking.begun_of, Asking.bytes_given_by, Counting.most_steps}
+pub use Rattle.gt_calls.specs.{Asking.SpellsItsEntry, Asking.asked, Asking.begun_of, Asking.bytes_given_by, Counting.most_steps}
 pub use Rattle.gt_calls.specs.{Counting.steps_left, Counting.steps_to_come, Following.FitsNext, Following.Goes}
 pub use Rattle.gt_calls.specs.{Following.GoesOnWith, Following.HoldsAfter, Following.Starts, Holding.begun_route}
 pub use Rattle.gt_calls.specs.{Holding.held_by, Holding.last_first, Holding.no_pins, Holding.owner_by}
 pub use Rattle.gt_calls.specs.{Holding.pins_so_far, Holding.without_last, Machine.action_at, Machine.after_dest_pin}
-pub use Rattle.gt_calls.specs.{Machine.after_leg, Legs.after_look, Legs.after_miss, Machine.after_pin_of}
+pub use Rattle.gt_calls.specs.{Machine.after_leg, Legs.on_control_word, Legs.after_miss, Machine.after_pin_of}
 pub use Rattle.gt_calls.specs.{Machine.after_source_pin, Machine.after_store, Legs.after_words, Machine.at_dest}
 pub use Rattle.gt_calls.specs.{Machine.first_phase, Legs.leg_after, Legs.leg_step, Machine.next_to_give}
 pub use Rattle.gt_calls.specs.{Machine.phase_after, Machine.refused_as, Machine.where_via, Opening.IsAllowed}
@@ -107,9 +107,9 @@ pub use Rattle.gt_calls.specs.{Standing.StandsAt, Standing.held_in, Standing.pin
 pub use Rattle.gt_calls.specs.{declared.action.Action.Action, declared.action.Action.TheVariants.Done}
 pub use Rattle.gt_calls.specs.{declared.action.Action.TheVariants.Done as Ends}
 pub use Rattle.gt_calls.specs.{declared.action.Action.TheVariants.Step as Makes}
-pub use Rattle.gt_calls.specs.{declared.action.Seen.Seen, declared.action.Seen.TheVariants.Missed}
-pub use Rattle.gt_calls.specs.{declared.action.Seen.TheVariants.Nothing, declared.action.Seen.TheVariants.Taken}
-pub use Rattle.gt_calls.specs.{declared.action.Seen.TheVariants.Word, declared.action.Step.Step}
+pub use Rattle.gt_calls.specs.{declared.action.Observation.Observation, declared.action.Observation.TheVariants.Missed}
+pub use Rattle.gt_calls.specs.{declared.action.Observation.TheVariants.Nothing, declared.action.Observation.TheVariants.Taken}
+pub use Rattle.gt_calls.specs.{declared.action.Observation.TheVariants.Word, declared.action.Step.Step}
 pub use Rattle.gt_calls.specs.{declared.action.Step.TheVariants.Copy as CopyBytes}
 pub use Rattle.gt_calls.specs.{declared.action.Step.TheVariants.Exchange, declared.action.Step.TheVariants.LookBody}
 pub use Rattle.gt_calls.specs.{declared.action.Step.TheVariants.LookControl}
@@ -118,24 +118,24 @@ pub use Rattle.gt_calls.specs.{declared.action.Step.TheVariants.Pin as PinStep}
 pub use Rattle.gt_calls.specs.{declared.action.Step.TheVariants.Read as ReadBytes}
 pub use Rattle.gt_calls.specs.{declared.action.Step.TheVariants.StoreBody, declared.action.Step.TheVariants.StoreHeader}
 pub use Rattle.gt_calls.specs.{declared.action.Step.TheVariants.Unpin}
-pub use Rattle.gt_calls.specs.{declared.action.Step.TheVariants.Write as WriteBytes, declared.action.Value.Value}
-pub use Rattle.gt_calls.specs.{declared.action.Value.TheVariants.Frames as FramesTold, declared.action.Verdict.Verdict}
-pub use Rattle.gt_calls.specs.{declared.action.Verdict.TheVariants.Given, declared.action.Verdict.TheVariants.Granted}
-pub use Rattle.gt_calls.specs.{declared.action.Verdict.TheVariants.Mapped as KeptPin}
-pub use Rattle.gt_calls.specs.{declared.action.Verdict.TheVariants.Refused, declared.call.Call.Call}
+pub use Rattle.gt_calls.specs.{declared.action.Step.TheVariants.Write as WriteBytes, declared.action.CallValue.CallValue}
+pub use Rattle.gt_calls.specs.{declared.action.CallValue.TheVariants.Frames as FramesTold, declared.action.CallResult.CallResult}
+pub use Rattle.gt_calls.specs.{declared.action.CallResult.TheVariants.Given, declared.action.CallResult.TheVariants.Granted}
+pub use Rattle.gt_calls.specs.{declared.action.CallResult.TheVariants.Mapped as KeptPin}
+pub use Rattle.gt_calls.specs.{declared.action.CallResult.TheVariants.Refused, declared.call.Call.Call}
 pub use Rattle.gt_calls.specs.{declared.call.Phase.Phase, declared.call.Phase.TheVariants.Accessing}
 pub use Rattle.gt_calls.specs.{declared.call.Phase.TheVariants.Asking, declared.call.Phase.TheVariants.Changing}
 pub use Rattle.gt_calls.specs.{declared.call.Phase.TheVariants.Ending, declared.call.Phase.TheVariants.Exchanging}
 pub use Rattle.gt_calls.specs.{declared.call.Phase.TheVariants.Last, declared.call.Phase.TheVariants.Looking}
 pub use Rattle.gt_calls.specs.{declared.call.Phase.TheVariants.Storing, declared.call.Phase.TheVariants.StoringSecond}
-pub use Rattle.gt_calls.specs.{declared.call.Phase.TheVariants.Walking, declared.call.Question.Question}
-pub use Rattle.gt_calls.specs.{declared.call.Question.TheVariants.Size as AsksSize}
-pub use Rattle.gt_calls.specs.{declared.call.Question.TheVariants.Version as AsksVersion, declared.copying.Aim.Aim}
-pub use Rattle.gt_calls.specs.{declared.copying.Aim.TheVariants.Dest, declared.copying.Aim.TheVariants.Mapping}
-pub use Rattle.gt_calls.specs.{declared.copying.Aim.TheVariants.Source, declared.held.Held.Held}
-pub use Rattle.gt_calls.specs.{declared.held.Pins.Pins, declared.held.Route.Route}
-pub use Rattle.gt_calls.specs.{declared.held.Route.TheVariants.Direct, declared.held.Route.TheVariants.Through}
-pub use Rattle.gt_calls.specs.{declared.judging.TheConstants.END_OF_SERIALS, declared.known.Own.Own}
+pub use Rattle.gt_calls.specs.{declared.call.Phase.TheVariants.Walking, declared.call.HeaderQuery.HeaderQuery}
+pub use Rattle.gt_calls.specs.{declared.call.HeaderQuery.TheVariants.Size as AsksSize}
+pub use Rattle.gt_calls.specs.{declared.call.HeaderQuery.TheVariants.Version as AsksVersion, declared.copying.PinPurpose.PinPurpose}
+pub use Rattle.gt_calls.specs.{declared.copying.PinPurpose.TheVariants.Dest, declared.copying.PinPurpose.TheVariants.Mapping}
+pub use Rattle.gt_calls.specs.{declared.copying.PinPurpose.TheVariants.Source, declared.held.HeldPin.HeldPin}
+pub use Rattle.gt_calls.specs.{declared.held.CallPins.CallPins, declared.held.AccessPath.AccessPath}
+pub use Rattle.gt_calls.specs.{declared.held.AccessPath.TheVariants.Direct, declared.held.AccessPath.TheVariants.Through}
+pub use Rattle.gt_calls.specs.{declared.judging.TheConstants.SERIAL_LIMIT, declared.known.OwnerEntry.OwnerEntry}
 pub use Rattle.gt_calls.specs.{declared.known.TheConstants.ENTRIES, declared.leg.Leg.Leg, declared.leg.LegNext.LegNext}
 pub use Rattle.gt_calls.specs.{declared.leg.LegNext.TheVariants.Going, declared.leg.LegNext.TheVariants.Pinned}
 pub use Rattle.gt_calls.specs.{declared.leg.LegNext.TheVariants.Refused as LegRefused, declared.leg.LegPhase.LegPhase}
@@ -143,21 +143,21 @@ pub use Rattle.gt_calls.specs.{declared.leg.LegPhase.TheVariants.Body}
 pub use Rattle.gt_calls.specs.{declared.leg.LegPhase.TheVariants.Header as AtHeader}
 pub use Rattle.gt_calls.specs.{declared.leg.LegPhase.TheVariants.Look, declared.leg.LegPhase.TheVariants.Pinning}
 pub use Rattle.gt_calls.specs.{declared.leg.LegPhase.TheVariants.Relook, declared.leg.LegPhase.TheVariants.Second}
-pub use Rattle.gt_calls.specs.{declared.leg.TheConstants.MORE_TRIES, declared.request.Asked.Asked}
-pub use Rattle.gt_calls.specs.{declared.request.Asked.TheVariants.Copy, declared.request.Asked.TheVariants.Demote}
-pub use Rattle.gt_calls.specs.{declared.request.Asked.TheVariants.GetVersion, declared.request.Asked.TheVariants.Grant}
-pub use Rattle.gt_calls.specs.{declared.request.Asked.TheVariants.Load, declared.request.Asked.TheVariants.Map}
-pub use Rattle.gt_calls.specs.{declared.request.Asked.TheVariants.Peek, declared.request.Asked.TheVariants.Poke}
-pub use Rattle.gt_calls.specs.{declared.request.Asked.TheVariants.Promote, declared.request.Asked.TheVariants.QuerySize}
-pub use Rattle.gt_calls.specs.{declared.request.Asked.TheVariants.Revoke, declared.request.Asked.TheVariants.Withdraw}
-pub use Rattle.gt_calls.specs.{declared.request.Asked.TheVariants.SetVersion}
-pub use Rattle.gt_calls.specs.{declared.request.Asked.TheVariants.SetupTable, declared.request.Asked.TheVariants.Store}
-pub use Rattle.gt_calls.specs.{declared.request.Asked.TheVariants.Unmap}
-pub use Rattle.gt_calls.specs.{declared.request.Holder.Holder}
-pub use Rattle.gt_calls.specs.{declared.request.Holder.TheVariants.Leg as ByLeg}
-pub use Rattle.gt_calls.specs.{declared.request.Holder.TheVariants.Mapping as ByMapping}
-pub use Rattle.gt_calls.specs.{declared.request.Request.Request, declared.call.Start.TheVariants.Open as StartOpen}
-pub use Rattle.gt_calls.specs.{declared.call.Start.Start}
+pub use Rattle.gt_calls.specs.{declared.leg.TheConstants.MORE_TRIES, declared.request.OpenRequest.OpenRequest}
+pub use Rattle.gt_calls.specs.{declared.request.OpenRequest.TheVariants.Copy, declared.request.OpenRequest.TheVariants.Demote}
+pub use Rattle.gt_calls.specs.{declared.request.OpenRequest.TheVariants.GetVersion, declared.request.OpenRequest.TheVariants.Grant}
+pub use Rattle.gt_calls.specs.{declared.request.OpenRequest.TheVariants.Load, declared.request.OpenRequest.TheVariants.Map}
+pub use Rattle.gt_calls.specs.{declared.request.OpenRequest.TheVariants.Peek, declared.request.OpenRequest.TheVariants.Poke}
+pub use Rattle.gt_calls.specs.{declared.request.OpenRequest.TheVariants.Promote, declared.request.OpenRequest.TheVariants.QuerySize}
+pub use Rattle.gt_calls.specs.{declared.request.OpenRequest.TheVariants.Revoke, declared.request.OpenRequest.TheVariants.Withdraw}
+pub use Rattle.gt_calls.specs.{declared.request.OpenRequest.TheVariants.SetVersion}
+pub use Rattle.gt_calls.specs.{declared.request.OpenRequest.TheVariants.SetupTable, declared.request.OpenRequest.TheVariants.Store}
+pub use Rattle.gt_calls.specs.{declared.request.OpenRequest.TheVariants.Unmap}
+pub use Rattle.gt_calls.specs.{declared.request.PinHolder.PinHolder}
+pub use Rattle.gt_calls.specs.{declared.request.PinHolder.TheVariants.Leg as ByLeg}
+pub use Rattle.gt_calls.specs.{declared.request.PinHolder.TheVariants.Mapping as ByMapping}
+pub use Rattle.gt_calls.specs.{declared.request.Request.Request, declared.call.CallStart.TheVariants.Open as StartOpen}
+pub use Rattle.gt_calls.specs.{declared.call.CallStart.CallStart}
 pub use Rattle.gt_core.specs.{Accesses.AccessedBy, Accesses.IsAdmitted, Accesses.IsLoadOf, Accesses.IsReadable}
 pub use Rattle.gt_core.specs.{Accesses.IsWritOf, Accesses.IsWriting, Accesses.ground_of}
 pub use Rattle.gt_core.specs.{Accesses.route_of, Alike.AreAlike, Alike.AsksKnown, Alike.HappensKnown, Alike.IsKnown}
@@ -202,7 +202,7 @@ pub use Rattle.gt_core.specs.{Sight.body_seen, Sight.control_in, Sight.control_s
 pub use Rattle.gt_core.specs.{Sight.sees, Sight.slot_body, Sight.slot_reads, Sight.slot_writes, Sight.writes_in}
 pub use Rattle.gt_core.specs.{Standing.StateStands, Standing.AreMappingsApart, Phases.AsksTable, Standing.CallAgrees}
 pub use Rattle.gt_core.specs.{Acting.Closed}
-pub use Rattle.gt_core.specs.{Standing.CoreStands, Standing.DoesEvent, Standing.DoesAlone, Standing.DomainsStand}
+pub use Rattle.gt_core.specs.{Standing.CoreStands, Standing.DoesEvent, Standing.DomainsDo, Standing.DomainsStand}
 pub use Rattle.gt_core.specs.{Phases.EndsAfter, Phases.EndsCopy, Standing.FitsAsked, Standing.FitsGiven}
 pub use Rattle.gt_core.specs.{Standing.FitsTable, Standing.FitsWord, Standing.FramesStand, Standing.GivenAgrees}
 pub use Rattle.gt_core.specs.{Phases.LegHasLooked, Phases.LegHasRead, Phases.IsClean, Standing.IsLawfulPin}
@@ -230,9 +230,9 @@ pub use Rattle.gt_core.specs.{declared.trace.Element.TheVariants.Busy, declared.
 pub use Rattle.gt_core.specs.{declared.trace.Element.TheVariants.Item as Did}
 pub use Rattle.gt_core.specs.{declared.trace.Element.TheVariants.NoDomain, declared.trace.Event.Event}
 pub use Rattle.gt_core.specs.{declared.trace.Event.TheVariants.Begin, declared.trace.Event.TheVariants.Tick}
-pub use Rattle.gt_core.specs.{declared.trace.Happened.Happened, declared.trace.Happened.TheVariants.Began}
-pub use Rattle.gt_core.specs.{declared.trace.Happened.TheVariants.Stepped, declared.trace.Item.Item}
-pub use Rattle.gt_core.specs.{declared.underway.Open.Open, declared.core_state.Begun.TheVariants.Busy as BegunBusy}
+pub use Rattle.gt_core.specs.{declared.trace.ItemEvent.ItemEvent, declared.trace.ItemEvent.TheVariants.Began}
+pub use Rattle.gt_core.specs.{declared.trace.ItemEvent.TheVariants.Stepped, declared.trace.Item.Item}
+pub use Rattle.gt_core.specs.{declared.underway.OpenCall.OpenCall, declared.core_state.Begun.TheVariants.Busy as BegunBusy}
 pub use Rattle.gt_core.specs.{declared.core_state.Begun.TheVariants.NoDomain as BegunNoDomain}
 pub use Rattle.gt_core.specs.{declared.pin_counts.CountsChange.CountsChange}
 unfoldable pub use Rattle.gt_core.specs.{Alike.IsGiven, Alike.IsRun, Alike.told_items, History.body_at, History.entry_at, History.gather, History.live, History.maps_answered_at, History.open_call, History.patches_at, History.raises_at, History.table_at, History.without, FirstRule.looked_at, FirstRule.misses, FirstRule.stood, Legal.IsLegalHistory}

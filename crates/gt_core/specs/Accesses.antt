@@ -2,36 +2,36 @@
 -- It is in specs/ because private contracts cite it.
 use Rattle.std.specs.Prelude.{◌≡◌, ℕ, List, length, IsTrue}
 use Rattle.gt_handles.specs.Handles.{HandleMap, value_of}
-use Rattle.gt_calls.specs.declared.held.Held.{Held}
-use Rattle.gt_calls.specs.declared.held.Route.{Route}
-use Rattle.gt_calls.specs.declared.held.Route.TheVariants.{Own, Direct, Through}
-use Rattle.gt_calls.specs.declared.request.Asked.{Asked}
-use Rattle.gt_calls.specs.declared.request.Asked.TheVariants.{Load, Store, Peek, Copy}
+use Rattle.gt_calls.specs.declared.held.HeldPin.{HeldPin}
+use Rattle.gt_calls.specs.declared.held.AccessPath.{AccessPath}
+use Rattle.gt_calls.specs.declared.held.AccessPath.TheVariants.{Own, Direct, Through}
+use Rattle.gt_calls.specs.declared.request.OpenRequest.{OpenRequest}
+use Rattle.gt_calls.specs.declared.request.OpenRequest.TheVariants.{Load, Store, Peek, Copy}
 use Rattle.gt_calls.specs.declared.action.Step.{Step}
 use Rattle.gt_calls.specs.declared.action.Step.TheVariants.{Read as ReadBytes, Write as WriteBytes, Copy as CopyBytes}
 use Rattle.gt_calls.specs.declared.call.Call.{Call}
 use Rattle.gt_calls.specs.Holding.{begun_route}
 use Rattle.gt_calls.specs.Standing.{pins_by_call}
 use Rattle.gt_types.specs.declared.places.FrameName.{FrameName}
-use Rattle.gt_frames.specs.declared.writ.Ground.{Ground}
-use Rattle.gt_frames.specs.declared.writ.Ground.TheVariants.{Owned, Granted, Forwarded}
+use Rattle.gt_frames.specs.declared.writ.WriteBasis.{WriteBasis}
+use Rattle.gt_frames.specs.declared.writ.WriteBasis.TheVariants.{Owned, Granted, Forwarded}
 use Rattle.gt_frames.specs.declared.writ.Writ.{Writ}
 use Rattle.gt_frames.specs.Frames.{bytes_at}
 use Rattle.gt_frames.specs.Sets.{FrameSet, frame_at, has_range, admits, AreKept, WritesTo}
 use Rattle.gt_core.specs.States.{State}
 
 -- the ground of a write by a route: the frame is the writer's own, or the entries of the route's pins let it
-abbrev pub ground_of : Route → Ground
+abbrev pub ground_of : AccessPath → WriteBasis
 ground_of Own = Owned
 ground_of (Direct p) = Granted p.entry
 ground_of (Through via p) = Forwarded via.entry via.dom p.entry
 
 -- the route by which a call writes: by the pin of a store's mapping, or by those of a copy's destination; else to the
 -- caller's own frame
-abbrev pub route_of : HandleMap Held → Call → Route
+abbrev pub route_of : HandleMap HeldPin → Call → AccessPath
 route_of mappings call = by call.request
   where
-    by : Asked → Route
+    by : OpenRequest → AccessPath
     by (Store handle off len) = begun_route (value_of mappings handle)
     by (Copy c) = (pins_by_call call).dest
     by request = Own
@@ -47,7 +47,7 @@ IsWriting (CopyBytes from to len) = Unit {0}
 IsWriting step = ⊥
 
 -- a request for so many bytes
-abbrev pub IsLoadOf : Asked → ℕ → Type 0
+abbrev pub IsLoadOf : OpenRequest → ℕ → Type 0
 IsLoadOf (Load handle off len) n = len ≡ n
 IsLoadOf (Peek frame off len) n = len ≡ n
 IsLoadOf request n = ⊥

@@ -2,12 +2,12 @@
 use Rattle.std.specs.Prelude.{◌≡◌, ◌≢◌, ◌≤◌, ℕ, Bool, true, List, [], Option, Some, None, Result}
 use Rattle.std.specs.Prelude.{Ok, Err}
 use Rattle.gt_core.specs.Prelude.{domain_of, DomId, TypeId, Perms, IsWithinLimits, IsFirstFault, StartFault}
-use Rattle.gt_core.specs.Prelude.{ConfigFault, NoMemory, Config, Request, Asked, asked, begun_of, IsSaid, Verdict}
-use Rattle.gt_core.specs.Prelude.{Granted, Given, KeptPin, Refused, Value, Frames, SizeTold, VersionTold, Seen, Action}
+use Rattle.gt_core.specs.Prelude.{ConfigFault, NoMemory, Config, Request, OpenRequest, asked, begun_of, SpellsItsEntry, CallResult}
+use Rattle.gt_core.specs.Prelude.{Granted, Given, KeptPin, Refused, CallValue, Frames, SizeTold, VersionTold, Observation, Action}
 use Rattle.gt_core.specs.Prelude.{Makes, Ends, Call, Answer, Denied, MappedAnswer, AnswerDone, BytesAnswer}
 use Rattle.gt_core.specs.Prelude.{FramesAnswer, SizeAnswer, VersionAnswer, Handle, Step, ReadBytes, bytes_at, FrameSet}
-use Rattle.gt_core.specs.Prelude.{frame_at, HandleMap, Held, set, Began, Stepped, Element, Busy, Idle, NoDomain, Did}
-use Rattle.gt_core.specs.Prelude.{Open, Begun, BegunOpen, BegunDone, BegunBusy, BegunNoDomain, Ticked, TickedStep}
+use Rattle.gt_core.specs.Prelude.{frame_at, HandleMap, HeldPin, set, Began, Stepped, Element, Busy, Idle, NoDomain, Did}
+use Rattle.gt_core.specs.Prelude.{OpenCall, Begun, BegunOpen, BegunDone, BegunBusy, BegunNoDomain, Ticked, TickedStep}
 use Rattle.gt_core.specs.Prelude.{TickedDone, TickedIdle, TickedNoDomain, Machine}
 use Rattle.gt_core.specs.Prelude.{CallerKnowledge, knowledge_of, begun, path, GoesOnWith, first_phase, action_at, Rests}
 use Rattle.gt_core.specs.Prelude.{IsAt, pins_by_call, most_steps, steps_to_come}
@@ -18,9 +18,9 @@ use Rattle.gt_core.specs.States.{State, CoreState, core_of, asks_memory, IsMappi
 use Rattle.gt_core.specs.History.{History, Setting, known_at, Underway, open_call, values}
 
 -- a call opens so: no rule stands at its beginning, and it is about to make its first step
-pub record IsOpenCall (k : CallerKnowledge) (dom : DomId) (request : Request) (o : Open) : Type 0 where
+pub record IsOpenCall (k : CallerKnowledge) (dom : DomId) (request : Request) (o : OpenCall) : Type 0 where
   pub unanswered : begun_of k dom request ≡ None
-  pub said : IsSaid k.header request
+  pub said : SpellsItsEntry k.header request
   pub caller : o.call.caller ≡ dom
   pub asks : o.call.request ≡ asked request
   pub none : begun k dom (asked request) ≡ None
@@ -32,18 +32,18 @@ pub record IsOpenCall (k : CallerKnowledge) (dom : DomId) (request : Request) (o
   pub few : steps_to_come o.call ≤ most_steps (asked request)
 
 -- a call begins so: with an answer, or with a first step
-abbrev pub OpensAs : CallerKnowledge → DomId → Request → Result Open Verdict → Type 0
+abbrev pub OpensAs : CallerKnowledge → DomId → Request → Result OpenCall CallResult → Type 0
 OpensAs k dom request (Err verdict) = begun_of k dom request ≡ Some verdict
 OpensAs k dom request (Ok o) = IsOpenCall k dom request o
 
 -- the answer with this value
-abbrev pub answer_with : Value → Answer
+abbrev pub answer_with : CallValue → Answer
 answer_with (Frames frames) = FramesAnswer frames
 answer_with (SizeTold size) = SizeAnswer size
 answer_with (VersionTold version) = VersionAnswer version
 
 -- the answer of a call that ends so, and gives no mapping and no bytes
-abbrev pub answer_of : Verdict → Answer
+abbrev pub answer_of : CallResult → Answer
 answer_of Granted = AnswerDone
 answer_of (KeptPin p) = AnswerDone
 answer_of (Given value) = answer_with value
@@ -66,7 +66,7 @@ ticked_element dom TickedIdle = Idle
 ticked_element dom TickedNoDomain = NoDomain
 
 -- what a tick answers for a step: with the call's answer, if there is one
-abbrev pub ticked_with : Step → Seen → Option Answer → Ticked
+abbrev pub ticked_with : Step → Observation → Option Answer → Ticked
 ticked_with step seen None = TickedStep step seen
 ticked_with step seen (Some answer) = TickedDone step seen answer
 
@@ -96,10 +96,10 @@ Closed fs xs at d (ReadBytes dom frame off len) answer new =
 Closed fs xs at d step answer new = (answer ≡ AnswerDone) × (new ≡ set xs at (with_underway None d))
 
 -- a call is over with this verdict: its answer, and the states
-abbrev pub Ended : FrameSet → List State → ℕ → State → Step → Verdict → Answer → List State → Type 0
+abbrev pub Ended : FrameSet → List State → ℕ → State → Step → CallResult → Answer → List State → Type 0
 Ended fs xs at d step Granted answer new = Closed fs xs at d step answer new
 Ended fs xs at d step (KeptPin held) answer new =
-    (handle : Handle) × (kept : HandleMap Held) × (answer ≡ MappedAnswer handle) × Adds d.mappings kept handle held
+    (handle : Handle) × (kept : HandleMap HeldPin) × (answer ≡ MappedAnswer handle) × Adds d.mappings kept handle held
     × (new ≡ set xs at (with_mapping kept d))
 Ended fs xs at d step (Given value) answer new =
     (answer ≡ answer_with value) × (new ≡ set xs at (with_underway None d))
@@ -115,7 +115,7 @@ Settled fs xs at d step call (Ends verdict) answer new =
     (a : Answer) × (answer ≡ Some a) × Ended fs xs at d step verdict a new
 
 -- only a map ends with a mapping, for which it made room when it began
-abbrev pub IsRoomFor : Asked → Action → Type 0
+abbrev pub IsRoomFor : OpenRequest → Action → Type 0
 IsRoomFor request (Ends (KeptPin held)) = IsMapping (Some request)
 IsRoomFor request action = Unit {0}
 

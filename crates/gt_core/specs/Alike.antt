@@ -1,8 +1,8 @@
 -- When two runs are the same but for the keys of handles, which a run may choose.
 use Rattle.std.specs.Prelude.{◌≡◌, ◌≤◌, ◌⊎◌, ℕ, List, [], ◌∷◌, Option, Some}
-use Rattle.gt_core.specs.Prelude.{option_map, Bor, inl, inr, DomId, Handle, END_OF_SERIALS, Request, Asked, Unmap, Load}
+use Rattle.gt_core.specs.Prelude.{option_map, Bor, inl, inr, DomId, Handle, SERIAL_LIMIT, Request, OpenRequest, Unmap, Load}
 use Rattle.gt_core.specs.Prelude.{Store, ByMapping, Step, Unpin, asked, Answer, Mapped, Bytes, Event, Begin, Tick}
-use Rattle.gt_core.specs.Prelude.{Happened, Began, Stepped, Item, Element, Did}
+use Rattle.gt_core.specs.Prelude.{ItemEvent, Began, Stepped, Item, Element, Did}
 use Rattle.gt_calls.specs.declared.request.Request.TheVariants as requests
 use Rattle.gt_core.specs.History.{History, Setting}
 use Rattle.gt_core.specs.Legal.{IsRight}
@@ -37,7 +37,7 @@ bare_step (Unpin p (ByMapping handle)) = Unpin p (ByMapping (bare_handle handle)
 bare_step step = step
 
 -- what happened, without a key
-abbrev pub bare_happened : Happened → Happened
+abbrev pub bare_happened : ItemEvent → ItemEvent
 bare_happened (Began request) = Began (bare_request request)
 bare_happened (Stepped step seen) = Stepped (bare_step step) seen
 
@@ -50,7 +50,7 @@ told_part answer = inl answer
 -- what an item says but for keys: its domain, what happened, and what its answer says
 pub record ToldItem : Type 0 where
   pub actor : DomId
-  pub happened : Happened
+  pub happened : ItemEvent
   pub answer : Option (Answer ⊎ List ℕ)
 
 -- that of this item
@@ -84,10 +84,10 @@ IsGiven (i ∷ before) d handle = ((i.actor.0 ≡ d) × (i.answer ≡ Some (Mapp
 
 -- the handle is one that the domain was answered, or its serial is one that no map is answered
 abbrev pub IsKnown : History → ℕ → Handle → Type 0
-IsKnown h d handle = IsGiven h d handle ⊎ (END_OF_SERIALS ≤ handle.serial)
+IsKnown h d handle = IsGiven h d handle ⊎ (SERIAL_LIMIT ≤ handle.serial)
 
 -- a handle that is asked for is known
-abbrev pub AsksKnown : History → ℕ → Asked → Type 0
+abbrev pub AsksKnown : History → ℕ → OpenRequest → Type 0
 AsksKnown h d (Unmap handle) = IsKnown h d handle
 AsksKnown h d (Load handle off len) = IsKnown h d handle
 AsksKnown h d (Store handle off len) = IsKnown h d handle
@@ -102,7 +102,7 @@ IsOfKnown h (Tick d) = Unit {0}
 abbrev pub HappensKnown : History → Item → Type 0
 HappensKnown h i = IsOfHappened i.happened
   where
-    IsOfHappened : Happened → Type 0
+    IsOfHappened : ItemEvent → Type 0
     IsOfHappened (Began request) = AsksKnown h i.actor.0 (asked request)
     IsOfHappened (Stepped step seen) = Unit {0}
 

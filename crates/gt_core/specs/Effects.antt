@@ -1,9 +1,9 @@
 -- What a step does to the states of the domains: the code's own representation, which is here since private
 -- contracts cite it.
 use Rattle.std.specs.Prelude.{ℕ, List, Option, Some, None, if◌then◌else◌, ◌+◌, ◌-◌, ◌%◌, min, is_some, ◌≡◌, slice_set}
-use Rattle.gt_core.specs.Prelude.{DomId, MAX_PINS, Read, Write, Handle, Holder, ByMapping, ByLeg, Change, Step, Pin}
-use Rattle.gt_core.specs.Prelude.{Unpin, StoreBody, StoreHeader, Exchange, Seen, Taken, Held, PinCounts, CountsChange}
-use Rattle.gt_core.specs.Prelude.{FirstHalf, SecondHalf, Pinned, Unpinned, Stored, Open, HandleMap, value_of, count_of}
+use Rattle.gt_core.specs.Prelude.{DomId, MAX_PINS, Read, Write, Handle, PinHolder, ByMapping, ByLeg, EntryChange, Step, Pin}
+use Rattle.gt_core.specs.Prelude.{Unpin, StoreBody, StoreHeader, Exchange, Observation, Taken, HeldPin, PinCounts, CountsChange}
+use Rattle.gt_core.specs.Prelude.{FirstHalf, SecondHalf, Pinned, Unpinned, Stored, OpenCall, HandleMap, value_of, count_of}
 use Rattle.gt_core.specs.Prelude.{Updates}
 use Rattle.gt_core.specs.Rows.{changed_at}
 use Rattle.gt_core.specs.States.{State, changed_in}
@@ -23,7 +23,7 @@ abbrev pub with_slot : ℕ → CountsChange → State → State
 with_slot r change x = record x { slots = changed_at r (slot_after change) x.slots }
 
 -- the state after an owner's change of entry r
-abbrev pub with_own : ℕ → Change → State → State
+abbrev pub with_own : ℕ → EntryChange → State → State
 with_own r change x = record x { own = changed_at r (own_after change) x.own }
 
 -- the state with another header of its table, as far as its word has room
@@ -31,15 +31,15 @@ abbrev pub with_header : ℕ → ℕ → State → State
 with_header version frames x = record x { header = record { version = version % 4; frames = frames % 256 } }
 
 -- the state with this call under way, or none
-abbrev pub with_underway : Option Open → State → State
+abbrev pub with_underway : Option OpenCall → State → State
 with_underway underway x = record x { underway = underway }
 
 -- the state with this call under way, and the bytes given to it
-abbrev pub with_open_call : Open → List ℕ → State → State
+abbrev pub with_open_call : OpenCall → List ℕ → State → State
 with_open_call call given x = record x { underway = Some call; given = given }
 
 -- these handles are the old ones and a new one, under the next serial, which names this mapping
-pub record Adds (old new : HandleMap Held) (handle : Handle) (m : Held) : Type 0 where
+pub record Adds (old new : HandleMap HeldPin) (handle : Handle) (m : HeldPin) : Type 0 where
   pub serial : handle.serial ≡ old.given
   pub fresh : value_of old handle ≡ None
   pub given : new.given ≡ old.given + 1
@@ -47,22 +47,22 @@ pub record Adds (old new : HandleMap Held) (handle : Handle) (m : Held) : Type 0
   pub count : count_of new ≡ count_of old + 1
 
 -- the state with these mappings, after the call that made one is answered
-abbrev pub with_mapping : HandleMap Held → State → State
+abbrev pub with_mapping : HandleMap HeldPin → State → State
 with_mapping mappings x = record x { mappings = mappings; underway = None }
 
 -- the mapping under this handle goes, if there is one
-abbrev pub handle_taken : Handle → HandleMap Held → HandleMap Held
+abbrev pub handle_taken : Handle → HandleMap HeldPin → HandleMap HeldPin
 handle_taken handle mappings =
     if is_some (value_of mappings handle) then record mappings { slots = slice_set mappings.slots handle.key None }
     else mappings
 
 -- the state after its holder gave up a pin: a mapping goes, a call has none to lose
-abbrev pub without_holder : Holder → State → State
+abbrev pub without_holder : PinHolder → State → State
 without_holder (ByMapping handle) x = record x { mappings = handle_taken handle x.mappings }
 without_holder (ByLeg number) x = x
 
 -- the states after a step of domain d that saw this
-abbrev pub applied : DomId → Step → Seen → List State → List State
+abbrev pub applied : DomId → Step → Observation → List State → List State
 applied d (Pin p) Taken xs = changed_in p.dom.0 (with_slot p.gref.0 (Pinned p.dir)) xs
 applied d (Unpin p holder) seen xs =
     changed_in d.0 (without_holder holder) (changed_in p.dom.0 (with_slot p.gref.0 (Unpinned p.dir)) xs)

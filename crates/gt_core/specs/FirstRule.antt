@@ -2,14 +2,14 @@
 use Rattle.std.specs.Prelude.{ℕ, Bool, true, false, ◌&&◌, not, ◌==◌, nat_lt, nat_le, if◌then◌else◌, List, [], ◌∷◌, map}
 use Rattle.std.specs.Prelude.{Option, Some, None, ◌+◌, reverse}
 use Rattle.gt_core.specs.Prelude.{option_or, option_map, denial_of, DomId, MAX_TRIES, GrantRef, Read, Write, Rule, N9}
-use Rattle.gt_core.specs.Prelude.{N18, N19, HeaderFacts, Denial, Entry, Via, header_word, pins_of, CopyArgs, Asked, Map}
-use Rattle.gt_core.specs.Prelude.{Demote, Copy, Held, Route, Direct, Through, Change, Publish, ToInvalid, ToReadOnly}
+use Rattle.gt_core.specs.Prelude.{N18, N19, HeaderFacts, Denial, Entry, Via, header_word, pins_of, CopyArgs, OpenRequest, Map}
+use Rattle.gt_core.specs.Prelude.{Demote, Copy, HeldPin, AccessPath, Direct, Through, EntryChange, Publish, ToInvalid, ToReadOnly}
 use Rattle.gt_core.specs.Prelude.{ToWritable, ToWithdrawn, Step, LookHeader, LookControl, LookBody, PinStep, Exchange}
-use Rattle.gt_core.specs.Prelude.{Seen, Word, Taken, Missed, Verdict, Refused, Leg, Item, Happened, Began, Stepped}
+use Rattle.gt_core.specs.Prelude.{Observation, Word, Taken, Missed, CallResult, Refused, Leg, Item, ItemEvent, Began, Stepped}
 use Rattle.gt_core.specs.Prelude.{CallerKnowledge, stands, first, first_look, before_pin, size_of, is_source_granted}
 use Rattle.gt_core.specs.Prelude.{is_dest_granted, via_judged, begun_of, map_leg, end_leg, second_leg, source_pair}
 use Rattle.gt_core.specs.Prelude.{dest_pair, entry_refusal}
-use Rattle.gt_calls.specs.declared.held.Route.TheVariants.{Own}
+use Rattle.gt_calls.specs.declared.held.AccessPath.TheVariants.{Own}
 use Rattle.gt_core.specs.History.{History, Setting, entry_at, table_at, word_at, control_at, reads_at, writes_at}
 use Rattle.gt_core.specs.History.{known_at, Underway, open_call, seen_by, legs_at}
 
@@ -28,53 +28,53 @@ abbrev pub source_now : CallerKnowledge → DomId → CopyArgs → LegNow
 source_now k d c = record { leg = end_leg k d c.source Read c.len; pair = source_pair d c }
 
 -- and to its destination, if its source is reached so
-abbrev pub dest_now : CallerKnowledge → DomId → CopyArgs → Route → LegNow
+abbrev pub dest_now : CallerKnowledge → DomId → CopyArgs → AccessPath → LegNow
 dest_now k d c source = record { leg = end_leg k d c.dest Write c.len; pair = dest_pair d source }
 
 -- the leg to the destination, by the pins that were taken for it, the first one first
-abbrev pub toward_dest : CallerKnowledge → DomId → CopyArgs → Route → List Held → Option LegNow
+abbrev pub toward_dest : CallerKnowledge → DomId → CopyArgs → AccessPath → List HeldPin → Option LegNow
 toward_dest k d c source [] = Some (dest_now k d c source)
 toward_dest k d c source (p ∷ []) = second_now k (dest_now k d c source) p.entry
 toward_dest k d c source (p ∷ q ∷ more) = None
 
 -- the same, if the destination is given by a reference
-abbrev pub after_source : CallerKnowledge → DomId → CopyArgs → Route → List Held → Option LegNow
+abbrev pub after_source : CallerKnowledge → DomId → CopyArgs → AccessPath → List HeldPin → Option LegNow
 after_source k d c source held = if is_dest_granted c then toward_dest k d c source held else None
 
 -- on from the first pin of the source: its second leg, or the destination's
-abbrev pub from_source : CallerKnowledge → DomId → CopyArgs → Held → Entry → List Held → Option LegNow
+abbrev pub from_source : CallerKnowledge → DomId → CopyArgs → HeldPin → Entry → List HeldPin → Option LegNow
 from_source k d c p (Via dom ro dom2 gref) [] = second_now k (source_now k d c) (Via dom ro dom2 gref)
 from_source k d c p (Via dom ro dom2 gref) (q ∷ more) = after_source k d c (Through p q) more
 from_source k d c p entry more = after_source k d c (Direct p) more
 
 -- the leg to the source, by the pins held
-abbrev pub toward_source : CallerKnowledge → DomId → CopyArgs → List Held → Option LegNow
+abbrev pub toward_source : CallerKnowledge → DomId → CopyArgs → List HeldPin → Option LegNow
 toward_source k d c [] = Some (source_now k d c)
 toward_source k d c (p ∷ more) = from_source k d c p p.entry more
 
 -- a copy's leg, if it holds these pins, the first one first
-abbrev pub copy_now : CallerKnowledge → DomId → CopyArgs → List Held → Option LegNow
+abbrev pub copy_now : CallerKnowledge → DomId → CopyArgs → List HeldPin → Option LegNow
 copy_now k d c held = if is_source_granted c then toward_source k d c held else after_source k d c Own held
 
 -- the leg that a call walks, by what it asked and the pins that it holds
-abbrev pub leg_now : CallerKnowledge → DomId → Asked → List Held → Option LegNow
+abbrev pub leg_now : CallerKnowledge → DomId → OpenRequest → List HeldPin → Option LegNow
 leg_now k d (Map dom gref flags) held = Some (record { leg = map_leg k d dom gref flags; pair = λ owner. (d, owner) })
 leg_now k d (Copy c) held = copy_now k d c held
 leg_now k d _ held = None
 
 -- the leg that a domain's call walks now
-abbrev pub leg_at : Setting → History → DomId → Asked → Option LegNow
+abbrev pub leg_at : Setting → History → DomId → OpenRequest → Option LegNow
 leg_at s before d request =
-    leg_now (known_at s before d) d request (map (λ (p : ℕ × Held). p.1) (legs_at before d.0))
+    leg_now (known_at s before d) d request (map (λ (p : ℕ × HeldPin). p.1) (legs_at before d.0))
 
 -- the call asks for a demotion
-abbrev pub is_demote : Asked → Bool
+abbrev pub is_demote : OpenRequest → Bool
 is_demote (Demote gref) = true
 is_demote request = false
 
 -- the steps of a call, the newest first
 abbrev pub StepsSoFar : Type 0
-StepsSoFar = List (Step × Seen)
+StepsSoFar = List (Step × Observation)
 
 -- the word of the last look at the control word
 unfoldable pub looked_at : StepsSoFar → Option ℕ
@@ -93,7 +93,7 @@ is_other w None = false
 is_other w (Some looked) = not (w == looked)
 
 -- this step ends a try that is missed: an exchange that found another word, or a second look that does
-abbrev pub is_miss : (Step × Seen) → StepsSoFar → Bool
+abbrev pub is_miss : (Step × Observation) → StepsSoFar → Bool
 is_miss (PinStep p, Missed w) more = true
 is_miss (Exchange gref looked change, Missed w) more = true
 is_miss (LookControl dom gref, Word w) more = is_in_body more && is_other w (looked_at more)
@@ -110,7 +110,7 @@ abbrev pub at_entry : DomId → GrantRef → ℕ → Option Rule → Option Deni
 at_entry dom gref word rule = option_map (λ (r : Rule). entry_refusal dom gref r word) rule
 
 -- at an owner's exchange, by the pins on its entry and the tries that were missed with this one
-abbrev pub rule_at_exchange : Change → ℕ → ℕ → Option Rule
+abbrev pub rule_at_exchange : EntryChange → ℕ → ℕ → Option Rule
 rule_at_exchange (Publish entry) pins missed = stands (nat_lt 0 pins) N19
 rule_at_exchange ToInvalid pins missed = stands (nat_lt 0 pins) N19
 rule_at_exchange ToWithdrawn pins missed = stands (nat_le MAX_TRIES missed) N18
@@ -140,7 +140,7 @@ rule_at_look s before (Some n) dom gref so_far =
     else first_look n.leg (control_at s before dom.0 gref.0)
 
 -- the refusal of a verdict
-abbrev pub refusal_in : Option Verdict → Option Denial
+abbrev pub refusal_in : Option CallResult → Option Denial
 refusal_in (Some (Refused denial)) = Some denial
 refusal_in _ = None
 
@@ -150,7 +150,7 @@ rule_at_via k (Some n) (Via dom ro dom2 gref) = refusal_in (via_judged k (n.pair
 rule_at_via k n entry = None
 
 -- at a pin: if it is taken that of a Via, if it is missed that of a fourth try
-abbrev pub rule_at_pin : Setting → History → DomId → Asked → StepsSoFar → Held → Seen → Option Denial
+abbrev pub rule_at_pin : Setting → History → DomId → OpenRequest → StepsSoFar → HeldPin → Observation → Option Denial
 rule_at_pin s before d request so_far p Taken =
     rule_at_via (known_at s before d) (leg_at s before d request) (entry_at before p.dom.0 p.gref.0)
 rule_at_pin s before d request so_far p seen =
@@ -159,7 +159,7 @@ rule_at_pin s before d request so_far p seen =
 
 -- the first rule that stands against the call at this step of it, by the history: so_far are the call's steps before
 -- it
-abbrev pub first_at : Setting → History → DomId → Asked → StepsSoFar → Step → Option Denial
+abbrev pub first_at : Setting → History → DomId → OpenRequest → StepsSoFar → Step → Option Denial
 first_at s before d request so_far (LookHeader dom) = rule_at_header s before dom (leg_at s before d request)
 first_at s before d request so_far (LookControl dom gref) =
     at_entry dom gref (word_at s before dom.0 gref.0) (first (
@@ -177,7 +177,7 @@ first_at s before d request so_far (Exchange gref looked change) =
 first_at s before d request so_far _ = None
 
 -- the first rule at what the domain did in its open call
-abbrev pub first_in_call : Setting → History → DomId → Happened → Option Underway → Option Denial
+abbrev pub first_in_call : Setting → History → DomId → ItemEvent → Option Underway → Option Denial
 first_in_call s before d (Began request) c = refusal_in (begun_of (known_at s before d) d request)
 first_in_call s before d (Stepped step seen) None = None
 first_in_call s before d (Stepped step seen) (Some c) = first_at s before d c.request (reverse c.steps) step
@@ -187,7 +187,7 @@ abbrev pub first_of_item : Setting → History → Item → Option Denial
 first_of_item s before i = first_in_call s before i.actor i.happened (open_call before i.actor.0)
 
 -- with the rule that stood before in the same call
-abbrev pub stood_with : Happened → Option Denial → Option Denial → Option Denial
+abbrev pub stood_with : ItemEvent → Option Denial → Option Denial → Option Denial
 stood_with (Began request) earlier here = here
 stood_with (Stepped step seen) earlier here = option_or earlier here
 

@@ -1,8 +1,8 @@
 -- Every legal history can go on: what a run may begin with, and what each of its domains may do next.
 use Rattle.std.specs.Prelude.{◌≡◌, ◌≢◌, ◌+◌, Bool, [], ◌∷◌, Option, Some, None, slice_range}
 use Rattle.gt_core.specs.Prelude.{IsWithinLimits, domain_of, DomId, TypeId, Config, Perms, HandleMap, Handle, FitsAsked}
-use Rattle.gt_core.specs.Prelude.{IsSaid, asked, begun_of, path, Action, Makes, Ends, Step, ReadBytes, WriteBytes}
-use Rattle.gt_core.specs.Prelude.{CopyBytes, Verdict, Nothing, Granted, KeptPin, Held, Request, Answer, BytesAnswer}
+use Rattle.gt_core.specs.Prelude.{SpellsItsEntry, asked, begun_of, path, Action, Makes, Ends, Step, ReadBytes, WriteBytes}
+use Rattle.gt_core.specs.Prelude.{CopyBytes, CallResult, Nothing, Granted, KeptPin, HeldPin, Request, Answer, BytesAnswer}
 use Rattle.gt_core.specs.Prelude.{AnswerDone, Mapped, Began, Stepped, Item}
 use Rattle.gt_core.specs.Effects.{Adds}
 use Rattle.gt_core.specs.History.{History, Setting, Underway, contents_at, known_at, mappings_at, maps_answered_at}
@@ -27,7 +27,7 @@ abbrev pub step_after : Setting → History → DomId → Step → Option Answer
 step_after s h d step answer = record { actor = d; happened = Stepped step (seen_by s h d step); answer = answer }
 
 -- how a beginning is answered: by its verdict, if there is one
-abbrev pub begin_answer : Option Verdict → Option Answer
+abbrev pub begin_answer : Option CallResult → Option Answer
 begin_answer None = None
 begin_answer (Some verdict) = Some (answer_of verdict)
 
@@ -40,9 +40,9 @@ IsOnWords step = Unit {0}
 
 -- the handle is one that the domain's next mapping may be answered under: some table of handles for its mappings gives it
 -- next
-pub record MayBeGiven (h : History) (d : DomId) (handle : Handle) (held : Held) : Type 0 where
-  pub old : HandleMap Held
-  pub new : HandleMap Held
+pub record MayBeGiven (h : History) (d : DomId) (handle : Handle) (held : HeldPin) : Type 0 where
+  pub old : HandleMap HeldPin
+  pub new : HandleMap HeldPin
   pub agrees : MappingsAgree old (mappings_at h d.0) (maps_answered_at h d.0)
   pub adds : Adds old new handle held
 
@@ -62,7 +62,7 @@ RunsStart = (config : Config) (may : TypeId → TypeId → Perms → Bool) → I
 abbrev pub CallsCanBegin : Type 0
 CallsCanBegin =
     (s : Setting) (h : History) (d : DomId) (request : Request) → CanBeReached s h → domain_of s.domains d ≢ None
-    → open_call h d.0 ≡ None → FitsAsked (asked request) → IsSaid (table_at s h d) request
+    → open_call h d.0 ≡ None → FitsAsked (asked request) → SpellsItsEntry (table_at s h d) request
     → let i = beginning d request (begin_answer (begun_of (known_at s h d) d request)) in
     IsRight s h i × CanBeReached s (i ∷ h)
 

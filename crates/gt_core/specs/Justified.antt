@@ -1,10 +1,10 @@
 -- When a domain may reach bytes: what an access, and a change of an entry, must have for it.
 use Rattle.std.specs.Prelude.{◌≡◌, ◌≤◌, ◌⊎◌, ℕ, Bool, true, false, [], Option, Some, None, Any, ◌+◌, ◌<◌}
 use Rattle.gt_core.specs.Prelude.{resolved, IsAllowed, DomId, FRAME_SIZE, Dir, Read, Write, Use, ForMap, ForCopy}
-use Rattle.gt_core.specs.Prelude.{Invalid, permits, forwards, IsSpelled, FirstHalf, SecondHalf, ByMapping, Asked, Unmap}
-use Rattle.gt_core.specs.Prelude.{Load, Store, Copy, Held, Spot, Change, Publish, ToInvalid, ToReadOnly, ToWritable}
+use Rattle.gt_core.specs.Prelude.{Invalid, permits, forwards, IsSpelled, FirstHalf, SecondHalf, ByMapping, OpenRequest, Unmap}
+use Rattle.gt_core.specs.Prelude.{Load, Store, Copy, HeldPin, Spot, EntryChange, Publish, ToInvalid, ToReadOnly, ToWritable}
 use Rattle.gt_core.specs.Prelude.{ToWithdrawn, Step, StoreBody, Unpin, Exchange, ReadBytes, WriteBytes, CopyBytes}
-use Rattle.gt_core.specs.Prelude.{Taken, Item, Happened, Stepped, rights_to_map, rights_to_copy, frame_count_of}
+use Rattle.gt_core.specs.Prelude.{Taken, Item, ItemEvent, Stepped, rights_to_map, rights_to_copy, frame_count_of}
 use Rattle.gt_core.specs.Prelude.{is_source_granted, is_dest_granted, GivesHeld}
 use Rattle.gt_core.specs.History.{History, Setting, entry_at, body_at, reads_at, writes_at, live, Pin, known_at}
 use Rattle.gt_core.specs.History.{frame_of, mappings_at, mapping_of}
@@ -44,13 +44,13 @@ abbrev pub MayAccess : History → DomId → Dir → Spot → ℕ → Type 0
 MayAccess before d dir at len = (at.frame.owner.0 ≡ d.0) ⊎ Any (Reaches d d dir ForMap at len) (live before)
 
 -- the policy allows what the pin of this mapping is for; there is such a mapping (XSM FLASK)
-abbrev pub MayUseMapping : Setting → DomId → Option Held → Type 0
+abbrev pub MayUseMapping : Setting → DomId → Option HeldPin → Type 0
 MayUseMapping s d None = ⊥
 MayUseMapping s d (Some m) = MayUse s d m.dom m.dir
 
 -- the policy allows what the call asks for its access: a load or store what the pin of its mapping is for, in whichever
 -- frame (XSM FLASK)
-abbrev pub MayAsk : Setting → History → DomId → Asked → Type 0
+abbrev pub MayAsk : Setting → History → DomId → OpenRequest → Type 0
 MayAsk s before d (Load handle off len) = MayUseMapping s d (mapping_of (mappings_at before d.0) handle)
 MayAsk s before d (Store handle off len) = MayUseMapping s d (mapping_of (mappings_at before d.0) handle)
 MayAsk s before d request = Unit {0}
@@ -74,7 +74,7 @@ EndIsJustified s before d granted dir at len named owners =
 -- a copy's access is of the call's two ends, each justified, and the policy allows the copy between the domains named;
 -- a Via of the source asks for its owner's domain and the destination named, one of the destination for the owners of
 -- both frames
-abbrev pub CopyIsJustified : Setting → History → DomId → Asked → Spot → Spot → ℕ → Type 0
+abbrev pub CopyIsJustified : Setting → History → DomId → OpenRequest → Spot → Spot → ℕ → Type 0
 CopyIsJustified s before d (Copy c) from to len =
     IsInFrame s from len × IsInFrame s to len × MayCopy s (resolved d c.source.domid, resolved d c.dest.domid)
     × EndIsJustified s before d (is_source_granted c) Read from len (resolved d c.source.domid)
@@ -85,12 +85,12 @@ CopyIsJustified s before d request from to len = ⊥
 
 -- an access of one range is inside a frame, of the domain's own or reached by a pin, and the policy allows what its
 -- call asks
-abbrev pub AccessIsJustified : Setting → History → DomId → Asked → Dir → Spot → ℕ → Type 0
+abbrev pub AccessIsJustified : Setting → History → DomId → OpenRequest → Dir → Spot → ℕ → Type 0
 AccessIsJustified s before d request dir at len =
     IsInFrame s at len × MayAccess before d dir at len × MayAsk s before d request
 
 -- an access is justified, and a mapping is given up only by the unmap that asked for its handle
-abbrev pub Justified : Setting → History → DomId → Asked → Step → Type 0
+abbrev pub Justified : Setting → History → DomId → OpenRequest → Step → Type 0
 Justified s before d request (ReadBytes dom frame off len) =
     AccessIsJustified s before d request Read
     (record { frame = record { owner = dom; number = frame }; off = off }) len
@@ -105,7 +105,7 @@ Justified s before d request _ = Unit {0}
 
 -- the change is made only of an entry that allows it: a publication on an Invalid one without live pins, spelled by
 -- the stored body words; a revocation if no pin is live, a demotion if no write pin is; a withdrawal always
-abbrev pub IsSafeChange : History → ℕ → ℕ → Change → Type 0
+abbrev pub IsSafeChange : History → ℕ → ℕ → EntryChange → Type 0
 IsSafeChange before t r (Publish entry) =
     (entry_at before t r ≡ Invalid) × IsSpelled entry (body_at before t r FirstHalf) (body_at before t r SecondHalf)
     × (reads_at before t r ≡ 0) × (writes_at before t r ≡ 0)
@@ -118,7 +118,7 @@ IsSafeChange before t r ToWritable = Unit {0}
 abbrev pub IsSafe : Setting → History → Item → Type 0
 IsSafe s before i = IsSafeStep i.happened
   where
-    IsSafeStep : Happened → Type 0
+    IsSafeStep : ItemEvent → Type 0
     IsSafeStep (Stepped (Exchange gref looked change) Taken) = IsSafeChange before i.actor.0 gref.0 change
     IsSafeStep (Stepped (StoreBody gref half word) seen) = entry_at before i.actor.0 gref.0 ≡ Invalid
     IsSafeStep _ = Unit {0}

@@ -1,10 +1,10 @@
 -- What the steps of an open call have shown in each of its phases.
 use Rattle.std.specs.Prelude.{◌≡◌, ◌≢◌, ◌<◌, ◌≤◌, ◌+◌, ◌⊎◌, ℕ, true, false, List, [], ◌∷◌, Option, Some, None, All}
-use Rattle.gt_core.specs.Prelude.{domain_of, resolved, DomId, Denial, TABLE_ENTRIES, CopyArgs, Asked, Verdict, Granted}
-use Rattle.gt_core.specs.Prelude.{Given, Refused, Frames, Publish, ToInvalid, FirstHalf, SecondHalf, Seen, Step}
-use Rattle.gt_core.specs.Prelude.{StoreHeader, Held, first_look, first_body, is_kind, control_with, rule_of_try}
+use Rattle.gt_core.specs.Prelude.{domain_of, resolved, DomId, Denial, TABLE_ENTRIES, CopyArgs, OpenRequest, CallResult, Granted}
+use Rattle.gt_core.specs.Prelude.{Given, Refused, Frames, Publish, ToInvalid, FirstHalf, SecondHalf, Observation, Step}
+use Rattle.gt_core.specs.Prelude.{StoreHeader, HeldPin, first_look, first_body, is_kind, control_with, rule_of_try}
 use Rattle.gt_core.specs.Prelude.{MORE_TRIES, entry_of, Rule, Entry, Invalid, Control, KindSub, control_of, Copy}
-use Rattle.gt_core.specs.Prelude.{SetVersion, SetupTable, QuerySize, GetVersion, last_first, Question, AsksSize}
+use Rattle.gt_core.specs.Prelude.{SetVersion, SetupTable, QuerySize, GetVersion, last_first, HeaderQuery, AsksSize}
 use Rattle.gt_core.specs.Prelude.{AsksVersion, Leg, LegPhase, AtHeader, Look, Body, Second, Pinning, Relook, Phase}
 use Rattle.gt_core.specs.Prelude.{Storing, StoringSecond, Exchanging, Looking, Changing, Walking, Accessing, Asking}
 use Rattle.gt_core.specs.Prelude.{Last, Ending}
@@ -55,25 +55,25 @@ LegStands s h l so_far (Relook more word rule) =
     × ((body : ℕ) × (second : ℕ) × LegHasRead s h l so_far word body second (Some rule))
 
 -- the call asks this of a header
-abbrev pub AsksTable : DomId → Asked → DomId → Question → Type 0
+abbrev pub AsksTable : DomId → OpenRequest → DomId → HeaderQuery → Type 0
 AsksTable d request dom AsksSize = (named : DomId) × (request ≡ QuerySize named) × (dom ≡ resolved d named)
 AsksTable d request dom AsksVersion = (named : DomId) × (request ≡ GetVersion named) × (dom ≡ resolved d named)
 
 -- the call ends so after its one step: a set up with the frames that it stored, each other one with no value
-abbrev pub EndsAfter : Asked → Step → Verdict → Type 0
+abbrev pub EndsAfter : OpenRequest → Step → CallResult → Type 0
 EndsAfter request (StoreHeader version frames) verdict =
     ((request ≡ SetVersion version) × (verdict ≡ Granted))
     ⊎ ((request ≡ SetupTable frames) × (verdict ≡ Given (Frames frames)))
 EndsAfter request step verdict = verdict ≡ Granted
 
 -- a copy ends with Ok, or with a refusal
-abbrev pub EndsCopy : Verdict → Type 0
+abbrev pub EndsCopy : CallResult → Type 0
 EndsCopy Granted = Unit {0}
 EndsCopy (Refused denial) = Unit {0}
 EndsCopy verdict = ⊥
 
 -- a call is in this phase, by the steps so far, the newest first
-abbrev pub PhaseStands : Setting → History → DomId → Asked → StepsSoFar → Phase → Type 0
+abbrev pub PhaseStands : Setting → History → DomId → OpenRequest → StepsSoFar → Phase → Type 0
 PhaseStands s h d request so_far (Storing gref entry) = Unit {0}
 PhaseStands s h d request so_far (StoringSecond gref entry) = body_at h d.0 gref.0 FirstHalf ≡ first_body entry
 PhaseStands s h d request so_far (Exchanging gref looked (Publish entry)) =
@@ -97,11 +97,11 @@ phase_refusal (Ending pins verdict) = refusal_in (Some verdict)
 phase_refusal phase = None
 
 -- the steps so far have left all as it was, unless the call is to end with Ok
-abbrev pub IsClean : Phase → List (Step × Seen) → Type 0
+abbrev pub IsClean : Phase → List (Step × Observation) → Type 0
 IsClean (Ending pins verdict) steps = (refusal_in (Some verdict) ≡ None) ⊎ All LeavesAll steps
 IsClean phase steps = All LeavesAll steps
 
 -- these, each under its place from this one on
-abbrev pub numbered : ℕ → List Held → List (ℕ × Held)
+abbrev pub numbered : ℕ → List HeldPin → List (ℕ × HeldPin)
 numbered n [] = []
 numbered n (p ∷ ps) = (n, p) ∷ numbered (n + 1) ps

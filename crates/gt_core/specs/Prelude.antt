@@ -1,5 +1,5 @@
 -- The names of other crates, and of the code, that the definitions here speak of.
-pub use Rattle.gt_calls.specs.Asking.{FitsAsked, IsSaid, asked, begun_of, bytes_given_by}
+pub use Rattle.gt_calls.specs.Asking.{FitsAsked, SpellsItsEntry, asked, begun_of, bytes_given_by}
 pub use Rattle.gt_calls.specs.Counting.{most_steps, steps_left, steps_to_come}
 pub use Rattle.gt_calls.specs.Following.{GoesOnWith}
 pub use Rattle.gt_calls.specs.Holding.{last_first}
@@ -16,41 +16,41 @@ pub use Rattle.gt_calls.specs.Standing.{IsAt, StandsAt, held_in, pins_at, pins_b
 pub use Rattle.gt_calls.specs.declared.action.Action.{Action}
 pub use Rattle.gt_calls.specs.declared.action.Action.TheVariants.{Done as Ends, Step as Makes}
 pub use Rattle.gt_types.specs.declared.places.Spot.{Spot}
-pub use Rattle.gt_calls.specs.declared.action.Seen.{Seen}
-pub use Rattle.gt_calls.specs.declared.action.Seen.TheVariants.{Missed, Nothing, Taken, Word}
+pub use Rattle.gt_calls.specs.declared.action.Observation.{Observation}
+pub use Rattle.gt_calls.specs.declared.action.Observation.TheVariants.{Missed, Nothing, Taken, Word}
 pub use Rattle.gt_calls.specs.declared.action.Step.{Step}
 pub use Rattle.gt_calls.specs.declared.action.Step.TheVariants.{Copy as CopyBytes, Exchange, LookBody, LookControl}
 pub use Rattle.gt_calls.specs.declared.action.Step.TheVariants.{LookHeader, Pin, Pin as PinStep, Read as ReadBytes}
 pub use Rattle.gt_calls.specs.declared.action.Step.TheVariants.{StoreBody, StoreHeader, Unpin, Write as WriteBytes}
-pub use Rattle.gt_calls.specs.declared.action.Value.{Value}
-pub use Rattle.gt_calls.specs.declared.action.Value.TheVariants.{Frames, Size as SizeTold, Version as VersionTold}
-pub use Rattle.gt_calls.specs.declared.action.Verdict.{Verdict}
-pub use Rattle.gt_calls.specs.declared.action.Verdict.TheVariants.{Given, Granted, Mapped as KeptPin, Refused}
+pub use Rattle.gt_calls.specs.declared.action.CallValue.{CallValue}
+pub use Rattle.gt_calls.specs.declared.action.CallValue.TheVariants.{Frames, Size as SizeTold, Version as VersionTold}
+pub use Rattle.gt_calls.specs.declared.action.CallResult.{CallResult}
+pub use Rattle.gt_calls.specs.declared.action.CallResult.TheVariants.{Given, Granted, Mapped as KeptPin, Refused}
 pub use Rattle.gt_calls.specs.declared.call.Call.{Call}
 pub use Rattle.gt_calls.specs.declared.call.Phase.{Phase}
 pub use Rattle.gt_calls.specs.declared.call.Phase.TheVariants.{Accessing, Asking, Changing, Ending, Exchanging, Last}
 pub use Rattle.gt_calls.specs.declared.call.Phase.TheVariants.{Looking, Storing, StoringSecond, Walking}
-pub use Rattle.gt_calls.specs.declared.call.Question.{Question}
-pub use Rattle.gt_calls.specs.declared.call.Question.TheVariants.{Size as AsksSize, Version as AsksVersion}
-pub use Rattle.gt_calls.specs.declared.held.Held.{Held}
-pub use Rattle.gt_calls.specs.declared.held.Route.{Route}
-pub use Rattle.gt_calls.specs.declared.held.Route.TheVariants.{Direct, Through}
-pub use Rattle.gt_calls.specs.declared.judging.TheConstants.{END_OF_SERIALS}
+pub use Rattle.gt_calls.specs.declared.call.HeaderQuery.{HeaderQuery}
+pub use Rattle.gt_calls.specs.declared.call.HeaderQuery.TheVariants.{Size as AsksSize, Version as AsksVersion}
+pub use Rattle.gt_calls.specs.declared.held.HeldPin.{HeldPin}
+pub use Rattle.gt_calls.specs.declared.held.AccessPath.{AccessPath}
+pub use Rattle.gt_calls.specs.declared.held.AccessPath.TheVariants.{Direct, Through}
+pub use Rattle.gt_calls.specs.declared.judging.TheConstants.{SERIAL_LIMIT}
 pub use Rattle.gt_calls.specs.declared.leg.Leg.{Leg}
 pub use Rattle.gt_calls.specs.declared.leg.LegPhase.{LegPhase}
 pub use Rattle.gt_calls.specs.declared.leg.LegPhase.TheVariants.{Body, Header as AtHeader, Look, Pinning, Relook}
 pub use Rattle.gt_calls.specs.declared.leg.LegPhase.TheVariants.{Second}
 pub use Rattle.gt_calls.specs.declared.leg.TheConstants.{MORE_TRIES}
-pub use Rattle.gt_calls.specs.declared.request.Asked.{Asked}
-pub use Rattle.gt_calls.specs.declared.request.Asked.TheVariants.{Copy, Demote, GetVersion, Load, Map, Peek, Poke}
-pub use Rattle.gt_calls.specs.declared.request.Asked.TheVariants.{QuerySize, SetVersion, SetupTable, Store, Unmap}
+pub use Rattle.gt_calls.specs.declared.request.OpenRequest.{OpenRequest}
+pub use Rattle.gt_calls.specs.declared.request.OpenRequest.TheVariants.{Copy, Demote, GetVersion, Load, Map, Peek, Poke}
+pub use Rattle.gt_calls.specs.declared.request.OpenRequest.TheVariants.{QuerySize, SetVersion, SetupTable, Store, Unmap}
 pub use Rattle.gt_types.specs.declared.copies.CopyArgs.{CopyArgs}
-pub use Rattle.gt_calls.specs.declared.request.Holder.{Holder}
-pub use Rattle.gt_calls.specs.declared.request.Holder.TheVariants.{Leg as ByLeg, Mapping as ByMapping}
+pub use Rattle.gt_calls.specs.declared.request.PinHolder.{PinHolder}
+pub use Rattle.gt_calls.specs.declared.request.PinHolder.TheVariants.{Leg as ByLeg, Mapping as ByMapping}
 pub use Rattle.gt_calls.specs.declared.request.Request.{Request}
 pub use Rattle.gt_core.specs.declared.core_state.Begun.{Begun}
 pub use Rattle.gt_core.specs.declared.core_state.Begun.TheVariants.{Busy as BegunBusy, Done as BegunDone}
-pub use Rattle.gt_core.specs.declared.core_state.Begun.TheVariants.{NoDomain as BegunNoDomain, Open as BegunOpen}
+pub use Rattle.gt_core.specs.declared.core_state.Begun.TheVariants.{NoDomain as BegunNoDomain, OpenCall as BegunOpen}
 pub use Rattle.gt_core.specs.declared.core_state.Ticked.{Ticked}
 pub use Rattle.gt_core.specs.declared.core_state.Ticked.TheVariants.{Done as TickedDone, Idle as TickedIdle}
 pub use Rattle.gt_core.specs.declared.core_state.Ticked.TheVariants.{NoDomain as TickedNoDomain, Step as TickedStep}
@@ -67,21 +67,21 @@ pub use Rattle.gt_core.specs.declared.trace.Element.{Element}
 pub use Rattle.gt_core.specs.declared.trace.Element.TheVariants.{Busy, Idle, Item as Did, NoDomain}
 pub use Rattle.gt_core.specs.declared.trace.Event.{Event}
 pub use Rattle.gt_core.specs.declared.trace.Event.TheVariants.{Begin, Tick}
-pub use Rattle.gt_core.specs.declared.trace.Happened.{Happened}
-pub use Rattle.gt_core.specs.declared.trace.Happened.TheVariants.{Began, Stepped}
+pub use Rattle.gt_core.specs.declared.trace.ItemEvent.{ItemEvent}
+pub use Rattle.gt_core.specs.declared.trace.ItemEvent.TheVariants.{Began, Stepped}
 pub use Rattle.gt_core.specs.declared.trace.Item.{Item}
-pub use Rattle.gt_core.specs.declared.underway.Open.{Open}
+pub use Rattle.gt_core.specs.declared.underway.OpenCall.{OpenCall}
 pub use Rattle.gt_entry.specs.Entries.{IsEntry}
 pub use Rattle.gt_entry.specs.Permits.{forwards, permits}
 pub use Rattle.gt_entry.specs.Spelling.{IsSpelled, entry_of}
 pub use Rattle.gt_entry.specs.Words.{IsInRange, control_of, control_word, header_word, pins_of}
-pub use Rattle.gt_entry.specs.declared.change.Change.{Change}
-pub use Rattle.gt_entry.specs.declared.change.Change.TheVariants.{Demote as ToReadOnly, Promote as ToWritable, Publish}
-pub use Rattle.gt_entry.specs.declared.change.Change.TheVariants.{Revoke as ToInvalid, Withdraw as ToWithdrawn}
-pub use Rattle.gt_entry.specs.declared.change.Half.{Half}
-pub use Rattle.gt_entry.specs.declared.change.Half.TheVariants.{First as FirstHalf, Second as SecondHalf}
+pub use Rattle.gt_entry.specs.declared.change.EntryChange.{EntryChange}
+pub use Rattle.gt_entry.specs.declared.change.EntryChange.TheVariants.{Demote as ToReadOnly, Promote as ToWritable, Publish}
+pub use Rattle.gt_entry.specs.declared.change.EntryChange.TheVariants.{Revoke as ToInvalid, Withdraw as ToWithdrawn}
+pub use Rattle.gt_entry.specs.declared.change.BodyWord.{BodyWord}
+pub use Rattle.gt_entry.specs.declared.change.BodyWord.TheVariants.{First as FirstHalf, Second as SecondHalf}
 pub use Rattle.gt_entry.specs.declared.control.Control.{Control}
-pub use Rattle.gt_entry.specs.declared.control.Kind.TheVariants.{Sub as KindSub}
+pub use Rattle.gt_entry.specs.declared.control.EntryKind.TheVariants.{Sub as KindSub}
 pub use Rattle.gt_entry.specs.declared.entry.Entry.{Entry}
 pub use Rattle.gt_entry.specs.declared.entry.Entry.TheVariants.{Invalid, Via}
 pub use Rattle.gt_entry.specs.declared.header.Header.{Header}

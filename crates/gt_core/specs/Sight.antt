@@ -2,16 +2,16 @@
 -- It is in specs/ because private contracts cite it.
 use Rattle.std.specs.Prelude.{ℕ, ◌==◌, if◌then◌else◌, List, [], ◌∷◌, Option, Some, None, slice_get}
 use Rattle.gt_types.specs.declared.DomId.{DomId}
-use Rattle.gt_entry.specs.declared.change.Half.{Half}
-use Rattle.gt_entry.specs.declared.change.Half.TheVariants.{First as FirstHalf, Second as SecondHalf}
+use Rattle.gt_entry.specs.declared.change.BodyWord.{BodyWord}
+use Rattle.gt_entry.specs.declared.change.BodyWord.TheVariants.{First as FirstHalf, Second as SecondHalf}
 use Rattle.gt_entry.specs.Words.{control_word, header_word}
 use Rattle.gt_calls.specs.declared.action.Step.{Step}
 use Rattle.gt_calls.specs.declared.action.Step.TheVariants.{LookHeader, LookControl, LookBody, Pin, Unpin, StoreBody}
 use Rattle.gt_calls.specs.declared.action.Step.TheVariants.{StoreHeader, Exchange, Read as ReadBytes}
 use Rattle.gt_calls.specs.declared.action.Step.TheVariants.{Write as WriteBytes, Copy as CopyBytes}
-use Rattle.gt_calls.specs.declared.action.Seen.{Seen}
-use Rattle.gt_calls.specs.declared.action.Seen.TheVariants.{Nothing, Word}
-use Rattle.gt_calls.specs.declared.known.Own.{Own}
+use Rattle.gt_calls.specs.declared.action.Observation.{Observation}
+use Rattle.gt_calls.specs.declared.action.Observation.TheVariants.{Nothing, Word}
+use Rattle.gt_calls.specs.declared.known.OwnerEntry.{OwnerEntry}
 use Rattle.gt_core.specs.declared.pin_counts.PinCounts.{PinCounts}
 use Rattle.gt_core.specs.States.{State}
 use Rattle.gt_calls.specs.Rules.{control_with, entry_in, own_generation}
@@ -28,7 +28,7 @@ slot_writes None = 0
 slot_writes (Some slot) = slot.writes
 
 -- a body word in a slot, 0 if there is none
-abbrev pub slot_body : Option PinCounts → Half → ℕ
+abbrev pub slot_body : Option PinCounts → BodyWord → ℕ
 slot_body None which = 0
 slot_body (Some slot) SecondHalf = slot.second
 slot_body (Some slot) FirstHalf = slot.first
@@ -42,11 +42,11 @@ abbrev pub writes_in : List PinCounts → ℕ → ℕ
 writes_in slots r = slot_writes (slice_get slots r)
 
 -- a body word in slot r
-abbrev pub body_in : List PinCounts → ℕ → Half → ℕ
+abbrev pub body_in : List PinCounts → ℕ → BodyWord → ℕ
 body_in slots r which = slot_body (slice_get slots r) which
 
 -- the control word made of an owner's row and a slot
-abbrev pub control_in : List Own → List PinCounts → ℕ → ℕ
+abbrev pub control_in : List OwnerEntry → List PinCounts → ℕ → ℕ
 control_in own slots r =
     control_word (control_with (entry_in own r) (own_generation 0 own r) (reads_in slots r) (writes_in slots r))
 
@@ -61,12 +61,12 @@ control_seen [] d r = 0
 control_seen (x ∷ xs) d r = if x.id.0 == d then control_in x.own x.slots r else control_seen xs d r
 
 -- a body word of entry r of domain d, 0 if there is no such state
-abbrev pub body_seen : List State → ℕ → ℕ → Half → ℕ
+abbrev pub body_seen : List State → ℕ → ℕ → BodyWord → ℕ
 body_seen [] d r which = 0
 body_seen (x ∷ xs) d r which = if x.id.0 == d then body_in x.slots r which else body_seen xs d r which
 
 -- what a step of the domain sees
-abbrev pub sees : List State → DomId → Step → Seen
+abbrev pub sees : List State → DomId → Step → Observation
 sees xs d (LookHeader dom) = Word (header_seen xs dom.0)
 sees xs d (LookControl dom gref) = Word (control_seen xs dom.0 gref.0)
 sees xs d (LookBody dom gref half) = Word (body_seen xs dom.0 gref.0 half)

@@ -3,9 +3,9 @@
 use Rattle.std.specs.Prelude.{◌≡◌, ◌≢◌, ◌<◌, ◌≤◌, ◌+◌, reverse, ℕ, Bool, true, List, [], ◌∷◌, Option, Some, None}
 use Rattle.std.specs.Prelude.{slice_get, length, All}
 use Rattle.gt_core.specs.Prelude.{domain_of, DomId, Dir, TypeId, ForMap, TABLE_ENTRIES, MAX_TABLE_FRAMES, LAST_VERSION}
-use Rattle.gt_core.specs.Prelude.{FRAME_SIZE, Holder, ByMapping, ByLeg, Perms, Config, Asked, FirstHalf, SecondHalf}
+use Rattle.gt_core.specs.Prelude.{FRAME_SIZE, PinHolder, ByMapping, ByLeg, Perms, Config, OpenRequest, FirstHalf, SecondHalf}
 use Rattle.gt_core.specs.Prelude.{Header, Makes, Handle, FrameName, patches, frame_counts, FrameSet, frame_at, AreKept}
-use Rattle.gt_core.specs.Prelude.{HandleMap, mapping_under, count_of, Held, Event, Element, PinCounts, Open, entry_in}
+use Rattle.gt_core.specs.Prelude.{HandleMap, mapping_under, count_of, HeldPin, Event, Element, PinCounts, OpenCall, entry_in}
 use Rattle.gt_core.specs.Prelude.{own_generation, frame_count_of, GoesOnWith, action_at, Rests, StandsAt, pins_at}
 use Rattle.gt_core.specs.Prelude.{held_in, Phase}
 use Rattle.gt_core.specs.Prelude.{most_steps, steps_left, Entry, Control, IsInRange, IsEntry, permits, Store, Poke}
@@ -23,7 +23,7 @@ use Rattle.gt_core.specs.Phases.{PhaseStands, phase_refusal, IsClean, numbered}
 
 -- an open call is where its steps have led it, it holds its live pins, and the first rule that stood so far is the one
 -- that it ends with
-pub record OpenAgrees (s : Setting) (h : History) (id : DomId) (o : Open) (c : Underway) : Type 0 where
+pub record OpenAgrees (s : Setting) (h : History) (id : DomId) (o : OpenCall) (c : Underway) : Type 0 where
   pub caller : o.call.caller ≡ id
   pub asks : o.call.request ≡ c.request
   pub phase : Phase
@@ -41,14 +41,14 @@ pub record OpenAgrees (s : Setting) (h : History) (id : DomId) (o : Open) (c : U
 
 -- the open call is that of the history, and there is one in both or in neither; with none open no pin is held by
 -- one
-abbrev pub CallAgrees : Setting → History → DomId → Option Open → Option Underway → Type 0
+abbrev pub CallAgrees : Setting → History → DomId → Option OpenCall → Option Underway → Type 0
 CallAgrees s h id None None = legs_at h id.0 ≡ []
 CallAgrees s h id (Some o) (Some c) = OpenAgrees s h id o c
 CallAgrees s h id None (Some c) = ⊥
 CallAgrees s h id (Some o) None = ⊥
 
 -- bytes to be written are as many as the call asked, and end inside a frame
-abbrev pub FitsGiven : Asked → List ℕ → Type 0
+abbrev pub FitsGiven : OpenRequest → List ℕ → Type 0
 FitsGiven (Store handle off len) given = (length given ≡ len) × (off + len ≤ FRAME_SIZE)
 FitsGiven (Poke frame off len) given = (length given ≡ len) × (off + len ≤ FRAME_SIZE)
 FitsGiven request given = Unit {0}
@@ -66,12 +66,12 @@ pub record SlotAgrees (h : History) (t r : ℕ) (slot : PinCounts) : Type 0 wher
   pub second : slot.second ≡ body_at h t r SecondHalf
 
 -- no two mappings are under one handle
-abbrev pub AreMappingsApart : List (Handle × Held) → Type 0
+abbrev pub AreMappingsApart : List (Handle × HeldPin) → Type 0
 AreMappingsApart [] = Unit {0}
 AreMappingsApart (m ∷ ms) = (mapping_of ms m.0 ≡ None) × AreMappingsApart ms
 
 -- the handles name just these mappings, after so many maps were answered Ok
-pub record MappingsAgree (kept : HandleMap Held) (ms : List (Handle × Held)) (answered : ℕ) : Type 0 where
+pub record MappingsAgree (kept : HandleMap HeldPin) (ms : List (Handle × HeldPin)) (answered : ℕ) : Type 0 where
   pub named : mapping_under kept ≡ mapping_of ms
   pub count : count_of kept ≡ length ms
   pub given : kept.given ≡ answered
@@ -101,7 +101,7 @@ LetsUse s d t dir entry =
     × (domain_of s.domains t ≢ None)
 
 -- a mapping's pin was taken by right, on a frame of its owner; of a call's own pin nothing is asked
-abbrev pub IsLawfullyHeld : Setting → Pin → Holder → Type 0
+abbrev pub IsLawfullyHeld : Setting → Pin → PinHolder → Type 0
 IsLawfullyHeld s p (ByMapping handle) =
     LetsUse s (record { 0 = p.actor }) p.held.dom p.held.dir p.held.entry
 IsLawfullyHeld s p (ByLeg number) = Unit {0}
@@ -153,8 +153,8 @@ abbrev pub DoesEvent : Setting → CoreState → Event → Element → CoreState
 DoesEvent s old event x new = (h : History) → CoreStands s h old → MayDo s h event x × CoreStands s (grown h x) new
 
 -- the same of the domains only
-abbrev pub DoesAlone : Setting → List State → Event → Element → List State → Type 0
-DoesAlone s old event x new =
+abbrev pub DomainsDo : Setting → List State → Event → Element → List State → Type 0
+DomainsDo s old event x new =
     (h : History) → DomainsStand s h old → MayDo s h event x × DomainsStand s (grown h x) new
 
 -- what contracts see of a core: its configuration, what its policy is made of, and what it keeps of the run

@@ -6,15 +6,15 @@ use Rattle.gt_types.specs.declared.config.DomainConfig.{DomainConfig}
 use Rattle.gt_entry.specs.declared.entry.Entry.TheVariants.{Invalid}
 use Rattle.gt_calls.specs.declared.known.TheConstants.{ENTRIES}
 use Rattle.gt_types.specs.declared.limits.TheConstants.{LAST_GENERATION}
-use Rattle.gt_calls.specs.declared.request.Asked.{Asked}
-use Rattle.gt_calls.specs.declared.request.Asked.TheVariants.{Map, Load, Store, Peek, Poke}
+use Rattle.gt_calls.specs.declared.request.OpenRequest.{OpenRequest}
+use Rattle.gt_calls.specs.declared.request.OpenRequest.TheVariants.{Map, Load, Store, Peek, Poke}
 use Rattle.gt_types.specs.declared.DomId.{DomId}
 use Rattle.gt_entry.specs.declared.header.Header.{Header}
-use Rattle.gt_calls.specs.declared.known.Own.{Own}
+use Rattle.gt_calls.specs.declared.known.OwnerEntry.{OwnerEntry}
 use Rattle.gt_handles.specs.Handles.{HandleMap}
-use Rattle.gt_calls.specs.declared.held.Held.{Held}
+use Rattle.gt_calls.specs.declared.held.HeldPin.{HeldPin}
 use Rattle.gt_core.specs.declared.pin_counts.PinCounts.{PinCounts}
-use Rattle.gt_core.specs.declared.underway.Open.{Open}
+use Rattle.gt_core.specs.declared.underway.OpenCall.{OpenCall}
 use Rattle.gt_frames.specs.Sets.{FrameSet}
 
 -- what the core keeps of a domain: its header, what its owner knows of each entry, the pins and body words of each
@@ -22,10 +22,10 @@ use Rattle.gt_frames.specs.Sets.{FrameSet}
 pub record State : Type 0 where
   pub id : DomId
   pub header : Header
-  pub own : List Own
+  pub own : List OwnerEntry
   pub slots : List PinCounts
-  pub mappings : HandleMap Held
-  pub underway : Option Open
+  pub mappings : HandleMap HeldPin
+  pub underway : Option OpenCall
   pub given : List ℕ
 
 -- what the core keeps of a run: its domains, and their frames
@@ -38,13 +38,13 @@ abbrev pub core_of : List State → FrameSet → CoreState
 core_of domains frames = record { domains = domains; frames = frames }
 
 -- what the call under way asks
-abbrev pub asked_in : Option Open → Option Asked
+abbrev pub asked_in : Option OpenCall → Option OpenRequest
 asked_in None = None
 asked_in (Some o) = Some o.call.request
 
 -- the calls that ask for memory: a map for its mapping, a load or peek for its answer, a store or poke for what it was
 -- given
-abbrev pub asks_memory : Asked → Bool
+abbrev pub asks_memory : OpenRequest → Bool
 asks_memory (Map dom gref flags) = true
 asks_memory (Load handle off len) = true
 asks_memory (Store handle off len) = true
@@ -53,25 +53,25 @@ asks_memory (Poke frame off len) = true
 asks_memory _ = false
 
 -- the bytes that a call keeps while it is under way: those given to a store or a poke
-abbrev pub kept_by : Asked → List ℕ → List ℕ
+abbrev pub kept_by : OpenRequest → List ℕ → List ℕ
 kept_by (Store handle off len) given = given
 kept_by (Poke frame off len) given = given
 kept_by request given = []
 
 -- a map is under way
-abbrev pub IsMapping : Option Asked → Type 0
+abbrev pub IsMapping : Option OpenRequest → Type 0
 IsMapping (Some (Map dom gref flags)) = Unit {0}
 IsMapping _ = ⊥
 
 -- a load or peek under way is of so many bytes
-abbrev pub IsLoading : Option Asked → ℕ → Type 0
+abbrev pub IsLoading : Option OpenRequest → ℕ → Type 0
 IsLoading (Some (Load handle off len)) n = n ≡ len
 IsLoading (Some (Peek frame off len)) n = n ≡ len
 IsLoading _ n = Unit {0}
 
 -- the room that a call's answer wants was made when it began: for one more mapping, under a serial that is left, or for
 -- the bytes of a load or peek
-abbrev pub HasRoom : Option Asked → HandleMap Held → Option ℕ → Type 0
+abbrev pub HasRoom : Option OpenRequest → HandleMap HeldPin → Option ℕ → Type 0
 HasRoom (Some (Map dom gref flags)) mappings bytes = (1 ≤ mappings.room) × (mappings.given + 1 < 2 ^ 64)
 HasRoom (Some (Load handle off len)) mappings bytes = bytes ≡ Some len
 HasRoom (Some (Peek frame off len)) mappings bytes = bytes ≡ Some len

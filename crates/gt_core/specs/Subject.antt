@@ -4,11 +4,11 @@ use Rattle.gt_types.specs.Names.{domain_of}
 use Rattle.gt_types.specs.declared.DomId.{DomId}
 use Rattle.gt_types.specs.declared.GrantRef.{GrantRef}
 use Rattle.gt_handles.specs.declared.handles.Handle.{Handle}
-use Rattle.gt_calls.specs.declared.held.Held.{Held}
+use Rattle.gt_calls.specs.declared.held.HeldPin.{HeldPin}
 use Rattle.gt_core.specs.History.{History, Setting, mapping_of, mappings_at}
 
 -- the entry that a pin is on, by its domain and its reference
-abbrev pub entry_place_of : Held → DomId × GrantRef
+abbrev pub entry_place_of : HeldPin → DomId × GrantRef
 entry_place_of held = (held.dom, held.gref)
 
 -- the entry that the domain has mapped under this handle after these items: none if the handle names no mapping of

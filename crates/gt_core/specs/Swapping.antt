@@ -1,7 +1,7 @@
 -- When two histories look the same, and when the items of two domains may change places.
 use Rattle.std.specs.Prelude.{◌≡◌, ◌⊎◌, ◌==◌, ◌&&◌, ℕ, Bool, true, false, List, [], ◌∷◌}
-use Rattle.gt_core.specs.Prelude.{DomId, Holder, Held, Step, LookHeader, LookControl, LookBody, PinStep, Exchange}
-use Rattle.gt_core.specs.Prelude.{Request, Seen, StoreBody, ReadBytes, CopyBytes, Half, Item, Happened, Began, Stepped}
+use Rattle.gt_core.specs.Prelude.{DomId, PinHolder, HeldPin, Step, LookHeader, LookControl, LookBody, PinStep, Exchange}
+use Rattle.gt_core.specs.Prelude.{Request, Observation, StoreBody, ReadBytes, CopyBytes, BodyWord, Item, ItemEvent, Began, Stepped}
 use Rattle.gt_core.specs.Prelude.{Patch}
 use Rattle.gt_core.specs.History.{History, Setting, entry_at, raises_at, body_at, table_at, open_call, live, gather}
 use Rattle.gt_core.specs.History.{reads_at, writes_at, maps_answered_at, patches_at, patches_by, written_by, given_in}
@@ -12,11 +12,11 @@ use Rattle.gt_core.specs.Legal.{IsRight}
 -- histories that look the same
 
 -- a pin with what holds it
-abbrev pub with_holder : Holder → Held → List (Holder × Held)
+abbrev pub with_holder : PinHolder → HeldPin → List (PinHolder × HeldPin)
 with_holder holder held = (holder, held) ∷ []
 
 -- the live pins of a domain, each with what holds it, the oldest first
-abbrev pub own_pins : History → ℕ → List (Holder × Held)
+abbrev pub own_pins : History → ℕ → List (PinHolder × HeldPin)
 own_pins h d = gather with_holder d (live h)
 
 -- an entry, its generation and its live pins are the same
@@ -44,14 +44,14 @@ SameLook s g h d (LookControl dom gref) = SameEntry g h dom.0 gref.0
 SameLook s g h d (LookBody dom gref half) = body_at g dom.0 gref.0 half ≡ body_at h dom.0 gref.0 half
 SameLook s g h d (PinStep p) = SameEntry g h p.dom.0 p.gref.0
 SameLook s g h d (Exchange gref looked change) =
-    SameEntry g h d.0 gref.0 × ((half : Half) → body_at g d.0 gref.0 half ≡ body_at h d.0 gref.0 half)
+    SameEntry g h d.0 gref.0 × ((half : BodyWord) → body_at g d.0 gref.0 half ≡ body_at h d.0 gref.0 half)
 SameLook s g h d (ReadBytes dom frame off len) = patches_at g dom.0 frame ≡ patches_at h dom.0 frame
 SameLook s g h d (CopyBytes from to len) =
     patches_at g from.frame.owner.0 from.frame.number ≡ patches_at h from.frame.owner.0 from.frame.number
 SameLook s g h d step = Unit {0}
 
 -- the same for what happens: a beginning looks at nothing but what is the domain's own
-abbrev pub SameSight : Setting → History → History → DomId → Happened → Type 0
+abbrev pub SameSight : Setting → History → History → DomId → ItemEvent → Type 0
 SameSight s g h d (Began request) = Unit {0}
 SameSight s g h d (Stepped step seen) = SameLook s g h d step
 
@@ -59,7 +59,7 @@ SameSight s g h d (Stepped step seen) = SameLook s g h d step
 pub record SameSeen (s : Setting) (g h : History) : Type 0 where
   pub own : (d : DomId) → SameOwn s g h d
   pub entries : (t r : ℕ) → SameEntry g h t r
-  pub bodies : (t r : ℕ) (half : Half) → body_at g t r half ≡ body_at h t r half
+  pub bodies : (t r : ℕ) (half : BodyWord) → body_at g t r half ≡ body_at h t r half
   pub patches : (t f : ℕ) → patches_at g t f ≡ patches_at h t f
 
 -- the same may follow after both, and leaves them so
@@ -122,5 +122,5 @@ pub record OnOtherEntries (d : DomId) (y : Step) (e : DomId) (z : Step) : Type 0
 -- they are apart
 abbrev pub StepsOnOtherEntriesAreApart : Type 0
 StepsOnOtherEntriesAreApart =
-    (s : Setting) (h : History) (i j : Item) (y z : Step) (v w : Seen) → OnOtherEntries i.actor y j.actor z
+    (s : Setting) (h : History) (i j : Item) (y z : Step) (v w : Observation) → OnOtherEntries i.actor y j.actor z
     → i.happened ≡ Stepped y v → j.happened ≡ Stepped z w → AreApart s h i j

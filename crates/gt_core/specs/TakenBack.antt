@@ -2,15 +2,15 @@
 use Rattle.std.specs.Prelude.{◌≡◌, ◌≢◌, ◌⊎◌, ℕ, true, false, List, [], ◌∷◌, ◌++◌, All}
 use Rattle.gt_entry.specs.declared.entry.Entry.TheVariants.{Invalid}
 use Rattle.gt_entry.specs.Permits.{is_of_frame}
-use Rattle.gt_entry.specs.declared.change.Change.TheVariants.{Publish, Revoke as ToInvalid}
+use Rattle.gt_entry.specs.declared.change.EntryChange.TheVariants.{Publish, Revoke as ToInvalid}
 use Rattle.gt_calls.specs.declared.action.Step.TheVariants.{Exchange}
 use Rattle.gt_calls.specs.declared.action.Step.TheVariants.{Read as ReadBytes, Write as WriteBytes, Copy as CopyBytes}
-use Rattle.gt_calls.specs.declared.action.Seen.TheVariants.{Taken}
+use Rattle.gt_calls.specs.declared.action.Observation.TheVariants.{Taken}
 use Rattle.gt_core.specs.declared.trace.Element.{Element}
 use Rattle.gt_core.specs.declared.trace.Event.{Event}
 use Rattle.gt_core.specs.declared.trace.Item.{Item}
-use Rattle.gt_core.specs.declared.trace.Happened.{Happened}
-use Rattle.gt_core.specs.declared.trace.Happened.TheVariants.{Stepped}
+use Rattle.gt_core.specs.declared.trace.ItemEvent.{ItemEvent}
+use Rattle.gt_core.specs.declared.trace.ItemEvent.TheVariants.{Stepped}
 use Rattle.gt_core.specs.History.{History, Setting, Pin, entry_at, live, pinned_by, reads_at, writes_at}
 use Rattle.gt_core.specs.Legal.{IsLegalHistory, Legal, history_after}
 
@@ -26,7 +26,7 @@ LegalTracesAreHistories =
 abbrev pub EndsPinsOn : ℕ → ℕ → Item → Type 0
 EndsPinsOn t r i = (i.actor.0 ≡ t) × ends i.happened
   where
-    ends : Happened → Type 0
+    ends : ItemEvent → Type 0
     ends (Stepped (Exchange gref looked ToInvalid) Taken) = gref.0 ≡ r
     ends (Stepped (Exchange gref looked (Publish entry)) Taken) = gref.0 ≡ r
     ends _ = ⊥
@@ -60,7 +60,7 @@ IsTakenBack h t f =
 abbrev pub Grants : ℕ → ℕ → Item → Type 0
 Grants t f i = (i.actor.0 ≡ t) × grants i.happened
   where
-    grants : Happened → Type 0
+    grants : ItemEvent → Type 0
     grants (Stepped (Exchange gref looked (Publish entry)) Taken) = is_of_frame entry f ≡ true
     grants _ = ⊥
 
@@ -68,7 +68,7 @@ Grants t f i = (i.actor.0 ≡ t) × grants i.happened
 abbrev pub IsForeignAccess : ℕ → ℕ → Item → Type 0
 IsForeignAccess t f i = (i.actor.0 ≢ t) × touches i.happened
   where
-    touches : Happened → Type 0
+    touches : ItemEvent → Type 0
     touches (Stepped (ReadBytes dom frame off len) seen) = (dom.0 ≡ t) × (frame ≡ f)
     touches (Stepped (WriteBytes dom frame off len) seen) = (dom.0 ≡ t) × (frame ≡ f)
     touches (Stepped (CopyBytes from to len) seen) =

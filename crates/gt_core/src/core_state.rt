@@ -6,8 +6,8 @@ ghost use Rattle.gt_core.specs.Standing.{DoesEvent, setting_in};
 ghost use Rattle.gt_core.specs.Acting.{IsStartFaultOf, setting_of};
 
 use crate::kept::Machine;
-use crate::trace::{Answer, Element, Event, Happened, Item, Trace};
-use gt_calls::{Handle, Request, Seen, Step};
+use crate::trace::{Answer, Element, Event, ItemEvent, Item, Trace};
+use gt_calls::{Handle, Request, Observation, Step};
 use gt_entry::Entry;
 use gt_types::{Allows, Config, DomId, GrantRef, Memory, StartFault};
 use std::alloc::Global;
@@ -47,15 +47,15 @@ pub enum Begun {
 /// What `tick` did.
 #[derive(Debug, Drop)]
 pub enum Ticked {
-    Step(Step, Seen),
-    Done(Step, Seen, Answer),
+    Step(Step, Observation),
+    Done(Step, Observation, Answer),
     Idle,
     NoDomain,
 }
 
 /// What an entry shows.
 #[derive(Clone, Copy, Debug, PartialEq, Eq)]
-pub struct Shown {
+pub struct EntryView {
     pub entry: Entry,
     pub generation: u32,
     pub reads: u16,
@@ -113,7 +113,7 @@ impl<P: Allows> Core<P> {
     }
 
     /// What an entry of a domain shows: None past the table, or for no domain of the run.
-    pub fn show(&self, dom: DomId, gref: GrantRef) -> Option<Shown>
+    pub fn show(&self, dom: DomId, gref: GrantRef) -> Option<EntryView>
         ensures { (h : History) → CoreStands (setting_in P.may self.now) h self.now.state →
             result ≡ shown_at (setting_in P.may self.now) h dom gref.0 }
     {
@@ -140,12 +140,12 @@ fn one_event<'a, P: Allows>(core: &mut Core<P>, event: Event<'a>) -> Result<Elem
         Event::Begin(actor, request) => Ok(match core.begin(actor, request)? {
             Begun::Open => Element::Item(Item {
                 actor,
-                happened: Happened::Began(request),
+                happened: ItemEvent::Began(request),
                 answer: None,
             }),
             Begun::Done(answer) => Element::Item(Item {
                 actor,
-                happened: Happened::Began(request),
+                happened: ItemEvent::Began(request),
                 answer: Some(answer),
             }),
             Begun::Busy => Element::Busy,
@@ -154,12 +154,12 @@ fn one_event<'a, P: Allows>(core: &mut Core<P>, event: Event<'a>) -> Result<Elem
         Event::Tick(actor) => Ok(match core.tick(actor)? {
             Ticked::Step(step, seen) => Element::Item(Item {
                 actor,
-                happened: Happened::Stepped(step, seen),
+                happened: ItemEvent::Stepped(step, seen),
                 answer: None,
             }),
             Ticked::Done(step, seen, answer) => Element::Item(Item {
                 actor,
-                happened: Happened::Stepped(step, seen),
+                happened: ItemEvent::Stepped(step, seen),
                 answer: Some(answer),
             }),
             Ticked::Idle => Element::Idle,

@@ -5,7 +5,7 @@ ghost use Rattle.gt_core.specs.Effects.{with_slot, applied, without_holder, with
 
 use crate::pin_counts::CountsChange;
 use crate::state::{DomainState, find};
-use gt_calls::{Change, Holder, Seen, Step};
+use gt_calls::{EntryChange, PinHolder, Observation, Step};
 use gt_positions::Roster;
 use gt_types::{DomId, GrantRef};
 
@@ -29,7 +29,7 @@ fn change_own(
     domains: &mut [DomainState],
     dom: DomId,
     gref: GrantRef,
-    change: Change,
+    change: EntryChange,
 )
     requires { IsPlaced config.now.domains.items domains.old }
     ensures { domains.new ≡ changed_in dom.0 (with_own gref.0 change) domains.old }
@@ -39,7 +39,7 @@ fn change_own(
     }
 }
 
-fn forget(config: &Roster, domains: &mut [DomainState], dom: DomId, holder: Holder)
+fn forget(config: &Roster, domains: &mut [DomainState], dom: DomId, holder: PinHolder)
     requires { IsPlaced config.now.domains.items domains.old }
     ensures { domains.new ≡ changed_in dom.0 (without_holder holder) domains.old }
 {
@@ -58,12 +58,12 @@ fn store_header(config: &Roster, domains: &mut [DomainState], dom: DomId, versio
 }
 
 /// What a step of the domain that saw this does to the words, and to the actor's mappings if it gives one up.
-pub fn apply(config: &Roster, domains: &mut [DomainState], actor: DomId, step: Step, seen: Seen)
+pub fn apply(config: &Roster, domains: &mut [DomainState], actor: DomId, step: Step, seen: Observation)
     requires { IsPlaced config.now.domains.items domains.old }
     ensures { domains.new ≡ applied actor step seen domains.old }
 {
     match (step, seen) {
-        (Step::Pin { held }, Seen::Taken) => {
+        (Step::Pin { held }, Observation::Taken) => {
             change_slot(
                 config,
                 domains,
@@ -94,7 +94,7 @@ pub fn apply(config: &Roster, domains: &mut [DomainState], actor: DomId, step: S
         (Step::StoreHeader { version, frames }, _) => {
             store_header(config, domains, actor, version, frames);
         }
-        (Step::Exchange { gref, change, .. }, Seen::Taken) => {
+        (Step::Exchange { gref, change, .. }, Observation::Taken) => {
             change_own(config, domains, actor, gref, change);
         }
         _ => {}

@@ -27,8 +27,8 @@ mod subject;
 mod trace;
 mod underway;
 
-pub use core_state::{Begun, Core, Shown, Ticked, play};
-pub use gt_calls::{Asked, Change, CopyArgs, End, Handle, Held, Holder, Request, Seen, Spot, Step};
+pub use core_state::{Begun, Core, EntryView, Ticked, play};
+pub use gt_calls::{OpenRequest, EntryChange, CopyArgs, End, Handle, HeldPin, PinHolder, Request, Observation, Spot, Step};
 pub use laws::{
     every_alike_event_does_one_thing, every_alike_run_shows_one_thing, every_beginning_is_apart,
     every_call_can_begin, every_event_does_one_thing, every_known_handle_has_one_subject,
@@ -40,4 +40,4 @@ pub use laws::{
 pub use machine::answer_of;
 pub use pin_counts::{CountsChange, PinCounts};
 pub use sight::exchange_sees;
-pub use trace::{Answer, Bytes, Element, Event, Happened, Item, Trace};
+pub use trace::{Answer, Bytes, Element, Event, ItemEvent, Item, Trace};

@@ -14,7 +14,7 @@ ghost use Rattle.gt_core.specs.Effects.{applied};
 ghost use Rattle.gt_core.specs.Sight.{sees};
 ghost use Rattle.gt_core.specs.Shown.{shown_at};
 ghost use Rattle.gt_core.specs.Acting.{OpensAs, IsStartFaultOf, Closed};
-ghost use Rattle.gt_core.specs.Standing.{DomainsStand, StandsForSome, DoesEvent, DoesAlone};
+ghost use Rattle.gt_core.specs.Standing.{DomainsStand, StandsForSome, DoesEvent, DomainsDo};
 ghost use Rattle.gt_core.specs.Acting.{Settled};
 ghost use Rattle.gt_core.specs.Acting.{IsRoomFor};
 ghost use Rattle.gt_core.specs.Acting.{WantsMemory, WantsMemoryNow, setting_of, setting_by, state_by, known_by};
@@ -23,14 +23,14 @@ ghost use Rattle.gt_core.specs.Standing.{first_state};
 ghost use Rattle.gt_core.specs.declared.trace.Event.TheVariants.{Begin, Tick};
 
 use crate::accesses::{read_bytes, write_bytes};
-use crate::core_state::{Begun, Shown, Ticked};
+use crate::core_state::{Begun, EntryView, Ticked};
 use crate::effects::apply;
 use crate::kept::Machine;
 use crate::sight::see;
 use crate::state::{DomainState, find};
 use crate::trace::{Answer, Bytes};
-use crate::underway::Open;
-use gt_calls::{Action, Call, Known, Request, Seen, Start, Step, Value, Verdict, asked_fits};
+use crate::underway::OpenCall;
+use gt_calls::{Action, Call, CallerState, Request, Observation, CallStart, Step, CallValue, CallResult, asked_fits};
 use gt_frames::{FrameName, Frames};
 use gt_positions::Roster;
 use gt_types::{Allows, Config, DomId, GrantRef, Memory, StartFault};
@@ -38,18 +38,18 @@ use std::alloc::Global;
 
 // A call that is open, with its first step, or the verdict at its beginning.
 fn open_call<P: Allows>(
-    known: &Known<'_, P>,
+    known: &CallerState<'_, P>,
     dom: DomId,
     request: Request<'_>,
-) -> Result<Open, Verdict>
+) -> Result<OpenCall, CallResult>
     ensures { OpensAs (knows P.may known.now) dom request.entry result }
 {
     match Call::begin(dom, request, known) {
-        Start::Done(verdict) => Err(verdict),
-        Start::Open(first) => {
+        CallStart::Done(verdict) => Err(verdict),
+        CallStart::Open(first) => {
             let mut call = first;
-            match call.next(known, Seen::Nothing) {
-                Action::Step(step) => Ok(Open { call, step }),
+            match call.next(known, Observation::Nothing) {
+                Action::Step(step) => Ok(OpenCall { call, step }),
                 Action::Done(verdict) => Err(verdict),
             }
         }
@@ -57,29 +57,29 @@ fn open_call<P: Allows>(
 }
 
 // The answer with this value.
-fn answer_with(value: Value) -> Answer
+fn answer_with(value: CallValue) -> Answer
     ensures { result ≡ answer_with value }
 {
     match value {
-        Value::Frames(frames) => Answer::Frames(frames),
-        Value::Size(size) => Answer::Size(size),
-        Value::Version(version) => Answer::Version(version),
+        CallValue::Frames(frames) => Answer::Frames(frames),
+        CallValue::Size(size) => Answer::Size(size),
+        CallValue::Version(version) => Answer::Version(version),
     }
 }
 
 /// The answer of a call that ends so, if it gives no mapping and no bytes.
-pub fn answer_of(verdict: Verdict) -> Answer
+pub fn answer_of(verdict: CallResult) -> Answer
     ensures { result ≡ answer_of verdict }
 {
     match verdict {
-        Verdict::Granted | Verdict::Mapped(_) => Answer::Done,
-        Verdict::Given(value) => answer_with(value),
-        Verdict::Refused(denial) => Answer::Denied(denial),
+        CallResult::Granted | CallResult::Mapped(_) => Answer::Done,
+        CallResult::Given(value) => answer_with(value),
+        CallResult::Refused(denial) => Answer::Denied(denial),
     }
 }
 
 // What a tick answers for a step that saw this: with the call's answer, if the call is over.
-fn told(step: Step, seen: Seen, answer: Option<Answer>) -> Ticked
+fn ticked_as(step: Step, seen: Observation, answer: Option<Answer>) -> Ticked
     ensures { result ≡ ticked_with step seen answer }
 {
     match answer {
@@ -100,13 +100,13 @@ fn given_by<'a>(request: Request<'a>) -> &'a [u8]
 
 impl<P: Allows> Machine<P> {
     // What the domain at this place knows by itself, and what the policy allows.
-    fn known_at(&self, at: usize) -> Known<'_, P>
+    fn known_at(&self, at: usize) -> CallerState<'_, P>
         requires { at < length self.now.domains.items }
         ensures { (d : State) → slice_get self.now.domains.items at ≡ Some d →
             knows P.may result ≡ known_by P.may self.now d }
     {
         let domain = &self.domains[at];
-        Known {
+        CallerState {
             config: &self.config,
             rights: &self.rights,
             own: &domain.own,
@@ -115,7 +115,7 @@ impl<P: Allows> Machine<P> {
         }
     }
 
-    fn open_at(&self, at: usize, dom: DomId, request: Request<'_>) -> Result<Open, Verdict>
+    fn open_at(&self, at: usize, dom: DomId, request: Request<'_>) -> Result<OpenCall, CallResult>
         requires { at < length self.now.domains.items }
         ensures { (d : State) → slice_get self.now.domains.items at ≡ Some d →
             OpensAs (known_by P.may self.now d) dom request.entry result }
@@ -129,7 +129,7 @@ impl<P: Allows> Machine<P> {
     ///
     /// `Memory`, with the domains as they were.
     pub fn begin(&mut self, dom: DomId, request: Request<'_>) -> Result<Begun, Memory>
-        ensures stands { IfOk result (λ b. DoesAlone (setting_by P.may self.old) self.old.domains.items
+        ensures stands { IfOk result (λ b. DomainsDo (setting_by P.may self.old) self.old.domains.items
             (Begin dom request.entry) (begun_element dom request.entry b) self.new.domains.items) }
         ensures config { self.new.config ≡ self.old.config }
         ensures rights { self.new.rights ≡ self.old.rights }
@@ -157,7 +157,7 @@ impl<P: Allows> Machine<P> {
 
     // Makes the step of the domain's open call: writes the bytes that it writes, and changes words and mappings. It
     // gives what the step saw.
-    fn perform(&mut self, at: usize, dom: DomId, open: Open) -> Result<Seen, Memory>
+    fn perform(&mut self, at: usize, dom: DomId, open: OpenCall) -> Result<Observation, Memory>
         requires there { at < length self.old.domains.items }
         requires admitted { (d : State) → slice_get self.old.domains.items at ≡ Some d →
             IsAdmitted self.old.frames d open.call open.step }
@@ -179,7 +179,7 @@ impl<P: Allows> Machine<P> {
     }
 
     // The call after what its last step saw, and what it does next: by what its domain knew before that step too.
-    fn advance(&self, at: usize, last: Open, seen: Seen) -> (Call, Action)
+    fn advance(&self, at: usize, last: OpenCall, seen: Observation) -> (Call, Action)
         requires { at < length self.now.domains.items }
         ensures caller { result.0.caller ≡ last.call.caller }
         ensures request { result.0.request ≡ last.call.request }
@@ -192,7 +192,7 @@ impl<P: Allows> Machine<P> {
     }
 
     // The answer of a call that is Ok and gives no value: what its last step read, or nothing. The call is over.
-    fn close(&mut self, at: usize, last: Open) -> Answer
+    fn close(&mut self, at: usize, last: OpenCall) -> Answer
         requires there { at < length self.old.domains.items }
         requires under { (d : State) → slice_get self.old.domains.items at ≡ Some d → d.underway ≡ Some last }
         requires readable { IsReadable self.old.frames last.call last.step }
@@ -225,7 +225,7 @@ impl<P: Allows> Machine<P> {
     }
 
     // What the domain's call does by this action: its next step, or its answer, which ends it.
-    fn settle(&mut self, at: usize, last: Open, call: Call, action: Action) -> Option<Answer>
+    fn settle(&mut self, at: usize, last: OpenCall, call: Call, action: Action) -> Option<Answer>
         requires there { at < length self.old.domains.items }
         requires under { (d : State) → slice_get self.old.domains.items at ≡ Some d → d.underway ≡ Some last }
         requires readable { IsReadable self.old.frames last.call last.step }
@@ -239,12 +239,12 @@ impl<P: Allows> Machine<P> {
     {
         match action {
             Action::Step(step) => {
-                self.domains[at].go_on(Open { call, step });
+                self.domains[at].go_on(OpenCall { call, step });
                 None
             }
             Action::Done(verdict) => match verdict {
-                Verdict::Granted => Some(self.close(at, last)),
-                Verdict::Mapped(held) => Some(Answer::Mapped(self.domains[at].add_mapping(held))),
+                CallResult::Granted => Some(self.close(at, last)),
+                CallResult::Mapped(held) => Some(Answer::Mapped(self.domains[at].add_mapping(held))),
                 _ => {
                     self.domains[at].close();
                     Some(answer_of(verdict))
@@ -278,11 +278,11 @@ impl<P: Allows> Machine<P> {
         let seen = self.perform(at, dom, open)?;
         let (call, action) = self.advance(at, open, seen);
         let answer = self.settle(at, open, call, action);
-        Ok(told(open.step, seen, answer))
+        Ok(ticked_as(open.step, seen, answer))
     }
 
     /// What an entry of a domain shows: None past the table, or for no domain of the run.
-    pub fn show(&self, dom: DomId, gref: GrantRef) -> Option<Shown>
+    pub fn show(&self, dom: DomId, gref: GrantRef) -> Option<EntryView>
         ensures { (h : History) → DomainsStand (setting_by P.may self.now) h self.now.domains.items →
             result ≡ shown_at (setting_by P.may self.now) h dom gref.0 }
     {

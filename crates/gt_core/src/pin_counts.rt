@@ -2,7 +2,7 @@
 ghost use Rattle.std.specs.Prelude.{◌≡◌, ◌≤◌, ◌+◌, min};
 ghost use Rattle.gt_core.specs.Effects.{slot_after};
 
-use gt_calls::Half;
+use gt_calls::BodyWord;
 use gt_types::{Dir, MAX_PINS};
 use std::marker::Model;
 
@@ -34,7 +34,7 @@ impl Model for PinCounts {
 pub enum CountsChange {
     Pinned(Dir),
     Unpinned(Dir),
-    Stored(Half, u64),
+    Stored(BodyWord, u64),
 }
 
 impl PinCounts {
@@ -71,12 +71,12 @@ impl PinCounts {
     }
 
     /// One of the body words.
-    pub fn body(self, half: Half) -> u64
+    pub fn body(self, half: BodyWord) -> u64
         ensures { result ≡ slot_body (Some self) half }
     {
         match half {
-            Half::First => self.first,
-            Half::Second => self.second,
+            BodyWord::First => self.first,
+            BodyWord::Second => self.second,
         }
     }
 
@@ -90,8 +90,8 @@ impl PinCounts {
             CountsChange::Pinned(Dir::Write) => slot.writes = more(slot.writes),
             CountsChange::Unpinned(Dir::Read) => slot.reads = slot.reads.saturating_sub(1),
             CountsChange::Unpinned(Dir::Write) => slot.writes = slot.writes.saturating_sub(1),
-            CountsChange::Stored(Half::Second, word) => slot.second = word,
-            CountsChange::Stored(Half::First, word) => slot.first = word,
+            CountsChange::Stored(BodyWord::Second, word) => slot.second = word,
+            CountsChange::Stored(BodyWord::First, word) => slot.first = word,
         }
         slot
     }

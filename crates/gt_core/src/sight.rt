@@ -6,7 +6,7 @@ ghost use Rattle.gt_core.specs.States.{IsPlaced};
 
 use crate::pin_counts::PinCounts;
 use crate::state::{DomainState, find};
-use gt_calls::{Half, Own, Seen, Step, own_at};
+use gt_calls::{BodyWord, OwnerEntry, Observation, Step, own_at};
 use gt_entry::Control;
 use gt_positions::Roster;
 use gt_types::{DomId, GrantRef};
@@ -14,8 +14,8 @@ use gt_types::{DomId, GrantRef};
 fn slot_at(slots: &[PinCounts], gref: GrantRef) -> PinCounts
     ensures reads { result.reads ≡ reads_in slots.now gref.0 }
     ensures writes { result.writes ≡ writes_in slots.now gref.0 }
-    ensures first { result.first ≡ body_in slots.now gref.0 Half.First }
-    ensures second { result.second ≡ body_in slots.now gref.0 Half.Second }
+    ensures first { result.first ≡ body_in slots.now gref.0 BodyWord.First }
+    ensures second { result.second ≡ body_in slots.now gref.0 BodyWord.Second }
 {
     let at = gref.0 as usize;
     if at < slots.len() {
@@ -25,7 +25,7 @@ fn slot_at(slots: &[PinCounts], gref: GrantRef) -> PinCounts
     }
 }
 
-fn control_word(own: &[Own], slots: &[PinCounts], gref: GrantRef) -> u64
+fn control_word(own: &[OwnerEntry], slots: &[PinCounts], gref: GrantRef) -> u64
     ensures { result ≡ control_in own.now slots.now gref.0 }
 {
     let row = own_at(own, 0, gref);
@@ -33,7 +33,7 @@ fn control_word(own: &[Own], slots: &[PinCounts], gref: GrantRef) -> u64
     Control::of_entry(row.entry(), row.generation(), slot.reads(), slot.writes()).pack()
 }
 
-fn body_word(slots: &[PinCounts], gref: GrantRef, half: Half) -> u64
+fn body_word(slots: &[PinCounts], gref: GrantRef, half: BodyWord) -> u64
     ensures { result ≡ body_in slots.now gref.0 half }
 {
     let slot = slot_at(slots, gref);
@@ -71,7 +71,7 @@ fn look_body(
     domains: &[DomainState],
     dom: DomId,
     gref: GrantRef,
-    half: Half,
+    half: BodyWord,
 ) -> u64
     requires { IsPlaced config.now.domains.items domains.now }
     ensures { result ≡ body_seen domains.now dom.0 gref.0 half }
@@ -86,26 +86,26 @@ fn look_body(
 }
 
 /// What an exchange sees that looked for one word where there was this one.
-pub fn exchange_sees(word: u64, looked: u64) -> Seen
+pub fn exchange_sees(word: u64, looked: u64) -> Observation
     ensures { result ≡ exchange_sees word looked }
 {
     if word == looked {
-        Seen::Taken
+        Observation::Taken
     } else {
-        Seen::Missed(word)
+        Observation::Missed(word)
     }
 }
 
 /// What a step of the domain sees.
-pub fn see(config: &Roster, domains: &[DomainState], actor: DomId, step: Step) -> Seen
+pub fn see(config: &Roster, domains: &[DomainState], actor: DomId, step: Step) -> Observation
     requires { IsPlaced config.now.domains.items domains.now }
     ensures { result ≡ sees domains.now actor step }
 {
     match step {
-        Step::LookHeader { dom } => Seen::Word(look_header(config, domains, dom)),
-        Step::LookControl { dom, gref } => Seen::Word(look_control(config, domains, dom, gref)),
+        Step::LookHeader { dom } => Observation::Word(look_header(config, domains, dom)),
+        Step::LookControl { dom, gref } => Observation::Word(look_control(config, domains, dom, gref)),
         Step::LookBody { dom, gref, half } => {
-            Seen::Word(look_body(config, domains, dom, gref, half))
+            Observation::Word(look_body(config, domains, dom, gref, half))
         }
         Step::Pin { held } => exchange_sees(
             look_control(config, domains, held.dom, held.gref),
@@ -119,6 +119,6 @@ pub fn see(config: &Roster, domains: &[DomainState], actor: DomId, step: Step) -
         | Step::StoreHeader { .. }
         | Step::Read { .. }
         | Step::Write { .. }
-        | Step::Copy { .. } => Seen::Nothing,
+        | Step::Copy { .. } => Observation::Nothing,
     }
 }

@@ -3,12 +3,12 @@ ghost use Rattle.std.specs.Prelude.{◌≡◌, ◌==◌, ◌%◌, position};
 ghost use Rattle.gt_core.specs.Accesses.{ground_of};
 ghost use Rattle.gt_core.specs.States.{IsPlaced};
 
-use crate::core_state::Shown;
+use crate::core_state::EntryView;
 use crate::pin_counts::{CountsChange, PinCounts};
-use crate::underway::Open;
-use gt_calls::{Asked, Call, Change, ENTRIES, Held, Holder, Own, Route};
+use crate::underway::OpenCall;
+use gt_calls::{OpenRequest, Call, EntryChange, ENTRIES, HeldPin, PinHolder, OwnerEntry, AccessPath};
 use gt_entry::Header;
-use gt_frames::{Ground, Writ};
+use gt_frames::{WriteBasis, Writ};
 use gt_handles::{Handle, Handles};
 use gt_positions::Roster;
 use gt_types::{DomId, DomainConfig, GrantRef, LAST_GENERATION, Memory};
@@ -20,10 +20,10 @@ use std::marker::Model;
 pub struct DomainState {
     pub(crate) id: DomId,
     pub(crate) header: Header,
-    pub(crate) own: Vec<Own>,
+    pub(crate) own: Vec<OwnerEntry>,
     pub(crate) slots: Vec<PinCounts>,
-    pub(crate) mappings: Handles<Held>,
-    pub(crate) underway: Option<Open>,
+    pub(crate) mappings: Handles<HeldPin>,
+    pub(crate) underway: Option<OpenCall>,
     pub(crate) given: Vec<u8>,
     pub(crate) room: Option<Vec<u8>>,
 }
@@ -69,13 +69,13 @@ fn table_header(version: u32, frames: u32) -> Header
 }
 
 // The ground of a write by this route.
-fn ground_of(route: Route) -> Ground
+fn ground_of(route: AccessPath) -> WriteBasis
     ensures { result ≡ ground_of route }
 {
     match route {
-        Route::Own => Ground::Owned,
-        Route::Direct(held) => Ground::Granted(held.entry),
-        Route::Through { via, held } => Ground::Forwarded {
+        AccessPath::Own => WriteBasis::Owned,
+        AccessPath::Direct(held) => WriteBasis::Granted(held.entry),
+        AccessPath::Through { via, held } => WriteBasis::Forwarded {
             via: via.entry,
             middle: via.dom,
             entry: held.entry,
@@ -95,7 +95,7 @@ impl DomainState {
     pub fn new(alloc: Global, domain: DomainConfig, first_gen: u32) -> Result<DomainState, Memory>
         ensures { IfOk result (λ d. d ≡ first_state first_gen domain) }
     {
-        let own = vec![in alloc; Own::new(first_gen.min(LAST_GENERATION)); ENTRIES]?;
+        let own = vec![in alloc; OwnerEntry::new(first_gen.min(LAST_GENERATION)); ENTRIES]?;
         let slots = vec![in alloc; PinCounts::new(); ENTRIES]?;
         Ok(DomainState {
             id: domain.id,
@@ -110,7 +110,7 @@ impl DomainState {
     }
 
     /// The call under way.
-    pub fn underway(&self) -> Option<Open>
+    pub fn underway(&self) -> Option<OpenCall>
         ensures { result ≡ self.now.underway }
     {
         self.underway
@@ -118,7 +118,7 @@ impl DomainState {
 
     /// A call begins, with the bytes that are to be written. It copies them, and makes the room that its answer needs.
     /// For a map a serial is left.
-    pub fn begin(&mut self, alloc: Global, call: Open, bytes: &[u8]) -> Result<(), Memory>
+    pub fn begin(&mut self, alloc: Global, call: OpenCall, bytes: &[u8]) -> Result<(), Memory>
         requires { IsMapping (Some call.call.request) → self.old.mappings.given + 1 < 2 ^ 64 }
         ensures opened { OnOk result (self.new ≡ with_open_call call (kept_by call.call.request bytes.now) self.old) }
         ensures refused { OnErr result (self.new ≡ self.old) }
@@ -127,11 +127,11 @@ impl DomainState {
         let mut given = Vec::new(alloc);
         let mut room = None;
         match call.call.request {
-            Asked::Map { .. } => self.mappings.reserve()?,
-            Asked::Load { len, .. } | Asked::Peek { len, .. } => {
+            OpenRequest::Map { .. } => self.mappings.reserve()?,
+            OpenRequest::Load { len, .. } | OpenRequest::Peek { len, .. } => {
                 room = Some(vec![in alloc; 0u8; usize::from(len)]?);
             }
-            Asked::Store { .. } | Asked::Poke { .. } => given = Vec::from_slice(alloc, bytes)?,
+            OpenRequest::Store { .. } | OpenRequest::Poke { .. } => given = Vec::from_slice(alloc, bytes)?,
             _ => {}
         }
         self.given = given;
@@ -141,7 +141,7 @@ impl DomainState {
     }
 
     /// The call goes on.
-    pub fn go_on(&mut self, call: Open)
+    pub fn go_on(&mut self, call: OpenCall)
         requires { asked_in self.old.underway ≡ Some call.call.request }
         ensures { self.new ≡ with_underway (Some call) self.old }
     {
@@ -169,7 +169,7 @@ impl DomainState {
     }
 
     /// A map is over: its pin is kept as a new mapping, under the next serial. Its room was made when it began.
-    pub fn add_mapping(&mut self, held: Held) -> Handle
+    pub fn add_mapping(&mut self, held: HeldPin) -> Handle
         requires { IsMapping (asked_in self.old.underway) }
         ensures adds { Adds self.old.mappings self.new.mappings result held }
         ensures added { self.new ≡ with_mapping self.new.mappings self.old }
@@ -180,16 +180,16 @@ impl DomainState {
     }
 
     // The route by which its call writes.
-    fn route(&self, call: Call) -> Route
+    fn route(&self, call: Call) -> AccessPath
         ensures { result ≡ route_of self.now.mappings call }
     {
         match call.request {
-            Asked::Store { handle, .. } => match self.mappings.get(handle) {
-                Some(held) => Route::Direct(*held),
-                None => Route::Own,
+            OpenRequest::Store { handle, .. } => match self.mappings.get(handle) {
+                Some(held) => AccessPath::Direct(*held),
+                None => AccessPath::Own,
             },
-            Asked::Copy(_) => call.pins().dest,
-            _ => Route::Own,
+            OpenRequest::Copy(_) => call.pins().dest,
+            _ => AccessPath::Own,
         }
     }
 
@@ -204,12 +204,12 @@ impl DomainState {
     }
 
     /// What an entry shows.
-    pub fn shown(&self, gref: GrantRef) -> Option<Shown>
+    pub fn shown(&self, gref: GrantRef) -> Option<EntryView>
         ensures { result ≡ shown_in (slice_get self.now.own gref.0) (slice_get self.now.slots gref.0) }
     {
         let at = gref.0 as usize;
         match (self.own.get(at), self.slots.get(at)) {
-            (Some(own), Some(slot)) => Some(Shown {
+            (Some(own), Some(slot)) => Some(EntryView {
                 entry: own.entry(),
                 generation: own.generation(),
                 reads: slot.reads(),
@@ -230,7 +230,7 @@ impl DomainState {
     }
 
     /// Changes what the owner knows of an entry.
-    pub fn change_own(&mut self, gref: GrantRef, change: Change)
+    pub fn change_own(&mut self, gref: GrantRef, change: EntryChange)
         ensures { self.new ≡ with_own gref.0 change self.old }
     {
         let at = gref.0 as usize;
@@ -247,10 +247,10 @@ impl DomainState {
     }
 
     /// Gives up the mapping under this handle.
-    pub fn forget(&mut self, holder: Holder)
+    pub fn forget(&mut self, holder: PinHolder)
         ensures { self.new ≡ without_holder holder self.old }
     {
-        if let Holder::Mapping(handle) = holder {
+        if let PinHolder::Mapping(handle) = holder {
             let _ = self.mappings.take(handle);
         }
     }

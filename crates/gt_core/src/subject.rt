@@ -8,12 +8,12 @@ ghost use Rattle.gt_core.specs.Subject.{subject_at};
 
 use crate::kept::Machine;
 use crate::state::{DomainState, find};
-use gt_calls::{Handle, Held};
+use gt_calls::{Handle, HeldPin};
 use gt_types::{Allows, DomId, GrantRef};
 
 impl DomainState {
     // The mapping under this handle.
-    fn mapping(&self, handle: Handle) -> Option<&Held>
+    fn mapping(&self, handle: Handle) -> Option<&HeldPin>
         ensures { option_copied result ≡ value_of self.now.mappings handle }
     {
         self.mappings.get(handle)

@@ -3,7 +3,7 @@ use gt_calls::{Call, Step};
 
 /// A call under way, and its next step.
 #[derive(Clone, Copy)]
-pub struct Open {
+pub struct OpenCall {
     pub call: Call,
     pub step: Step,
 }

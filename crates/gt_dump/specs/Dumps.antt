@@ -3,7 +3,7 @@ use Rattle.std.specs.Prelude.{◌≡◌, ◌⊎◌, ◌<◌, ◌≤◌, ℕ, zer
 use Rattle.std.specs.Prelude.{List, [], ◌∷◌, ◌++◌, length, take, drop, filter, codes, decimal, Option, Some, None}
 use Rattle.std.specs.Prelude.{Result, Ok, Err, MatchBool}
 use Rattle.gt_dump.specs.Prelude.{is_ascii_whitespace, list_all, Appends, Keeps, decode_of, FromHexError, DomId, Field}
-use Rattle.gt_dump.specs.Prelude.{LONGEST_TEXT, Spells, first_refused, entry_size, Entry, AppendsBeginning, Asked}
+use Rattle.gt_dump.specs.Prelude.{LONGEST_TEXT, Spells, first_refused, entry_size, Entry, AppendsBeginning, DumpOptions}
 use Rattle.gt_dump.specs.Prelude.{DumpFault, Memory, Read, Write, Limit, Syntax}
 use Rattle.gt_dump.specs.Live.{cleared, live_text}
 use Rattle.gt_dump.specs.Showing.{decoded_text}
@@ -28,18 +28,18 @@ dump_line_text (Some dom) version ref bytes (Ok entry) =
 dump_line_text (Some dom) version ref bytes (Err field) = codes "# " ++ field_text ref bytes (Err field)
 
 -- the line says what the decoders answer for the bytes with the two live bits cleared
-abbrev pub IsEntryLine : Asked → ℕ → List ℕ → List ℕ → Type 0
+abbrev pub IsEntryLine : DumpOptions → ℕ → List ℕ → List ℕ → Type 0
 IsEntryLine asked ref bytes line =
     (answer : Result Entry Field) × Decodes asked.version (cleared bytes) answer
     × (line ≡ dump_line_text asked.script asked.version ref bytes answer)
 
 -- the entry has all its bytes, each of them zero, and such entries are not asked for
-abbrev pub is_left_out : Asked → List ℕ → Bool
+abbrev pub is_left_out : DumpOptions → List ℕ → Bool
 is_left_out asked bytes =
     (not asked.all && (length bytes == entry_size asked.version)) && list_all (λ byte. byte == 0) bytes
 
 -- the text of an entry: its line, or nothing if it is left out
-abbrev pub TellsEntry : Asked → ℕ → List ℕ → List ℕ → Type 0
+abbrev pub TellsEntry : DumpOptions → ℕ → List ℕ → List ℕ → Type 0
 TellsEntry asked ref bytes text = MatchBool (is_left_out asked bytes) (text ≡ []) (IsEntryLine asked ref bytes text)
 
 -- the bytes of the entry at this reference: fewer if the dump ends in it (grant_table.h)
@@ -51,14 +51,14 @@ abbrev pub entry_count : ℕ → List ℕ → ℕ
 entry_count version dump = (length dump + entry_size version - 1) / entry_size version
 
 -- the text of so many entries from the first on: that of one fewer, and then the next one's
-abbrev pub TellsEntries : Asked → List ℕ → ℕ → List ℕ → Type 0
+abbrev pub TellsEntries : DumpOptions → List ℕ → ℕ → List ℕ → Type 0
 TellsEntries asked dump zero text = text ≡ []
 TellsEntries asked dump (suc ref) text =
     (before line : List ℕ) × (text ≡ before ++ line) × TellsEntries asked dump ref before
     × TellsEntry asked ref (entry_bytes_at asked.version dump ref) line
 
 -- the text of a whole dump
-abbrev pub TellsDump : Asked → List ℕ → List ℕ → Type 0
+abbrev pub TellsDump : DumpOptions → List ℕ → List ℕ → Type 0
 TellsDump asked dump text = TellsEntries asked dump (entry_count asked.version dump) text
 
 -- the most bytes of a dump: 16 frames
@@ -67,7 +67,7 @@ most_bytes = 65536
 
 -- what was written for a dump: at Ok its text, whole; after a failed write a beginning of it; nothing
 -- if it is too long, or if memory is refused
-abbrev pub Dumped : Asked → List ℕ → Option (List ℕ) → Option (List ℕ) → Result (Unit {0}) DumpFault → Type 0
+abbrev pub Dumped : DumpOptions → List ℕ → Option (List ℕ) → Option (List ℕ) → Result (Unit {0}) DumpFault → Type 0
 Dumped asked dump old new (Ok done) =
     (text : List ℕ) × (length dump ≤ most_bytes) × TellsDump asked dump text × Appends old new text
 Dumped asked dump old new (Err Write) =
@@ -100,7 +100,7 @@ IsNoDump hex input Write = ⊥
 
 -- what was written for an input: what is written for the dump that it says, and nothing if it
 -- says none, or can't be read
-abbrev pub Told : Asked → List ℕ → Option (List ℕ) → Option (List ℕ) → Result (Unit {0}) DumpFault → Type 0
+abbrev pub Told : DumpOptions → List ℕ → Option (List ℕ) → Option (List ℕ) → Result (Unit {0}) DumpFault → Type 0
 Told asked input old new (Ok done) =
     (dump : List ℕ) × SaysDump asked.hex input dump × Dumped asked dump old new (Ok done)
 Told asked input old new (Err Write) =

@@ -1,5 +1,5 @@
 -- The names of other crates, and of the code, that the definitions here speak of.
-pub use Rattle.gt_dump.specs.declared.asked.Asked.{Asked}
+pub use Rattle.gt_dump.specs.declared.asked.DumpOptions.{DumpOptions}
 pub use Rattle.gt_dump.specs.declared.fault.DumpFault.{DumpFault}
 pub use Rattle.gt_dump.specs.declared.fault.DumpFault.TheVariants.{Limit, Memory, Read, Syntax, Write}
 pub use Rattle.gt_entry.specs.Bytes.{Spells, entry_size, first_refused}

@@ -3,7 +3,7 @@ use gt_types::DomId;
 
 /// What is asked of a dump.
 #[derive(Clone, Copy)]
-pub struct Asked {
+pub struct DumpOptions {
     /// The version of the table, 1 or 2. In any other each entry is refused by its length.
     pub version: u8,
     /// The dump is hexadecimal text.

@@ -4,10 +4,10 @@ ghost use Rattle.gt_streams.specs.Streams.{OfInput, ConsumesAtMost};
 ghost use Rattle.gt_streams.specs.declared.streams.TheConstants.{READ_LIMIT};
 ghost use Rattle.gt_dump.specs.Dumps.{Dumped, TellsDump, Told, entry_count, entry_bytes_at, most_bytes};
 
-use crate::asked::Asked;
+use crate::asked::DumpOptions;
 use crate::fault::DumpFault;
 use crate::input::bytes_of;
-use crate::lines::{entry_size, push_told};
+use crate::lines::{entry_size, push_entry_lines};
 use gt_streams::{finish, read_text};
 use std::alloc::{AllocError, Global};
 use std::io::{Read, Write};
@@ -40,14 +40,14 @@ fn count_of(version: u8, dump: &[u8]) -> usize
 }
 
 // Appends the text of a dump.
-fn push_dump(alloc: Global, out: &mut Vec<u8>, asked: Asked, dump: &[u8]) -> Result<(), AllocError>
+fn push_dump(alloc: Global, out: &mut Vec<u8>, asked: DumpOptions, dump: &[u8]) -> Result<(), AllocError>
     requires few { length dump.now ≤ most_bytes }
     requires empty { out.old.items ≡ [] }
     ensures { OnOk result (TellsDump asked dump.now out.new.items) }
 {
     let count = count_of(asked.version, dump);
     'entries: for gref in 0..count {
-        push_told(alloc, out, asked, gref, entry_at(asked.version, dump, gref))?;
+        push_entry_lines(alloc, out, asked, gref, entry_at(asked.version, dump, gref))?;
     }
     Ok(())
 }
@@ -56,7 +56,7 @@ fn push_dump(alloc: Global, out: &mut Vec<u8>, asked: Asked, dump: &[u8]) -> Res
 /// out; nothing if the dump is longer, or if memory is refused.
 pub fn write_dump<W: Write>(
     alloc: Global,
-    asked: Asked,
+    asked: DumpOptions,
     dump: &[u8],
     writer: &mut W,
 ) -> Result<(), DumpFault>
@@ -74,7 +74,7 @@ pub fn write_dump<W: Write>(
 // Writes the text of the dump that an input says.
 fn write_input<W: Write>(
     alloc: Global,
-    asked: Asked,
+    asked: DumpOptions,
     input: Vec<u8>,
     writer: &mut W,
 ) -> Result<(), DumpFault>
@@ -94,7 +94,7 @@ fn write_input<W: Write>(
 /// why its text was not written; only after a failed write a beginning of it went out.
 pub fn entries<R: Read, W: Write>(
     alloc: Global,
-    asked: Asked,
+    asked: DumpOptions,
     reader: &mut R,
     writer: &mut W,
 ) -> Result<(), DumpFault>

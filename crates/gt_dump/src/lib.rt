@@ -20,7 +20,7 @@ mod live;
 mod script;
 mod showing;
 
-pub use asked::Asked;
+pub use asked::DumpOptions;
 pub use dumping::{entries, write_dump};
 pub use fault::DumpFault;
 pub use input::bytes_of;

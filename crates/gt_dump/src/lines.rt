@@ -5,7 +5,7 @@ ghost use Rattle.gt_entry.specs.Bytes.{entry_size};
 ghost use Rattle.gt_dump.specs.Dumps.{Decodes, TellsEntry, is_left_out, dump_line_text, field_text};
 ghost use Rattle.gt_dump.specs.Live.{cleared};
 
-use crate::asked::Asked;
+use crate::asked::DumpOptions;
 use crate::live::{cleared, push_live};
 use crate::script::push_call;
 use crate::showing::push_answer;
@@ -41,7 +41,7 @@ fn push_shown(
 fn push_answered(
     alloc: Global,
     out: &mut Vec<u8>,
-    asked: Asked,
+    asked: DumpOptions,
     gref: usize,
     bytes: &[u8],
     plain: Vec<u8>,
@@ -76,7 +76,7 @@ fn is_zero(bytes: &[u8]) -> bool
     bytes.iter().all(|byte| *byte == 0)
 }
 
-fn is_left_out(asked: Asked, bytes: &[u8]) -> bool
+fn is_left_out(asked: DumpOptions, bytes: &[u8]) -> bool
     ensures { result ≡ is_left_out asked bytes.now }
 {
     !asked.all && bytes.len() == entry_size(asked.version) && is_zero(bytes)
@@ -84,10 +84,10 @@ fn is_left_out(asked: Asked, bytes: &[u8]) -> bool
 
 /// Appends the text of an entry: its line, or nothing if it is left out. After an Err a part of
 /// the line may be there.
-pub fn push_told(
+pub fn push_entry_lines(
     alloc: Global,
     out: &mut Vec<u8>,
-    asked: Asked,
+    asked: DumpOptions,
     gref: usize,
     bytes: &[u8],
 ) -> Result<(), AllocError>

@@ -2,9 +2,9 @@
 use Rattle.std.specs.Prelude.{◌≡◌, ℕ, ◌+◌, ◌*◌, ◌/◌, ◌%◌, ◌^◌, false}
 use Rattle.gt_entry.specs.declared.entry.Entry.{Entry}
 use Rattle.gt_entry.specs.declared.entry.Entry.TheVariants.{Invalid, Page, Sub, Via}
-use Rattle.gt_entry.specs.declared.control.Kind.{Kind}
-use Rattle.gt_entry.specs.declared.control.Kind.TheVariants.{Invalid as KindInvalid, Page as KindPage, Sub as KindSub}
-use Rattle.gt_entry.specs.declared.control.Kind.TheVariants.{Via as KindVia}
+use Rattle.gt_entry.specs.declared.control.EntryKind.{EntryKind}
+use Rattle.gt_entry.specs.declared.control.EntryKind.TheVariants.{Invalid as KindInvalid, Page as KindPage, Sub as KindSub}
+use Rattle.gt_entry.specs.declared.control.EntryKind.TheVariants.{Via as KindVia}
 use Rattle.gt_entry.specs.declared.control.Control.{Control}
 use Rattle.gt_entry.specs.Words.{flag}
 
@@ -70,7 +70,7 @@ IsSpelled (Sub dom ro frame off len) first second = (first ≡ frame) × (second
 IsSpelled (Via dom ro dom2 gref) first second = first ≡ dom2.0 + gref.0 * 65536
 
 -- the entry that a control of this kind and two body words spell
-abbrev pub entry_with : Kind → Control → ℕ → ℕ → Entry
+abbrev pub entry_with : EntryKind → Control → ℕ → ℕ → Entry
 entry_with KindInvalid c first second = Invalid
 entry_with KindPage c first second = Page c.dom c.ro first
 entry_with KindSub c first second = Sub c.dom c.ro first (second % 65536) (second / 65536 % 65536)

@@ -3,7 +3,7 @@ use crate::entry::Entry;
 
 /// One of the two body words of an entry.
 #[derive(Clone, Copy, Debug, PartialEq, Eq)]
-pub enum Half {
+pub enum BodyWord {
     /// The frame, or the grant that the entry leads to.
     First,
     /// The bytes of a sub-page.
@@ -12,7 +12,7 @@ pub enum Half {
 
 /// What an owner's exchange of a control word does to its entry.
 #[derive(Clone, Copy, Debug, PartialEq, Eq)]
-pub enum Change {
+pub enum EntryChange {
     /// It becomes this entry, at the next generation.
     Publish(Entry),
     /// It becomes invalid, from its word without pins, and the generation stays.
@@ -25,7 +25,7 @@ pub enum Change {
     Promote,
 }
 
-impl Change {
+impl EntryChange {
     ghost use Rattle.std.specs.Prelude.{◌≡◌};
     ghost use Rattle.gt_entry.specs.Changes.{changed_entry};
 
@@ -34,10 +34,10 @@ impl Change {
         ensures { result ≡ changed_entry self entry }
     {
         match self {
-            Change::Publish(new) => new,
-            Change::Revoke | Change::Withdraw => Entry::Invalid,
-            Change::Demote => entry.with_ro(true),
-            Change::Promote => entry.with_ro(false),
+            EntryChange::Publish(new) => new,
+            EntryChange::Revoke | EntryChange::Withdraw => Entry::Invalid,
+            EntryChange::Demote => entry.with_ro(true),
+            EntryChange::Promote => entry.with_ro(false),
         }
     }
 }

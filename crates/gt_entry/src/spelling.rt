@@ -8,7 +8,7 @@ ghost use Rattle.gt_entry.specs.Entries.{IsEntry};
 ghost use Rattle.gt_entry.specs.Spelling.{first_body, second_body, entry_of, IsSpelled, word_of, control_with};
 ghost use Rattle.gt_entry.specs.Laws.{SamePartsOf, PartsOf};
 
-use crate::{Control, Entry, Kind};
+use crate::{Control, Entry, EntryKind};
 use gt_types::{DomId, GrantRef};
 
 impl Entry {
@@ -40,20 +40,20 @@ impl Entry {
     {
         let (dom, ro) = (control.dom, control.ro);
         match control.kind {
-            Kind::Invalid => Entry::Invalid,
-            Kind::Page => Entry::Page {
+            EntryKind::Invalid => Entry::Invalid,
+            EntryKind::Page => Entry::Page {
                 dom,
                 ro,
                 frame: first,
             },
-            Kind::Sub => Entry::Sub {
+            EntryKind::Sub => Entry::Sub {
                 dom,
                 ro,
                 frame: first,
                 off: (second % 65_536) as u16,
                 len: (second / 65_536 % 65_536) as u16,
             },
-            Kind::Via => Entry::Via {
+            EntryKind::Via => Entry::Via {
                 dom,
                 ro,
                 dom2: DomId((first % 65_536) as u16),

@@ -7,7 +7,7 @@ use Rattle.std.proofs.lemmas.List.Elements.{All-take}
 use Rattle.std.proofs.lemmas.List.{map-append, take_all, take_more}
 use Rattle.std.proofs.lemmas.Option.{none-some, same_Some}
 use Rattle.std.specs.List.{insert}
-use Rattle.gt_ways.specs.declared.exploring.Order.{Order}
+use Rattle.gt_ways.specs.declared.exploring.FoundText.{FoundText}
 use Rattle.gt_explore.specs.Adding.{AddsOrder, AreDifferentTexts, IsAdded, IsTextAmong, IsApart, texts_of_orders}
 
 pub all_added : {X : Type 0} (P : X → Type 0) (old : List X) (x : X) (new : List X) → All P old → P x → IsAdded old x new → All P new
@@ -40,7 +40,7 @@ apart_inserted (u ∷ ts) (suc at) t apart new = (
   apart_inserted ts at t apart.1 (All-tail (λ other. other ≢ t) u ts new),
 )
 
-texts_inserted : (os : List Order) (at : ℕ) (o : Order) → texts_of_orders (insert os at o) ≡ insert (texts_of_orders os) at o.text.items
+texts_inserted : (os : List FoundText) (at : ℕ) (o : FoundText) → texts_of_orders (insert os at o) ≡ insert (texts_of_orders os) at o.text.items
 texts_inserted os zero o = refl
 texts_inserted [] (suc at) o = refl
 texts_inserted (p ∷ os) (suc at) o = ap (λ ts. p.text.items ∷ ts) (texts_inserted os at o)
@@ -48,7 +48,7 @@ texts_inserted (p ∷ os) (suc at) o = ap (λ ts. p.text.items ∷ ts) (texts_in
 -- orders
 
 -- it was added at a place
-pub adds_new : (old : List Order) (at : ℕ) (o : Order) (new : List Order) → new ≡ insert old at o → IsApart o.text.items (texts_of_orders old) → AddsOrder old o new
+pub adds_new : (old : List FoundText) (at : ℕ) (o : FoundText) (new : List FoundText) → new ≡ insert old at o → IsApart o.text.items (texts_of_orders old) → AddsOrder old o new
 adds_new old at o new is new_text =
     let texts : texts_of_orders new ≡ insert (texts_of_orders old) at o.text.items = ap texts_of_orders is ∙ texts_inserted old at o in record {
       added = inr (at, is);
@@ -57,7 +57,7 @@ adds_new old at o new is new_text =
     }
 
 -- its text was there
-pub adds_none : (old : List Order) (o : Order) (new : List Order) → new ≡ old → IsTextAmong o.text.items (texts_of_orders old) → AddsOrder old o new
+pub adds_none : (old : List FoundText) (o : FoundText) (new : List FoundText) → new ≡ old → IsTextAmong o.text.items (texts_of_orders old) → AddsOrder old o new
 adds_none old o new is there = record {
   added = inl is;
   there = subst (λ os. IsTextAmong o.text.items (texts_of_orders os)) (sym is) there;
@@ -65,7 +65,7 @@ adds_none old o new is there = record {
 }
 
 -- what was among the texts still is
-pub among_added : (old : List Order) (o : Order) (new : List Order) (t : List ℕ) → IsAdded old o new → IsTextAmong t (texts_of_orders old) → IsTextAmong t (texts_of_orders new)
+pub among_added : (old : List FoundText) (o : FoundText) (new : List FoundText) (t : List ℕ) → IsAdded old o new → IsTextAmong t (texts_of_orders old) → IsTextAmong t (texts_of_orders new)
 among_added old o new t (inl is) there = subst (λ os. IsTextAmong t (texts_of_orders os)) (sym is) there
 among_added old o new t (inr (at, is)) there =
     subst (IsTextAmong t) (sym (ap texts_of_orders is ∙ texts_inserted old at o)) (among_inserted (texts_of_orders old) at o.text.items t there)
@@ -73,38 +73,38 @@ among_added old o new t (inr (at, is)) there =
 -- searching
 
 -- an order at this place has the text
-pub among_here : (os : List Order) (at : ℕ) (o : Order) (text : List ℕ) → at < length os → o ≡ get_or os at o → o.text.items ≡ text → IsTextAmong text (texts_of_orders os)
+pub among_here : (os : List FoundText) (at : ℕ) (o : FoundText) (text : List ℕ) → at < length os → o ≡ get_or os at o → o.text.items ≡ text → IsTextAmong text (texts_of_orders os)
 among_here [] at o text lt is same = absurd (omega arith)
-among_here (p ∷ os) zero o text lt is same = (0, ap Some (ap (λ (q : Order). q.text.items) (sym is) ∙ same))
+among_here (p ∷ os) zero o text lt is same = (0, ap Some (ap (λ (q : FoundText). q.text.items) (sym is) ∙ same))
 among_here (p ∷ os) (suc at) o text lt is same = let there = among_here os at o text (omega arith) is same in (suc there.0, there.1)
 
 -- none of the orders so far has it, nor has the next one
-pub apart_more : (os : List Order) (n : ℕ) (o : Order) (text : List ℕ) → n < length os → o ≡ get_or os n o → (o.text.items ≡ text → ⊥) → IsApart text (texts_of_orders (take n os)) → IsApart text (texts_of_orders (take (n + 1) os))
+pub apart_more : (os : List FoundText) (n : ℕ) (o : FoundText) (text : List ℕ) → n < length os → o ≡ get_or os n o → (o.text.items ≡ text → ⊥) → IsApart text (texts_of_orders (take n os)) → IsApart text (texts_of_orders (take (n + 1) os))
 apart_more os n o text lt is other apart =
-    subst (λ (ps : List Order). IsApart text (texts_of_orders ps)) (ap (λ (q : Order). take n os ++ q ∷ []) is ∙ sym (take_more os n o lt))
-    (subst (IsApart text) (sym (map-append (λ (q : Order). q.text.items) (take n os) (o ∷ [])))
+    subst (λ (ps : List FoundText). IsApart text (texts_of_orders ps)) (ap (λ (q : FoundText). take n os ++ q ∷ []) is ∙ sym (take_more os n o lt))
+    (subst (IsApart text) (sym (map-append (λ (q : FoundText). q.text.items) (take n os) (o ∷ [])))
     (All-push (λ (t : List ℕ). t ≢ text) (texts_of_orders (take n os)) o.text.items apart other))
 
-pub apart_all : (os : List Order) (n : ℕ) (text : List ℕ) → length os ≤ n → IsApart text (texts_of_orders (take n os)) → IsApart text (texts_of_orders os)
-apart_all os n text le apart = subst (λ (ps : List Order). IsApart text (texts_of_orders ps)) (take_all n os le) apart
+pub apart_all : (os : List FoundText) (n : ℕ) (text : List ℕ) → length os ≤ n → IsApart text (texts_of_orders (take n os)) → IsApart text (texts_of_orders os)
+apart_all os n text le apart = subst (λ (ps : List FoundText). IsApart text (texts_of_orders ps)) (take_all n os le) apart
 
 -- orders one after the other
 
 -- what holds of texts holds with that of an order that was added
-pub texts_hold : (P : List ℕ → Type 0) (old : List Order) (o : Order) (new : List Order) → All P (texts_of_orders old) → P o.text.items → IsAdded old o new → All P (texts_of_orders new)
-texts_hold P old o new all holds (inl is) = subst (λ (ps : List Order). All P (texts_of_orders ps)) (sym is) all
+pub texts_hold : (P : List ℕ → Type 0) (old : List FoundText) (o : FoundText) (new : List FoundText) → All P (texts_of_orders old) → P o.text.items → IsAdded old o new → All P (texts_of_orders new)
+texts_hold P old o new all holds (inl is) = subst (λ (ps : List FoundText). All P (texts_of_orders ps)) (sym is) all
 texts_hold P old o new all holds (inr (at, is)) =
     subst (All P) (sym (ap texts_of_orders is ∙ texts_inserted old at o)) (all_added P (texts_of_orders old) o.text.items (insert (texts_of_orders old) at o.text.items) all holds (inr (at, refl)))
 
 -- the text of this order is there, or the order is still to come
-abbrev pub IsThere : Order → List Order → List Order → Type 0
+abbrev pub IsThere : FoundText → List FoundText → List FoundText → Type 0
 IsThere o texts rest = IsTextAmong o.text.items (texts_of_orders texts) ⊎ ((j : ℕ) × (slice_get rest j ≡ Some o))
 
-pub there_more : (old new : List Order) (p : Order) (rest : List Order) (o : Order) → AddsOrder old p new → IsThere o old (p ∷ rest) → IsThere o new rest
+pub there_more : (old new : List FoundText) (p : FoundText) (rest : List FoundText) (o : FoundText) → AddsOrder old p new → IsThere o old (p ∷ rest) → IsThere o new rest
 there_more old new p rest o adds (inl there) = inl (among_added old p new o.text.items adds.added there)
-there_more old new p rest o adds (inr (zero, is)) = inl (subst (λ (q : Order). IsTextAmong q.text.items (texts_of_orders new)) (same_Some p o is) adds.there)
+there_more old new p rest o adds (inr (zero, is)) = inl (subst (λ (q : FoundText). IsTextAmong q.text.items (texts_of_orders new)) (same_Some p o is) adds.there)
 there_more old new p rest o adds (inr (suc j, is)) = inr (j, is)
 
-pub there_all : (texts : List Order) (o : Order) → IsThere o texts [] → IsTextAmong o.text.items (texts_of_orders texts)
+pub there_all : (texts : List FoundText) (o : FoundText) → IsThere o texts [] → IsTextAmong o.text.items (texts_of_orders texts)
 there_all texts o (inl there) = there
 there_all texts o (inr (j, is)) = absurd (none-some o is)

@@ -14,7 +14,7 @@ use lib.Pointwise.{pointwise}
 use Rattle.gt_host.specs.Playing.{Played}
 use Rattle.gt_script.specs.Script.{TellsScript}
 use Rattle.gt_types.specs.declared.config.DomainConfig.{DomainConfig}
-use Rattle.gt_ways.specs.declared.exploring.Order.{Order}
+use Rattle.gt_ways.specs.declared.exploring.FoundText.{FoundText}
 use Rattle.gt_explore.specs.Adding.{texts_of_orders}
 use Rattle.gt_explore.specs.Witness.{GivesAnswers, IsWitness, SameAnswers, without_number}
 
@@ -58,10 +58,10 @@ gives domains script text out told played is same = record {
 }
 
 -- the script gives the text of the order at this place
-pub is_witness : (domains : List DomainConfig) (orders : List Order) (number at : ℕ) (o : Order) (script : List ℕ) → number ≡ at + 1 → slice_get orders at ≡ Some o
+pub is_witness : (domains : List DomainConfig) (orders : List FoundText) (number at : ℕ) (o : FoundText) (script : List ℕ) → number ≡ at + 1 → slice_get orders at ≡ Some o
     → GivesAnswers domains script o.text.items → IsWitness domains (texts_of_orders orders) number script
 is_witness domains orders number at o script is there answers = record {
   text = o.text.items;
-  numbered = (at, is, slice_get-map (λ (p : Order). p.text.items) orders at ∙ ap (option_map (λ (p : Order). p.text.items)) there);
+  numbered = (at, is, slice_get-map (λ (p : FoundText). p.text.items) orders at ∙ ap (option_map (λ (p : FoundText). p.text.items)) there);
   gives = answers;
 }

@@ -1,14 +1,14 @@
 -- A list of orders whose texts all differ, with one more in it.
 use Rattle.std.specs.Prelude.{◌≡◌, ◌≢◌, ◌⊎◌, ℕ, List, [], ◌∷◌, All, map, Some, slice_get}
 use Rattle.std.specs.List.{insert}
-use Rattle.gt_ways.specs.declared.exploring.Order.{Order}
+use Rattle.gt_ways.specs.declared.exploring.FoundText.{FoundText}
 
 -- x was added somewhere, or not at all
 abbrev pub IsAdded : {X : Type 0} → List X → X → List X → Type 0
 IsAdded old x new = (new ≡ old) ⊎ ((at : ℕ) × (new ≡ insert old at x))
 
 -- the texts of these orders
-abbrev pub texts_of_orders : List Order → List (List ℕ)
+abbrev pub texts_of_orders : List FoundText → List (List ℕ)
 texts_of_orders orders = map (λ o. o.text.items) orders
 
 -- the text is one of these
@@ -25,7 +25,7 @@ AreDifferentTexts [] = Unit {0}
 AreDifferentTexts (text ∷ texts) = IsApart text texts × AreDifferentTexts texts
 
 -- an order was added, if its text was not there
-pub record AddsOrder (old : List Order) (order : Order) (new : List Order) : Type 0 where
+pub record AddsOrder (old : List FoundText) (order : FoundText) (new : List FoundText) : Type 0 where
   pub added : IsAdded old order new
   pub there : IsTextAmong order.text.items (texts_of_orders new)
   pub apart : AreDifferentTexts (texts_of_orders old) → AreDifferentTexts (texts_of_orders new)

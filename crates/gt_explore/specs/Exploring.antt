@@ -12,12 +12,12 @@ use Rattle.gt_replay.specs.Orders.{MayGive}
 use Rattle.gt_explore.specs.Adding.{AreDifferentTexts, IsTextAmong}
 use Rattle.gt_explore.specs.Telling.{is_wanted, texts_told}
 use Rattle.gt_explore.specs.Witness.{IsWitness}
-use Rattle.gt_explore.specs.declared.exploring.Asked.{Asked}
+use Rattle.gt_explore.specs.declared.exploring.ExploreOptions.{ExploreOptions}
 use Rattle.gt_explore.specs.declared.fault.ExploreFault.{ExploreFault}
 use Rattle.gt_explore.specs.declared.fault.ExploreFault.TheVariants.{Play, Texts}
 
 -- the word that is asked for
-abbrev pub word_asked : Asked → Option (List ℕ)
+abbrev pub word_asked : ExploreOptions → Option (List ℕ)
 word_asked asked = option_map (λ word. word.now) asked.find
 
 -- these are the texts that a script may give: each of them, all of them, and each once
@@ -35,11 +35,11 @@ IsMadeBy c None find text is_any =
 IsMadeBy c (Some number) find text is_any =
     (texts : List (List ℕ)) × AreTextsOf c texts × IsWitness c.head.domains texts number text × (is_any ≡ true)
 
-abbrev pub IsMade : RunContents → Asked → List ℕ → Bool → Type 0
+abbrev pub IsMade : RunContents → ExploreOptions → List ℕ → Bool → Type 0
 IsMade c asked text is_any = IsMadeBy c asked.witness (word_asked asked) text is_any
 
 -- what was written of a script
-abbrev pub Explores : RunContents → Asked → Option (List ℕ) → Option (List ℕ) → Result Bool ExploreFault → Type 0
+abbrev pub Explores : RunContents → ExploreOptions → Option (List ℕ) → Option (List ℕ) → Result Bool ExploreFault → Type 0
 Explores c asked old new (Ok is_any) = (text : List ℕ) × IsMade c asked text is_any × Appends old new text
 Explores c asked old new (Err (Texts fault)) = Keeps old new
 Explores c asked old new (Err (Play Write)) =
@@ -51,7 +51,7 @@ Explores c asked old new (Err (Play (Policy fault))) = ⊥
 
 -- what was written for bytes of which this is told: at Ok a whole text of the script, after a failed write a beginning
 -- of one, and else nothing; a fault of the script is its first
-abbrev pub Explored : Asked → (Result RunContents Wrong → Type 0) → Option (List ℕ) → Option (List ℕ)
+abbrev pub Explored : ExploreOptions → (Result RunContents Wrong → Type 0) → Option (List ℕ) → Option (List ℕ)
     → Result Bool ExploreFault → Type 0
 Explored asked Told old new (Ok is_any) = (c : RunContents) × Told (Ok c) × Explores c asked old new (Ok is_any)
 Explored asked Told old new (Err (Texts fault)) = Keeps old new

@@ -14,20 +14,20 @@ ghost use Rattle.gt_explore.specs.Witness.{GivesAnswers, IsWitness};
 
 use crate::checked::gives_answers;
 use crate::fault::{ExploreFault, TextsFault};
-use crate::telling::{is_any_wanted, push_told};
-use crate::texts::{Texts, texts_of};
+use crate::telling::{is_any_wanted, push_found_texts};
+use crate::texts::{FoundTexts, texts_of};
 use crate::witness::push_witness;
 use gt_host::PlayFault;
 use gt_script::{RunScript, parse_run};
 use gt_streams::{read_text, text_of, write_text};
-use gt_ways::Order;
+use gt_ways::FoundText;
 use std::alloc::Global;
 use std::io::{Read, Write};
 
 /// What is asked: only texts that have a line with this word; a script for the text of this number in place of the
 /// texts; at most so many states.
 #[derive(Clone, Copy)]
-pub struct Asked<'w> {
+pub struct ExploreOptions<'w> {
     pub find: Option<&'w str>,
     pub witness: Option<usize>,
     pub states: usize,
@@ -35,22 +35,22 @@ pub struct Asked<'w> {
 
 // What is to be written, and whether a text is asked for.
 #[derive(Drop)]
-struct Made {
+struct ExploreOutput {
     text: Vec<u8>,
     is_any: bool,
 }
 
 // The texts that are asked for.
-fn texts_made(alloc: Global, asked: &Asked, all: &Texts) -> Result<Made, TextsFault>
+fn texts_made(alloc: Global, asked: &ExploreOptions, all: &FoundTexts) -> Result<ExploreOutput, TextsFault>
     ensures text { IfOk result (λ made. made.text.items
         ≡ told_of (word_asked asked.now) all.now.states (texts_of_orders all.now.texts.items)) }
     ensures any { IfOk result (λ made. made.is_any
         ≡ list_any (λ o. is_wanted (word_asked asked.now) o.text.items) all.now.texts.items) }
 {
     let mut text = Vec::new(alloc);
-    push_told(&mut text, asked.find, all.states, all.texts.as_slice())?;
+    push_found_texts(&mut text, asked.find, all.states, all.texts.as_slice())?;
     let is_any = is_any_wanted(all.texts.as_slice(), asked.find);
-    Ok(Made { text, is_any })
+    Ok(ExploreOutput { text, is_any })
 }
 
 // The lines of a script for `play` that gives the text of an order: it was played, and gave it.
@@ -58,7 +58,7 @@ fn script_of(
     alloc: Global,
     source: &[u8],
     script: &RunScript,
-    order: &Order,
+    order: &FoundText,
 ) -> Result<Vec<u8>, TextsFault>
     requires { CanConfigure (contents_told script.now.head) }
     ensures { IfOk result (λ text. GivesAnswers script.now.head.domains text.items order.now.text.items) }
@@ -80,9 +80,9 @@ fn witness_made(
     alloc: Global,
     source: &[u8],
     script: &RunScript,
-    all: &Texts,
+    all: &FoundTexts,
     number: usize,
-) -> Result<Made, TextsFault>
+) -> Result<ExploreOutput, TextsFault>
     requires { CanConfigure (contents_told script.now.head) }
     ensures text { IfOk result (λ made.
         IsWitness script.now.head.domains (texts_of_orders all.now.texts.items) number made.text.items) }
@@ -96,11 +96,11 @@ fn witness_made(
     };
     let text = script_of(alloc, source, script, order)?;
     let is_any = true;
-    Ok(Made { text, is_any })
+    Ok(ExploreOutput { text, is_any })
 }
 
 // What is to be written of a script.
-fn make(alloc: Global, asked: &Asked, source: &[u8], script: &RunScript) -> Result<Made, TextsFault>
+fn make(alloc: Global, asked: &ExploreOptions, source: &[u8], script: &RunScript) -> Result<ExploreOutput, TextsFault>
     requires fits { CanConfigure (contents_told script.now.head) }
     requires numbered { AreNumbered script.now.flags script.now.tasks }
     ensures { IfOk result (λ made. IsMade (run_told script.now) asked.now made.text.items made.is_any) }
@@ -115,7 +115,7 @@ fn make(alloc: Global, asked: &Asked, source: &[u8], script: &RunScript) -> Resu
 // Explores a script that was read.
 fn explore_script<W: Write>(
     alloc: Global,
-    asked: &Asked,
+    asked: &ExploreOptions,
     source: &[u8],
     script: &RunScript,
     writer: &mut W,
@@ -136,7 +136,7 @@ fn explore_script<W: Write>(
 // Explores the script that bytes say, of which those up to the limit were read.
 fn explore_bytes<W: Write>(
     alloc: Global,
-    asked: &Asked,
+    asked: &ExploreOptions,
     input: &[u8],
     writer: &mut W,
 ) -> Result<bool, ExploreFault>
@@ -159,7 +159,7 @@ fn explore_bytes<W: Write>(
 /// Only after a failed write a beginning of the text was written.
 pub fn explore<R: Read, W: Write>(
     alloc: Global,
-    asked: &Asked,
+    asked: &ExploreOptions,
     reader: &mut R,
     writer: &mut W,
 ) -> Result<bool, ExploreFault>

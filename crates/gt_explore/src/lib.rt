@@ -15,7 +15,7 @@ mod telling;
 mod texts;
 mod witness;
 
-pub use exploring::{Asked, explore};
+pub use exploring::{ExploreOptions, explore};
 pub use fault::{ExploreFault, TextsFault};
-pub use texts::{Texts, texts_of};
+pub use texts::{FoundTexts, texts_of};
 pub use witness::push_witness;

@@ -6,10 +6,10 @@ ghost use Rattle.gt_explore.specs.Telling.{has_word, heading, is_between, is_wan
 ghost use Rattle.gt_explore.specs.Telling.{texts_told};
 ghost use Rattle.gt_explore.specs.Adding.{texts_of_orders};
 
-use gt_lines::is;
+use gt_lines::is_word;
 use gt_streams::push_text;
 use gt_texts::push_number;
-use gt_ways::Order;
+use gt_ways::FoundText;
 use std::alloc::AllocError;
 
 fn is_between(byte: u8) -> bool
@@ -22,7 +22,7 @@ fn is_between(byte: u8) -> bool
 fn has_word(text: &[u8], word: &str) -> bool
     ensures { result ≡ has_word word.now text.now }
 {
-    text.split(|b| is_between(*b)).any(|part| is(part, word))
+    text.split(|b| is_between(*b)).any(|part| is_word(part, word))
 }
 
 // Whether a text is asked for.
@@ -74,7 +74,7 @@ fn push_states(out: &mut Vec<u8>, states: usize) -> Result<(), AllocError>
 }
 
 /// Whether one of these texts is asked for.
-pub fn is_any_wanted(texts: &[Order], find: Option<&str>) -> bool
+pub fn is_any_wanted(texts: &[FoundText], find: Option<&str>) -> bool
     ensures { result ≡ list_any (λ o. is_wanted (option_map (λ word. word.now) find.entry) o.text.items) texts.now }
 {
     texts
@@ -83,11 +83,11 @@ pub fn is_any_wanted(texts: &[Order], find: Option<&str>) -> bool
 }
 
 /// Appends all that is written of these texts.
-pub fn push_told(
+pub fn push_found_texts(
     out: &mut Vec<u8>,
     find: Option<&str>,
     states: usize,
-    texts: &[Order],
+    texts: &[FoundText],
 ) -> Result<(), AllocError>
     ensures { OnOk result (out.new.items ≡ out.old.items
         ++ texts_told (option_map (λ word. word.now) find.entry) states (texts_of_orders texts.now)) }

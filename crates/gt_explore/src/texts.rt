@@ -6,26 +6,26 @@ ghost use Rattle.gt_script.specs.RunContents.{run_told};
 ghost use Rattle.gt_script.specs.RunScripts.{CanConfigure};
 ghost use Rattle.gt_script.specs.Stuck.{AreNumbered};
 ghost use Rattle.gt_replay.specs.Orders.{MayGive};
-ghost use Rattle.gt_ways.specs.declared.exploring.Order.{Order};
+ghost use Rattle.gt_ways.specs.declared.exploring.FoundText.{FoundText};
 ghost use Rattle.gt_explore.specs.Adding.{AddsOrder, AreDifferentTexts, IsTextAmong, IsApart, texts_of_orders};
 
 use crate::fault::TextsFault;
 use gt_replay::text_of;
 use gt_script::RunScript;
 use gt_search::search;
-use gt_ways::Order;
+use gt_ways::FoundText;
 use std::alloc::{AllocError, Global};
 
 /// Texts that a script may give, each with turns that lead to it, in the order of their bytes; and how many states the
 /// search met.
 #[derive(Drop)]
-pub struct Texts {
-    pub texts: Vec<Order>,
+pub struct FoundTexts {
+    pub texts: Vec<FoundText>,
     pub states: usize,
 }
 
 // Whether the order has this text.
-fn is_text(order: &Order, text: &[u8]) -> bool
+fn is_text(order: &FoundText, text: &[u8]) -> bool
     ensures same { IsTrue result → order.now.text.items ≡ text.now }
     ensures other { (result ≡ false) → order.now.text.items ≢ text.now }
 {
@@ -33,7 +33,7 @@ fn is_text(order: &Order, text: &[u8]) -> bool
 }
 
 // The place of a text among these, in the order of their bytes; none if it is there.
-fn place_of(texts: &[Order], text: &[u8]) -> Option<usize>
+fn place_of(texts: &[FoundText], text: &[u8]) -> Option<usize>
     ensures place { IfSome result (λ at. at ≤ length texts.now) }
     ensures apart { IfSome result (λ at. IsApart text.now (texts_of_orders texts.now)) }
     ensures there { IfNone result (IsTextAmong text.now (texts_of_orders texts.now)) }
@@ -51,7 +51,7 @@ fn place_of(texts: &[Order], text: &[u8]) -> Option<usize>
 }
 
 // Adds an order at the place of its text, if that is not there.
-fn add(texts: &mut Vec<Order>, order: Order) -> Result<(), AllocError>
+fn add(texts: &mut Vec<FoundText>, order: FoundText) -> Result<(), AllocError>
     ensures { OnOk result (AddsOrder texts.old.items order texts.new.items) }
 {
     match place_of(texts.as_slice(), order.text.as_slice()) {
@@ -64,7 +64,7 @@ fn add(texts: &mut Vec<Order>, order: Order) -> Result<(), AllocError>
 }
 
 // The order, if the core follows it to its text.
-fn replayed(alloc: Global, script: &RunScript, order: Order) -> Result<Order, TextsFault>
+fn replayed(alloc: Global, script: &RunScript, order: FoundText) -> Result<FoundText, TextsFault>
     requires { CanConfigure (contents_told script.now.head) }
     ensures same { IfOk result (λ o. o ≡ order) }
     ensures possible { IfOk result (λ o. MayGive (run_told script.now) o.text.items) }
@@ -79,10 +79,10 @@ fn replayed(alloc: Global, script: &RunScript, order: Order) -> Result<Order, Te
 }
 
 // One order for each text that some of these orders have, in the order of their bytes.
-fn distinct(alloc: Global, script: &RunScript, orders: Vec<Order>) -> Result<Vec<Order>, TextsFault>
+fn distinct(alloc: Global, script: &RunScript, orders: Vec<FoundText>) -> Result<Vec<FoundText>, TextsFault>
     requires { CanConfigure (contents_told script.now.head) }
     ensures possible { IfOk result (λ texts. All (MayGive (run_told script.now)) (texts_of_orders texts.items)) }
-    ensures whole { (at : ℕ) (o : Order) → slice_get orders.items at ≡ Some o →
+    ensures whole { (at : ℕ) (o : FoundText) → slice_get orders.items at ≡ Some o →
         IfOk result (λ texts. IsTextAmong o.text.items (texts_of_orders texts.items)) }
     ensures apart { IfOk result (λ texts. AreDifferentTexts (texts_of_orders texts.items)) }
 {
@@ -99,7 +99,7 @@ fn distinct(alloc: Global, script: &RunScript, orders: Vec<Order>) -> Result<Vec
 /// # Errors
 /// `States` past the limit, `Keeps` if a domain can't give back what it has at its end, `Astray` if the search found an
 /// order that the core does not follow to its text, and `Memory`.
-pub fn texts_of(alloc: Global, script: &RunScript, limit: usize) -> Result<Texts, TextsFault>
+pub fn texts_of(alloc: Global, script: &RunScript, limit: usize) -> Result<FoundTexts, TextsFault>
     requires { CanConfigure (contents_told script.now.head) }
     ensures possible { IfOk result (λ all. All (MayGive (run_told script.now)) (texts_of_orders all.texts.items)) }
     ensures whole { (text : List ℕ) → AreNumbered script.now.flags script.now.tasks →
@@ -109,5 +109,5 @@ pub fn texts_of(alloc: Global, script: &RunScript, limit: usize) -> Result<Texts
     let found = search(alloc, script, limit)?;
     let states = found.states;
     let texts = distinct(alloc, script, found.orders)?;
-    Ok(Texts { texts, states })
+    Ok(FoundTexts { texts, states })
 }

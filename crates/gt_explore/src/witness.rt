@@ -5,14 +5,14 @@ ghost use Rattle.gt_script.specs.RunScripts.{CanConfigure};
 use crate::fault::TextsFault;
 use gt_lines::{line_words, text_lines};
 use gt_replay::{Replay, Turn, Walker};
-use gt_script::{Deed, RunScript, Task};
+use gt_script::{RunAction, RunScript, RunTask};
 use gt_streams::push_text;
 use gt_texts::push_number;
 use gt_types::DomId;
 use std::alloc::{AllocError, Global};
 
 // The number of the first line of the body.
-fn body_of(tasks: &[Task]) -> usize {
+fn body_of(tasks: &[RunTask]) -> usize {
     match tasks.first() {
         Some(task) => task.line,
         None => usize::MAX,
@@ -69,8 +69,8 @@ fn push_move(
         return Err(TextsFault::Ends);
     };
     match &task.deed {
-        Deed::Do(_) => Ok(push_begin(alloc, out, lines, task.line)?),
-        Deed::Tell(_) | Deed::Await(_) => Ok(()),
+        RunAction::Do(_) => Ok(push_begin(alloc, out, lines, task.line)?),
+        RunAction::Tell(_) | RunAction::Await(_) => Ok(()),
     }
 }
 

@@ -7,8 +7,8 @@ use Rattle.gt_types.specs.declared.Dir.TheVariants.{Write}
 use Rattle.gt_types.specs.declared.Use.TheVariants.{Copy as ForCopy}
 use Rattle.gt_entry.specs.declared.entry.Entry.{Entry}
 use Rattle.gt_entry.specs.Permits.{permits, forwards, leads_to, is_of_frame}
-use Rattle.gt_frames.specs.declared.writ.Ground.{Ground}
-use Rattle.gt_frames.specs.declared.writ.Ground.TheVariants.{Owned, Granted, Forwarded}
+use Rattle.gt_frames.specs.declared.writ.WriteBasis.{WriteBasis}
+use Rattle.gt_frames.specs.declared.writ.WriteBasis.TheVariants.{Owned, Granted, Forwarded}
 use Rattle.gt_frames.specs.declared.writ.Writ.{Writ}
 use Rattle.gt_frames.specs.declared.writ.WriteRecord.{WriteRecord}
 use Rattle.gt_frames.specs.Bytes.{overlay, IsLaidOver, Patch, written}
@@ -44,7 +44,7 @@ abbrev pub permits_writing : Entry → DomId → ℕ → ℕ → ℕ → Bool
 permits_writing entry d number off len = is_of_frame entry number && permits entry d Write ForCopy off len
 
 -- the writer may write this range of this frame of the owner's by this basis
-abbrev pub suffices : Ground → DomId → DomId → ℕ → ℕ → ℕ → Bool
+abbrev pub suffices : WriteBasis → DomId → DomId → ℕ → ℕ → ℕ → Bool
 suffices Owned writer owner number off len = writer.0 == owner.0
 suffices (Granted entry) writer owner number off len = permits_writing entry writer number off len
 suffices (Forwarded via middle entry) writer owner number off len =

@@ -5,23 +5,23 @@ use Rattle.gt_frames.specs.Frames.{FrameState}
 use Rattle.gt_frames.specs.Sets.{name_of}
 
 -- a frame as it was when it was locked, and as it was when it was freed, or is while it is locked
-pub record Visit : Type 0 where
+pub record FrameAccess : Type 0 where
   pub before : FrameState
   pub after : FrameState
 
 -- the frame of this name was locked
-abbrev pub IsVisitOf : FrameName → Visit → Type 0
+abbrev pub IsVisitOf : FrameName → FrameAccess → Type 0
 IsVisitOf name v = name_of v.before ≡ name
 
 -- the frame of this name was locked, and left as it was
-abbrev pub LeavesIt : FrameName → Visit → Type 0
+abbrev pub LeavesIt : FrameName → FrameAccess → Type 0
 LeavesIt name v = IsVisitOf name v × (v.after ≡ v.before)
 
 -- the frame was just locked
-abbrev pub IsFresh : Visit → Type 0
+abbrev pub IsFresh : FrameAccess → Type 0
 IsFresh v = v.before ≡ v.after
 
 -- the list of this visit, if there is one
-abbrev pub visit_in : Option Visit → List Visit
+abbrev pub visit_in : Option FrameAccess → List FrameAccess
 visit_in None = []
 visit_in (Some v) = v ∷ []

@@ -8,7 +8,7 @@ use std::marker::Model;
 
 // By what a range was written, and which.
 #[derive(Clone, Copy)]
-struct Placed {
+struct WrittenRange {
     writ: Writ,
     off: u16,
     len: usize,
@@ -18,7 +18,7 @@ struct Placed {
 #[derive(Drop)]
 pub(crate) struct Journal {
     // Of each write its range, and the bytes of the frame after it.
-    history: History<Placed, Vec<u8>>,
+    history: History<WrittenRange, Vec<u8>>,
 }
 
 impl Model for Journal {
@@ -51,7 +51,7 @@ impl Journal {
     pub(crate) fn add(&mut self, writ: &Writ, off: u16, len: usize, contents: &Vec<u8>)
         ensures { self.new ≡ recorded self.old writ.now off (slice_range contents.now.items off (off + len)) }
     {
-        let placed = Placed {
+        let placed = WrittenRange {
             writ: *writ,
             off,
             len,

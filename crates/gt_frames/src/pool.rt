@@ -11,7 +11,7 @@ ghost use Rattle.gt_frames.specs.Visits.{IsFresh};
 
 use crate::frames::frames_of_zeros;
 use crate::places::{find, frame_counts};
-use crate::{Copied, Frame, FrameCount, FrameName, Lent, Visits, Writ};
+use crate::{Copied, Frame, FrameCount, FrameName, LockedFrame, FrameAccesses, Writ};
 use crossbeam_utils::CachePadded;
 use gt_types::{Config, FRAME_SIZE, Memory, Range};
 use std::alloc::Global;
@@ -41,10 +41,10 @@ impl Model for Pool {
 }
 
 /// The locked frames at the two ends of a copy. They can't be dropped: `free` frees them.
-pub struct Ends<'p> {
-    dest: Lent<'p>,
+pub struct LockedPair<'p> {
+    dest: LockedFrame<'p>,
     // None if both ends are one frame.
-    source: Option<Lent<'p>>,
+    source: Option<LockedFrame<'p>>,
 }
 
 // The order in which one access locks its frames: each place is above the ones before it.
@@ -65,13 +65,13 @@ fn under_locks<T: Drop>(alloc: Global, values: Vec<T>) -> Result<Vec<CachePadded
 }
 
 // Visits for so many domains.
-fn no_visits(alloc: Global, count: usize) -> Result<Vec<Visits>, Memory>
+fn no_visits(alloc: Global, count: usize) -> Result<Vec<FrameAccesses>, Memory>
     ensures count { IfOk result (λ v. length v.items ≡ count) }
     ensures none { IfOk result (λ v. All (λ visits. visits ≡ []) v.items) }
 {
     let mut all = Vec::new(alloc);
     'domains: for _domain in 0..count {
-        all.push(Visits::new())?;
+        all.push(FrameAccesses::new())?;
     }
     Ok(all)
 }
@@ -99,7 +99,7 @@ impl Pool {
     /// # Errors
     ///
     /// `Memory`.
-    pub fn new(alloc: Global, config: &Config) -> Result<(Pool, Vec<Visits>), Memory>
+    pub fn new(alloc: Global, config: &Config) -> Result<(Pool, Vec<FrameAccesses>), Memory>
         ensures pool { IfOk result (λ r. r.0 ≡ frame_counts config.now.domains.items) }
         ensures count { IfOk result (λ r. length r.1.items ≡ length config.now.domains.items) }
         ensures none { IfOk result (λ r. All (λ visits. visits ≡ []) r.1.items) }
@@ -139,7 +139,7 @@ impl Pool {
 
     /// Locks a frame. `None` if there is no such frame, or another one is in its place.
     #[inline(always)]
-    pub fn lock(&self, rt: &impl Wait, name: FrameName) -> Option<Lent<'_>>
+    pub fn lock(&self, rt: &impl Wait, name: FrameName) -> Option<LockedFrame<'_>>
         ensures frame { IfSome result (λ l. name_of l.after ≡ name) }
         ensures fresh { IfSome result IsFresh }
         ensures kept { IfSome result (λ l. IsKept l.after) }
@@ -148,7 +148,7 @@ impl Pool {
         let place = self.place(name)?;
         let frame = self.lock_at(rt, &mut Rising { lowest: 0 }, place)?;
         if is_named(&frame, name) {
-            Some(Lent::new(frame))
+            Some(LockedFrame::new(frame))
         } else {
             None
         }
@@ -156,7 +156,7 @@ impl Pool {
 
     /// Locks the frames at both ends of a copy: the one with the lower pool number first, and one
     /// lock if both are one frame. `None` if there is no such frame, or another one is in its place.
-    pub fn lock_both(&self, rt: &impl Wait, source: FrameName, dest: FrameName) -> Option<Ends<'_>>
+    pub fn lock_both(&self, rt: &impl Wait, source: FrameName, dest: FrameName) -> Option<LockedPair<'_>>
         ensures { IfSome result (AreLocked source dest) }
     {
         let from = self.place(source)?;
@@ -165,25 +165,25 @@ impl Pool {
         if from < to {
             let first = self.lock_at(rt, &mut order, from)?;
             let second = self.lock_at(rt, &mut order, to)?;
-            Ends::apart(first, second, source, dest)
+            LockedPair::apart(first, second, source, dest)
         } else if to < from {
             let first = self.lock_at(rt, &mut order, to)?;
             let second = self.lock_at(rt, &mut order, from)?;
-            Ends::apart(second, first, source, dest)
+            LockedPair::apart(second, first, source, dest)
         } else {
-            Ends::same(self.lock_at(rt, &mut order, from)?, source, dest)
+            LockedPair::same(self.lock_at(rt, &mut order, from)?, source, dest)
         }
     }
 }
 
-impl<'p> Ends<'p> {
+impl<'p> LockedPair<'p> {
     // Both ends are this frame, if it has both names.
-    fn same(frame: MutexGuard<'p, Frame>, source: FrameName, dest: FrameName) -> Option<Ends<'p>>
+    fn same(frame: MutexGuard<'p, Frame>, source: FrameName, dest: FrameName) -> Option<LockedPair<'p>>
         ensures { IfSome result (AreLocked source dest) }
     {
         if is_named(&frame, source) && is_named(&frame, dest) {
-            Some(Ends {
-                dest: Lent::new(frame),
+            Some(LockedPair {
+                dest: LockedFrame::new(frame),
                 source: None,
             })
         } else {
@@ -198,13 +198,13 @@ impl<'p> Ends<'p> {
         to: MutexGuard<'p, Frame>,
         source: FrameName,
         dest: FrameName,
-    ) -> Option<Ends<'p>>
+    ) -> Option<LockedPair<'p>>
         ensures { IfSome result (AreLocked source dest) }
     {
         if is_named(&from, source) && is_named(&to, dest) {
-            Some(Ends {
-                dest: Lent::new(to),
-                source: Some(Lent::new(from)),
+            Some(LockedPair {
+                dest: LockedFrame::new(to),
+                source: Some(LockedFrame::new(from)),
             })
         } else {
             None
@@ -212,10 +212,10 @@ impl<'p> Ends<'p> {
     }
 
     /// Frees the frames, the one that the bytes go to first.
-    pub fn free(self, visits: &mut Visits)
+    pub fn free(self, visits: &mut FrameAccesses)
         ensures { visits.new ≡ visits.old ++ visits_of self.entry }
     {
-        let Ends { dest, source } = self;
+        let LockedPair { dest, source } = self;
         dest.free(visits);
         if let Some(source) = source {
             source.free(visits);

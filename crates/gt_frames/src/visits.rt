@@ -12,46 +12,46 @@ use std::sync::MutexGuard;
 /// What was done to frames under their locks, by whoever has these visits: each frame as it was when it was locked and
 /// as it was when it was freed, in the order in which they were freed. They take no memory.
 #[derive(Drop)]
-pub struct Visits {
+pub struct FrameAccesses {
     history: History<Snapshot<Frame>, Frame>,
 }
 
-impl Model for Visits {
+impl Model for FrameAccesses {
     ghost use Rattle.std.specs.Prelude.{List, map};
-    ghost use Rattle.gt_frames.specs.Visits.{Visit};
+    ghost use Rattle.gt_frames.specs.Visits.{FrameAccess};
 
-    ghost Value = { List Visit };
+    ghost Value = { List FrameAccess };
 
     ghost view = { λ v. map (λ p. record { before = p.0.value; after = p.1 }) v.history.items };
 }
 
 /// A locked frame. It can't be dropped: `free` frees it, and tells what was done to it.
-pub struct Lent<'p> {
+pub struct LockedFrame<'p> {
     frame: MutexGuard<'p, Frame>,
     start: Snapshot<Frame>,
 }
 
-impl<'p> Model for Lent<'p> {
+impl<'p> Model for LockedFrame<'p> {
     ghost use Rattle.std.specs.Sync.Mutex.{mutex_guard_value};
-    ghost use Rattle.gt_frames.specs.Visits.{Visit};
+    ghost use Rattle.gt_frames.specs.Visits.{FrameAccess};
 
-    ghost Value = { Visit };
+    ghost Value = { FrameAccess };
 
     ghost view = { λ l. record { before = l.start.value; after = mutex_guard_value l.frame } };
 }
 
-impl Visits {
+impl FrameAccesses {
     /// No frame was locked yet.
-    pub(crate) fn new() -> Visits
+    pub(crate) fn new() -> FrameAccesses
         ensures { result ≡ [] }
     {
-        Visits {
+        FrameAccesses {
             history: History::new(),
         }
     }
 }
 
-impl<'p> Lent<'p> {
+impl<'p> LockedFrame<'p> {
     ghost use Rattle.std.specs.Sync.Mutex.{mutex_guard_value};
     ghost use Rattle.gt_frames.specs.Copies.{CanCopy, IsCopy};
     ghost use Rattle.gt_frames.specs.Frames.{contents, covers, IsKept, IsWrite};
@@ -59,12 +59,12 @@ impl<'p> Lent<'p> {
     ghost use Rattle.gt_frames.specs.Sets.{name_of};
 
     /// The frame that this lock guards, just locked.
-    pub(crate) fn new(frame: MutexGuard<'p, Frame>) -> Lent<'p>
+    pub(crate) fn new(frame: MutexGuard<'p, Frame>) -> LockedFrame<'p>
         ensures before { result.before ≡ mutex_guard_value frame.entry }
         ensures after { result.after ≡ mutex_guard_value frame.entry }
     {
         let start = Snapshot::of(&*frame);
-        Lent { frame, start }
+        LockedFrame { frame, start }
     }
 
     /// Its owner and number.
@@ -139,7 +139,7 @@ impl<'p> Lent<'p> {
     /// `Memory`, with the frame as it was.
     pub(crate) fn copy_from(
         &mut self,
-        from: &Lent<'p>,
+        from: &LockedFrame<'p>,
         writ: &Writ,
         range: Range,
         to_off: u16,
@@ -152,10 +152,10 @@ impl<'p> Lent<'p> {
     }
 
     /// Frees the frame. The visits tell then how it was when it was locked, and how it is now.
-    pub fn free(self, visits: &mut Visits)
+    pub fn free(self, visits: &mut FrameAccesses)
         ensures { visits.new ≡ visits.old ++ self.entry ∷ [] }
     {
-        let Lent { frame, start } = self;
+        let LockedFrame { frame, start } = self;
         visits.history = visits.history.and(&start, &*frame);
     }
 }

@@ -9,7 +9,7 @@ use gt_types::{Dir, DomId, Range, Use};
 
 /// By what a domain may write to a frame.
 #[derive(Clone, Copy, Debug, PartialEq, Eq)]
-pub enum Ground {
+pub enum WriteBasis {
     /// The frame is the writer's own.
     Owned,
     /// An entry of the frame's owner that permits the writer.
@@ -28,7 +28,7 @@ pub enum Ground {
 #[derive(Clone, Copy, Debug, PartialEq, Eq)]
 pub struct Writ {
     pub writer: DomId,
-    pub basis: Ground,
+    pub basis: WriteBasis,
 }
 
 /// One write to a frame: these bytes from the offset `off` on, by this writ.
@@ -82,15 +82,15 @@ fn is_entry(a: &Entry, b: &Entry) -> bool
 
 // Whether both are one basis.
 #[inline(always)]
-fn is_ground(a: &Ground, b: &Ground) -> bool
+fn is_ground(a: &WriteBasis, b: &WriteBasis) -> bool
     ensures { IsTrue result → a.now ≡ b.now }
 {
     match (a, b) {
-        (Ground::Owned, Ground::Owned) => true,
-        (Ground::Granted(entry), Ground::Granted(entry_b)) => is_entry(entry, entry_b),
+        (WriteBasis::Owned, WriteBasis::Owned) => true,
+        (WriteBasis::Granted(entry), WriteBasis::Granted(entry_b)) => is_entry(entry, entry_b),
         (
-            Ground::Forwarded { via, middle, entry },
-            Ground::Forwarded {
+            WriteBasis::Forwarded { via, middle, entry },
+            WriteBasis::Forwarded {
                 via: via_b,
                 middle: middle_b,
                 entry: entry_b,
@@ -103,7 +103,7 @@ fn is_ground(a: &Ground, b: &Ground) -> bool
 impl Writ {
     /// Whether both are one writ. False says nothing.
     #[inline(always)]
-    pub(crate) fn is(&self, other: &Writ) -> bool
+    pub(crate) fn equals(&self, other: &Writ) -> bool
         ensures { IsTrue result → self.now ≡ other.now }
     {
         is_domain(self.writer, other.writer) && is_ground(&self.basis, &other.basis)
@@ -114,9 +114,9 @@ impl Writ {
         ensures { result ≡ covers self.now owner number range.off range.len }
     {
         match self.basis {
-            Ground::Owned => self.writer.0 == owner.0,
-            Ground::Granted(entry) => permits_writing(entry, self.writer, number, range),
-            Ground::Forwarded { via, middle, entry } => {
+            WriteBasis::Owned => self.writer.0 == owner.0,
+            WriteBasis::Granted(entry) => permits_writing(entry, self.writer, number, range),
+            WriteBasis::Forwarded { via, middle, entry } => {
                 via.forwards(self.writer, Dir::Write)
                     && leads_to(via, owner)
                     && permits_writing(entry, middle, number, range)

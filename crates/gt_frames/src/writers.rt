@@ -265,7 +265,7 @@ impl Writers {
         if number == 0 || number > self.writs.len() {
             return false;
         }
-        self.writs[number - 1].is(writ)
+        self.writs[number - 1].equals(writ)
     }
 
     // The number of this byte's writ, or 0.

@@ -4,7 +4,7 @@ use Rattle.std.proofs.Common.{refl, arith, cond, slice_index_or, ap, sym, ◌∙
 use Rattle.std.proofs.lemmas.List.Sums.{sum_by-cons}
 use Rattle.std.proofs.lemmas.Bool.{cases_eq}
 use Rattle.std.proofs.lemmas.Bool.Decides.{nat_tests}
-use Rattle.gt_handles.specs.declared.handles.Slot.{Slot}
+use Rattle.gt_handles.specs.declared.handles.HandleSlot.{HandleSlot}
 use Rattle.gt_handles.specs.Handles.{HandleMap, count_of, under, IsEmpty, IsLeast, IsInOrder}
 
 module _ {X : Type 0} where
@@ -31,7 +31,7 @@ module _ {T : Type 0} where
   pub empty_of_none : (s : HandleMap T) → ((key : ℕ) → key < length s.slots → slice_index_or s.slots key None ≡ None) → IsEmpty s
   empty_of_none s none = empty_of_count s (count_of_none s.slots none)
 
-  vacant_of_none : (slot : Option (Slot T)) → ((serial : ℕ) → under serial slot ≡ None) → slot ≡ None
+  vacant_of_none : (slot : Option (HandleSlot T)) → ((serial : ℕ) → under serial slot ≡ None) → slot ≡ None
   vacant_of_none None none = refl
   vacant_of_none (Some slot) none = absurd (grind (arith, nat_tests, none slot.serial))
 
@@ -40,11 +40,11 @@ module _ {T : Type 0} where
   none_below s key least below lower =
       vacant_of_none (slice_index_or s.slots below None) (λ serial. least (record { serial = serial; key = below }) lower)
 
-  module _ (old new : List (Option (Slot T))) (key : ℕ)
+  module _ (old new : List (Option (HandleSlot T))) (key : ℕ)
       (others : (k : ℕ) → k ≢ key → slice_index_or new k None ≡ slice_index_or old k None)
       (taken : slice_index_or new key None ≡ None)
     where
-      was_there : (k : ℕ) (x : Slot T) → slice_index_or new k None ≡ Some x → slice_index_or old k None ≡ Some x
+      was_there : (k : ℕ) (x : HandleSlot T) → slice_index_or new k None ≡ Some x → slice_index_or old k None ≡ Some x
       was_there k x found =
           elim (cases_eq k key) [
             | inl same ↦ absurd (cc (found, taken, ap (λ (at : ℕ). slice_index_or new at None) same))

@@ -3,16 +3,16 @@ use Rattle.std.specs.Prelude.{◌≡◌, ℕ, ◌<◌, ◌==◌, ◌&&◌, Bool,
 use Rattle.std.specs.Prelude.{slice_index_or, refl}
 use Rattle.std.specs.Coded.{Coded, code_by, coded×, coded_ℕ, coded_list, coded_option}
 use Rattle.gt_handles.specs.declared.handles.Handle.{Handle}
-use Rattle.gt_handles.specs.declared.handles.Slot.{Slot}
+use Rattle.gt_handles.specs.declared.handles.HandleSlot.{HandleSlot}
 
 -- what is at each key, how many serials were given, and how many more values fit with no allocation
 pub record HandleMap (T : Type 0) : Type 0 where
-  pub slots : List (Option (Slot T))
+  pub slots : List (Option (HandleSlot T))
   pub given : ℕ
   pub room : ℕ
 
 -- a slot is stored as the pair of its fields
-abbrev pub slot_code : {T : Type 0} → Coded T → Coded (Slot T)
+abbrev pub slot_code : {T : Type 0} → Coded T → Coded (HandleSlot T)
 slot_code {T} code =
     code_by (ℕ × T) (coded× coded_ℕ code) (λ s. (s.serial, s.value)) (λ p. record { serial = p.0; value = p.1 })
     (λ _. refl)
@@ -21,7 +21,7 @@ slot_code {T} code =
 abbrev pub kept_code : {T : Type 0} → Coded T → Coded (HandleMap T)
 kept_code {T} code =
     code_by
-    (List (Option (Slot T)) × (ℕ × ℕ))
+    (List (Option (HandleSlot T)) × (ℕ × ℕ))
     (coded× (coded_list (coded_option (slot_code code))) (coded× coded_ℕ coded_ℕ))
     (λ s. (s.slots, (s.given, s.room)))
     (λ p. record { slots = p.0; given = p.1.0; room = p.1.1 })
@@ -33,7 +33,7 @@ same_handle a b = (a.serial == b.serial) && (a.key == b.key)
 
 module _ {T : Type 0} where
   -- the value of a slot under this serial
-  abbrev pub under : ℕ → Option (Slot T) → Option T
+  abbrev pub under : ℕ → Option (HandleSlot T) → Option T
   under serial None = None
   under serial (Some slot) = if slot.serial == serial then Some slot.value else None
 
@@ -75,8 +75,8 @@ module _ {T : Type 0} where
         → a.key ≡ b.key
 
   -- each slot has a serial that was given and that no other slot has, and no key below the lowest has a value
-  pub record IsInOrder (slots : List (Option (Slot T))) (next lowest : ℕ) : Type 0 where
-    pub given : (key : ℕ) (slot : Slot T) → slice_index_or slots key None ≡ Some slot → slot.serial < next
-    pub one : (a b : ℕ) (x y : Slot T) → slice_index_or slots a None ≡ Some x → slice_index_or slots b None ≡ Some y
+  pub record IsInOrder (slots : List (Option (HandleSlot T))) (next lowest : ℕ) : Type 0 where
+    pub given : (key : ℕ) (slot : HandleSlot T) → slice_index_or slots key None ≡ Some slot → slot.serial < next
+    pub one : (a b : ℕ) (x y : HandleSlot T) → slice_index_or slots a None ≡ Some x → slice_index_or slots b None ≡ Some y
         → x.serial ≡ y.serial → a ≡ b
     pub none : (key : ℕ) → key < lowest → slice_index_or slots key None ≡ None

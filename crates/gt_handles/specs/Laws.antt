@@ -8,7 +8,7 @@ use Rattle.std.proofs.lemmas.Option.{none-some}
 use Rattle.std.proofs.lemmas.List.{length-append}
 use Rattle.std.proofs.lemmas.List.Sums.{sum_by-cons}
 use Rattle.gt_handles.specs.declared.handles.Handle.{Handle}
-use Rattle.gt_handles.specs.declared.handles.Slot.{Slot}
+use Rattle.gt_handles.specs.declared.handles.HandleSlot.{HandleSlot}
 use Rattle.gt_handles.specs.Handles.{HandleMap, Updates, value_of, count_of, same_handle, under}
 use Rattle.gt_handles.specs.Listing.{AreApart, HasJust, IsInserted, IsTaken, count_passing, has_passing, listed}
 use Rattle.gt_handles.specs.Listing.{unlisted}
@@ -235,13 +235,13 @@ module _ {X : Type 0} (p : X → Bool) (d : X) (none : p d ≡ false) where
 
 module _ {T : Type 0} where
   -- the slot that has a value under a serial
-  pub record Under (serial : ℕ) (o : Option (Slot T)) (m : T) : Type 0 where
-    pub slot : Slot T
+  pub record Under (serial : ℕ) (o : Option (HandleSlot T)) (m : T) : Type 0 where
+    pub slot : HandleSlot T
     pub there : o ≡ Some slot
     pub value : slot.value ≡ m
     pub named : slot.serial ≡ serial
 
-  pub under-is : (serial : ℕ) (o : Option (Slot T)) (m : T) → under serial o ≡ Some m → Under serial o m
+  pub under-is : (serial : ℕ) (o : Option (HandleSlot T)) (m : T) → under serial o ≡ Some m → Under serial o m
   under-is serial None m e = cc
   under-is serial (Some slot) m e = by (slot.serial == serial) refl e
     where
@@ -250,12 +250,12 @@ module _ {T : Type 0} where
       by true t is = record { slot = slot; there = refl; value = cc; named = eqb-true _ _ t }
       by false t is = cc
 
-  own-serial : (s : Slot T) → under s.serial (Some s) ≡ Some s.value
+  own-serial : (s : HandleSlot T) → under s.serial (Some s) ≡ Some s.value
   own-serial s = ap (λ (b : Bool). cond b (Some s.value) None) (eq-eqb s.serial s.serial refl)
 
-  module _ (p : Option (Slot T) → Bool) (q : T → Bool) (none : p None ≡ false)
-      (some : (s : Slot T) → p (Some s) ≡ q s.value) where
-    same-test : (o o' : Option (Slot T)) → ((serial : ℕ) → under serial o ≡ under serial o') → p o ≡ p o'
+  module _ (p : Option (HandleSlot T) → Bool) (q : T → Bool) (none : p None ≡ false)
+      (some : (s : HandleSlot T) → p (Some s) ≡ q s.value) where
+    same-test : (o o' : Option (HandleSlot T)) → ((serial : ℕ) → under serial o ≡ under serial o') → p o ≡ p o'
     same-test None None h = refl
     same-test None (Some s) h = let e = h s.serial in let own = own-serial s in absurd (cc)
     same-test (Some s) None h = let e = h s.serial in let own = own-serial s in absurd (cc)
@@ -270,12 +270,12 @@ module _ {T : Type 0} where
 
     -- there was no value if one was inserted
     vacant : (old new : HandleMap T) (h : Handle) (v : T) → value_of old h ≡ None → Updates old new h (Some v)
-        → Under h.serial (slice_index_or new.slots h.key None) v → (o : Option (Slot T))
+        → Under h.serial (slice_index_or new.slots h.key None) v → (o : Option (HandleSlot T))
         → slice_index_or old.slots h.key None ≡ o → p (slice_index_or old.slots h.key None) ≡ false
     vacant old new h v fresh updates u None e = ap p e ∙ none
     vacant old new h v fresh updates u (Some s) e =
         let other : Handle = record { serial = s.serial; key = h.key } in
-        let was : value_of old other ≡ Some s.value = ap (λ (o : Option (Slot T)). under s.serial o) e ∙ own-serial s in
+        let was : value_of old other ≡ Some s.value = ap (λ (o : Option (HandleSlot T)). under s.serial o) e ∙ own-serial s in
         elim (cases_eq s.serial h.serial) [
           | inl same ↦ let bad : value_of old h ≡ Some s.value =
               ap (λ (n : ℕ). under n (slice_index_or old.slots h.key None)) (sym same) ∙ was in absurd (cc)
@@ -286,7 +286,7 @@ module _ {T : Type 0} where
               updates other ∙ (ap (λ (b : Bool). cond b (Some v) (value_of old other)) off ∙ was) in
               let x = under-is s.serial (slice_index_or new.slots h.key None) s.value now in
               let one : u.slot ≡ x.slot = (let a = u.there in let b = x.there in cc) in
-              absurd (ne (sym x.named ∙ (ap (λ (z : Slot T). z.serial) (sym one) ∙ u.named)))
+              absurd (ne (sym x.named ∙ (ap (λ (z : HandleSlot T). z.serial) (sym one) ∙ u.named)))
         ]
 
     -- one more value that passes, or none
@@ -343,7 +343,7 @@ module _ {T : Type 0} where
   taken-counted passes old new h v out =
       taken (has_passing passes) passes refl (λ s. refl) old new h v out.value out.updates
 
-  fewer : (passes : T → Bool) (slots : List (Option (Slot T)))
+  fewer : (passes : T → Bool) (slots : List (Option (HandleSlot T)))
       → count_by (has_passing passes) slots ≤ count_by is_some slots
   fewer passes [] = omega arith
   fewer passes (None ∷ os) = let l = fewer passes os in let a = count-cons (has_passing passes) None os in

@@ -3,7 +3,7 @@ use Rattle.std.specs.Prelude.{◌≡◌, ◌+◌, ◌++◌, ◌≤◌, ℕ, Bool
 use Rattle.std.specs.Prelude.{if◌then◌else◌, cond, count_by}
 use Rattle.gt_handles.specs.Handles.{HandleMap, Updates, count_of, same_handle, value_of}
 use Rattle.gt_handles.specs.declared.handles.Handle.{Handle}
-use Rattle.gt_handles.specs.declared.handles.Slot.{Slot}
+use Rattle.gt_handles.specs.declared.handles.HandleSlot.{HandleSlot}
 
 module _ {T : Type 0} where
   -- the value that a list has first under a handle
@@ -29,7 +29,7 @@ module _ {T : Type 0} where
     pub apart : AreApart ms
 
   -- the slot has a value that passes the test
-  abbrev pub has_passing : (T → Bool) → Option (Slot T) → Bool
+  abbrev pub has_passing : (T → Bool) → Option (HandleSlot T) → Bool
   has_passing passes None = false
   has_passing passes (Some slot) = passes slot.value
 

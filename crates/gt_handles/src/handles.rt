@@ -16,7 +16,7 @@ pub struct Handle {
 
 /// A value with the serial that it was given.
 #[derive(Drop)]
-pub struct Slot<T> {
+pub struct HandleSlot<T> {
     pub serial: u64,
     pub value: T,
 }
@@ -24,7 +24,7 @@ pub struct Slot<T> {
 /// A finite map from handles to values, with the count of the serials given.
 #[derive(Drop)]
 pub struct Handles<T> {
-    slab: Slab<Slot<T>>,
+    slab: Slab<HandleSlot<T>>,
     given: u64,
     // No key below it has a value. So a walk of `pop`s looks at each key once.
     lowest: usize,
@@ -86,7 +86,7 @@ impl<T> Handles<T> {
     {
         let serial = self.given;
         self.given += 1;
-        let key = self.slab.insert_reserved(Slot { serial, value });
+        let key = self.slab.insert_reserved(HandleSlot { serial, value });
         if key < self.lowest {
             self.lowest = key;
         }

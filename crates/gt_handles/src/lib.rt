@@ -14,4 +14,4 @@
 mod handles;
 mod laws;
 
-pub use handles::{Handle, Handles, Slot};
+pub use handles::{Handle, Handles, HandleSlot};

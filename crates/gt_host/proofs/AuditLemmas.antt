@@ -8,7 +8,7 @@ use Rattle.std.proofs.lemmas.Bool.{eq-eqb, ne_eqb}
 use Rattle.std.specs.Prelude.{◌==◌, option_to_list}
 use Rattle.gt_types.specs.declared.DomId.{DomId}
 use Rattle.gt_calls.specs.Asking.{asked, bytes_given_by}
-use Rattle.gt_calls.specs.declared.action.Seen.{Seen}
+use Rattle.gt_calls.specs.declared.action.Observation.{Observation}
 use Rattle.gt_calls.specs.declared.action.Step.{Step}
 use Rattle.gt_calls.specs.declared.request.Request.{Request}
 use Rattle.gt_texts.specs.Printing.{type_text}
@@ -23,12 +23,12 @@ use Rattle.gt_core.specs.declared.trace.Event.{Event}
 use Rattle.gt_core.specs.declared.trace.Event.TheVariants.{Begin, Tick}
 use Rattle.gt_core.specs.declared.trace.Element.{Element}
 use Rattle.gt_core.specs.declared.trace.Element.TheVariants.{Busy, Idle, NoDomain, Item as Did}
-use Rattle.gt_core.specs.declared.trace.Happened.{Happened}
-use Rattle.gt_core.specs.declared.trace.Happened.TheVariants.{Began, Stepped}
+use Rattle.gt_core.specs.declared.trace.ItemEvent.{ItemEvent}
+use Rattle.gt_core.specs.declared.trace.ItemEvent.TheVariants.{Began, Stepped}
 use Rattle.gt_core.specs.declared.trace.Item.{Item}
-use Rattle.gt_host.specs.declared.kept.Kept.{Kept}
-use Rattle.gt_host.specs.Auditing.{before_begun, before_call, call_told, item_told, open_told, record_in, record_of}
-use Rattle.gt_host.specs.Auditing.{record_told, record_with, records_of, underway_told, record_lines}
+use Rattle.gt_host.specs.declared.kept.PlayState.{PlayState}
+use Rattle.gt_host.specs.Auditing.{before_begun, before_call, hypercall_of_request, item_told, open_told, record_in, record_of}
+use Rattle.gt_host.specs.Auditing.{encoded_record, record_with, records_of, underway_told, record_lines}
 use Rattle.gt_host.specs.OpenCalls.{told_in}
 use Rattle.gt_host.specs.Recording.{IsAudited}
 use Rattle.gt_host.specs.Runs.{AnswerNothing, answer_in, call_events}
@@ -60,21 +60,21 @@ closed_told s h d none = ap (λ (o : Option Underway). underway_told s d (before
 
 -- a call began
 began_told : (s : Setting) (i : Item) (h : History) (d : DomId) (request : Request) → i.actor ≡ d → i.happened ≡ Began request → i.answer ≡ None
-    → open_told s (i ∷ h) d ≡ call_told (subject_at s h d) (asked request)
+    → open_told s (i ∷ h) d ≡ hypercall_of_request (subject_at s h d) (asked request)
 began_told s i h d request own began none =
     let here : i.actor.0 ≡ d.0 = ap (λ (t : DomId). t.0) own in
-    let before : before_call (i ∷ h) d.0 ≡ h = own_before i h d.0 here ∙ ap (λ (e : Happened). before_begun e h (before_call h d.0)) began in
+    let before : before_call (i ∷ h) d.0 ≡ h = own_before i h d.0 here ∙ ap (λ (e : ItemEvent). before_begun e h (before_call h d.0)) began in
     let call : open_call (i ∷ h) d.0 ≡ Some (record { request = asked request; given = bytes_given_by request; steps = [] }) =
     own_call i h d.0 here ∙ ap (λ (o : Option Answer). underway_after (record { actor = i.actor; happened = i.happened; answer = o }) (open_call h d.0)) none
-    ∙ ap (λ (e : Happened). underway_with e (open_call h d.0)) began in
+    ∙ ap (λ (e : ItemEvent). underway_with e (open_call h d.0)) began in
     ap (λ (b : History). underway_told s d b (open_call (i ∷ h) d.0)) before ∙ ap (λ (o : Option Underway). underway_told s d h o) call
 
-step_told : (s : Setting) (d : DomId) (begun : History) (step : Step) (seen : Seen) (c : Option Underway) → underway_told s d begun (underway_with (Stepped step seen) c) ≡ underway_told s d begun c
+step_told : (s : Setting) (d : DomId) (begun : History) (step : Step) (seen : Observation) (c : Option Underway) → underway_told s d begun (underway_with (Stepped step seen) c) ≡ underway_told s d begun c
 step_told s d begun step seen None = refl
 step_told s d begun step seen (Some c) = refl
 
 -- a step that does not answer
-stepped_told : (s : Setting) (actor : DomId) (step : Step) (seen : Seen) (h : History) (d : DomId) → actor ≡ d
+stepped_told : (s : Setting) (actor : DomId) (step : Step) (seen : Observation) (h : History) (d : DomId) → actor ≡ d
     → open_told s (record { actor = actor; happened = Stepped step seen; answer = None } ∷ h) d ≡ open_told s h d
 stepped_told s actor step seen h d own =
     let i : Item = record { actor = actor; happened = Stepped step seen; answer = None } in
@@ -83,7 +83,7 @@ stepped_told s actor step seen h d own =
     ∙ ap (λ (o : Option Underway). underway_told s d (before_call h d.0) o) (own_call i h d.0 here)
     ∙ step_told s d (before_call h d.0) step seen (open_call h d.0)
 
-item_tick_told : (s : Setting) (h : History) (d : DomId) (actor : DomId) (happened : Happened) (answer : Option Answer) → answer ≡ None
+item_tick_told : (s : Setting) (h : History) (d : DomId) (actor : DomId) (happened : ItemEvent) (answer : Option Answer) → answer ≡ None
     → MayDo s h (Tick d) (Did (record { actor = actor; happened = happened; answer = answer }))
     → open_told s (record { actor = actor; happened = happened; answer = answer } ∷ h) d ≡ open_told s h d
 item_tick_told s h d actor (Began other) answer none may = absurd may.1.1
@@ -138,15 +138,15 @@ no_records s h [] quiet = refl
 no_records s h (x ∷ xs) quiet =
     ap (λ (o : Option Record). option_to_list o ++ records_of s (grown h x) xs) (no_record s h x quiet.0) ∙ no_records s (grown h x) xs quiet.1
 
-item_record : (s : Setting) (h : History) (d : DomId) (actor : DomId) (happened : Happened) (answer : Option Answer) (a : Answer) → answer ≡ Some a
+item_record : (s : Setting) (h : History) (d : DomId) (actor : DomId) (happened : ItemEvent) (answer : Option Answer) (a : Answer) → answer ≡ Some a
     → MayDo s h (Tick d) (Did (record { actor = actor; happened = happened; answer = answer }))
-    → record_of s h (record { actor = actor; happened = happened; answer = answer }) ≡ record_told d (open_told s h d) a
+    → record_of s h (record { actor = actor; happened = happened; answer = answer }) ≡ encoded_record d (open_told s h d) a
 item_record s h d actor (Began other) answer a is may = absurd may.1.1
 item_record s h d actor (Stepped step seen) answer a is may =
-    ap (λ (o : Option Answer). record_with actor (open_told s h actor) o) is ∙ ap (λ (t : DomId). record_told t (open_told s h t) a) may.1.0
+    ap (λ (o : Option Answer). record_with actor (open_told s h actor) o) is ∙ ap (λ (t : DomId). encoded_record t (open_told s h t) a) may.1.0
 
 -- the tick that answers
-tick_record : (s : Setting) (h : History) (d : DomId) (x : Element) (a : Answer) → MayDo s h (Tick d) x → answer_in x ≡ Some a → record_in s h x ≡ record_told d (open_told s h d) a
+tick_record : (s : Setting) (h : History) (d : DomId) (x : Element) (a : Answer) → MayDo s h (Tick d) x → answer_in x ≡ Some a → record_in s h x ≡ encoded_record d (open_told s h d) a
 tick_record s h d Busy a may is = cc
 tick_record s h d Idle a may is = cc
 tick_record s h d NoDomain a may is = cc
@@ -154,7 +154,7 @@ tick_record s h d (Did i) a may is = item_record s h d i.actor i.happened i.answ
 
 -- ticks of which the last answers
 ticks_record : (s : Setting) (h : History) (d : DomId) (n : ℕ) (before : List Element) (last : Element) (a : Answer) → LegalAfter s h (replicate n (Tick d)) (before ++ last ∷ []) → AnswerNothing before → answer_in last ≡ Some a
-    → records_of s h (before ++ last ∷ []) ≡ option_to_list (record_told d (open_told s h d) a)
+    → records_of s h (before ++ last ∷ []) ≡ option_to_list (encoded_record d (open_told s h d) a)
 ticks_record s h d zero [] last a legal quiet is = absurd legal
 ticks_record s h d zero (x ∷ before) last a legal quiet is = absurd legal
 ticks_record s h d (suc n) [] last a legal quiet is =
@@ -162,19 +162,19 @@ ticks_record s h d (suc n) [] last a legal quiet is =
 ticks_record s h d (suc n) (x ∷ before) last a legal quiet is =
     ap (λ (o : Option Record). option_to_list o ++ records_of s (grown h x) (before ++ last ∷ [])) (no_record s h x quiet.0)
     ∙ ticks_record s (grown h x) d n before last a legal.1 quiet.1 is
-    ∙ ap (λ (o : Option Hypercall). option_to_list (record_told d o a)) (tick_told s h d x legal.0 quiet.0)
+    ∙ ap (λ (o : Option Hypercall). option_to_list (encoded_record d o a)) (tick_told s h d x legal.0 quiet.0)
 
 -- a call that is answered at its beginning
 first_record : (s : Setting) (h : History) (d : DomId) (request : Request) (i : Item) (a : Answer) → i.actor ≡ d → i.happened ≡ Began request → i.answer ≡ Some a
-    → record_of s h i ≡ record_told d (call_told (subject_at s h d) (asked request)) a
+    → record_of s h i ≡ encoded_record d (hypercall_of_request (subject_at s h d) (asked request)) a
 first_record s h d request i a own began is =
     ap (λ (o : Option Answer). record_with i.actor (item_told s h i.actor i.happened) o) is
-    ∙ ap (λ (e : Happened). record_told i.actor (item_told s h i.actor e) a) began
-    ∙ ap (λ (t : DomId). record_told t (call_told (subject_at s h t) (asked request)) a) own
+    ∙ ap (λ (e : ItemEvent). encoded_record i.actor (item_told s h i.actor e) a) began
+    ∙ ap (λ (t : DomId). encoded_record t (hypercall_of_request (subject_at s h t) (asked request)) a) own
 
 -- a call, from its beginning to its answer
 call_record : (s : Setting) (h : History) (d : DomId) (request : Request) (count : ℕ) (i : Item) (xs before : List Element) (last : Element) (a : Answer) → Did i ∷ xs ≡ before ++ last ∷ [] → AnswerNothing before → answer_in last ≡ Some a
-    → LegalAfter s h (call_events d request count) (Did i ∷ xs) → records_of s h (Did i ∷ xs) ≡ option_to_list (record_told d (call_told (subject_at s h d) (asked request)) a)
+    → LegalAfter s h (call_events d request count) (Did i ∷ xs) → records_of s h (Did i ∷ xs) ≡ option_to_list (encoded_record d (hypercall_of_request (subject_at s h d) (asked request)) a)
 call_record s h d request count i xs [] last a order quiet is legal =
     let none : xs ≡ [] = cc in
     let same : last ≡ Did i = cc in
@@ -188,7 +188,7 @@ call_record s h d request count i xs (x ∷ before) last a order quiet is legal 
     ap (λ (o : Option Record). option_to_list o ++ records_of s (i ∷ h) xs) (no_record s h (Did i) none)
     ∙ ap (records_of s (i ∷ h)) rest
     ∙ ticks_record s (i ∷ h) d count before last a (subst (λ (l : List Element). LegalAfter s (i ∷ h) (replicate count (Tick d)) l) rest legal.1) quiet.1 is
-    ∙ ap (λ (o : Option Hypercall). option_to_list (record_told d o a)) (began_told s i h d request legal.0.1.0 legal.0.1.1 none)
+    ∙ ap (λ (o : Option Hypercall). option_to_list (encoded_record d o a)) (began_told s i h d request legal.0.1.0 legal.0.1.1 none)
 
 -- what is kept for the audit
 
@@ -206,7 +206,7 @@ pub record Records (s : Setting) (h : History) (trace : List Element) (old new :
   pub calls : AreTold s (history_after h trace) told
 
 -- more is recorded
-pub audited_more : (s : Setting) (audit : Bool) (before trace : List Element) (kept next : Kept) → IsAudited s audit before kept → next.audit.is_on ≡ kept.audit.is_on
+pub audited_more : (s : Setting) (audit : Bool) (before trace : List Element) (kept next : PlayState) → IsAudited s audit before kept → next.audit.is_on ≡ kept.audit.is_on
     → (kept.audit.is_on ≡ true → AreTold s (history_after [] before) (told_in kept.calls) → Records s (history_after [] before) trace kept.audit.records.items next.audit.records.items (told_in next.calls))
     → IsAudited s audit (before ++ trace) next
 audited_more s audit before trace kept next was same more = record {
@@ -221,9 +221,9 @@ audited_more s audit before trace kept next was same more = record {
 }
 
 -- the answer of a call of the domain that is told so came to the records
-pub record AddsRecord (kept next : Kept) (d : DomId) (told : Option Hypercall) (a : Answer) : Type 0 where
+pub record AddsRecord (kept next : PlayState) (d : DomId) (told : Option Hypercall) (a : Answer) : Type 0 where
   pub is_on : next.audit.is_on ≡ kept.audit.is_on
-  pub records : next.audit.records.items ≡ kept.audit.records.items ++ option_to_list (record_told d told a)
+  pub records : next.audit.records.items ≡ kept.audit.records.items ++ option_to_list (encoded_record d told a)
 
 -- a domain that is busy
 pub audited_busy : (s : Setting) (h : History) (trace : List Element) (rs : List Record) (told : ℕ → Option Hypercall) → trace ≡ Busy ∷ [] → AreTold s h told → Records s h trace rs rs told
@@ -240,13 +240,13 @@ calls_told s h g d old new known kept stays here n = elim (same_or_apart d.0 n) 
 -- a call that came to its answer
 pub audited_call : (s : Setting) (h : History) (d : DomId) (request : Request) (count : ℕ) (i : Item) (xs before : List Element) (last : Element) (a : Answer) (rs new : List Record) (told : ℕ → Option Hypercall) (hyper : Option Hypercall)
     → Did i ∷ xs ≡ before ++ last ∷ [] → AnswerNothing before → answer_in last ≡ Some a → LegalAfter s h (call_events d request count) (Did i ∷ xs)
-    → hyper ≡ call_told (subject_at s h d) (asked request) → new ≡ rs ++ option_to_list (record_told d hyper a) → AreTold s h told → Records s h (Did i ∷ xs) rs new told
+    → hyper ≡ hypercall_of_request (subject_at s h d) (asked request) → new ≡ rs ++ option_to_list (encoded_record d hyper a) → AreTold s h told → Records s h (Did i ∷ xs) rs new told
 audited_call s h d request count i xs before last a rs new told hyper order quiet is legal about added known =
     let own : AreOf d (call_events d request count) = (refl, ticks_of d count) in
     let was : open_call h d.0 ≡ None = begins_fresh s h d request i legal.0 in
     let now : open_call (history_after h (Did i ∷ xs)) d.0 ≡ None = answered_leaves s h d request count i xs before last a order is legal d.0 ∙ was in
     record {
-      records = added ∙ ap (λ (o : Option Hypercall). rs ++ option_to_list (record_told d o a)) about ∙ ap (λ (l : List Record). rs ++ l) (sym (call_record s h d request count i xs before last a order quiet is legal));
+      records = added ∙ ap (λ (o : Option Hypercall). rs ++ option_to_list (encoded_record d o a)) about ∙ ap (λ (l : List Record). rs ++ l) (sym (call_record s h d request count i xs before last a order quiet is legal));
       calls = calls_told s h (history_after h (Did i ∷ xs)) d told told known (λ n apart. refl) (λ t apart. events_told s h (call_events d request count) (Did i ∷ xs) d t own legal apart)
           (known d.0 ∙ closed_told s h d was ∙ sym (closed_told s (history_after h (Did i ∷ xs)) d now));
     }
@@ -259,7 +259,7 @@ picked_own told hyper d = ap (λ (b : Bool). cond b hyper (told d)) (eq-eqb d d 
 
 -- a call that stays open
 pub audited_begun : (s : Setting) (h : History) (d : DomId) (request : Request) (rs : List Record) (old new : ℕ → Option Hypercall) (hyper : Option Hypercall)
-    → MayDo s h (Begin d request) (Did (record { actor = d; happened = Began request; answer = None })) → hyper ≡ call_told (subject_at s h d) (asked request)
+    → MayDo s h (Begin d request) (Did (record { actor = d; happened = Began request; answer = None })) → hyper ≡ hypercall_of_request (subject_at s h d) (asked request)
     → ((n : ℕ) → new n ≡ cond (n == d.0) hyper (old n)) → AreTold s h old → Records s h (Did (record { actor = d; happened = Began request; answer = None }) ∷ []) rs rs new
 audited_begun s h d request rs old new hyper may about picked known =
     let i : Item = record { actor = d; happened = Began request; answer = None } in
@@ -272,14 +272,14 @@ audited_begun s h d request rs old new hyper may about picked known =
 -- ticks that came to the answer
 pub audited_ticks : (s : Setting) (h : History) (d : DomId) (count : ℕ) (trace before : List Element) (last : Element) (a : Answer) (rs added : List Record) (old new : ℕ → Option Hypercall) (hyper : Option Hypercall)
     → trace ≡ before ++ last ∷ [] → AnswerNothing before → answer_in last ≡ Some a → LegalAfter s h (replicate count (Tick d)) trace
-    → hyper ≡ old d.0 → added ≡ rs ++ option_to_list (record_told d hyper a) → ((n : ℕ) → new n ≡ cond (n == d.0) None (old n)) → AreTold s h old → Records s h trace rs added new
+    → hyper ≡ old d.0 → added ≡ rs ++ option_to_list (encoded_record d hyper a) → ((n : ℕ) → new n ≡ cond (n == d.0) None (old n)) → AreTold s h old → Records s h trace rs added new
 audited_ticks s h d count trace before last a rs added old new hyper order quiet is legal about appended picked known =
     let own : AreOf d (replicate count (Tick d)) = ticks_of d count in
     let made = subst (λ (l : List Element). LegalAfter s h (replicate count (Tick d)) l) order legal in
     let now : open_call (history_after h trace) d.0 ≡ None =
     subst (λ (l : List Element). open_call (history_after h l) d.0 ≡ None) (sym order) (events_close s h (replicate count (Tick d)) before last d a own made is) in
     record {
-      records = appended ∙ ap (λ (o : Option Hypercall). rs ++ option_to_list (record_told d o a)) (about ∙ known d.0)
+      records = appended ∙ ap (λ (o : Option Hypercall). rs ++ option_to_list (encoded_record d o a)) (about ∙ known d.0)
           ∙ ap (λ (l : List Record). rs ++ l) (sym (ap (records_of s h) order ∙ ticks_record s h d count before last a made quiet is));
       calls = calls_told s h (history_after h trace) d old new known (λ n apart. picked n ∙ picked_other old None d.0 n apart)
           (λ t apart. events_told s h (replicate count (Tick d)) trace d t own legal apart)

@@ -12,8 +12,8 @@ use Rattle.gt_core.specs.declared.trace.Event.{Event}
 use Rattle.gt_core.specs.declared.trace.Event.TheVariants.{Begin, Tick}
 use Rattle.gt_core.specs.declared.trace.Element.{Element}
 use Rattle.gt_core.specs.declared.trace.Element.TheVariants.{Busy, Idle, NoDomain, Item as Did}
-use Rattle.gt_core.specs.declared.trace.Happened.{Happened}
-use Rattle.gt_core.specs.declared.trace.Happened.TheVariants.{Began}
+use Rattle.gt_core.specs.declared.trace.ItemEvent.{ItemEvent}
+use Rattle.gt_core.specs.declared.trace.ItemEvent.TheVariants.{Began}
 use Rattle.gt_core.specs.declared.trace.Item.{Item}
 use Rattle.gt_host.specs.Runs.{answer_in, call_events}
 use Rattle.gt_host.proofs.OpenLemmas.{own_call, other_call}
@@ -64,7 +64,7 @@ events_close s h (e ∷ es) (y ∷ xs) x d a own legal answers = events_close s 
 -- a call begins where its domain has none open
 pub begins_fresh : (s : Setting) (h : History) (d : DomId) (request : Request) (i : Item) → MayDo s h (Begin d request) (Did i) → open_call h d.0 ≡ None
 begins_fresh s h d request i may =
-    let right : IsRight s h (record { actor = i.actor; happened = Began request; answer = i.answer }) = subst (λ (did : Happened). IsRight s h (record { actor = i.actor; happened = did; answer = i.answer })) may.1.1 may.2 in
+    let right : IsRight s h (record { actor = i.actor; happened = Began request; answer = i.answer }) = subst (λ (did : ItemEvent). IsRight s h (record { actor = i.actor; happened = did; answer = i.answer })) may.1.1 may.2 in
     subst (λ (t : DomId). open_call h t.0 ≡ None) may.1.0 right.0
 
 pub same_or_apart : (d n : ℕ) → (d ≡ n) ⊎ (d ≡ n → ⊥)

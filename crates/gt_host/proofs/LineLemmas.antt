@@ -16,7 +16,7 @@ use Rattle.gt_core.specs.Acting.{begun_element}
 use Rattle.gt_core.specs.States.{CoreState}
 use Rattle.gt_core.specs.declared.core_state.Begun.{Begun}
 use Rattle.gt_core.specs.declared.core_state.Begun.TheVariants as begun
-use Rattle.gt_core.specs.declared.core_state.Shown.{Shown}
+use Rattle.gt_core.specs.declared.core_state.EntryView.{EntryView}
 use Rattle.gt_calls.specs.Asking.{asked, bytes_given_by}
 use Rattle.gt_calls.specs.declared.request.Request.{Request}
 use Rattle.gt_core.specs.declared.trace.Answer.{Answer}
@@ -24,14 +24,14 @@ use Rattle.gt_core.specs.declared.trace.Event.{Event}
 use Rattle.gt_core.specs.declared.trace.Event.TheVariants.{Begin, Tick}
 use Rattle.gt_core.specs.declared.trace.Element.{Element}
 use Rattle.gt_core.specs.declared.trace.Element.TheVariants.{Busy, Item as Did}
-use Rattle.gt_core.specs.declared.trace.Happened.TheVariants.{Began}
+use Rattle.gt_core.specs.declared.trace.ItemEvent.TheVariants.{Began}
 use Rattle.gt_core.specs.declared.trace.Item.{Item}
-use Rattle.gt_host.specs.declared.audit.Audit.{Audit}
-use Rattle.gt_host.specs.declared.kept.Kept.{Kept}
+use Rattle.gt_host.specs.declared.audit.AuditRecords.{AuditRecords}
+use Rattle.gt_host.specs.declared.kept.PlayState.{PlayState}
 use Rattle.gt_host.specs.declared.labels.Labels.{Labels}
 use Rattle.gt_host.specs.declared.open_calls.OpenCalls.{OpenCalls}
-use Rattle.gt_host.specs.declared.outcome.Outcome.{Outcome}
-use Rattle.gt_host.specs.declared.outcome.Outcome.TheVariants.{Answered, Busy as IsBusy}
+use Rattle.gt_host.specs.declared.outcome.LineOutcome.{LineOutcome}
+use Rattle.gt_host.specs.declared.outcome.LineOutcome.TheVariants.{Answered, Busy as IsBusy}
 use Rattle.gt_audit.specs.declared.record.Hypercall.{Hypercall}
 use Rattle.gt_host.specs.Naming.{AreNamed}
 use Rattle.gt_host.specs.OpenCalls.{call_in, told_in}
@@ -74,7 +74,7 @@ some_known None e = cc
 some_known (Some x) e = (x, refl)
 
 -- more has happened
-came : (s : Setting) (audit : Bool) (p : Progress) (events : List Event) (trace : List Element) (named : List Named) (calls : ℕ → Option ScriptStep) (text : List ℕ) (old new : CoreState) (kept next : Kept) → HasPlayed s audit p old kept → HasHappened s (history_of p) events trace new
+came : (s : Setting) (audit : Bool) (p : Progress) (events : List Event) (trace : List Element) (named : List Named) (calls : ℕ → Option ScriptStep) (text : List ℕ) (old new : CoreState) (kept next : PlayState) → HasPlayed s audit p old kept → HasHappened s (history_of p) events trace new
     → KeepsProgress next (record { events = p.events ++ events; trace = p.trace ++ trace; named = named; open_steps = calls; text = text })
     → ((n : ℕ) → is_some (calls n) ≡ is_some (open_call (history_after (history_of p) trace) n))
     → next.audit.is_on ≡ kept.audit.is_on
@@ -91,7 +91,7 @@ came s audit p events trace named calls text old new kept next come happens keep
     }
 
 -- nothing has happened but a line more
-lined : (s : Setting) (audit : Bool) (p : Progress) (line : List ℕ) (domains : CoreState) (kept : Kept) → HasPlayed s audit p domains kept → HasPlayed s audit (with_line p line) domains kept
+lined : (s : Setting) (audit : Bool) (p : Progress) (line : List ℕ) (domains : CoreState) (kept : PlayState) → HasPlayed s audit p domains kept → HasPlayed s audit (with_line p line) domains kept
 lined s audit p line domains kept come = record {
   legal = come.legal;
   stands = come.stands;
@@ -102,13 +102,13 @@ lined s audit p line domains kept come = record {
 
 -- `do ID CALL`
 
-pub do_answered : (s : Setting) (audit : Bool) (types : List (List ℕ)) (st : ScriptStep) (call : ScriptCall) (p : Progress) (old new : CoreState) (kept next : Kept) (before after : List ℕ) (request : Request) (said : Outcome) (a : Answer) (told : Option Hypercall)
+pub do_answered : (s : Setting) (audit : Bool) (types : List (List ℕ)) (st : ScriptStep) (call : ScriptCall) (p : Progress) (old new : CoreState) (kept next : PlayState) (before after : List ℕ) (request : Request) (said : LineOutcome) (a : Answer) (told : Option Hypercall)
     → SaysRequest p.named st.dom call request → said ≡ Answered a → HasPlayed s audit p old kept → HasCalled s (history_of p) st.dom request new said
     → (kept.audit.is_on ≡ true → IsAbout s old st.dom request told) → AddsRecord kept next st.dom told a
     → AreNamed next.labels (named_after p.named st.dom st a) → next.calls ≡ kept.calls → after ≡ before ++ answer_line types st.line st.dom a
     → (q : Progress) × DoLine types st call p q × HasPlayed s audit q new next × IsAppended p.text q.text before after
 do_answered s audit types st call p old new kept next before after request said a told asks is come made about adds names same line =
-    let made_so = subst (λ (o : Outcome). HasCalled s (history_of p) st.dom request new o) is made in
+    let made_so = subst (λ (o : LineOutcome). HasCalled s (history_of p) st.dom request new o) is made in
     let events : List Event = call_events st.dom request made_so.ticks in
     let ends = made_so.comes.3 in
     let first : made_so.trace ≡ Did made_so.comes.0 ∷ made_so.comes.1 = made_so.comes.2 in
@@ -127,11 +127,11 @@ do_answered s audit types st call p old new kept next before after request said 
       (answer_line types st.line st.dom a, refl, line),
     )
 
-pub do_busy : (s : Setting) (audit : Bool) (types : List (List ℕ)) (st : ScriptStep) (call : ScriptCall) (p : Progress) (old new : CoreState) (kept : Kept) (before after : List ℕ) (request : Request) (said : Outcome)
+pub do_busy : (s : Setting) (audit : Bool) (types : List (List ℕ)) (st : ScriptStep) (call : ScriptCall) (p : Progress) (old new : CoreState) (kept : PlayState) (before after : List ℕ) (request : Request) (said : LineOutcome)
     → SaysRequest p.named st.dom call request → said ≡ IsBusy → HasPlayed s audit p old kept → HasCalled s (history_of p) st.dom request new said → after ≡ before ++ busy_line st.line st.dom
     → (q : Progress) × DoLine types st call p q × HasPlayed s audit q new kept × IsAppended p.text q.text before after
 do_busy s audit types st call p old new kept before after request said asks is come made line =
-    let made_so = subst (λ (o : Outcome). HasCalled s (history_of p) st.dom request new o) is made in
+    let made_so = subst (λ (o : LineOutcome). HasCalled s (history_of p) st.dom request new o) is made in
     let events : List Event = call_events st.dom request made_so.ticks in (
       progress_after types (with_events p events made_so.trace) st IsBusy,
       (request, asks, made_so.ticks, made_so.trace, IsBusy, made_so.length_of, made_so.comes, refl),
@@ -145,7 +145,7 @@ do_busy s audit types st call p old new kept before after request said asks is c
 -- `begin ID CALL`
 
 -- one event of the domain
-begun_once : (s : Setting) (audit : Bool) (types : List (List ℕ)) (st : ScriptStep) (call : ScriptCall) (p : Progress) (request : Request) (x : Element) (named : List Named) (calls : ℕ → Option ScriptStep) (text : List ℕ) (old new : CoreState) (kept next : Kept) (before after : List ℕ)
+begun_once : (s : Setting) (audit : Bool) (types : List (List ℕ)) (st : ScriptStep) (call : ScriptCall) (p : Progress) (request : Request) (x : Element) (named : List Named) (calls : ℕ → Option ScriptStep) (text : List ℕ) (old new : CoreState) (kept next : PlayState) (before after : List ℕ)
     → SaysRequest p.named st.dom call request → HasPlayed s audit p old kept → MayDo s (history_of p) (Begin st.dom request) x × CoreStands s (grown (history_of p) x) new
     → progress_begun types (with_events p (Begin st.dom request ∷ []) (x ∷ [])) st x
     ≡ record { events = p.events ++ Begin st.dom request ∷ []; trace = p.trace ++ x ∷ []; named = named; open_steps = calls; text = p.text ++ text }
@@ -163,7 +163,7 @@ begun_once s audit types st call p request x named calls text old new kept next 
       (text, refl, line),
     )
 
-pub begin_answered : (s : Setting) (audit : Bool) (types : List (List ℕ)) (st : ScriptStep) (call : ScriptCall) (p : Progress) (old new : CoreState) (kept next : Kept) (before after : List ℕ) (request : Request) (said : Begun) (a : Answer) (hyper : Option Hypercall)
+pub begin_answered : (s : Setting) (audit : Bool) (types : List (List ℕ)) (st : ScriptStep) (call : ScriptCall) (p : Progress) (old new : CoreState) (kept next : PlayState) (before after : List ℕ) (request : Request) (said : Begun) (a : Answer) (hyper : Option Hypercall)
     → SaysRequest p.named st.dom call request → said ≡ begun.Done a → HasPlayed s audit p old kept → (kept.audit.is_on ≡ true → IsAbout s old st.dom request hyper) → AddsRecord kept next st.dom hyper a → MayDo s (history_of p) (Begin st.dom request) (begun_element st.dom request said) × CoreStands s (grown (history_of p) (begun_element st.dom request said)) new
     → AreNamed next.labels (named_after p.named st.dom st a) → next.calls ≡ kept.calls → after ≡ before ++ answer_line types st.line st.dom a
     → (q : Progress) × BeginLine types st call p q × HasPlayed s audit q new next × IsAppended p.text q.text before after
@@ -178,7 +178,7 @@ begin_answered s audit types st call p old new kept next before after request sa
     (about on (history_of p) come.stands) adds.records (subst (λ (c : OpenCalls). AreTold s (history_of p) (told_in c)) (sym same) known))
     line
 
-pub begin_busy : (s : Setting) (audit : Bool) (types : List (List ℕ)) (st : ScriptStep) (call : ScriptCall) (p : Progress) (old new : CoreState) (kept : Kept) (before after : List ℕ) (request : Request) (said : Begun)
+pub begin_busy : (s : Setting) (audit : Bool) (types : List (List ℕ)) (st : ScriptStep) (call : ScriptCall) (p : Progress) (old new : CoreState) (kept : PlayState) (before after : List ℕ) (request : Request) (said : Begun)
     → SaysRequest p.named st.dom call request → said ≡ begun.Busy → HasPlayed s audit p old kept → MayDo s (history_of p) (Begin st.dom request) (begun_element st.dom request said) × CoreStands s (grown (history_of p) (begun_element st.dom request said)) new
     → after ≡ before ++ busy_line st.line st.dom → (q : Progress) × BeginLine types st call p q × HasPlayed s audit q new kept × IsAppended p.text q.text before after
 begin_busy s audit types st call p old new kept before after request said asks is come told line =
@@ -186,7 +186,7 @@ begin_busy s audit types st call p old new kept before after request said asks i
     begun_once s audit types st call p request Busy p.named p.open_steps (busy_line st.line st.dom) old new kept kept before after asks come told_so refl come.keeps.names come.keeps.calls (λ n apart. refl) (come.knows st.dom.0) refl
     (λ on known. audited_busy s (history_of p) (Busy ∷ []) kept.audit.records.items (told_in kept.calls) refl known) line
 
-begun_open : (s : Setting) (audit : Bool) (types : List (List ℕ)) (st : ScriptStep) (call : ScriptCall) (p : Progress) (old new : CoreState) (kept next : Kept) (before after : List ℕ) (request : Request) (hyper : Option Hypercall)
+begun_open : (s : Setting) (audit : Bool) (types : List (List ℕ)) (st : ScriptStep) (call : ScriptCall) (p : Progress) (old new : CoreState) (kept next : PlayState) (before after : List ℕ) (request : Request) (hyper : Option Hypercall)
     → SaysRequest p.named st.dom call request → HasPlayed s audit p old kept → (kept.audit.is_on ≡ true → IsAbout s old st.dom request hyper) → next.audit ≡ kept.audit → ((n : ℕ) → told_in next.calls n ≡ cond (n == st.dom.0) hyper (told_in kept.calls n))
     → MayDo s (history_of p) (Begin st.dom request) (Did (record { actor = st.dom; happened = Began request; answer = None }))
     × CoreStands s (record { actor = st.dom; happened = Began request; answer = None } ∷ history_of p) new
@@ -200,12 +200,12 @@ begun_open s audit types st call p old new kept next before after request hyper 
     (ap (λ (text : List ℕ). record { events = p.events ++ Begin st.dom request ∷ []; trace = p.trace ++ Did i ∷ []; named = p.named; open_steps = calls; text = text }) (sym (append-nil p.text)))
     (subst (λ (l : Labels). AreNamed l p.named) (sym same) come.keeps.names)
     (λ n. known n ∙ ap (λ (o : Option ScriptStep). cond (n == st.dom.0) (Some st) o) (come.keeps.calls n))
-    (pick_other p.open_steps (Some st) st.dom.0) (ap is_some (pick_own p.open_steps (Some st) st.dom.0) ∙ sym (ap is_some now)) (ap (λ (a : Audit). a.is_on) was_so)
-    (λ on knew. subst (λ (a : Audit). Records s (history_of p) (Did i ∷ []) kept.audit.records.items a.records.items (told_in next.calls)) (sym was_so)
+    (pick_other p.open_steps (Some st) st.dom.0) (ap is_some (pick_own p.open_steps (Some st) st.dom.0) ∙ sym (ap is_some now)) (ap (λ (a : AuditRecords). a.is_on) was_so)
+    (λ on knew. subst (λ (a : AuditRecords). Records s (history_of p) (Did i ∷ []) kept.audit.records.items a.records.items (told_in next.calls)) (sym was_so)
     (audited_begun s (history_of p) st.dom request kept.audit.records.items (told_in kept.calls) (told_in next.calls) hyper told.0 (about on (history_of p) come.stands) picked knew))
     (line ∙ sym (append-nil before))
 
-pub begin_open : (s : Setting) (audit : Bool) (types : List (List ℕ)) (st : ScriptStep) (call : ScriptCall) (p : Progress) (old new : CoreState) (kept next : Kept) (before after : List ℕ) (request : Request) (said : Begun) (hyper : Option Hypercall)
+pub begin_open : (s : Setting) (audit : Bool) (types : List (List ℕ)) (st : ScriptStep) (call : ScriptCall) (p : Progress) (old new : CoreState) (kept next : PlayState) (before after : List ℕ) (request : Request) (said : Begun) (hyper : Option Hypercall)
     → SaysRequest p.named st.dom call request → domain_of s.domains st.dom ≢ None → (said ≡ begun.Open) ⊎ (said ≡ begun.NoDomain) → HasPlayed s audit p old kept
     → (kept.audit.is_on ≡ true → IsAbout s old st.dom request hyper) → next.audit ≡ kept.audit → ((n : ℕ) → told_in next.calls n ≡ cond (n == st.dom.0) hyper (told_in kept.calls n))
     → MayDo s (history_of p) (Begin st.dom request) (begun_element st.dom request said) × CoreStands s (grown (history_of p) (begun_element st.dom request said)) new
@@ -220,7 +220,7 @@ begin_open s audit types st call p old new kept next before after request said h
 
 -- `tick ID N`
 
-pub ticks_answered : (s : Setting) (audit : Bool) (types : List (List ℕ)) (st : ScriptStep) (most : ℕ) (begun : ScriptStep) (p : Progress) (old new : CoreState) (kept next : Kept) (before after : List ℕ) (said : Option Answer) (a : Answer) (hyper : Option Hypercall)
+pub ticks_answered : (s : Setting) (audit : Bool) (types : List (List ℕ)) (st : ScriptStep) (most : ℕ) (begun : ScriptStep) (p : Progress) (old new : CoreState) (kept next : PlayState) (before after : List ℕ) (said : Option Answer) (a : Answer) (hyper : Option Hypercall)
     → hyper ≡ told_in kept.calls st.dom.0 → AddsRecord kept next st.dom hyper a → ((n : ℕ) → told_in next.calls n ≡ cond (n == st.dom.0) None (told_in kept.calls n))
     → call_in kept.calls st.dom.0 ≡ Some begun → said ≡ Some a → HasPlayed s audit p old kept → TicksTo s (history_of p) st.dom most new said
     → AreNamed next.labels (named_after p.named st.dom begun a) → ((n : ℕ) → call_in next.calls n ≡ cond (n == st.dom.0) None (call_in kept.calls n)) → after ≡ before ++ answer_line types begun.line st.dom a
@@ -246,7 +246,7 @@ ticks_answered s audit types st most begun p old new kept next before after said
       (answer_line types begun.line st.dom a, refl, line),
     )
 
-pub ticks_open : (s : Setting) (audit : Bool) (types : List (List ℕ)) (st : ScriptStep) (most : ℕ) (begun : ScriptStep) (p : Progress) (old new : CoreState) (kept : Kept) (before after : List ℕ) (said : Option Answer)
+pub ticks_open : (s : Setting) (audit : Bool) (types : List (List ℕ)) (st : ScriptStep) (most : ℕ) (begun : ScriptStep) (p : Progress) (old new : CoreState) (kept : PlayState) (before after : List ℕ) (said : Option Answer)
     → domain_of s.domains st.dom ≢ None → call_in kept.calls st.dom.0 ≡ Some begun → said ≡ None → HasPlayed s audit p old kept → TicksTo s (history_of p) st.dom most new said → after ≡ before
     → (q : Progress) × TickLine types st most (p.open_steps st.dom.0) p q × HasPlayed s audit q new kept × IsAppended p.text q.text before after
 ticks_open s audit types st most begun p old new kept before after said configured begins is come ticks line =
@@ -267,7 +267,7 @@ ticks_open s audit types st most begun p old new kept before after said configur
       ([], sym (append-nil p.text), line ∙ sym (append-nil before)),
     )
 
-pub ticks_idle : (s : Setting) (audit : Bool) (types : List (List ℕ)) (st : ScriptStep) (most : ℕ) (p : Progress) (domains : CoreState) (kept : Kept) (before after : List ℕ)
+pub ticks_idle : (s : Setting) (audit : Bool) (types : List (List ℕ)) (st : ScriptStep) (most : ℕ) (p : Progress) (domains : CoreState) (kept : PlayState) (before after : List ℕ)
     → call_in kept.calls st.dom.0 ≡ None → HasPlayed s audit p domains kept → after ≡ before ++ idle_line st.line st.dom
     → (q : Progress) × TickLine types st most (p.open_steps st.dom.0) p q × HasPlayed s audit q domains kept × IsAppended p.text q.text before after
 ticks_idle s audit types st most p domains kept before after none come line =
@@ -282,7 +282,7 @@ ticks_idle s audit types st most p domains kept before after none come line =
 
 -- `show ID REF`
 
-pub shows : (s : Setting) (audit : Bool) (st : ScriptStep) (gref : GrantRef) (p : Progress) (domains : CoreState) (kept : Kept) (before after : List ℕ) (shown : Option Shown)
+pub shows : (s : Setting) (audit : Bool) (st : ScriptStep) (gref : GrantRef) (p : Progress) (domains : CoreState) (kept : PlayState) (before after : List ℕ) (shown : Option EntryView)
     → HasPlayed s audit p domains kept → ((h : History) → CoreStands s h domains → shown ≡ shown_at s h st.dom gref.0) → after ≡ before ++ show_line st.line st.dom gref shown
     → (q : Progress) × ShowLine s st gref p q × HasPlayed s audit q domains kept × IsAppended p.text q.text before after
 shows s audit st gref p domains kept before after shown come told line =
@@ -290,5 +290,5 @@ shows s audit st gref p domains kept before after shown come told line =
       with_line p text,
       refl,
       lined s audit p text domains kept come,
-      (text, refl, line ∙ ap (λ (o : Option Shown). before ++ show_line st.line st.dom gref o) (told (history_of p) come.stands)),
+      (text, refl, line ∙ ap (λ (o : Option EntryView). before ++ show_line st.line st.dom gref o) (told (history_of p) come.stands)),
     )

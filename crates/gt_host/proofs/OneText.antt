@@ -24,12 +24,12 @@ use Rattle.gt_core.specs.declared.trace.Event.TheVariants.{Begin, Tick}
 use Rattle.gt_core.specs.History.{History, Setting}
 use Rattle.gt_core.specs.Legal.{Legal, LegalAfter, grown, history_after}
 use Rattle.gt_core.specs.Shown.{shown_at}
-use Rattle.gt_core.specs.declared.core_state.Shown.{Shown}
+use Rattle.gt_core.specs.declared.core_state.EntryView.{EntryView}
 use Rattle.gt_core.specs.Alike.{told_part, SameEvent, SameElement, IsOfKnown, IsRun, AreAlike}
 use Rattle.gt_streams.specs.Streams.{AppendsBeginning}
 use Rattle.gt_streams.specs.Laws.{begins_longer}
-use Rattle.gt_host.specs.declared.outcome.Outcome.{Outcome}
-use Rattle.gt_host.specs.declared.outcome.Outcome.TheVariants.{Answered, Busy}
+use Rattle.gt_host.specs.declared.outcome.LineOutcome.{LineOutcome}
+use Rattle.gt_host.specs.declared.outcome.LineOutcome.TheVariants.{Answered, Busy}
 use Rattle.gt_host.specs.Printing.{answer_text, answer_line, call_text, busy_line, idle_line}
 use Rattle.gt_host.specs.Showing.{show_line}
 use Rattle.gt_host.specs.Playing.{IsLegalRunOf, setting_of_script, play_text, audited_text, BeginsRun, BeginsEvery}
@@ -151,7 +151,7 @@ with-answer t types p q dom s a b e one other w =
 
 -- a whole call
 
-call-legal : (t : Setting) (types : List (List ℕ)) (p : Progress) (s : ScriptStep) (o : Outcome) → Legal t (progress_after types p s o).events (progress_after types p s o).trace → Legal t p.events p.trace
+call-legal : (t : Setting) (types : List (List ℕ)) (p : Progress) (s : ScriptStep) (o : LineOutcome) → Legal t (progress_after types p s o).events (progress_after types p s o).trace → Legal t p.events p.trace
 call-legal t types p s (Answered a) legal = legal
 call-legal t types p s Busy legal = legal
 
@@ -186,7 +186,7 @@ swapped-calls t p q d one other n m xs ys c =
       lawful = c.legal;
     }
 
-calls-together : StaysAlike → (t : Setting) (types : List (List ℕ)) (s : ScriptStep) (p q : Progress) (one other : Request) (n m : ℕ) (xs ys : List Element) (o r : Outcome) → Calls t p q s.dom one other n m xs ys
+calls-together : StaysAlike → (t : Setting) (types : List (List ℕ)) (s : ScriptStep) (p q : Progress) (one other : Request) (n m : ℕ) (xs ys : List Element) (o r : LineOutcome) → Calls t p q s.dom one other n m xs ys
     → EndsAsOutcome xs o → EndsAsOutcome ys r → Together t (progress_after types (with_events p (call_events s.dom one n) xs) s o) (progress_after types (with_events q (call_events s.dom other m) ys) s r)
 calls-together law t types s p q one other n m xs ys (Answered a) (Answered b) c (i, more, first, x) (j, rest, second, y) =
     let d = s.dom in
@@ -342,7 +342,7 @@ show-together shows t s gref p q one other w is so =
     let y = shown_at t (history_of q) s.dom gref.0 in
     subst (λ (z : Progress). Together t z other) (sym is)
     (subst (λ (z : Progress). Together t (with_line p (show_line s.line s.dom gref x)) z) (sym so)
-    (with-line t p q (show_line s.line s.dom gref x) (show_line s.line s.dom gref y) (ap (λ (o : Option Shown). show_line s.line s.dom gref o) (shows t (history_of p) (history_of q) s.dom gref.0 w.alike)) w))
+    (with-line t p q (show_line s.line s.dom gref x) (show_line s.line s.dom gref y) (ap (λ (o : Option EntryView). show_line s.line s.dom gref o) (shows t (history_of p) (history_of q) s.dom gref.0 w.alike)) w))
 
 line-together : StaysAlike → ShowsAlike → (t : Setting) (types : List (List ℕ)) (s : ScriptStep) (action : ScriptAction) (p q one other : Progress) → Together t p q → RunsLine t types s action p one → RunsLine t types s action q other
     → Legal t one.events one.trace → Legal t other.events other.trace → Together t one other
@@ -433,7 +433,7 @@ grows-none text = ([], sym (append-nil text))
 grows-both : (a b c : List ℕ) → Grows a b → Grows b c → Grows a c
 grows-both a b c (x, e) (y, f) = (x ++ y, f ∙ ap (λ (l : List ℕ). l ++ y) e ∙ append_assoc a x y)
 
-call-grows : (types : List (List ℕ)) (p : Progress) (s : ScriptStep) (o : Outcome) → Grows p.text (progress_after types p s o).text
+call-grows : (types : List (List ℕ)) (p : Progress) (s : ScriptStep) (o : LineOutcome) → Grows p.text (progress_after types p s o).text
 call-grows types p s (Answered a) = (answer_line types s.line s.dom a, refl)
 call-grows types p s Busy = (busy_line s.line s.dom, refl)
 

@@ -11,15 +11,15 @@ use Rattle.gt_core.specs.Standing.{CoreStands}
 use Rattle.gt_core.specs.Acting.{begun_element}
 use Rattle.gt_core.specs.States.{CoreState}
 use Rattle.gt_calls.specs.declared.request.Request.{Request}
-use Rattle.gt_calls.specs.declared.request.Asked.{Asked}
-use Rattle.gt_calls.specs.declared.request.Asked.TheVariants as asks
+use Rattle.gt_calls.specs.declared.request.OpenRequest.{OpenRequest}
+use Rattle.gt_calls.specs.declared.request.OpenRequest.TheVariants as asks
 use Rattle.gt_calls.specs.Asking.{asked, bytes_given_by}
-use Rattle.gt_calls.specs.declared.action.Seen.{Seen}
+use Rattle.gt_calls.specs.declared.action.Observation.{Observation}
 use Rattle.gt_calls.specs.declared.action.Step.{Step}
 use Rattle.gt_core.specs.declared.trace.Answer.{Answer}
 use Rattle.gt_core.specs.declared.trace.Item.{Item}
-use Rattle.gt_core.specs.declared.trace.Happened.{Happened}
-use Rattle.gt_core.specs.declared.trace.Happened.TheVariants.{Began, Stepped}
+use Rattle.gt_core.specs.declared.trace.ItemEvent.{ItemEvent}
+use Rattle.gt_core.specs.declared.trace.ItemEvent.TheVariants.{Began, Stepped}
 use Rattle.gt_core.specs.declared.trace.Event.TheVariants.{Begin, Tick}
 use Rattle.gt_core.specs.declared.trace.Element.{Element}
 use Rattle.gt_core.specs.declared.trace.Element.TheVariants.{Busy, Idle, NoDomain, Item as Did}
@@ -39,17 +39,17 @@ unfolding open_call
 other_call i h d apart = ap (λ (b : Bool). cond b (underway_after i (open_call h d)) (open_call h d)) (ne_eqb i.actor.0 d apart)
 
 -- the domain has this call open, and so many of its steps are made
-pub record HasOpen (h : History) (d : ℕ) (request : Asked) (count : ℕ) : Type 0 where
+pub record HasOpen (h : History) (d : ℕ) (request : OpenRequest) (count : ℕ) : Type 0 where
   pub call : Underway
   pub is : open_call h d ≡ Some call
   pub asks : call.request ≡ request
   pub made : length call.steps ≡ count
 
-stepped_once : (steps : List (Step × Seen)) (p : Step × Seen) (count : ℕ) → length steps ≡ count → length (steps ++ p ∷ []) ≡ count + 1
+stepped_once : (steps : List (Step × Observation)) (p : Step × Observation) (count : ℕ) → length steps ≡ count → length (steps ++ p ∷ []) ≡ count + 1
 stepped_once steps p count e = length-append steps (p ∷ []) ∙ ap (λ (n : ℕ). n + 1) e
 
 -- a step of an open call that is not answered
-step_stays : (s : Setting) (h : History) (actor d : DomId) (step : Step) (seen : Seen) (c : Underway) (request : Asked) (count : ℕ) → actor ≡ d → open_call h d.0 ≡ Some c → c.request ≡ request → length c.steps ≡ count
+step_stays : (s : Setting) (h : History) (actor d : DomId) (step : Step) (seen : Observation) (c : Underway) (request : OpenRequest) (count : ℕ) → actor ≡ d → open_call h d.0 ≡ Some c → c.request ≡ request → length c.steps ≡ count
     → StepsRightIn s h (record { actor = actor; happened = Stepped step seen; answer = None }) step seen (open_call h actor.0)
     → HasOpen (record { actor = actor; happened = Stepped step seen; answer = None } ∷ h) d.0 request (count + 1) × (count + 1 < most_steps request)
 step_stays s h actor d step seen c request count own is asks made right =
@@ -63,10 +63,10 @@ step_stays s h actor d step seen c request count own is asks made right =
         asks = asks;
         made = stepped_once c.steps (step, seen) count made;
       },
-      subst (λ (n : ℕ). n + 1 < most_steps request) made (subst (λ (r : Asked). length c.steps + 1 < most_steps r) asks soon),
+      subst (λ (n : ℕ). n + 1 < most_steps request) made (subst (λ (r : OpenRequest). length c.steps + 1 < most_steps r) asks soon),
     )
 
-item_stays : (s : Setting) (h : History) (d : DomId) (actor : DomId) (happened : Happened) (answer : Option Answer) (request : Asked) (count : ℕ) → HasOpen h d.0 request count → answer ≡ None
+item_stays : (s : Setting) (h : History) (d : DomId) (actor : DomId) (happened : ItemEvent) (answer : Option Answer) (request : OpenRequest) (count : ℕ) → HasOpen h d.0 request count → answer ≡ None
     → MayDo s h (Tick d) (Did (record { actor = actor; happened = happened; answer = answer }))
     → HasOpen (record { actor = actor; happened = happened; answer = answer } ∷ h) d.0 request (count + 1) × (count + 1 < most_steps request)
 item_stays s h d actor (Began other) answer request count open_now none may = absurd may.1.1
@@ -78,7 +78,7 @@ Some-None : {A : Type 0} (o : Option A) (x : A) → o ≡ Some x → o ≡ None 
 Some-None o x p q = cc
 
 -- a tick of an open call that does not answer it
-tick_stays : (s : Setting) (h : History) (d : DomId) (x : Element) (request : Asked) (count : ℕ) → domain_of s.domains d ≢ None → HasOpen h d.0 request count → answer_in x ≡ None → MayDo s h (Tick d) x
+tick_stays : (s : Setting) (h : History) (d : DomId) (x : Element) (request : OpenRequest) (count : ℕ) → domain_of s.domains d ≢ None → HasOpen h d.0 request count → answer_in x ≡ None → MayDo s h (Tick d) x
     → HasOpen (grown h x) d.0 request (count + 1) × (count + 1 < most_steps request)
 tick_stays s h d NoDomain request count known open_now none may = absurd (known may)
 tick_stays s h d Busy request count known open_now none may = absurd may
@@ -86,7 +86,7 @@ tick_stays s h d Idle request count known open_now none may = absurd (Some-None 
 tick_stays s h d (Did i) request count known open_now none may = item_stays s h d i.actor i.happened i.answer request count open_now none may
 
 -- ticks of an open call that do not answer it: it stays open, and has steps left
-pub ticks_stay : (s : Setting) (h : History) (d : DomId) (n : ℕ) (xs : List Element) (request : Asked) (count : ℕ) → domain_of s.domains d ≢ None → HasOpen h d.0 request count → AnswerNothing xs
+pub ticks_stay : (s : Setting) (h : History) (d : DomId) (n : ℕ) (xs : List Element) (request : OpenRequest) (count : ℕ) → domain_of s.domains d ≢ None → HasOpen h d.0 request count → AnswerNothing xs
     → LegalAfter s h (replicate n (Tick d)) xs → HasOpen (history_after h xs) d.0 request (count + n) × ((n ≡ 0) ⊎ (count + n < most_steps request))
 ticks_stay s h d zero [] request count known open_now quiet legal = (subst (λ (k : ℕ). HasOpen h d.0 request k) (omega arith) open_now, inl refl)
 ticks_stay s h d zero (x ∷ xs) request count known open_now quiet legal = absurd legal
@@ -115,7 +115,7 @@ begins_open s h d request (begun.Done answer) known is may = elim is [ inl e ↦
 begins_open s h d request begun.Busy known is may = elim is [ inl e ↦ cc | inr e ↦ cc ]
 begins_open s h d request begun.NoDomain known is may = absurd (known may)
 
-few_steps : (request : Asked) → most_steps request ≤ MAX_STEPS
+few_steps : (request : OpenRequest) → most_steps request ≤ MAX_STEPS
 few_steps (asks.Grant gref entry) = omega arith
 few_steps (asks.Revoke gref) = omega arith
 few_steps (asks.Withdraw gref) = omega arith
@@ -134,7 +134,7 @@ few_steps (asks.QuerySize dom) = omega arith
 few_steps (asks.GetVersion dom) = omega arith
 
 -- no call is without an answer after as many ticks
-pub always_answered : (s : Setting) (h : History) (d : DomId) (most : ℕ) (xs : List Element) (request : Asked) → most ≡ MAX_STEPS → domain_of s.domains d ≢ None → HasOpen h d.0 request 0 → AnswerNothing xs
+pub always_answered : (s : Setting) (h : History) (d : DomId) (most : ℕ) (xs : List Element) (request : OpenRequest) → most ≡ MAX_STEPS → domain_of s.domains d ≢ None → HasOpen h d.0 request 0 → AnswerNothing xs
     → LegalAfter s h (replicate most (Tick d)) xs → ⊥
 always_answered s h d most xs request all known open_now quiet legal =
     let bound : most_steps request ≤ MAX_STEPS = few_steps request in
@@ -144,7 +144,7 @@ always_answered s h d most xs request all known open_now quiet legal =
     ]
 
 -- ticks of a call that has just begun come to its answer
-pub unanswered : (s t : Setting) (h : History) (d : DomId) (most : ℕ) (request : Asked) (mid new : CoreState) (said : Option Answer) → most ≡ MAX_STEPS → t ≡ s → domain_of s.domains d ≢ None → HasOpen h d.0 request 0
+pub unanswered : (s t : Setting) (h : History) (d : DomId) (most : ℕ) (request : OpenRequest) (mid new : CoreState) (said : Option Answer) → most ≡ MAX_STEPS → t ≡ s → domain_of s.domains d ≢ None → HasOpen h d.0 request 0
     → CoreStands s h mid → ((g : History) → CoreStands t g mid → TicksTo t g d most new said) → said ≡ None → ⊥
 unanswered s t h d most request mid new said all same known open_now stands ticks none =
     let here = subst (λ (q : Setting). (g : History) → CoreStands q g mid → TicksTo q g d most new said) same ticks in

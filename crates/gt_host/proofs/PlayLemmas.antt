@@ -15,8 +15,8 @@ use Rattle.gt_core.specs.History.{Setting, open_call}
 use Rattle.gt_core.specs.Standing.{CoreModel, CoreStands}
 use Rattle.gt_core.specs.Acting.{setting_of}
 use Rattle.gt_core.specs.States.{CoreState}
-use Rattle.gt_host.specs.declared.kept.Kept.{Kept}
-use Rattle.gt_host.specs.declared.rights.Rights.{Rights}
+use Rattle.gt_host.specs.declared.kept.PlayState.{PlayState}
+use Rattle.gt_host.specs.declared.rights.ScriptPolicy.{ScriptPolicy}
 use Rattle.gt_host.specs.Rights.{may_by}
 use Rattle.gt_host.specs.OpenCalls.{call_in}
 use Rattle.gt_host.specs.Auditing.{asked_lines, audit_text, before_call, record_lines}
@@ -31,7 +31,7 @@ use Rattle.gt_host.specs.Ticking.{IsReadyToCall, KeepsProgress, HasPlayed, Leads
 use Rattle.gt_host.proofs.StartLemmas.{taken_known}
 
 -- how far a run has come: it stands where these steps led, and of its text some went out and the rest waits
-pub record IsUnderway (c : Contents) (audit : Bool) (steps : List ScriptStep) (domains : CoreState) (kept : Kept) (waiting : List ℕ) (old now : Option (List ℕ)) : Type 0 where
+pub record IsUnderway (c : Contents) (audit : Bool) (steps : List ScriptStep) (domains : CoreState) (kept : PlayState) (waiting : List ℕ) (old now : Option (List ℕ)) : Type 0 where
   pub progress : Progress
   pub run : IsRunOf (setting_of_script c) (type_names c) steps progress
   pub come : HasPlayed (setting_of_script c) audit progress domains kept
@@ -44,14 +44,14 @@ pub few_wait : (waiting : List ℕ) → waiting ≡ [] → length waiting < 6553
 few_wait waiting none = rw none (omega arith)
 
 -- the setting of a core that starts with a script
-pub same_setting_of_script : (c : Contents) (core : CoreModel Rights) → StartsFor c core → setting_of core.config (may_by core.rights) ≡ setting_of_script c
+pub same_setting_of_script : (c : Contents) (core : CoreModel ScriptPolicy) → StartsFor c core → setting_of core.config (may_by core.rights) ≡ setting_of_script c
 same_setting_of_script c core starts =
     ap (λ (ds : List DomainConfig). record { domains = ds; first_generation = core.config.first_gen; may = may_by core.rights }) starts.domains
     ∙ ap (λ (n : ℕ). record { domains = c.domains; first_generation = n; may = may_by core.rights }) starts.generation
     ∙ ap (λ (may : TypeId → TypeId → Perms → Bool). record { domains = c.domains; first_generation = first_gen c; may = may }) starts.rights
 
 -- nothing has happened yet
-pub starts_underway : (c : Contents) (audit : Bool) (core : CoreModel Rights) (kept : Kept) (waiting : List ℕ) (old : Option (List ℕ)) → StartsFor c core → KeepsProgress kept at_start → kept.audit.is_on ≡ audit → RecordsNothing kept → waiting ≡ []
+pub starts_underway : (c : Contents) (audit : Bool) (core : CoreModel ScriptPolicy) (kept : PlayState) (waiting : List ℕ) (old : Option (List ℕ)) → StartsFor c core → KeepsProgress kept at_start → kept.audit.is_on ≡ audit → RecordsNothing kept → waiting ≡ []
     → IsUnderway c audit [] core.state kept waiting old old
 unfolding open_call before_call
 starts_underway c audit core kept waiting old starts keeps on nothing none = record {
@@ -86,7 +86,7 @@ unfolding open_call
 not_begun c audit old new kept = inl (0, at_start, (refl, tt, λ dom. refl), Keeps-begins old new [] kept)
 
 -- a run that has come some way has written a beginning, and goes on to do so
-pub begins : (c : Contents) (audit : Bool) (steps : List ScriptStep) (n : ℕ) (domains : CoreState) (kept : Kept) (waiting : List ℕ) (old mid new : Option (List ℕ))
+pub begins : (c : Contents) (audit : Bool) (steps : List ScriptStep) (n : ℕ) (domains : CoreState) (kept : PlayState) (waiting : List ℕ) (old mid new : Option (List ℕ))
     → steps ≡ c.steps → IsUnderway c audit (take n steps) domains kept waiting old mid → AppendsBeginning mid new waiting → BeginsRun c audit old new
 begins c audit steps n domains kept waiting old mid new all u h =
     inl (
@@ -97,13 +97,13 @@ begins c audit steps n domains kept waiting old mid new all u h =
     )
 
 -- it has written a beginning already
-pub has_begun : (c : Contents) (audit : Bool) (steps : List ScriptStep) (n : ℕ) (domains : CoreState) (kept : Kept) (waiting : List ℕ) (old mid : Option (List ℕ))
+pub has_begun : (c : Contents) (audit : Bool) (steps : List ScriptStep) (n : ℕ) (domains : CoreState) (kept : PlayState) (waiting : List ℕ) (old mid : Option (List ℕ))
     → steps ≡ c.steps → IsUnderway c audit (take n steps) domains kept waiting old mid → BeginsRun c audit old mid
 has_begun c audit steps n domains kept waiting old mid all u =
     begins c audit steps n domains kept waiting old mid mid all u (0, omega arith, appends_nothing mid)
 
 -- a step more, of whose line some goes out
-pub goes_on : (c : Contents) (audit : Bool) (t : Setting) (known : List (List ℕ)) (steps : List ScriptStep) (i : ℕ) (s : ScriptStep) (domains next : CoreState) (kept later : Kept) (w more rest : List ℕ) (old mid now : Option (List ℕ))
+pub goes_on : (c : Contents) (audit : Bool) (t : Setting) (known : List (List ℕ)) (steps : List ScriptStep) (i : ℕ) (s : ScriptStep) (domains next : CoreState) (kept later : PlayState) (w more rest : List ℕ) (old mid now : Option (List ℕ))
     → t ≡ setting_of_script c → IsUnderway c audit (take i steps) domains kept w old mid → i < length steps → s ≡ get_or steps i s → known ≡ (type_names c)
     → Leads t (λ p q. RunsLine t known s s.action p q) domains next kept later w more → Sends mid now more rest → IsUnderway c audit (take (i + 1) steps) next later rest old now
 goes_on c audit t known steps i s domains next kept later w more rest old mid now setting u within is same leads (sent, split, went) =
@@ -121,7 +121,7 @@ goes_on c audit t known steps i s domains next kept later w more rest old mid no
     }
 
 -- a step more, whose line waits with the others, of which a beginning goes out
-pub begins_step : (c : Contents) (audit : Bool) (t : Setting) (known : List (List ℕ)) (steps : List ScriptStep) (i : ℕ) (s : ScriptStep) (domains next : CoreState) (kept later : Kept) (w more : List ℕ) (old mid new : Option (List ℕ))
+pub begins_step : (c : Contents) (audit : Bool) (t : Setting) (known : List (List ℕ)) (steps : List ScriptStep) (i : ℕ) (s : ScriptStep) (domains next : CoreState) (kept later : PlayState) (w more : List ℕ) (old mid new : Option (List ℕ))
     → t ≡ setting_of_script c → steps ≡ c.steps → IsUnderway c audit (take i steps) domains kept w old mid → i < length steps → s ≡ get_or steps i s → known ≡ (type_names c)
     → Leads t (λ p q. RunsLine t known s s.action p q) domains next kept later w more → AppendsBeginning mid new more → BeginsRun c audit old new
 begins_step c audit t known steps i s domains next kept later w more old mid new setting all u within is same leads h =
@@ -129,7 +129,7 @@ begins_step c audit t known steps i s domains next kept later w more old mid new
     (goes_on c audit t known steps i s domains next kept later w more more old mid mid setting u within is same leads ([], refl, appends_nothing mid)) h
 
 -- the next step finds a core that stands for what was done, and is one of a domain of the run
-pub ready : (c : Contents) (audit : Bool) (t : Setting) (steps : List ScriptStep) (i : ℕ) (s : ScriptStep) (domains : CoreState) (kept : Kept) (w : List ℕ) (old mid : Option (List ℕ))
+pub ready : (c : Contents) (audit : Bool) (t : Setting) (steps : List ScriptStep) (i : ℕ) (s : ScriptStep) (domains : CoreState) (kept : PlayState) (w : List ℕ) (old mid : Option (List ℕ))
     → t ≡ setting_of_script c → steps ≡ c.steps → All (λ (x : ScriptStep). IsTrue (is_taken c.domains x.dom)) c.steps → IsUnderway c audit (take i steps) domains kept w old mid → i < length steps → s ≡ get_or steps i s → IsReadyToCall t s.dom domains
 ready c audit t steps i s domains kept w old mid setting all configured u within is =
     let every : All (λ (x : ScriptStep). IsTrue (is_taken c.domains x.dom)) steps = subst (λ (l : List ScriptStep). All (λ (x : ScriptStep). IsTrue (is_taken c.domains x.dom)) l) (sym all) configured in
@@ -147,12 +147,12 @@ open_lines-same [] calls known same = refl
 open_lines-same (d ∷ ds) calls known same = ap (λ (o : Option ScriptStep). open_text d.id o ++ open_lines ds calls) (same d.id.0) ∙ ap (λ (l : List ℕ). open_text d.id (known d.id.0) ++ l) (open_lines-same ds calls known same)
 
 -- the lines of the records are those of the trace
-audit_lines : (s : Setting) (audit : Bool) (trace : List Element) (kept : Kept) (names : List (List ℕ)) → IsAudited s audit trace kept → asked_lines kept.audit.is_on names kept.audit.records.items ≡ audit_text audit s names trace
+audit_lines : (s : Setting) (audit : Bool) (trace : List Element) (kept : PlayState) (names : List (List ℕ)) → IsAudited s audit trace kept → asked_lines kept.audit.is_on names kept.audit.records.items ≡ audit_text audit s names trace
 audit_lines s false trace kept names is = ap (λ (b : Bool). asked_lines b names kept.audit.records.items) is.is_on
 audit_lines s true trace kept names is = ap (λ (b : Bool). asked_lines b names kept.audit.records.items) is.is_on ∙ ap (record_lines names) (is.recorded refl).records
 
 -- the lines of the open calls, and then those of the records, wait with the others
-last_lines : (c : Contents) (audit : Bool) (domains : CoreState) (kept : Kept) (ds : List DomainConfig) (names : List (List ℕ)) (steps : List ScriptStep) (waiting more last : List ℕ) (old mid : Option (List ℕ)) → ds ≡ c.domains → names ≡ type_names c
+last_lines : (c : Contents) (audit : Bool) (domains : CoreState) (kept : PlayState) (ds : List DomainConfig) (names : List (List ℕ)) (steps : List ScriptStep) (waiting more last : List ℕ) (old mid : Option (List ℕ)) → ds ≡ c.domains → names ≡ type_names c
     → more ≡ waiting ++ open_lines ds (call_in kept.calls) → last ≡ more ++ asked_lines kept.audit.is_on names kept.audit.records.items
     → (u : IsUnderway c audit steps domains kept waiting old mid) → u.sent ++ last ≡ audited_text c audit u.progress
 last_lines c audit domains kept ds names steps waiting more last old mid all called appended added u =
@@ -166,14 +166,14 @@ last_lines c audit domains kept ds names steps waiting more last old mid all cal
     ap (λ (l : List ℕ). u.sent ++ l) told ∙ sym (append_assoc u.sent more lines) ∙ ap (λ (l : List ℕ). l ++ lines) whole
 
 -- all steps were made: the run stands where they lead
-is_run : (c : Contents) (audit : Bool) (steps : List ScriptStep) (n : ℕ) (domains : CoreState) (kept : Kept) (waiting : List ℕ) (old mid : Option (List ℕ))
+is_run : (c : Contents) (audit : Bool) (steps : List ScriptStep) (n : ℕ) (domains : CoreState) (kept : PlayState) (waiting : List ℕ) (old mid : Option (List ℕ))
     → steps ≡ c.steps → n ≡ length steps → (u : IsUnderway c audit (take n steps) domains kept waiting old mid) → IsLegalRunOf c c.steps u.progress
 is_run c audit steps n domains kept waiting old mid all made u =
     let whole : take n steps ≡ c.steps = ap (λ (k : ℕ). take k steps) made ∙ take-length steps ∙ all in
     (subst (λ (l : List ScriptStep). IsRunOf (setting_of_script c) (type_names c) l u.progress) whole u.run, u.come.legal, u.come.knows)
 
 -- the last lines went out
-pub ends : (c : Contents) (audit : Bool) (steps : List ScriptStep) (n : ℕ) (domains : CoreState) (kept : Kept) (ds : List DomainConfig) (names : List (List ℕ)) (waiting more last : List ℕ) (old mid new : Option (List ℕ))
+pub ends : (c : Contents) (audit : Bool) (steps : List ScriptStep) (n : ℕ) (domains : CoreState) (kept : PlayState) (ds : List DomainConfig) (names : List (List ℕ)) (waiting more last : List ℕ) (old mid new : Option (List ℕ))
     → steps ≡ c.steps → n ≡ length steps → ds ≡ c.domains → names ≡ type_names c → more ≡ waiting ++ open_lines ds (call_in kept.calls) → last ≡ more ++ asked_lines kept.audit.is_on names kept.audit.records.items
     → IsUnderway c audit (take n steps) domains kept waiting old mid → Appends mid new last → WritesRun c audit old new
 ends c audit steps n domains kept ds names waiting more last old mid new all made configured called appended added u went = (
@@ -183,7 +183,7 @@ ends c audit steps n domains kept ds names waiting more last old mid new all mad
 )
 
 -- of the last lines a beginning went out
-pub begins_end : (c : Contents) (audit : Bool) (steps : List ScriptStep) (n : ℕ) (domains : CoreState) (kept : Kept) (ds : List DomainConfig) (names : List (List ℕ)) (waiting more last : List ℕ) (old mid new : Option (List ℕ))
+pub begins_end : (c : Contents) (audit : Bool) (steps : List ScriptStep) (n : ℕ) (domains : CoreState) (kept : PlayState) (ds : List DomainConfig) (names : List (List ℕ)) (waiting more last : List ℕ) (old mid new : Option (List ℕ))
     → steps ≡ c.steps → n ≡ length steps → ds ≡ c.domains → names ≡ type_names c → more ≡ waiting ++ open_lines ds (call_in kept.calls) → last ≡ more ++ asked_lines kept.audit.is_on names kept.audit.records.items
     → IsUnderway c audit (take n steps) domains kept waiting old mid → AppendsBeginning mid new last → BeginsRun c audit old new
 begins_end c audit steps n domains kept ds names waiting more last old mid new all made configured called appended added u went =

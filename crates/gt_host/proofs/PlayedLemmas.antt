@@ -8,8 +8,8 @@ use Rattle.gt_script.specs.declared.faults.ScriptError.{ScriptError}
 use Rattle.gt_script.specs.declared.faults.ScriptError.TheVariants as errors
 use Rattle.gt_streams.specs.declared.fault.ReadFault.{ReadFault}
 use Rattle.gt_streams.specs.declared.fault.ReadFault.TheVariants as reads
-use Rattle.gt_host.specs.declared.fault.Fault.{Fault}
-use Rattle.gt_host.specs.declared.fault.Fault.TheVariants as runs
+use Rattle.gt_host.specs.declared.fault.StepsFault.{StepsFault}
+use Rattle.gt_host.specs.declared.fault.StepsFault.TheVariants as runs
 use Rattle.gt_host.specs.declared.fault.PlayFault.{PlayFault}
 use Rattle.gt_host.specs.Faults.{fault_of, read_fault, play_ended}
 use Rattle.gt_host.specs.Playing.{BeginsEvery, BeginsRun, WritesRun, Played}
@@ -27,13 +27,13 @@ pub played_nothing : (Told : Result Contents Wrong → Type 0) (audit : Bool) (e
 played_nothing Told audit error fault old new told kept is = subst (λ (f : PlayFault). Played Told audit old new (Err f)) (sym is) (no_script Told audit error old new told kept)
 
 -- a script was run
-run-told : (Told : Result Contents Wrong → Type 0) (audit : Bool) (c : Contents) (r : Result (Unit {0}) Fault) (old new : Option (List ℕ)) → Told (Ok c) → OnOk r (WritesRun c audit old new) → OnErr r (BeginsRun c audit old new)
+run-told : (Told : Result Contents Wrong → Type 0) (audit : Bool) (c : Contents) (r : Result (Unit {0}) StepsFault) (old new : Option (List ℕ)) → Told (Ok c) → OnOk r (WritesRun c audit old new) → OnErr r (BeginsRun c audit old new)
     → (BeginsRun c audit old new → BeginsEvery c audit old new) → Played Told audit old new (play_ended r)
 run-told Told audit c (Ok done) old new told whole begun every = (c, told, whole)
 run-told Told audit c (Err runs.Memory) old new told whole begun every = inr (c, told, begun, every begun)
 run-told Told audit c (Err runs.Write) old new told whole begun every = (c, told, begun, every begun)
 
-pub played_run : (Told : Result Contents Wrong → Type 0) (audit : Bool) (c : Contents) (r : Result (Unit {0}) Fault) (t : Result (Unit {0}) PlayFault) (old new : Option (List ℕ)) → Told (Ok c)
+pub played_run : (Told : Result Contents Wrong → Type 0) (audit : Bool) (c : Contents) (r : Result (Unit {0}) StepsFault) (t : Result (Unit {0}) PlayFault) (old new : Option (List ℕ)) → Told (Ok c)
     → OnOk r (WritesRun c audit old new) → OnErr r (BeginsRun c audit old new) → (BeginsRun c audit old new → BeginsEvery c audit old new) → t ≡ play_ended r → Played Told audit old new t
 played_run Told audit c r t old new told whole begun every is =
     subst (λ (q : Result (Unit {0}) PlayFault). Played Told audit old new q) (sym is) (run-told Told audit c r old new told whole begun every)

@@ -24,12 +24,12 @@ use Rattle.gt_core.specs.declared.trace.Answer.{Answer}
 use Rattle.gt_core.specs.declared.trace.Answer.TheVariants as answers
 use Rattle.gt_core.specs.declared.trace.Element.{Element}
 use Rattle.gt_core.specs.declared.trace.Element.TheVariants as elements
-use Rattle.gt_core.specs.declared.trace.Happened.{Happened}
-use Rattle.gt_core.specs.declared.trace.Happened.TheVariants.{Began, Stepped}
+use Rattle.gt_core.specs.declared.trace.ItemEvent.{ItemEvent}
+use Rattle.gt_core.specs.declared.trace.ItemEvent.TheVariants.{Began, Stepped}
 use Rattle.gt_core.specs.declared.trace.Item.{Item}
 use Rattle.gt_core.specs.Alike.{bare_handle, bare_request, bare_happened, told_part, told_item, told_items, ToldItem}
 use Rattle.gt_core.specs.Alike.{IsKnown, AsksKnown, HappensKnown, IsRun, AreAlike}
-use Rattle.gt_host.specs.Auditing.{call_told, reply_told, record_with, before_begun, before_call, underway_told}
+use Rattle.gt_host.specs.Auditing.{hypercall_of_request, audited_reply, record_with, before_begun, before_call, underway_told}
 use Rattle.gt_host.specs.Auditing.{item_told, record_of, record_in, records_of, asked_lines, audit_text}
 
 -- what the law of gt_core says of handles
@@ -55,7 +55,7 @@ abbrev subject_of : Subject → Option Handle → Option (DomId × GrantRef)
 subject_of f None = None
 subject_of f (Some a) = f a
 
-call-filled : (f : Subject) (q : Request) → call_told f (asked q) ≡ filled (subject_of f (unmapped q)) (call_told (λ a. None) (asked (bare_request q)))
+call-filled : (f : Subject) (q : Request) → hypercall_of_request f (asked q) ≡ filled (subject_of f (unmapped q)) (hypercall_of_request (λ a. None) (asked (bare_request q)))
 call-filled f (requests.Unmap a) = refl
 call-filled f (requests.GrantBytes gref bytes) = refl
 call-filled f q = refl
@@ -76,11 +76,11 @@ subjects-same law s g h dom (Some a) None alike e j k = absurd (none-some (bare_
 subjects-same law s g h dom (Some a) (Some b) alike e j k = law s g h dom a b alike (same_Some (bare_handle a) (bare_handle b) e) (j a refl) (k b refl)
 
 call-same : HasOneSubject → (s : Setting) (g h : History) (dom : DomId) (q r : Request) → AreAlike s g h → bare_request q ≡ bare_request r → AsksKnown g dom.0 (asked q) → AsksKnown h dom.0 (asked r)
-    → call_told (subject_at s g dom) (asked q) ≡ call_told (subject_at s h dom) (asked r)
+    → hypercall_of_request (subject_at s g dom) (asked q) ≡ hypercall_of_request (subject_at s h dom) (asked r)
 call-same law s g h dom q r alike e j k =
     call-filled (subject_at s g dom) q
-    ∙ ap (λ (z : Request). filled (subject_of (subject_at s g dom) (unmapped q)) (call_told (λ a. None) (asked z))) e
-    ∙ ap (λ (o : Option (DomId × GrantRef)). filled o (call_told (λ a. None) (asked (bare_request r))))
+    ∙ ap (λ (z : Request). filled (subject_of (subject_at s g dom) (unmapped q)) (hypercall_of_request (λ a. None) (asked z))) e
+    ∙ ap (λ (o : Option (DomId × GrantRef)). filled o (hypercall_of_request (λ a. None) (asked (bare_request r))))
     (subjects-same law s g h dom (unmapped q) (unmapped r) alike (unmapped-bare q ∙ ap unmapped e ∙ sym (unmapped-bare r)) (λ a is. unmapped-known g dom.0 q a j is) (λ a is. unmapped-known h dom.0 r a k is))
     ∙ sym (call-filled (subject_at s h dom) r)
 
@@ -123,7 +123,7 @@ began-same : (q r : Request) → bare_happened (Began q) ≡ bare_happened (Bega
 began-same q r e = cc
 
 -- the actors' calls with what happened now
-with-alike : (s : Setting) (d : DomId) (g h b e : History) (x y : Happened) (c o : Option Underway) → bare_happened x ≡ bare_happened y → AreAlike s g h
+with-alike : (s : Setting) (d : DomId) (g h b e : History) (x y : ItemEvent) (c o : Option Underway) → bare_happened x ≡ bare_happened y → AreAlike s g h
     → HappensKnown g (record { actor = d; happened = x; answer = None }) → HappensKnown h (record { actor = d; happened = y; answer = None }) → OpensAlike s d b e c o
     → OpensAlike s d (before_begun x g b) (before_begun y h e) (underway_with x c) (underway_with y o)
 with-alike s d g h b e (Began q) (Began r) c o same alike j k w = (q, r, refl, refl, began-same q r same, alike, j, k)
@@ -174,11 +174,11 @@ under-same law s d g h None None w = refl
 under-same law s d g h None (Some o) w = absurd w
 under-same law s d g h (Some c) None w = absurd w
 under-same law s d g h (Some c) (Some o) (q, r, is, so, e, alike, j, k) =
-    ap (call_told (subject_at s g d)) is ∙ call-same law s g h d q r alike e j k ∙ sym (ap (call_told (subject_at s h d)) so)
+    ap (hypercall_of_request (subject_at s g d)) is ∙ call-same law s g h d q r alike e j k ∙ sym (ap (hypercall_of_request (subject_at s h d)) so)
 
 -- records
 
-item-same : HasOneSubject → (s : Setting) (g h : History) (d : DomId) (x y : Happened) → AreAlike s g h → bare_happened x ≡ bare_happened y
+item-same : HasOneSubject → (s : Setting) (g h : History) (d : DomId) (x y : ItemEvent) → AreAlike s g h → bare_happened x ≡ bare_happened y
     → HappensKnown g (record { actor = d; happened = x; answer = None }) → HappensKnown h (record { actor = d; happened = y; answer = None }) → item_told s g d x ≡ item_told s h d y
 item-same law s g h d (Began q) (Began r) alike e j k = call-same law s g h d q r alike (began-same q r e) j k
 item-same law s g h d (Began q) (Stepped step seen) alike e j k = absurd (cc)
@@ -187,10 +187,10 @@ item-same law s g h d (Stepped step seen) (Stepped other saw) alike e j k =
     under-same law s d (before_call g d.0) (before_call h d.0) (open_call g d.0) (open_call h d.0) (opens-alike s d g h alike)
 
 abbrev reply_from : Answer ⊎ List ℕ → Reply
-reply_from (inl answer) = reply_told answer
+reply_from (inl answer) = audited_reply answer
 reply_from (inr bytes) = replies.Done
 
-reply-told : (a : Answer) → reply_told a ≡ reply_from (told_part a)
+reply-told : (a : Answer) → audited_reply a ≡ reply_from (told_part a)
 reply-told (answers.Mapped handle) = refl
 reply-told (answers.Bytes b) = refl
 reply-told a = refl

@@ -17,15 +17,15 @@ use Rattle.gt_core.specs.declared.trace.Event.TheVariants.{Begin, Tick}
 use Rattle.gt_core.specs.declared.trace.Element.{Element}
 use Rattle.gt_core.specs.declared.trace.Element.TheVariants.{Item as Did}
 use Rattle.gt_core.specs.declared.trace.Item.{Item}
-use Rattle.gt_core.specs.declared.trace.Happened.TheVariants.{Began}
+use Rattle.gt_core.specs.declared.trace.ItemEvent.TheVariants.{Began}
 use Rattle.gt_types.specs.Names.{domain_of}
-use Rattle.gt_calls.specs.declared.action.Seen.{Seen}
+use Rattle.gt_calls.specs.declared.action.Observation.{Observation}
 use Rattle.gt_calls.specs.declared.action.Step.{Step}
 use Rattle.gt_core.specs.declared.core_state.Begun.{Begun}
 use Rattle.gt_core.specs.declared.core_state.Begun.TheVariants as begun
 use Rattle.gt_core.specs.declared.core_state.Ticked.{Ticked}
 use Rattle.gt_core.specs.declared.core_state.Ticked.TheVariants as ticked
-use Rattle.gt_host.specs.declared.outcome.Outcome.TheVariants.{Answered, Busy}
+use Rattle.gt_host.specs.declared.outcome.LineOutcome.TheVariants.{Answered, Busy}
 use Rattle.gt_host.specs.Runs.{answer_in, AnswerNothing, EndsWith, EndsAsOutcome}
 use Rattle.gt_host.specs.Ticking.{HasHappened, HasCalled, TicksTo}
 
@@ -103,7 +103,7 @@ tick_more s t h dom count mid new said same other told u =
     }
 
 -- the tick that answers
-pub tick_last : (s t : Setting) (h : History) (dom : DomId) (most count : ℕ) (mid new : CoreState) (said : Ticked) (step : Step) (seen : Seen) (answer : Answer) → t ≡ s → count < most → said ≡ ticked.Done step seen answer
+pub tick_last : (s t : Setting) (h : History) (dom : DomId) (most count : ℕ) (mid new : CoreState) (said : Ticked) (step : Step) (seen : Observation) (answer : Answer) → t ≡ s → count < most → said ≡ ticked.Done step seen answer
     → ((g : History) → CoreStands t g mid → MayDo t g (Tick dom) (ticked_element dom said) × CoreStands t (grown g (ticked_element dom said)) new)
     → IsTicking s h dom count mid → TicksTo s h dom most new (Some answer)
 tick_last s t h dom most count mid new said step seen answer same few is told u =

@@ -12,7 +12,7 @@ use Rattle.gt_types.specs.declared.limits.TheConstants.{LAST_GENERATION}
 use Rattle.gt_core.specs.History.{Setting}
 use Rattle.gt_core.specs.Standing.{CoreModel, CoreStands}
 use Rattle.gt_core.specs.Acting.{setting_of}
-use Rattle.gt_host.specs.declared.rights.Rights.{Rights}
+use Rattle.gt_host.specs.declared.rights.ScriptPolicy.{ScriptPolicy}
 use Rattle.gt_host.specs.Rights.{may_by, may_in}
 use Rattle.gt_host.specs.Playing.{StartsFor}
 use Rattle.gt_host.proofs.RunLemmas.{same_setting}
@@ -27,7 +27,7 @@ no_fault c f faultless some first (inr (inl d)) = None-Some _ f (faultless.each 
 no_fault c f faultless some first (inr (inr (is, nonempty, all, late))) = omega arith
 
 -- a core that was made with the domains and the rights of a script
-pub starts_for : (c : Contents) (core : CoreModel Rights) (config : Config) (rights : Rights) → core.config ≡ config → core.rights ≡ rights → CoreStands (setting_of config (may_by rights)) [] core.state
+pub starts_for : (c : Contents) (core : CoreModel ScriptPolicy) (config : Config) (rights : ScriptPolicy) → core.config ≡ config → core.rights ≡ rights → CoreStands (setting_of config (may_by rights)) [] core.state
     → config.domains.items ≡ c.domains → config.first_gen ≡ first_gen c → may_by rights ≡ may_in c → StartsFor c core
 starts_for c core config rights same_config same_rights stands domains generation may = record {
   domains = ap (λ (k : Config). k.domains.items) same_config ∙ domains;

@@ -1,10 +1,10 @@
 -- The audit of a run, as its trace has it.
 use Rattle.std.specs.Prelude.{◌≡◌, ◌==◌, ◌++◌, ℕ, Bool, true, false, List, [], ◌∷◌, Option, None, Some, if◌then◌else◌}
 use Rattle.std.specs.Prelude.{option_to_list}
-use Rattle.gt_host.specs.Prelude.{DomId, GrantRef, Handle, asked, Asked, type_text, line_text, reply_text}
+use Rattle.gt_host.specs.Prelude.{DomId, GrantRef, Handle, asked, OpenRequest, type_text, line_text, reply_text}
 use Rattle.gt_host.specs.Prelude.{Hypercall, Record, Reply, History, Setting, Underway, open_call, grown, subject_at}
-use Rattle.gt_host.specs.Prelude.{Answer, Element, Happened, Began, Stepped, Item}
-use Rattle.gt_calls.specs.declared.request.Asked.TheVariants as asks
+use Rattle.gt_host.specs.Prelude.{Answer, Element, ItemEvent, Began, Stepped, Item}
+use Rattle.gt_calls.specs.declared.request.OpenRequest.TheVariants as asks
 use Rattle.gt_audit.specs.declared.record.Hypercall.TheVariants as calls
 use Rattle.gt_audit.specs.declared.record.Reply.TheVariants as replies
 use Rattle.gt_core.specs.declared.trace.Answer.TheVariants as answers
@@ -14,33 +14,33 @@ use Rattle.gt_host.specs.Printing.{answer_text}
 -- what a call is recorded as
 
 -- what a call is recorded as, if calls of its kind are audited: an unmap by the entry that its handle names
-abbrev pub call_told : (Handle → Option (DomId × GrantRef)) → Asked → Option Hypercall
-call_told subject (asks.Map dom gref flags) = Some (calls.Map dom gref flags)
-call_told subject (asks.Unmap handle) = Some (calls.Unmap (subject handle))
-call_told subject (asks.Copy c) = Some (calls.Copy c.source c.dest c.len c.flags)
-call_told subject (asks.QuerySize dom) = Some (calls.QuerySize dom)
-call_told subject (asks.GetVersion dom) = Some (calls.GetVersion dom)
-call_told subject (asks.SetVersion version) = Some (calls.SetVersion version)
-call_told subject (asks.SetupTable frames) = Some (calls.SetupTable frames)
-call_told subject (asks.Grant gref entry) = None
-call_told subject (asks.Revoke gref) = None
-call_told subject (asks.Withdraw gref) = None
-call_told subject (asks.Demote gref) = None
-call_told subject (asks.Promote gref) = None
-call_told subject (asks.Load handle off len) = None
-call_told subject (asks.Store handle off len) = None
-call_told subject (asks.Peek frame off len) = None
-call_told subject (asks.Poke frame off len) = None
+abbrev pub hypercall_of_request : (Handle → Option (DomId × GrantRef)) → OpenRequest → Option Hypercall
+hypercall_of_request subject (asks.Map dom gref flags) = Some (calls.Map dom gref flags)
+hypercall_of_request subject (asks.Unmap handle) = Some (calls.Unmap (subject handle))
+hypercall_of_request subject (asks.Copy c) = Some (calls.Copy c.source c.dest c.len c.flags)
+hypercall_of_request subject (asks.QuerySize dom) = Some (calls.QuerySize dom)
+hypercall_of_request subject (asks.GetVersion dom) = Some (calls.GetVersion dom)
+hypercall_of_request subject (asks.SetVersion version) = Some (calls.SetVersion version)
+hypercall_of_request subject (asks.SetupTable frames) = Some (calls.SetupTable frames)
+hypercall_of_request subject (asks.Grant gref entry) = None
+hypercall_of_request subject (asks.Revoke gref) = None
+hypercall_of_request subject (asks.Withdraw gref) = None
+hypercall_of_request subject (asks.Demote gref) = None
+hypercall_of_request subject (asks.Promote gref) = None
+hypercall_of_request subject (asks.Load handle off len) = None
+hypercall_of_request subject (asks.Store handle off len) = None
+hypercall_of_request subject (asks.Peek frame off len) = None
+hypercall_of_request subject (asks.Poke frame off len) = None
 
 -- what is recorded of an answer: a map's handle is not
-abbrev pub reply_told : Answer → Reply
-reply_told (answers.Denied denial) = replies.Denied denial
-reply_told answers.Done = replies.Done
-reply_told (answers.Mapped handle) = replies.Done
-reply_told (answers.Bytes bytes) = replies.Done
-reply_told (answers.Frames frames) = replies.Frames frames
-reply_told (answers.Size size) = replies.Size size
-reply_told (answers.Version version) = replies.Version version
+abbrev pub audited_reply : Answer → Reply
+audited_reply (answers.Denied denial) = replies.Denied denial
+audited_reply answers.Done = replies.Done
+audited_reply (answers.Mapped handle) = replies.Done
+audited_reply (answers.Bytes bytes) = replies.Done
+audited_reply (answers.Frames frames) = replies.Frames frames
+audited_reply (answers.Size size) = replies.Size size
+audited_reply (answers.Version version) = replies.Version version
 
 -- the reply prints as the answer does; bytes, which no audited call answers, are not recorded
 abbrev pub PrintsAs : List (List ℕ) → Answer → Reply → Type 0
@@ -48,19 +48,19 @@ PrintsAs names (answers.Bytes bytes) reply = Unit {0}
 PrintsAs names answer reply = reply_text (type_text (λ name. name) names) reply ≡ answer_text names answer
 
 -- the record of a call of this domain that is recorded so, with its answer: none of a call that is not audited
-abbrev pub record_told : DomId → Option Hypercall → Answer → Option Record
-record_told dom None answer = None
-record_told dom (Some call) answer = Some (record { dom = dom; call = call; reply = reply_told answer })
+abbrev pub encoded_record : DomId → Option Hypercall → Answer → Option Record
+encoded_record dom None answer = None
+encoded_record dom (Some call) answer = Some (record { dom = dom; call = call; reply = audited_reply answer })
 
 -- the record of an answer, if there is one
 abbrev pub record_with : DomId → Option Hypercall → Option Answer → Option Record
 record_with dom told None = None
-record_with dom told (Some answer) = record_told dom told answer
+record_with dom told (Some answer) = encoded_record dom told answer
 
 -- what a trace is recorded as
 
 -- the items before a call began, if it began with this item or earlier
-abbrev pub before_begun : Happened → History → History → History
+abbrev pub before_begun : ItemEvent → History → History → History
 before_begun (Began request) before earlier = before
 before_begun (Stepped step seen) before earlier = earlier
 
@@ -73,15 +73,15 @@ before_call (i ∷ before) d =
 -- what a call under way is recorded as, if it began after these items
 abbrev pub underway_told : Setting → DomId → History → Option Underway → Option Hypercall
 underway_told s d begun None = None
-underway_told s d begun (Some c) = call_told (subject_at s begun d) c.request
+underway_told s d begun (Some c) = hypercall_of_request (subject_at s begun d) c.request
 
 -- what the domain's open call is recorded as: an unmap by the entry that its handle named when it began
 abbrev pub open_told : Setting → History → DomId → Option Hypercall
 open_told s h d = underway_told s d (before_call h d.0) (open_call h d.0)
 
 -- what the call of an item is recorded as, if the item came after these
-abbrev pub item_told : Setting → History → DomId → Happened → Option Hypercall
-item_told s h d (Began request) = call_told (subject_at s h d) (asked request)
+abbrev pub item_told : Setting → History → DomId → ItemEvent → Option Hypercall
+item_told s h d (Began request) = hypercall_of_request (subject_at s h d) (asked request)
 item_told s h d (Stepped step seen) = open_told s h d
 
 -- the record of an item that came after these, if it carries the answer of an audited call

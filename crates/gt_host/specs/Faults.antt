@@ -6,8 +6,8 @@ use Rattle.gt_script.specs.declared.faults.ScriptError.{ScriptError}
 use Rattle.gt_script.specs.declared.faults.ScriptError.TheVariants as errors
 use Rattle.gt_streams.specs.declared.fault.ReadFault.{ReadFault}
 use Rattle.gt_streams.specs.declared.fault.ReadFault.TheVariants as reads
-use Rattle.gt_host.specs.declared.fault.Fault.{Fault}
-use Rattle.gt_host.specs.declared.fault.Fault.TheVariants as runs
+use Rattle.gt_host.specs.declared.fault.StepsFault.{StepsFault}
+use Rattle.gt_host.specs.declared.fault.StepsFault.TheVariants as runs
 use Rattle.gt_host.specs.declared.fault.PlayFault.{PlayFault}
 use Rattle.gt_host.specs.declared.fault.PlayFault.TheVariants as faults
 
@@ -23,7 +23,7 @@ read_fault reads.Memory = faults.Memory
 read_fault reads.Read = faults.Read
 
 -- what ends a run of steps
-abbrev pub play_ended : Result (Unit {0}) Fault → Result (Unit {0}) PlayFault
+abbrev pub play_ended : Result (Unit {0}) StepsFault → Result (Unit {0}) PlayFault
 play_ended (Ok done) = Ok done
 play_ended (Err runs.Memory) = Err faults.Memory
 play_ended (Err runs.Write) = Err faults.Write

@@ -4,7 +4,7 @@ use Rattle.std.specs.Prelude.{IsTrue}
 use Rattle.gt_host.specs.Prelude.{Appends, Keeps, AreFaultless, is_taken, LAST_GENERATION, block_fault_shown, Contents}
 use Rattle.gt_host.specs.Prelude.{type_names, first_gen, Wrong, in_script, in_policy, ScriptStep, Setting, Legal}
 use Rattle.gt_host.specs.Prelude.{CoreModel, CoreStands, setting_of, PlayFault, Memory, Read, Write, Script, Policy}
-use Rattle.gt_host.specs.Prelude.{Rights, AppendsBeginning}
+use Rattle.gt_host.specs.Prelude.{ScriptPolicy, AppendsBeginning}
 use Rattle.gt_policy.specs.declared.fault.TokenFault as policy
 use Rattle.gt_host.specs.Auditing.{audit_text}
 use Rattle.gt_host.specs.Rights.{may_by, may_in}
@@ -23,7 +23,7 @@ abbrev pub setting_of_script : Contents → Setting
 setting_of_script c = record { domains = c.domains; first_generation = first_gen c; may = may_in c }
 
 -- the core starts with the domains and the rights of the script
-pub record StartsFor (c : Contents) (core : CoreModel Rights) : Type 0 where
+pub record StartsFor (c : Contents) (core : CoreModel ScriptPolicy) : Type 0 where
   pub domains : core.config.domains.items ≡ c.domains
   pub generation : core.config.first_gen ≡ first_gen c
   pub rights : may_by core.rights ≡ may_in c

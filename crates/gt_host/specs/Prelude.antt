@@ -4,7 +4,7 @@ pub use Rattle.gt_audit.specs.declared.record.Hypercall.{Hypercall}
 pub use Rattle.gt_audit.specs.declared.record.Record.{Record}
 pub use Rattle.gt_audit.specs.declared.record.Reply.{Reply}
 pub use Rattle.gt_calls.specs.Asking.{asked}
-pub use Rattle.gt_calls.specs.declared.request.Asked.{Asked}
+pub use Rattle.gt_calls.specs.declared.request.OpenRequest.{OpenRequest}
 pub use Rattle.gt_calls.specs.declared.request.Request.{Request}
 pub use Rattle.gt_core.specs.Acting.{setting_of}
 pub use Rattle.gt_core.specs.History.{History, Setting, Underway, open_call}
@@ -17,15 +17,15 @@ pub use Rattle.gt_core.specs.declared.trace.Answer.TheVariants.{Mapped}
 pub use Rattle.gt_core.specs.declared.trace.Element.{Element}
 pub use Rattle.gt_core.specs.declared.trace.Event.{Event}
 pub use Rattle.gt_core.specs.declared.trace.Event.TheVariants.{Begin, Tick}
-pub use Rattle.gt_core.specs.declared.trace.Happened.{Happened}
-pub use Rattle.gt_core.specs.declared.trace.Happened.TheVariants.{Began, Stepped}
+pub use Rattle.gt_core.specs.declared.trace.ItemEvent.{ItemEvent}
+pub use Rattle.gt_core.specs.declared.trace.ItemEvent.TheVariants.{Began, Stepped}
 pub use Rattle.gt_core.specs.declared.trace.Item.{Item}
 pub use Rattle.gt_handles.specs.declared.handles.Handle.{Handle}
 pub use Rattle.gt_host.specs.declared.fault.PlayFault.{PlayFault}
 pub use Rattle.gt_host.specs.declared.fault.PlayFault.TheVariants.{Memory, Policy, Read, Script, Write}
-pub use Rattle.gt_host.specs.declared.outcome.Outcome.{Outcome}
-pub use Rattle.gt_host.specs.declared.outcome.Outcome.TheVariants.{Answered, Busy}
-pub use Rattle.gt_host.specs.declared.rights.Rights.{Rights}
+pub use Rattle.gt_host.specs.declared.outcome.LineOutcome.{LineOutcome}
+pub use Rattle.gt_host.specs.declared.outcome.LineOutcome.TheVariants.{Answered, Busy}
+pub use Rattle.gt_host.specs.declared.rights.ScriptPolicy.{ScriptPolicy}
 pub use Rattle.gt_lines.specs.Hexadecimal.{hex_bytes}
 pub use Rattle.gt_lines.specs.declared.calls.ScriptAction.{ScriptAction}
 pub use Rattle.gt_lines.specs.declared.calls.ScriptCall.{ScriptCall}

@@ -10,26 +10,26 @@ use Rattle.gt_core.specs.Standing.{CoreStands}
 use Rattle.gt_core.specs.States.{CoreState}
 use Rattle.gt_core.specs.Subject.{subject_at}
 use Rattle.gt_core.specs.declared.trace.Element.{Element}
-use Rattle.gt_host.specs.declared.kept.Kept.{Kept}
+use Rattle.gt_host.specs.declared.kept.PlayState.{PlayState}
 use Rattle.gt_host.specs.OpenCalls.{told_in}
-use Rattle.gt_host.specs.Auditing.{call_told, open_told, records_of}
+use Rattle.gt_host.specs.Auditing.{hypercall_of_request, open_told, records_of}
 
 -- the domain's request is recorded so, after the items for which the core stands
 abbrev pub IsAbout : Setting → CoreState → DomId → Request → Option Hypercall → Type 0
 IsAbout s domains dom request told =
-    (h : History) → CoreStands s h domains → told ≡ call_told (subject_at s h dom) (asked request)
+    (h : History) → CoreStands s h domains → told ≡ hypercall_of_request (subject_at s h dom) (asked request)
 
 -- nothing is recorded, and no open call is recorded
-pub record RecordsNothing (kept : Kept) : Type 0 where
+pub record RecordsNothing (kept : PlayState) : Type 0 where
   pub records : kept.audit.records.items ≡ []
   pub calls : (d : ℕ) → told_in kept.calls d ≡ None
 
 -- the records are those of the trace, and the open calls are recorded as it has them
-pub record IsRecorded (s : Setting) (trace : List Element) (kept : Kept) : Type 0 where
+pub record IsRecorded (s : Setting) (trace : List Element) (kept : PlayState) : Type 0 where
   pub records : kept.audit.records.items ≡ records_of s [] trace
   pub calls : (d : ℕ) → told_in kept.calls d ≡ open_told s (history_after [] trace) (record { 0 = d })
 
 -- a trace is recorded, if that is asked for
-pub record IsAudited (s : Setting) (audit : Bool) (trace : List Element) (kept : Kept) : Type 0 where
+pub record IsAudited (s : Setting) (audit : Bool) (trace : List Element) (kept : PlayState) : Type 0 where
   pub is_on : kept.audit.is_on ≡ audit
   pub recorded : audit ≡ true → IsRecorded s trace kept

@@ -7,11 +7,11 @@ use Rattle.gt_types.specs.declared.rights.Triple.{Triple}
 use Rattle.gt_allow.specs.Looking.{looks_up}
 use Rattle.gt_policy.specs.Allowing.{Allowed}
 use Rattle.gt_script.specs.Contents.{Contents}
-use Rattle.gt_host.specs.declared.rights.Rights.{Rights}
-use Rattle.gt_host.specs.declared.rights.Rights.TheVariants as rights
+use Rattle.gt_host.specs.declared.rights.ScriptPolicy.{ScriptPolicy}
+use Rattle.gt_host.specs.declared.rights.ScriptPolicy.TheVariants as rights
 
 -- what these rights allow
-abbrev pub may_by : Rights → TypeId → TypeId → Perms → Bool
+abbrev pub may_by : ScriptPolicy → TypeId → TypeId → Perms → Bool
 may_by (rights.Table t) source target perm = looks_up t source.0 target.0 perm
 may_by (rights.Triples t) source target perm = is_listed t.allowed.items source target perm
 

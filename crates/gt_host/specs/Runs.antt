@@ -3,7 +3,7 @@ use Rattle.std.specs.Prelude.{◌≡◌, ◌≤◌, ℕ, ◌+◌, ◌-◌, ◌^�
 use Rattle.std.specs.Prelude.{Some, None, unwrap_or, is_some, if◌then◌else◌}
 use Rattle.gt_host.specs.Prelude.{Bor, bytes_eq, DomId, GrantRef, DomainConfig, hex_bytes, ScriptCall, ScriptAction}
 use Rattle.gt_host.specs.Prelude.{ScriptStep, Handle, Request, Answer, Mapped, Event, Begin, Tick, Item, Element}
-use Rattle.gt_host.specs.Prelude.{History, Setting, open_call, history_after, shown_at, Outcome, Answered, Busy}
+use Rattle.gt_host.specs.Prelude.{History, Setting, open_call, history_after, shown_at, LineOutcome, Answered, Busy}
 use Rattle.gt_lines.specs.declared.calls.ScriptCall.TheVariants as calls
 use Rattle.gt_lines.specs.declared.calls.ScriptAction.TheVariants as actions
 use Rattle.gt_calls.specs.declared.request.Request.TheVariants as requests
@@ -36,24 +36,24 @@ handle_of named dom label = unwrap_or (handle_named named dom.0 label) never_giv
 -- calls
 
 -- the hexadecimal text of a call: that of an entry, or of the bytes that it writes
-abbrev pub text_said : ScriptCall → Option (List ℕ)
-text_said (calls.Grant gref entry) = None
-text_said (calls.GrantBytes gref hex) = Some hex
-text_said (calls.Revoke gref) = None
-text_said (calls.Withdraw gref) = None
-text_said (calls.Demote gref) = None
-text_said (calls.Promote gref) = None
-text_said (calls.Map label to gref flags) = None
-text_said (calls.Unmap label) = None
-text_said (calls.Load label off len) = None
-text_said (calls.Store label off hex) = Some hex
-text_said (calls.Peek frame off len) = None
-text_said (calls.Poke frame off hex) = Some hex
-text_said (calls.Copy c) = None
-text_said (calls.SetVersion version) = None
-text_said (calls.SetupTable frames) = None
-text_said (calls.QuerySize to) = None
-text_said (calls.GetVersion to) = None
+abbrev pub hex_of_call : ScriptCall → Option (List ℕ)
+hex_of_call (calls.Grant gref entry) = None
+hex_of_call (calls.GrantBytes gref hex) = Some hex
+hex_of_call (calls.Revoke gref) = None
+hex_of_call (calls.Withdraw gref) = None
+hex_of_call (calls.Demote gref) = None
+hex_of_call (calls.Promote gref) = None
+hex_of_call (calls.Map label to gref flags) = None
+hex_of_call (calls.Unmap label) = None
+hex_of_call (calls.Load label off len) = None
+hex_of_call (calls.Store label off hex) = Some hex
+hex_of_call (calls.Peek frame off len) = None
+hex_of_call (calls.Poke frame off hex) = Some hex
+hex_of_call (calls.Copy c) = None
+hex_of_call (calls.SetVersion version) = None
+hex_of_call (calls.SetupTable frames) = None
+hex_of_call (calls.QuerySize to) = None
+hex_of_call (calls.GetVersion to) = None
 
 -- the bytes of such a text, none if there is none
 abbrev pub bytes_or_none : Option (List ℕ) → List ℕ
@@ -61,8 +61,8 @@ bytes_or_none None = []
 bytes_or_none (Some hex) = hex_bytes hex
 
 -- the bytes that a call of a script says
-abbrev pub bytes_said : ScriptCall → List ℕ
-bytes_said call = bytes_or_none (text_said call)
+abbrev pub call_bytes : ScriptCall → List ℕ
+call_bytes call = bytes_or_none (hex_of_call call)
 
 -- what a call of a script asks of the core, if its labels name these handles and these are its bytes
 unfoldable pub request_of : List Named → DomId → Bor (List ℕ) → ScriptCall → Request
@@ -87,7 +87,7 @@ request_of named dom bytes (calls.GetVersion to) = requests.GetVersion to
 -- a call of a script asks this of the core, if its labels name these handles
 abbrev pub SaysRequest : List Named → DomId → ScriptCall → Request → Type 0
 SaysRequest named dom call request =
-    (bytes : Bor (List ℕ)) × (bytes.now ≡ bytes_said call) × (request ≡ request_of named dom bytes call)
+    (bytes : Bor (List ℕ)) × (bytes.now ≡ call_bytes call) × (request ≡ request_of named dom bytes call)
 
 -- the label to which a call gives its handle: that of a map
 abbrev pub label_given : ScriptCall → Option (List ℕ)
@@ -156,7 +156,7 @@ pub record EndsWith (trace : List Element) (answer : Answer) : Type 0 where
 
 -- what came of a call, by the elements of its beginning and its ticks: it begins, and goes on up to its answer;
 -- one that its domain can't begin has no tick
-abbrev pub EndsAsOutcome : List Element → Outcome → Type 0
+abbrev pub EndsAsOutcome : List Element → LineOutcome → Type 0
 EndsAsOutcome trace (Answered answer) =
     (first : Item) × (more : List Element) × (trace ≡ elements.Item first ∷ more) × EndsWith trace answer
 EndsAsOutcome trace Busy = trace ≡ elements.Busy ∷ []
@@ -208,7 +208,7 @@ answered types p dom s answer =
     record p { named = named_after p.named dom s answer; text = p.text ++ answer_line types s.line dom answer }
 
 -- a call from its beginning on came to this
-abbrev pub progress_after : List (List ℕ) → Progress → ScriptStep → Outcome → Progress
+abbrev pub progress_after : List (List ℕ) → Progress → ScriptStep → LineOutcome → Progress
 progress_after types p s (Answered answer) = answered types p s.dom s answer
 progress_after types p s Busy = with_line p (busy_line s.line s.dom)
 
@@ -233,7 +233,7 @@ after_ticks types p dom begun None = p
 abbrev pub DoLine : List (List ℕ) → ScriptStep → ScriptCall → Progress → Progress → Type 0
 DoLine types s call p q =
     (request : Request) × SaysRequest p.named s.dom call request
-    × (ticks : ℕ) × (trace : List Element) × (outcome : Outcome) × (length trace ≡ 1 + ticks)
+    × (ticks : ℕ) × (trace : List Element) × (outcome : LineOutcome) × (length trace ≡ 1 + ticks)
     × EndsAsOutcome trace outcome
     × (q ≡ progress_after types (with_events p (call_events s.dom request ticks) trace) s outcome)
 

@@ -8,7 +8,7 @@ use Rattle.gt_types.specs.declared.DomId.{DomId}
 use Rattle.gt_types.specs.declared.GrantRef.{GrantRef}
 use Rattle.gt_entry.specs.Spelling.{control_with}
 use Rattle.gt_entry.specs.Words.{status_bits_of}
-use Rattle.gt_core.specs.declared.core_state.Shown.{Shown}
+use Rattle.gt_core.specs.declared.core_state.EntryView.{EntryView}
 
 -- a status word: four lower-case hexadecimal digits
 abbrev pub status_text : ℕ → List ℕ
@@ -21,7 +21,7 @@ counts_text generation reads writes =
 
 -- what an entry shows: the entry, its generation, its live pins of each
 -- kind, and its status word; or that there is none
-abbrev pub shown_text : Option Shown → List ℕ
+abbrev pub shown_text : Option EntryView → List ℕ
 shown_text None = codes "none"
 shown_text (Some shown) =
     entry_text shown.entry ++ counts_text shown.generation shown.reads shown.writes
@@ -29,7 +29,7 @@ shown_text (Some shown) =
     ++ status_text (status_bits_of (control_with shown.entry shown.generation shown.reads shown.writes))
 
 -- `LINE show ID REF SHOWN`
-abbrev pub show_line : ℕ → DomId → GrantRef → Option Shown → List ℕ
+abbrev pub show_line : ℕ → DomId → GrantRef → Option EntryView → List ℕ
 show_line line dom gref shown =
     decimal line ++ codes " show " ++ decimal dom.0 ++ codes " " ++ decimal gref.0 ++ codes " " ++ shown_text shown
     ++ codes "\n"

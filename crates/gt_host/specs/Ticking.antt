@@ -11,8 +11,8 @@ use Rattle.gt_core.specs.declared.trace.Answer.{Answer}
 use Rattle.gt_core.specs.declared.trace.Event.{Event}
 use Rattle.gt_core.specs.declared.trace.Event.TheVariants.{Tick}
 use Rattle.gt_core.specs.declared.trace.Element.{Element}
-use Rattle.gt_host.specs.declared.kept.Kept.{Kept}
-use Rattle.gt_host.specs.declared.outcome.Outcome.{Outcome}
+use Rattle.gt_host.specs.declared.kept.PlayState.{PlayState}
+use Rattle.gt_host.specs.declared.outcome.LineOutcome.{LineOutcome}
 use Rattle.gt_host.specs.Naming.{AreNamed}
 use Rattle.gt_host.specs.OpenCalls.{call_in}
 use Rattle.gt_host.specs.Recording.{IsAudited}
@@ -26,7 +26,7 @@ pub record HasHappened (s : Setting) (h : History) (events : List Event) (trace 
 
 -- a call comes to this, by its beginning and some ticks
 pub record HasCalled (s : Setting) (h : History) (dom : DomId) (request : Request) (core : CoreState)
-    (outcome : Outcome) : Type 0 where
+    (outcome : LineOutcome) : Type 0 where
   pub ticks : ℕ
   pub trace : List Element
   pub length_of : length trace ≡ 1 + ticks
@@ -49,13 +49,13 @@ pub record IsReadyToCall (s : Setting) (dom : DomId) (core : CoreState) : Type 0
   pub known : domain_of s.domains dom ≢ None
 
 -- what is kept beside the core is what a run that has come here knows: what labels name, and the open calls
-pub record KeepsProgress (kept : Kept) (p : Progress) : Type 0 where
+pub record KeepsProgress (kept : PlayState) (p : Progress) : Type 0 where
   pub names : AreNamed kept.labels p.named
   pub calls : (dom : ℕ) → call_in kept.calls dom ≡ p.open_steps dom
 
 -- the run has come to this point: what it did is legal, and the core and what is
 -- kept stand for it; it is recorded, if that is asked for
-pub record HasPlayed (s : Setting) (audit : Bool) (p : Progress) (core : CoreState) (kept : Kept) : Type 0 where
+pub record HasPlayed (s : Setting) (audit : Bool) (p : Progress) (core : CoreState) (kept : PlayState) : Type 0 where
   pub legal : Legal s p.events p.trace
   pub stands : CoreStands s (history_of p) core
   pub keeps : KeepsProgress kept p
@@ -67,7 +67,7 @@ abbrev pub IsAppended : List ℕ → List ℕ → List ℕ → List ℕ → Type
 IsAppended was is before after = (text : List ℕ) × (is ≡ was ++ text) × (after ≡ before ++ text)
 
 -- from each point that the run may have come to, this leads to a next one
-abbrev pub Leads : Setting → (Progress → Progress → Type 0) → CoreState → CoreState → Kept → Kept → List ℕ → List ℕ
+abbrev pub Leads : Setting → (Progress → Progress → Type 0) → CoreState → CoreState → PlayState → PlayState → List ℕ → List ℕ
     → Type 0
 Leads s ToNext old_core new_core old_kept new_kept before after =
     (p : Progress) (audit : Bool) → HasPlayed s audit p old_core old_kept

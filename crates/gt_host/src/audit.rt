@@ -1,7 +1,7 @@
 //! The audit of a run: a record of each answer of an audited call.
 ghost use Rattle.std.specs.Prelude.{◌≡◌, ◌++◌, ℕ, List, [], true, OnOk, option_to_list};
 ghost use Rattle.gt_core.specs.Acting.{setting_of};
-ghost use Rattle.gt_host.specs.Auditing.{reply_told, record_told, record_lines, asked_lines, PrintsAs};
+ghost use Rattle.gt_host.specs.Auditing.{audited_reply, encoded_record, record_lines, asked_lines, PrintsAs};
 ghost use Rattle.gt_host.specs.Recording.{IsAbout};
 
 use gt_audit::{Hypercall, Record, Reply, push_line};
@@ -13,14 +13,14 @@ use std::alloc::{AllocError, Global};
 /// The records of a run, if they are asked for: one for each answer of an audited call, in the order of
 /// the answers.
 #[derive(Drop)]
-pub struct Audit {
+pub struct AuditRecords {
     is_on: bool,
     records: Vec<Record>,
 }
 
 // How a call is recorded that the domain is about to make; None if such calls are not audited. An unmap is
 // recorded by the entry that is mapped now: once it has its answer, its handle may name none.
-fn call_told<P: Allows>(core: &Core<P>, dom: DomId, request: Request<'_>) -> Option<Hypercall>
+fn hypercall_of_request<P: Allows>(core: &Core<P>, dom: DomId, request: Request<'_>) -> Option<Hypercall>
     ensures { IsAbout (setting_of core.now.config (P.may core.now.rights)) core.now.state
         dom request.entry result }
 {
@@ -52,8 +52,8 @@ fn call_told<P: Allows>(core: &Core<P>, dom: DomId, request: Request<'_>) -> Opt
     }
 }
 
-fn reply_told(answer: &Answer) -> Reply
-    ensures reply { result ≡ reply_told answer.now }
+fn audited_reply(answer: &Answer) -> Reply
+    ensures reply { result ≡ audited_reply answer.now }
     ensures prints { (names : List (List ℕ)) → PrintsAs names answer.now result }
 {
     match answer {
@@ -75,13 +75,13 @@ fn push_records(out: &mut Vec<u8>, records: &[Record], names: &[Text]) -> Result
     Ok(())
 }
 
-impl Audit {
+impl AuditRecords {
     /// No records yet, and none to come if they are not asked for.
-    pub fn new(alloc: Global, is_on: bool) -> Audit
+    pub fn new(alloc: Global, is_on: bool) -> AuditRecords
         ensures on { result.is_on ≡ is_on }
         ensures records { result.records.items ≡ [] }
     {
-        Audit {
+        AuditRecords {
             is_on,
             records: Vec::new(alloc),
         }
@@ -99,7 +99,7 @@ impl Audit {
             IsAbout (setting_of core.now.config (P.may core.now.rights)) core.now.state dom request.entry result }
     {
         if self.is_on {
-            call_told(core, dom, request)
+            hypercall_of_request(core, dom, request)
         } else {
             None
         }
@@ -113,11 +113,11 @@ impl Audit {
         answer: &Answer,
     ) -> Result<(), AllocError>
         ensures records { OnOk result
-            (self.new.records.items ≡ self.old.records.items ++ option_to_list (record_told dom told answer.now)) }
+            (self.new.records.items ≡ self.old.records.items ++ option_to_list (encoded_record dom told answer.now)) }
         ensures on { self.new.is_on ≡ self.old.is_on }
     {
         if let Some(call) = told {
-            let reply = reply_told(answer);
+            let reply = audited_reply(answer);
             self.records.push(Record { dom, call, reply })?;
         }
         Ok(())

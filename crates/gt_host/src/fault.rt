@@ -8,54 +8,54 @@ use std::fmt;
 
 /// Why the steps of a script were not run to their end. A beginning of the text was written.
 #[derive(Clone, Copy, Debug, PartialEq, Eq)]
-pub enum Fault {
+pub enum StepsFault {
     /// Memory was refused.
     Memory,
     /// A write failed.
     Write,
 }
 
-impl From<AllocError> for Fault {
+impl From<AllocError> for StepsFault {
     ghost use Rattle.std.specs.Prelude.{◌≡◌};
-    ghost use Rattle.gt_host.specs.declared.fault.Fault.TheVariants as faults;
+    ghost use Rattle.gt_host.specs.declared.fault.StepsFault.TheVariants as faults;
 
     ghost from_gives = { λ _ e. e ≡ faults.Memory };
 
-    fn from(_error: AllocError) -> Fault {
-        Fault::Memory
+    fn from(_error: AllocError) -> StepsFault {
+        StepsFault::Memory
     }
 }
 
-impl<T: Drop> From<AllocFailed<T>> for Fault {
+impl<T: Drop> From<AllocFailed<T>> for StepsFault {
     ghost use Rattle.std.specs.Prelude.{◌≡◌};
-    ghost use Rattle.gt_host.specs.declared.fault.Fault.TheVariants as faults;
+    ghost use Rattle.gt_host.specs.declared.fault.StepsFault.TheVariants as faults;
 
     ghost from_gives = { λ _ e. e ≡ faults.Memory };
 
-    fn from(_error: AllocFailed<T>) -> Fault {
-        Fault::Memory
+    fn from(_error: AllocFailed<T>) -> StepsFault {
+        StepsFault::Memory
     }
 }
 
-impl From<Memory> for Fault {
+impl From<Memory> for StepsFault {
     ghost use Rattle.std.specs.Prelude.{◌≡◌};
-    ghost use Rattle.gt_host.specs.declared.fault.Fault.TheVariants as faults;
+    ghost use Rattle.gt_host.specs.declared.fault.StepsFault.TheVariants as faults;
 
     ghost from_gives = { λ _ e. e ≡ faults.Memory };
 
-    fn from(_error: Memory) -> Fault {
-        Fault::Memory
+    fn from(_error: Memory) -> StepsFault {
+        StepsFault::Memory
     }
 }
 
-impl From<WriteFault> for Fault {
+impl From<WriteFault> for StepsFault {
     ghost use Rattle.std.specs.Prelude.{◌≡◌};
-    ghost use Rattle.gt_host.specs.declared.fault.Fault.TheVariants as faults;
+    ghost use Rattle.gt_host.specs.declared.fault.StepsFault.TheVariants as faults;
 
     ghost from_gives = { λ _ e. e ≡ faults.Write };
 
-    fn from(_error: WriteFault) -> Fault {
-        Fault::Write
+    fn from(_error: WriteFault) -> StepsFault {
+        StepsFault::Write
     }
 }
 
@@ -127,13 +127,13 @@ impl PlayFault {
     ghost use Rattle.gt_host.specs.Faults.{play_ended};
 
     /// How a run ended, for its caller.
-    pub fn told(outcome: Result<(), Fault>) -> Result<(), PlayFault>
+    pub fn told(outcome: Result<(), StepsFault>) -> Result<(), PlayFault>
         ensures { result ≡ play_ended outcome }
     {
         match outcome {
             Ok(()) => Ok(()),
-            Err(Fault::Memory) => Err(PlayFault::Memory),
-            Err(Fault::Write) => Err(PlayFault::Write),
+            Err(StepsFault::Memory) => Err(PlayFault::Memory),
+            Err(StepsFault::Write) => Err(PlayFault::Write),
         }
     }
 }

@@ -1,36 +1,36 @@
 //! What a run keeps beside the core.
-use crate::audit::Audit;
+use crate::audit::AuditRecords;
 use crate::labels::Labels;
 use crate::open_calls::OpenCalls;
 use std::alloc::Global;
 
 /// What a run keeps beside the core: what labels name, the calls that are open, and its records.
 #[derive(Drop)]
-pub struct Kept<'b, 'a> {
+pub struct PlayState<'b, 'a> {
     /// The allocator of what is kept and printed.
     pub alloc: Global,
     pub labels: Labels<'a>,
     pub calls: OpenCalls<'b, 'a>,
-    pub audit: Audit,
+    pub audit: AuditRecords,
 }
 
-impl<'b, 'a> Kept<'b, 'a> {
+impl<'b, 'a> PlayState<'b, 'a> {
     ghost use Rattle.std.specs.Prelude.{◌≡◌};
     ghost use Rattle.gt_host.specs.Recording.{RecordsNothing};
     ghost use Rattle.gt_host.specs.Runs.{at_start};
     ghost use Rattle.gt_host.specs.Ticking.{KeepsProgress};
 
     /// What is kept before the first line: nothing. Records are asked for, or not.
-    pub fn new(alloc: Global, audit: bool) -> Kept<'b, 'a>
+    pub fn new(alloc: Global, audit: bool) -> PlayState<'b, 'a>
         ensures kept { KeepsProgress result at_start }
         ensures on { result.audit.is_on ≡ audit }
         ensures records { RecordsNothing result }
     {
-        Kept {
+        PlayState {
             alloc,
             labels: Labels::new(alloc),
             calls: OpenCalls::new(alloc),
-            audit: Audit::new(alloc, audit),
+            audit: AuditRecords::new(alloc, audit),
         }
     }
 }

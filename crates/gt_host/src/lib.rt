@@ -35,5 +35,5 @@ pub use fault::PlayFault;
 pub use labels::Labels;
 pub use laws::{every_beginning_is_of_the_text, every_script_prints_one_text};
 pub use playing::{core_of, play};
-pub use rights::Rights;
-pub use run::{bytes_said, label_given, name_mapping, request_of};
+pub use rights::ScriptPolicy;
+pub use run::{call_bytes, label_given, name_mapping, request_of};

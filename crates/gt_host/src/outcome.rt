@@ -3,7 +3,7 @@ use gt_core::Answer;
 
 /// What came of a call.
 #[derive(Debug, Drop)]
-pub enum Outcome {
+pub enum LineOutcome {
     /// It was answered.
     Answered(Answer),
     /// It did not begin: its domain has another call open.

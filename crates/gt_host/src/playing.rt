@@ -4,7 +4,7 @@ ghost use Rattle.std.specs.Option.{option_map};
 ghost use Rattle.gt_script.specs.Contents.{contents_told};
 ghost use Rattle.gt_script.specs.RunScripts.{CanConfigure};
 ghost use Rattle.gt_script.specs.Script.{TellsScript};
-ghost use Rattle.gt_host.specs.declared.fault.Fault.TheVariants as faults;
+ghost use Rattle.gt_host.specs.declared.fault.StepsFault.TheVariants as faults;
 ghost use Rattle.gt_host.specs.OpenCalls.{call_in};
 ghost use Rattle.gt_host.specs.Runs.{open_text, open_lines};
 ghost use Rattle.gt_streams.specs.Streams.{OfInput, ConsumesAtMost};
@@ -12,11 +12,11 @@ ghost use Rattle.gt_streams.specs.declared.streams.TheConstants.{READ_LIMIT};
 ghost use Rattle.gt_host.specs.Playing.{CanStart, StartsFor, WritesRun, BeginsRun, Played};
 
 use crate::answers::push_open_line;
-use crate::fault::{Fault, PlayFault};
-use crate::kept::Kept;
+use crate::fault::{StepsFault, PlayFault};
+use crate::kept::PlayState;
 use crate::laws::every_beginning_is_of_the_text;
 use crate::open_calls::{OpenCalls, Opened};
-use crate::rights::Rights;
+use crate::rights::ScriptPolicy;
 use crate::run::run_step;
 use gt_core::Core;
 use gt_script::{Script, parse};
@@ -29,7 +29,7 @@ use std::io::{Read, Write};
 ///
 /// # Errors
 /// `Memory` if memory was refused.
-pub fn core_of(alloc: Global, script: &Script) -> Result<Core<Rights>, Memory>
+pub fn core_of(alloc: Global, script: &Script) -> Result<Core<ScriptPolicy>, Memory>
     requires { CanConfigure (contents_told script.now) }
     ensures starts { IfOk result (StartsFor (contents_told script.now)) }
     ensures apart { IsOk result → AllPairs (λ d e. d.id.0 ≢ e.id.0) (contents_told script.now).domains }
@@ -38,7 +38,7 @@ pub fn core_of(alloc: Global, script: &Script) -> Result<Core<Rights>, Memory>
         domains: Vec::from_slice(alloc, script.domains())?,
         first_gen: script.first_gen(),
     };
-    let rights = Rights::of(alloc, script)?;
+    let rights = ScriptPolicy::of(alloc, script)?;
     match Core::new(alloc, config, rights) {
         Ok(core) => Ok(core),
         Err(StartFault::Memory) => Err(Memory),
@@ -74,11 +74,11 @@ fn push_open_lines(
 // Runs the steps of the script, and writes their lines.
 fn run_lines<'s, 'a, W: Write>(
     alloc: Global,
-    core: &mut Core<Rights>,
+    core: &mut Core<ScriptPolicy>,
     script: &'s Script<'a>,
     writer: &mut W,
     audit: bool,
-) -> Result<(), Fault>
+) -> Result<(), StepsFault>
     requires can { CanStart (contents_told script.now) }
     requires starts { StartsFor (contents_told script.now) core.old }
     ensures whole { OnOk result (WritesRun (contents_told script.now) audit (W.contents writer.old)
@@ -88,7 +88,7 @@ fn run_lines<'s, 'a, W: Write>(
     ensures errors { IfErr result (λ e. (e ≡ faults.Memory) ⊎ (e ≡ faults.Write)) }
 {
     let types = script.type_names(alloc)?;
-    let mut kept = Kept::new(alloc, audit);
+    let mut kept = PlayState::new(alloc, audit);
     let mut waiting = Vec::new(alloc);
     let steps = script.steps();
     'steps: for step in steps {
@@ -107,7 +107,7 @@ fn run_script<W: Write>(
     script: &Script,
     writer: &mut W,
     audit: bool,
-) -> Result<(), Fault>
+) -> Result<(), StepsFault>
     requires { CanStart (contents_told script.now) }
     ensures whole { OnOk result (WritesRun (contents_told script.now) audit (W.contents writer.old)
         (W.contents writer.new)) }

@@ -8,36 +8,36 @@ use std::alloc::Global;
 
 /// What the head of a script allows: what its policy says, or what its triples list.
 #[derive(Drop)]
-pub enum Rights {
+pub enum ScriptPolicy {
     Table(AllowTable),
     Triples(Triples),
 }
 
-impl Allows for Rights {
+impl Allows for ScriptPolicy {
     ghost use Rattle.gt_host.specs.Rights.{may_by};
 
     ghost may = { λ rights source target perm. may_by rights source target perm };
 
     fn allows(&self, source: TypeId, target: TypeId, perm: Perms) -> bool {
         match self {
-            Rights::Table(table) => table.allows(source, target, perm),
-            Rights::Triples(triples) => triples.allows(source, target, perm),
+            ScriptPolicy::Table(table) => table.allows(source, target, perm),
+            ScriptPolicy::Triples(triples) => triples.allows(source, target, perm),
         }
     }
 }
 
-impl Rights {
+impl ScriptPolicy {
     ghost use Rattle.gt_script.specs.Contents.{contents_told};
     ghost use Rattle.gt_host.specs.Rights.{may_by, may_in};
 
     /// The rights that the script's head gives.
-    pub fn of<'s, 'a>(alloc: Global, script: &'s Script<'a>) -> Result<Rights, Memory>
+    pub fn of<'s, 'a>(alloc: Global, script: &'s Script<'a>) -> Result<ScriptPolicy, Memory>
         ensures { IfOk result (λ rights. may_by rights ≡ may_in (contents_told script.entry.now)) }
     {
         if let Some(policy) = script.policy() {
-            return Ok(Rights::Table(AllowTable::compile(alloc, policy)?));
+            return Ok(ScriptPolicy::Table(AllowTable::compile(alloc, policy)?));
         }
-        Ok(Rights::Triples(Triples {
+        Ok(ScriptPolicy::Triples(Triples {
             allowed: Vec::from_slice(alloc, script.triples())?,
         }))
     }

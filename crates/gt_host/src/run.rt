@@ -6,17 +6,17 @@ ghost use Rattle.gt_types.specs.declared.DomId.{DomId};
 ghost use Rattle.gt_core.specs.History.{History};
 ghost use Rattle.gt_core.specs.Standing.{CoreStands, setting_in};
 ghost use Rattle.gt_host.specs.Printing.{answer_line};
-ghost use Rattle.gt_host.specs.Runs.{Named, text_said, bytes_said as said_in, request_of, handle_given, with_name};
+ghost use Rattle.gt_host.specs.Runs.{Named, hex_of_call, call_bytes as bytes_in_call, request_of, handle_given, with_name};
 ghost use Rattle.gt_host.specs.Runs.{label_given, label_said, DoLine, BeginLine, TickLine, RunsLine};
 ghost use Rattle.gt_host.specs.Naming.{AreNamed, NamesMapping};
 ghost use Rattle.gt_host.specs.Ticking.{IsReadyToCall, HasCalled, TicksTo, Leads};
-ghost use Rattle.gt_host.specs.declared.fault.Fault.TheVariants as faults;
+ghost use Rattle.gt_host.specs.declared.fault.StepsFault.TheVariants as faults;
 
 use crate::answers::{push_answer_line, push_busy_line, push_idle_line};
-use crate::fault::Fault;
-use crate::kept::Kept;
+use crate::fault::StepsFault;
+use crate::kept::PlayState;
 use crate::labels::Labels;
-use crate::outcome::Outcome;
+use crate::outcome::LineOutcome;
 use crate::showing::push_show_line;
 use gt_calls::MAX_STEPS;
 use gt_core::{Answer, Begun, Core, Request, Ticked};
@@ -26,8 +26,8 @@ use gt_types::{Allows, DomId, Memory};
 use std::alloc::{AllocError, Global};
 
 // The hexadecimal text of a call, if it has one.
-fn text_said<'b, 'a>(call: &'b ScriptCall<'a>) -> Option<&'b Text<'a>>
-    ensures { option_map (λ text. text.now) result ≡ text_said call.entry.now }
+fn hex_of_call<'b, 'a>(call: &'b ScriptCall<'a>) -> Option<&'b Text<'a>>
+    ensures { option_map (λ text. text.now) result ≡ hex_of_call call.entry.now }
 {
     match call {
         ScriptCall::GrantBytes { hex, .. }
@@ -38,10 +38,10 @@ fn text_said<'b, 'a>(call: &'b ScriptCall<'a>) -> Option<&'b Text<'a>>
 }
 
 /// The bytes that a call says: those of an entry, or those that it writes.
-pub fn bytes_said<'a>(alloc: Global, call: &ScriptCall<'a>) -> Result<Vec<u8>, AllocError>
-    ensures { IfOk result (λ bytes. bytes.items ≡ said_in call.now) }
+pub fn call_bytes<'a>(alloc: Global, call: &ScriptCall<'a>) -> Result<Vec<u8>, AllocError>
+    ensures { IfOk result (λ bytes. bytes.items ≡ bytes_in_call call.now) }
 {
-    match text_said(call) {
+    match hex_of_call(call) {
         Some(hex) => hex_bytes(alloc, hex),
         None => Ok(Vec::new(alloc)),
     }
@@ -186,7 +186,7 @@ fn run_call<P: Allows>(
     core: &mut Core<P>,
     dom: DomId,
     request: Request<'_>,
-) -> Result<Outcome, Memory>
+) -> Result<LineOutcome, Memory>
     requires { IsReadyToCall (setting_in P.may core.old) dom core.old.state }
     ensures calls { (h : History) → CoreStands (setting_in P.may core.old) h core.old.state →
         IfOk result (HasCalled (setting_in P.may core.old) h dom request.entry core.new.state) }
@@ -194,10 +194,10 @@ fn run_call<P: Allows>(
     ensures rights { core.new.rights ≡ core.old.rights }
 {
     match core.begin(dom, request)? {
-        Begun::Done(answer) => Ok(Outcome::Answered(answer)),
-        Begun::Busy => Ok(Outcome::Busy),
+        Begun::Done(answer) => Ok(LineOutcome::Answered(answer)),
+        Begun::Busy => Ok(LineOutcome::Busy),
         Begun::Open | Begun::NoDomain => match tick_up_to(core, dom, MAX_STEPS)? {
-            Some(answer) => Ok(Outcome::Answered(answer)),
+            Some(answer) => Ok(LineOutcome::Answered(answer)),
             None => unreachable!(),
         },
     }
@@ -206,15 +206,15 @@ fn run_call<P: Allows>(
 // A line `do ID CALL`, whose call says these bytes.
 fn run_do<'b, 'a, P: Allows>(
     core: &mut Core<P>,
-    kept: &mut Kept<'b, 'a>,
+    kept: &mut PlayState<'b, 'a>,
     types: &[Text<'a>],
     step: &ScriptStep<'a>,
     call: &ScriptCall<'a>,
     bytes: &[u8],
     out: &mut Vec<u8>,
-) -> Result<(), Fault>
+) -> Result<(), StepsFault>
     requires ready { IsReadyToCall (setting_in P.may core.old) step.now.dom core.old.state }
-    requires said { bytes.now ≡ said_in call.now }
+    requires said { bytes.now ≡ bytes_in_call call.now }
     ensures leads { OnOk result (Leads (setting_in P.may core.old) (DoLine types.now step.now call.now)
         core.old.state core.new.state kept.old kept.new out.old.items out.new.items) }
     ensures config { core.new.config ≡ core.old.config }
@@ -224,12 +224,12 @@ fn run_do<'b, 'a, P: Allows>(
     let request = request_of(&kept.labels, step.dom, bytes, call);
     let told = kept.audit.about(core, step.dom, request);
     match run_call(core, step.dom, request)? {
-        Outcome::Answered(answer) => {
+        LineOutcome::Answered(answer) => {
             kept.audit.record(step.dom, told, &answer)?;
             let alloc = kept.alloc;
             answer_call(alloc, &mut kept.labels, types, step.dom, step, &answer, out)?;
         }
-        Outcome::Busy => push_busy_line(out, step.line, step.dom)?,
+        LineOutcome::Busy => push_busy_line(out, step.line, step.dom)?,
     }
     Ok(())
 }
@@ -237,15 +237,15 @@ fn run_do<'b, 'a, P: Allows>(
 // A line `begin ID CALL`, whose call says these bytes.
 fn run_begin<'b, 'a, P: Allows>(
     core: &mut Core<P>,
-    kept: &mut Kept<'b, 'a>,
+    kept: &mut PlayState<'b, 'a>,
     types: &[Text<'a>],
     step: &'b ScriptStep<'a>,
     call: &ScriptCall<'a>,
     bytes: &[u8],
     out: &mut Vec<u8>,
-) -> Result<(), Fault>
+) -> Result<(), StepsFault>
     requires known { domain_of core.old.config.domains.items step.now.dom ≢ None }
-    requires said { bytes.now ≡ said_in call.now }
+    requires said { bytes.now ≡ bytes_in_call call.now }
     ensures leads { OnOk result (Leads (setting_in P.may core.old) (BeginLine types.now step.now call.now)
         core.old.state core.new.state kept.old kept.new out.old.items out.new.items) }
     ensures config { core.new.config ≡ core.old.config }
@@ -269,12 +269,12 @@ fn run_begin<'b, 'a, P: Allows>(
 // A line `tick ID N`.
 fn run_ticks<'b, 'a, P: Allows>(
     core: &mut Core<P>,
-    kept: &mut Kept<'b, 'a>,
+    kept: &mut PlayState<'b, 'a>,
     types: &[Text<'a>],
     step: &ScriptStep<'a>,
     most: u32,
     out: &mut Vec<u8>,
-) -> Result<(), Fault>
+) -> Result<(), StepsFault>
     requires { domain_of core.old.config.domains.items step.now.dom ≢ None }
     ensures leads { OnOk result (Leads (setting_in P.may core.old)
         (λ p q. TickLine types.now step.now most (p.open_steps step.now.dom.0) p q)
@@ -307,11 +307,11 @@ fn run_ticks<'b, 'a, P: Allows>(
 /// the line may be there.
 pub fn run_step<'b, 'a, P: Allows>(
     core: &mut Core<P>,
-    kept: &mut Kept<'b, 'a>,
+    kept: &mut PlayState<'b, 'a>,
     types: &[Text<'a>],
     step: &'b ScriptStep<'a>,
     out: &mut Vec<u8>,
-) -> Result<(), Fault>
+) -> Result<(), StepsFault>
     requires { IsReadyToCall (setting_in P.may core.old) step.now.dom core.old.state }
     ensures leads { OnOk result (Leads (setting_in P.may core.old)
         (λ p q. RunsLine (setting_in P.may core.old) types.now step.now step.now.action p q)
@@ -322,11 +322,11 @@ pub fn run_step<'b, 'a, P: Allows>(
 {
     match &step.action {
         ScriptAction::Do(call) => {
-            let bytes = bytes_said(kept.alloc, call)?;
+            let bytes = call_bytes(kept.alloc, call)?;
             run_do(core, kept, types, step, call, bytes.as_slice(), out)
         }
         ScriptAction::Begin(call) => {
-            let bytes = bytes_said(kept.alloc, call)?;
+            let bytes = call_bytes(kept.alloc, call)?;
             run_begin(core, kept, types, step, call, bytes.as_slice(), out)
         }
         ScriptAction::Tick(most) => run_ticks(core, kept, types, step, *most, out),

@@ -2,7 +2,7 @@
 ghost use Rattle.std.specs.Prelude.{◌≡◌, ◌++◌, OnOk, codes};
 ghost use Rattle.gt_host.specs.Showing.{part_text, entry_text, counts_text, status_text, shown_text, show_line};
 
-use gt_core::Shown;
+use gt_core::EntryView;
 use gt_entry::{Control, status_word};
 use gt_texts::{push_entry, push_number, push_part, push_text};
 use gt_types::{DomId, GrantRef};
@@ -28,11 +28,11 @@ fn push_counts(
     push_part(out, "writes", writes)
 }
 
-fn push_shown(alloc: Global, out: &mut Vec<u8>, shown: Option<Shown>) -> Result<(), AllocError>
+fn push_shown(alloc: Global, out: &mut Vec<u8>, shown: Option<EntryView>) -> Result<(), AllocError>
     ensures { OnOk result (out.new.items ≡ out.old.items ++ shown_text shown) }
 {
     let Some(
-        Shown {
+        EntryView {
             entry,
             generation,
             reads,
@@ -57,7 +57,7 @@ pub fn push_show_line(
     line: usize,
     dom: DomId,
     gref: GrantRef,
-    shown: Option<Shown>,
+    shown: Option<EntryView>,
 ) -> Result<(), AllocError>
     ensures { OnOk result (out.new.items ≡ out.old.items ++ show_line line dom gref shown) }
 {

@@ -15,7 +15,7 @@ use Rattle.gt_words.specs.Rule.{Shows, id_at}
 use Rattle.gt_words.specs.Views.{IsAmong}
 use Rattle.gt_words.specs.declared.view.View.{View}
 use Rattle.gt_handles.specs.declared.handles.Handle.{Handle}
-use Rattle.gt_calls.specs.declared.action.Verdict.{Verdict}
+use Rattle.gt_calls.specs.declared.action.CallResult.{CallResult}
 use Rattle.gt_calls.specs.Asking.{asked}
 use Rattle.gt_calls.specs.declared.request.Request.{Request}
 use Rattle.gt_calls.specs.declared.request.Request.TheVariants as requests
@@ -23,14 +23,14 @@ use Rattle.gt_core.specs.Acting.{answer_of}
 use Rattle.gt_core.specs.declared.trace.Answer.{Answer}
 use Rattle.gt_core.specs.declared.trace.Answer.TheVariants as answers
 use Rattle.gt_frames.specs.Receipts.{Writing}
-use Rattle.gt_calls.specs.declared.action.Verdict.TheVariants.{Refused}
+use Rattle.gt_calls.specs.declared.action.CallResult.TheVariants.{Refused}
 use Rattle.gt_live.specs.Accesses.{IsWrittenBy}
 use Rattle.gt_live.specs.Domains.{Accesses, AllowRelation, Answered, HasLeft, BelongsTo, KeepsPinned, verdict_of}
 use Rattle.gt_live.specs.Domains.{verdict_of_frames, verdict_of_size, verdict_of_version}
 use Rattle.gt_live.specs.Ending.{IsOfMapping}
 use Rattle.gt_live.specs.Starting.{IsNewDomain}
 use Rattle.gt_live.specs.declared.domain.Domain.{Domain}
-use Rattle.gt_live.specs.declared.domain.Left.{Left}
+use Rattle.gt_live.specs.declared.domain.Departed.{Departed}
 use Rattle.gt_live.specs.declared.monitor.Monitor.{Monitor}
 use Rattle.gt_order.proofs.Called.{map-made, plain-made, unmap-made}
 use Rattle.gt_order.proofs.Leaving.{leaving}
@@ -44,14 +44,14 @@ use Rattle.gt_order.specs.Runs.CallOutcome.{Told, Kept, Starved, Wrote}
 use Rattle.gt_lines.specs.declared.calls.ScriptCall.{ScriptCall}
 use Rattle.gt_lines.specs.declared.calls.ScriptCall.TheVariants as calls
 use Rattle.gt_host.specs.Runs.{SaysRequest, Named, request_of}
-use Rattle.gt_script.specs.Lists.{Deed, Task}
-use Rattle.gt_script.specs.declared.tasks.DeedBy.TheVariants.{Await, Do, Tell}
+use Rattle.gt_script.specs.Lists.{RunAction, RunTask}
+use Rattle.gt_script.specs.declared.tasks.RunActionBy.TheVariants.{Await, Do, Tell}
 use Rattle.gt_run.specs.Asking.{AnswersCall, Asks, frames_answer, mapped_answer, plain_answer, size_answer}
 use Rattle.gt_run.specs.Asking.{version_answer}
 use Rattle.gt_run.specs.Printing.{Served}
-use Rattle.gt_run.specs.Serving.{DoesDeed, DoesWhere, ListLeadsTo, MakesCall, Outcome, ListProgress, list_start}
-use Rattle.gt_run.specs.declared.lists.Duty.{Duty}
-use Rattle.gt_interleaving.specs.Texts.{AreCallsOf, AreCallsOfList, AreOfALegalOrder, HasList, IsAnswerOf, IsQuietDuty}
+use Rattle.gt_run.specs.Serving.{DoesDeed, DoesWhere, ListLeadsTo, MakesCall, ListOutcome, ListProgress, list_start}
+use Rattle.gt_run.specs.declared.lists.ThreadJob.{ThreadJob}
+use Rattle.gt_interleaving.specs.Texts.{AreCallsOf, AreCallsOfList, AreOfALegalOrder, HasList, OutcomeGivesAnswer, IsQuietDuty}
 use Rattle.gt_interleaving.specs.Texts.{IsViewOf, ReadsNoBytes, TextsAreOfALegalOrder}
 
 -- a request that reaches no bytes
@@ -115,7 +115,7 @@ version-pin : (r : Result ℕ Denial) → KeepsNoPin (verdict_of_version r)
 version-pin (Ok version) = tt
 version-pin (Err denial) = tt
 
-map-same : (r : Result Handle Denial) (outcome : CallOutcome) → IsOutcomeOf r outcome → IsAnswerOf outcome (mapped_answer r)
+map-same : (r : Result Handle Denial) (outcome : CallOutcome) → IsOutcomeOf r outcome → OutcomeGivesAnswer outcome (mapped_answer r)
 map-same (Ok handle) (Kept given p) e = ap (λ (h : Handle). answers.Mapped h) (sym e)
 map-same (Ok handle) (Told verdict) e = absurd e
 map-same (Ok handle) Starved e = absurd e
@@ -128,10 +128,10 @@ map-same (Err denial) Wrote e = absurd e
 module _ {P : Type 0} (may : P → AllowRelation) (m : Monitor P) where
   -- a call that was answered so is one of a run
   abbrev IsMade : Request → Answer → Domain → Domain → Type 0
-  IsMade request answer d e = (outcome : CallOutcome) × (steps : List Moment) × IsAnswerOf outcome answer × WasMade may m request outcome steps d e
+  IsMade request answer d e = (outcome : CallOutcome) × (steps : List Moment) × OutcomeGivesAnswer outcome answer × WasMade may m request outcome steps d e
 
   module _ (d e : Domain) (stays : StaysOf may m d e) where
-    plain : (request : Request) (verdict : Verdict) (told answer : Answer) → (IsOfMapping (asked request) → ⊥) → FitsTypes request → KeepsNoPin verdict → told ≡ answer_of verdict → answer ≡ told → Answered may m d request verdict e → KeepsPinned d e → IsMade request answer d e
+    plain : (request : Request) (verdict : CallResult) (told answer : Answer) → (IsOfMapping (asked request) → ⊥) → FitsTypes request → KeepsNoPin verdict → told ≡ answer_of verdict → answer ≡ told → Answered may m d request verdict e → KeepsPinned d e → IsMade request answer d e
     plain request verdict told answer other fits none same is answered kept =
         let z = plain-made may m d e request verdict stays other fits none answered kept in (Told verdict, z.0, is ∙ same, z.1)
 
@@ -144,7 +144,7 @@ module _ {P : Type 0} (may : P → AllowRelation) (m : Monitor P) where
 
     is-made : (request : Request) (answer : Answer) → NoBytes request → FitsTypes request → AnswersCall may m d request answer e → IsMade request answer d e
     is-made (requests.Map dom gref flags) answer quiet fits x = let z = map-made may m d e dom gref flags x.0 stays x.2 in
-        (z.0, z.2.0, subst (IsAnswerOf z.0) (sym x.1) (map-same x.0 z.0 z.1), z.2.1)
+        (z.0, z.2.0, subst (OutcomeGivesAnswer z.0) (sym x.1) (map-same x.0 z.0 z.1), z.2.1)
     is-made (requests.Unmap handle) answer quiet fits x = let z = unmap-made may m d e handle x.0 stays x.2 x.3 x.4 in (Told (verdict_of x.0), z.0, x.1 ∙ plain-same x.0, z.1)
     is-made (requests.SetVersion version) answer quiet fits x = plain (requests.SetVersion version) (verdict_of x.0) (plain_answer x.0) answer (λ q. q) fits (plain-pin x.0) (plain-same x.0) x.1 x.2.0 x.2.1
     is-made (requests.SetupTable frames) answer quiet fits x = plain (requests.SetupTable frames) (verdict_of_frames x.0) (frames_answer x.0) answer (λ q. q) fits (frames-pin x.0) (frames-same x.0) x.1 x.2.0 x.2.1
@@ -163,7 +163,7 @@ module _ {P : Type 0} (may : P → AllowRelation) (m : Monitor P) where
     is-made (requests.Promote gref) answer quiet fits x = plain (requests.Promote gref) (verdict_of x.0) (plain_answer x.0) answer (λ q. q) fits (plain-pin x.0) (plain-same x.0) x.1 x.2.0 x.2.1
 
   -- a list, as far as it has come
-  module _ (duty : Duty P) (over : duty.monitor.now ≡ m) (quiet : IsQuietDuty duty) (first : Domain) where
+  module _ (duty : ThreadJob P) (over : duty.monitor.now ≡ m) (quiet : IsQuietDuty duty) (first : Domain) where
     record Come (p : ListProgress) : Type 0 where
       made : List CallMade
       calls_are : AreCalls m.words m.config (may m.rights) first made
@@ -179,7 +179,7 @@ module _ {P : Type 0} (may : P → AllowRelation) (m : Monitor P) where
         let no-bytes : NoBytes x.request = subst NoBytes (sym says.2) (quiet-request p.named duty.part.dom says.0 call none) in
         let z = is-made p.domain q.domain (record { before = come.mine; afterwards = asks.2.0; seat = asks.2.1 }) x.request x.answer no-bytes (fits p.named x.request says) asks.1 in
         let m' : CallMade = record { request = x.request; outcome = z.0; steps = z.1; old = p.domain; new = q.domain } in
-        let o : Outcome = record { line = line; answer = x.answer; told = x.told; lost = x.lost } in
+        let o : ListOutcome = record { line = line; answer = x.answer; told = x.told; lost = x.lost } in
         record {
           made = m' ∷ come.made;
           calls_are = (z.3, subst (λ (y : Domain). IsAtRest y p.domain) (sym come.now) (record { seat = refl; own = refl; mappings = refl }), come.calls_are);
@@ -188,17 +188,17 @@ module _ {P : Type 0} (may : P → AllowRelation) (m : Monitor P) where
           mine = asks.2.0;
         }
 
-    one-deed : (task : Task) → IsAmong task duty.part.tasks.now → (task.dom.0 == duty.part.dom.0) ≡ true → (deed : Deed) → task.deed ≡ deed → (p q : ListProgress) → DoesDeed may duty task.line deed p q → Come p → Come q
+    one-deed : (task : RunTask) → IsAmong task duty.part.tasks.now → (task.dom.0 == duty.part.dom.0) ≡ true → (deed : RunAction) → task.deed ≡ deed → (p q : ListProgress) → DoesDeed may duty task.line deed p q → Come p → Come q
     unfolding DoesDeed
     one-deed task is-in own (Do call) is p q does come = let a = quiet task call is-in own is in one-call task.line call p q a.0 a.1 does come
     one-deed task is-in own (Tell flag) is p q does come = subst Come (sym does) come
     one-deed task is-in own (Await flag) is p q does come = subst Come (sym does) come
 
-    one-line : (task : Task) → IsAmong task duty.part.tasks.now → (b : Bool) → (task.dom.0 == duty.part.dom.0) ≡ b → (p q : ListProgress) → DoesWhere b may duty task p q → Come p → Come q
+    one-line : (task : RunTask) → IsAmong task duty.part.tasks.now → (b : Bool) → (task.dom.0 == duty.part.dom.0) ≡ b → (p q : ListProgress) → DoesWhere b may duty task p q → Come p → Come q
     one-line task is-in true own p q does come = one-deed task is-in own task.deed refl p q does come
     one-line task is-in false own p q does come = subst Come (sym does) come
 
-    comes : (tasks : List Task) → ((task : Task) → IsAmong task tasks → IsAmong task duty.part.tasks.now) → (p q : ListProgress) → ListLeadsTo may duty p tasks q → Come p → Come q
+    comes : (tasks : List RunTask) → ((task : RunTask) → IsAmong task tasks → IsAmong task duty.part.tasks.now) → (p q : ListProgress) → ListLeadsTo may duty p tasks q → Come p → Come q
     comes [] each p q leads come = subst Come (sym leads) come
     comes (task ∷ tasks) each p q leads come =
         comes tasks (λ t is. each t (inr is)) leads.0 q leads.2 (one-line task (each task (inl refl)) (task.dom.0 == duty.part.dom.0) refl p leads.0 leads.1 come)
@@ -266,7 +266,7 @@ module _ {P : Type 0} (may : P → AllowRelation) (m : Monitor P) where
         of_list = record { leaving = []; listed = come.made; all = refl; unmaps = tt; lines = lines };
       }
 
-      gone : (x : Left) × HasLeft m.words.layout l.served.left.domain x × MayUnmapAll m.config (may m.rights) l.served.left.domain × (v ≡ x.seat.view) → Finished i s v
+      gone : (x : Departed) × HasLeft m.words.layout l.served.left.domain x × MayUnmapAll m.config (may m.rights) l.served.left.domain × (v ≡ x.seat.view) → Finished i s v
       gone g = let u = leaving m.words m.config (may m.rights) l.served.left.domain g.0 come.mine g.1 g.2 in record {
         first = first;
         starts = starts;

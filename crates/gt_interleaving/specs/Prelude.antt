@@ -9,17 +9,17 @@ pub use Rattle.gt_lines.specs.declared.calls.ScriptCall.{ScriptCall}
 pub use Rattle.gt_live.specs.Accesses.{IsOfAccess}
 pub use Rattle.gt_live.specs.Domains.{AllowRelation, HasLeft}
 pub use Rattle.gt_live.specs.declared.domain.Domain.{Domain}
-pub use Rattle.gt_live.specs.declared.domain.Left.{Left}
+pub use Rattle.gt_live.specs.declared.domain.Departed.{Departed}
 pub use Rattle.gt_live.specs.declared.monitor.Monitor.{Monitor}
 pub use Rattle.gt_order.specs.Leaving.{AreUnmaps, MayUnmapAll}
 pub use Rattle.gt_order.specs.Ordering.{IsLegalOrder}
 pub use Rattle.gt_order.specs.Runs.{CallMade, FitsTypes, CallOutcome, SeatRun}
 pub use Rattle.gt_order.specs.Runs.CallOutcome.{Kept, Starved, Told, Wrote}
 pub use Rattle.gt_run.specs.Printing.{Served}
-pub use Rattle.gt_run.specs.Serving.{IsServed, MakesCall, Outcome, ListProgress}
-pub use Rattle.gt_run.specs.declared.lists.Duty.{Duty}
-pub use Rattle.gt_script.specs.declared.tasks.DeedBy.TheVariants.{Do}
-pub use Rattle.gt_script.specs.Lists.{Task}
+pub use Rattle.gt_run.specs.Serving.{IsServed, MakesCall, ListOutcome, ListProgress}
+pub use Rattle.gt_run.specs.declared.lists.ThreadJob.{ThreadJob}
+pub use Rattle.gt_script.specs.declared.tasks.RunActionBy.TheVariants.{Do}
+pub use Rattle.gt_script.specs.Lists.{RunTask}
 pub use Rattle.gt_types.specs.declared.config.Config.{Config}
 pub use Rattle.gt_types.specs.declared.denial.Denial.{Denial}
 pub use Rattle.gt_words.specs.Conditions.{Board}

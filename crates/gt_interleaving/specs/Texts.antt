@@ -3,9 +3,9 @@ use Rattle.std.specs.Prelude.{◌≡◌, ◌⊎◌, ℕ, ◌<◌, ◌==◌, true
 use Rattle.gt_interleaving.specs.Prelude.{some, get_elem?, State, Config, Denial, Board, StepHistory, Shows, id_at}
 use Rattle.gt_interleaving.specs.Prelude.{IsAmong}
 use Rattle.gt_interleaving.specs.Prelude.{View, Request, Items, answer_of, Answer, IsOfAccess, AllowRelation, HasLeft}
-use Rattle.gt_interleaving.specs.Prelude.{Domain, Left, Monitor, AreUnmaps, MayUnmapAll, IsLegalOrder, CallMade}
+use Rattle.gt_interleaving.specs.Prelude.{Domain, Departed, Monitor, AreUnmaps, MayUnmapAll, IsLegalOrder, CallMade}
 use Rattle.gt_interleaving.specs.Prelude.{FitsTypes, CallOutcome, SeatRun, Told, Kept, Starved, Wrote, ScriptCall}
-use Rattle.gt_interleaving.specs.Prelude.{SaysRequest, Named, Do, Task, Duty, Served, IsServed, MakesCall, Outcome}
+use Rattle.gt_interleaving.specs.Prelude.{SaysRequest, Named, Do, RunTask, ThreadJob, Served, IsServed, MakesCall, ListOutcome}
 use Rattle.gt_interleaving.specs.Prelude.{ListProgress}
 use Rattle.gt_core.specs.declared.trace.Answer.TheVariants as answers
 use Rattle.gt_lines.specs.declared.calls.ScriptCall.TheVariants as calls
@@ -19,23 +19,23 @@ ReadsNoBytes call = Unit {0}
 
 -- Each call of the duty's list reads no bytes and copies none, and what it asks has the numbers that its types can hold,
 -- whatever its labels name
-abbrev pub IsQuietDuty : {P : Type 0} → Duty P → Type 0
+abbrev pub IsQuietDuty : {P : Type 0} → ThreadJob P → Type 0
 IsQuietDuty duty =
-    (task : Task) (call : ScriptCall) → IsAmong task duty.part.tasks.now → (task.dom.0 == duty.part.dom.0) ≡ true
+    (task : RunTask) (call : ScriptCall) → IsAmong task duty.part.tasks.now → (task.dom.0 == duty.part.dom.0) ≡ true
     → task.deed ≡ Do call
     → ReadsNoBytes call
     × ((named : List Named) (request : Request) → SaysRequest named duty.part.dom call request → FitsTypes request)
 
 -- a call with this outcome was answered so
-abbrev pub IsAnswerOf : CallOutcome → Answer → Type 0
-IsAnswerOf (Told verdict) answer = answer ≡ answer_of verdict
-IsAnswerOf (Kept handle p) answer = answer ≡ answers.Mapped handle
-IsAnswerOf Starved answer = (denial : Denial) × (answer ≡ answers.Denied denial) × IsOfAccess denial
-IsAnswerOf Wrote answer = answer ≡ answers.Done
+abbrev pub OutcomeGivesAnswer : CallOutcome → Answer → Type 0
+OutcomeGivesAnswer (Told verdict) answer = answer ≡ answer_of verdict
+OutcomeGivesAnswer (Kept handle p) answer = answer ≡ answers.Mapped handle
+OutcomeGivesAnswer Starved answer = (denial : Denial) × (answer ≡ answers.Denied denial) × IsOfAccess denial
+OutcomeGivesAnswer Wrote answer = answer ≡ answers.Done
 
 -- the call m of a run is the one that a line of the duty's list made, and what came of that: its domain was asked what
 -- the line says, by what its labels stood for then, and its answer is what the line prints
-pub record IsCallOf {P : Type 0} (may : P → AllowRelation) (duty : Duty P) (m : CallMade) (o : Outcome)
+pub record IsCallOf {P : Type 0} (may : P → AllowRelation) (duty : ThreadJob P) (m : CallMade) (o : ListOutcome)
     : Type 0 where
   pub call : ScriptCall
   pub before : ListProgress
@@ -45,13 +45,13 @@ pub record IsCallOf {P : Type 0} (may : P → AllowRelation) (duty : Duty P) (m 
   pub old : m.old ≡ before.domain
   pub new : m.new ≡ afterwards.domain
   pub answer : o.answer ≡ made.answer
-  pub answered : IsAnswerOf m.outcome o.answer
+  pub answered : OutcomeGivesAnswer m.outcome o.answer
 
 -- these calls, the last one first, are those that the lines of the duty's list made, whose outcomes are in their order
-abbrev pub AreCallsOf : {P : Type 0} → (P → AllowRelation) → Duty P → List CallMade → List Outcome → Type 0
+abbrev pub AreCallsOf : {P : Type 0} → (P → AllowRelation) → ThreadJob P → List CallMade → List ListOutcome → Type 0
 AreCallsOf may duty [] outcomes = outcomes ≡ []
 AreCallsOf may duty (m ∷ ms) outcomes =
-    (before : List Outcome) × (o : Outcome) × (outcomes ≡ before ++ o ∷ []) × IsCallOf may duty m o
+    (before : List ListOutcome) × (o : ListOutcome) × (outcomes ≡ before ++ o ∷ []) × IsCallOf may duty m o
     × AreCallsOf may duty ms before
 
 -- the list of the domain at the position i was served, and reads and copies no bytes
@@ -65,7 +65,7 @@ pub record HasList {P : Type 0} (may : P → AllowRelation) (m : Monitor P) (i :
 -- lets it give each of its mappings up
 abbrev pub IsViewOf : Board → Config → AllowRelation → Domain → View → Type 0
 IsViewOf b c may d v =
-    (v ≡ d.seat.view) ⊎ ((l : Left) × HasLeft b.layout d l × MayUnmapAll c may d × (v ≡ l.seat.view))
+    (v ≡ d.seat.view) ⊎ ((l : Departed) × HasLeft b.layout d l × MayUnmapAll c may d × (v ≡ l.seat.view))
 
 -- one of its calls is a call of its list, or an unmap with which it left
 pub record AreCallsOfList {P : Type 0} (may : P → AllowRelation) (s : Served P) (made : List CallMade) : Type 0 where

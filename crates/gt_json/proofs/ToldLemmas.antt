@@ -14,8 +14,8 @@ use Rattle.gt_json.specs.Words.{at_equals}
 use Rattle.gt_json.specs.Places.{next, name_at, start, is_fact, is_mark}
 use Rattle.gt_json.specs.Lines.{said, all_said, json_words, object_line, json_text}
 use Rattle.gt_json.specs.Strings.{SpellsString, escaped, hex_digit, ends, itself, quote, backslash, number}
-use Rattle.gt_json.specs.declared.places.Place.{Place}
-use Rattle.gt_json.specs.declared.places.Printed.{Printed}
+use Rattle.gt_json.specs.declared.places.WordPlace.{WordPlace}
+use Rattle.gt_json.specs.declared.places.PrintedText.{PrintedText}
 
 -- the word is its two parts, with a `=` between them
 abbrev Joins : List ℕ → Option (List ℕ × List ℕ) → Type 0
@@ -65,15 +65,15 @@ is_colon : (first : Bool) (w : List ℕ) → (not first && bytes_eq w (codes ":"
 is_colon first w e = (bytes_eq-Decides w (codes ":")).0 (second_true (not first) (bytes_eq w (codes ":")) e)
 
 -- a word is what its member says
-pub word_said : (p : Place) (w : List ℕ) → said p w ≡ w
+pub word_said : (p : WordPlace) (w : List ℕ) → said p w ≡ w
 word_said p w = mark_said w _ (is_mark p w) (is_colon _ w) (member_said w (name_at p w) (at_equals w) (is_fact p) (at_equals_joins w))
 
-pub words_said : (p : Place) (ws : List (List ℕ)) → all_said p ws ≡ ws
+pub words_said : (p : WordPlace) (ws : List (List ℕ)) → all_said p ws ≡ ws
 words_said p [] = refl
 words_said p (w ∷ ws) =
     ap (λ (v : List ℕ). v ∷ all_said (next p w) ws) (word_said p w) ∙ ap (λ (l : List (List ℕ)). w ∷ l) (words_said (next p w) ws)
 
-pub line_said : (p : Place) (line : List ℕ) → join_with_byte 32 (all_said p (json_words line)) ≡ line
+pub line_said : (p : WordPlace) (line : List ℕ) → join_with_byte 32 (all_said p (json_words line)) ≡ line
 line_said p line = ap (λ (l : List (List ℕ)). join_with_byte 32 l) (words_said p (json_words line)) ∙ join_with_byte-slice_split 32 line
 
 -- strings
@@ -96,6 +96,6 @@ string_spells (b ∷ bs) =
     (λ e. grind (arith, nat_tests)) (λ e. grind (arith, nat_tests)) (string_spells bs)
 
 -- the objects of the lines of a text are its JSON
-pub json_of_lines : {X : Type 0} (printed : Printed) (now : X → List ℕ) (ls : List X) (text : List ℕ) → map now ls ≡ slice_split (λ b. b == 10) text
+pub json_of_lines : {X : Type 0} (printed : PrintedText) (now : X → List ℕ) (ls : List X) (text : List ℕ) → map now ls ≡ slice_split (λ b. b == 10) text
     → flat_map (λ l. object_line printed (now l)) ls ≡ json_text printed text
 json_of_lines printed now ls text e = sym (flat_map-map (object_line printed) now ls) ∙ ap (λ (l : List (List ℕ)). flat_map (object_line printed) l) e

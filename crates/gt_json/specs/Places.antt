@@ -2,88 +2,88 @@
 use Rattle.std.specs.Prelude.{ℕ, ◌&&◌, ◌||◌, not, Bool, true, false, List, codes, if◌then◌else◌}
 use Rattle.std.specs.Str.{bytes_eq}
 use Rattle.gt_json.specs.Words.{is_rule}
-use Rattle.gt_json.specs.declared.places.Printed.{Printed}
-use Rattle.gt_json.specs.declared.places.Printed.TheVariants.{Run, Policy, Entries}
-use Rattle.gt_json.specs.declared.places.Place.{Place}
-use Rattle.gt_json.specs.declared.places.Place.TheVariants as place
+use Rattle.gt_json.specs.declared.places.PrintedText.{PrintedText}
+use Rattle.gt_json.specs.declared.places.PrintedText.TheVariants.{Run, Policy, Entries}
+use Rattle.gt_json.specs.declared.places.WordPlace.{WordPlace}
+use Rattle.gt_json.specs.declared.places.WordPlace.TheVariants as place
 
 -- what the first word of a line is
-abbrev pub start : Printed → Place
+abbrev pub start : PrintedText → WordPlace
 start Run = place.Line
 start Policy = place.Source
 start Entries = place.Dumped
 
 -- it is the first word of a line
-abbrev pub is_start : Place → Bool
+abbrev pub is_start : WordPlace → Bool
 is_start place.Line = true
 is_start place.Source = true
 is_start place.Dumped = true
 is_start _ = false
 
 -- it is a fact, which may have its own name
-abbrev pub is_fact : Place → Bool
+abbrev pub is_fact : WordPlace → Bool
 is_fact place.Fact = true
 is_fact _ = false
 
 -- the word is the colon before the answer of an audit line, which is no member
-abbrev pub is_mark : Place → List ℕ → Bool
+abbrev pub is_mark : WordPlace → List ℕ → Bool
 is_mark p w = not (is_start p) && bytes_eq w (codes ":")
 
 -- what comes after the first word of a line of a run
-abbrev pub after_line : List ℕ → Place
+abbrev pub after_line : List ℕ → WordPlace
 after_line w = if bytes_eq w (codes "audit") then place.Recorded
     else (if bytes_eq w (codes "lost") then place.Lost else place.Caller)
 
 -- what comes after the kind of an entry
-abbrev pub after_kind : List ℕ → Place
+abbrev pub after_kind : List ℕ → WordPlace
 after_kind w = if (bytes_eq w (codes "page") || bytes_eq w (codes "sub")) || bytes_eq w (codes "via") then place.Grantee
     else (if bytes_eq w (codes "refused") then place.Field else place.Fact)
 
 -- what comes after the name of a call
-abbrev pub after_call : List ℕ → Place
+abbrev pub after_call : List ℕ → WordPlace
 after_call w = if bytes_eq w (codes "copy") then place.FromKind
     else (if bytes_eq w (codes "version") || bytes_eq w (codes "setup") then place.Asked else place.Owner)
 
 -- what comes after a word that is a member
-abbrev pub next_told : Place → List ℕ → Place
-next_told place.Line w = after_line w
-next_told place.Caller w = if bytes_eq w (codes "show") then place.Shown else place.Answer
-next_told place.Answer w = if is_rule w then place.Status else place.Fact
-next_told place.Status w = place.Fact
-next_told place.Fact w = place.Fact
-next_told place.Shown w = place.Entry
-next_told place.Entry w = place.Kind
-next_told place.Kind w = after_kind w
-next_told place.Grantee w = place.Mode
-next_told place.Mode w = place.Fact
-next_told place.Field w = place.Fact
-next_told place.Recorded w = place.Call
-next_told place.Call w = after_call w
-next_told place.Owner w = place.Reference
-next_told place.Reference w = place.Flags
-next_told place.Flags w = place.Fact
-next_told place.Asked w = place.Fact
-next_told place.FromKind w = place.FromOwner
-next_told place.FromOwner w = place.FromAt
-next_told place.FromAt w = place.FromOff
-next_told place.FromOff w = place.ToKind
-next_told place.ToKind w = place.ToOwner
-next_told place.ToOwner w = place.ToAt
-next_told place.ToAt w = place.ToOff
-next_told place.ToOff w = place.Len
-next_told place.Len w = place.Flags
-next_told place.Lost w = place.Fact
-next_told place.Source w = place.Target
-next_told place.Target w = place.Permission
-next_told place.Permission w = place.Fact
-next_told place.Dumped w = place.Kind
+abbrev pub next_place : WordPlace → List ℕ → WordPlace
+next_place place.Line w = after_line w
+next_place place.Caller w = if bytes_eq w (codes "show") then place.Shown else place.Answer
+next_place place.Answer w = if is_rule w then place.Status else place.Fact
+next_place place.Status w = place.Fact
+next_place place.Fact w = place.Fact
+next_place place.Shown w = place.Entry
+next_place place.Entry w = place.Kind
+next_place place.Kind w = after_kind w
+next_place place.Grantee w = place.Mode
+next_place place.Mode w = place.Fact
+next_place place.Field w = place.Fact
+next_place place.Recorded w = place.Call
+next_place place.Call w = after_call w
+next_place place.Owner w = place.Reference
+next_place place.Reference w = place.Flags
+next_place place.Flags w = place.Fact
+next_place place.Asked w = place.Fact
+next_place place.FromKind w = place.FromOwner
+next_place place.FromOwner w = place.FromAt
+next_place place.FromAt w = place.FromOff
+next_place place.FromOff w = place.ToKind
+next_place place.ToKind w = place.ToOwner
+next_place place.ToOwner w = place.ToAt
+next_place place.ToAt w = place.ToOff
+next_place place.ToOff w = place.Len
+next_place place.Len w = place.Flags
+next_place place.Lost w = place.Fact
+next_place place.Source w = place.Target
+next_place place.Target w = place.Permission
+next_place place.Permission w = place.Fact
+next_place place.Dumped w = place.Kind
 
 -- what the word after this one is
-unfoldable pub next : Place → List ℕ → Place
-next p w = if is_mark p w then place.Answer else next_told p w
+unfoldable pub next : WordPlace → List ℕ → WordPlace
+next p w = if is_mark p w then place.Answer else next_place p w
 
 -- what the word at this place is called; at a fact, one without a name of its own
-unfoldable pub name_at : Place → List ℕ → List ℕ
+unfoldable pub name_at : WordPlace → List ℕ → List ℕ
 name_at place.Line w = if bytes_eq w (codes "audit") || bytes_eq w (codes "lost") then codes "type" else codes "line"
 name_at place.Caller w = if bytes_eq w (codes "show") then codes "type" else codes "domain"
 name_at place.Answer w = if is_rule w then codes "rule" else codes "answer"

@@ -4,12 +4,12 @@ ghost use Rattle.std.specs.List.{flat_map, join_with_byte};
 ghost use Rattle.gt_json.specs.Lines.{all_said, json_words};
 ghost use Rattle.gt_json.specs.Places.{start};
 ghost use Rattle.gt_json.specs.Strings.{SpellsString, escaped};
-ghost use Rattle.gt_json.specs.declared.places.Printed.{Printed};
+ghost use Rattle.gt_json.specs.declared.places.PrintedText.{PrintedText};
 
 /// A law: a line is what its members say, parted by blanks. So nothing is lost and nothing added: two lines with the
 /// same members are the same.
-pub fn every_line_is_told()
-    ensures { (printed : Printed) (line : List ℕ) →
+pub fn every_line_has_its_object()
+    ensures { (printed : PrintedText) (line : List ℕ) →
         join_with_byte 32 (all_said (start printed) (json_words line)) ≡ line }
 {}
 

@@ -21,6 +21,6 @@ mod values;
 mod words;
 
 pub use fault::JsonFault;
-pub use laws::{every_line_is_told, every_string_spells_its_text};
+pub use laws::{every_line_has_its_object, every_string_spells_its_text};
 pub use lines::write_json;
-pub use places::Printed;
+pub use places::PrintedText;

@@ -7,8 +7,8 @@ ghost use Rattle.gt_json.specs.Lines.{pieces, json_words, object_line, json_text
 ghost use Rattle.gt_json.specs.Places.{start};
 
 use crate::fault::JsonFault;
-use crate::members::push_piece;
-use crate::places::Printed;
+use crate::members::push_word_member;
+use crate::places::PrintedText;
 use gt_streams::{finish, push_text, send};
 use std::alloc::{AllocError, Global};
 use std::io::Write;
@@ -28,12 +28,12 @@ fn lines_of<'t>(alloc: Global, text: &'t [u8]) -> Result<Vec<&'t [u8]>, AllocErr
 }
 
 // Appends the members of words.
-fn push_pieces(out: &mut Vec<u8>, printed: Printed, words: &[&[u8]]) -> Result<(), AllocError>
+fn push_pieces(out: &mut Vec<u8>, printed: PrintedText, words: &[&[u8]]) -> Result<(), AllocError>
     ensures { OnOk result (out.new.items ≡ out.old.items ++ pieces (start printed) (map (λ w. w.now) words.now)) }
 {
     let mut place = printed.start();
     'words: for word in words {
-        push_piece(out, place, word)?;
+        push_word_member(out, place, word)?;
         place = place.next(word);
     }
     Ok(())
@@ -44,7 +44,7 @@ fn push_pieces(out: &mut Vec<u8>, printed: Printed, words: &[&[u8]]) -> Result<(
 fn push_object(
     alloc: Global,
     out: &mut Vec<u8>,
-    printed: Printed,
+    printed: PrintedText,
     line: &[u8],
 ) -> Result<(), AllocError>
     ensures { OnOk result (out.new.items ≡ out.old.items ++ object_line printed line.now) }
@@ -60,7 +60,7 @@ fn push_object(
 // Writes the objects of lines.
 fn write_lines<W: Write>(
     alloc: Global,
-    printed: Printed,
+    printed: PrintedText,
     lines: &[&[u8]],
     writer: &mut W,
 ) -> Result<(), JsonFault>
@@ -83,7 +83,7 @@ fn write_lines<W: Write>(
 /// An Err says whether memory was refused or a write failed; a beginning of the JSON was written then.
 pub fn write_json<W: Write>(
     alloc: Global,
-    printed: Printed,
+    printed: PrintedText,
     text: &[u8],
     writer: &mut W,
 ) -> Result<(), JsonFault>

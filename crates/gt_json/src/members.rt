@@ -2,14 +2,14 @@
 ghost use Rattle.std.specs.Prelude.{◌≡◌, ◌++◌, OnOk};
 ghost use Rattle.gt_json.specs.Lines.{is_fact, member_of, is_hex, lead, member_text, piece};
 
-use crate::places::Place;
+use crate::places::WordPlace;
 use crate::values::{push_quoted, push_value};
-use crate::words::{is, split_at_equals};
+use crate::words::{is_word, split_at_equals};
 use gt_streams::push_text;
 use std::alloc::AllocError;
 
 // The name and the value of a word.
-fn member_of<'w>(place: Place, word: &'w [u8]) -> (&'w [u8], &'w [u8])
+fn member_of<'w>(place: WordPlace, word: &'w [u8]) -> (&'w [u8], &'w [u8])
     ensures { (result.0.now, result.1.now) ≡ member_of place word.entry.now }
 {
     let called = place.name(word).as_bytes();
@@ -23,14 +23,14 @@ fn member_of<'w>(place: Place, word: &'w [u8]) -> (&'w [u8], &'w [u8])
 }
 
 // Whether the value of this name is hexadecimal.
-fn is_hex(place: Place, name: &[u8]) -> bool
+fn is_hex(place: WordPlace, name: &[u8]) -> bool
     ensures { result ≡ is_hex place name.now }
 {
-    place.is_fact() && (is(name, "bytes") || is(name, "status"))
+    place.is_fact() && (is_word(name, "bytes") || is_word(name, "status"))
 }
 
 // What stands before a member.
-fn lead(place: Place) -> &'static str
+fn lead(place: WordPlace) -> &'static str
     ensures { result.now ≡ lead place }
 {
     if place.is_start() { "{" } else { "," }
@@ -38,7 +38,7 @@ fn lead(place: Place) -> &'static str
 
 // Appends a word as a member.
 #[tactic(auto, unfolding(crate::specs::Lines::member_text))]
-fn push_member(out: &mut Vec<u8>, place: Place, word: &[u8]) -> Result<(), AllocError>
+fn push_member(out: &mut Vec<u8>, place: WordPlace, word: &[u8]) -> Result<(), AllocError>
     ensures { OnOk result (out.new.items ≡ out.old.items ++ member_text place word.now) }
 {
     let (name, value) = member_of(place, word);
@@ -50,7 +50,7 @@ fn push_member(out: &mut Vec<u8>, place: Place, word: &[u8]) -> Result<(), Alloc
 
 /// Appends what a word comes to: its member, or nothing where it is none. After an Err a part of it may be there.
 #[tactic(auto, unfolding(crate::specs::Lines::piece))]
-pub fn push_piece(out: &mut Vec<u8>, place: Place, word: &[u8]) -> Result<(), AllocError>
+pub fn push_word_member(out: &mut Vec<u8>, place: WordPlace, word: &[u8]) -> Result<(), AllocError>
     ensures { OnOk result (out.new.items ≡ out.old.items ++ piece place word.now) }
 {
     if place.is_mark(word) {

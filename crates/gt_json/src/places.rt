@@ -1,13 +1,13 @@
 //! What each word of a line is, by its place.
 ghost use Rattle.std.specs.Prelude.{◌≡◌};
-ghost use Rattle.gt_json.specs.Places.{start, after_line, after_kind, after_call, next_told, next, name_at, is_start};
+ghost use Rattle.gt_json.specs.Places.{start, after_line, after_kind, after_call, next_place, next, name_at, is_start};
 ghost use Rattle.gt_json.specs.Places.{is_mark};
 
-use crate::words::{is, is_rule};
+use crate::words::{is_word, is_rule};
 
 /// Which text it is: that of `play` and `run`, of `policy`, or of `entries`.
 #[derive(Clone, Copy, Debug, PartialEq, Eq)]
-pub enum Printed {
+pub enum PrintedText {
     Run,
     Policy,
     Entries,
@@ -15,7 +15,7 @@ pub enum Printed {
 
 /// What the next word of a line is.
 #[derive(Clone, Copy, Debug, PartialEq, Eq)]
-pub enum Place {
+pub enum WordPlace {
     /// The line of a script, or `audit` or `lost`.
     Line,
     /// The domain that called, or `show`.
@@ -72,133 +72,133 @@ pub enum Place {
     Dumped,
 }
 
-fn after_line(word: &[u8]) -> Place
+fn after_line(word: &[u8]) -> WordPlace
     ensures { result ≡ after_line word.now }
 {
-    if is(word, "audit") {
-        Place::Recorded
-    } else if is(word, "lost") {
-        Place::Lost
+    if is_word(word, "audit") {
+        WordPlace::Recorded
+    } else if is_word(word, "lost") {
+        WordPlace::Lost
     } else {
-        Place::Caller
+        WordPlace::Caller
     }
 }
 
-fn after_kind(word: &[u8]) -> Place
+fn after_kind(word: &[u8]) -> WordPlace
     ensures { result ≡ after_kind word.now }
 {
-    if is(word, "page") || is(word, "sub") || is(word, "via") {
-        Place::Grantee
-    } else if is(word, "refused") {
-        Place::Field
+    if is_word(word, "page") || is_word(word, "sub") || is_word(word, "via") {
+        WordPlace::Grantee
+    } else if is_word(word, "refused") {
+        WordPlace::Field
     } else {
-        Place::Fact
+        WordPlace::Fact
     }
 }
 
-fn after_call(word: &[u8]) -> Place
+fn after_call(word: &[u8]) -> WordPlace
     ensures { result ≡ after_call word.now }
 {
-    if is(word, "copy") {
-        Place::FromKind
-    } else if is(word, "version") || is(word, "setup") {
-        Place::Asked
+    if is_word(word, "copy") {
+        WordPlace::FromKind
+    } else if is_word(word, "version") || is_word(word, "setup") {
+        WordPlace::Asked
     } else {
-        Place::Owner
+        WordPlace::Owner
     }
 }
 
-impl Printed {
+impl PrintedText {
     ghost use Rattle.std.specs.Prelude.{◌≡◌};
     ghost use Rattle.gt_json.specs.Places.{start};
 
     /// What the first word of a line is.
-    pub fn start(self) -> Place
+    pub fn start(self) -> WordPlace
         ensures { result ≡ start self }
     {
         match self {
-            Printed::Run => Place::Line,
-            Printed::Policy => Place::Source,
-            Printed::Entries => Place::Dumped,
+            PrintedText::Run => WordPlace::Line,
+            PrintedText::Policy => WordPlace::Source,
+            PrintedText::Entries => WordPlace::Dumped,
         }
     }
 }
 
-impl Place {
+impl WordPlace {
     ghost use Rattle.std.specs.Prelude.{◌≡◌};
-    ghost use Rattle.gt_json.specs.Places.{next_told, next, name_at, is_start, is_fact, is_mark};
+    ghost use Rattle.gt_json.specs.Places.{next_place, next, name_at, is_start, is_fact, is_mark};
 
     /// Whether it is the first word of a line.
     pub fn is_start(self) -> bool
         ensures { result ≡ is_start self }
     {
-        matches!(self, Place::Line | Place::Source | Place::Dumped)
+        matches!(self, WordPlace::Line | WordPlace::Source | WordPlace::Dumped)
     }
 
     /// Whether it is a fact, which may have its own name.
     pub fn is_fact(self) -> bool
         ensures { result ≡ is_fact self }
     {
-        matches!(self, Place::Fact)
+        matches!(self, WordPlace::Fact)
     }
 
     /// Whether the word is the colon before the answer of an audit line, which is no member.
     pub fn is_mark(self, word: &[u8]) -> bool
         ensures { result ≡ is_mark self word.now }
     {
-        !self.is_start() && is(word, ":")
+        !self.is_start() && is_word(word, ":")
     }
 
     // What comes after a word that is a member.
-    fn next_told(self, word: &[u8]) -> Place
-        ensures { result ≡ next_told self word.now }
+    fn next_place(self, word: &[u8]) -> WordPlace
+        ensures { result ≡ next_place self word.now }
     {
         match self {
-            Place::Line => after_line(word),
-            Place::Caller if is(word, "show") => Place::Shown,
-            Place::Caller => Place::Answer,
-            Place::Answer if is_rule(word) => Place::Status,
-            Place::Answer => Place::Fact,
-            Place::Status => Place::Fact,
-            Place::Fact => Place::Fact,
-            Place::Shown => Place::Entry,
-            Place::Entry => Place::Kind,
-            Place::Kind => after_kind(word),
-            Place::Grantee => Place::Mode,
-            Place::Mode => Place::Fact,
-            Place::Field => Place::Fact,
-            Place::Recorded => Place::Call,
-            Place::Call => after_call(word),
-            Place::Owner => Place::Reference,
-            Place::Reference => Place::Flags,
-            Place::Flags => Place::Fact,
-            Place::Asked => Place::Fact,
-            Place::FromKind => Place::FromOwner,
-            Place::FromOwner => Place::FromAt,
-            Place::FromAt => Place::FromOff,
-            Place::FromOff => Place::ToKind,
-            Place::ToKind => Place::ToOwner,
-            Place::ToOwner => Place::ToAt,
-            Place::ToAt => Place::ToOff,
-            Place::ToOff => Place::Len,
-            Place::Len => Place::Flags,
-            Place::Lost => Place::Fact,
-            Place::Source => Place::Target,
-            Place::Target => Place::Permission,
-            Place::Permission => Place::Fact,
-            Place::Dumped => Place::Kind,
+            WordPlace::Line => after_line(word),
+            WordPlace::Caller if is_word(word, "show") => WordPlace::Shown,
+            WordPlace::Caller => WordPlace::Answer,
+            WordPlace::Answer if is_rule(word) => WordPlace::Status,
+            WordPlace::Answer => WordPlace::Fact,
+            WordPlace::Status => WordPlace::Fact,
+            WordPlace::Fact => WordPlace::Fact,
+            WordPlace::Shown => WordPlace::Entry,
+            WordPlace::Entry => WordPlace::Kind,
+            WordPlace::Kind => after_kind(word),
+            WordPlace::Grantee => WordPlace::Mode,
+            WordPlace::Mode => WordPlace::Fact,
+            WordPlace::Field => WordPlace::Fact,
+            WordPlace::Recorded => WordPlace::Call,
+            WordPlace::Call => after_call(word),
+            WordPlace::Owner => WordPlace::Reference,
+            WordPlace::Reference => WordPlace::Flags,
+            WordPlace::Flags => WordPlace::Fact,
+            WordPlace::Asked => WordPlace::Fact,
+            WordPlace::FromKind => WordPlace::FromOwner,
+            WordPlace::FromOwner => WordPlace::FromAt,
+            WordPlace::FromAt => WordPlace::FromOff,
+            WordPlace::FromOff => WordPlace::ToKind,
+            WordPlace::ToKind => WordPlace::ToOwner,
+            WordPlace::ToOwner => WordPlace::ToAt,
+            WordPlace::ToAt => WordPlace::ToOff,
+            WordPlace::ToOff => WordPlace::Len,
+            WordPlace::Len => WordPlace::Flags,
+            WordPlace::Lost => WordPlace::Fact,
+            WordPlace::Source => WordPlace::Target,
+            WordPlace::Target => WordPlace::Permission,
+            WordPlace::Permission => WordPlace::Fact,
+            WordPlace::Dumped => WordPlace::Kind,
         }
     }
 
     /// What the word after this one is.
     #[tactic(auto, unfolding(crate::specs::Places::next))]
-    pub fn next(self, word: &[u8]) -> Place
+    pub fn next(self, word: &[u8]) -> WordPlace
         ensures { result ≡ next self word.now }
     {
         if self.is_mark(word) {
-            Place::Answer
+            WordPlace::Answer
         } else {
-            self.next_told(word)
+            self.next_place(word)
         }
     }
 
@@ -208,40 +208,40 @@ impl Place {
         ensures { result.now ≡ name_at self word.now }
     {
         match self {
-            Place::Line if is(word, "audit") || is(word, "lost") => "type",
-            Place::Line => "line",
-            Place::Caller if is(word, "show") => "type",
-            Place::Caller => "domain",
-            Place::Answer if is_rule(word) => "rule",
-            Place::Answer => "answer",
-            Place::Status => "status",
-            Place::Fact => "bytes",
-            Place::Shown => "domain",
-            Place::Entry => "entry",
-            Place::Kind => "kind",
-            Place::Grantee => "grantee",
-            Place::Mode => "mode",
-            Place::Field => "field",
-            Place::Recorded => "domain",
-            Place::Call => "call",
-            Place::Owner => "owner",
-            Place::Reference => "ref",
-            Place::Flags => "flags",
-            Place::Asked => "asked",
-            Place::FromKind => "from_kind",
-            Place::FromOwner => "from_owner",
-            Place::FromAt => "from_at",
-            Place::FromOff => "from_off",
-            Place::ToKind => "to_kind",
-            Place::ToOwner => "to_owner",
-            Place::ToAt => "to_at",
-            Place::ToOff => "to_off",
-            Place::Len => "len",
-            Place::Lost => "records",
-            Place::Source => "source",
-            Place::Target => "target",
-            Place::Permission => "perm",
-            Place::Dumped => "entry",
+            WordPlace::Line if is_word(word, "audit") || is_word(word, "lost") => "type",
+            WordPlace::Line => "line",
+            WordPlace::Caller if is_word(word, "show") => "type",
+            WordPlace::Caller => "domain",
+            WordPlace::Answer if is_rule(word) => "rule",
+            WordPlace::Answer => "answer",
+            WordPlace::Status => "status",
+            WordPlace::Fact => "bytes",
+            WordPlace::Shown => "domain",
+            WordPlace::Entry => "entry",
+            WordPlace::Kind => "kind",
+            WordPlace::Grantee => "grantee",
+            WordPlace::Mode => "mode",
+            WordPlace::Field => "field",
+            WordPlace::Recorded => "domain",
+            WordPlace::Call => "call",
+            WordPlace::Owner => "owner",
+            WordPlace::Reference => "ref",
+            WordPlace::Flags => "flags",
+            WordPlace::Asked => "asked",
+            WordPlace::FromKind => "from_kind",
+            WordPlace::FromOwner => "from_owner",
+            WordPlace::FromAt => "from_at",
+            WordPlace::FromOff => "from_off",
+            WordPlace::ToKind => "to_kind",
+            WordPlace::ToOwner => "to_owner",
+            WordPlace::ToAt => "to_at",
+            WordPlace::ToOff => "to_off",
+            WordPlace::Len => "len",
+            WordPlace::Lost => "records",
+            WordPlace::Source => "source",
+            WordPlace::Target => "target",
+            WordPlace::Permission => "perm",
+            WordPlace::Dumped => "entry",
         }
     }
 }

@@ -2,7 +2,7 @@
 ghost use Rattle.std.specs.Prelude.{◌≡◌, ◌++◌, ◌<◌, OnOk};
 ghost use Rattle.gt_json.specs.Strings.{hex_digit, escaped, quoted, value_text};
 
-use crate::words::{is, is_number};
+use crate::words::{is_word, is_number};
 use gt_streams::push_text;
 use std::alloc::AllocError;
 
@@ -51,7 +51,7 @@ pub fn push_value(out: &mut Vec<u8>, is_hex: bool, word: &[u8]) -> Result<(), Al
 {
     if !is_hex && is_number(word) {
         out.extend_from_slice(word)
-    } else if is(word, "-") {
+    } else if is_word(word, "-") {
         push_text(out, "null")
     } else {
         push_quoted(out, word)

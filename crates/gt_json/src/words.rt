@@ -7,7 +7,7 @@ ghost use Rattle.std.specs.Char.{is_ascii_digit};
 ghost use Rattle.gt_json.specs.Words.{at_equals, is_natural, is_number, is_rule};
 
 /// Whether the word is this text.
-pub fn is(word: &[u8], text: &str) -> bool
+pub fn is_word(word: &[u8], text: &str) -> bool
     ensures { result ≡ bytes_eq word.now text.now }
 {
     word == text.as_bytes()

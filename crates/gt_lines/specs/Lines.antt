@@ -11,8 +11,8 @@ use Rattle.gt_lines.specs.declared.lines.BodyLine.{BodyLine}
 use Rattle.gt_lines.specs.declared.lines.BodyLine.TheVariants as bodies
 use Rattle.gt_lines.specs.declared.lines.TripleLine.{TripleLine}
 use Rattle.gt_lines.specs.declared.lines.DomainLine.{DomainLine}
-use Rattle.gt_lines.specs.declared.lines.Line.{Line}
-use Rattle.gt_lines.specs.declared.lines.Line.TheVariants as lines
+use Rattle.gt_lines.specs.declared.lines.ScriptLine.{ScriptLine}
+use Rattle.gt_lines.specs.declared.lines.ScriptLine.TheVariants as lines
 
 -- what follows `triple`: SOURCE TARGET PERMISSION
 unfoldable pub triple_of : List (List ℕ) → Option TripleLine
@@ -45,7 +45,7 @@ body_line_of word args = if is_signal_word word then option_map bodies.Signal (s
     else option_map bodies.Action (action_of word args)
 
 -- a line of the body: its word, then ID and what follows
-unfoldable pub body_of : List ℕ → List (List ℕ) → Option Line
+unfoldable pub body_of : List ℕ → List (List ℕ) → Option ScriptLine
 body_of word [] = None
 body_of word (id ∷ args) = do
   n ← decimal_number id
@@ -53,7 +53,7 @@ body_of word (id ∷ args) = do
   Some (lines.Body n a)
 
 -- a line of a script by its first word
-abbrev pub line_of : List (List ℕ) → Option Line
+abbrev pub line_of : List (List ℕ) → Option ScriptLine
 line_of [] = None
 line_of (word ∷ args) = if bytes_eq word (codes "triple") then option_map lines.Triple (triple_of args)
     else (if bytes_eq word (codes "wear") then option_map lines.Wear (wear_of args)

@@ -3,8 +3,8 @@ use Rattle.std.specs.Prelude.{ℕ, ◌||◌, Bool, List, [], ◌∷◌, Option, 
 use Rattle.std.specs.Option.{option_map}
 use Rattle.std.specs.Str.{bytes_eq}
 use Rattle.gt_lines.specs.Fields.{label_word, text_where}
-use Rattle.gt_lines.specs.declared.signals.Signal.{Signal}
-use Rattle.gt_lines.specs.declared.signals.Signal.TheVariants.{Tell, Await}
+use Rattle.gt_lines.specs.declared.signals.FlagLine.{FlagLine}
+use Rattle.gt_lines.specs.declared.signals.FlagLine.TheVariants.{Tell, Await}
 
 -- what follows `tell` or `await` and its domain: FLAG, of the form of a label
 unfoldable pub flag_of : List (List ℕ) → Option (List ℕ)
@@ -16,6 +16,6 @@ abbrev pub is_signal_word : List ℕ → Bool
 is_signal_word word = bytes_eq word (codes "tell") || bytes_eq word (codes "await")
 
 -- what a line's first word says of a flag together with the words after its domain
-unfoldable pub signal_of : List ℕ → List (List ℕ) → Option Signal
+unfoldable pub signal_of : List ℕ → List (List ℕ) → Option FlagLine
 signal_of word args = if bytes_eq word (codes "tell") then option_map Tell (flag_of args)
     else (if bytes_eq word (codes "await") then option_map Await (flag_of args) else None)

@@ -6,7 +6,7 @@ ghost use Rattle.gt_lines.specs.Calls.{only_reference, only_number, only_domain,
 ghost use Rattle.gt_lines.specs.Calls.{tick_of, action_of};
 
 use crate::fields::{
-    domain, flags, is, label, mode, reference, tick_count, u16_of, u32_of, u64_of,
+    domain, flags, is_word, label, mode, reference, tick_count, u16_of, u32_of, u64_of,
 };
 use crate::hexadecimal::hex_text;
 use crate::texts::Text;
@@ -311,7 +311,7 @@ fn grant_flag(kind: &[u8], flag: u16) -> u16
     ensures is { result ≡ grant_flag kind.now flag }
     ensures most { result ≤ flag }
 {
-    if is(kind, "gref") { flag } else { 0 }
+    if is_word(kind, "gref") { flag } else { 0 }
 }
 
 #[tactic(auto, unfolding(crate::specs::Calls::copy_of))]
@@ -377,39 +377,39 @@ fn only_domain(args: &[&[u8]]) -> Option<DomId>
 fn read_table_call<'a>(word: &[u8], args: &[&'a [u8]]) -> Option<ScriptCall<'a>>
     ensures { result ≡ table_of word.now (map (λ word. word.now) args.now) }
 {
-    if is(word, "grant") {
+    if is_word(word, "grant") {
         read_grant(args)
-    } else if is(word, "bytes") {
+    } else if is_word(word, "bytes") {
         read_bytes(args)
-    } else if is(word, "revoke") {
+    } else if is_word(word, "revoke") {
         Some(ScriptCall::Revoke {
             gref: only_reference(args)?,
         })
-    } else if is(word, "withdraw") {
+    } else if is_word(word, "withdraw") {
         Some(ScriptCall::Withdraw {
             gref: only_reference(args)?,
         })
-    } else if is(word, "demote") {
+    } else if is_word(word, "demote") {
         Some(ScriptCall::Demote {
             gref: only_reference(args)?,
         })
-    } else if is(word, "promote") {
+    } else if is_word(word, "promote") {
         Some(ScriptCall::Promote {
             gref: only_reference(args)?,
         })
-    } else if is(word, "version") {
+    } else if is_word(word, "version") {
         Some(ScriptCall::SetVersion {
             version: only_number(args)?,
         })
-    } else if is(word, "setup") {
+    } else if is_word(word, "setup") {
         Some(ScriptCall::SetupTable {
             frames: only_number(args)?,
         })
-    } else if is(word, "size") {
+    } else if is_word(word, "size") {
         Some(ScriptCall::QuerySize {
             dom: only_domain(args)?,
         })
-    } else if is(word, "getversion") {
+    } else if is_word(word, "getversion") {
         Some(ScriptCall::GetVersion {
             dom: only_domain(args)?,
         })
@@ -423,19 +423,19 @@ fn read_table_call<'a>(word: &[u8], args: &[&'a [u8]]) -> Option<ScriptCall<'a>>
 fn read_access_call<'a>(word: &[u8], args: &[&'a [u8]]) -> Option<ScriptCall<'a>>
     ensures { result ≡ access_of word.now (map (λ word. word.now) args.now) }
 {
-    if is(word, "map") {
+    if is_word(word, "map") {
         read_map(args)
-    } else if is(word, "unmap") {
+    } else if is_word(word, "unmap") {
         read_unmap(args)
-    } else if is(word, "load") {
+    } else if is_word(word, "load") {
         read_load(args)
-    } else if is(word, "store") {
+    } else if is_word(word, "store") {
         read_store(args)
-    } else if is(word, "peek") {
+    } else if is_word(word, "peek") {
         read_peek(args)
-    } else if is(word, "poke") {
+    } else if is_word(word, "poke") {
         read_poke(args)
-    } else if is(word, "copy") {
+    } else if is_word(word, "copy") {
         read_copy(args)
     } else {
         None

@@ -18,7 +18,7 @@ const HOST_MAP: u32 = 2;
 const READONLY: u32 = 4;
 
 /// The most characters of a label after its first.
-const MOST_BEHIND_LETTER: usize = 31;
+const MAX_LABEL_TAIL: usize = 31;
 
 /// The most steps that a tick may ask for; the least is one.
 const MOST_TICKS: u64 = 100_000;
@@ -122,7 +122,7 @@ pub fn generation(word: &[u8]) -> Option<u32>
 }
 
 /// Whether the word is this text.
-pub fn is(word: &[u8], text: &str) -> bool
+pub fn is_word(word: &[u8], text: &str) -> bool
     ensures { result ≡ bytes_eq word.now text.now }
 {
     word == text.as_bytes()
@@ -168,7 +168,7 @@ fn is_label(word: &[u8]) -> bool
 {
     match word {
         [first, rest @ ..] => {
-            first.is_ascii_alphabetic() && rest.len() <= MOST_BEHIND_LETTER && are_label_bytes(rest)
+            first.is_ascii_alphabetic() && rest.len() <= MAX_LABEL_TAIL && are_label_bytes(rest)
         }
         [] => false,
     }

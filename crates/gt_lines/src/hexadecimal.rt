@@ -5,7 +5,7 @@ ghost use Rattle.std.specs.List.{list_all};
 ghost use Rattle.gt_lines.specs.Fields.{text_where};
 ghost use Rattle.gt_lines.specs.Hexadecimal.{hex_word, hex_bytes as bytes_in};
 
-use crate::fields::is;
+use crate::fields::is_word;
 use crate::texts::Text;
 use hex::FromHexError;
 use std::alloc::{AllocError, Global};
@@ -23,7 +23,7 @@ fn are_digits(word: &[u8]) -> bool
 fn is_hex(word: &[u8]) -> bool
     ensures { result ≡ hex_word word.now }
 {
-    is(word, "-") || word.len() % 2 == 0 && word.len() <= MOST_DIGITS && are_digits(word)
+    is_word(word, "-") || word.len() % 2 == 0 && word.len() <= MOST_DIGITS && are_digits(word)
 }
 
 /// Hexadecimal text: an even number of digits of either case, at most 8,192, or `-`.
@@ -44,7 +44,7 @@ pub fn hex_bytes(alloc: Global, text: &Text) -> Result<Vec<u8>, AllocError>
     ensures { IfOk result (λ bytes. bytes.items ≡ bytes_in text.now) }
 {
     let digits = text.as_bytes();
-    if is(digits, "-") {
+    if is_word(digits, "-") {
         return Ok(Vec::new(alloc));
     }
     match hex::decode(alloc, digits) {

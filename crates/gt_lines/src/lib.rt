@@ -21,11 +21,11 @@ mod texts;
 mod words;
 
 pub use calls::{ScriptAction, ScriptCall};
-pub use fields::is;
+pub use fields::is_word;
 pub use hexadecimal::hex_bytes;
 pub use laws::every_hex_text_says_its_bytes;
-pub use lines::{BodyLine, DomainLine, Line, TripleLine, read_line};
+pub use lines::{BodyLine, DomainLine, ScriptLine, TripleLine, read_line};
 pub use numbers::Number;
-pub use signals::Signal;
+pub use signals::FlagLine;
 pub use texts::Text;
 pub use words::{line_words, text_lines};

@@ -3,9 +3,9 @@ ghost use Rattle.std.specs.Prelude.{◌≡◌, map};
 ghost use Rattle.gt_lines.specs.Lines.{triple_of, wear_of, domain_line_of, body_line_of, body_of, line_of};
 
 use crate::calls::{ScriptAction, read_action};
-use crate::fields::{generation, is, label_type, name};
+use crate::fields::{generation, is_word, label_type, name};
 use crate::numbers::{Number, decimal};
-use crate::signals::{Signal, is_signal_word, read_signal};
+use crate::signals::{FlagLine, is_signal_word, read_signal};
 use crate::texts::Text;
 use gt_types::Perms;
 
@@ -33,12 +33,12 @@ pub enum BodyLine<'a> {
     /// `do`, `begin`, `tick` or `show`.
     Action(ScriptAction<'a>),
     /// `tell` or `await`.
-    Signal(Signal<'a>),
+    FlagLine(FlagLine<'a>),
 }
 
 /// A line of a script, with what its words say.
 #[derive(Debug, Drop)]
-pub enum Line<'a> {
+pub enum ScriptLine<'a> {
     Triple(TripleLine<'a>),
     /// `wear N`: the first generation of all entries.
     Wear(u32),
@@ -99,11 +99,11 @@ fn read_asked<'a>(word: &[u8], args: &[&'a [u8]]) -> Option<BodyLine<'a>>
 }
 
 #[tactic(auto, unfolding(crate::specs::Lines::body_of))]
-fn read_body<'a>(word: &[u8], args: &[&'a [u8]]) -> Option<Line<'a>>
+fn read_body<'a>(word: &[u8], args: &[&'a [u8]]) -> Option<ScriptLine<'a>>
     ensures { result ≡ body_of word.now (map (λ word. word.now) args.now) }
 {
     match args {
-        [id, rest @ ..] => Some(Line::Body {
+        [id, rest @ ..] => Some(ScriptLine::Body {
             id: decimal(id)?,
             asks: read_asked(word, rest)?,
         }),
@@ -112,16 +112,16 @@ fn read_body<'a>(word: &[u8], args: &[&'a [u8]]) -> Option<Line<'a>>
 }
 
 /// What the words of a line say, if they are those of some line of a script.
-pub fn read_line<'a>(words: &[&'a [u8]]) -> Option<Line<'a>>
+pub fn read_line<'a>(words: &[&'a [u8]]) -> Option<ScriptLine<'a>>
     ensures { result ≡ line_of (map (λ word. word.now) words.now) }
 {
     let (word, args) = words.split_first()?;
-    if is(word, "triple") {
-        Some(Line::Triple(read_triple(args)?))
-    } else if is(word, "wear") {
-        Some(Line::Wear(read_wear(args)?))
-    } else if is(word, "domain") {
-        Some(Line::Domain(read_domain(args)?))
+    if is_word(word, "triple") {
+        Some(ScriptLine::Triple(read_triple(args)?))
+    } else if is_word(word, "wear") {
+        Some(ScriptLine::Wear(read_wear(args)?))
+    } else if is_word(word, "domain") {
+        Some(ScriptLine::Domain(read_domain(args)?))
     } else {
         read_body(word, args)
     }

@@ -2,12 +2,12 @@
 ghost use Rattle.std.specs.Prelude.{◌≡◌, map};
 ghost use Rattle.gt_lines.specs.Signals.{flag_of, is_signal_word, signal_of};
 
-use crate::fields::{is, label};
+use crate::fields::{is_word, label};
 use crate::texts::Text;
 
 /// What a line says of a flag. A flag has the form of a label.
 #[derive(Debug, Drop)]
-pub enum Signal<'a> {
+pub enum FlagLine<'a> {
     /// `tell ID FLAG`: the domain raises the flag.
     Tell(Text<'a>),
     /// `await ID FLAG`: the domain goes on once some domain has raised the flag.
@@ -28,17 +28,17 @@ fn read_flag<'a>(args: &[&'a [u8]]) -> Option<Text<'a>>
 pub fn is_signal_word(word: &[u8]) -> bool
     ensures { result ≡ is_signal_word word.now }
 {
-    is(word, "tell") || is(word, "await")
+    is_word(word, "tell") || is_word(word, "await")
 }
 
 /// What a line's first word says of a flag together with the words after its domain.
 #[tactic(auto, unfolding(crate::specs::Signals::signal_of))]
-pub fn read_signal<'a>(word: &[u8], args: &[&'a [u8]]) -> Option<Signal<'a>>
+pub fn read_signal<'a>(word: &[u8], args: &[&'a [u8]]) -> Option<FlagLine<'a>>
     ensures { result ≡ signal_of word.now (map (λ word. word.now) args.now) }
 {
     match word {
-        b"tell" => Some(Signal::Tell(read_flag(args)?)),
-        b"await" => Some(Signal::Await(read_flag(args)?)),
+        b"tell" => Some(FlagLine::Tell(read_flag(args)?)),
+        b"await" => Some(FlagLine::Await(read_flag(args)?)),
         _ => None,
     }
 }

@@ -8,7 +8,7 @@ use Rattle.std.specs.Io.KnownBytes.{Appends}
 use Rattle.gt_types.specs.declared.TypeId.{TypeId}
 use Rattle.gt_types.specs.declared.perms.Perms.{Perms}
 use Rattle.gt_types.specs.Names.{every_permission}
-use Rattle.gt_listing.specs.Listing.{line_of_triple, pair_triples, triples_of, is_one, listing}
+use Rattle.gt_listing.specs.Listing.{line_of_triple, pair_triples, triples_of, is_allowed_triple, listing}
 use Rattle.gt_listing.specs.Lines.{triple_text, pair_text, source_text}
 use Rattle.gt_streams.specs.Streams.{AppendsBeginning, Sends}
 use Rattle.gt_listing.proofs.PieceLemmas.{sends_all}
@@ -38,7 +38,7 @@ pub by_source : (types : List (List ℕ)) (may : ℕ → ℕ → Perms → Bool)
 by_source types may ids =
     let pair = λ (s t : TypeId). flat_map-map (triple_text types may) (λ (perm : Perms). record { source = s; target = t; perm = perm }) every_permission in
     let source = λ (s : TypeId). flat_map_twice (triple_text types may) (λ t. pair_triples s t) ids ∙ flat_map_same (λ t. flat_map (triple_text types may) (pair_triples s t)) (λ t. pair_text types may s t) (pair s) ids in
-    sym (passed (line_of_triple types) (is_one may) (triples_of ids) ∙ flat_map_twice (triple_text types may) (λ s. flat_map (λ t. pair_triples s t) ids) ids
+    sym (passed (line_of_triple types) (is_allowed_triple may) (triples_of ids) ∙ flat_map_twice (triple_text types may) (λ s. flat_map (λ t. pair_triples s t) ids) ids
     ∙ flat_map_same (λ s. flat_map (triple_text types may) (flat_map (λ t. pair_triples s t) ids)) (source_text types may ids) source ids)
 
 -- what goes out source by source is the listing

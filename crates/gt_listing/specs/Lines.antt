@@ -4,11 +4,11 @@ use Rattle.gt_types.specs.Names.{every_permission}
 use Rattle.gt_types.specs.declared.TypeId.{TypeId}
 use Rattle.gt_types.specs.declared.perms.Perms.{Perms}
 use Rattle.gt_types.specs.declared.rights.Triple.{Triple}
-use Rattle.gt_listing.specs.Listing.{line_of_triple, is_one}
+use Rattle.gt_listing.specs.Listing.{line_of_triple, is_allowed_triple}
 
 -- the line of a triple, if it may be
 abbrev pub triple_text : List (List ℕ) → (ℕ → ℕ → Perms → Bool) → Triple → List ℕ
-triple_text types may x = if is_one may x then line_of_triple types x else []
+triple_text types may x = if is_allowed_triple may x then line_of_triple types x else []
 
 -- the lines of a source and a target, one for each permission
 abbrev pub pair_text : List (List ℕ) → (ℕ → ℕ → Perms → Bool) → TypeId → TypeId → List ℕ

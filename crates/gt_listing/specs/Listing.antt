@@ -24,9 +24,9 @@ abbrev pub triples_of : List TypeId → List Triple
 triples_of ids = flat_map (λ source. flat_map (λ target. pair_triples source target) ids) ids
 
 -- whether a triple is one that may be
-abbrev pub is_one : (ℕ → ℕ → Perms → Bool) → Triple → Bool
-is_one may x = may x.source.0 x.target.0 x.perm
+abbrev pub is_allowed_triple : (ℕ → ℕ → Perms → Bool) → Triple → Bool
+is_allowed_triple may x = may x.source.0 x.target.0 x.perm
 
 -- the lines of those triples of these types that may be, in their order
 abbrev pub listing : List (List ℕ) → (ℕ → ℕ → Perms → Bool) → List TypeId → List ℕ
-listing types may ids = flat_map (line_of_triple types) (filter (is_one may) (triples_of ids))
+listing types may ids = flat_map (line_of_triple types) (filter (is_allowed_triple may) (triples_of ids))

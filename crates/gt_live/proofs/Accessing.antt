@@ -23,14 +23,14 @@ use Rattle.gt_words.specs.Rule.{Layout}
 use Rattle.gt_words.specs.History.{Moment}
 use Rattle.gt_words.specs.declared.view.View.{View}
 use Rattle.gt_access.specs.Routes.{IsPinnedFor, ServesAccess}
-use Rattle.gt_calls.specs.declared.action.Seen.TheVariants.{Nothing}
+use Rattle.gt_calls.specs.declared.action.Observation.TheVariants.{Nothing}
 use Rattle.gt_calls.specs.declared.action.Step.{Step}
-use Rattle.gt_calls.specs.declared.action.Verdict.{Verdict}
-use Rattle.gt_calls.specs.declared.action.Verdict.TheVariants.{Granted, Refused}
-use Rattle.gt_calls.specs.declared.held.Held.{Held}
+use Rattle.gt_calls.specs.declared.action.CallResult.{CallResult}
+use Rattle.gt_calls.specs.declared.action.CallResult.TheVariants.{Granted, Refused}
+use Rattle.gt_calls.specs.declared.held.HeldPin.{HeldPin}
 use Rattle.gt_calls.specs.declared.request.Request.{Request}
 use Rattle.gt_handles.specs.declared.handles.Handle.{Handle}
-use Rattle.gt_calls.specs.declared.request.Asked.TheVariants as asks
+use Rattle.gt_calls.specs.declared.request.OpenRequest.TheVariants as asks
 use Rattle.gt_calls.specs.Asking.{asked, begun_of}
 use Rattle.gt_calls.specs.Opening.{opens}
 use Rattle.gt_calls.specs.Path.{Continuation, after_beginning, by_mapping, ended, makes, path_of, steps_of}
@@ -68,12 +68,12 @@ serving : (e : Entry) (d : DomId) (dir own : Dir) (off len : ℕ) → (dir ≡ W
 serving e d Read own off len so is = to-read e d own off len is
 serving e d Write own off len so is = subst (λ (x : Dir). permits e d x ForMap off len ≡ true) (so refl) is
 
-pub serves : (p : Held) (dir : Dir) → (dir ≡ Write → p.dir ≡ Write) → ServesAccess dir p
+pub serves : (p : HeldPin) (dir : Dir) → (dir ≡ Write → p.dir ≡ Write) → ServesAccess dir p
 serves p Read so = tt
 serves p Write so = so refl
 
 -- a mapping reaches any range of its frame, to write where its pin is a write pin
-pub reaches-mapped : (k : Layout) (ds : List DomainConfig) (may : AllowRelation) (s : SeatOf) (p : Held) (dir : Dir) (number off len : ℕ) → IsMappingOf k ds may s.dom s.view p → (dir ≡ Write → p.dir ≡ Write) → number ≡ frame_of p.entry
+pub reaches-mapped : (k : Layout) (ds : List DomainConfig) (may : AllowRelation) (s : SeatOf) (p : HeldPin) (dir : Dir) (number off len : ℕ) → IsMappingOf k ds may s.dom s.view p → (dir ≡ Write → p.dir ≡ Write) → number ≡ frame_of p.entry
     → IsPinnedFor k s s.dom dir ForMap (frame_named p.dom number) off len p
 reaches-mapped k ds may s p dir number off len is so frame =
     let some = any-range p.entry s.dom p.dir off len is.permitted in
@@ -85,7 +85,7 @@ reaches-mapped k ds may s p dir number off len is so frame =
       permitted = serving p.entry s.dom dir p.dir off len so some;
     }
 
-pub reaches-its-frame : (k : Layout) (ds : List DomainConfig) (may : AllowRelation) (s : SeatOf) (p : Held) → IsMappingOf k ds may s.dom s.view p → ReachesItsFrame k s p
+pub reaches-its-frame : (k : Layout) (ds : List DomainConfig) (may : AllowRelation) (s : SeatOf) (p : HeldPin) → IsMappingOf k ds may s.dom s.view p → ReachesItsFrame k s p
 reaches-its-frame k ds may s p is = record {
   reads = λ (off len : ℕ). reaches-mapped k ds may s p Read (frame_of p.entry) off len is (λ (e : Read ≡ Write). cc) refl;
   writes = λ (writes : p.dir ≡ Write) (off len : ℕ). reaches-mapped k ds may s p Write (frame_of p.entry) off len is (λ (e : Write ≡ Write). writes) refl;
@@ -104,16 +104,16 @@ none-left None not = refl
 none-left (Some a) not = absurd (not a refl)
 
 -- a refusal at the beginning, which carries no word
-abbrev pub IsPlainly : Verdict → Type 0
+abbrev pub IsPlainly : CallResult → Type 0
 IsPlainly verdict = (denial : Denial) × (verdict ≡ Refused denial) × IsWordless denial.facts
 
-pub refuses : (c : CallerKnowledge) (caller : DomId) (request : Request) (verdict : Verdict) (denial : Denial)
+pub refuses : (c : CallerKnowledge) (caller : DomId) (request : Request) (verdict : CallResult) (denial : Denial)
     → IsPlainly verdict → begun_of c caller request ≡ Some verdict → denial ≡ denial_in verdict
     → IsRefused c caller request denial
 refuses c caller request verdict denial is e said =
     let here : IsRefused c caller request is.0 =
-    record { answered = e ∙ ap (λ (v : Verdict). Some v) is.1; wordless = is.2 } in
-    let same : denial ≡ is.0 = said ∙ ap (λ (v : Verdict). denial_in v) is.1 in
+    record { answered = e ∙ ap (λ (v : CallResult). Some v) is.1; wordless = is.2 } in
+    let same : denial ≡ is.0 = said ∙ ap (λ (v : CallResult). denial_in v) is.1 in
     subst (λ (x : Denial). IsRefused c caller request x) (sym same) here
 
 -- a call that is refused at its beginning
@@ -124,7 +124,7 @@ refused-called k c caller request denial v is = record {
   view = refl;
   walked = tt;
   moments = tt;
-  answered = ap (λ (o : Option Verdict). after_beginning o (steps_of c caller (asked request)) []) is.answered;
+  answered = ap (λ (o : Option CallResult). after_beginning o (steps_of c caller (asked request)) []) is.answered;
   carried = wordless-found k v [] denial.facts is.wordless;
 }
 
@@ -134,7 +134,7 @@ pub refused-first : {R : Type 0} (k : Layout) (c : CallerKnowledge) (caller : Do
 refused-first k c caller request tells denial v is = inl (refused-called k c caller request denial v is)
 
 -- a call with an access that is refused at its beginning, by the verdict there
-pub refused-begun : (k : Layout) (c : CallerKnowledge) (caller : DomId) (request : Request) (verdict : Verdict)
+pub refused-begun : (k : Layout) (c : CallerKnowledge) (caller : DomId) (request : Request) (verdict : CallResult)
     (denial : Denial) (v : View) → IsAccessing (asked request) → begun_of c caller request ≡ Some verdict
     → denial ≡ denial_in verdict → Called k (path_of c caller request) (Refused denial) v v
 refused-begun k c caller request verdict denial v is e said =
@@ -143,7 +143,7 @@ refused-begun k c caller request verdict denial v is e said =
 
 -- the same of a call with an access, by the verdict at its beginning
 pub refused-access : {R : Type 0} (k : Layout) (c : CallerKnowledge) (caller : DomId) (request : Request)
-    (tells : Step → R → Type 0) (verdict : Verdict) (denial : Denial) (v : View) → IsAccessing (asked request)
+    (tells : Step → R → Type 0) (verdict : CallResult) (denial : Denial) (v : View) → IsAccessing (asked request)
     → begun_of c caller request ≡ Some verdict → denial ≡ denial_in verdict
     → AnsweredAtAccess k (path_of c caller request) tells (Err denial) v v
 refused-access k c caller request tells verdict denial v is e said =
@@ -163,18 +163,18 @@ one-access k way access tells (Ok r) v is e ok err = (access, whole k way access
 one-access k way access tells (Err denial) v is e ok err = inr (access, whole k way access v is e, err)
 
 -- the way of a call through a mapping
-pub mapped-way : (k : CallerKnowledge) (caller : DomId) (request : Request) (handle : Handle) (p : Held) (step : Held → Step) → begun_of k caller request ≡ None → k.mapping handle ≡ Some p
+pub mapped-way : (k : CallerKnowledge) (caller : DomId) (request : Request) (handle : Handle) (p : HeldPin) (step : HeldPin → Step) → begun_of k caller request ≡ None → k.mapping handle ≡ Some p
     → steps_of k caller (asked request) ≡ by_mapping (k.mapping handle) step → path_of k caller request ≡ makes (step p) (ended Granted)
 mapped-way k caller request handle p step none there is =
-    ap (λ (o : Option Verdict). after_beginning o (steps_of k caller (asked request))) none ∙ (is ∙ ap (λ (o : Option Held). by_mapping o step) there)
+    ap (λ (o : Option CallResult). after_beginning o (steps_of k caller (asked request))) none ∙ (is ∙ ap (λ (o : Option HeldPin). by_mapping o step) there)
 
 -- and of one to a frame of the caller's own
 pub own-way : (k : CallerKnowledge) (caller : DomId) (request : Request) (access : Step) → begun_of k caller request ≡ None
     → steps_of k caller (asked request) ≡ makes access (ended Granted) → path_of k caller request ≡ makes access (ended Granted)
-own-way k caller request access none is = ap (λ (o : Option Verdict). after_beginning o (steps_of k caller (asked request))) none ∙ is
+own-way k caller request access none is = ap (λ (o : Option CallResult). after_beginning o (steps_of k caller (asked request))) none ∙ is
 
 -- a store goes through a mapping that lets write
-pub writes-by : (k : CallerKnowledge) (caller : DomId) (handle : Handle) (off len : ℕ) (p : Held) → begun k caller (asks.Store handle off len) ≡ None → k.mapping handle ≡ Some p → p.dir ≡ Write
+pub writes-by : (k : CallerKnowledge) (caller : DomId) (handle : Handle) (off len : ℕ) (p : HeldPin) → begun k caller (asks.Store handle off len) ≡ None → k.mapping handle ≡ Some p → p.dir ≡ Write
 writes-by k caller handle off len p none there =
     let o = opens k caller (asks.Store handle off len) none in let both : Some o.mapping ≡ Some p = sym o.found ∙ there in let same : o.mapping ≡ p = cc in
-    sym (ap (λ (x : Held). x.dir) same) ∙ o.writable
+    sym (ap (λ (x : HeldPin). x.dir) same) ∙ o.writable

@@ -13,8 +13,8 @@ use Rattle.gt_types.specs.declared.Use.TheVariants.{Map as ForMap}
 use Rattle.gt_types.specs.Names.{domain_of, resolved}
 use Rattle.gt_entry.specs.declared.entry.Entry.{Entry}
 use Rattle.gt_entry.specs.declared.entry.Entry.TheVariants.{Invalid, Page, Sub, Via}
-use Rattle.gt_entry.specs.declared.control.Kind.{Kind}
-use Rattle.gt_entry.specs.declared.control.Kind.TheVariants.{Page as KindPage, Sub as KindSub}
+use Rattle.gt_entry.specs.declared.control.EntryKind.{EntryKind}
+use Rattle.gt_entry.specs.declared.control.EntryKind.TheVariants.{Page as KindPage, Sub as KindSub}
 use Rattle.gt_entry.specs.Entries.{is_read_only}
 use Rattle.gt_entry.specs.Permits.{permits}
 use Rattle.gt_entry.specs.Spelling.{IsSpelled, idle_word_of, first_body, second_body}
@@ -23,32 +23,32 @@ use Rattle.gt_words.specs.Conditions.{CanTurn, HasDomain, Holds, IsIdleOf, IsWor
 use Rattle.gt_words.specs.Answers.{Changes, Pins}
 use Rattle.gt_words.specs.Controls.{generation_of, pins_in}
 use Rattle.gt_words.specs.Rule.{IsKeptHeader, Layout, id_at, position_in}
-use Rattle.gt_words.specs.Views.{HasBody, is_pin, pins_like, IsAmong, LivePin, Seen as Looks, last_of, last_seen}
+use Rattle.gt_words.specs.Views.{HasBody, is_pin, pins_like, IsAmong, LivePin, Observation as Looks, last_of, last_seen}
 use Rattle.gt_words.specs.Views.{own_body}
 use Rattle.gt_words.specs.Views.{live_pins, record_seen, seen, seen_or_none, steps_on}
-use Rattle.gt_entry.specs.declared.change.Half.TheVariants.{First as FirstHalf, Second as SecondHalf}
+use Rattle.gt_entry.specs.declared.change.BodyWord.TheVariants.{First as FirstHalf, Second as SecondHalf}
 use Rattle.gt_words.specs.declared.view.EntryRecord.{EntryRecord}
 use Rattle.gt_words.specs.History.{Moment}
 use Rattle.gt_words.specs.declared.view.View.{View}
 use Rattle.gt_handles.specs.declared.handles.Handle.{Handle}
 use Rattle.gt_calls.specs.declared.action.Action.TheVariants.{Step as Makes}
-use Rattle.gt_entry.specs.declared.change.Change.{Change}
-use Rattle.gt_entry.specs.declared.change.Change.TheVariants.{Publish, Revoke as ToInvalid, Withdraw as ToWithdrawn}
-use Rattle.gt_entry.specs.declared.change.Change.TheVariants.{Demote as ToReadOnly, Promote as ToWritable}
-use Rattle.gt_calls.specs.declared.action.Seen.{Seen}
-use Rattle.gt_calls.specs.declared.action.Seen.TheVariants.{Nothing, Word, Taken, Missed}
+use Rattle.gt_entry.specs.declared.change.EntryChange.{EntryChange}
+use Rattle.gt_entry.specs.declared.change.EntryChange.TheVariants.{Publish, Revoke as ToInvalid, Withdraw as ToWithdrawn}
+use Rattle.gt_entry.specs.declared.change.EntryChange.TheVariants.{Demote as ToReadOnly, Promote as ToWritable}
+use Rattle.gt_calls.specs.declared.action.Observation.{Observation}
+use Rattle.gt_calls.specs.declared.action.Observation.TheVariants.{Nothing, Word, Taken, Missed}
 use Rattle.gt_calls.specs.declared.action.Step.{Step}
 use Rattle.gt_calls.specs.declared.action.Step.TheVariants.{LookHeader, LookControl, LookBody, Pin, Unpin, StoreBody}
 use Rattle.gt_calls.specs.declared.action.Step.TheVariants.{StoreHeader, Exchange, Read as ReadBytes}
 use Rattle.gt_calls.specs.declared.action.Step.TheVariants.{Write as WriteBytes, Copy as CopyBytes}
-use Rattle.gt_calls.specs.declared.request.Asked.{Asked}
-use Rattle.gt_calls.specs.declared.request.Asked.TheVariants as asks
-use Rattle.gt_calls.specs.declared.copying.Aim.{Aim}
-use Rattle.gt_calls.specs.declared.copying.Aim.TheVariants.{Mapping, Source, Dest}
-use Rattle.gt_calls.specs.declared.held.Held.{Held}
-use Rattle.gt_calls.specs.declared.held.Pins.{Pins as HeldPins}
+use Rattle.gt_calls.specs.declared.request.OpenRequest.{OpenRequest}
+use Rattle.gt_calls.specs.declared.request.OpenRequest.TheVariants as asks
+use Rattle.gt_calls.specs.declared.copying.PinPurpose.{PinPurpose}
+use Rattle.gt_calls.specs.declared.copying.PinPurpose.TheVariants.{Mapping, Source, Dest}
+use Rattle.gt_calls.specs.declared.held.HeldPin.{HeldPin}
+use Rattle.gt_calls.specs.declared.held.CallPins.{CallPins as HeldPins}
 use Rattle.gt_calls.specs.declared.leg.Leg.{Leg}
-use Rattle.gt_calls.specs.declared.request.Holder.TheVariants.{Mapping as ByHandle, Leg as ByLeg}
+use Rattle.gt_calls.specs.declared.request.PinHolder.TheVariants.{Mapping as ByHandle, Leg as ByLeg}
 use Rattle.gt_calls.specs.Changes.{raise_of}
 use Rattle.gt_calls.specs.Holding.{last_first}
 use Rattle.gt_calls.specs.Path.{Continuation, idle_word, is_stopped, path}
@@ -57,7 +57,7 @@ use Rattle.gt_calls.specs.Resting.{Rests, RestsOnGrant, RestsOnTry}
 use Rattle.gt_calls.specs.Opening.{IsAllowed, OpensGrant, OpensTurn, opens}
 use Rattle.gt_calls.specs.Rules.{CallerKnowledge, begun, frame_count_of, is_kind, label_of, map_dir, map_perms, triples}
 use Rattle.gt_entry.specs.Entries.{frame_of, is_invalid}
-use Rattle.gt_entry.specs.declared.change.Half.{Half}
+use Rattle.gt_entry.specs.declared.change.BodyWord.{BodyWord}
 use Rattle.gt_live.specs.Driving.{CanMake, ChangesBy, IsSame, Knows, Leaves, MapsBy}
 use Rattle.gt_live.specs.Effects.{effect_of}
 use Rattle.gt_live.specs.Ending.{IsHeaderChange, IsMap, IsOwnChange, WaitsForNobody}
@@ -111,7 +111,7 @@ in-counted d x (p ∷ ps) (inl e) =
 in-counted d x (p ∷ ps) (inr there) = let more = in-counted d x ps there in let one = count-cons (is_pin d x.generation) p ps in omega (arith, more, one)
 
 -- the facts of a pin that a map tries
-pub record Tried (c : CallerKnowledge) (k : Layout) (caller : DomId) (request : Asked) (p : Held) (w : View) : Type 0 where
+pub record Tried (c : CallerKnowledge) (k : Layout) (caller : DomId) (request : OpenRequest) (p : HeldPin) (w : View) : Type 0 where
   pub dom : DomId
   pub gref : GrantRef
   pub flags : ℕ
@@ -139,7 +139,7 @@ module _ (c : CallerKnowledge) (k : Layout) (caller : DomId) (v : View) (knows :
   row : (w : View) → IsSame v w → (q : ℕ) → q < TABLE_ENTRIES → last_of q w ≡ record { generation = c.generation q; entry = c.entry q }
   row w same q lt = same.records q ∙ knows.rows q lt
 
-  tried : (request : Asked) (held : HeldPins) (steps : List Moment) (way : Continuation) (p : Held) → WaitsForNobody request → IsWalk k way v steps → RestsOnTry c caller request held way (all_shown steps) p → Tried c k caller request p (view_after steps v)
+  tried : (request : OpenRequest) (held : HeldPins) (steps : List Moment) (way : Continuation) (p : HeldPin) → WaitsForNobody request → IsWalk k way v steps → RestsOnTry c caller request held way (all_shown steps) p → Tried c k caller request p (view_after steps v)
   tried request held steps way p waits walk r = by r.aim r.aimed
     where
       of-map : IsOfMap c caller request r.leg → Tried c k caller request p (view_after steps v)
@@ -147,15 +147,15 @@ module _ (c : CallerKnowledge) (k : Layout) (caller : DomId) (v : View) (knows :
           let l = r.leg in let w = view_after steps v in let at = position_in k.ids p.dom in
           let purpose : l.purpose ≡ ForMap = ap (λ (x : Leg). x.purpose) m.leg_is in
           let page = page-seen l p.word purpose r.first in
-          let nosub : is_kind (control_of p.word).kind KindSub ≡ false = ap (λ (x : Kind). is_kind x KindSub) page in
+          let nosub : is_kind (control_of p.word).kind KindSub ≡ false = ap (λ (x : EntryKind). is_kind x KindSub) page in
           let saw = read-page k way v steps p.dom p.gref p.word r.body r.second walk r.read nosub in
           let s : Looks = record { word = p.word; first = Some r.body; second = None } in
           let last : last_seen at p.gref.0 w ≡ s = ap seen_or_none saw in
-          let spelt : p.entry ≡ Page (control_of p.word).dom (control_of p.word).ro r.body = ap (λ (x : Held). x.entry) r.pin_is ∙ page-spelled p.word r.body r.second page in
+          let spelt : p.entry ≡ Page (control_of p.word).dom (control_of p.word).ro r.body = ap (λ (x : HeldPin). x.entry) r.pin_is ∙ page-spelled p.word r.body r.second page in
           let lets = lets-page l p.entry (control_of p.word).dom (control_of p.word).ro r.body spelt purpose (ap (λ (x : Leg). x.off) m.leg_is) (ap (λ (x : Leg). x.len) m.leg_is) r.lets in
-          let dirs : p.dir ≡ l.dir = ap (λ (x : Held). x.dir) r.pin_is in
+          let dirs : p.dir ≡ l.dir = ap (λ (x : HeldPin). x.dir) r.pin_is in
           let judge : l.grantee ≡ caller = ap (λ (x : Leg). x.grantee) m.leg_is in
-          let owner : p.dom ≡ resolved caller m.dom = ap (λ (x : Held). x.dom) r.pin_is ∙ ap (λ (x : Leg). x.dom) m.leg_is in
+          let owner : p.dom ≡ resolved caller m.dom = ap (λ (x : HeldPin). x.dom) r.pin_is ∙ ap (λ (x : Leg). x.dom) m.leg_is in
           record {
             dom = m.dom;
             gref = m.gref;
@@ -175,21 +175,21 @@ module _ (c : CallerKnowledge) (k : Layout) (caller : DomId) (v : View) (knows :
             in_frames = ap (λ (d : DomId). nat_le (frame_count_of c.domains d) (frame_of p.entry)) owner ∙ (ap (λ (n : ℕ). nat_le n (frame_of p.entry)) (sym (ap (λ (x : Leg). x.frames) m.leg_is)) ∙ lets.1);
           }
 
-      by : (aim : Aim) → IsLegFor c caller request aim r.leg → Tried c k caller request p (view_after steps v)
+      by : (aim : PinPurpose) → IsLegFor c caller request aim r.leg → Tried c k caller request p (view_after steps v)
       by Mapping is = of-map is
-      by (Source copy via) is = absurd (subst (λ (x : Asked). WaitsForNobody x) is.0 waits)
-      by (Dest copy source via) is = absurd (subst (λ (x : Asked). WaitsForNobody x) is.0 waits)
+      by (Source copy via) is = absurd (subst (λ (x : OpenRequest). WaitsForNobody x) is.0 waits)
+      by (Dest copy source via) is = absurd (subst (λ (x : OpenRequest). WaitsForNobody x) is.0 waits)
 
   -- the pin that a mapping has is held still
-  still-held : (w : View) (p : Held) → IsSame v w → HasPin k v p → Holds (position_in k.ids p.dom) p.gref.0 p.dir (generation_of p.word) w
+  still-held : (w : View) (p : HeldPin) → IsSame v w → HasPin k v p → Holds (position_in k.ids p.dom) p.gref.0 p.dir (generation_of p.word) w
   still-held w p same pin =
       let t = position_in k.ids p.dom in let r = p.gref.0 in
       in-counted p.dir (entry_record_of p) (live_pins (steps_on t r w)) (subst (λ (ps : List LivePin). IsAmong (p.dir, entry_record_of p) ps) (sym (same.pins t r)) pin.held)
 
-  grant-opens : (request : Asked) (q : GrantRef) (e : Entry) → begun c caller request ≡ None → request ≡ asks.Grant q e → OpensGrant c q e
-  grant-opens request q e none is = opens c caller (asks.Grant q e) (subst (λ (x : Asked). begun c caller x ≡ None) is none)
+  grant-opens : (request : OpenRequest) (q : GrantRef) (e : Entry) → begun c caller request ≡ None → request ≡ asks.Grant q e → OpensGrant c q e
+  grant-opens request q e none is = opens c caller (asks.Grant q e) (subst (λ (x : OpenRequest). begun c caller x ≡ None) is none)
 
-  can-store : (request : Asked) (q : GrantRef) (half : Half) (word : ℕ) (w : View) → IsSame v w → begun c caller request ≡ None → RestsOnGrant request q half word → (q.0 < TABLE_ENTRIES) × ((last_of q.0 w).entry ≡ Invalid)
+  can-store : (request : OpenRequest) (q : GrantRef) (half : BodyWord) (word : ℕ) (w : View) → IsSame v w → begun c caller request ≡ None → RestsOnGrant request q half word → (q.0 < TABLE_ENTRIES) × ((last_of q.0 w).entry ≡ Invalid)
   can-store request q half word w same none r = by half r
     where
       here : (e : Entry) → request ≡ asks.Grant q e → (q.0 < TABLE_ENTRIES) × ((last_of q.0 w).entry ≡ Invalid)
@@ -197,7 +197,7 @@ module _ (c : CallerKnowledge) (k : Layout) (caller : DomId) (v : View) (knows :
           let o = grant-opens request q e none is in let lt = in-own q.0 o.in_table in
           (lt, ap (λ (x : EntryRecord). x.entry) (row w same q.0 lt) ∙ which-invalid (c.entry q.0) o.free)
 
-      by : (h : Half) → RestsOnGrant request q h word → (q.0 < TABLE_ENTRIES) × ((last_of q.0 w).entry ≡ Invalid)
+      by : (h : BodyWord) → RestsOnGrant request q h word → (q.0 < TABLE_ENTRIES) × ((last_of q.0 w).entry ≡ Invalid)
       by FirstHalf x = here x.0 x.1
       by SecondHalf x = here x.0 x.1
 
@@ -217,7 +217,7 @@ module _ (c : CallerKnowledge) (k : Layout) (caller : DomId) (v : View) (knows :
   once : (w : View) → IsSame v w → (q : GrantRef) → q.0 < TABLE_ENTRIES → IsIdleOf (last_of q.0 w) (idle_word c q)
   once w same q lt = idle-is (c.entry q.0) (c.generation q.0) ∙ ap (λ (y : EntryRecord). idle_word_of y.entry y.generation) (sym (row w same q.0 lt))
 
-  can-publish : (request : Asked) (steps : List Moment) (way : Continuation) (q : GrantRef) (looked : ℕ) (e : Entry) → IsWalk k way v steps → IsSame v (view_after steps v) → begun c caller request ≡ None
+  can-publish : (request : OpenRequest) (steps : List Moment) (way : Continuation) (q : GrantRef) (looked : ℕ) (e : Entry) → IsWalk k way v steps → IsSame v (view_after steps v) → begun c caller request ≡ None
       → (request ≡ asks.Grant q e) × (looked ≡ idle_word c q) × HasStored way q e (all_shown steps) → CanMake k (view_after steps v) (Exchange q looked (Publish e))
   can-publish request steps way q looked e walk same none r =
       let w = view_after steps v in
@@ -237,9 +237,9 @@ module _ (c : CallerKnowledge) (k : Layout) (caller : DomId) (v : View) (knows :
   own-valid : (w : View) (q : GrantRef) → IsSame v w → q.0 < TABLE_ENTRIES → is_invalid (c.entry q.0) ≡ false → (last_of q.0 w).entry ≢ Invalid
   own-valid w q same lt valid gone = valid-entry (c.entry q.0) valid (ap (λ (x : EntryRecord). x.entry) (sym (row w same q.0 lt)) ∙ gone)
 
-  can-revoke : (request : Asked) (w : View) (q : GrantRef) (looked : ℕ) → IsSame v w → begun c caller request ≡ None → (request ≡ asks.Revoke q) × (looked ≡ idle_word c q) → CanMake k w (Exchange q looked ToInvalid)
+  can-revoke : (request : OpenRequest) (w : View) (q : GrantRef) (looked : ℕ) → IsSame v w → begun c caller request ≡ None → (request ≡ asks.Revoke q) × (looked ≡ idle_word c q) → CanMake k w (Exchange q looked ToInvalid)
   can-revoke request w q looked same none r =
-      let o = opens c caller (asks.Revoke q) (subst (λ (x : Asked). begun c caller x ≡ None) r.0 none) in let lt = in-own q.0 o.in_table in
+      let o = opens c caller (asks.Revoke q) (subst (λ (x : OpenRequest). begun c caller x ≡ None) r.0 none) in let lt = in-own q.0 o.in_table in
       (lt, record { idle = r.1 ∙ once w same q lt; some = own-valid w q same lt o.valid })
 
   -- the word of the caller's own entry that it looked at last
@@ -247,13 +247,13 @@ module _ (c : CallerKnowledge) (k : Layout) (caller : DomId) (v : View) (knows :
   own-look steps way q word walk r = let m = made-last k way v steps r.before (Word word) (LookControl caller q) walk r.shown_is r.looked in
       m.made.1 (sym knows.named ∙ ap (λ (i : ℕ). id_at k.ids i) (sym (after-position m.rest v)))
 
-  can-withdraw : (request : Asked) (steps : List Moment) (way : Continuation) (q : GrantRef) (looked : ℕ) → IsWalk k way v steps → IsSame v (view_after steps v) → begun c caller request ≡ None
+  can-withdraw : (request : OpenRequest) (steps : List Moment) (way : Continuation) (q : GrantRef) (looked : ℕ) → IsWalk k way v steps → IsSame v (view_after steps v) → begun c caller request ≡ None
       → (request ≡ asks.Withdraw q) × LookedLast way caller q looked [] (all_shown steps) × (is_stopped ToWithdrawn (control_of looked) ≡ false) → CanMake k (view_after steps v) (Exchange q looked ToWithdrawn)
   can-withdraw request steps way q looked walk same none r =
-      let o = opens c caller (asks.Withdraw q) (subst (λ (x : Asked). begun c caller x ≡ None) r.0 none) in let lt = in-own q.0 o.in_table in
+      let o = opens c caller (asks.Withdraw q) (subst (λ (x : OpenRequest). begun c caller x ≡ None) r.0 none) in let lt = in-own q.0 o.in_table in
       (lt, record { word_is = own-look steps way q looked walk r.1; some = own-valid (view_after steps v) q same lt o.valid })
 
-  can-turn : (ro : Bool) (change : Change) (steps : List Moment) (way : Continuation) (q : GrantRef) (looked : ℕ) → IsWalk k way v steps → IsSame v (view_after steps v) → OpensTurn c change q → is_read_only (c.entry q.0) ≡ ro
+  can-turn : (ro : Bool) (change : EntryChange) (steps : List Moment) (way : Continuation) (q : GrantRef) (looked : ℕ) → IsWalk k way v steps → IsSame v (view_after steps v) → OpensTurn c change q → is_read_only (c.entry q.0) ≡ ro
       → LookedLast way caller q looked [] (all_shown steps) → (q.0 < TABLE_ENTRIES) × CanTurn ro q.0 looked (view_after steps v)
   can-turn ro change steps way q looked walk same o now r =
       let w = view_after steps v in let lt = in-own q.0 o.in_table in let here = row w same q.0 lt in
@@ -267,32 +267,32 @@ module _ (c : CallerKnowledge) (k : Layout) (caller : DomId) (v : View) (knows :
         },
       )
 
-  can-demote : (request : Asked) (steps : List Moment) (way : Continuation) (q : GrantRef) (looked : ℕ) → IsWalk k way v steps → IsSame v (view_after steps v) → begun c caller request ≡ None
+  can-demote : (request : OpenRequest) (steps : List Moment) (way : Continuation) (q : GrantRef) (looked : ℕ) → IsWalk k way v steps → IsSame v (view_after steps v) → begun c caller request ≡ None
       → (request ≡ asks.Demote q) × LookedLast way caller q looked [] (all_shown steps) × (is_stopped ToReadOnly (control_of looked) ≡ false) → CanMake k (view_after steps v) (Exchange q looked ToReadOnly)
   can-demote request steps way q looked walk same none r =
-      let o = opens c caller (asks.Demote q) (subst (λ (x : Asked). begun c caller x ≡ None) r.0 none) in
+      let o = opens c caller (asks.Demote q) (subst (λ (x : OpenRequest). begun c caller x ≡ None) r.0 none) in
       let turn = can-turn false ToReadOnly steps way q looked walk same o o.not_already r.1 in
       let none_left = ltb-false 0 (pins_in Write looked) r.2 in
       (turn.0, (turn.1, omega (arith, none_left)))
 
-  can-promote : (request : Asked) (steps : List Moment) (way : Continuation) (q : GrantRef) (looked : ℕ) → IsWalk k way v steps → IsSame v (view_after steps v) → begun c caller request ≡ None
+  can-promote : (request : OpenRequest) (steps : List Moment) (way : Continuation) (q : GrantRef) (looked : ℕ) → IsWalk k way v steps → IsSame v (view_after steps v) → begun c caller request ≡ None
       → (request ≡ asks.Promote q) × LookedLast way caller q looked [] (all_shown steps) × (is_stopped ToWritable (control_of looked) ≡ false) → CanMake k (view_after steps v) (Exchange q looked ToWritable)
   can-promote request steps way q looked walk same none r =
-      let o = opens c caller (asks.Promote q) (subst (λ (x : Asked). begun c caller x ≡ None) r.0 none) in
+      let o = opens c caller (asks.Promote q) (subst (λ (x : OpenRequest). begun c caller x ≡ None) r.0 none) in
       can-turn true ToWritable steps way q looked walk same o (not-false _ o.not_already) r.1
 
-  can-header : (request : Asked) (version frames : ℕ) → begun c caller request ≡ None → ((request ≡ asks.SetVersion version) × (frames ≡ c.header.frames)) ⊎ ((request ≡ asks.SetupTable frames) × (version ≡ c.header.version))
+  can-header : (request : OpenRequest) (version frames : ℕ) → begun c caller request ≡ None → ((request ≡ asks.SetVersion version) × (frames ≡ c.header.frames)) ⊎ ((request ≡ asks.SetupTable frames) × (version ≡ c.header.version))
       → IsKeptHeader (record { version = version; frames = frames })
   can-header request version frames none (inl r) =
-      let o = opens c caller (asks.SetVersion version) (subst (λ (x : Asked). begun c caller x ≡ None) r.0 none) in
+      let o = opens c caller (asks.SetVersion version) (subst (λ (x : OpenRequest). begun c caller x ≡ None) r.0 none) in
       let same = r.1 in let some = knows.header.some in let few = knows.header.few in record { version = o.version_known; some = omega (arith, same, some); few = omega (arith, same, few) }
   can-header request version frames none (inr r) =
-      let o = opens c caller (asks.SetupTable frames) (subst (λ (x : Asked). begun c caller x ≡ None) r.0 none) in
+      let o = opens c caller (asks.SetupTable frames) (subst (λ (x : OpenRequest). begun c caller x ≡ None) r.0 none) in
       let larger = o.larger in let within = o.within in
       record { version = subst (λ (n : ℕ). (n ≡ 1) ⊎ (n ≡ 2)) (sym r.1) knows.header.version; some = omega (arith, larger); few = omega (arith, within) }
 
   -- the step that comes next can be made
-  pub can-make : (request : Asked) (held : HeldPins) (steps : List Moment) (s : Step) → WaitsForNobody request → IsWalk k (path c caller request) v steps → IsSame v (view_after steps v) → last_first held ≡ []
+  pub can-make : (request : OpenRequest) (held : HeldPins) (steps : List Moment) (s : Step) → WaitsForNobody request → IsWalk k (path c caller request) v steps → IsSame v (view_after steps v) → last_first held ≡ []
       → Rests c caller request held (all_shown steps) (Makes s) → CanMake k (view_after steps v) s
   can-make request held steps (LookHeader d) waits walk same free r = named-run d r.1
   can-make request held steps (LookControl d q) waits walk same free r = by r.1
@@ -331,34 +331,34 @@ module _ (c : CallerKnowledge) (k : Layout) (caller : DomId) (v : View) (knows :
   can-make request held steps (ReadBytes d frame off len) waits walk same free r = by r.1
     where
       by : ((handle : Handle) × (request ≡ asks.Load handle off len) × IsMapped c handle d frame) ⊎ ((request ≡ asks.Peek frame off len) × (d ≡ caller)) → ⊥
-      by (inl x) = absurd (subst (λ (y : Asked). WaitsForNobody y) x.1 waits)
-      by (inr x) = absurd (subst (λ (y : Asked). WaitsForNobody y) x.0 waits)
+      by (inl x) = absurd (subst (λ (y : OpenRequest). WaitsForNobody y) x.1 waits)
+      by (inr x) = absurd (subst (λ (y : OpenRequest). WaitsForNobody y) x.0 waits)
   can-make request held steps (WriteBytes d frame off len) waits walk same free r = by r.1
     where
       by : ((handle : Handle) × (request ≡ asks.Store handle off len) × IsMapped c handle d frame) ⊎ ((request ≡ asks.Poke frame off len) × (d ≡ caller)) → ⊥
-      by (inl x) = absurd (subst (λ (y : Asked). WaitsForNobody y) x.1 waits)
-      by (inr x) = absurd (subst (λ (y : Asked). WaitsForNobody y) x.0 waits)
-  can-make request held steps (CopyBytes from to len) waits walk same free r = absurd (subst (λ (y : Asked). WaitsForNobody y) r.1.of_copy waits)
+      by (inl x) = absurd (subst (λ (y : OpenRequest). WaitsForNobody y) x.1 waits)
+      by (inr x) = absurd (subst (λ (y : OpenRequest). WaitsForNobody y) x.0 waits)
+  can-make request held steps (CopyBytes from to len) waits walk same free r = absurd (subst (λ (y : OpenRequest). WaitsForNobody y) r.1.of_copy waits)
 
   -- what a step that was made left
 
-  map-allowed : (request : Asked) (p : Held) (w : View) → begun c caller request ≡ None → Tried c k caller request p w → IsAllowed c.may (triples (label_of c.domains caller) (label_of c.domains p.dom) (map_perms p.dir)) × (c.maps_answered + 1 < 2 ^ 64)
+  map-allowed : (request : OpenRequest) (p : HeldPin) (w : View) → begun c caller request ≡ None → Tried c k caller request p w → IsAllowed c.may (triples (label_of c.domains caller) (label_of c.domains p.dom) (map_perms p.dir)) × (c.maps_answered + 1 < 2 ^ 64)
   map-allowed request p w none t =
-      let o = opens c caller (asks.Map t.dom t.gref t.flags) (subst (λ (x : Asked). begun c caller x ≡ None) t.asked none) in
+      let o = opens c caller (asks.Map t.dom t.gref t.flags) (subst (λ (x : OpenRequest). begun c caller x ≡ None) t.asked none) in
       let left = o.serials_left in (
         subst (λ (d : Dir). IsAllowed c.may (triples (label_of c.domains caller) (label_of c.domains p.dom) (map_perms d))) (sym t.dir)
             (subst (λ (d : DomId). IsAllowed c.may (triples (label_of c.domains caller) (label_of c.domains d) (map_perms (map_dir t.flags)))) (sym t.owner) o.allowed),
         omega (arith, left),
       )
 
-  pub left-pinned : (request : Asked) (held : HeldPins) (steps : List Moment) (p : Held) (w' : View) → WaitsForNobody request → IsWalk k (path c caller request) v steps → IsSame v (view_after steps v)
+  pub left-pinned : (request : OpenRequest) (held : HeldPins) (steps : List Moment) (p : HeldPin) (w' : View) → WaitsForNobody request → IsWalk k (path c caller request) v steps → IsSame v (view_after steps v)
       → Rests c caller request held (all_shown steps) (Makes (Pin p)) → Pins k (position_in k.ids p.dom) p.gref.0 p.dir p.word (view_after steps v) w' → MapsBy c k caller request p v w'
   left-pinned request held steps p w' waits walk same r m =
       let w = view_after steps v in let at = position_in k.ids p.dom in
       let t = tried request held steps (path c caller request) p waits walk r.1 in
       let may = map-allowed request p w r.0 t in
       record {
-        asked = subst (λ (x : Asked). IsMap x) (sym t.asked) tt;
+        asked = subst (λ (x : OpenRequest). IsMap x) (sym t.asked) tt;
         before = w;
         same = same;
         pins = m;
@@ -372,28 +372,28 @@ module _ (c : CallerKnowledge) (k : Layout) (caller : DomId) (v : View) (knows :
         serial = may.1;
       }
 
-  left-changed : (q : GrantRef) (change : Change) (w w' : View) → q.0 < TABLE_ENTRIES → c.generation q.0 + raise_of change < 1048576 → IsSame v w → (looked : ℕ) → Changes k q.0 change looked w w' → (request : Asked) → IsOwnChange request → ChangesBy c k request q.0 change v w'
+  left-changed : (q : GrantRef) (change : EntryChange) (w w' : View) → q.0 < TABLE_ENTRIES → c.generation q.0 + raise_of change < 1048576 → IsSame v w → (looked : ℕ) → Changes k q.0 change looked w w' → (request : OpenRequest) → IsOwnChange request → ChangesBy c k request q.0 change v w'
   left-changed q change w w' lt few same looked m request is = record { asked = is; before = w; same = same; inside = lt; word = looked; changes = m; fresh = few }
 
   -- what the owner's exchange was asked of
-  own-change : (request : Asked) (held : HeldPins) (shown_so : List Seen) (q : GrantRef) (looked : ℕ) (change : Change) → Rests c caller request held shown_so (Makes (Exchange q looked change)) → (q.0 < TABLE_ENTRIES) × (c.generation q.0 + raise_of change < 1048576) × IsOwnChange request
+  own-change : (request : OpenRequest) (held : HeldPins) (shown_so : List Observation) (q : GrantRef) (looked : ℕ) (change : EntryChange) → Rests c caller request held shown_so (Makes (Exchange q looked change)) → (q.0 < TABLE_ENTRIES) × (c.generation q.0 + raise_of change < 1048576) × IsOwnChange request
   own-change request held shown_so q looked (Publish e) r =
-      let o = grant-opens request q e r.0 r.1.0 in let lt = in-own q.0 o.in_table in let few = knows.generations q.0 lt in let worn = o.not_worn in (lt, omega (arith, few, worn), subst (λ (x : Asked). IsOwnChange x) (sym r.1.0) tt)
+      let o = grant-opens request q e r.0 r.1.0 in let lt = in-own q.0 o.in_table in let few = knows.generations q.0 lt in let worn = o.not_worn in (lt, omega (arith, few, worn), subst (λ (x : OpenRequest). IsOwnChange x) (sym r.1.0) tt)
   own-change request held shown_so q looked ToInvalid r =
-      let o = opens c caller (asks.Revoke q) (subst (λ (x : Asked). begun c caller x ≡ None) r.1.0 r.0) in let lt = in-own q.0 o.in_table in let few = knows.generations q.0 lt in (lt, omega (arith, few), subst (λ (x : Asked). IsOwnChange x) (sym r.1.0) tt)
+      let o = opens c caller (asks.Revoke q) (subst (λ (x : OpenRequest). begun c caller x ≡ None) r.1.0 r.0) in let lt = in-own q.0 o.in_table in let few = knows.generations q.0 lt in (lt, omega (arith, few), subst (λ (x : OpenRequest). IsOwnChange x) (sym r.1.0) tt)
   own-change request held shown_so q looked ToWithdrawn r =
-      let o = opens c caller (asks.Withdraw q) (subst (λ (x : Asked). begun c caller x ≡ None) r.1.0 r.0) in let lt = in-own q.0 o.in_table in let few = knows.generations q.0 lt in (lt, omega (arith, few), subst (λ (x : Asked). IsOwnChange x) (sym r.1.0) tt)
+      let o = opens c caller (asks.Withdraw q) (subst (λ (x : OpenRequest). begun c caller x ≡ None) r.1.0 r.0) in let lt = in-own q.0 o.in_table in let few = knows.generations q.0 lt in (lt, omega (arith, few), subst (λ (x : OpenRequest). IsOwnChange x) (sym r.1.0) tt)
   own-change request held shown_so q looked ToReadOnly r =
-      let o = opens c caller (asks.Demote q) (subst (λ (x : Asked). begun c caller x ≡ None) r.1.0 r.0) in let lt = in-own q.0 o.in_table in let few = knows.generations q.0 lt in let worn = o.not_worn in (lt, omega (arith, few, worn), subst (λ (x : Asked). IsOwnChange x) (sym r.1.0) tt)
+      let o = opens c caller (asks.Demote q) (subst (λ (x : OpenRequest). begun c caller x ≡ None) r.1.0 r.0) in let lt = in-own q.0 o.in_table in let few = knows.generations q.0 lt in let worn = o.not_worn in (lt, omega (arith, few, worn), subst (λ (x : OpenRequest). IsOwnChange x) (sym r.1.0) tt)
   own-change request held shown_so q looked ToWritable r =
-      let o = opens c caller (asks.Promote q) (subst (λ (x : Asked). begun c caller x ≡ None) r.1.0 r.0) in let lt = in-own q.0 o.in_table in let few = knows.generations q.0 lt in let worn = o.not_worn in (lt, omega (arith, few, worn), subst (λ (x : Asked). IsOwnChange x) (sym r.1.0) tt)
+      let o = opens c caller (asks.Promote q) (subst (λ (x : OpenRequest). begun c caller x ≡ None) r.1.0 r.0) in let lt = in-own q.0 o.in_table in let few = knows.generations q.0 lt in let worn = o.not_worn in (lt, omega (arith, few, worn), subst (λ (x : OpenRequest). IsOwnChange x) (sym r.1.0) tt)
 
-  header-asked : (request : Asked) (version frames : ℕ) → ((request ≡ asks.SetVersion version) × (frames ≡ c.header.frames)) ⊎ ((request ≡ asks.SetupTable frames) × (version ≡ c.header.version)) → IsHeaderChange request
-  header-asked request version frames (inl r) = subst (λ (x : Asked). IsHeaderChange x) (sym r.0) tt
-  header-asked request version frames (inr r) = subst (λ (x : Asked). IsHeaderChange x) (sym r.0) tt
+  header-asked : (request : OpenRequest) (version frames : ℕ) → ((request ≡ asks.SetVersion version) × (frames ≡ c.header.frames)) ⊎ ((request ≡ asks.SetupTable frames) × (version ≡ c.header.version)) → IsHeaderChange request
+  header-asked request version frames (inl r) = subst (λ (x : OpenRequest). IsHeaderChange x) (sym r.0) tt
+  header-asked request version frames (inr r) = subst (λ (x : OpenRequest). IsHeaderChange x) (sym r.0) tt
 
   -- a call left its seat by what its last step did
-  pub leaves : (request : Asked) (held : HeldPins) (steps : List Moment) (s : Step) (x : Seen) (w' : View) → WaitsForNobody request → IsWalk k (path c caller request) v steps → IsSame v (view_after steps v) → last_first held ≡ []
+  pub leaves : (request : OpenRequest) (held : HeldPins) (steps : List Moment) (s : Step) (x : Observation) (w' : View) → WaitsForNobody request → IsWalk k (path c caller request) v steps → IsSame v (view_after steps v) → last_first held ≡ []
       → Rests c caller request held (all_shown steps) (Makes s) → Made k s x (view_after steps v) w' → Leaves c k caller request v w' (effect_of s x)
   leaves request held steps (LookHeader d) (Word n) w' waits walk same free r m = same-then v (view_after steps v) w' same (look-same k (LookHeader d) (Word n) (view_after steps v) w' m tt)
   leaves request held steps (LookControl d q) (Word n) w' waits walk same free r m = same-then v (view_after steps v) w' same (look-same k (LookControl d q) (Word n) (view_after steps v) w' m tt)

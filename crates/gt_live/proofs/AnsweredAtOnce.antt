@@ -14,15 +14,15 @@ use Rattle.gt_types.specs.declared.denial.Facts.TheVariants.{Policy}
 use Rattle.gt_types.specs.declared.limits.TheConstants.{FRAME_SIZE, LAST_GENERATION, MAX_MAPPINGS, MAX_TABLE_FRAMES}
 use Rattle.gt_types.specs.Denial.{denial_of}
 use Rattle.gt_types.specs.Names.{domain_of, resolved}
-use Rattle.gt_entry.specs.declared.change.Change.{Change}
-use Rattle.gt_entry.specs.declared.change.Change.TheVariants.{Demote as ToReadOnly, Promote as ToWritable}
+use Rattle.gt_entry.specs.declared.change.EntryChange.{EntryChange}
+use Rattle.gt_entry.specs.declared.change.EntryChange.TheVariants.{Demote as ToReadOnly, Promote as ToWritable}
 use Rattle.gt_entry.specs.Words.{size_of}
-use Rattle.gt_calls.specs.declared.action.Value.TheVariants.{Frames}
-use Rattle.gt_calls.specs.declared.action.Verdict.{Verdict}
-use Rattle.gt_calls.specs.declared.action.Verdict.TheVariants.{Granted, Refused}
-use Rattle.gt_calls.specs.declared.held.Held.{Held}
-use Rattle.gt_calls.specs.declared.request.Asked.{Asked}
-use Rattle.gt_calls.specs.declared.request.Asked.TheVariants as asks
+use Rattle.gt_calls.specs.declared.action.CallValue.TheVariants.{Frames}
+use Rattle.gt_calls.specs.declared.action.CallResult.{CallResult}
+use Rattle.gt_calls.specs.declared.action.CallResult.TheVariants.{Granted, Refused}
+use Rattle.gt_calls.specs.declared.held.HeldPin.{HeldPin}
+use Rattle.gt_calls.specs.declared.request.OpenRequest.{OpenRequest}
+use Rattle.gt_calls.specs.declared.request.OpenRequest.TheVariants as asks
 use Rattle.gt_calls.specs.declared.request.Request.{Request}
 use Rattle.gt_calls.specs.declared.request.Request.TheVariants as requests
 use Rattle.gt_calls.specs.Asking.{asked, begun_of, field_refused}
@@ -30,7 +30,7 @@ use Rattle.gt_entry.specs.Bytes.{first_refused}
 use Rattle.gt_types.specs.declared.denial.Field.{Field}
 use Rattle.gt_types.specs.declared.copies.CopyArgs.{CopyArgs}
 use Rattle.gt_types.specs.declared.denial.Denial.{Denial}
-use Rattle.gt_calls.specs.declared.action.Verdict.TheVariants.{Given, Mapped}
+use Rattle.gt_calls.specs.declared.action.CallResult.TheVariants.{Given, Mapped}
 use Rattle.gt_calls.specs.Rules.{copy_begun, ends_framed, ends_named, ends_owned, ends_ranged, frame_count_of}
 use Rattle.gt_calls.specs.Rules.{is_for_reading, is_foreign, is_past_frames}
 use Rattle.gt_types.specs.Copies.{is_dest_granted, is_source_granted}
@@ -40,13 +40,13 @@ use Rattle.gt_calls.specs.Rules.{is_already, is_invalid, is_version, map_dir, re
 use Rattle.gt_calls.specs.Rules.{rights_to_query, rights_to_setup, rights_to_unmap, unmap_denied}
 use Rattle.gt_live.specs.Ending.{IsAccessing, IsAtOnce, IsOfMapping, IsWordless, WaitsForNobody}
 
-module _ (r : Asked) where
+module _ (r : OpenRequest) where
   -- not answered, or answered as this request may be at once
-  abbrev pub MayBe : Option Verdict → Type 0
+  abbrev pub MayBe : Option CallResult → Type 0
   MayBe None = Unit {0}
   MayBe (Some verdict) = IsAtOnce r verdict
 
-  first-may : (o : Option Verdict) (xs : List (Option Verdict)) → MayBe o → MayBe (first xs) → MayBe (first (o ∷ xs))
+  first-may : (o : Option CallResult) (xs : List (Option CallResult)) → MayBe o → MayBe (first xs) → MayBe (first (o ∷ xs))
   first-may None xs a b = b
   first-may (Some verdict) xs a b = a
 
@@ -58,21 +58,21 @@ module _ (r : Asked) where
   denied-may may [] = tt
   denied-may may (t ∷ ts) = by (denied may ts) (denied-may may ts) (may t.source t.target t.perm)
     where
-      by : (rest : Option Verdict) → MayBe rest → (b : Bool) → MayBe (cond b rest (Some (Refused (denial_of N5 (Policy t.source t.target t.perm)))))
+      by : (rest : Option CallResult) → MayBe rest → (b : Bool) → MayBe (cond b rest (Some (Refused (denial_of N5 (Policy t.source t.target t.perm)))))
       by rest h true = h
       by rest h false = tt
 
   -- each of a list may be so
-  abbrev pub EachMay : List (Option Verdict) → Type 0
+  abbrev pub EachMay : List (Option CallResult) → Type 0
   EachMay [] = Unit {0}
   EachMay (o ∷ xs) = MayBe o × EachMay xs
 
-  first-of : (xs : List (Option Verdict)) → EachMay xs → MayBe (first xs)
+  first-of : (xs : List (Option CallResult)) → EachMay xs → MayBe (first xs)
   first-of [] all = tt
   first-of (o ∷ xs) all = first-may o xs all.0 (first-of xs all.1)
 
 module _ (k : CallerKnowledge) (caller : DomId) where
-  granted-may : (r : Asked) → IsAtOnce r Granted → (b : Bool) → MayBe r (granted_when b)
+  granted-may : (r : OpenRequest) → IsAtOnce r Granted → (b : Bool) → MayBe r (granted_when b)
   granted-may r ok true = ok
   granted-may r ok false = tt
 
@@ -80,21 +80,21 @@ module _ (k : CallerKnowledge) (caller : DomId) where
   given-may frames n true = tt
   given-may frames n false = tt
 
-  once-turn : (r : Asked) (change : Change) (q : GrantRef) → IsAtOnce r Granted → MayBe r (change_begun change k.header (k.entry q.0) (k.generation q.0) q.0)
+  once-turn : (r : OpenRequest) (change : EntryChange) (q : GrantRef) → IsAtOnce r Granted → MayBe r (change_begun change k.header (k.entry q.0) (k.generation q.0) q.0)
   once-turn r change q ok =
       let a = nat_le (size_of k.header) q.0 in let b = is_invalid (k.entry q.0) in let d = is_already change (k.entry q.0) in let f = k.generation q.0 == LAST_GENERATION in
       first-of r (refused_when a N9 ∷ refused_when b N10 ∷ granted_when d ∷ refused_when f N22 ∷ []) (refused-may r a N9, (refused-may r b N10, (granted-may r ok d, (refused-may r f N22, tt))))
 
-  once-query : (r : Asked) (dom : DomId) → MayBe r (query_begun k caller dom)
+  once-query : (r : OpenRequest) (dom : DomId) → MayBe r (query_begun k caller dom)
   once-query r dom =
       let a = is_none (domain_of k.domains (resolved caller dom)) in let ts = rights_to_query k caller (resolved caller dom) in
       first-of r (refused_when a N1 ∷ denied k.may ts ∷ []) (refused-may r a N1, (denied-may r k.may ts, tt))
 
-  once-unmap : (r : Asked) (o : Option Held) → MayBe r (unmap_denied k caller o)
+  once-unmap : (r : OpenRequest) (o : Option HeldPin) → MayBe r (unmap_denied k caller o)
   once-unmap r None = tt
   once-unmap r (Some m) = denied-may r k.may (rights_to_unmap k caller m.dom)
 
-  once-field : (r : Asked) (o : Option Field) → MayBe r (field_refused o)
+  once-field : (r : OpenRequest) (o : Option Field) → MayBe r (field_refused o)
   once-field r None = tt
   once-field r (Some f) = tt
 
@@ -133,11 +133,11 @@ module _ (k : CallerKnowledge) (caller : DomId) where
   once _ w = absurd w
 
   -- an answer at the beginning is one that may be at once
-  pub answered-once : (request : Request) (verdict : Verdict) → WaitsForNobody (asked request) → begun_of k caller request ≡ Some verdict → IsAtOnce (asked request) verdict
-  answered-once request verdict w e = subst (λ (o : Option Verdict). MayBe (asked request) o) e (once request w)
+  pub answered-once : (request : Request) (verdict : CallResult) → WaitsForNobody (asked request) → begun_of k caller request ≡ Some verdict → IsAtOnce (asked request) verdict
+  answered-once request verdict w e = subst (λ (o : Option CallResult). MayBe (asked request) o) e (once request w)
 
   -- of the requests with an access none is Ok at its beginning
-  only-refused : (r : Asked) (verdict : Verdict) → IsAccessing r → IsAtOnce r verdict → (denial : Denial) × (verdict ≡ Refused denial) × IsWordless denial.facts
+  only-refused : (r : OpenRequest) (verdict : CallResult) → IsAccessing r → IsAtOnce r verdict → (denial : Denial) × (verdict ≡ Refused denial) × IsWordless denial.facts
   only-refused r (Refused denial) is at = (denial, refl, at)
   only-refused (asks.Load handle off len) Granted is at = absurd at
   only-refused (asks.Store handle off len) Granted is at = absurd at
@@ -157,12 +157,12 @@ module _ (k : CallerKnowledge) (caller : DomId) where
   only-refused _ _ is at = absurd is
 
   -- nor of those that map or unmap
-  pub mapping-refused : (request : Request) (verdict : Verdict) → IsOfMapping (asked request)
+  pub mapping-refused : (request : Request) (verdict : CallResult) → IsOfMapping (asked request)
       → WaitsForNobody (asked request) → begun_of k caller request ≡ Some verdict
       → (denial : Denial) × (verdict ≡ Refused denial) × IsWordless denial.facts
   mapping-refused request verdict is waits e = by (asked request) verdict is (answered-once request verdict waits e)
     where
-      by : (r : Asked) (verdict : Verdict) → IsOfMapping r → IsAtOnce r verdict
+      by : (r : OpenRequest) (verdict : CallResult) → IsOfMapping r → IsAtOnce r verdict
           → (denial : Denial) × (verdict ≡ Refused denial) × IsWordless denial.facts
       by r (Refused denial) is at = (denial, refl, at)
       by (asks.Map dom gref flags) Granted is at = absurd at
@@ -173,7 +173,7 @@ module _ (k : CallerKnowledge) (caller : DomId) where
       by (asks.Unmap handle) (Mapped p) is at = absurd at
       by _ _ is at = absurd is
 
-  once-own : (r : Asked) (frame off len : ℕ) → MayBe r (own_access_begun k.domains caller frame off len)
+  once-own : (r : OpenRequest) (frame off len : ℕ) → MayBe r (own_access_begun k.domains caller frame off len)
   once-own r frame off len =
       let a = nat_lt FRAME_SIZE (off + len) in let b = nat_le (frame_count_of k.domains caller) frame in
       first-of r (refused_when a N3 ∷ refused_when b N16 ∷ []) (refused-may r a N3, (refused-may r b N16, tt))
@@ -205,12 +205,12 @@ module _ (k : CallerKnowledge) (caller : DomId) where
   once-access _ w = absurd w
 
   -- a call with an access that is answered at its beginning is refused there
-  pub refused-once : (request : Request) (verdict : Verdict) → IsAccessing (asked request) → begun_of k caller request ≡ Some verdict → (denial : Denial) × (verdict ≡ Refused denial) × IsWordless denial.facts
-  refused-once request verdict w e = only-refused (asked request) verdict w (subst (λ (o : Option Verdict). MayBe (asked request) o) e (once-access request w))
+  pub refused-once : (request : Request) (verdict : CallResult) → IsAccessing (asked request) → begun_of k caller request ≡ Some verdict → (denial : Denial) × (verdict ≡ Refused denial) × IsWordless denial.facts
+  refused-once request verdict w e = only-refused (asked request) verdict w (subst (λ (o : Option CallResult). MayBe (asked request) o) e (once-access request w))
 
   -- past a Via a copy is refused without a word, where it is
-  pub via-refused : (pair : DomId × DomId) (dom : DomId) (verdict : Verdict) → via_judged k pair dom ≡ Some verdict → (denial : Denial) × (verdict ≡ Refused denial) × IsWordless denial.facts
+  pub via-refused : (pair : DomId × DomId) (dom : DomId) (verdict : CallResult) → via_judged k pair dom ≡ Some verdict → (denial : Denial) × (verdict ≡ Refused denial) × IsWordless denial.facts
   via-refused pair dom verdict e =
       let r = asks.Load (record { serial = 0; key = 0 }) 0 0 in let a = is_none (domain_of k.domains dom) in let ts = rights_to_copy k pair.0 pair.1 in
       let may : MayBe r (via_judged k pair dom) = first-of r (refused_when a N1 ∷ denied k.may ts ∷ []) (refused-may r a N1, (denied-may r k.may ts, tt)) in
-      only-refused r verdict tt (subst (λ (o : Option Verdict). MayBe r o) e may)
+      only-refused r verdict tt (subst (λ (o : Option CallResult). MayBe r o) e may)

@@ -8,24 +8,24 @@ use Rattle.std.specs.Prelude.{slice_get, slice_index_or, HoldsAt, Result, Ok, Er
 use Rattle.std.proofs.lemmas.Bool.{cases_eq}
 use Rattle.gt_types.specs.declared.DomId.{DomId}
 use Rattle.gt_types.specs.declared.GrantRef.{GrantRef}
-use Rattle.gt_entry.specs.declared.change.Change.TheVariants.{Withdraw}
+use Rattle.gt_entry.specs.declared.change.EntryChange.TheVariants.{Withdraw}
 use Rattle.gt_entry.specs.declared.entry.Entry.{Entry}
 use Rattle.gt_entry.specs.declared.entry.Entry.TheVariants.{Invalid, Page, Sub, Via}
 use Rattle.gt_handles.specs.Handles.{HandleMap, IsEmpty, under}
-use Rattle.gt_handles.specs.declared.handles.Slot.{Slot}
+use Rattle.gt_handles.specs.declared.handles.HandleSlot.{HandleSlot}
 use Rattle.gt_words.specs.Conditions.{IsWordOf}
 use Rattle.gt_words.specs.History.{Moment}
 use Rattle.gt_words.specs.Rule.{Layout}
 use Rattle.gt_words.specs.declared.view.View.{View}
 use Rattle.gt_calls.specs.Path.{Continuation}
 use Rattle.gt_calls.specs.Rules.{entry_in, row_entry}
-use Rattle.gt_calls.specs.declared.action.Seen.TheVariants.{Word}
+use Rattle.gt_calls.specs.declared.action.Observation.TheVariants.{Word}
 use Rattle.gt_calls.specs.declared.action.Step.TheVariants.{LookControl}
-use Rattle.gt_calls.specs.declared.action.Verdict.{Verdict}
-use Rattle.gt_calls.specs.declared.action.Verdict.TheVariants.{Granted, Given, Mapped, Refused}
-use Rattle.gt_calls.specs.declared.held.Held.{Held}
-use Rattle.gt_calls.specs.declared.known.Own.{Own}
-use Rattle.gt_calls.specs.declared.request.Asked.TheVariants as asks
+use Rattle.gt_calls.specs.declared.action.CallResult.{CallResult}
+use Rattle.gt_calls.specs.declared.action.CallResult.TheVariants.{Granted, Given, Mapped, Refused}
+use Rattle.gt_calls.specs.declared.held.HeldPin.{HeldPin}
+use Rattle.gt_calls.specs.declared.known.OwnerEntry.{OwnerEntry}
+use Rattle.gt_calls.specs.declared.request.OpenRequest.TheVariants as asks
 use Rattle.gt_live.specs.Closing.{ClosesRow, GoesOn, IsMissed, IsShut, StaysQuiet, is_in_use, is_used}
 use Rattle.gt_live.specs.Domains.{AllowRelation, IsUnsettled, done_by}
 use Rattle.gt_live.specs.Ending.{IsAtOnce}
@@ -90,10 +90,10 @@ shut-within may m c d r e f a b same (inr missed) =
     inr (missed-within may m r c.seat.view d.seat.view e.seat.view f.seat.view a b missed)
 
 -- a row that was withdrawn is Invalid
-pub row-shut : (own new : List Own) (r : ℕ) → r < length own → new ≡ row_changed own r Withdraw → entry_in new r ≡ Invalid
+pub row-shut : (own new : List OwnerEntry) (r : ℕ) → r < length own → new ≡ row_changed own r Withdraw → entry_in new r ≡ Invalid
 row-shut own new r lt e =
     let x = row-there own r lt in
-    ap (λ (os : List Own). entry_in os r) e ∙ ap (λ (o : Option Own). row_entry o) (row-here own r x.0 Withdraw x.1)
+    ap (λ (os : List OwnerEntry). entry_in os r) e ∙ ap (λ (o : Option OwnerEntry). row_entry o) (row-here own r x.0 Withdraw x.1)
 
 -- the word of a valid entry says that it is in use
 pub valid-used : (e : Entry) (generation word : ℕ) → IsWordOf (record { entry = e; generation = generation }) word → (e ≡ Invalid) ⊎ (is_in_use word ≡ true)
@@ -103,7 +103,7 @@ valid-used (Sub to ro frame off len) g word is = inr (ap is_used is.control)
 valid-used (Via to ro dom gref) g word is = inr (ap is_used is.control)
 
 -- what is answered to a withdrawal at its beginning is a refusal
-pub once-refused : (gref : GrantRef) (v : Verdict) (P : Type 0) → IsAtOnce (asks.Withdraw gref) v → OnOk (done_by v) P
+pub once-refused : (gref : GrantRef) (v : CallResult) (P : Type 0) → IsAtOnce (asks.Withdraw gref) v → OnOk (done_by v) P
 once-refused gref (Refused denial) P is = tt
 once-refused gref Granted P is = absurd is
 once-refused gref (Given value) P is = absurd is
@@ -115,7 +115,7 @@ after-refusal (Ok x) P p = tt
 after-refusal (Err e) P p = p
 
 -- a call's steps are some steps more
-pub called-goes : {k : Layout} {way : Continuation} {verdict : Verdict} {v w : View} → Called k way verdict v w → GoesOn v w
+pub called-goes : {k : Layout} {way : Continuation} {verdict : CallResult} {v w : View} → Called k way verdict v w → GoesOn v w
 called-goes c = (c.steps, c.view)
 
 -- a look that kept all but the view
@@ -127,8 +127,8 @@ look-quiet k d e r word kept made =
       seat = kept.seat;
       pinned = (
         record {
-          slots = ap (λ (z : HandleMap Held). z.slots) kept.mappings;
-          given = ap (λ (z : HandleMap Held). z.given) kept.mappings;
+          slots = ap (λ (z : HandleMap HeldPin). z.slots) kept.mappings;
+          given = ap (λ (z : HandleMap HeldPin). z.given) kept.mappings;
         },
         (look-same k (LookControl d.seat.dom (record { 0 = r })) (Word word) d.seat.view e.seat.view made tt).pins,
       );
@@ -138,11 +138,11 @@ look-quiet k d e r word kept made =
     }
 
 -- the entries are empty still, if the mappings are as they were
-pub empty-still : (old new : HandleMap Held) → KeepsMappings old new → IsEmpty old → IsEmpty new
+pub empty-still : (old new : HandleMap HeldPin) → KeepsMappings old new → IsEmpty old → IsEmpty new
 empty-still old new kept none =
     record {
-      count = ap (λ (xs : List (Option (Slot Held))). count_by is_some xs) kept.slots ∙ none.count;
-      none = λ h. ap (λ (xs : List (Option (Slot Held))). under h.serial (slice_index_or xs h.key None)) kept.slots ∙ none.none h;
+      count = ap (λ (xs : List (Option (HandleSlot HeldPin))). count_by is_some xs) kept.slots ∙ none.count;
+      none = λ h. ap (λ (xs : List (Option (HandleSlot HeldPin))). under h.serial (slice_index_or xs h.key None)) kept.slots ∙ none.none h;
     }
 
 -- a row closed before is closed after a row beside it was

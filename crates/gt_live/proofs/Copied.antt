@@ -25,21 +25,21 @@ use Rattle.gt_access.specs.Accesses.{copying_at}
 use Rattle.gt_access.specs.Routes.{MayCopyBy, MayCopyEach, ReachesBy, named_by, pair_beyond}
 use Rattle.gt_types.specs.declared.places.Spot.{Spot}
 use Rattle.gt_calls.specs.declared.action.Step.TheVariants.{Copy as CopyBytes}
-use Rattle.gt_calls.specs.declared.action.Verdict.{Verdict}
-use Rattle.gt_calls.specs.declared.action.Verdict.TheVariants.{Granted, Refused}
+use Rattle.gt_calls.specs.declared.action.CallResult.{CallResult}
+use Rattle.gt_calls.specs.declared.action.CallResult.TheVariants.{Granted, Refused}
 use Rattle.gt_calls.specs.declared.call.Call.{Call}
-use Rattle.gt_calls.specs.declared.held.Held.{Held}
-use Rattle.gt_calls.specs.declared.held.Pins.{Pins}
-use Rattle.gt_calls.specs.declared.held.Route.{Route}
-use Rattle.gt_calls.specs.declared.held.Route.TheVariants.{Own, Direct, Through}
+use Rattle.gt_calls.specs.declared.held.HeldPin.{HeldPin}
+use Rattle.gt_calls.specs.declared.held.CallPins.{CallPins}
+use Rattle.gt_calls.specs.declared.held.AccessPath.{AccessPath}
+use Rattle.gt_calls.specs.declared.held.AccessPath.TheVariants.{Own, Direct, Through}
 use Rattle.gt_types.specs.declared.copies.CopyArgs.{CopyArgs}
 use Rattle.gt_types.specs.declared.copies.End.{End}
 use Rattle.gt_calls.specs.Holding.{frame_by, held_by, last_first, owner_by}
 use Rattle.gt_calls.specs.Opening.{IsAllowed, IsOwnEnd, OpensCopy, opens}
 use Rattle.gt_calls.specs.Path.{Continuation, dest_pair, give_back, path, place_of, source_pair}
-use Rattle.gt_calls.specs.declared.action.Seen.TheVariants.{Nothing}
-use Rattle.gt_calls.specs.declared.request.Asked.{Asked}
-use Rattle.gt_calls.specs.declared.request.Asked.TheVariants as asks
+use Rattle.gt_calls.specs.declared.action.Observation.TheVariants.{Nothing}
+use Rattle.gt_calls.specs.declared.request.OpenRequest.{OpenRequest}
+use Rattle.gt_calls.specs.declared.request.OpenRequest.TheVariants as asks
 use Rattle.gt_calls.specs.declared.call.Phase.TheVariants.{Accessing}
 use Rattle.gt_live.specs.Copies.{copy_call}
 use Rattle.gt_calls.specs.Resting.{IsReached, RestsOnWays}
@@ -63,8 +63,8 @@ in-source a [] ys is = is
 in-source a (x ∷ xs) ys is = inr (in-source a xs ys is)
 
 -- the route to an end reaches its range
-pub reaches-end : (c : CallerKnowledge) (k : Layout) (s : SeatOf) (granted : Bool) (end : End) (dir : Dir) (len : ℕ) (pair : DomId → DomId × DomId) (route : Route) (taken : List Held) (v : View) → IsReached c s.dom granted end dir len pair route → HasTaken k taken v s.view
-    → AreOfRun k taken → ((p : Held) → IsAmong p (held_by route) → IsAmong p taken) → ReachesBy k s dir ForCopy (frame_named (owner_by s.dom route) (frame_by end.ptr route)) end.offset len route
+pub reaches-end : (c : CallerKnowledge) (k : Layout) (s : SeatOf) (granted : Bool) (end : End) (dir : Dir) (len : ℕ) (pair : DomId → DomId × DomId) (route : AccessPath) (taken : List HeldPin) (v : View) → IsReached c s.dom granted end dir len pair route → HasTaken k taken v s.view
+    → AreOfRun k taken → ((p : HeldPin) → IsAmong p (held_by route) → IsAmong p taken) → ReachesBy k s dir ForCopy (frame_named (owner_by s.dom route) (frame_by end.ptr route)) end.offset len route
 reaches-end c k s granted end dir len pair Own taken v r x all among = refl
 reaches-end c k s granted end dir len pair (Direct p) taken v r x all among = record {
   pin = has-pin k taken v s.view p x all (among p (inl refl));
@@ -87,7 +87,7 @@ reaches-end c k s granted end dir len pair (Through via p) taken v r x all among
     )
 
 -- the domain that an end names
-names-end : (c : CallerKnowledge) (caller : DomId) (granted : Bool) (end : End) (dir : Dir) (len : ℕ) (pair : DomId → DomId × DomId) (route : Route) → IsReached c caller granted end dir len pair route → (granted ≡ false → IsOwnEnd c caller end) → named_by caller route ≡ resolved caller end.domid
+names-end : (c : CallerKnowledge) (caller : DomId) (granted : Bool) (end : End) (dir : Dir) (len : ℕ) (pair : DomId → DomId × DomId) (route : AccessPath) → IsReached c caller granted end dir len pair route → (granted ≡ false → IsOwnEnd c caller end) → named_by caller route ≡ resolved caller end.domid
 names-end c caller granted end dir len pair Own r own = ap numbered (sym (own r.0).owned)
   where
     numbered : ℕ → DomId
@@ -103,7 +103,7 @@ one-allowed may t e = by (may t.source t.target t.perm) refl e
     by true is f = (is, tt)
     by false is f = cc
 
-last-none : (o : Option Verdict) → first (o ∷ []) ≡ None → o ≡ None
+last-none : (o : Option CallResult) → first (o ∷ []) ≡ None → o ≡ None
 last-none None e = refl
 last-none (Some verdict) e = cc
 
@@ -117,21 +117,21 @@ via-allowed c pair dom e = one-allowed c.may (record { source = label_of c.domai
 abbrev pub Allows : CallerKnowledge → DomId × DomId → Type 0
 Allows c pair = IsAllowed c.may (rights_to_copy c pair.0 pair.1)
 
-beyond-source : (c : CallerKnowledge) (caller : DomId) (granted : Bool) (a : CopyArgs) (dir : Dir) (len : ℕ) (route : Route) (to : DomId) (rest : List (DomId × DomId)) → IsReached c caller granted a.source dir len (source_pair caller a) route → to ≡ resolved caller a.dest.domid
+beyond-source : (c : CallerKnowledge) (caller : DomId) (granted : Bool) (a : CopyArgs) (dir : Dir) (len : ℕ) (route : AccessPath) (to : DomId) (rest : List (DomId × DomId)) → IsReached c caller granted a.source dir len (source_pair caller a) route → to ≡ resolved caller a.dest.domid
     → MayCopyEach c.domains c.may rest → MayCopyEach c.domains c.may (pair_beyond route (owner_by caller route, to) ++ rest)
 beyond-source c caller granted a dir len Own to rest r named more = more
 beyond-source c caller granted a dir len (Direct p) to rest r named more = more
 beyond-source c caller granted a dir len (Through via p) to rest r named more =
     (subst (λ (d : DomId). Allows c (p.dom, d)) (sym named) (via-allowed c (p.dom, resolved caller a.dest.domid) p.dom r.4), more)
 
-beyond-dest : (c : CallerKnowledge) (caller : DomId) (granted : Bool) (end : End) (dir : Dir) (len : ℕ) (source route : Route) → IsReached c caller granted end dir len (dest_pair caller source) route
+beyond-dest : (c : CallerKnowledge) (caller : DomId) (granted : Bool) (end : End) (dir : Dir) (len : ℕ) (source route : AccessPath) → IsReached c caller granted end dir len (dest_pair caller source) route
     → MayCopyEach c.domains c.may (pair_beyond route (owner_by caller source, owner_by caller route))
 beyond-dest c caller granted end dir len source Own r = tt
 beyond-dest c caller granted end dir len source (Direct p) r = tt
 beyond-dest c caller granted end dir len source (Through via p) r = (via-allowed c (owner_by caller source, p.dom) p.dom r.4, tt)
 
 -- the policy allows a copy whose ends are reached
-pub may-copy : (c : CallerKnowledge) (caller : DomId) (a : CopyArgs) (pins : Pins) → OpensCopy c caller a → IsReached c caller (is_source_granted a) a.source Read a.len (source_pair caller a) pins.source
+pub may-copy : (c : CallerKnowledge) (caller : DomId) (a : CopyArgs) (pins : CallPins) → OpensCopy c caller a → IsReached c caller (is_source_granted a) a.source Read a.len (source_pair caller a) pins.source
     → IsReached c caller (is_dest_granted a) a.dest Write a.len (dest_pair caller pins.source) pins.dest → MayCopyBy c.domains c.may caller pins
 may-copy c caller a pins opens source dest =
     let from = names-end c caller (is_source_granted a) a.source Read a.len (source_pair caller a) pins.source source opens.own_source in
@@ -165,14 +165,14 @@ made-whole c k call from to len v mid w way writer result a g same ok err = subs
     by (Err denial) o e = inr (CopyBytes from to len, whole, e)
 
 -- what the routes to both ends reach
-pub reaches-source : (c : CallerKnowledge) (k : Layout) (s : SeatOf) (request : Asked) (pins : Pins) (from to : Spot) (len : ℕ) (v : View) → RestsOnWays c s.dom request pins from to len → HasTaken k (last_first pins) v s.view → AreOfRun k (last_first pins)
+pub reaches-source : (c : CallerKnowledge) (k : Layout) (s : SeatOf) (request : OpenRequest) (pins : CallPins) (from to : Spot) (len : ℕ) (v : View) → RestsOnWays c s.dom request pins from to len → HasTaken k (last_first pins) v s.view → AreOfRun k (last_first pins)
     → ReachesBy k s Read ForCopy from.frame from.off len pins.source
 reaches-source c k s request pins from to len v r x all =
     let at = reaches-end c k s (is_source_granted r.copy) r.copy.source Read r.copy.len (source_pair s.dom r.copy) pins.source (last_first pins) v r.source_reached x all (λ p is. in-source p (held_by pins.dest) (held_by pins.source) is) in
     subst (λ (n : ℕ). ReachesBy k s Read ForCopy from.frame from.off n pins.source) (sym r.len_is)
     (subst (λ (p : Spot). ReachesBy k s Read ForCopy p.frame p.off r.copy.len pins.source) (sym r.from_is) at)
 
-pub reaches-dest : (c : CallerKnowledge) (k : Layout) (s : SeatOf) (request : Asked) (pins : Pins) (from to : Spot) (len : ℕ) (v : View) → RestsOnWays c s.dom request pins from to len → HasTaken k (last_first pins) v s.view → AreOfRun k (last_first pins)
+pub reaches-dest : (c : CallerKnowledge) (k : Layout) (s : SeatOf) (request : OpenRequest) (pins : CallPins) (from to : Spot) (len : ℕ) (v : View) → RestsOnWays c s.dom request pins from to len → HasTaken k (last_first pins) v s.view → AreOfRun k (last_first pins)
     → ReachesBy k s Write ForCopy to.frame to.off len pins.dest
 reaches-dest c k s request pins from to len v r x all =
     let at = reaches-end c k s (is_dest_granted r.copy) r.copy.dest Write r.copy.len (dest_pair s.dom pins.source) pins.dest (last_first pins) v r.dest_reached x all (λ p is. in-dest p (held_by pins.dest) (held_by pins.source) is) in
@@ -180,12 +180,12 @@ reaches-dest c k s request pins from to len v r x all =
     (subst (λ (p : Spot). ReachesBy k s Write ForCopy p.frame p.off r.copy.len pins.dest) (sym r.to_is) at)
 
 -- a copy of this caller at its access, with these pins
-abbrev pub Access : CallerKnowledge → Layout → DomId → CopyArgs → Pins → View → View → Type 0
+abbrev pub Access : CallerKnowledge → Layout → DomId → CopyArgs → CallPins → View → View → Type 0
 Access c k caller copy pins v w =
     AtAccess c k (copy_call caller copy (Accessing copy pins.source pins.dest))
     (place_of caller copy.source pins.source) (place_of caller copy.dest pins.dest) copy.len v w
 
-module _ (c : CallerKnowledge) (k : Layout) (s : SeatOf) (caller : DomId) (copy : CopyArgs) (pins : Pins) (v : View)
+module _ (c : CallerKnowledge) (k : Layout) (s : SeatOf) (caller : DomId) (copy : CopyArgs) (pins : CallPins) (v : View)
     (me : s.dom ≡ caller) (a : Access c k caller copy pins v s.view) where
   abbrev pub from_place : Spot
   from_place = place_of caller copy.source pins.source
@@ -214,7 +214,7 @@ module _ (c : CallerKnowledge) (k : Layout) (s : SeatOf) (caller : DomId) (copy 
       let r = access-rests in
       let here : begun c s.dom (asks.Copy r.copy) ≡ None =
       subst (λ (x : DomId). begun c x (asks.Copy r.copy) ≡ None) (sym me)
-      (subst (λ (x : Asked). begun c caller x ≡ None) r.of_copy none) in
+      (subst (λ (x : OpenRequest). begun c caller x ≡ None) r.of_copy none) in
       may-copy c s.dom r.copy pins (opens c s.dom (asks.Copy r.copy) here) r.source_reached r.dest_reached
 
   pub access-source-range : (at : Spot) → at ≡ from_place → at.off + copy.len ≤ 4096

@@ -18,12 +18,12 @@ use Rattle.gt_types.specs.Names.{resolved}
 use Rattle.gt_entry.specs.declared.entry.Entry.{Entry}
 use Rattle.gt_entry.specs.declared.entry.Entry.TheVariants.{Invalid, Page, Sub, Via}
 use Rattle.gt_entry.specs.declared.control.Control.{Control}
-use Rattle.gt_entry.specs.declared.control.Kind.{Kind}
-use Rattle.gt_entry.specs.declared.control.Kind.TheVariants.{Invalid as KindInvalid, Page as KindPage, Sub as KindSub}
-use Rattle.gt_entry.specs.declared.control.Kind.TheVariants.{Via as KindVia}
-use Rattle.gt_entry.specs.declared.change.Half.TheVariants.{First as FirstHalf, Second as SecondHalf}
-use Rattle.gt_entry.specs.declared.change.Change.TheVariants.{Publish, Revoke as ToInvalid, Withdraw as ToWithdrawn}
-use Rattle.gt_entry.specs.declared.change.Change.TheVariants.{Demote as ToReadOnly, Promote as ToWritable}
+use Rattle.gt_entry.specs.declared.control.EntryKind.{EntryKind}
+use Rattle.gt_entry.specs.declared.control.EntryKind.TheVariants.{Invalid as KindInvalid, Page as KindPage, Sub as KindSub}
+use Rattle.gt_entry.specs.declared.control.EntryKind.TheVariants.{Via as KindVia}
+use Rattle.gt_entry.specs.declared.change.BodyWord.TheVariants.{First as FirstHalf, Second as SecondHalf}
+use Rattle.gt_entry.specs.declared.change.EntryChange.TheVariants.{Publish, Revoke as ToInvalid, Withdraw as ToWithdrawn}
+use Rattle.gt_entry.specs.declared.change.EntryChange.TheVariants.{Demote as ToReadOnly, Promote as ToWritable}
 use Rattle.gt_entry.specs.Permits.{forwards, permits}
 use Rattle.gt_entry.specs.Spelling.{entry_of, entry_with}
 use Rattle.gt_entry.specs.Words.{control_of, header_of, is_kind, kind_of, size_of}
@@ -32,43 +32,43 @@ use Rattle.gt_words.specs.Controls.{ForwardsPin, LeadsTo, PermitsPin, generation
 use Rattle.gt_words.specs.Keeping.{SeesNoEarlier}
 use Rattle.gt_words.specs.Laws.{domain_at}
 use Rattle.gt_words.specs.Rule.{Layout, id_at, position_in}
-use Rattle.gt_words.specs.Views.{HasBody, Seen as Looks, last_seen, record_seen, seen, seen_or_none, steps_on}
+use Rattle.gt_words.specs.Views.{HasBody, Observation as Looks, last_seen, record_seen, seen, seen_or_none, steps_on}
 use Rattle.gt_words.specs.Views.{value_or_zero, with_body}
 use Rattle.gt_words.specs.declared.view.EntryRecord.{EntryRecord}
 use Rattle.gt_words.specs.History.{Moment}
 use Rattle.gt_words.specs.declared.view.View.{View}
 use Rattle.gt_calls.specs.declared.action.Action.TheVariants.{Step as Makes}
 use Rattle.gt_types.specs.declared.places.Spot.{Spot}
-use Rattle.gt_calls.specs.declared.action.Seen.{Seen}
-use Rattle.gt_calls.specs.declared.action.Seen.TheVariants.{Nothing, Word, Taken, Missed}
+use Rattle.gt_calls.specs.declared.action.Observation.{Observation}
+use Rattle.gt_calls.specs.declared.action.Observation.TheVariants.{Nothing, Word, Taken, Missed}
 use Rattle.gt_calls.specs.declared.action.Step.{Step}
 use Rattle.gt_calls.specs.declared.action.Step.TheVariants.{LookHeader, LookControl, LookBody, Pin, Unpin, StoreBody}
 use Rattle.gt_calls.specs.declared.action.Step.TheVariants.{StoreHeader, Exchange, Read as ReadBytes}
 use Rattle.gt_calls.specs.declared.action.Step.TheVariants.{Write as WriteBytes, Copy as CopyBytes}
-use Rattle.gt_calls.specs.declared.action.Verdict.{Verdict}
-use Rattle.gt_calls.specs.declared.action.Verdict.TheVariants.{Granted, Given, Mapped, Refused}
+use Rattle.gt_calls.specs.declared.action.CallResult.{CallResult}
+use Rattle.gt_calls.specs.declared.action.CallResult.TheVariants.{Granted, Given, Mapped, Refused}
 use Rattle.gt_calls.specs.declared.call.Phase.{Phase}
 use Rattle.gt_calls.specs.declared.call.Phase.TheVariants.{Storing, StoringSecond, Exchanging, Looking, Changing}
 use Rattle.gt_calls.specs.declared.call.Phase.TheVariants.{Walking, Accessing, Asking, Last, Ending}
-use Rattle.gt_calls.specs.declared.copying.Aim.{Aim}
-use Rattle.gt_calls.specs.declared.copying.Aim.TheVariants.{Mapping, Source, Dest}
-use Rattle.gt_calls.specs.declared.held.Held.{Held}
-use Rattle.gt_calls.specs.declared.held.Pins.{Pins as HeldPins}
-use Rattle.gt_calls.specs.declared.held.Route.{Route}
-use Rattle.gt_calls.specs.declared.held.Route.TheVariants.{Own, Direct, Through}
+use Rattle.gt_calls.specs.declared.copying.PinPurpose.{PinPurpose}
+use Rattle.gt_calls.specs.declared.copying.PinPurpose.TheVariants.{Mapping, Source, Dest}
+use Rattle.gt_calls.specs.declared.held.HeldPin.{HeldPin}
+use Rattle.gt_calls.specs.declared.held.CallPins.{CallPins as HeldPins}
+use Rattle.gt_calls.specs.declared.held.AccessPath.{AccessPath}
+use Rattle.gt_calls.specs.declared.held.AccessPath.TheVariants.{Own, Direct, Through}
 use Rattle.gt_calls.specs.declared.leg.Leg.{Leg}
 use Rattle.gt_calls.specs.declared.leg.LegNext.TheVariants.{Going, Refused as LegRefused}
 use Rattle.gt_calls.specs.declared.leg.LegPhase.{LegPhase}
 use Rattle.gt_calls.specs.declared.leg.LegPhase.TheVariants.{Header, Look, Body, Second, Pinning, Relook}
-use Rattle.gt_calls.specs.declared.request.Asked.{Asked}
-use Rattle.gt_calls.specs.declared.request.Asked.TheVariants as asks
+use Rattle.gt_calls.specs.declared.request.OpenRequest.{OpenRequest}
+use Rattle.gt_calls.specs.declared.request.OpenRequest.TheVariants as asks
 use Rattle.gt_types.specs.declared.copies.CopyArgs.{CopyArgs}
 use Rattle.gt_types.specs.declared.copies.End.{End}
-use Rattle.gt_calls.specs.declared.request.Holder.TheVariants.{Mapping as ByHandle, Leg as ByLeg}
+use Rattle.gt_calls.specs.declared.request.PinHolder.TheVariants.{Mapping as ByHandle, Leg as ByLeg}
 use Rattle.gt_handles.specs.declared.handles.Handle.{Handle}
 use Rattle.gt_calls.specs.Holding.{held_by, last_first, pins_so_far, without_last}
 use Rattle.gt_calls.specs.Machine.{action_at, after_dest_pin, after_leg, after_pin_of}
-use Rattle.gt_calls.specs.Legs.{after_look, after_miss}
+use Rattle.gt_calls.specs.Legs.{on_control_word, after_miss}
 use Rattle.gt_calls.specs.Machine.{after_source_pin, at_dest, next_to_give}
 use Rattle.gt_calls.specs.Legs.{after_words, leg_after, leg_step}
 use Rattle.gt_calls.specs.Machine.{phase_after, where_via}
@@ -112,7 +112,7 @@ read-words k way v steps dom gref word body second walk r = by (is_kind (control
         ∙ ap (λ (o : Option Looks). with_body SecondHalf second o) (ap seen two.made.steps.adds.here ∙ ap (λ (o : Option Looks). with_body FirstHalf body o) (ap seen one.made.0.steps.adds.here))
 
 -- the second body word is of sub-pages alone
-second-of-sub : (x : Kind) (w : Control) (a b : ℕ) → entry_with x w a (value_or_zero (cond (is_kind x KindSub) (Some b) None)) ≡ entry_with x w a b
+second-of-sub : (x : EntryKind) (w : Control) (a b : ℕ) → entry_with x w a (value_or_zero (cond (is_kind x KindSub) (Some b) None)) ≡ entry_with x w a b
 second-of-sub KindInvalid w a b = refl
 second-of-sub KindPage w a b = refl
 second-of-sub KindSub w a b = refl
@@ -151,34 +151,34 @@ on-from c first l (Via dom ro dom2 gref) is = record {
 }
 
 -- the request is a copy
-abbrev pub IsCopy : Asked → Type 0
+abbrev pub IsCopy : OpenRequest → Type 0
 IsCopy (asks.Copy copy) = Unit {0}
 IsCopy request = ⊥
 
 -- the aim is an end of a copy
-abbrev pub IsEnd : Aim → Type 0
+abbrev pub IsEnd : PinPurpose → Type 0
 IsEnd Mapping = ⊥
 IsEnd (Source copy via) = Unit {0}
 IsEnd (Dest copy source via) = Unit {0}
 
-an-end : (k : Layout) (v : View) (steps : List Moment) (aim : Aim) (l : Leg) (at : LegPhase) → StandsInCopy k v steps (Walking aim l at) → IsEnd aim
+an-end : (k : Layout) (v : View) (steps : List Moment) (aim : PinPurpose) (l : Leg) (at : LegPhase) → StandsInCopy k v steps (Walking aim l at) → IsEnd aim
 an-end k v steps Mapping l at is = absurd is
 an-end k v steps (Source copy via) l at is = tt
 an-end k v steps (Dest copy source via) l at is = tt
 
-abbrev tail_of : List Held → List Held
+abbrev tail_of : List HeldPin → List HeldPin
 tail_of [] = []
 tail_of (p ∷ ps) = ps
 
 -- the pins but the last are those after the first of the list
-fewer : (source dest : Route) → last_first (without_last (record { source = source; dest = dest })) ≡ tail_of (last_first (record { source = source; dest = dest }))
+fewer : (source dest : AccessPath) → last_first (without_last (record { source = source; dest = dest })) ≡ tail_of (last_first (record { source = source; dest = dest }))
 fewer Own Own = refl
 fewer (Direct p) Own = refl
 fewer (Through via p) Own = refl
 fewer source (Direct q) = refl
 fewer source (Through w q) = refl
 
-pub one-fewer : (pins : HeldPins) (p : Held) (ps : List Held) → last_first pins ≡ p ∷ ps → last_first (without_last pins) ≡ ps
+pub one-fewer : (pins : HeldPins) (p : HeldPin) (ps : List HeldPin) → last_first pins ≡ p ∷ ps → last_first (without_last pins) ≡ ps
 one-fewer pins p ps e = fewer pins.source pins.dest ∙ ap tail_of e
 
 -- a word found is found still after one step more
@@ -191,14 +191,14 @@ still-found k v x steps (facts.Field field) is = tt
 
 module _ (c : CallerKnowledge) (k : Layout) (caller : DomId) (v : View) (knows : Knows c k caller v) where
   -- the entry that a leg pins permits or forwards the caller, or permits the owner of a Via that it has pinned
-  by-first : (p : Held) (l : Leg) (w : View) → id_at k.ids w.position ≡ caller → l.grantee ≡ caller → Lets l p.entry → MayPin k (position_in k.ids p.dom) p.gref.0 w l.dir (entry_record_of p)
+  by-first : (p : HeldPin) (l : Leg) (w : View) → id_at k.ids w.position ≡ caller → l.grantee ≡ caller → Lets l p.entry → MayPin k (position_in k.ids p.dom) p.gref.0 w l.dir (entry_record_of p)
   by-first p l w me judge lets = by (lets-first l p.entry (id_at k.ids w.position) (judge ∙ sym me) lets)
     where
       by : PermitsPin p.entry (id_at k.ids w.position) l.dir ⊎ ForwardsPin p.entry (id_at k.ids w.position) l.dir → MayPin k (position_in k.ids p.dom) p.gref.0 w l.dir (entry_record_of p)
       by (inl x) = inl x
       by (inr x) = inr (inl x)
 
-  by-via : (p via : Held) (l first : Leg) (end : End) (dir : Dir) (w : View) → id_at k.ids w.position ≡ caller → p.dom ≡ l.dom → p.gref ≡ l.gref → HasDomain k p.dom → HasPin k w via → first.dom ≡ resolved caller end.domid → first.dir ≡ dir
+  by-via : (p via : HeldPin) (l first : Leg) (end : End) (dir : Dir) (w : View) → id_at k.ids w.position ≡ caller → p.dom ≡ l.dom → p.gref ≡ l.gref → HasDomain k p.dom → HasPin k w via → first.dom ≡ resolved caller end.domid → first.dir ≡ dir
       → IsForwarded caller end dir via → IsOnFrom c first via.entry l → Lets l p.entry → MayPin k (position_in k.ids p.dom) p.gref.0 w l.dir (entry_record_of p)
   by-via p via l first end dir w me dom gref run pin first_dom first_dir forwarded is lets =
       let on = on-from c first l via.entry is in
@@ -216,9 +216,9 @@ module _ (c : CallerKnowledge) (k : Layout) (caller : DomId) (v : View) (knows :
         permits = (l.purpose, l.off, l.len, ap (λ (d : DomId). permits p.entry d l.dir l.purpose l.off l.len) owner ∙ lets-second l p.entry on.beyond lets);
       }))
 
-  may-pin : (request : Asked) → IsCopy request → (aim : Aim) (l : Leg) (p : Held) (w : View) → IsLegFor c caller request aim l → id_at k.ids w.position ≡ caller → p.dom ≡ l.dom → p.gref ≡ l.gref → HasDomain k p.dom
+  may-pin : (request : OpenRequest) → IsCopy request → (aim : PinPurpose) (l : Leg) (p : HeldPin) (w : View) → IsLegFor c caller request aim l → id_at k.ids w.position ≡ caller → p.dom ≡ l.dom → p.gref ≡ l.gref → HasDomain k p.dom
       → HasTaken k (last_first (pins_so_far aim)) v w → AreOfRun k (last_first (pins_so_far aim)) → Lets l p.entry → MayPin k (position_in k.ids p.dom) p.gref.0 w l.dir (entry_record_of p)
-  may-pin request copies Mapping l p w is me dom gref run x all lets = absurd (subst (λ (y : Asked). IsCopy y) is.of_map copies)
+  may-pin request copies Mapping l p w is me dom gref run x all lets = absurd (subst (λ (y : OpenRequest). IsCopy y) is.of_map copies)
   may-pin request copies (Source copy None) l p w is me dom gref run x all lets = by-first p l w me (ap (λ (y : Leg). y.grantee) is.1.1) lets
   may-pin request copies (Source copy (Some via)) l p w is me dom gref run x all lets =
       by-via p via l (end_leg c caller copy.source Read copy.len) copy.source Read w me dom gref run (has-pin k (via ∷ []) v w via x all (inl refl)) refl refl is.1.1 is.1.2 lets
@@ -227,34 +227,34 @@ module _ (c : CallerKnowledge) (k : Layout) (caller : DomId) (v : View) (knows :
       by-via p via l (end_leg c caller copy.dest Write copy.len) copy.dest Write w me dom gref run (has-pin k (via ∷ held_by source) v w via x all (inl refl)) refl refl is.2.1 is.2.2 lets
 
   -- the facts of a pin that a copy tries
-  pub record Tries (p : Held) (w : View) : Type 0 where
+  pub record Tries (p : HeldPin) (w : View) : Type 0 where
     pub run : HasDomain k p.dom
     pub inside : p.gref.0 < TABLE_ENTRIES
     pub can : CanPin k (position_in k.ids p.dom) p.gref.0 p.dir p.word w
     pub spelled : record_seen (last_seen (position_in k.ids p.dom) p.gref.0 w) ≡ entry_record_of p
 
-  pub tries-pin : (request : Asked) → IsCopy request → (held : HeldPins) (steps : List Moment) (p : Held) → IsWalk k (path c caller request) v steps → HasTaken k (last_first held) v (view_after steps v) → AreOfRun k (last_first held)
+  pub tries-pin : (request : OpenRequest) → IsCopy request → (held : HeldPins) (steps : List Moment) (p : HeldPin) → IsWalk k (path c caller request) v steps → HasTaken k (last_first held) v (view_after steps v) → AreOfRun k (last_first held)
       → RestsOnTry c caller request held (path c caller request) (all_shown steps) p → Tries p (view_after steps v)
   tries-pin request copies held steps p walk x all r =
       let w = view_after steps v in let l = r.leg in let at = position_in k.ids p.dom in let way = path c caller request in
       let saw = read-words k way v steps p.dom p.gref p.word r.body r.second walk r.read in
       let s = words_seen p.word r.body r.second in
       let last : last_seen at p.gref.0 w ≡ s = ap seen_or_none saw in
-      let entry : p.entry ≡ entry_of (control_of p.word) r.body r.second = ap (λ (y : Held). y.entry) r.pin_is in
+      let entry : p.entry ≡ entry_of (control_of p.word) r.body r.second = ap (λ (y : HeldPin). y.entry) r.pin_is in
       let spelled : record_seen s ≡ entry_record_of p = ap (λ (e : Entry). record { generation = generation_of p.word; entry = e }) (second-of-sub (control_of p.word).kind (control_of p.word) r.body r.second ∙ sym entry) in
       let here : record_seen (last_seen at p.gref.0 w) ≡ entry_record_of p = ap record_seen last ∙ spelled in
-      let dirs : p.dir ≡ l.dir = ap (λ (y : Held). y.dir) r.pin_is in
+      let dirs : p.dir ≡ l.dir = ap (λ (y : HeldPin). y.dir) r.pin_is in
       let run = named-run c k caller v knows p.dom r.of_run in
-      let may = may-pin request copies r.aim l p w r.aimed (ap (λ (i : ℕ). id_at k.ids i) (after-position steps v) ∙ knows.named) (ap (λ (y : Held). y.dom) r.pin_is) (ap (λ (y : Held). y.gref) r.pin_is) run
+      let may = may-pin request copies r.aim l p w r.aimed (ap (λ (i : ℕ). id_at k.ids i) (after-position steps v) ∙ knows.named) (ap (λ (y : HeldPin). y.dom) r.pin_is) (ap (λ (y : HeldPin). y.gref) r.pin_is) run
       (subst (λ (h : HeldPins). HasTaken k (last_first h) v w) r.held x) (subst (λ (h : HeldPins). AreOfRun k (last_first h)) r.held all) r.lets in
       let valid = none-stands (is_kind (control_of p.word).kind KindInvalid) N10 _ r.first in
-      let second_too : kind_of p.word ≡ KindSub → IsSome s.second = λ e. subst (λ (b : Bool). IsSome (cond b (Some r.second) None)) (sym (ap (λ (y : Kind). is_kind y KindSub) e)) refl in
+      let second_too : kind_of p.word ≡ KindSub → IsSome s.second = λ e. subst (λ (b : Bool). IsSome (cond b (Some r.second) None)) (sym (ap (λ (y : EntryKind). is_kind y KindSub) e)) refl in
       record {
         run = run;
         inside = in-seen-table k way v steps p.dom p.gref walk r.in_table;
         can = record {
           looked = (saw ∙ ap (λ (y : Looks). Some y) (sym last), ap (λ (y : Looks). y.word) last, subst (λ (y : Looks). HasBody y) (sym last) (refl, second_too));
-          valid = λ gone. let yes : is_kind (control_of p.word).kind KindInvalid ≡ true = ap (λ (y : Kind). is_kind y KindInvalid) gone in let none_so = valid.0 in absurd (cc);
+          valid = λ gone. let yes : is_kind (control_of p.word).kind KindInvalid ≡ true = ap (λ (y : EntryKind). is_kind y KindInvalid) gone in let none_so = valid.0 in absurd (cc);
           room = subst (λ (d : Dir). pins_in d p.word < 4095) (sym dirs) (room-for l p.word p.entry r.last);
           permitted = subst (λ (y : EntryRecord). MayPin k at p.gref.0 w p.dir y) (sym here) (subst (λ (d : Dir). MayPin k at p.gref.0 w d (entry_record_of p)) (sym dirs) may);
         };
@@ -262,7 +262,7 @@ module _ (c : CallerKnowledge) (k : Layout) (caller : DomId) (v : View) (knows :
       }
 
   -- the step that comes next can be made, where it is no access
-  pub can-walk : (request : Asked) → IsCopy request → (held : HeldPins) (steps : List Moment) (s : Step) → IsWalk k (path c caller request) v steps → HasTaken k (last_first held) v (view_after steps v) → AreOfRun k (last_first held)
+  pub can-walk : (request : OpenRequest) → IsCopy request → (held : HeldPins) (steps : List Moment) (s : Step) → IsWalk k (path c caller request) v steps → HasTaken k (last_first held) v (view_after steps v) → AreOfRun k (last_first held)
       → Rests c caller request held (all_shown steps) (Makes s) → ((from to : Spot) (len : ℕ) → s ≡ CopyBytes from to len → ⊥) → CanMake k (view_after steps v) s
   can-walk request copies held steps (LookHeader d) walk x all r other = named-run c k caller v knows d r.1
   can-walk request copies held steps (LookControl d q) walk x all r other = by r.1
@@ -272,61 +272,61 @@ module _ (c : CallerKnowledge) (k : Layout) (caller : DomId) (v : View) (knows :
       by (inr y) = (own-of-run k v caller d knows.named knows.inside y.0, in-own c k caller v knows q.0 y.1)
   can-walk request copies held steps (LookBody d q half) walk x all r other = (named-run c k caller v knows d r.1.0, in-seen-table k (path c caller request) v steps d q walk r.1.1)
   can-walk request copies held steps (Pin p) walk x all r other = let t = tries-pin request copies held steps p walk x all r.1 in (t.run, t.inside, t.can)
-  can-walk request copies held steps (Unpin p (ByHandle handle)) walk x all r other = absurd (subst (λ (y : Asked). IsCopy y) r.1.0 copies)
+  can-walk request copies held steps (Unpin p (ByHandle handle)) walk x all r other = absurd (subst (λ (y : OpenRequest). IsCopy y) r.1.0 copies)
   can-walk request copies held steps (Unpin p (ByLeg place)) walk x all r other =
-      let w = view_after steps v in let x1 : HasTaken k (p ∷ r.1.others) v w = subst (λ (ps : List Held). HasTaken k ps v w) r.1.held x in let a1 : AreOfRun k (p ∷ r.1.others) = subst (λ (ps : List Held). AreOfRun k ps) r.1.held all in
+      let w = view_after steps v in let x1 : HasTaken k (p ∷ r.1.others) v w = subst (λ (ps : List HeldPin). HasTaken k ps v w) r.1.held x in let a1 : AreOfRun k (p ∷ r.1.others) = subst (λ (ps : List HeldPin). AreOfRun k ps) r.1.held all in
       (a1.0.0, a1.0.1, holds-taken k (p ∷ r.1.others) v w p x1 (inl refl))
-  can-walk request copies held steps (StoreBody q FirstHalf n) walk x all r other = absurd (subst (λ (y : Asked). IsCopy y) r.1.1 copies)
-  can-walk request copies held steps (StoreBody q SecondHalf n) walk x all r other = absurd (subst (λ (y : Asked). IsCopy y) r.1.1 copies)
+  can-walk request copies held steps (StoreBody q FirstHalf n) walk x all r other = absurd (subst (λ (y : OpenRequest). IsCopy y) r.1.1 copies)
+  can-walk request copies held steps (StoreBody q SecondHalf n) walk x all r other = absurd (subst (λ (y : OpenRequest). IsCopy y) r.1.1 copies)
   can-walk request copies held steps (StoreHeader version frames) walk x all r other = by r.1
     where
       by : ((request ≡ asks.SetVersion version) × (frames ≡ c.header.frames)) ⊎ ((request ≡ asks.SetupTable frames) × (version ≡ c.header.version)) → CanMake k (view_after steps v) (StoreHeader version frames)
-      by (inl y) = absurd (subst (λ (z : Asked). IsCopy z) y.0 copies)
-      by (inr y) = absurd (subst (λ (z : Asked). IsCopy z) y.0 copies)
-  can-walk request copies held steps (Exchange q looked (Publish e)) walk x all r other = absurd (subst (λ (y : Asked). IsCopy y) r.1.0 copies)
-  can-walk request copies held steps (Exchange q looked ToInvalid) walk x all r other = absurd (subst (λ (y : Asked). IsCopy y) r.1.0 copies)
-  can-walk request copies held steps (Exchange q looked ToWithdrawn) walk x all r other = absurd (subst (λ (y : Asked). IsCopy y) r.1.0 copies)
-  can-walk request copies held steps (Exchange q looked ToReadOnly) walk x all r other = absurd (subst (λ (y : Asked). IsCopy y) r.1.0 copies)
-  can-walk request copies held steps (Exchange q looked ToWritable) walk x all r other = absurd (subst (λ (y : Asked). IsCopy y) r.1.0 copies)
+      by (inl y) = absurd (subst (λ (z : OpenRequest). IsCopy z) y.0 copies)
+      by (inr y) = absurd (subst (λ (z : OpenRequest). IsCopy z) y.0 copies)
+  can-walk request copies held steps (Exchange q looked (Publish e)) walk x all r other = absurd (subst (λ (y : OpenRequest). IsCopy y) r.1.0 copies)
+  can-walk request copies held steps (Exchange q looked ToInvalid) walk x all r other = absurd (subst (λ (y : OpenRequest). IsCopy y) r.1.0 copies)
+  can-walk request copies held steps (Exchange q looked ToWithdrawn) walk x all r other = absurd (subst (λ (y : OpenRequest). IsCopy y) r.1.0 copies)
+  can-walk request copies held steps (Exchange q looked ToReadOnly) walk x all r other = absurd (subst (λ (y : OpenRequest). IsCopy y) r.1.0 copies)
+  can-walk request copies held steps (Exchange q looked ToWritable) walk x all r other = absurd (subst (λ (y : OpenRequest). IsCopy y) r.1.0 copies)
   can-walk request copies held steps (ReadBytes d frame off len) walk x all r other = by r.1
     where
       by : ((handle : Handle) × (request ≡ asks.Load handle off len) × IsMapped c handle d frame) ⊎ ((request ≡ asks.Peek frame off len) × (d ≡ caller)) → ⊥
-      by (inl y) = absurd (subst (λ (z : Asked). IsCopy z) y.1 copies)
-      by (inr y) = absurd (subst (λ (z : Asked). IsCopy z) y.0 copies)
+      by (inl y) = absurd (subst (λ (z : OpenRequest). IsCopy z) y.1 copies)
+      by (inr y) = absurd (subst (λ (z : OpenRequest). IsCopy z) y.0 copies)
   can-walk request copies held steps (WriteBytes d frame off len) walk x all r other = by r.1
     where
       by : ((handle : Handle) × (request ≡ asks.Store handle off len) × IsMapped c handle d frame) ⊎ ((request ≡ asks.Poke frame off len) × (d ≡ caller)) → ⊥
-      by (inl y) = absurd (subst (λ (z : Asked). IsCopy z) y.1 copies)
-      by (inr y) = absurd (subst (λ (z : Asked). IsCopy z) y.0 copies)
+      by (inl y) = absurd (subst (λ (z : OpenRequest). IsCopy z) y.1 copies)
+      by (inr y) = absurd (subst (λ (z : OpenRequest). IsCopy z) y.0 copies)
   can-walk request copies held steps (CopyBytes from to len) walk x all r other = absurd (other from to len refl)
 
   -- where a copy stands after a step
 
   module _ (w : View) (steps : List Moment) where
-    walking-stands : (aim : Aim) (l : Leg) (at : LegPhase) → IsEnd aim → HasTaken k (last_first (pins_so_far aim)) v w → AreOfRun k (last_first (pins_so_far aim)) → StandsWell k v w steps (Walking aim l at)
+    walking-stands : (aim : PinPurpose) (l : Leg) (at : LegPhase) → IsEnd aim → HasTaken k (last_first (pins_so_far aim)) v w → AreOfRun k (last_first (pins_so_far aim)) → StandsWell k v w steps (Walking aim l at)
     walking-stands Mapping l at is x all = absurd is
     walking-stands (Source copy via) l at is x all = record { stays = tt; taken = x; of_run = all }
     walking-stands (Dest copy source via) l at is x all = record { stays = tt; taken = x; of_run = all }
 
-    pub dest-stands : (copy : CopyArgs) (source : Route) → HasTaken k (held_by source) v w → AreOfRun k (held_by source) → StandsWell k v w steps (at_dest c caller copy source)
+    pub dest-stands : (copy : CopyArgs) (source : AccessPath) → HasTaken k (held_by source) v w → AreOfRun k (held_by source) → StandsWell k v w steps (at_dest c caller copy source)
     dest-stands copy source x all = by (is_dest_granted copy)
       where
         by : (b : Bool) → StandsWell k v w steps (cond b (Walking (Dest copy source None) (end_leg c caller copy.dest Write copy.len) Header) (Accessing copy source Own))
         by true = record { stays = tt; taken = x; of_run = all }
         by false = record { stays = tt; taken = x; of_run = all }
 
-    via-stands : (aim : Aim) (l : Leg) (pair : DomId × DomId) (dom : DomId) (second : Leg) → IsEnd aim → HasTaken k (last_first (pins_so_far aim)) v w → AreOfRun k (last_first (pins_so_far aim))
+    via-stands : (aim : PinPurpose) (l : Leg) (pair : DomId × DomId) (dom : DomId) (second : Leg) → IsEnd aim → HasTaken k (last_first (pins_so_far aim)) v w → AreOfRun k (last_first (pins_so_far aim))
         → StandsWell k v w steps (where_via (via_judged c pair dom) aim second)
     via-stands aim l pair dom second is x all = by (via_judged c pair dom) refl
       where
-        by : (o : Option Verdict) → via_judged c pair dom ≡ o → StandsWell k v w steps (where_via o aim second)
+        by : (o : Option CallResult) → via_judged c pair dom ≡ o → StandsWell k v w steps (where_via o aim second)
         by None e = walking-stands aim second Header is x all
         by (Some verdict) e =
             let no_word = via-refused c caller pair dom verdict e in
-            subst (λ (y : Verdict). StandsWell k v w steps (Ending (pins_so_far aim) y)) (sym no_word.1)
+            subst (λ (y : CallResult). StandsWell k v w steps (Ending (pins_so_far aim) y)) (sym no_word.1)
             (record { stays = wordless-found k v steps no_word.0.facts no_word.2; taken = x; of_run = all })
 
-    pin-stands : (aim : Aim) (l : Leg) (p : Held) → IsEnd aim → HasTaken k (p ∷ last_first (pins_so_far aim)) v w → AreOfRun k (p ∷ last_first (pins_so_far aim)) → StandsWell k v w steps (after_pin_of c caller aim l p)
+    pin-stands : (aim : PinPurpose) (l : Leg) (p : HeldPin) → IsEnd aim → HasTaken k (p ∷ last_first (pins_so_far aim)) v w → AreOfRun k (p ∷ last_first (pins_so_far aim)) → StandsWell k v w steps (after_pin_of c caller aim l p)
     pin-stands Mapping l p is x all = absurd is
     pin-stands (Source copy None) l p is x all = by p.entry
       where
@@ -347,7 +347,7 @@ module _ (c : CallerKnowledge) (k : Layout) (caller : DomId) (v : View) (knows :
 
   module _ (u w : View) (steps : List Moment) (low : SeesNoEarlier v u) (still : u.position ≡ v.position) where
     -- a leg that goes on, or is refused by the word that its step found
-    module _ (aim : Aim) (l : Leg) (s : Step) (x : Seen) (m : Made k s x u w) (is : IsEnd aim) (taken : HasTaken k (last_first (pins_so_far aim)) v w) (all : AreOfRun k (last_first (pins_so_far aim))) where
+    module _ (aim : PinPurpose) (l : Leg) (s : Step) (x : Observation) (m : Made k s x u w) (is : IsEnd aim) (taken : HasTaken k (last_first (pins_so_far aim)) v w) (all : AreOfRun k (last_first (pins_so_far aim))) where
       abbrev pub now : List Moment
       now = (made-gains k s x u w m).step ∷ steps
 
@@ -368,11 +368,11 @@ module _ (c : CallerKnowledge) (k : Layout) (caller : DomId) (v : View) (knows :
       words more word body second (Some rule) = goes (Relook more word rule)
       words more word body second None = goes (Pinning more word body second)
 
-    looked : (aim : Aim) (s : Step) (x : Seen) → Made k s x u w → IsLook s x → HasTaken k (last_first (pins_so_far aim)) v u → HasTaken k (last_first (pins_so_far aim)) v w
+    looked : (aim : PinPurpose) (s : Step) (x : Observation) → Made k s x u w → IsLook s x → HasTaken k (last_first (pins_so_far aim)) v u → HasTaken k (last_first (pins_so_far aim)) v w
     looked aim s x m is taken = taken-look k (last_first (pins_so_far aim)) v u w taken (look-same k s x u w m is)
 
-    leg-stands : (aim : Aim) (l : Leg) (at : LegPhase) (x : Seen) (m : Made k (leg_step l at) x u w) → IsEnd aim → HasTaken k (last_first (pins_so_far aim)) v u → AreOfRun k (last_first (pins_so_far aim))
-        → ((p : Held) → leg_step l at ≡ Pin p → Tries p u) → StandsWell k v w ((made-gains k (leg_step l at) x u w m).step ∷ steps) (after_leg c caller aim l (leg_after l at x))
+    leg-stands : (aim : PinPurpose) (l : Leg) (at : LegPhase) (x : Observation) (m : Made k (leg_step l at) x u w) → IsEnd aim → HasTaken k (last_first (pins_so_far aim)) v u → AreOfRun k (last_first (pins_so_far aim))
+        → ((p : HeldPin) → leg_step l at ≡ Pin p → Tries p u) → StandsWell k v w ((made-gains k (leg_step l at) x u w m).step ∷ steps) (after_leg c caller aim l (leg_after l at x))
     leg-stands aim l Header (Word n) m is x all tries = by (nat_lt l.gref.0 (size_of (header_of n)))
       where
         by : (b : Bool) → StandsWell k v w ((made-gains k (LookHeader l.dom) (Word n) u w m).step ∷ steps) (after_leg c caller aim l (cond b (Going (Look 3)) (LegRefused (denial_of N9 (facts.Header l.dom n)))))
@@ -380,7 +380,7 @@ module _ (c : CallerKnowledge) (k : Layout) (caller : DomId) (v : View) (knows :
         by false = refused aim l (LookHeader l.dom) (Word n) m is (looked aim (LookHeader l.dom) (Word n) m tt x) all (denial_of N9 (facts.Header l.dom n)) (carried-facts k caller v u w (LookHeader l.dom) (Word n) steps m (facts.Header l.dom n) low (still ∙ knows.stands) (refl, refl))
     leg-stands aim l (Look more) (Word n) m is x all tries = by (first_look l (control_of n))
       where
-        by : (o : Option Rule) → StandsWell k v w ((made-gains k (LookControl l.dom l.gref) (Word n) u w m).step ∷ steps) (after_leg c caller aim l (after_look l more n o))
+        by : (o : Option Rule) → StandsWell k v w ((made-gains k (LookControl l.dom l.gref) (Word n) u w m).step ∷ steps) (after_leg c caller aim l (on_control_word l more n o))
         by None = goes aim l (LookControl l.dom l.gref) (Word n) m is (looked aim (LookControl l.dom l.gref) (Word n) m tt x) all (Body more n)
         by (Some rule) = refused aim l (LookControl l.dom l.gref) (Word n) m is (looked aim (LookControl l.dom l.gref) (Word n) m tt x) all (entry_refusal l.dom l.gref rule n)
             (carried-facts k caller v u w (LookControl l.dom l.gref) (Word n) steps m (facts.Entry l.dom l.gref n) low (still ∙ knows.stands) (refl, refl, refl))
@@ -410,30 +410,30 @@ module _ (c : CallerKnowledge) (k : Layout) (caller : DomId) (v : View) (knows :
     leg-stands aim l _ _ m is x all tries = absurd m
 
     -- at the end the last pin is given back
-    end-stands : (pins : HeldPins) (denial : Denial) (p : Held) (ps : List Held) (place : ℕ) (x : Seen) (m : Made k (Unpin p (ByLeg place)) x u w) → last_first pins ≡ p ∷ ps → StandsWell k v u steps (Ending pins (Refused denial))
+    end-stands : (pins : HeldPins) (denial : Denial) (p : HeldPin) (ps : List HeldPin) (place : ℕ) (x : Observation) (m : Made k (Unpin p (ByLeg place)) x u w) → last_first pins ≡ p ∷ ps → StandsWell k v u steps (Ending pins (Refused denial))
         → StandsWell k v w ((made-gains k (Unpin p (ByLeg place)) x u w m).step ∷ steps) (phase_after c caller (Ending pins (Refused denial)) x)
     end-stands pins denial p ps place Nothing m e st =
         let few = one-fewer pins p ps e in
         record {
           stays = still-found k v (made-gains k (Unpin p (ByLeg place)) Nothing u w m).step steps denial.facts st.stays;
-          taken = subst (λ (qs : List Held). HasTaken k qs v w) (sym few) (taken-unpin k p ps v u w m (subst (λ (qs : List Held). HasTaken k qs v u) e st.taken));
-          of_run = subst (λ (qs : List Held). AreOfRun k qs) (sym few) (subst (λ (qs : List Held). AreOfRun k qs) e st.of_run).1;
+          taken = subst (λ (qs : List HeldPin). HasTaken k qs v w) (sym few) (taken-unpin k p ps v u w m (subst (λ (qs : List HeldPin). HasTaken k qs v u) e st.taken));
+          of_run = subst (λ (qs : List HeldPin). AreOfRun k qs) (sym few) (subst (λ (qs : List HeldPin). AreOfRun k qs) e st.of_run).1;
         }
     end-stands pins denial p ps place (Word n) m e st = absurd m
     end-stands pins denial p ps place Taken m e st = absurd m
     end-stands pins denial p ps place (Missed n) m e st = absurd m
 
-    no-access : (from to : Spot) (len : ℕ) (x : Seen) → Made k (CopyBytes from to len) x u w → ⊥
+    no-access : (from to : Spot) (len : ℕ) (x : Observation) → Made k (CopyBytes from to len) x u w → ⊥
     no-access from to len Nothing m = absurd m
     no-access from to len (Word n) m = absurd m
     no-access from to len Taken m = absurd m
     no-access from to len (Missed n) m = absurd m
 
     -- a step made where the copy stands
-    abbrev pub OnSo : Phase → Seen → Step → Type 0
-    OnSo phase x s = (m : Made k s x u w) → ((p : Held) → s ≡ Pin p → Tries p u) → StandsWell k v w ((made-gains k s x u w m).step ∷ steps) (phase_after c caller phase x)
+    abbrev pub OnSo : Phase → Observation → Step → Type 0
+    OnSo phase x s = (m : Made k s x u w) → ((p : HeldPin) → s ≡ Pin p → Tries p u) → StandsWell k v w ((made-gains k s x u w m).step ∷ steps) (phase_after c caller phase x)
 
-    pub step-stands : (phase : Phase) (s : Step) (x : Seen) → Makes s ≡ action_at caller phase → StandsWell k v u steps phase → OnSo phase x s
+    pub step-stands : (phase : Phase) (s : Step) (x : Observation) → Makes s ≡ action_at caller phase → StandsWell k v u steps phase → OnSo phase x s
     step-stands (Walking aim l at) s x acts st = let same : s ≡ leg_step l at = cc in subst (λ (y : Step). OnSo (Walking aim l at) x y) (sym same) (λ m tries. leg-stands aim l at x m (an-end k v steps aim l at st.stays) st.taken st.of_run tries)
     step-stands (Accessing copy source dest) s x acts st = by acts
       where
@@ -442,7 +442,7 @@ module _ (c : CallerKnowledge) (k : Layout) (caller : DomId) (v : View) (knows :
             subst (λ (y : Step). OnSo (Accessing copy source dest) x y) (sym same) (λ m tries. absurd (no-access (place_of caller copy.source source) (place_of caller copy.dest dest) copy.len x m))
     step-stands (Ending pins (Refused denial)) s x acts st = by (last_first pins) refl acts
       where
-        by : (ps : List Held) → last_first pins ≡ ps → Makes s ≡ next_to_give ps (Refused denial) → OnSo (Ending pins (Refused denial)) x s
+        by : (ps : List HeldPin) → last_first pins ≡ ps → Makes s ≡ next_to_give ps (Refused denial) → OnSo (Ending pins (Refused denial)) x s
         by [] e a = cc
         by (p ∷ ps) e a = let same : s ≡ Unpin p (ByLeg (length ps)) = cc in
             subst (λ (y : Step). OnSo (Ending pins (Refused denial)) x y) (sym same) (λ m tries. end-stands pins denial p ps (length ps) x m e st)

@@ -10,7 +10,7 @@ use Rattle.gt_types.specs.declared.DomId.{DomId}
 use Rattle.gt_types.specs.declared.Dir.{Dir}
 use Rattle.gt_types.specs.declared.config.Config.{Config}
 use Rattle.gt_types.specs.declared.config.DomainConfig.{DomainConfig}
-use Rattle.gt_entry.specs.declared.change.Change.{Change}
+use Rattle.gt_entry.specs.declared.change.EntryChange.{EntryChange}
 use Rattle.gt_entry.specs.Changes.{changed_entry, raise_of}
 use Rattle.gt_words.specs.Controls.{generation_of}
 use Rattle.gt_words.specs.Conditions.{Board, IsSameSeat, IsSeatOf, SeatOf}
@@ -22,13 +22,13 @@ use Rattle.gt_words.specs.Views.{IsAmong, LivePin, is_pin, is_same_dir, last_of,
 use Rattle.gt_words.specs.declared.view.EntryRecord.{EntryRecord}
 use Rattle.gt_words.specs.declared.view.View.{View}
 use Rattle.gt_handles.specs.declared.handles.Handle.{Handle}
-use Rattle.gt_handles.specs.declared.handles.Slot.{Slot}
+use Rattle.gt_handles.specs.declared.handles.HandleSlot.{HandleSlot}
 use Rattle.gt_handles.specs.Handles.{HandleMap, count_of, same_handle, under, value_of}
 use Rattle.gt_handles.specs.Laws.{counted-most, inserted-counted, taken-counted}
 use Rattle.gt_handles.specs.Listing.{IsInserted, IsTaken, has_passing}
-use Rattle.gt_calls.specs.declared.held.Held.{Held}
-use Rattle.gt_calls.specs.declared.known.Own.{Own}
-use Rattle.gt_calls.specs.declared.request.Asked.{Asked}
+use Rattle.gt_calls.specs.declared.held.HeldPin.{HeldPin}
+use Rattle.gt_calls.specs.declared.known.OwnerEntry.{OwnerEntry}
+use Rattle.gt_calls.specs.declared.request.OpenRequest.{OpenRequest}
 use Rattle.gt_calls.specs.Rules.{entry_in, own_generation, row_entry, row_generation}
 use Rattle.gt_live.specs.declared.domain.Domain.{Domain}
 use Rattle.gt_live.specs.Domains.{IsDomainOf, AllowRelation, knowledge}
@@ -40,51 +40,51 @@ use Rattle.gt_live.proofs.Making.{still_seat}
 use Rattle.gt_live.proofs.RowsKept.{row-here, row-length, row-other, row-there}
 
 -- a mapping under a handle stands in a slot
-pub record InSlot (s : HandleMap Held) (h : Handle) (m : Held) : Type 0 where
-  pub slot : Slot Held
+pub record InSlot (s : HandleMap HeldPin) (h : Handle) (m : HeldPin) : Type 0 where
+  pub slot : HandleSlot HeldPin
   pub there : get_or s.slots h.key None ≡ Some slot
   pub value : slot.value ≡ m
   pub inside : h.key < length s.slots
 
-slot-of : (serial : ℕ) (o : Option (Slot Held)) (m : Held) → under serial o ≡ Some m → (slot : Slot Held) × (o ≡ Some slot) × (slot.value ≡ m)
+slot-of : (serial : ℕ) (o : Option (HandleSlot HeldPin)) (m : HeldPin) → under serial o ≡ Some m → (slot : HandleSlot HeldPin) × (o ≡ Some slot) × (slot.value ≡ m)
 slot-of serial None m e = cc
 slot-of serial (Some slot) m e = by (slot.serial == serial) e
   where
-    by : (b : Bool) → cond b (Some slot.value) None ≡ Some m → (x : Slot Held) × (Some slot ≡ Some x) × (x.value ≡ m)
+    by : (b : Bool) → cond b (Some slot.value) None ≡ Some m → (x : HandleSlot HeldPin) × (Some slot ≡ Some x) × (x.value ≡ m)
     by true is = (slot, refl, cc)
     by false is = cc
 
-in-slot : (s : HandleMap Held) (h : Handle) (m : Held) → value_of s h ≡ Some m → InSlot s h m
+in-slot : (s : HandleMap HeldPin) (h : Handle) (m : HeldPin) → value_of s h ≡ Some m → InSlot s h m
 in-slot s h m e =
     let x = slot-of h.serial (get_or s.slots h.key None) m e in
     let inside : h.key < length s.slots = elim (cases_lt h.key (length s.slots)) [ inl lt ↦ lt | inr ge ↦ let none = get_or-eq_default s.slots None ge in let some = x.1 in absurd (cc) ] in
     record { slot = x.0; there = x.1; value = x.2; inside = inside }
 
-counts-itself : (k : Layout) (m : Held) → is_mapping_of k (position_in k.ids m.dom) m.gref.0 m.dir (generation_of m.word) m ≡ true
+counts-itself : (k : Layout) (m : HeldPin) → is_mapping_of k (position_in k.ids m.dom) m.gref.0 m.dir (generation_of m.word) m ≡ true
 counts-itself k m =
     ap (λ (b : Bool). b && ((m.gref.0 == m.gref.0) && (is_same_dir m.dir m.dir && (generation_of m.word == generation_of m.word)))) (eq-eqb (position_in k.ids m.dom) (position_in k.ids m.dom) refl)
     ∙ (ap (λ (b : Bool). b && (is_same_dir m.dir m.dir && (generation_of m.word == generation_of m.word))) (eq-eqb m.gref.0 m.gref.0 refl)
     ∙ (ap (λ (b : Bool). b && (generation_of m.word == generation_of m.word)) (dir-self m.dir) ∙ eq-eqb (generation_of m.word) (generation_of m.word) refl))
 
 -- the pins of a mapping's kind and generation are some
-pub some-pins : (k : Layout) (v : View) (kept : HandleMap Held) → PinsAreOf k v kept → (h : Handle) (m : Held) → value_of kept h ≡ Some m → Holds (position_in k.ids m.dom) m.gref.0 m.dir (generation_of m.word) v
+pub some-pins : (k : Layout) (v : View) (kept : HandleMap HeldPin) → PinsAreOf k v kept → (h : Handle) (m : HeldPin) → value_of kept h ≡ Some m → Holds (position_in k.ids m.dom) m.gref.0 m.dir (generation_of m.word) v
 some-pins k v kept all h m e =
     let t = position_in k.ids m.dom in let g = generation_of m.word in
     let x = in-slot kept h m e in
     let passes : has_passing (is_mapping_of k t m.gref.0 m.dir g) (get_or kept.slots h.key None) ≡ true =
-    ap (λ (o : Option (Slot Held)). has_passing (is_mapping_of k t m.gref.0 m.dir g) o) x.there ∙ (ap (λ (y : Held). is_mapping_of k t m.gref.0 m.dir g y) x.value ∙ counts-itself k m) in
+    ap (λ (o : Option (HandleSlot HeldPin)). has_passing (is_mapping_of k t m.gref.0 m.dir g) o) x.there ∙ (ap (λ (y : HeldPin). is_mapping_of k t m.gref.0 m.dir g y) x.value ∙ counts-itself k m) in
     subst (λ (n : ℕ). 0 < n) (sym (all t m.gref.0 m.dir g)) (counted (has_passing (is_mapping_of k t m.gref.0 m.dir g)) kept.slots h.key None x.inside passes)
 
 -- a mapping whose pin is held in another view is one still
-moved : (k : Layout) (ds : List DomainConfig) (may : AllowRelation) (dom dom' : DomId) (v w : View) (m : Held) → dom' ≡ dom
+moved : (k : Layout) (ds : List DomainConfig) (may : AllowRelation) (dom dom' : DomId) (v w : View) (m : HeldPin) → dom' ≡ dom
     → (IsAmong (m.dir, entry_record_of m) (live_pins (steps_on (position_in k.ids m.dom) m.gref.0 v)) → IsAmong (m.dir, entry_record_of m) (live_pins (steps_on (position_in k.ids m.dom) m.gref.0 w)))
     → IsMappingOf k ds may dom v m → IsMappingOf k ds may dom' w m
 moved k ds may dom dom' v w m same on is =
     let here : IsMappingOf k ds may dom w m = record { pin = record { run = is.pin.run; inside = is.pin.inside; held = on is.pin.held }; permitted = is.permitted; in_frames = is.in_frames; allowed = is.allowed } in
     subst (λ (d : DomId). IsMappingOf k ds may d w m) (sym same) here
 
-same-slots : (old new : HandleMap Held) (h : Handle) → new.slots ≡ old.slots → value_of new h ≡ value_of old h
-same-slots old new h e = ap (λ (xs : List (Option (Slot Held))). under h.serial (slice_index_or xs h.key None)) e
+same-slots : (old new : HandleMap HeldPin) (h : Handle) → new.slots ≡ old.slots → value_of new h ≡ value_of old h
+same-slots old new h e = ap (λ (xs : List (Option (HandleSlot HeldPin))). under h.serial (slice_index_or xs h.key None)) e
 
 -- the seat after looks alone is of the same words
 pub looked-seat : (b : Board) (s : SeatOf) (u : View) → IsSeatOf b s → IsSame s.view u → IsSeatOf b (record s { view = u })
@@ -95,11 +95,11 @@ looked-seat b s u is same = record {
   ids = same.ids ∙ is.ids;
 }
 
-same-rows : (c : Config) (os os' : List Own) (r : ℕ) → os' ≡ os → ◌≡◌ {A = EntryRecord} (record { generation = own_generation c.first_gen os r; entry = entry_in os r }) (record { generation = own_generation c.first_gen os' r; entry = entry_in os' r })
-same-rows c os os' r e = ap (λ (xs : List Own). record { generation = own_generation c.first_gen xs r; entry = entry_in xs r }) (sym e)
+same-rows : (c : Config) (os os' : List OwnerEntry) (r : ℕ) → os' ≡ os → ◌≡◌ {A = EntryRecord} (record { generation = own_generation c.first_gen os r; entry = entry_in os r }) (record { generation = own_generation c.first_gen os' r; entry = entry_in os' r })
+same-rows c os os' r e = ap (λ (xs : List OwnerEntry). record { generation = own_generation c.first_gen xs r; entry = entry_in xs r }) (sym e)
 
 -- where all pins are those of before
-same-mapped : (b : Board) (c : Config) (may : AllowRelation) (d e : Domain) → IsDomainOf b c may d → e.seat.dom ≡ d.seat.dom → e.mappings.slots ≡ d.mappings.slots → KeepsPins d.seat.view e.seat.view → (h : Handle) (m : Held) → value_of e.mappings h ≡ Some m
+same-mapped : (b : Board) (c : Config) (may : AllowRelation) (d e : Domain) → IsDomainOf b c may d → e.seat.dom ≡ d.seat.dom → e.mappings.slots ≡ d.mappings.slots → KeepsPins d.seat.view e.seat.view → (h : Handle) (m : HeldPin) → value_of e.mappings h ≡ Some m
     → IsMappingOf b.layout c.domains.items may e.seat.dom e.seat.view m
 same-mapped b c may d e is dom slots same h m there =
     moved b.layout c.domains.items may d.seat.dom e.seat.dom d.seat.view e.seat.view m dom (λ x. subst (λ (ps : List LivePin). IsAmong (m.dir, entry_record_of m) ps) (sym (same (position_in b.layout.ids m.dom) m.gref.0)) x)
@@ -114,14 +114,14 @@ pub looked : (b : Board) (c : Config) (may : AllowRelation) (d e : Domain) → I
 looked b c may d e is seat dom own slots same = record {
   seat = seat;
   rows = λ r lt. same.records r ∙ (is.rows r lt ∙ same-rows c d.own.items e.own.items r own);
-  generations = λ r lt. subst (λ (xs : List Own). own_generation c.first_gen xs r < 1048576) (sym own) (is.generations r lt);
-  all_rows = ap (λ (xs : List Own). length xs) own ∙ is.all_rows;
+  generations = λ r lt. subst (λ (xs : List OwnerEntry). own_generation c.first_gen xs r < 1048576) (sym own) (is.generations r lt);
+  all_rows = ap (λ (xs : List OwnerEntry). length xs) own ∙ is.all_rows;
   mapped = same-mapped b c may d e is dom slots same.pins;
   pins = same-pins b c may d e is slots same.pins;
 }
 
 -- after an owner's change of one of its entries
-pub changed : (b : Board) (c : Config) (may : AllowRelation) (d e : Domain) (request : Asked) (q : ℕ) (ch : Change) → IsDomainOf b c may d → IsSameSeat d.seat e.seat → e.mappings.slots ≡ d.mappings.slots → e.own.items ≡ row_changed d.own.items q ch
+pub changed : (b : Board) (c : Config) (may : AllowRelation) (d e : Domain) (request : OpenRequest) (q : ℕ) (ch : EntryChange) → IsDomainOf b c may d → IsSameSeat d.seat e.seat → e.mappings.slots ≡ d.mappings.slots → e.own.items ≡ row_changed d.own.items q ch
     → ChangesBy (knowledge c may d) b.layout request q ch d.seat.view e.seat.view → IsDomainOf b c may e
 changed b c may d e request q ch is seat slots own x =
     let u = x.before in let w = e.seat.view in let os = row_changed d.own.items q ch in
@@ -133,9 +133,9 @@ changed b c may d e request q ch is seat slots own x =
           let o = row-there d.own.items q (omega (arith, all, low)) in
           let new = row-here d.own.items q o.0 ch o.1 in
           let was : last_of q u ≡ record { generation = own_generation c.first_gen d.own.items q; entry = entry_in d.own.items q } = x.same.records q ∙ is.rows q low in
-          let same_gen : own_generation c.first_gen d.own.items q ≡ o.0.generation = ap (λ (y : Option Own). row_generation c.first_gen y) o.1 in
+          let same_gen : own_generation c.first_gen d.own.items q ≡ o.0.generation = ap (λ (y : Option OwnerEntry). row_generation c.first_gen y) o.1 in
           let same_entry : entry_in d.own.items q ≡ o.0.entry = ap row_entry o.1 in
-          let now : own_generation c.first_gen os q ≡ min (o.0.generation + raise_of ch) 1048575 = ap (λ (y : Option Own). row_generation c.first_gen y) new in
+          let now : own_generation c.first_gen os q ≡ min (o.0.generation + raise_of ch) 1048575 = ap (λ (y : Option OwnerEntry). row_generation c.first_gen y) new in
           let up : own_generation c.first_gen d.own.items q + raise_of ch ≡ own_generation c.first_gen os q = omega (arith, same_gen, now, fresh) in
           let ent : entry_in os q ≡ changed_entry ch (entry_in d.own.items q) = ap row_entry new ∙ ap (λ z. changed_entry ch z) (sym same_entry) in
           let here : last_of q w ≡ record { generation = own_generation c.first_gen os q; entry = entry_in os q } =
@@ -144,7 +144,7 @@ changed b c may d e request q ch is seat slots own x =
           subst (λ (n : ℕ). (last_of n w ≡ record { generation = own_generation c.first_gen os n; entry = entry_in os n }) × (own_generation c.first_gen os n < 1048576)) e1 (here, omega (arith, now))
       | inr ne ↦
           let other = row-other d.own.items q r ch ne in
-          let gen : own_generation c.first_gen os r ≡ own_generation c.first_gen d.own.items r = ap (λ (y : Option Own). row_generation c.first_gen y) other in
+          let gen : own_generation c.first_gen os r ≡ own_generation c.first_gen d.own.items r = ap (λ (y : Option OwnerEntry). row_generation c.first_gen y) other in
           let ent : entry_in os r ≡ entry_in d.own.items r = ap row_entry other in (
             x.changes.rows.last r ne ∙ (x.same.records r ∙ (is.rows r lt
                 ∙ (ap (λ n. record { generation = n; entry = entry_in d.own.items r }) (sym gen) ∙ ap (λ z. record { generation = own_generation c.first_gen os r; entry = z }) (sym ent)))),
@@ -154,22 +154,22 @@ changed b c may d e request q ch is seat slots own x =
     record {
       seat = still_seat b d.seat e.seat is.seat seat;
       rows = λ r lt. (row r lt).0 ∙ same-rows c os e.own.items r own;
-      generations = λ r lt. subst (λ (xs : List Own). own_generation c.first_gen xs r < 1048576) (sym own) (row r lt).1;
-      all_rows = ap (λ (xs : List Own). length xs) own ∙ (row-length d.own.items q ch ∙ is.all_rows);
+      generations = λ r lt. subst (λ (xs : List OwnerEntry). own_generation c.first_gen xs r < 1048576) (sym own) (row r lt).1;
+      all_rows = ap (λ (xs : List OwnerEntry). length xs) own ∙ (row-length d.own.items q ch ∙ is.all_rows);
       mapped = same-mapped b c may d e is seat.dom slots same;
       pins = same-pins b c may d e is slots same;
     }
 
-taken-away : {A : Type 0} (x : Bool) (o : Option Held) (m : Held) → (o ≡ Some m → A) → cond x None o ≡ Some m → A
+taken-away : {A : Type 0} (x : Bool) (o : Option HeldPin) (m : HeldPin) → (o ≡ Some m → A) → cond x None o ≡ Some m → A
 taken-away true o m f e = absurd (cc)
 taken-away false o m f e = f e
 
-added : (x : Bool) (o : Option Held) (m n : Held) (P : Held → Type 0) → P m → (o ≡ Some n → P n) → cond x (Some m) o ≡ Some n → P n
-added true o m n P here old e = let same : m ≡ n = cc in subst (λ (z : Held). P z) same here
+added : (x : Bool) (o : Option HeldPin) (m n : HeldPin) (P : HeldPin → Type 0) → P m → (o ≡ Some n → P n) → cond x (Some m) o ≡ Some n → P n
+added true o m n P here old e = let same : m ≡ n = cc in subst (λ (z : HeldPin). P z) same here
 added false o m n P here old e = old e
 
 -- after an unmap that was Ok, and where a domain leaves
-pub unmapped : (b : Board) (c : Config) (may : AllowRelation) (d e : Domain) (h : Handle) (m : Held) → IsDomainOf b c may d → IsSeatOf b e.seat → e.seat.dom ≡ d.seat.dom → e.own.items ≡ d.own.items
+pub unmapped : (b : Board) (c : Config) (may : AllowRelation) (d e : Domain) (h : Handle) (m : HeldPin) → IsDomainOf b c may d → IsSeatOf b e.seat → e.seat.dom ≡ d.seat.dom → e.own.items ≡ d.own.items
     → IsTaken d.mappings e.mappings h m → Unpins b.layout (position_in b.layout.ids m.dom) m.gref.0 m.dir (generation_of m.word) d.seat.view e.seat.view → IsDomainOf b c may e
 unmapped b c may d e h m is seat dom own out u =
     let k = b.layout in let v = d.seat.view in let w = e.seat.view in
@@ -178,8 +178,8 @@ unmapped b c may d e h m is seat dom own out u =
     record {
       seat = seat;
       rows = λ r lt. u.rows.last r ∙ (is.rows r lt ∙ same-rows c d.own.items e.own.items r own);
-      generations = λ r lt. subst (λ (xs : List Own). own_generation c.first_gen xs r < 1048576) (sym own) (is.generations r lt);
-      all_rows = ap (λ (xs : List Own). length xs) own ∙ is.all_rows;
+      generations = λ r lt. subst (λ (xs : List OwnerEntry). own_generation c.first_gen xs r < 1048576) (sym own) (is.generations r lt);
+      all_rows = ap (λ (xs : List OwnerEntry). length xs) own ∙ is.all_rows;
       mapped = λ h' m' is'.
           let old = taken-away (same_handle h' h) (value_of d.mappings h') m' (λ z. is.mapped h' m' z) (sym (out.updates h') ∙ is') in
           moved k c.domains.items may d.seat.dom e.seat.dom v w m' dom (λ there. u.records (position_in k.ids m'.dom) m'.gref.0 (m'.dir, entry_record_of m') there (some-pins k w e.mappings all h' m' is')) old;
@@ -187,7 +187,7 @@ unmapped b c may d e h m is seat dom own out u =
     }
 
 -- after a map that was Ok
-pub mapped : (b : Board) (c : Config) (may : AllowRelation) (d e : Domain) (h : Handle) (request : Asked) (m : Held) → IsDomainOf b c may d → IsSameSeat d.seat e.seat → e.own.items ≡ d.own.items
+pub mapped : (b : Board) (c : Config) (may : AllowRelation) (d e : Domain) (h : Handle) (request : OpenRequest) (m : HeldPin) → IsDomainOf b c may d → IsSameSeat d.seat e.seat → e.own.items ≡ d.own.items
     → MapsBy (knowledge c may d) b.layout d.seat.dom request m d.seat.view e.seat.view → IsInserted d.mappings e.mappings h m → IsDomainOf b c may e
 mapped b c may d e h request m is seat own x ins =
     let k = b.layout in let v = d.seat.view in let w = e.seat.view in
@@ -197,9 +197,9 @@ mapped b c may d e h request m is seat own x ins =
     record {
       seat = still_seat b d.seat e.seat is.seat seat;
       rows = λ r lt. x.pins.rows.last r ∙ (x.same.records r ∙ (is.rows r lt ∙ same-rows c d.own.items e.own.items r own));
-      generations = λ r lt. subst (λ (xs : List Own). own_generation c.first_gen xs r < 1048576) (sym own) (is.generations r lt);
-      all_rows = ap (λ (xs : List Own). length xs) own ∙ is.all_rows;
-      mapped = λ h' m' is'. added (same_handle h' h) (value_of d.mappings h') m m' (λ (z : Held). IsMappingOf k c.domains.items may e.seat.dom w z)
+      generations = λ r lt. subst (λ (xs : List OwnerEntry). own_generation c.first_gen xs r < 1048576) (sym own) (is.generations r lt);
+      all_rows = ap (λ (xs : List OwnerEntry). length xs) own ∙ is.all_rows;
+      mapped = λ h' m' is'. added (same_handle h' h) (value_of d.mappings h') m m' (λ (z : HeldPin). IsMappingOf k c.domains.items may e.seat.dom w z)
           (subst (λ (z : DomId). IsMappingOf k c.domains.items may z w m) (sym seat.dom) x.mapping)
           (λ z.
           let t = position_in k.ids m'.dom in let r = m'.gref.0 in

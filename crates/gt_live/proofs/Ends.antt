@@ -12,36 +12,36 @@ use Rattle.gt_types.specs.Denial.{denial_of}
 use Rattle.gt_types.specs.Names.{resolved}
 use Rattle.gt_entry.specs.declared.entry.Entry.{Entry}
 use Rattle.gt_entry.specs.declared.entry.Entry.TheVariants.{Invalid, Page, Sub, Via}
-use Rattle.gt_entry.specs.declared.control.Kind.TheVariants.{Sub as KindSub}
+use Rattle.gt_entry.specs.declared.control.EntryKind.TheVariants.{Sub as KindSub}
 use Rattle.gt_entry.specs.Words.{control_of, header_of, size_of}
 use Rattle.gt_calls.specs.declared.action.Action.{Action}
 use Rattle.gt_calls.specs.declared.action.Action.TheVariants.{Step as Makes, Done}
-use Rattle.gt_entry.specs.declared.change.Change.{Change}
-use Rattle.gt_entry.specs.declared.change.Change.TheVariants.{Publish, Revoke as ToInvalid, Withdraw as ToWithdrawn}
-use Rattle.gt_entry.specs.declared.change.Change.TheVariants.{Demote as ToReadOnly, Promote as ToWritable}
-use Rattle.gt_entry.specs.declared.change.Half.{Half}
-use Rattle.gt_entry.specs.declared.change.Half.TheVariants.{First, Second}
-use Rattle.gt_calls.specs.declared.action.Seen.{Seen}
-use Rattle.gt_calls.specs.declared.action.Seen.TheVariants.{Nothing, Word, Taken, Missed}
+use Rattle.gt_entry.specs.declared.change.EntryChange.{EntryChange}
+use Rattle.gt_entry.specs.declared.change.EntryChange.TheVariants.{Publish, Revoke as ToInvalid, Withdraw as ToWithdrawn}
+use Rattle.gt_entry.specs.declared.change.EntryChange.TheVariants.{Demote as ToReadOnly, Promote as ToWritable}
+use Rattle.gt_entry.specs.declared.change.BodyWord.{BodyWord}
+use Rattle.gt_entry.specs.declared.change.BodyWord.TheVariants.{First, Second}
+use Rattle.gt_calls.specs.declared.action.Observation.{Observation}
+use Rattle.gt_calls.specs.declared.action.Observation.TheVariants.{Nothing, Word, Taken, Missed}
 use Rattle.gt_calls.specs.declared.action.Step.{Step}
 use Rattle.gt_calls.specs.declared.action.Step.TheVariants.{LookHeader, LookControl, LookBody, Pin, Unpin, StoreBody}
 use Rattle.gt_calls.specs.declared.action.Step.TheVariants.{StoreHeader, Exchange}
-use Rattle.gt_calls.specs.declared.action.Verdict.{Verdict}
-use Rattle.gt_calls.specs.declared.action.Verdict.TheVariants.{Granted, Given, Mapped, Refused}
-use Rattle.gt_calls.specs.declared.action.Value.TheVariants.{Frames}
-use Rattle.gt_calls.specs.declared.request.Asked.{Asked}
-use Rattle.gt_calls.specs.declared.request.Asked.TheVariants as asks
-use Rattle.gt_calls.specs.declared.call.Question.TheVariants.{Size, Version}
-use Rattle.gt_calls.specs.declared.held.Held.{Held}
+use Rattle.gt_calls.specs.declared.action.CallResult.{CallResult}
+use Rattle.gt_calls.specs.declared.action.CallResult.TheVariants.{Granted, Given, Mapped, Refused}
+use Rattle.gt_calls.specs.declared.action.CallValue.TheVariants.{Frames}
+use Rattle.gt_calls.specs.declared.request.OpenRequest.{OpenRequest}
+use Rattle.gt_calls.specs.declared.request.OpenRequest.TheVariants as asks
+use Rattle.gt_calls.specs.declared.call.HeaderQuery.TheVariants.{Size, Version}
+use Rattle.gt_calls.specs.declared.held.HeldPin.{HeldPin}
 use Rattle.gt_handles.specs.declared.handles.Handle.{Handle}
 use Rattle.gt_calls.specs.declared.leg.Leg.{Leg}
-use Rattle.gt_calls.specs.declared.request.Holder.TheVariants.{Mapping as ByHandle}
+use Rattle.gt_calls.specs.declared.request.PinHolder.TheVariants.{Mapping as ByHandle}
 use Rattle.gt_calls.specs.Rules.{CallerKnowledge, begun, first_look, is_kind, first_body, second_body}
 use Rattle.gt_calls.specs.Path.{Continuation, AfterRefusal, AfterPin, after_beginning, at_first_look, by_mapping, ended}
 use Rattle.gt_calls.specs.Path.{entry_refusal, exchanges, exchanges_once, grant_path, held_of, idle_word, is_stopped}
 use Rattle.gt_calls.specs.Path.{last_step, leg, looks, looks_again, makes, map_leg, path, pins, publishes, reads_body}
 use Rattle.gt_calls.specs.Path.{reads_second, refused_at, refused_holding, rule_of_try, steps_of, stores_second}
-use Rattle.gt_calls.specs.Path.{told_to}
+use Rattle.gt_calls.specs.Path.{header_value_of}
 use Rattle.gt_calls.specs.Path.{tries, try_pin, turn, turns}
 use Rattle.gt_live.specs.declared.driving.Effect.{Effect}
 use Rattle.gt_live.specs.declared.driving.Effect.TheVariants as effects
@@ -50,43 +50,43 @@ use Rattle.gt_live.specs.Ending.{IsAnswerTo, WaitsForNobody}
 
 module _ (caller : DomId) where
   -- what comes first on this way is what follows such a step
-  abbrev pub Opens : Step → Seen → Continuation → Type 0
+  abbrev pub Opens : Step → Observation → Continuation → Type 0
   Opens s x way = (a : Action) → way [] ≡ Some a → EndsSo caller s x a
 
   -- each step of the way is followed as it should be, and the way's answers are these
-  pub record Sound (P : Verdict → Type 0) (way : Continuation) : Type 0 where
-    pub ends : (vs : List Seen) (s : Step) (x : Seen) (a : Action) → way vs ≡ Some (Makes s) → way (vs ++ x ∷ []) ≡ Some a → EndsSo caller s x a
-    pub answers : (vs : List Seen) (verdict : Verdict) → way vs ≡ Some (Done verdict) → P verdict
+  pub record Sound (P : CallResult → Type 0) (way : Continuation) : Type 0 where
+    pub ends : (vs : List Observation) (s : Step) (x : Observation) (a : Action) → way vs ≡ Some (Makes s) → way (vs ++ x ∷ []) ≡ Some a → EndsSo caller s x a
+    pub answers : (vs : List Observation) (verdict : CallResult) → way vs ≡ Some (Done verdict) → P verdict
 
-  module _ (P : Verdict → Type 0) where
-    ended-sound : (verdict : Verdict) → P verdict → Sound P (ended verdict)
+  module _ (P : CallResult → Type 0) where
+    ended-sound : (verdict : CallResult) → P verdict → Sound P (ended verdict)
     ended-sound verdict p = record { ends = ends; answers = answers }
       where
-        ends : (vs : List Seen) (s : Step) (x : Seen) (a : Action) → ended verdict vs ≡ Some (Makes s) → ended verdict (vs ++ x ∷ []) ≡ Some a → EndsSo caller s x a
+        ends : (vs : List Observation) (s : Step) (x : Observation) (a : Action) → ended verdict vs ≡ Some (Makes s) → ended verdict (vs ++ x ∷ []) ≡ Some a → EndsSo caller s x a
         ends [] s x a e f = absurd (cc)
         ends (v ∷ vs) s x a e f = absurd (cc)
 
-        answers : (vs : List Seen) (other : Verdict) → ended verdict vs ≡ Some (Done other) → P other
+        answers : (vs : List Observation) (other : CallResult) → ended verdict vs ≡ Some (Done other) → P other
         answers [] other e = let same : verdict ≡ other = cc in subst P same p
         answers (v ∷ vs) other e = absurd (cc)
 
     makes-sound : (step : Step) (follows : Continuation) → Opens step Nothing follows → Sound P follows → Sound P (makes step follows)
     makes-sound step follows opens sound = record { ends = ends; answers = answers }
       where
-        opened : (s : Step) (x : Seen) (a : Action) → s ≡ step → makes step follows (x ∷ []) ≡ Some a → EndsSo caller s x a
+        opened : (s : Step) (x : Observation) (a : Action) → s ≡ step → makes step follows (x ∷ []) ≡ Some a → EndsSo caller s x a
         opened s Nothing a same f = subst (λ (t : Step). EndsSo caller t Nothing a) (sym same) (opens a f)
         opened s (Word w) a same f = absurd (cc)
         opened s Taken a same f = absurd (cc)
         opened s (Missed w) a same f = absurd (cc)
 
-        ends : (vs : List Seen) (s : Step) (x : Seen) (a : Action) → makes step follows vs ≡ Some (Makes s) → makes step follows (vs ++ x ∷ []) ≡ Some a → EndsSo caller s x a
+        ends : (vs : List Observation) (s : Step) (x : Observation) (a : Action) → makes step follows vs ≡ Some (Makes s) → makes step follows (vs ++ x ∷ []) ≡ Some a → EndsSo caller s x a
         ends [] s x a e f = let same : s ≡ step = cc in opened s x a same f
         ends (Nothing ∷ vs) s x a e f = sound.ends vs s x a e f
         ends (Word w ∷ vs) s x a e f = absurd (cc)
         ends (Taken ∷ vs) s x a e f = absurd (cc)
         ends (Missed w ∷ vs) s x a e f = absurd (cc)
 
-        answers : (vs : List Seen) (verdict : Verdict) → makes step follows vs ≡ Some (Done verdict) → P verdict
+        answers : (vs : List Observation) (verdict : CallResult) → makes step follows vs ≡ Some (Done verdict) → P verdict
         answers [] verdict e = absurd (cc)
         answers (Nothing ∷ vs) verdict e = sound.answers vs verdict e
         answers (Word w ∷ vs) verdict e = absurd (cc)
@@ -96,20 +96,20 @@ module _ (caller : DomId) where
     looks-sound : (step : Step) (follows : ℕ → Continuation) → ((w : ℕ) → Opens step (Word w) (follows w)) → ((w : ℕ) → Sound P (follows w)) → Sound P (looks step follows)
     looks-sound step follows opens sound = record { ends = ends; answers = answers }
       where
-        opened : (s : Step) (x : Seen) (a : Action) → s ≡ step → looks step follows (x ∷ []) ≡ Some a → EndsSo caller s x a
+        opened : (s : Step) (x : Observation) (a : Action) → s ≡ step → looks step follows (x ∷ []) ≡ Some a → EndsSo caller s x a
         opened s (Word w) a same f = subst (λ (t : Step). EndsSo caller t (Word w) a) (sym same) (opens w a f)
         opened s Nothing a same f = absurd (cc)
         opened s Taken a same f = absurd (cc)
         opened s (Missed w) a same f = absurd (cc)
 
-        ends : (vs : List Seen) (s : Step) (x : Seen) (a : Action) → looks step follows vs ≡ Some (Makes s) → looks step follows (vs ++ x ∷ []) ≡ Some a → EndsSo caller s x a
+        ends : (vs : List Observation) (s : Step) (x : Observation) (a : Action) → looks step follows vs ≡ Some (Makes s) → looks step follows (vs ++ x ∷ []) ≡ Some a → EndsSo caller s x a
         ends [] s x a e f = let same : s ≡ step = cc in opened s x a same f
         ends (Word w ∷ vs) s x a e f = (sound w).ends vs s x a e f
         ends (Nothing ∷ vs) s x a e f = absurd (cc)
         ends (Taken ∷ vs) s x a e f = absurd (cc)
         ends (Missed w ∷ vs) s x a e f = absurd (cc)
 
-        answers : (vs : List Seen) (verdict : Verdict) → looks step follows vs ≡ Some (Done verdict) → P verdict
+        answers : (vs : List Observation) (verdict : CallResult) → looks step follows vs ≡ Some (Done verdict) → P verdict
         answers [] verdict e = absurd (cc)
         answers (Word w ∷ vs) verdict e = (sound w).answers vs verdict e
         answers (Nothing ∷ vs) verdict e = absurd (cc)
@@ -124,28 +124,28 @@ module _ (caller : DomId) where
         opened_else true s w a same f = absurd (cc)
         opened_else false s w a same f = subst (λ (t : Step). EndsSo caller t (Missed w) a) (sym same) (misses w a f)
 
-        opened : (s : Step) (x : Seen) (a : Action) → s ≡ step → exchanges step looked taken missed (x ∷ []) ≡ Some a → EndsSo caller s x a
+        opened : (s : Step) (x : Observation) (a : Action) → s ≡ step → exchanges step looked taken missed (x ∷ []) ≡ Some a → EndsSo caller s x a
         opened s Taken a same f = subst (λ (t : Step). EndsSo caller t Taken a) (sym same) (opens a f)
         opened s (Missed w) a same f = opened_else (w == looked) s w a same f
         opened s Nothing a same f = absurd (cc)
         opened s (Word w) a same f = absurd (cc)
 
-        ends_else : (b : Bool) (w : ℕ) (vs : List Seen) (s : Step) (x : Seen) (a : Action) → cond b None (missed w vs) ≡ Some (Makes s) → cond b None (missed w (vs ++ x ∷ [])) ≡ Some a → EndsSo caller s x a
+        ends_else : (b : Bool) (w : ℕ) (vs : List Observation) (s : Step) (x : Observation) (a : Action) → cond b None (missed w vs) ≡ Some (Makes s) → cond b None (missed w (vs ++ x ∷ [])) ≡ Some a → EndsSo caller s x a
         ends_else true w vs s x a e f = absurd (cc)
         ends_else false w vs s x a e f = (others w).ends vs s x a e f
 
-        ends : (vs : List Seen) (s : Step) (x : Seen) (a : Action) → exchanges step looked taken missed vs ≡ Some (Makes s) → exchanges step looked taken missed (vs ++ x ∷ []) ≡ Some a → EndsSo caller s x a
+        ends : (vs : List Observation) (s : Step) (x : Observation) (a : Action) → exchanges step looked taken missed vs ≡ Some (Makes s) → exchanges step looked taken missed (vs ++ x ∷ []) ≡ Some a → EndsSo caller s x a
         ends [] s x a e f = let same : s ≡ step = cc in opened s x a same f
         ends (Taken ∷ vs) s x a e f = sound.ends vs s x a e f
         ends (Missed w ∷ vs) s x a e f = ends_else (w == looked) w vs s x a e f
         ends (Nothing ∷ vs) s x a e f = absurd (cc)
         ends (Word w ∷ vs) s x a e f = absurd (cc)
 
-        answers_else : (b : Bool) (w : ℕ) (vs : List Seen) (verdict : Verdict) → cond b None (missed w vs) ≡ Some (Done verdict) → P verdict
+        answers_else : (b : Bool) (w : ℕ) (vs : List Observation) (verdict : CallResult) → cond b None (missed w vs) ≡ Some (Done verdict) → P verdict
         answers_else true w vs verdict e = absurd (cc)
         answers_else false w vs verdict e = (others w).answers vs verdict e
 
-        answers : (vs : List Seen) (verdict : Verdict) → exchanges step looked taken missed vs ≡ Some (Done verdict) → P verdict
+        answers : (vs : List Observation) (verdict : CallResult) → exchanges step looked taken missed vs ≡ Some (Done verdict) → P verdict
         answers [] verdict e = absurd (cc)
         answers (Taken ∷ vs) verdict e = sound.answers vs verdict e
         answers (Missed w ∷ vs) verdict e = answers_else (w == looked) w vs verdict e
@@ -153,22 +153,22 @@ module _ (caller : DomId) where
         answers (Word w ∷ vs) verdict e = absurd (cc)
 
   -- a way that comes first with this
-  first-is : (s : Step) (x : Seen) (way : Continuation) (b : Action) → way [] ≡ Some b → EndsSo caller s x b → Opens s x way
+  first-is : (s : Step) (x : Observation) (way : Continuation) (b : Action) → way [] ≡ Some b → EndsSo caller s x b → Opens s x way
   first-is s x way b e h a f = let same : b ≡ a = cc in subst (λ (y : Action). EndsSo caller s x y) same h
 
   -- a step of a leg that only looked, or missed
-  abbrev pub IsIdle : Step → Seen → Type 0
+  abbrev pub IsIdle : Step → Observation → Type 0
   IsIdle s x = effect_of s x ≡ effects.Nothing
 
-  then-step : (s : Step) (x : Seen) (way : Continuation) (t : Step) → IsIdle s x → way [] ≡ Some (Makes t) → Opens s x way
+  then-step : (s : Step) (x : Observation) (way : Continuation) (t : Step) → IsIdle s x → way [] ≡ Some (Makes t) → Opens s x way
   then-step s x way t idle e = first-is s x way (Makes t) e idle
 
-  then-refused : (s : Step) (x : Seen) (denial : Denial) → IsIdle s x → IsFound caller s x denial.facts → Opens s x (ended (Refused denial))
+  then-refused : (s : Step) (x : Observation) (denial : Denial) → IsIdle s x → IsFound caller s x denial.facts → Opens s x (ended (Refused denial))
   then-refused s x denial idle found = first-is s x (ended (Refused denial)) (Done (Refused denial)) refl (subst (λ (y : Effect). Answers y (Refused denial)) (sym idle) tt, found)
 
   -- a map
 
-  abbrev pub MapAnswer : Verdict → Type 0
+  abbrev pub MapAnswer : CallResult → Type 0
   MapAnswer (Mapped p) = Unit {0}
   MapAnswer (Refused denial) = Unit {0}
   MapAnswer Granted = ⊥
@@ -183,8 +183,8 @@ module _ (caller : DomId) where
   refuse-sound : (denial : Denial) → Sound MapAnswer (refuse denial)
   refuse-sound denial = ended-sound MapAnswer (Refused denial) tt
 
-  module _ (l : Leg) (missed : ℕ → Continuation) (others : (w : ℕ) → Sound MapAnswer (missed w)) (opens : (s : Step) (x : Seen) → IsIdle s x → (w : ℕ) → IsFoundAt caller s x l.dom l.gref w → Opens s x (missed w)) where
-    pins-sound : (p : Held) → p.dom ≡ l.dom → p.gref ≡ l.gref → Sound MapAnswer (pins p missed keep)
+  module _ (l : Leg) (missed : ℕ → Continuation) (others : (w : ℕ) → Sound MapAnswer (missed w)) (opens : (s : Step) (x : Observation) → IsIdle s x → (w : ℕ) → IsFoundAt caller s x l.dom l.gref w → Opens s x (missed w)) where
+    pins-sound : (p : HeldPin) → p.dom ≡ l.dom → p.gref ≡ l.gref → Sound MapAnswer (pins p missed keep)
     pins-sound p dom gref =
         exchanges-sound MapAnswer (Pin p) p.word (keep p) missed (first-is (Pin p) Taken (keep p) (Done (Mapped p)) refl (refl, tt)) (λ w. opens (Pin p) (Missed w) refl w (dom, gref, refl))
         (ended-sound MapAnswer (Mapped p) tt) others
@@ -201,11 +201,11 @@ module _ (caller : DomId) where
         sound w true = refuse-sound (entry_refusal l.dom l.gref rule word)
         sound w false = others w
 
-    last-sound : (p : Held) (o : Option Rule) → p.dom ≡ l.dom → p.gref ≡ l.gref → Sound MapAnswer (last_step l p o refuse missed keep)
+    last-sound : (p : HeldPin) (o : Option Rule) → p.dom ≡ l.dom → p.gref ≡ l.gref → Sound MapAnswer (last_step l p o refuse missed keep)
     last-sound p None dom gref = pins-sound p dom gref
     last-sound p (Some rule) dom gref = again-sound p.word rule
 
-    last-opens : (s : Step) (x : Seen) → IsIdle s x → (p : Held) (o : Option Rule) → Opens s x (last_step l p o refuse missed keep)
+    last-opens : (s : Step) (x : Observation) → IsIdle s x → (p : HeldPin) (o : Option Rule) → Opens s x (last_step l p o refuse missed keep)
     last-opens s x idle p None = then-step s x (pins p missed keep) (Pin p) idle refl
     last-opens s x idle p (Some rule) = then-step s x (looks_again l p.word rule refuse missed) (LookControl l.dom l.gref) idle refl
 
@@ -242,7 +242,7 @@ module _ (caller : DomId) where
         sound w None = body-sound w
         sound w (Some rule) = refuse-sound (entry_refusal l.dom l.gref rule w)
 
-  tries-opens : (l : Leg) (more : ℕ) (s : Step) (x : Seen) → IsIdle s x → Opens s x (tries l more refuse keep)
+  tries-opens : (l : Leg) (more : ℕ) (s : Step) (x : Observation) → IsIdle s x → Opens s x (tries l more refuse keep)
   unfolding tries
   tries-opens l zero s x idle = then-step s x (tries l zero refuse keep) (LookControl l.dom l.gref) idle refl
   tries-opens l (suc more) s x idle = then-step s x (tries l (suc more) refuse keep) (LookControl l.dom l.gref) idle refl
@@ -270,7 +270,7 @@ module _ (caller : DomId) where
 
   -- an owner's exchanges
 
-  abbrev pub OkOrRefused : Verdict → Type 0
+  abbrev pub OkOrRefused : CallResult → Type 0
   OkOrRefused Granted = Unit {0}
   OkOrRefused (Refused denial) = Unit {0}
   OkOrRefused (Mapped p) = ⊥
@@ -282,15 +282,15 @@ module _ (caller : DomId) where
   refused : (denial : Denial) → Sound OkOrRefused (ended (Refused denial))
   refused denial = ended-sound OkOrRefused (Refused denial) tt
 
-  exchange-taken : (gref : GrantRef) (looked : ℕ) (change : Change) → Opens (Exchange gref looked change) Taken (ended Granted)
+  exchange-taken : (gref : GrantRef) (looked : ℕ) (change : EntryChange) → Opens (Exchange gref looked change) Taken (ended Granted)
   exchange-taken gref looked change = first-is (Exchange gref looked change) Taken (ended Granted) (Done Granted) refl (tt, tt)
 
-  once-sound : (gref : GrantRef) (looked : ℕ) (change : Change) → Sound OkOrRefused (exchanges_once caller gref looked change)
+  once-sound : (gref : GrantRef) (looked : ℕ) (change : EntryChange) → Sound OkOrRefused (exchanges_once caller gref looked change)
   once-sound gref looked change =
       exchanges-sound OkOrRefused (Exchange gref looked change) looked (ended Granted) (refused_at caller gref N19) (exchange-taken gref looked change)
       (λ w. then-refused (Exchange gref looked change) (Missed w) (entry_refusal caller gref N19 w) refl (refl, refl, refl)) granted (λ w. refused (entry_refusal caller gref N19 w))
 
-  turn-sound : (change : Change) (gref : GrantRef) (missed : ℕ → Continuation) → ((w : ℕ) → Sound OkOrRefused (missed w)) → ((s : Step) (x : Seen) → IsIdle s x → (w : ℕ) → IsFoundAt caller s x caller gref w → Opens s x (missed w)) → Sound OkOrRefused (turn change caller gref missed)
+  turn-sound : (change : EntryChange) (gref : GrantRef) (missed : ℕ → Continuation) → ((w : ℕ) → Sound OkOrRefused (missed w)) → ((s : Step) (x : Observation) → IsIdle s x → (w : ℕ) → IsFoundAt caller s x caller gref w → Opens s x (missed w)) → Sound OkOrRefused (turn change caller gref missed)
   turn-sound change gref missed others opens =
       looks-sound OkOrRefused (LookControl caller gref)
       (λ word. cond (is_stopped change (control_of word)) (refused_at caller gref N19 word) (exchanges (Exchange gref word change) word (ended Granted) missed))
@@ -305,19 +305,19 @@ module _ (caller : DomId) where
       sound w false =
           exchanges-sound OkOrRefused (Exchange gref w change) w (ended Granted) missed (exchange-taken gref w change) (λ found. opens (Exchange gref w change) (Missed found) refl found (refl, refl, refl)) granted others
 
-  turns-opens : (change : Change) (gref : GrantRef) (more : ℕ) (s : Step) (x : Seen) → IsIdle s x → Opens s x (turns change caller gref more)
+  turns-opens : (change : EntryChange) (gref : GrantRef) (more : ℕ) (s : Step) (x : Observation) → IsIdle s x → Opens s x (turns change caller gref more)
   unfolding turns
   turns-opens change gref zero s x idle = then-step s x (turns change caller gref zero) (LookControl caller gref) idle refl
   turns-opens change gref (suc more) s x idle = then-step s x (turns change caller gref (suc more)) (LookControl caller gref) idle refl
 
-  turns-sound : (change : Change) (gref : GrantRef) (more : ℕ) → Sound OkOrRefused (turns change caller gref more)
+  turns-sound : (change : EntryChange) (gref : GrantRef) (more : ℕ) → Sound OkOrRefused (turns change caller gref more)
   unfolding turns
   turns-sound change gref zero =
       turn-sound change gref (refused_at caller gref N18) (λ w. refused (entry_refusal caller gref N18 w)) (λ s x idle w found. then-refused s x (entry_refusal caller gref N18 w) idle found)
   turns-sound change gref (suc more) =
       turn-sound change gref (λ found. turns change caller gref more) (λ w. turns-sound change gref more) (λ s x idle w found. turns-opens change gref more s x idle)
 
-  store-sound : (k : CallerKnowledge) (gref : GrantRef) (entry : Entry) (half : Half) (word : ℕ) → Sound OkOrRefused (makes (StoreBody gref half word) (publishes k caller gref entry))
+  store-sound : (k : CallerKnowledge) (gref : GrantRef) (entry : Entry) (half : BodyWord) (word : ℕ) → Sound OkOrRefused (makes (StoreBody gref half word) (publishes k caller gref entry))
   store-sound k gref entry half word =
       makes-sound OkOrRefused (StoreBody gref half word) (publishes k caller gref entry)
       (then-step (StoreBody gref half word) Nothing (publishes k caller gref entry) (Exchange gref (idle_word k gref) (Publish entry)) refl refl) (once-sound gref (idle_word k gref) (Publish entry))
@@ -333,7 +333,7 @@ module _ (caller : DomId) where
 
   -- calls of one step
 
-  unmaps-sound : (k : CallerKnowledge) (o : Option Held) (handle : Handle) → Sound OkOrRefused (by_mapping o (λ m. Unpin m (ByHandle handle)))
+  unmaps-sound : (k : CallerKnowledge) (o : Option HeldPin) (handle : Handle) → Sound OkOrRefused (by_mapping o (λ m. Unpin m (ByHandle handle)))
   unmaps-sound k None handle = refused (denial_of N6 NoFacts)
   unmaps-sound k (Some m) handle =
       makes-sound OkOrRefused (Unpin m (ByHandle handle)) (ended Granted) (first-is (Unpin m (ByHandle handle)) Nothing (ended Granted) (Done Granted) refl (tt, tt)) granted
@@ -341,52 +341,52 @@ module _ (caller : DomId) where
   -- the answers of each call
 
   module _ (k : CallerKnowledge) where
-    steps-sound : (request : Asked) → WaitsForNobody request → Sound (IsAnswerTo request) (steps_of k caller request)
+    steps-sound : (request : OpenRequest) → WaitsForNobody request → Sound (IsAnswerTo request) (steps_of k caller request)
     steps-sound (asks.Grant gref entry) w = let s = grants-sound k gref entry in record { ends = s.ends; answers = λ vs v e. ok v (s.answers vs v e) }
       where
-        ok : (v : Verdict) → OkOrRefused v → IsAnswerTo (asks.Grant gref entry) v
+        ok : (v : CallResult) → OkOrRefused v → IsAnswerTo (asks.Grant gref entry) v
         ok Granted h = tt
         ok (Refused d) h = tt
         ok (Mapped p) h = absurd h
         ok (Given x) h = absurd h
     steps-sound (asks.Revoke gref) w = let s = once-sound gref (idle_word k gref) ToInvalid in record { ends = s.ends; answers = λ vs v e. ok v (s.answers vs v e) }
       where
-        ok : (v : Verdict) → OkOrRefused v → IsAnswerTo (asks.Revoke gref) v
+        ok : (v : CallResult) → OkOrRefused v → IsAnswerTo (asks.Revoke gref) v
         ok Granted h = tt
         ok (Refused d) h = tt
         ok (Mapped p) h = absurd h
         ok (Given x) h = absurd h
     steps-sound (asks.Withdraw gref) w = let s = turns-sound ToWithdrawn gref 3 in record { ends = s.ends; answers = λ vs v e. ok v (s.answers vs v e) }
       where
-        ok : (v : Verdict) → OkOrRefused v → IsAnswerTo (asks.Withdraw gref) v
+        ok : (v : CallResult) → OkOrRefused v → IsAnswerTo (asks.Withdraw gref) v
         ok Granted h = tt
         ok (Refused d) h = tt
         ok (Mapped p) h = absurd h
         ok (Given x) h = absurd h
     steps-sound (asks.Demote gref) w = let s = turns-sound ToReadOnly gref 3 in record { ends = s.ends; answers = λ vs v e. ok v (s.answers vs v e) }
       where
-        ok : (v : Verdict) → OkOrRefused v → IsAnswerTo (asks.Demote gref) v
+        ok : (v : CallResult) → OkOrRefused v → IsAnswerTo (asks.Demote gref) v
         ok Granted h = tt
         ok (Refused d) h = tt
         ok (Mapped p) h = absurd h
         ok (Given x) h = absurd h
     steps-sound (asks.Promote gref) w = let s = turns-sound ToWritable gref 3 in record { ends = s.ends; answers = λ vs v e. ok v (s.answers vs v e) }
       where
-        ok : (v : Verdict) → OkOrRefused v → IsAnswerTo (asks.Promote gref) v
+        ok : (v : CallResult) → OkOrRefused v → IsAnswerTo (asks.Promote gref) v
         ok Granted h = tt
         ok (Refused d) h = tt
         ok (Mapped p) h = absurd h
         ok (Given x) h = absurd h
     steps-sound (asks.Unmap handle) w = let s = unmaps-sound k (k.mapping handle) handle in record { ends = s.ends; answers = λ vs v e. ok v (s.answers vs v e) }
       where
-        ok : (v : Verdict) → OkOrRefused v → IsAnswerTo (asks.Unmap handle) v
+        ok : (v : CallResult) → OkOrRefused v → IsAnswerTo (asks.Unmap handle) v
         ok Granted h = tt
         ok (Refused d) h = tt
         ok (Mapped p) h = absurd h
         ok (Given x) h = absurd h
     steps-sound (asks.Map dom gref flags) w = let s = leg-sound (map_leg k caller dom gref flags) in record { ends = s.ends; answers = λ vs v e. ok v (s.answers vs v e) }
       where
-        ok : (v : Verdict) → MapAnswer v → IsAnswerTo (asks.Map dom gref flags) v
+        ok : (v : CallResult) → MapAnswer v → IsAnswerTo (asks.Map dom gref flags) v
         ok Granted h = absurd h
         ok (Refused d) h = tt
         ok (Mapped p) h = tt
@@ -399,10 +399,10 @@ module _ (caller : DomId) where
         makes-sound (IsAnswerTo (asks.SetupTable frames)) step (ended answer) (first-is step Nothing (ended answer) (Done answer) refl (tt, tt)) (ended-sound (IsAnswerTo (asks.SetupTable frames)) answer tt)
     steps-sound (asks.QuerySize dom) w =
         let step = LookHeader (resolved caller dom) in
-        looks-sound (IsAnswerTo (asks.QuerySize dom)) step (λ word. ended (told_to Size word)) (λ n. first-is step (Word n) (ended (told_to Size n)) (Done (told_to Size n)) refl (tt, tt)) (λ n. ended-sound (IsAnswerTo (asks.QuerySize dom)) (told_to Size n) tt)
+        looks-sound (IsAnswerTo (asks.QuerySize dom)) step (λ word. ended (header_value_of Size word)) (λ n. first-is step (Word n) (ended (header_value_of Size n)) (Done (header_value_of Size n)) refl (tt, tt)) (λ n. ended-sound (IsAnswerTo (asks.QuerySize dom)) (header_value_of Size n) tt)
     steps-sound (asks.GetVersion dom) w =
         let step = LookHeader (resolved caller dom) in
-        looks-sound (IsAnswerTo (asks.GetVersion dom)) step (λ word. ended (told_to Version word)) (λ n. first-is step (Word n) (ended (told_to Version n)) (Done (told_to Version n)) refl (tt, tt)) (λ n. ended-sound (IsAnswerTo (asks.GetVersion dom)) (told_to Version n) tt)
+        looks-sound (IsAnswerTo (asks.GetVersion dom)) step (λ word. ended (header_value_of Version word)) (λ n. first-is step (Word n) (ended (header_value_of Version n)) (Done (header_value_of Version n)) refl (tt, tt)) (λ n. ended-sound (IsAnswerTo (asks.GetVersion dom)) (header_value_of Version n) tt)
     steps-sound (asks.Load handle off len) w = absurd w
     steps-sound (asks.Store handle off len) w = absurd w
     steps-sound (asks.Peek frame off len) w = absurd w
@@ -410,5 +410,5 @@ module _ (caller : DomId) where
     steps-sound (asks.Copy c) w = absurd w
 
     -- a call that was not answered at its beginning
-    pub path-sound : (request : Asked) → WaitsForNobody request → begun k caller request ≡ None → Sound (IsAnswerTo request) (path k caller request)
-    path-sound request w none = subst (λ (o : Option Verdict). Sound (IsAnswerTo request) (after_beginning o (steps_of k caller request))) (sym none) (steps-sound request w)
+    pub path-sound : (request : OpenRequest) → WaitsForNobody request → begun k caller request ≡ None → Sound (IsAnswerTo request) (path k caller request)
+    path-sound request w none = subst (λ (o : Option CallResult). Sound (IsAnswerTo request) (after_beginning o (steps_of k caller request))) (sym none) (steps-sound request w)

@@ -8,17 +8,17 @@ use Rattle.gt_words.specs.Rule.{Layout}
 use Rattle.gt_words.specs.declared.view.View.{View}
 use Rattle.gt_calls.specs.declared.action.Action.{Action}
 use Rattle.gt_calls.specs.declared.action.Action.TheVariants.{Step as Makes}
-use Rattle.gt_calls.specs.declared.action.Seen.{Seen}
-use Rattle.gt_calls.specs.declared.action.Seen.TheVariants.{Nothing}
+use Rattle.gt_calls.specs.declared.action.Observation.{Observation}
+use Rattle.gt_calls.specs.declared.action.Observation.TheVariants.{Nothing}
 use Rattle.gt_calls.specs.declared.action.Step.TheVariants.{Unpin}
-use Rattle.gt_calls.specs.declared.action.Verdict.TheVariants.{Granted, Refused}
+use Rattle.gt_calls.specs.declared.action.CallResult.TheVariants.{Granted, Refused}
 use Rattle.gt_calls.specs.declared.call.Phase.{Phase}
 use Rattle.gt_calls.specs.declared.call.Phase.TheVariants.{Ending}
-use Rattle.gt_calls.specs.declared.held.Held.{Held}
-use Rattle.gt_calls.specs.declared.held.Pins.{Pins}
-use Rattle.gt_calls.specs.declared.held.Route.{Route}
-use Rattle.gt_calls.specs.declared.held.Route.TheVariants.{Own, Direct, Through}
-use Rattle.gt_calls.specs.declared.request.Holder.TheVariants.{Leg as ByLeg}
+use Rattle.gt_calls.specs.declared.held.HeldPin.{HeldPin}
+use Rattle.gt_calls.specs.declared.held.CallPins.{CallPins}
+use Rattle.gt_calls.specs.declared.held.AccessPath.{AccessPath}
+use Rattle.gt_calls.specs.declared.held.AccessPath.TheVariants.{Own, Direct, Through}
+use Rattle.gt_calls.specs.declared.request.PinHolder.TheVariants.{Leg as ByLeg}
 use Rattle.gt_calls.specs.Holding.{held_by, last_first, no_pins, without_last}
 use Rattle.gt_calls.specs.Machine.{next_to_give}
 use Rattle.gt_calls.specs.Path.{Continuation, give_back}
@@ -33,14 +33,14 @@ use Rattle.gt_live.proofs.Phases.{can-then, runs-none, runs-on}
 use Rattle.gt_live.proofs.Taking.{holds-taken, taken-unpin}
 
 -- pins of all of these are being given back, and these are left
-record Giving (k : Layout) (all : List Held) (v w : View) (left : List Held) : Type 0 where
+record Giving (k : Layout) (all : List HeldPin) (v w : View) (left : List HeldPin) : Type 0 where
   steps : List _
   view : w ≡ view_after steps v
   walked : IsWalk k (give_back all Granted) v steps
-  leads : (vs : List Seen) → give_back all Granted (all_shown steps ++ vs) ≡ give_back left Granted vs
+  leads : (vs : List Observation) → give_back all Granted (all_shown steps ++ vs) ≡ give_back left Granted vs
 
 module _ (k : Layout) where
-  giving-on : (all : List Held) (v u w : View) (p : Held) (left : List Held) → Giving k all v u (p ∷ left)
+  giving-on : (all : List HeldPin) (v u w : View) (p : HeldPin) (left : List HeldPin) → Giving k all v u (p ∷ left)
       → Made k (Unpin p (ByLeg 0)) Nothing u w → Giving k all v w left
   giving-on all v u w p left g made =
       let s = Unpin p (ByLeg (length left)) in let way : Continuation = give_back all Granted in
@@ -51,7 +51,7 @@ module _ (k : Layout) where
       let next : way (all_shown g.steps) ≡ Some (Makes s) = ap way (sym (append-nil (all_shown g.steps))) ∙ g.leads [] in
       let m2 : Made k s (shown_by gain.step) mid (view_after (gain.step ∷ g.steps) v) =
       subst (λ (z : View). Made k s (shown_by gain.step) mid z) view
-      (subst (λ (y : Seen). Made k s y mid w) (sym gain.shows) m1) in
+      (subst (λ (y : Observation). Made k s y mid w) (sym gain.shows) m1) in
       record {
         steps = gain.step ∷ g.steps;
         view = view;
@@ -61,29 +61,29 @@ module _ (k : Layout) where
           g.walked,
         );
         leads = λ vs.
-            ap (λ (y : Seen). way ((all_shown g.steps ++ y ∷ []) ++ vs)) gain.shows
+            ap (λ (y : Observation). way ((all_shown g.steps ++ y ∷ []) ++ vs)) gain.shows
             ∙ (ap way (append_assoc (all_shown g.steps) (Nothing ∷ []) vs) ∙ g.leads (Nothing ∷ vs));
       }
 
-  giving-all : (all : List Held) (v u w : View) (left : List Held) → Giving k all v u left → IsGivenBack k left u w
+  giving-all : (all : List HeldPin) (v u w : View) (left : List HeldPin) → Giving k all v u left → IsGivenBack k left u w
       → Giving k all v w []
   giving-all all v u w [] g x = subst (λ (z : View). Giving k all v z []) (sym x) g
   giving-all all v u w (p ∷ left) g x = giving-all all v x.0 w left (giving-on all v u x.0 p left g x.1) x.2
 
   -- all that were taken are gone
-  pub given-taken : (ps rest : List Held) (base v w : View) → IsGivenBack k ps v w → HasTaken k (ps ++ rest) base v
+  pub given-taken : (ps rest : List HeldPin) (base v w : View) → IsGivenBack k ps v w → HasTaken k (ps ++ rest) base v
       → HasTaken k rest base w
   given-taken [] rest base v w x taken = subst (λ (z : View). HasTaken k rest base z) (sym x) taken
   given-taken (p ∷ ps) rest base v w x taken =
       given-taken ps rest base x.0 w x.2 (taken-unpin k p (ps ++ rest) base v x.0 x.1 taken)
 
-  pub given-both : (ps qs : List Held) (v u w : View) → IsGivenBack k ps v u → IsGivenBack k qs u w
+  pub given-both : (ps qs : List HeldPin) (v u w : View) → IsGivenBack k ps v u → IsGivenBack k qs u w
       → IsGivenBack k (ps ++ qs) v w
   given-both [] qs v u w x y = subst (λ (z : View). IsGivenBack k qs z w) x y
   given-both (p ∷ ps) qs v u w x y = (x.0, x.1, given-both ps qs x.0 u w x.2 y)
 
   -- the pins of a copy at its access
-  pub gives-back : (routes : Pins) (v w : View) → IsGivenBack k (last_first routes) v w → GivesBack k routes v w
+  pub gives-back : (routes : CallPins) (v w : View) → IsGivenBack k (last_first routes) v w → GivesBack k routes v w
   gives-back routes v w x =
       let all = last_first routes in
       let g = giving-all all v v w all (record { steps = []; view = refl; walked = tt; leads = λ vs. refl }) x in
@@ -93,16 +93,16 @@ module _ (k : Layout) where
         walked = g.walked;
         ended = ap (give_back all Granted) (sym (append-nil (all_shown g.steps))) ∙ g.leads [];
         back = λ base taken. given-taken all [] base v w x
-            (subst (λ (ps : List Held). HasTaken k ps base v) (sym (append-nil all)) taken);
+            (subst (λ (ps : List HeldPin). HasTaken k ps base v) (sym (append-nil all)) taken);
       }
 
   -- the same, by what the pins are
-  pub gives-routes : (routes others : Pins) (v w : View) → routes ≡ others → GivesBack k routes v w
+  pub gives-routes : (routes others : CallPins) (v w : View) → routes ≡ others → GivesBack k routes v w
       → GivesBack k others v w
-  gives-routes routes others v w is x = subst (λ (p : Pins). GivesBack k p v w) is x
+  gives-routes routes others v w is x = subst (λ (p : CallPins). GivesBack k p v w) is x
 
   -- pins that were taken can be given back
-  pub can-give : (ps rest : List Held) (base v : View) → HasTaken k (ps ++ rest) base v → AreOfRun k ps
+  pub can-give : (ps rest : List HeldPin) (base v : View) → HasTaken k (ps ++ rest) base v → AreOfRun k ps
       → CanGiveBack k ps v
   can-give [] rest base v taken all = tt
   can-give (p ∷ ps) rest base v taken all = (
@@ -110,37 +110,37 @@ module _ (k : Layout) where
     λ u made. can-give ps rest base u (taken-unpin k p (ps ++ rest) base v u made taken) all.1,
   )
 
-  pub dest-run : (ps qs : List Held) → AreOfRun k (ps ++ qs) → AreOfRun k ps
+  pub dest-run : (ps qs : List HeldPin) → AreOfRun k (ps ++ qs) → AreOfRun k ps
   dest-run [] qs all = tt
   dest-run (p ∷ ps) qs all = (all.0, dest-run ps qs all.1)
 
-  pub source-run : (ps qs : List Held) → AreOfRun k (ps ++ qs) → AreOfRun k qs
+  pub source-run : (ps qs : List HeldPin) → AreOfRun k (ps ++ qs) → AreOfRun k qs
   source-run [] qs all = all
   source-run (p ∷ ps) qs all = source-run ps qs all.1
 
   -- at the end of a refused copy its last pin is given back
   module _ (c : CallerKnowledge) (caller : DomId) (start : Phase) (v : View) where
-    pub can-last : (pins : Pins) (denial : Denial) (p : Held) (others : List Held) (u : View)
+    pub can-last : (pins : CallPins) (denial : Denial) (p : HeldPin) (others : List HeldPin) (u : View)
         → last_first pins ≡ p ∷ others → CanRun c k caller start v
         → Runs c k caller start v (Ending pins (Refused denial)) u → CanMake k u (Unpin p (ByLeg 0))
     can-last pins denial p others u is can x =
         can (Ending pins (Refused denial)) u (Unpin p (ByLeg (length others))) x
-        (ap (λ (ps : List Held). next_to_give ps (Refused denial)) is) (λ from to len e. cc)
+        (ap (λ (ps : List HeldPin). next_to_give ps (Refused denial)) is) (λ from to len e. cc)
 
-    pub last-given : (pins : Pins) (denial : Denial) (p : Held) (others : List Held) (u w : View)
+    pub last-given : (pins : CallPins) (denial : Denial) (p : HeldPin) (others : List HeldPin) (u w : View)
         → last_first pins ≡ p ∷ others → Runs c k caller start v (Ending pins (Refused denial)) u
         → Made k (Unpin p (ByLeg 0)) Nothing u w
         → Runs c k caller start v (Ending (without_last pins) (Refused denial)) w
     last-given pins denial p others u w is x made =
         runs-on c k caller start (Ending pins (Refused denial)) Nothing v u w x
-        (subst (λ (ps : List Held). MakesStep k (Some (next_to_give ps (Refused denial))) Nothing u w) (sym is) made)
+        (subst (λ (ps : List HeldPin). MakesStep k (Some (next_to_give ps (Refused denial))) Nothing u w) (sym is) made)
 
   -- at the end of a copy that its destination refused, the pins of its source are given back
-  abbrev pub only_source : Route → Pins
+  abbrev pub only_source : AccessPath → CallPins
   only_source source = record { source = source; dest = Own }
 
   module _ (c : CallerKnowledge) (caller : DomId) (denial : Denial) where
-    can-give-one : (p : Held) (u : View)
+    can-give-one : (p : HeldPin) (u : View)
         → CanRun c k caller (Ending (only_source (Direct p)) (Refused denial)) u → CanGiveBack k (p ∷ []) u
     can-give-one p u can = (
       can-last c caller (Ending (only_source (Direct p)) (Refused denial)) u (only_source (Direct p)) denial p [] u refl
@@ -148,7 +148,7 @@ module _ (k : Layout) where
       λ w made. tt,
     )
 
-    pub can-give-source : (source : Route) (u : View)
+    pub can-give-source : (source : AccessPath) (u : View)
         → CanRun c k caller (Ending (only_source source) (Refused denial)) u → CanGiveBack k (held_by source) u
     can-give-source Own u can = tt
     can-give-source (Direct p) u can = can-give-one p u can
@@ -164,7 +164,7 @@ module _ (k : Layout) where
               (runs-none c k caller _ u) made)),
         )
 
-    pub source-given : (source : Route) (u w : View) → IsGivenBack k (held_by source) u w
+    pub source-given : (source : AccessPath) (u w : View) → IsGivenBack k (held_by source) u w
         → Runs c k caller (Ending (only_source source) (Refused denial)) u (Ending no_pins (Refused denial)) w
     source-given Own u w x =
         subst (λ (z : View). Runs c k caller (Ending no_pins (Refused denial)) u (Ending no_pins (Refused denial)) z)

@@ -15,12 +15,12 @@ use Rattle.gt_types.specs.declared.denial.Rule.{Rule}
 use Rattle.gt_types.specs.declared.denial.Rule.TheVariants.{N5, N6, N9, N18, N19, N20, N22, N25}
 use Rattle.gt_types.specs.declared.denial.Facts.TheVariants as facts
 use Rattle.gt_types.specs.Denial.{denial_of}
-use Rattle.gt_entry.specs.declared.change.Change.{Change}
-use Rattle.gt_entry.specs.declared.change.Change.TheVariants.{Demote as ToReadOnly, Promote as ToWritable, Publish}
-use Rattle.gt_entry.specs.declared.change.Change.TheVariants.{Revoke as ToInvalid, Withdraw as ToWithdrawn}
-use Rattle.gt_entry.specs.declared.change.Half.TheVariants.{First as FirstHalf, Second as SecondHalf}
+use Rattle.gt_entry.specs.declared.change.EntryChange.{EntryChange}
+use Rattle.gt_entry.specs.declared.change.EntryChange.TheVariants.{Demote as ToReadOnly, Promote as ToWritable, Publish}
+use Rattle.gt_entry.specs.declared.change.EntryChange.TheVariants.{Revoke as ToInvalid, Withdraw as ToWithdrawn}
+use Rattle.gt_entry.specs.declared.change.BodyWord.TheVariants.{First as FirstHalf, Second as SecondHalf}
 use Rattle.gt_entry.specs.declared.control.Control.{Control}
-use Rattle.gt_entry.specs.declared.control.Kind.TheVariants.{Sub as KindSub}
+use Rattle.gt_entry.specs.declared.control.EntryKind.TheVariants.{Sub as KindSub}
 use Rattle.gt_entry.specs.declared.entry.Entry.{Entry}
 use Rattle.gt_entry.specs.declared.entry.Entry.TheVariants.{Invalid, Page, Sub, Via}
 use Rattle.gt_entry.specs.Bytes.{first_refused}
@@ -40,23 +40,23 @@ use Rattle.gt_words.specs.declared.view.SeatStep.{SeatStep}
 use Rattle.gt_words.specs.declared.view.View.{View}
 use Rattle.gt_calls.specs.declared.action.Action.{Action}
 use Rattle.gt_calls.specs.declared.action.Action.TheVariants.{Done, Step as Makes}
-use Rattle.gt_calls.specs.declared.action.Seen.{Seen}
-use Rattle.gt_calls.specs.declared.action.Seen.TheVariants.{Missed, Nothing, Taken, Word}
+use Rattle.gt_calls.specs.declared.action.Observation.{Observation}
+use Rattle.gt_calls.specs.declared.action.Observation.TheVariants.{Missed, Nothing, Taken, Word}
 use Rattle.gt_calls.specs.declared.action.Step.{Step}
 use Rattle.gt_calls.specs.declared.action.Step.TheVariants.{Exchange, LookBody, LookControl, LookHeader, Pin, StoreBody}
 use Rattle.gt_calls.specs.declared.action.Step.TheVariants.{StoreHeader, Unpin, Read as ReadBytes, Write as WriteBytes}
 use Rattle.gt_calls.specs.declared.action.Step.TheVariants.{Copy as CopyBytes}
-use Rattle.gt_calls.specs.declared.action.Verdict.{Verdict}
-use Rattle.gt_calls.specs.declared.action.Verdict.TheVariants.{Granted, Mapped, Refused}
-use Rattle.gt_calls.specs.declared.held.Held.{Held}
-use Rattle.gt_calls.specs.declared.held.Route.{Route}
-use Rattle.gt_calls.specs.declared.held.Route.TheVariants.{Direct, Own, Through}
+use Rattle.gt_calls.specs.declared.action.CallResult.{CallResult}
+use Rattle.gt_calls.specs.declared.action.CallResult.TheVariants.{Granted, Mapped, Refused}
+use Rattle.gt_calls.specs.declared.held.HeldPin.{HeldPin}
+use Rattle.gt_calls.specs.declared.held.AccessPath.{AccessPath}
+use Rattle.gt_calls.specs.declared.held.AccessPath.TheVariants.{Direct, Own, Through}
 use Rattle.gt_calls.specs.declared.leg.Leg.{Leg}
 use Rattle.gt_calls.specs.declared.leg.TheConstants.{MORE_TRIES}
-use Rattle.gt_calls.specs.declared.request.Asked.{Asked}
-use Rattle.gt_calls.specs.declared.request.Asked.TheVariants as asks
+use Rattle.gt_calls.specs.declared.request.OpenRequest.{OpenRequest}
+use Rattle.gt_calls.specs.declared.request.OpenRequest.TheVariants as asks
 use Rattle.gt_types.specs.declared.copies.CopyArgs.{CopyArgs}
-use Rattle.gt_calls.specs.declared.request.Holder.TheVariants.{Leg as ByLeg}
+use Rattle.gt_calls.specs.declared.request.PinHolder.TheVariants.{Leg as ByLeg}
 use Rattle.gt_calls.specs.declared.request.Request.{Request}
 use Rattle.gt_calls.specs.Asking.{asked, begun_by, begun_of, bytes_of, field_refused, plainly_asked}
 use Rattle.gt_calls.specs.Holding.{held_by}
@@ -82,15 +82,15 @@ append-none (x ∷ xs) = ap (λ (zs : List _). x ∷ zs) (append-none xs)
 
 map-snoc : (xs : List SeatStep) (x : SeatStep) → map seen_in_step (xs ++ x ∷ []) ≡ map seen_in_step xs ++ seen_in_step x ∷ []
 map-snoc [] x = refl
-map-snoc (y ∷ ys) x = ap (λ (zs : List Seen). seen_in_step y ∷ zs) (map-snoc ys x)
+map-snoc (y ∷ ys) x = ap (λ (zs : List Observation). seen_in_step y ∷ zs) (map-snoc ys x)
 
 shown-in-order : (xs : List Moment) → all_shown xs ≡ map seen_in_step (in_order xs)
 shown-in-order [] = refl
-shown-in-order (x ∷ xs) = ap (λ (zs : List Seen). zs ++ shown_by x ∷ []) (shown-in-order xs) ∙ sym (map-snoc (in_order xs) x.1)
+shown-in-order (x ∷ xs) = ap (λ (zs : List Observation). zs ++ shown_by x ∷ []) (shown-in-order xs) ∙ sym (map-snoc (in_order xs) x.1)
 
 -- the rules at a beginning, and after the pin of a Via, are others than N18
 
-abbrev Not18 : Option Verdict → Type 0
+abbrev Not18 : Option CallResult → Type 0
 Not18 o = (den : Denial) → o ≡ Some (Refused den) → den.rule ≢ N18
 
 not-denied : (may : TypeId → TypeId → Perms → Bool) (ts : List Triple) → Not18 (denied may ts)
@@ -108,13 +108,13 @@ not-field (Some f) = λ den e is. let same : denial_of N25 (facts.Field f) ≡ d
 not-via : (c : CallerKnowledge) (pair : DomId × DomId) (dom : DomId) → Not18 (via_judged c pair dom)
 not-via c pair dom den e is = grind (arith, not-denied)
 
-not-begun : (c : CallerKnowledge) (caller : DomId) (request : Asked) → Not18 (begun c caller request)
+not-begun : (c : CallerKnowledge) (caller : DomId) (request : OpenRequest) → Not18 (begun c caller request)
 not-begun c caller request den e is = grind (arith, not-denied)
 
 plain-rule : (rule : Rule) → rule ≢ N18 → Not18 (Some (Refused (denial_of rule facts.None)))
 plain-rule rule n den e is = n (let same : denial_of rule facts.None ≡ den = cc in ap (λ (z : Denial). z.rule) same ∙ is)
 
-not-bytes : (a b c : Bool) (o : Option Verdict) → Not18 o → Not18 (first (refused_when a N9 ∷ (refused_when b N20 ∷ (refused_when c N22 ∷ (o ∷ [])))))
+not-bytes : (a b c : Bool) (o : Option CallResult) → Not18 o → Not18 (first (refused_when a N9 ∷ (refused_when b N20 ∷ (refused_when c N22 ∷ (o ∷ [])))))
 not-bytes true b c o n = plain-rule N9 (λ e. cc)
 not-bytes false true c o n = plain-rule N20 (λ e. cc)
 not-bytes false false true o n = plain-rule N22 (λ e. cc)
@@ -154,7 +154,7 @@ module _ (k : Layout) (p : ℕ) where
     own : (q : ℕ) (m : EntryStep) → x ≡ on_entry v.position q m → x ≡ on_entry p q m
     own q m e = e ∙ ap (λ (t : ℕ). on_entry t q m) at
 
-    made-is : (s : Step) (seen : Seen) → Made k s seen v w → Is s x
+    made-is : (s : Step) (seen : Observation) → Made k s seen v w → Is s x
     made-is (LookHeader d) (Word n) m = (n, same _ _ m.steps.adds.view)
     made-is (LookControl d q) (Word n) m = (n, same _ _ m.0.steps.adds.view)
     made-is (LookBody d q half) (Word n) m = (n, same _ _ m.steps.adds.view)
@@ -192,7 +192,7 @@ module _ (k : Layout) (p : ℕ) where
   goes : (way : Continuation) (v : View) (xs : List Moment) → v.position ≡ p → IsWalk k way v xs → Goes way (in_order xs)
   goes way v [] at walk = tt
   goes way v (x ∷ xs) at walk =
-      let next : IsNext (way (map seen_in_step (in_order xs))) x.1 = subst (λ (zs : List Seen). IsNext (way zs) x.1) (shown-in-order xs) (by (way (all_shown xs)) walk.0) in
+      let next : IsNext (way (map seen_in_step (in_order xs))) x.1 = subst (λ (zs : List Observation). IsNext (way zs) x.1) (shown-in-order xs) (by (way (all_shown xs)) walk.0) in
       goes-more way (in_order xs) x.1 (goes way v xs at walk.1) next
     where
       by : (o : Option Action) → MakesStep k o (shown_by x) (view_after xs v) (view_after (x ∷ xs) v) → IsNext o x.1
@@ -212,7 +212,7 @@ module _ (k : Layout) (p : ℕ) where
     none-ends : None ≡ Some (Done (Refused d)) → ⊥
     none-ends e = cc
 
-    is-refused : (verdict : Verdict) → Some (Done verdict) ≡ Some (Done (Refused d)) → verdict ≡ Refused d
+    is-refused : (verdict : CallResult) → Some (Done verdict) ≡ Some (Done (Refused d)) → verdict ≡ Refused d
     is-refused verdict e = cc
 
     same-denial : (den : Denial) → Refused den ≡ Refused d → d ≡ den
@@ -228,13 +228,13 @@ module _ (k : Layout) (p : ℕ) where
         → (n : ℕ) × (zs : List SeatStep) × (ys ≡ shape n ∷ zs) × Ends (follows n) zs
     looks-on step follows shape look shows [] e = absurd (no-end step e.1)
     looks-on step follows shape look shows (x ∷ zs) e = let is = look x e.0.0 in let word = ap seen_in_step is.1 ∙ shows is.0 in
-        (is.0, zs, (λ i. is.1 i ∷ zs), subst (λ (s : Seen). Goes (λ vs. looks step follows (s ∷ vs)) zs × (looks step follows (s ∷ map seen_in_step zs) ≡ Some (Done (Refused d)))) word (e.0.1, e.1))
+        (is.0, zs, (λ i. is.1 i ∷ zs), subst (λ (s : Observation). Goes (λ vs. looks step follows (s ∷ vs)) zs × (looks step follows (s ∷ map seen_in_step zs) ≡ Some (Done (Refused d)))) word (e.0.1, e.1))
 
     -- a way that never ends so
     abbrev Never : Continuation → Type 0
     Never way = (ys : List SeatStep) → way (map seen_in_step ys) ≡ Some (Done (Refused d)) → ⊥
 
-    never-ended : (verdict : Verdict) → (verdict ≡ Refused d → ⊥) → Never (ended verdict)
+    never-ended : (verdict : CallResult) → (verdict ≡ Refused d → ⊥) → Never (ended verdict)
     never-ended verdict n [] e = n (is-refused verdict e)
     never-ended verdict n (x ∷ xs) e = none-ends e
 
@@ -245,7 +245,7 @@ module _ (k : Layout) (p : ℕ) where
     never-makes step follows n [] e = no-end step e
     never-makes step follows n (x ∷ xs) e = by (seen_in_step x) e
       where
-        by : (s : Seen) → makes step follows (s ∷ map seen_in_step xs) ≡ Some (Done (Refused d)) → ⊥
+        by : (s : Observation) → makes step follows (s ∷ map seen_in_step xs) ≡ Some (Done (Refused d)) → ⊥
         by Nothing q = n xs q
         by (Word w) q = none-ends q
         by Taken q = none-ends q
@@ -255,7 +255,7 @@ module _ (k : Layout) (p : ℕ) where
     never-looks step follows n [] e = no-end step e
     never-looks step follows n (x ∷ xs) e = by (seen_in_step x) e
       where
-        by : (s : Seen) → looks step follows (s ∷ map seen_in_step xs) ≡ Some (Done (Refused d)) → ⊥
+        by : (s : Observation) → looks step follows (s ∷ map seen_in_step xs) ≡ Some (Done (Refused d)) → ⊥
         by (Word w) q = n w xs q
         by Nothing q = none-ends q
         by Taken q = none-ends q
@@ -269,7 +269,7 @@ module _ (k : Layout) (p : ℕ) where
         either-way w true q = none-ends q
         either-way w false q = m w xs q
 
-        by : (s : Seen) → exchanges step looked taken missed (s ∷ map seen_in_step xs) ≡ Some (Done (Refused d)) → ⊥
+        by : (s : Observation) → exchanges step looked taken missed (s ∷ map seen_in_step xs) ≡ Some (Done (Refused d)) → ⊥
         by Taken q = n xs q
         by (Missed w) q = either-way w (w == looked) q
         by Nothing q = none-ends q
@@ -278,25 +278,25 @@ module _ (k : Layout) (p : ℕ) where
     granted-never : Granted ≡ Refused d → ⊥
     granted-never e = cc
 
-    never-back : (ps : List Held) (verdict : Verdict) → (verdict ≡ Refused d → ⊥) → Never (give_back ps verdict)
+    never-back : (ps : List HeldPin) (verdict : CallResult) → (verdict ≡ Refused d → ⊥) → Never (give_back ps verdict)
     never-back [] verdict n = never-ended verdict n
     never-back (h ∷ hs) verdict n = never-makes (Unpin h (ByLeg (length hs))) (give_back hs verdict) (never-back hs verdict n)
 
     -- the end of a refused leg
-    gives-back : (ps : List Held) (verdict : Verdict) (ys : List SeatStep) → Ends (give_back ps verdict) ys → (verdict ≡ Refused d) × AreUnpins ys
+    gives-back : (ps : List HeldPin) (verdict : CallResult) (ys : List SeatStep) → Ends (give_back ps verdict) ys → (verdict ≡ Refused d) × AreUnpins ys
     gives-back [] verdict [] e = (is-refused verdict e.1, tt)
     gives-back [] verdict (y ∷ ys) e = absurd (none-ends e.1)
     gives-back (h ∷ hs) verdict [] e = absurd (no-end (Unpin h (ByLeg (length hs))) e.1)
     gives-back (h ∷ hs) verdict (y ∷ ys) e =
         let is = e.0.0 in let none : seen_in_step y ≡ Nothing = ap seen_in_step is.1 in
-        let rest = gives-back hs verdict ys (subst (λ (s : Seen). Goes (λ vs. give_back (h ∷ hs) verdict (s ∷ vs)) ys × (give_back (h ∷ hs) verdict (s ∷ map seen_in_step ys) ≡ Some (Done (Refused d)))) none (e.0.1, e.1)) in
+        let rest = gives-back hs verdict ys (subst (λ (s : Observation). Goes (λ vs. give_back (h ∷ hs) verdict (s ∷ vs)) ys × (give_back (h ∷ hs) verdict (s ∷ map seen_in_step ys) ≡ Some (Done (Refused d)))) none (e.0.1, e.1)) in
         (rest.0, ((position_in k.ids h.dom, h.gref.0, is.0, h.dir, is.1), rest.1))
 
     -- a refusal gives all pins back
     abbrev GivesBack : AfterRefusal → Type 0
     GivesBack refused = (den : Denial) (ys : List SeatStep) → Ends (refused den) ys → (d ≡ den) × AreUnpins ys
 
-    holding : (held : List Held) → GivesBack (refused_holding held)
+    holding : (held : List HeldPin) → GivesBack (refused_holding held)
     holding held den ys e = let b = gives-back held (Refused den) ys e in (same-denial den b.0, b.1)
 
     -- the words that four tries found, and what came before them
@@ -381,7 +381,7 @@ module _ (k : Layout) (p : ℕ) where
     before-pin18 l entry n e = grind arith
 
     -- a leg's try
-    module _ (l : Leg) (refused : AfterRefusal) (back : GivesBack refused) (pinned : AfterPin) (on : (h : Held) (ys : List SeatStep) → Ends (pinned h) ys → LegTried ys) where
+    module _ (l : Leg) (refused : AfterRefusal) (back : GivesBack refused) (pinned : AfterPin) (on : (h : HeldPin) (ys : List SeatStep) → Ends (pinned h) ys → LegTried ys) where
       abbrev t : ℕ
       t = position_in k.ids l.dom
 
@@ -401,12 +401,12 @@ module _ (k : Layout) (p : ℕ) where
         ends-missed looked reads bodies m found ys another e =
             inl (found, on_entry t r (Looked looked) ∷ (reads ++ on_entry t r m ∷ []), ys, (λ i. on_entry t r (Looked looked) ∷ sym (append_assoc reads (on_entry t r m ∷ []) ys) i), record { looked = looked; reads = reads; last = m; made = refl; bodies = bodies; another = another }, e)
 
-        last-found : (looked : ℕ) (reads : List SeatStep) (bodies : AreReads t r reads) (h : Held) → h.word ≡ looked → h.dom ≡ l.dom → h.gref ≡ l.gref → (o : Option Rule) → (o ≡ Some N18 → ⊥) → (ys : List SeatStep) → Ends (last_step l h o refused missed pinned) ys
+        last-found : (looked : ℕ) (reads : List SeatStep) (bodies : AreReads t r reads) (h : HeldPin) → h.word ≡ looked → h.dom ≡ l.dom → h.gref ≡ l.gref → (o : Option Rule) → (o ≡ Some N18 → ⊥) → (ys : List SeatStep) → Ends (last_step l h o refused missed pinned) ys
             → After (on_entry t r (Looked looked) ∷ (reads ++ ys))
         last-found looked reads bodies h word dom gref None n [] e = absurd (no-end (Pin h) e.1)
         last-found looked reads bodies h word dom gref None n (x ∷ xs) e = ⊎_elim taken missed-pin e.0.0
           where
-            Way : Seen → Type 0
+            Way : Observation → Type 0
             Way s = Goes (λ vs. pins h missed pinned (s ∷ vs)) xs × (pins h missed pinned (s ∷ map seen_in_step xs) ≡ Some (Done (Refused d)))
 
             taken : (y : EntryRecord) × (x ≡ on_entry (position_in k.ids h.dom) h.gref.0 (Pinned h.dir h.word y)) → After (on_entry t r (Looked looked) ∷ (reads ++ x ∷ xs))
@@ -481,13 +481,13 @@ module _ (k : Layout) (p : ℕ) where
     map-found : (c : CallerKnowledge) (caller dom : DomId) (gref : GrantRef) (flags : ℕ) (ys : List SeatStep) → Ends (steps_of c caller (asks.Map dom gref flags)) ys → LegTried ys
     map-found c caller dom gref flags ys e = leg-found (map_leg c caller dom gref flags) (refused_holding []) (holding []) (λ h. ended (Mapped h)) (λ h zs f. absurd (never-ended (Mapped h) (λ q. cc) zs f.1)) ys e
 
-    via-refused : (c : CallerKnowledge) (pair : DomId × DomId) (dom : DomId) (o : Option Verdict) → via_judged c pair dom ≡ o → (held : List Held) (goes_on : Continuation) (ys : List SeatStep) → (Ends goes_on ys → LegTried ys) → Ends (unless_refused o held goes_on) ys → LegTried ys
+    via-refused : (c : CallerKnowledge) (pair : DomId × DomId) (dom : DomId) (o : Option CallResult) → via_judged c pair dom ≡ o → (held : List HeldPin) (goes_on : Continuation) (ys : List SeatStep) → (Ends goes_on ys → LegTried ys) → Ends (unless_refused o held goes_on) ys → LegTried ys
     via-refused c pair dom None is held goes_on ys rest e = rest e
     via-refused c pair dom (Some verdict) is held goes_on ys rest e = let b = gives-back held verdict ys e in
-        absurd (not-via c pair dom d (is ∙ ap (λ (v : Verdict). Some v) b.0) is18)
+        absurd (not-via c pair dom d (is ∙ ap (λ (v : CallResult). Some v) b.0) is18)
 
-    module _ (c : CallerKnowledge) (pair : DomId → DomId × DomId) (held : List Held) (reached : Route → Continuation) (on : (route : Route) (ys : List SeatStep) → Ends (reached route) ys → LegTried ys) where
-      beyond-found : (l : Leg) (h : Held) (entry : Entry) (ys : List SeatStep) → Ends (beyond c l pair held reached h entry) ys → LegTried ys
+    module _ (c : CallerKnowledge) (pair : DomId → DomId × DomId) (held : List HeldPin) (reached : AccessPath → Continuation) (on : (route : AccessPath) (ys : List SeatStep) → Ends (reached route) ys → LegTried ys) where
+      beyond-found : (l : Leg) (h : HeldPin) (entry : Entry) (ys : List SeatStep) → Ends (beyond c l pair held reached h entry) ys → LegTried ys
       beyond-found l h (Via dom ro dom2 gref) ys e = via-refused c (pair dom2) dom2 (via_judged c (pair dom2) dom2) refl (h ∷ held) (leg (second_leg c l dom2 gref) (refused_holding (h ∷ held)) (λ q. reached (Through h q))) ys
           (λ f. leg-found (second_leg c l dom2 gref) (refused_holding (h ∷ held)) (holding (h ∷ held)) (λ q. reached (Through h q)) (λ q zs g. on (Through h q) zs g) ys f) e
       beyond-found l h Invalid ys e = on (Direct h) ys e
@@ -508,7 +508,7 @@ module _ (k : Layout) (p : ℕ) where
       abbrev at : ℕ
       at = position_in k.ids caller
 
-      turn-found : (change : Change) (missed : ℕ → Continuation) (ys : List SeatStep) → Ends (turn change caller gref missed) ys → OneMissed at gref.0 missed ys
+      turn-found : (change : EntryChange) (missed : ℕ → Continuation) (ys : List SeatStep) → Ends (turn change caller gref missed) ys → OneMissed at gref.0 missed ys
       turn-found change missed ys e =
           let a = looks-on (LookControl caller gref) (λ word. if is_stopped change (control_of word) then refused_at caller gref N19 word else exchanges (Exchange gref word change) word (ended Granted) missed) (λ m. on_entry at gref.0 (Looked m)) (λ x is. is) (λ m. refl) ys e in
           subst (OneMissed at gref.0 missed) (sym a.2) (by a.0 a.1 (is_stopped change (control_of a.0)) a.3)
@@ -517,7 +517,7 @@ module _ (k : Layout) (p : ℕ) where
           exchange word [] f = absurd (no-end (Exchange gref word change) f.1)
           exchange word (x ∷ xs) f = ⊎_elim (λ (is : (n : ℕ) × (y : EntryRecord) × (x ≡ on_entry p gref.0 (Changed change word n y))). absurd (never-ended Granted granted-never xs (subst Way (ap seen_in_step is.2) (f.0.1, f.1)).1)) another f.0.0
             where
-              Way : Seen → Type 0
+              Way : Observation → Type 0
               Way s = Goes (λ vs. exchanges (Exchange gref word change) word (ended Granted) missed (s ∷ vs)) xs × (exchanges (Exchange gref word change) word (ended Granted) missed (s ∷ map seen_in_step xs) ≡ Some (Done (Refused d)))
 
               another : (g : ℕ) × (n : ℕ) × (x ≡ on_entry p gref.0 (ChangeMissed change word g n)) × (n ≢ word) → OneMissed at gref.0 missed (on_entry at gref.0 (Looked word) ∷ (x ∷ xs))
@@ -536,7 +536,7 @@ module _ (k : Layout) (p : ℕ) where
           by word zs true f = absurd (never-refused (entry_refusal caller gref N19 word) (λ q. cc) zs f.1)
           by word zs false f = exchange word zs f
 
-      turns-found : (change : Change) (n : ℕ) (ys : List SeatStep) → Ends (turns change caller gref n) ys → Tried caller gref at (suc n) ys
+      turns-found : (change : EntryChange) (n : ℕ) (ys : List SeatStep) → Ends (turns change caller gref n) ys → Tried caller gref at (suc n) ys
       unfolding turns
       turns-found change zero ys e = let o = turn-found change (refused_at caller gref N18) ys e in let b = gives-back [] (Refused (entry_refusal caller gref N18 o.0)) o.2 o.5 in
           last-one caller gref at (refused_at caller gref N18) ys o (same-denial (entry_refusal caller gref N18 o.0) b.0, b.1)
@@ -545,7 +545,7 @@ module _ (k : Layout) (p : ℕ) where
 
     -- every call
 
-    never-once : (caller : DomId) (gref : GrantRef) (looked : ℕ) (change : Change) → Never (exchanges_once caller gref looked change)
+    never-once : (caller : DomId) (gref : GrantRef) (looked : ℕ) (change : EntryChange) → Never (exchanges_once caller gref looked change)
     never-once caller gref looked change = never-exchanges (Exchange gref looked change) looked (ended Granted) (refused_at caller gref N19) (never-ended Granted granted-never) (λ w. never-refused (entry_refusal caller gref N19 w) (λ q. cc))
 
     never-grants : (c : CallerKnowledge) (caller : DomId) (gref : GrantRef) (entry e : Entry) → Never (after_first c caller gref e)
@@ -554,14 +554,14 @@ module _ (k : Layout) (p : ℕ) where
     never-grants c caller gref entry (Sub dom ro frame off len) = never-makes _ _ (never-once caller gref _ _)
     never-grants c caller gref entry (Via dom ro dom2 r) = never-once caller gref _ _
 
-    never-mapping : (o : Option Held) (step : Held → Step) → Never (by_mapping o step)
+    never-mapping : (o : Option HeldPin) (step : HeldPin → Step) → Never (by_mapping o step)
     never-mapping None step = never-refused (denial_of N6 facts.None) (λ q. cc)
     never-mapping (Some m) step = never-makes (step m) (ended Granted) (never-ended Granted granted-never)
 
     abbrev Found : DomId → List SeatStep → Type 0
     Found caller ys = LegTried ys ⊎ ((gref : GrantRef) × Tried caller gref (position_in k.ids caller) 4 ys)
 
-    found : (c : CallerKnowledge) (caller : DomId) (request : Asked) → p ≡ position_in k.ids caller → (ys : List SeatStep) → Ends (steps_of c caller request) ys → Found caller ys
+    found : (c : CallerKnowledge) (caller : DomId) (request : OpenRequest) → p ≡ position_in k.ids caller → (ys : List SeatStep) → Ends (steps_of c caller request) ys → Found caller ys
     found c caller (asks.Grant gref entry) stands ys e = absurd (never-makes _ _ (never-grants c caller gref entry entry) ys e.1)
     found c caller (asks.Revoke gref) stands ys e = absurd (never-once caller gref _ _ ys e.1)
     found c caller (asks.Withdraw gref) stands ys e = inr (gref, turns-found caller gref stands ToWithdrawn MORE_TRIES ys e)
@@ -579,10 +579,10 @@ module _ (k : Layout) (p : ℕ) where
     found c caller (asks.QuerySize dom) stands ys e = absurd (never-looks _ _ (λ w. never-ended _ (λ q. cc)) ys e.1)
     found c caller (asks.GetVersion dom) stands ys e = absurd (never-looks _ _ (λ w. never-ended _ (λ q. cc)) ys e.1)
 
-    found-of : (c : CallerKnowledge) (caller : DomId) (request : Request) → p ≡ position_in k.ids caller → (ys : List SeatStep) (o : Option Verdict) → begun_of c caller request ≡ o → Ends (after_beginning o (steps_of c caller (asked request))) ys → Found caller ys
+    found-of : (c : CallerKnowledge) (caller : DomId) (request : Request) → p ≡ position_in k.ids caller → (ys : List SeatStep) (o : Option CallResult) → begun_of c caller request ≡ o → Ends (after_beginning o (steps_of c caller (asked request))) ys → Found caller ys
     found-of c caller request stands ys None is e = found c caller (asked request) stands ys e
     found-of c caller request stands ys (Some verdict) is e =
-        absurd (never-ended verdict (λ q. not-begun-by c caller request (bytes_of request) d (is ∙ ap (λ (v : Verdict). Some v) q) is18) ys e.1)
+        absurd (never-ended verdict (λ q. not-begun-by c caller request (bytes_of request) d (is ∙ ap (λ (v : CallResult). Some v) q) is18) ys e.1)
 
     -- the four words
     four : (ws : List ℕ) → length ws ≡ 4 → (a : ℕ) × (b : ℕ) × (c : ℕ) × (e : ℕ) × (ws ≡ a ∷ (b ∷ (c ∷ (e ∷ []))))

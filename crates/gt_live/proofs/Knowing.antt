@@ -12,17 +12,17 @@ use Rattle.gt_words.specs.declared.view.View.{View}
 use Rattle.gt_handles.specs.declared.handles.Handle.{Handle}
 use Rattle.gt_handles.specs.Handles.{HandleMap}
 use Rattle.gt_handles.specs.Listing.{IsInserted}
-use Rattle.gt_calls.specs.declared.action.Value.{Value}
-use Rattle.gt_calls.specs.declared.action.Value.TheVariants as values
-use Rattle.gt_calls.specs.declared.action.Verdict.{Verdict}
-use Rattle.gt_calls.specs.declared.action.Verdict.TheVariants.{Granted, Given, Mapped, Refused}
-use Rattle.gt_calls.specs.declared.held.Held.{Held}
-use Rattle.gt_calls.specs.declared.known.Own.{Own}
-use Rattle.gt_calls.specs.declared.request.Asked.{Asked}
-use Rattle.gt_calls.specs.declared.request.Asked.TheVariants as asks
+use Rattle.gt_calls.specs.declared.action.CallValue.{CallValue}
+use Rattle.gt_calls.specs.declared.action.CallValue.TheVariants as values
+use Rattle.gt_calls.specs.declared.action.CallResult.{CallResult}
+use Rattle.gt_calls.specs.declared.action.CallResult.TheVariants.{Granted, Given, Mapped, Refused}
+use Rattle.gt_calls.specs.declared.held.HeldPin.{HeldPin}
+use Rattle.gt_calls.specs.declared.known.OwnerEntry.{OwnerEntry}
+use Rattle.gt_calls.specs.declared.request.OpenRequest.{OpenRequest}
+use Rattle.gt_calls.specs.declared.request.OpenRequest.TheVariants as asks
 use Rattle.gt_calls.specs.Rules.{knowledge_of}
 use Rattle.gt_live.specs.declared.domain.Domain.{Domain}
-use Rattle.gt_live.specs.Domains.{IsDomainOf, AllowRelation, done_by, frames_told, knowledge, verdict_of}
+use Rattle.gt_live.specs.Domains.{IsDomainOf, AllowRelation, done_by, frames_granted, knowledge, verdict_of}
 use Rattle.gt_live.specs.Domains.{verdict_of_frames}
 use Rattle.gt_live.specs.Driving.{Knows}
 use Rattle.gt_live.specs.Walks.{CarriesFound, TellsSteps}
@@ -31,10 +31,10 @@ use Rattle.gt_types.specs.declared.denial.Facts.TheVariants as facts
 use Rattle.gt_live.specs.Ending.{IsAnswerTo, IsAtOnce, IsWordless}
 
 -- what is known by lent parts is what is known
-pub same-knowledge : (c : Config) (may : AllowRelation) (d : Domain) (own : List Own) (h : Header) → own ≡ d.own.items → h ≡ own_table d.seat.view
+pub same-knowledge : (c : Config) (may : AllowRelation) (d : Domain) (own : List OwnerEntry) (h : Header) → own ≡ d.own.items → h ≡ own_table d.seat.view
     → knowledge_of c.domains.items c.first_gen may own h d.mappings ≡ knowledge c may d
 same-knowledge c may d own h e f =
-    ap (λ (os : List Own). knowledge_of c.domains.items c.first_gen may os h d.mappings) e ∙ ap (λ (x : Header). knowledge_of c.domains.items c.first_gen may d.own.items x d.mappings) f
+    ap (λ (os : List OwnerEntry). knowledge_of c.domains.items c.first_gen may os h d.mappings) e ∙ ap (λ (x : Header). knowledge_of c.domains.items c.first_gen may d.own.items x d.mappings) f
 
 -- a domain knows its own
 pub knows-own : (b : Board) (c : Config) (may : AllowRelation) (d : Domain) → IsWithinLimits c → b.layout ≡ layout_of c → IsDomainOf b c may d → IsKeptHeader (own_table d.seat.view) → Knows (knowledge c may d) b.layout d.seat.dom d.seat.view
@@ -51,7 +51,7 @@ knows-own b c may d limits run is kept = record {
 
 -- a call that is answered at its beginning
 
-pub at-once-answer : (request : Asked) (verdict : Verdict) → IsAtOnce request verdict → IsAnswerTo request verdict
+pub at-once-answer : (request : OpenRequest) (verdict : CallResult) → IsAtOnce request verdict → IsAnswerTo request verdict
 at-once-answer request (Refused denial) is = tt
 at-once-answer (asks.Demote gref) Granted is = tt
 at-once-answer (asks.Promote gref) Granted is = tt
@@ -67,7 +67,7 @@ wordless k v facts.None no_word = tt
 wordless k v (facts.Policy source target perm) no_word = tt
 wordless k v (facts.Field field) no_word = tt
 
-pub once-tells : (k : Layout) (v : View) (request : Asked) (verdict : Verdict) → IsAtOnce request verdict → TellsSteps k v [] verdict
+pub once-tells : (k : Layout) (v : View) (request : OpenRequest) (verdict : CallResult) → IsAtOnce request verdict → TellsSteps k v [] verdict
 once-tells k v request (Refused denial) is = wordless k v denial.facts is
 once-tells k v request Granted is = tt
 once-tells k v request (Given value) is = tt
@@ -76,7 +76,7 @@ once-tells k v request (Mapped p) is = tt
 -- the answers that verdicts give
 
 -- the request is answered Ok without a value, or refused
-abbrev pub IsPlain : Asked → Type 0
+abbrev pub IsPlain : OpenRequest → Type 0
 IsPlain (asks.Grant gref entry) = Unit {0}
 IsPlain (asks.Revoke gref) = Unit {0}
 IsPlain (asks.Withdraw gref) = Unit {0}
@@ -86,7 +86,7 @@ IsPlain (asks.Unmap handle) = Unit {0}
 IsPlain (asks.SetVersion version) = Unit {0}
 IsPlain request = ⊥
 
-plain-mapped : (request : Asked) (p : Held) → IsPlain request → IsAnswerTo request (Mapped p) → ⊥
+plain-mapped : (request : OpenRequest) (p : HeldPin) → IsPlain request → IsAnswerTo request (Mapped p) → ⊥
 plain-mapped (asks.Grant gref entry) p is a = a
 plain-mapped (asks.Revoke gref) p is a = a
 plain-mapped (asks.Withdraw gref) p is a = a
@@ -96,7 +96,7 @@ plain-mapped (asks.Unmap handle) p is a = a
 plain-mapped (asks.SetVersion version) p is a = a
 plain-mapped _ p is a = absurd is
 
-plain-given : (request : Asked) (value : Value) → IsPlain request → IsAnswerTo request (Given value) → ⊥
+plain-given : (request : OpenRequest) (value : CallValue) → IsPlain request → IsAnswerTo request (Given value) → ⊥
 plain-given (asks.Grant gref entry) value is a = a
 plain-given (asks.Revoke gref) value is a = a
 plain-given (asks.Withdraw gref) value is a = a
@@ -106,19 +106,19 @@ plain-given (asks.Unmap handle) value is a = a
 plain-given (asks.SetVersion version) value is a = a
 plain-given _ value is a = absurd is
 
-pub done-back : (request : Asked) (verdict : Verdict) → IsPlain request → IsAnswerTo request verdict → verdict ≡ verdict_of (done_by verdict)
+pub done-back : (request : OpenRequest) (verdict : CallResult) → IsPlain request → IsAnswerTo request verdict → verdict ≡ verdict_of (done_by verdict)
 done-back request Granted is a = refl
 done-back request (Refused denial) is a = refl
 done-back request (Mapped p) is a = absurd (plain-mapped request p is a)
 done-back request (Given value) is a = absurd (plain-given request value is a)
 
-pub frames-back : (n : ℕ) (verdict : Verdict) → IsAnswerTo (asks.SetupTable n) verdict → verdict ≡ verdict_of_frames (frames_told verdict)
+pub frames-back : (n : ℕ) (verdict : CallResult) → IsAnswerTo (asks.SetupTable n) verdict → verdict ≡ verdict_of_frames (frames_granted verdict)
 frames-back n (Refused denial) a = refl
 frames-back n (Given (values.Frames m)) a = refl
 frames-back n _ a = absurd a
 
 -- a map's answer
 
-pub roomier-inserted : (old' old new : HandleMap Held) (h : Handle) (p : Held) → old' ≡ record old { room = old'.room } → IsInserted old' new h p → IsInserted old new h p
+pub roomier-inserted : (old' old new : HandleMap HeldPin) (h : Handle) (p : HeldPin) → old' ≡ record old { room = old'.room } → IsInserted old' new h p → IsInserted old new h p
 roomier-inserted old' old new h p room i =
-    let j = subst (λ (z : HandleMap Held). IsInserted z new h p) room i in record { fresh = j.fresh; updates = j.updates; count = j.count; given = j.given }
+    let j = subst (λ (z : HandleMap HeldPin). IsInserted z new h p) room i in record { fresh = j.fresh; updates = j.updates; count = j.count; given = j.given }

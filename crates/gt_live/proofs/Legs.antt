@@ -8,17 +8,17 @@ use Rattle.gt_types.specs.declared.denial.Rule.{Rule}
 use Rattle.gt_types.specs.declared.denial.Rule.TheVariants.{N9, N18}
 use Rattle.gt_types.specs.Denial.{denial_of}
 use Rattle.gt_entry.specs.Words.{control_of, header_of, is_kind, size_of}
-use Rattle.gt_entry.specs.declared.control.Kind.{Kind}
-use Rattle.gt_entry.specs.declared.control.Kind.TheVariants.{Invalid, Page, Sub, Via}
+use Rattle.gt_entry.specs.declared.control.EntryKind.{EntryKind}
+use Rattle.gt_entry.specs.declared.control.EntryKind.TheVariants.{Invalid, Page, Sub, Via}
 use Rattle.gt_words.specs.Rule.{Layout}
 use Rattle.gt_words.specs.declared.view.View.{View}
-use Rattle.gt_calls.specs.Legs.{after_header, after_look, after_miss, after_relook, after_words, leg_after, leg_step}
+use Rattle.gt_calls.specs.Legs.{after_header, on_control_word, after_miss, after_relook, after_words, leg_after, leg_step}
 use Rattle.gt_calls.specs.Path.{entry_refusal, held_of, rule_of_try}
 use Rattle.gt_calls.specs.Rules.{first_look}
-use Rattle.gt_calls.specs.declared.action.Seen.{Seen}
-use Rattle.gt_calls.specs.declared.action.Seen.TheVariants.{Missed, Word}
+use Rattle.gt_calls.specs.declared.action.Observation.{Observation}
+use Rattle.gt_calls.specs.declared.action.Observation.TheVariants.{Missed, Word}
 use Rattle.gt_calls.specs.declared.action.Step.TheVariants.{LookControl, Pin}
-use Rattle.gt_calls.specs.declared.held.Held.{Held}
+use Rattle.gt_calls.specs.declared.held.HeldPin.{HeldPin}
 use Rattle.gt_calls.specs.declared.leg.Leg.{Leg}
 use Rattle.gt_calls.specs.declared.leg.LegNext.{LegNext}
 use Rattle.gt_calls.specs.declared.leg.LegNext.TheVariants.{Going as GoesTo, Refused as LegRefused}
@@ -46,15 +46,15 @@ header-passes l word has has_is holds =
 -- what follows a first look at the control word
 pub look-refuses : (l : Leg) (more word : ℕ) (judged found : Option Rule) (rule : Rule) (denial : Denial)
     → judged ≡ found → judged ≡ Some rule → denial ≡ entry_refusal l.dom l.gref rule word
-    → after_look l more word found ≡ LegRefused denial
+    → on_control_word l more word found ≡ LegRefused denial
 look-refuses l more word judged found rule denial judged_is some is =
-    ap (λ (o : Option Rule). after_look l more word o) (sym judged_is ∙ some)
+    ap (λ (o : Option Rule). on_control_word l more word o) (sym judged_is ∙ some)
     ∙ ap (λ (d : Denial). LegRefused d) (sym is)
 
 pub look-passes : (l : Leg) (more word : ℕ) (judged found : Option Rule) → judged ≡ found → judged ≡ None
-    → after_look l more word found ≡ GoesTo (Body more word)
+    → on_control_word l more word found ≡ GoesTo (Body more word)
 look-passes l more word judged found judged_is none =
-    ap (λ (o : Option Rule). after_look l more word o) (sym judged_is ∙ none)
+    ap (λ (o : Option Rule). on_control_word l more word o) (sym judged_is ∙ none)
 
 -- what follows a missed try
 pub relook-misses : (l : Leg) (more word : ℕ) (rule : Rule) (found : ℕ) → (found == word) ≡ false
@@ -80,7 +80,7 @@ next-try l more found some =
     (lt-ltb _ _ positive)
 
 -- the kind of an entry that is no sub-page
-pub no-sub : (kind : Kind) → (kind ≡ Sub → ⊥) → is_kind kind Sub ≡ false
+pub no-sub : (kind : EntryKind) → (kind ≡ Sub → ⊥) → is_kind kind Sub ≡ false
 no-sub Invalid other = refl
 no-sub Page other = refl
 no-sub Sub other = absurd (other refl)
@@ -92,7 +92,7 @@ module _ (k : Layout) (l : Leg) (v : View) where
   walk-begins = ([], (refl, refl))
 
   -- after a step that was made the leg has come to what it goes on with
-  pub walk-on : (at : LegPhase) (seen : Seen) (u w : View) → WalksLeg k l v (GoesTo at) u
+  pub walk-on : (at : LegPhase) (seen : Observation) (u w : View) → WalksLeg k l v (GoesTo at) u
       → Made k (leg_step l at) seen u w → WalksLeg k l v (leg_after l at seen) w
   walk-on at seen u w x made = ((at, seen, u) ∷ x.0, (made, refl, x.1))
 
@@ -147,9 +147,9 @@ module _ (k : Layout) (l : Leg) (v : View) where
       (walk-on (Relook more word rule) (Word found) u w x made)
 
   -- a pin that was missed
-  pub pin-missed : (more word first second found : ℕ) (held : Held) (u w : View)
+  pub pin-missed : (more word first second found : ℕ) (held : HeldPin) (u w : View)
       → WalksLeg k l v (GoesTo (Pinning more word first second)) u → held ≡ held_of l word first second
       → Made k (Pin held) (Missed found) u w → WalksLeg k l v (after_miss l more found) w
   pin-missed more word first second found held u w x is made =
       walk-on (Pinning more word first second) (Missed found) u w x
-      (subst (λ (p : Held). Made k (Pin p) (Missed found) u w) is made)
+      (subst (λ (p : HeldPin). Made k (Pin p) (Missed found) u w) is made)

@@ -1,7 +1,7 @@
 -- What a step of a call adds to its seat's view.
 use Rattle.std.proofs.Common.{◌≡◌, ℕ, ◌<◌, refl, sym, ap, ◌∙◌, subst, length, inl, inr, arith}
 use Rattle.std.proofs.lemmas.Bool.{cases_eq}
-use Rattle.gt_entry.specs.declared.change.Half.{Half}
+use Rattle.gt_entry.specs.declared.change.BodyWord.{BodyWord}
 use Rattle.gt_words.specs.Conditions.{Board, IsSameSeat, IsSeatOf, Keeps, SeatOf}
 use Rattle.gt_words.specs.Answers.{StoresBody}
 use Rattle.gt_words.specs.Rule.{Layout, id_at}
@@ -11,9 +11,9 @@ use Rattle.gt_words.specs.History.{StepHistory, Moment, SaysWord, part_of, word_
 use Rattle.gt_words.specs.Steps.{TakesStep}
 use Rattle.gt_words.specs.declared.view.SeatStep.{SeatStep}
 use Rattle.gt_words.specs.declared.view.View.{View}
-use Rattle.gt_entry.specs.declared.change.Change.TheVariants.{Publish, Revoke, Withdraw, Demote, Promote}
-use Rattle.gt_calls.specs.declared.action.Seen.{Seen}
-use Rattle.gt_calls.specs.declared.action.Seen.TheVariants.{Nothing, Word, Taken, Missed}
+use Rattle.gt_entry.specs.declared.change.EntryChange.TheVariants.{Publish, Revoke, Withdraw, Demote, Promote}
+use Rattle.gt_calls.specs.declared.action.Observation.{Observation}
+use Rattle.gt_calls.specs.declared.action.Observation.TheVariants.{Nothing, Word, Taken, Missed}
 use Rattle.gt_calls.specs.declared.action.Step.{Step}
 use Rattle.gt_calls.specs.declared.action.Step.TheVariants.{LookHeader, LookControl, LookBody, Pin, Unpin, StoreBody}
 use Rattle.gt_calls.specs.declared.action.Step.TheVariants.{StoreHeader, Exchange}
@@ -22,14 +22,14 @@ use Rattle.gt_live.specs.Walks.{Made, shown_by, seen_in_step}
 use Rattle.gt_live.specs.Driving.{IsSame}
 
 -- a step of a seat from one view to another, which shows this, and was taken at its moment
-pub record Gains (k : Layout) (seen : Seen) (v w : View) : Type 0 where
+pub record Gains (k : Layout) (seen : Observation) (v w : View) : Type 0 where
   pub step : Moment
   pub view : w ≡ with_step step.0 step.1 v
   pub shows : shown_by step ≡ seen
   pub took : TookPlace k v.position step
   pub mine : part_of v.position step.0 ≡ v.steps
 
-abbrev pub gained : (k : Layout) (seen : Seen) (v w : View) (past : StepHistory) (x : SeatStep) (found left : ℕ) → w ≡ with_step past x v → TakesStep (Unit {0}) k v past x (word_place_of x) found left → seen_in_step x ≡ seen → Gains k seen v w
+abbrev pub gained : (k : Layout) (seen : Observation) (v w : View) (past : StepHistory) (x : SeatStep) (found left : ℕ) → w ≡ with_step past x v → TakesStep (Unit {0}) k v past x (word_place_of x) found left → seen_in_step x ≡ seen → Gains k seen v w
 gained k seen v w past x found left view step shows = record {
   step = (past, x);
   view = view;
@@ -38,7 +38,7 @@ gained k seen v w past x found left view step shows = record {
   mine = sym (step.stood.1.led_here.parts v.position v step.stood.2).0;
 }
 
-unfoldable pub made-gains : (k : Layout) (s : Step) (seen : Seen) (v w : View) → Made k s seen v w → Gains k seen v w
+unfoldable pub made-gains : (k : Layout) (s : Step) (seen : Observation) (v w : View) → Made k s seen v w → Gains k seen v w
 made-gains k (LookHeader d) (Word n) v w m = gained k _ v w _ _ _ _ m.steps.adds.view m.steps.step refl
 made-gains k (LookControl d q) (Word n) v w m = gained k _ v w _ _ _ _ m.0.steps.adds.view m.0.steps.step refl
 made-gains k (LookBody d q half) (Word n) v w m = gained k _ v w _ _ _ _ m.steps.adds.view m.steps.step refl
@@ -60,7 +60,7 @@ made-gains k (Exchange q looked Promote) (Missed n) v w m = gained k _ v w _ _ _
 made-gains k _ _ v w m = absurd m
 
 -- what was shown is a value that the step can see
-pub made-fits : (k : Layout) (s : Step) (seen : Seen) (v w : View) → Made k s seen v w → FitsStep s seen
+pub made-fits : (k : Layout) (s : Step) (seen : Observation) (v w : View) → Made k s seen v w → FitsStep s seen
 made-fits k (LookHeader d) (Word n) v w m = tt
 made-fits k (LookControl d q) (Word n) v w m = tt
 made-fits k (LookBody d q half) (Word n) v w m = tt
@@ -98,7 +98,7 @@ same-then u v w a b = record {
 }
 
 -- a body word that the owner stored leaves all but that word
-stored-same : (k : Layout) (q n : ℕ) (h : Half) (v w : View) → StoresBody k q h n v w → IsSame v w
+stored-same : (k : Layout) (q n : ℕ) (h : BodyWord) (v w : View) → StoresBody k q h n v w → IsSame v w
 stored-same k q n h v w m = record {
   pins = m.pins;
   records = λ r. elim (cases_eq q r) [ inl e ↦ subst (λ (x : ℕ). last_of x w ≡ last_of x v) e m.last | inr ne ↦ m.rows.last r ne ];
@@ -108,14 +108,14 @@ stored-same k q n h v w m = record {
 }
 
 -- a step that only looks, stores a body word or a header, or misses
-abbrev pub IsLook : Step → Seen → Type 0
+abbrev pub IsLook : Step → Observation → Type 0
 IsLook (Pin p) Taken = ⊥
 IsLook (Unpin p holder) seen = ⊥
 IsLook (Exchange q looked change) Taken = ⊥
 IsLook s seen = Unit {0}
 
 -- such a step keeps pins and records
-pub look-same : (k : Layout) (s : Step) (seen : Seen) (v w : View) → Made k s seen v w → IsLook s seen → IsSame v w
+pub look-same : (k : Layout) (s : Step) (seen : Observation) (v w : View) → Made k s seen v w → IsLook s seen → IsSame v w
 look-same k (LookHeader d) (Word n) v w m l = kept-same v w _ _ m.steps.adds.view m.keeps
 look-same k (LookControl d q) (Word n) v w m l = kept-same v w _ _ m.0.steps.adds.view m.0.keeps
 look-same k (LookBody d q half) (Word n) v w m l = kept-same v w _ _ m.steps.adds.view m.keeps

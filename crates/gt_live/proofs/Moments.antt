@@ -11,14 +11,14 @@ use Rattle.gt_handles.specs.Handles.{HandleMap}
 use Rattle.gt_handles.specs.declared.handles.Handle.{Handle}
 use Rattle.gt_calls.specs.declared.action.Action.{Action}
 use Rattle.gt_calls.specs.declared.action.Action.TheVariants.{Done, Step as Makes}
-use Rattle.gt_calls.specs.declared.action.Seen.{Seen}
-use Rattle.gt_calls.specs.declared.action.Seen.TheVariants.{Missed, Nothing, Taken, Word}
+use Rattle.gt_calls.specs.declared.action.Observation.{Observation}
+use Rattle.gt_calls.specs.declared.action.Observation.TheVariants.{Missed, Nothing, Taken, Word}
 use Rattle.gt_calls.specs.declared.action.Step.{Step}
 use Rattle.gt_calls.specs.declared.action.Step.TheVariants.{Copy as CopyBytes, Exchange, LookBody, LookControl}
 use Rattle.gt_calls.specs.declared.action.Step.TheVariants.{LookHeader, Pin, Read as ReadBytes, StoreBody, StoreHeader}
 use Rattle.gt_calls.specs.declared.action.Step.TheVariants.{Unpin, Write as WriteBytes}
-use Rattle.gt_calls.specs.declared.action.Verdict.TheVariants.{Granted}
-use Rattle.gt_calls.specs.declared.held.Held.{Held}
+use Rattle.gt_calls.specs.declared.action.CallResult.TheVariants.{Granted}
+use Rattle.gt_calls.specs.declared.held.HeldPin.{HeldPin}
 use Rattle.gt_calls.specs.Path.{Continuation}
 use Rattle.gt_live.specs.Accesses.{ComesTo, IsAccess, IsOnlyAccess, onward}
 use Rattle.gt_live.specs.Domains.{Released}
@@ -42,7 +42,7 @@ one_moment x y u e =
     λ i. (rest i, head i)
 
 -- a step of the seat after others, by the view that those leave
-later : (k : Layout) (v : View) (xs : List Moment) (seen : Seen) (w : View) (g : Gains k seen (view_after xs v) w) → TookPlace k v.position g.step × (part_of v.position g.step.0 ≡ (view_after xs v).steps)
+later : (k : Layout) (v : View) (xs : List Moment) (seen : Observation) (w : View) (g : Gains k seen (view_after xs v) w) → TookPlace k v.position g.step × (part_of v.position g.step.0 ≡ (view_after xs v).steps)
 later k v xs seen w g =
     subst (λ (p : ℕ). TookPlace k p g.step × (part_of p g.step.0 ≡ (view_after xs v).steps)) (after-position xs v) (g.took, g.mine)
 
@@ -59,7 +59,7 @@ walk-moments k way v (x ∷ xs) walk = let t = by (way (all_shown xs)) walk.0 in
     by None m = absurd m
 
 -- the pins that a domain gives back as it leaves
-pub released-moments : (k : Layout) (hs : List Handle) (old : HandleMap Held) (v : View) (new : HandleMap Held) (w : View) → Released k hs old v new w → (steps : List Moment) × (w ≡ view_after steps v) × AreMoments k v steps
+pub released-moments : (k : Layout) (hs : List Handle) (old : HandleMap HeldPin) (v : View) (new : HandleMap HeldPin) (w : View) → Released k hs old v new w → (steps : List Moment) × (w ≡ view_after steps v) × AreMoments k v steps
 released-moments k [] old v new w r = ([], r.1, tt)
 released-moments k (h ∷ hs) old v new w r =
     let u = r.2 in let rest = released-moments k hs old v r.1 u r.3 in let z = r.5.steps in
@@ -69,7 +69,7 @@ released-moments k (h ∷ hs) old v new w r =
 
 -- no step on the words is an access
 
-no_access : (k : Layout) (s : Step) (seen : Seen) (v w : View) → Made k s seen v w → IsAccess s → ⊥
+no_access : (k : Layout) (s : Step) (seen : Observation) (v w : View) → Made k s seen v w → IsAccess s → ⊥
 no_access k (LookHeader d) seen v w m is = absurd is
 no_access k (LookControl d q) seen v w m is = absurd is
 no_access k (LookBody d q half) seen v w m is = absurd is
@@ -110,12 +110,12 @@ module _ {A : Type 0} where
       (λ (q : (ws : List A) × (vs ≡ xs ++ ws) × (ys ≡ ws ++ rest)). inr (q.0, (λ i. sym head i ∷ q.1 i), q.2)) (within_parts xs ys vs rest tail)
 
 -- where a walk comes to an access, it is at its end
-at_its_end : (k : Layout) (way : Continuation) (v : View) (steps : List Moment) → IsWalk k way v steps → (vs rest : List Seen) (s : Step) → all_shown steps ≡ vs ++ rest → way vs ≡ Some (Makes s) → IsAccess s → vs ≡ all_shown steps
+at_its_end : (k : Layout) (way : Continuation) (v : View) (steps : List Moment) → IsWalk k way v steps → (vs rest : List Observation) (s : Step) → all_shown steps ≡ vs ++ rest → way vs ≡ Some (Makes s) → IsAccess s → vs ≡ all_shown steps
 at_its_end k way v [] walk vs rest s e next is = nothing_before vs rest e
 at_its_end k way v (y ∷ ys) walk vs [] s e next is = sym (e ∙ append_none vs)
 at_its_end k way v (y ∷ ys) walk vs (a ∷ bs) s e next is =
     let u = unsnoc a bs in
-    let split : vs ++ (a ∷ bs) ≡ (vs ++ u.0) ++ u.1 ∷ [] = ap (λ (zs : List Seen). vs ++ zs) u.2 ∙ sym (append_assoc vs u.0 (u.1 ∷ [])) in
+    let split : vs ++ (a ∷ bs) ≡ (vs ++ u.0) ++ u.1 ∷ [] = ap (λ (zs : List Observation). vs ++ zs) u.2 ∙ sym (append_assoc vs u.0 (u.1 ∷ [])) in
     let here = at_its_end k way v ys walk.1 vs u.0 s (snoc-inj (all_shown ys) (vs ++ u.0) (shown_by y) u.1 (e ∙ split)).0 next is in
     let made : MakesStep k (Some (Makes s)) (shown_by y) (view_after ys v) (view_after (y ∷ ys) v) =
     subst (λ (o : Option Action). MakesStep k o (shown_by y) (view_after ys v) (view_after (y ∷ ys) v)) (ap way (sym here) ∙ next) walk.0 in
@@ -126,13 +126,13 @@ pub only-access : (k : Layout) (way : Continuation) (access : Step) (v mid w : V
     → IsOnlyAccess way (all_shown comes.steps) ((all_shown comes.steps ++ Nothing ∷ []) ++ all_shown ends.steps)
 only-access k way access v mid w comes ends vs rest s e next is = ⊎_elim before behind (within_parts (all_shown comes.steps ++ Nothing ∷ []) (all_shown ends.steps) vs rest e)
   where
-    before : (a : Seen) × (m : List Seen) × ((all_shown comes.steps ++ Nothing ∷ []) ≡ vs ++ a ∷ m) → vs ≡ all_shown comes.steps
+    before : (a : Observation) × (m : List Observation) × ((all_shown comes.steps ++ Nothing ∷ []) ≡ vs ++ a ∷ m) → vs ≡ all_shown comes.steps
     before q =
         let u = unsnoc q.0 q.1 in
-        let split : vs ++ (q.0 ∷ q.1) ≡ (vs ++ u.0) ++ u.1 ∷ [] = ap (λ (zs : List Seen). vs ++ zs) u.2 ∙ sym (append_assoc vs u.0 (u.1 ∷ [])) in
+        let split : vs ++ (q.0 ∷ q.1) ≡ (vs ++ u.0) ++ u.1 ∷ [] = ap (λ (zs : List Observation). vs ++ zs) u.2 ∙ sym (append_assoc vs u.0 (u.1 ∷ [])) in
         at_its_end k way v comes.steps comes.walked vs u.0 s (snoc-inj (all_shown comes.steps) (vs ++ u.0) Nothing u.1 (q.2 ∙ split)).0 next is
 
-    behind : (ws : List Seen) × (vs ≡ (all_shown comes.steps ++ Nothing ∷ []) ++ ws) × (all_shown ends.steps ≡ ws ++ rest) → vs ≡ all_shown comes.steps
+    behind : (ws : List Observation) × (vs ≡ (all_shown comes.steps ++ Nothing ∷ []) ++ ws) × (all_shown ends.steps ≡ ws ++ rest) → vs ≡ all_shown comes.steps
     behind q =
         let there = at_its_end k (onward way (all_shown comes.steps ++ Nothing ∷ [])) mid ends.steps ends.walked q.0 rest s q.2 (ap way (sym q.1) ∙ next) is in
         let done : Some (Makes s) ≡ Some (Done Granted) = sym next ∙ (ap way q.1 ∙ (ap (onward way (all_shown comes.steps ++ Nothing ∷ [])) there ∙ ends.answered)) in absurd (cc)

@@ -15,22 +15,22 @@ use Rattle.gt_words.specs.declared.view.SeatStep.{SeatStep}
 use Rattle.gt_handles.specs.Handles.{HandleMap, under, value_of}
 use Rattle.gt_handles.specs.Listing.{has_passing}
 use Rattle.gt_handles.specs.declared.handles.Handle.{Handle}
-use Rattle.gt_handles.specs.declared.handles.Slot.{Slot}
+use Rattle.gt_handles.specs.declared.handles.HandleSlot.{HandleSlot}
 use Rattle.gt_audit.specs.Telling.{silent}
-use Rattle.gt_calls.specs.declared.held.Held.{Held}
-use Rattle.gt_calls.specs.declared.known.Own.{Own}
+use Rattle.gt_calls.specs.declared.held.HeldPin.{HeldPin}
+use Rattle.gt_calls.specs.declared.known.OwnerEntry.{OwnerEntry}
 use Rattle.gt_calls.specs.Rules.{row_entry, row_generation}
 use Rattle.gt_live.specs.Domains.{AllowRelation}
 use Rattle.gt_live.specs.Mappings.{is_mapping_of}
 use Rattle.gt_live.specs.Starting.{first_rows, IsNewDomain}
 use Rattle.gt_live.specs.declared.domain.Domain.{Domain}
 
-same-row : (n r : ℕ) (x : Own) → r < n → slice_get (replicate n x) r ≡ Some x
+same-row : (n r : ℕ) (x : OwnerEntry) → r < n → slice_get (replicate n x) r ≡ Some x
 same-row zero r x lt = absurd (omega arith)
 same-row (suc n) zero x lt = refl
 same-row (suc n) (suc r) x lt = same-row n r x (omega arith)
 
-same-length : (n : ℕ) (x : Own) → length (replicate n x) ≡ n
+same-length : (n : ℕ) (x : OwnerEntry) → length (replicate n x) ≡ n
 same-length zero x = refl
 same-length (suc n) x = ap (λ (m : ℕ). suc m) (same-length n x)
 
@@ -42,27 +42,27 @@ rows-length : (first : ℕ) → length (first_rows first) ≡ TABLE_ENTRIES
 unfolding first_rows
 rows-length first = same-length TABLE_ENTRIES (record { entry = Invalid; generation = first })
 
-nothing-there : (s : HandleMap Held) (h : Handle) (m : Held) → s.slots ≡ [] → value_of s h ≡ Some m → ⊥
-nothing-there s h m e there = let none : value_of s h ≡ None = ap (λ (xs : List (Option (Slot Held))). under h.serial (get_or xs h.key None)) e in cc
+nothing-there : (s : HandleMap HeldPin) (h : Handle) (m : HeldPin) → s.slots ≡ [] → value_of s h ≡ Some m → ⊥
+nothing-there s h m e there = let none : value_of s h ≡ None = ap (λ (xs : List (Option (HandleSlot HeldPin))). under h.serial (get_or xs h.key None)) e in cc
 
 pub new-domain : (b : Board) (c : Config) (may : AllowRelation) (i : ℕ) (d : Domain) → IsWithinLimits c → b.layout ≡ layout_of c → IsNewSeat b i d.seat → d.own.items ≡ first_rows c.first_gen → d.mappings ≡ record { slots = []; given = 0; room = 0 } → d.trail ≡ silent → d.visits ≡ [] → IsNewDomain b c may i d
 new-domain b c may i d limits run new own mappings trail visits =
     let v = d.seat.view in
     let first : v.first ≡ c.first_gen = new.first ∙ ap (λ (k : Layout). k.first) run in
     let few = limits.generation in
-    let slots : d.mappings.slots ≡ [] = ap (λ (k : HandleMap Held). k.slots) mappings in
+    let slots : d.mappings.slots ≡ [] = ap (λ (k : HandleMap HeldPin). k.slots) mappings in
     let none : (t r : ℕ) → live_pins (entry_steps t r v.steps) ≡ [] = λ t r. ap (λ (xs : List SeatStep). live_pins (entry_steps t r xs)) new.steps in
     record {
       domain = record {
         seat = new.seat;
         rows = λ r lt2.
-            let there = ap (λ (xs : List Own). slice_get xs r) own ∙ row-at c.first_gen r lt2 in
+            let there = ap (λ (xs : List OwnerEntry). slice_get xs r) own ∙ row-at c.first_gen r lt2 in
             ap (λ (xs : List SeatStep). last_record v.first (entry_steps v.position r xs)) new.steps
             ∙ (ap invalid_at first
-            ∙ (ap (λ n. record { generation = n; entry = Invalid }) (sym (ap (λ (o : Option Own). row_generation c.first_gen o) there))
+            ∙ (ap (λ n. record { generation = n; entry = Invalid }) (sym (ap (λ (o : Option OwnerEntry). row_generation c.first_gen o) there))
             ∙ ap (λ z. record { generation = row_generation c.first_gen (slice_get d.own.items r); entry = z }) (sym (ap row_entry there))));
-        generations = λ r lt2. let there = ap (λ (o : Option Own). row_generation c.first_gen o) (ap (λ (xs : List Own). slice_get xs r) own ∙ row-at c.first_gen r lt2) in omega (arith, there, few);
-        all_rows = ap (λ (xs : List Own). length xs) own ∙ rows-length c.first_gen;
+        generations = λ r lt2. let there = ap (λ (o : Option OwnerEntry). row_generation c.first_gen o) (ap (λ (xs : List OwnerEntry). slice_get xs r) own ∙ row-at c.first_gen r lt2) in omega (arith, there, few);
+        all_rows = ap (λ (xs : List OwnerEntry). length xs) own ∙ rows-length c.first_gen;
         mapped = λ h m e. absurd (nothing-there d.mappings h m slots e);
         pins = λ t r a g. ap (λ (ps : List LivePin). pins_like a g ps) (none t r) ∙ sym (ap (λ xs. count_by (has_passing (is_mapping_of b.layout t r a g)) xs) slots);
       };

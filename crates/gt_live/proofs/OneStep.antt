@@ -4,10 +4,10 @@ use Rattle.gt_words.specs.Rule.{Layout}
 use Rattle.gt_words.specs.declared.view.View.{View}
 use Rattle.gt_calls.specs.Path.{Continuation, ended as ends_so, makes}
 use Rattle.gt_calls.specs.declared.action.Action.{Action}
-use Rattle.gt_calls.specs.declared.action.Seen.{Seen}
-use Rattle.gt_calls.specs.declared.action.Seen.TheVariants.{Nothing as Unseen}
+use Rattle.gt_calls.specs.declared.action.Observation.{Observation}
+use Rattle.gt_calls.specs.declared.action.Observation.TheVariants.{Nothing as Unseen}
 use Rattle.gt_calls.specs.declared.action.Step.{Step}
-use Rattle.gt_calls.specs.declared.action.Verdict.TheVariants.{Granted}
+use Rattle.gt_calls.specs.declared.action.CallResult.TheVariants.{Granted}
 use Rattle.gt_live.specs.Walks.{Called, Made, MakesStep, view_after, shown_by}
 use Rattle.gt_live.proofs.Making.{made-gains}
 
@@ -18,7 +18,7 @@ one-step k way s v w is made =
     let gain = made-gains k s Unseen v w made in
     let here : Made k s (shown_by gain.step) v (view_after (gain.step ∷ []) v) =
     subst (λ (u : View). Made k s (shown_by gain.step) v u) gain.view
-    (subst (λ (x : Seen). Made k s x v w) (sym gain.shows) made) in
+    (subst (λ (x : Observation). Made k s x v w) (sym gain.shows) made) in
     record {
       steps = gain.step ∷ [];
       view = gain.view;
@@ -29,6 +29,6 @@ one-step k way s v w is made =
       );
       moments = (gain.took, gain.mine, tt);
       answered = ap (λ (t : Continuation). t (shown_by gain.step ∷ [])) is
-          ∙ ap (λ (x : Seen). makes s (ends_so Granted) (x ∷ [])) gain.shows;
+          ∙ ap (λ (x : Observation). makes s (ends_so Granted) (x ∷ [])) gain.shows;
       carried = tt;
     }

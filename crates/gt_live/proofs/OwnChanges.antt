@@ -10,24 +10,24 @@ use Rattle.gt_entry.specs.Words.{control_of}
 use Rattle.gt_entry.specs.Spelling.{first_body, second_body}
 use Rattle.gt_entry.specs.declared.entry.Entry.{Entry}
 use Rattle.gt_entry.specs.declared.entry.Entry.TheVariants.{Invalid, Page, Sub, Via}
-use Rattle.gt_entry.specs.declared.change.Half.TheVariants.{First, Second}
-use Rattle.gt_entry.specs.declared.change.Change.{Change}
-use Rattle.gt_entry.specs.declared.change.Change.TheVariants.{Publish, Revoke, Withdraw, Demote, Promote}
+use Rattle.gt_entry.specs.declared.change.BodyWord.TheVariants.{First, Second}
+use Rattle.gt_entry.specs.declared.change.EntryChange.{EntryChange}
+use Rattle.gt_entry.specs.declared.change.EntryChange.TheVariants.{Publish, Revoke, Withdraw, Demote, Promote}
 use Rattle.gt_words.specs.Rule.{Layout}
 use Rattle.gt_words.specs.declared.view.View.{View}
 use Rattle.gt_calls.specs.Machine.{action_at, after_own_miss, after_store, publishing, refused_as}
 use Rattle.gt_calls.specs.Path.{entry_refusal, idle_word, is_stopped, path}
 use Rattle.gt_calls.specs.Rules.{CallerKnowledge, begun}
 use Rattle.gt_calls.specs.declared.action.Action.TheVariants.{Step as Makes}
-use Rattle.gt_calls.specs.declared.action.Seen.TheVariants.{Nothing as Unseen, Word, Taken, Missed}
+use Rattle.gt_calls.specs.declared.action.Observation.TheVariants.{Nothing as Unseen, Word, Taken, Missed}
 use Rattle.gt_calls.specs.declared.action.Step.{Step}
 use Rattle.gt_calls.specs.declared.action.Step.TheVariants.{Exchange, LookControl, StoreBody}
-use Rattle.gt_calls.specs.declared.action.Verdict.{Verdict}
-use Rattle.gt_calls.specs.declared.action.Verdict.TheVariants.{Granted, Refused}
+use Rattle.gt_calls.specs.declared.action.CallResult.{CallResult}
+use Rattle.gt_calls.specs.declared.action.CallResult.TheVariants.{Granted, Refused}
 use Rattle.gt_calls.specs.declared.call.Phase.{Phase}
 use Rattle.gt_calls.specs.declared.call.Phase.TheVariants.{Exchanging, Looking, Changing, Storing, StoringSecond}
 use Rattle.gt_calls.specs.declared.leg.TheConstants.{MORE_TRIES}
-use Rattle.gt_calls.specs.declared.request.Asked.TheVariants.{Grant}
+use Rattle.gt_calls.specs.declared.request.OpenRequest.TheVariants.{Grant}
 use Rattle.gt_live.specs.declared.driving.Effect.{Effect}
 use Rattle.gt_live.specs.declared.driving.Effect.TheVariants.{Nothing, Changed}
 use Rattle.gt_live.specs.Domains.{verdict_of}
@@ -38,7 +38,7 @@ use Rattle.gt_live.specs.Walks.{Called, Made}
 use Rattle.gt_live.proofs.Advancing.{makes-next}
 use Rattle.gt_live.proofs.Stepping.{IsIn, PhaseLaw, call_in, further, over, starts}
 
-pub waits-not : (gref : GrantRef) (change : Change) → WaitsForNobody (asks_change gref change)
+pub waits-not : (gref : GrantRef) (change : EntryChange) → WaitsForNobody (asks_change gref change)
 waits-not gref (Publish entry) = tt
 waits-not gref Revoke = tt
 waits-not gref Withdraw = tt
@@ -60,12 +60,12 @@ other-next c gref (Via dom ro dom2 r) other = refl
 module _ (c : CallerKnowledge) (law : PhaseLaw c) (k : Layout) (v : View) (caller : DomId) (gref : GrantRef)
     (knows : Knows c k caller v) where
   -- the change was answered so, and did this
-  abbrev pub ChangeEnds : Change → Verdict → Effect → View → Type 0
+  abbrev pub ChangeEnds : EntryChange → CallResult → Effect → View → Type 0
   ChangeEnds change verdict effect w =
       Called k (path c caller (asks_change gref change)) verdict v w × Leaves c k caller (asks_change gref change) v w effect
 
   -- an exchange that is tried once
-  once : (change : Change) (looked : ℕ) (result : Result (Unit {0}) Denial) (u w : View)
+  once : (change : EntryChange) (looked : ℕ) (result : Result (Unit {0}) Denial) (u w : View)
       → IsIn c law k v caller (asks_change gref change) (Exchanging gref looked change) (Exchange gref looked change) u
       → ChangesOnce k caller gref looked change result u w
       → ChangeEnds change (verdict_of result) (change_effect gref change result) w
@@ -154,16 +154,16 @@ module _ (c : CallerKnowledge) (law : PhaseLaw c) (k : Layout) (v : View) (calle
   -- turns
 
   -- a change in turns before its look
-  abbrev pub TurnsFrom : Change → ℕ → View → Type 0
+  abbrev pub TurnsFrom : EntryChange → ℕ → View → Type 0
   TurnsFrom change more w =
       IsIn c law k v caller (asks_change gref change) (Looking gref change more) (LookControl caller gref) w
 
   -- and after it
-  abbrev pub Turning : Change → ℕ → ℕ → View → Type 0
+  abbrev pub Turning : EntryChange → ℕ → ℕ → View → Type 0
   Turning change more word w =
       IsIn c law k v caller (asks_change gref change) (Changing gref change more word) (Exchange gref word change) w
 
-  pub turns-start : (change : Change) → IsInTurns change → begun c caller (asks_change gref change) ≡ None
+  pub turns-start : (change : EntryChange) → IsInTurns change → begun c caller (asks_change gref change) ≡ None
       → TurnsFrom change MORE_TRIES v
   turns-start (Publish entry) is none = absurd is
   turns-start Revoke is none = absurd is
@@ -171,7 +171,7 @@ module _ (c : CallerKnowledge) (law : PhaseLaw c) (k : Layout) (v : View) (calle
   turns-start Demote is none = starts c law k v caller (asks_change gref Demote) (Looking gref Demote MORE_TRIES) (LookControl caller gref) none refl refl
   turns-start Promote is none = starts c law k v caller (asks_change gref Promote) (Looking gref Promote MORE_TRIES) (LookControl caller gref) none refl refl
 
-  pub turn-looked : (change : Change) (more word : ℕ) (u w : View) → TurnsFrom change more u
+  pub turn-looked : (change : EntryChange) (more word : ℕ) (u w : View) → TurnsFrom change more u
       → Made k (LookControl caller gref) (Word word) u w → is_stopped change (control_of word) ≡ false
       → Turning change more word w
   turn-looked change more word u w g made on =
@@ -179,13 +179,13 @@ module _ (c : CallerKnowledge) (law : PhaseLaw c) (k : Layout) (v : View) (calle
       (Changing gref change more word) (Exchange gref word change) u w knows (waits-not gref change) g made
       (ap (λ (b : Bool). if b then refused_as caller gref N19 word else Changing gref change more word) on) refl
 
-  pub can-turn : (change : Change) (more word : ℕ) (w : View) → Turning change more word w
+  pub can-turn : (change : EntryChange) (more word : ℕ) (w : View) → Turning change more word w
       → CanMake k w (Exchange gref word change)
   can-turn change more word w g =
       makes-next c k Nothing v w (call_in caller (asks_change gref change) (Changing gref change more word))
       (Exchange gref word change) knows (waits-not gref change) g
 
-  pub turn-stopped : (change : Change) (more word : ℕ) (denial : Denial) (u w : View) → TurnsFrom change more u
+  pub turn-stopped : (change : EntryChange) (more word : ℕ) (denial : Denial) (u w : View) → TurnsFrom change more u
       → Made k (LookControl caller gref) (Word word) u w → is_stopped change (control_of word) ≡ true
       → denial ≡ entry_refusal caller gref N19 word → ChangeEnds change (Refused denial) Nothing w
   turn-stopped change more word denial u w g made on is =
@@ -194,14 +194,14 @@ module _ (c : CallerKnowledge) (law : PhaseLaw c) (k : Layout) (v : View) (calle
       (ap (λ (b : Bool). if b then refused_as caller gref N19 word else Changing gref change more word) on) in
       (subst (λ (d : Denial). Called k (path c caller (asks_change gref change)) (Refused d) v w) (sym is) e.called, e.left)
 
-  pub turn-taken : (change : Change) (more word : ℕ) (u w : View) → Turning change more word u
+  pub turn-taken : (change : EntryChange) (more word : ℕ) (u w : View) → Turning change more word u
       → Made k (Exchange gref word change) Taken u w → ChangeEnds change Granted (Changed gref change) w
   turn-taken change more word u w g made =
       let e = over c law k v caller (asks_change gref change) (Changing gref change more word) (Exchange gref word change)
       Taken Granted u w knows (waits-not gref change) g made refl in
       (e.called, e.left)
 
-  pub turn-missed : (change : Change) (more word found : ℕ) (u w : View) → Turning change more word u
+  pub turn-missed : (change : EntryChange) (more word found : ℕ) (u w : View) → Turning change more word u
       → Made k (Exchange gref word change) (Missed found) u w → (more ≡ 0 → ⊥) → TurnsFrom change (more - 1) w
   turn-missed change more word found u w g made some =
       let positive : 0 < more = omega (arith, some) in
@@ -210,7 +210,7 @@ module _ (c : CallerKnowledge) (law : PhaseLaw c) (k : Layout) (v : View) (calle
       (ap (λ (b : Bool). if b then Looking gref change (more - 1) else refused_as caller gref N18 found) (lt-ltb _ _ positive))
       refl
 
-  pub turn-given-up : (change : Change) (more word found : ℕ) (denial : Denial) (u w : View) → Turning change more word u
+  pub turn-given-up : (change : EntryChange) (more word found : ℕ) (denial : Denial) (u w : View) → Turning change more word u
       → Made k (Exchange gref word change) (Missed found) u w → more ≡ 0 → denial ≡ entry_refusal caller gref N18 found
       → ChangeEnds change (Refused denial) Nothing w
   turn-given-up change more word found denial u w g made none is =

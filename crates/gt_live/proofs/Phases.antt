@@ -6,25 +6,25 @@ use Rattle.gt_words.specs.Rule.{Layout}
 use Rattle.gt_words.specs.declared.view.View.{View}
 use Rattle.gt_calls.specs.declared.action.Action.{Action}
 use Rattle.gt_calls.specs.declared.action.Action.TheVariants.{Step as Makes, Done}
-use Rattle.gt_calls.specs.declared.action.Seen.{Seen}
-use Rattle.gt_calls.specs.declared.action.Seen.TheVariants.{Nothing as Unseen}
+use Rattle.gt_calls.specs.declared.action.Observation.{Observation}
+use Rattle.gt_calls.specs.declared.action.Observation.TheVariants.{Nothing as Unseen}
 use Rattle.gt_calls.specs.declared.action.Step.{Step}
-use Rattle.gt_calls.specs.declared.action.Verdict.TheVariants.{Refused}
+use Rattle.gt_calls.specs.declared.action.CallResult.TheVariants.{Refused}
 use Rattle.gt_calls.specs.declared.call.Phase.{Phase}
 use Rattle.gt_calls.specs.declared.call.Phase.TheVariants.{Ending, Walking}
-use Rattle.gt_calls.specs.declared.copying.Aim.{Aim}
+use Rattle.gt_calls.specs.declared.copying.PinPurpose.{PinPurpose}
 use Rattle.gt_calls.specs.declared.leg.Leg.{Leg}
 use Rattle.gt_calls.specs.declared.leg.LegNext.{LegNext}
 use Rattle.gt_calls.specs.declared.leg.LegNext.TheVariants.{Going}
 use Rattle.gt_calls.specs.declared.leg.LegPhase.TheVariants.{Header}
-use Rattle.gt_calls.specs.declared.held.Pins.{Pins}
+use Rattle.gt_calls.specs.declared.held.CallPins.{CallPins}
 use Rattle.gt_types.specs.declared.copies.CopyArgs.{CopyArgs}
 use Rattle.gt_calls.specs.Holding.{no_pins}
 use Rattle.gt_calls.specs.Machine.{action_at, after_leg, at_source, phase_after}
 use Rattle.gt_calls.specs.Legs.{leg_step}
 use Rattle.gt_calls.specs.Rules.{CallerKnowledge, copy_begun}
 use Rattle.std.specs.Prelude.{Result, Ok, Err}
-use Rattle.gt_live.specs.Copies.{StopsSo, after_copy, copy_call, unmoved_copy}
+use Rattle.gt_live.specs.Copies.{CopyStopsWith, after_copy, copy_call, unmoved_copy}
 use Rattle.gt_live.specs.Driving.{Knows}
 use Rattle.gt_live.specs.Legs.{CanWalkLeg, ComesBy, LegStep, WalksLeg}
 use Rattle.gt_live.specs.Phases.{CanRun, PhaseStep, Runs, RunsBy}
@@ -47,7 +47,7 @@ module _ (c : CallerKnowledge) (k : Layout) (caller : DomId) where
   runs-from start other phase v w is x = subst (λ (p : Phase). Runs c k caller p v phase w) is x
 
   -- a step further
-  pub runs-on : (start at : Phase) (seen : Seen) (v u w : View) → Runs c k caller start v at u
+  pub runs-on : (start at : Phase) (seen : Observation) (v u w : View) → Runs c k caller start v at u
       → MakesStep k (Some (action_at caller at)) seen u w → Runs c k caller start v (phase_after c caller at seen) w
   runs-on start at seen v u w x made = ((at, seen, u) ∷ x.0, (made, refl, x.1))
 
@@ -65,7 +65,7 @@ module _ (c : CallerKnowledge) (k : Layout) (caller : DomId) where
   runs-then start mid phase v u w x y = runs-after start mid v u x y.0 phase w y.1
 
   -- the steps of a leg are those of a call that walks it
-  leg-by : (aim : Aim) (l : Leg) (v : View) (xs : List LegStep) (next : LegNext) (w : View)
+  leg-by : (aim : PinPurpose) (l : Leg) (v : View) (xs : List LegStep) (next : LegNext) (w : View)
       → ComesBy k l v xs next w → Runs c k caller (Walking aim l Header) v (after_leg c caller aim l next) w
   leg-by aim l v [] next w x =
       subst (λ (n : LegNext). Runs c k caller (Walking aim l Header) v (after_leg c caller aim l n) w) (sym x.0)
@@ -75,12 +75,12 @@ module _ (c : CallerKnowledge) (k : Layout) (caller : DomId) where
       subst (λ (n : LegNext). Runs c k caller (Walking aim l Header) v (after_leg c caller aim l n) w) (sym x.1)
       (runs-on (Walking aim l Header) (Walking aim l at) seen v u w (leg-by aim l v xs (Going at) u x.2) x.0)
 
-  pub leg-runs : (aim : Aim) (l : Leg) (v : View) (next : LegNext) (w : View) → WalksLeg k l v next w
+  pub leg-runs : (aim : PinPurpose) (l : Leg) (v : View) (next : LegNext) (w : View) → WalksLeg k l v next w
       → Runs c k caller (Walking aim l Header) v (after_leg c caller aim l next) w
   leg-runs aim l v next w x = leg-by aim l v x.0 next w x.1
 
   -- a call that may run on may walk its leg
-  pub leg-can : (aim : Aim) (l : Leg) (v : View) → CanRun c k caller (Walking aim l Header) v → CanWalkLeg k l v
+  pub leg-can : (aim : PinPurpose) (l : Leg) (v : View) → CanRun c k caller (Walking aim l Header) v → CanWalkLeg k l v
   leg-can aim l v can = λ at w x.
       can (Walking aim l at) w (leg_step l at) (leg-runs aim l v (Going at) w x) refl
       (λ from to len e. no-leg l at from to len (ap (λ (s : Step). Makes s) (sym e)))
@@ -99,7 +99,7 @@ module _ (c : CallerKnowledge) (k : Layout) (caller : DomId) where
     abbrev pub StandsAt : Phase → View → Type 0
     StandsAt phase w = IsUnderway c k v w (copy_call caller copy phase) (action_at caller phase)
 
-    step-further : (at : Phase) (seen : Seen) (u w : View) (action : Action) → action_at caller at ≡ action
+    step-further : (at : Phase) (seen : Observation) (u w : View) (action : Action) → action_at caller at ≡ action
         → MakesStep k (Some action) seen u w → StandsAt at u → StandsAt (phase_after c caller at seen) w
     step-further at seen u w (Makes s) acts made here =
         (goes-on c k v u w (copy_call caller copy at) (copy_call caller copy (phase_after c caller at seen))
@@ -134,8 +134,8 @@ module _ (c : CallerKnowledge) (k : Layout) (caller : DomId) where
         refl refl (law (unmoved_copy caller copy) Unseen)
 
     -- where it stops
-    pub stops : (result : Result Pins Denial) (w : View) → StandsAt (after_copy copy result) w
-        → StopsSo c k caller copy result v w
+    pub stops : (result : Result CallPins Denial) (w : View) → StandsAt (after_copy copy result) w
+        → CopyStopsWith c k caller copy result v w
     stops (Ok pins) w here = comes-there c k v w _ _ _ _ here
     stops (Err denial) w here =
         let e = ends-refused c k v w (copy_call caller copy (Ending no_pins (Refused denial))) (Refused denial) here in

@@ -4,13 +4,13 @@ use Rattle.gt_types.specs.Names.{resolved}
 use Rattle.gt_types.specs.declared.DomId.{DomId}
 use Rattle.gt_words.specs.Rule.{Layout}
 use Rattle.gt_words.specs.declared.view.View.{View}
-use Rattle.gt_calls.specs.Path.{told_to}
+use Rattle.gt_calls.specs.Path.{header_value_of}
 use Rattle.gt_calls.specs.Rules.{CallerKnowledge, query_begun}
-use Rattle.gt_calls.specs.declared.action.Seen.TheVariants.{Word}
+use Rattle.gt_calls.specs.declared.action.Observation.TheVariants.{Word}
 use Rattle.gt_calls.specs.declared.action.Step.TheVariants.{LookHeader}
 use Rattle.gt_calls.specs.declared.call.Phase.TheVariants.{Asking}
-use Rattle.gt_calls.specs.declared.call.Question.{Question}
-use Rattle.gt_calls.specs.declared.call.Question.TheVariants.{Size, Version}
+use Rattle.gt_calls.specs.declared.call.HeaderQuery.{HeaderQuery}
+use Rattle.gt_calls.specs.declared.call.HeaderQuery.TheVariants.{Size, Version}
 use Rattle.gt_live.specs.declared.driving.Effect.TheVariants.{Nothing}
 use Rattle.gt_live.specs.Driving.{Knows}
 use Rattle.gt_live.specs.Questions.{asks_question}
@@ -21,10 +21,10 @@ use Rattle.gt_live.proofs.Stepping.{PhaseLaw, only}
 -- each question is answered by the word of the header that its look shows
 pub asked-so : (c : CallerKnowledge) (law : PhaseLaw c) (k : Layout) (v : View) (caller dom : DomId) (word : ℕ) (w : View)
     → Knows c k caller v → query_begun c caller dom ≡ None → Made k (LookHeader (resolved caller dom)) (Word word) v w
-    → (question : Question) → Ended c k caller (asks_question dom question) Nothing (told_to question word) v w
+    → (question : HeaderQuery) → Ended c k caller (asks_question dom question) Nothing (header_value_of question word) v w
 asked-so c law k v caller dom word w knows none made Size =
     only c law k v caller (asks_question dom Size) (Asking (resolved caller dom) Size) (LookHeader (resolved caller dom))
-    (Word word) (told_to Size word) w knows tt none refl refl made refl
+    (Word word) (header_value_of Size word) w knows tt none refl refl made refl
 asked-so c law k v caller dom word w knows none made Version =
     only c law k v caller (asks_question dom Version) (Asking (resolved caller dom) Version)
-    (LookHeader (resolved caller dom)) (Word word) (told_to Version word) w knows tt none refl refl made refl
+    (LookHeader (resolved caller dom)) (Word word) (header_value_of Version word) w knows tt none refl refl made refl

@@ -8,14 +8,14 @@ use Rattle.gt_entry.specs.declared.entry.Entry.{Entry}
 use Rattle.gt_entry.specs.declared.entry.Entry.TheVariants.{Invalid, Page, Sub, Via}
 use Rattle.gt_words.specs.Rule.{Layout}
 use Rattle.gt_words.specs.declared.view.View.{View}
-use Rattle.gt_calls.specs.declared.action.Verdict.{Verdict}
-use Rattle.gt_calls.specs.declared.action.Verdict.TheVariants.{Refused}
+use Rattle.gt_calls.specs.declared.action.CallResult.{CallResult}
+use Rattle.gt_calls.specs.declared.action.CallResult.TheVariants.{Refused}
 use Rattle.gt_calls.specs.declared.call.Phase.TheVariants.{Accessing, Ending, Walking}
-use Rattle.gt_calls.specs.declared.copying.Aim.{Aim}
-use Rattle.gt_calls.specs.declared.copying.Aim.TheVariants.{Source, Dest}
-use Rattle.gt_calls.specs.declared.held.Held.{Held}
-use Rattle.gt_calls.specs.declared.held.Route.{Route}
-use Rattle.gt_calls.specs.declared.held.Route.TheVariants.{Own, Direct}
+use Rattle.gt_calls.specs.declared.copying.PinPurpose.{PinPurpose}
+use Rattle.gt_calls.specs.declared.copying.PinPurpose.TheVariants.{Source, Dest}
+use Rattle.gt_calls.specs.declared.held.HeldPin.{HeldPin}
+use Rattle.gt_calls.specs.declared.held.AccessPath.{AccessPath}
+use Rattle.gt_calls.specs.declared.held.AccessPath.TheVariants.{Own, Direct}
 use Rattle.gt_calls.specs.declared.leg.Leg.{Leg}
 use Rattle.gt_calls.specs.declared.leg.LegNext.{LegNext}
 use Rattle.gt_calls.specs.declared.leg.LegNext.TheVariants.{Refused as LegRefused, Pinned as LegPinned}
@@ -48,21 +48,21 @@ no-via (Via dom ro dom2 gref) other = absurd (other dom ro dom2 gref refl)
 
 module _ (c : CallerKnowledge) (k : Layout) (caller : DomId) where
   -- a Via whose pair is refused
-  pub said : (pair : DomId × DomId) (dom : DomId) (verdict : Verdict) (denial : Denial)
+  pub said : (pair : DomId × DomId) (dom : DomId) (verdict : CallResult) (denial : Denial)
       → via_judged c pair dom ≡ Some verdict → denial ≡ denial_in verdict → verdict ≡ Refused denial
   said pair dom verdict denial e is =
       let n = via-refused c caller pair dom verdict e in
       n.1 ∙ ap (λ (d : Denial). Refused d) (sym (is ∙ ap denial_in n.1))
 
-  pub through-refused : (aim : Aim) (first : Leg) (pair : DomId × DomId) (dom : DomId) (gref : GrantRef)
-      (verdict : Verdict) (denial : Denial) → via_judged c pair dom ≡ Some verdict → denial ≡ denial_in verdict
+  pub through-refused : (aim : PinPurpose) (first : Leg) (pair : DomId × DomId) (dom : DomId) (gref : GrantRef)
+      (verdict : CallResult) (denial : Denial) → via_judged c pair dom ≡ Some verdict → denial ≡ denial_in verdict
       → through_via c aim first pair dom gref ≡ Ending (pins_so_far aim) (Refused denial)
   through-refused aim first pair dom gref verdict denial e is =
-      ap (λ (o : Option Verdict). where_via o aim (second_leg c first dom gref)) e
-      ∙ ap (λ (y : Verdict). Ending (pins_so_far aim) y) (said pair dom verdict denial e is)
+      ap (λ (o : Option CallResult). where_via o aim (second_leg c first dom gref)) e
+      ∙ ap (λ (y : CallResult). Ending (pins_so_far aim) y) (said pair dom verdict denial e is)
 
-  pub refused-runs : (aim : Aim) (first : Leg) (pair : DomId × DomId) (dom : DomId) (gref : GrantRef)
-      (verdict : Verdict) (denial : Denial) (v : View) → via_judged c pair dom ≡ Some verdict
+  pub refused-runs : (aim : PinPurpose) (first : Leg) (pair : DomId × DomId) (dom : DomId) (gref : GrantRef)
+      (verdict : CallResult) (denial : Denial) (v : View) → via_judged c pair dom ≡ Some verdict
       → denial ≡ denial_in verdict
       → Runs c k caller (through_via c aim first pair dom gref) v (Ending (pins_so_far aim) (Refused denial)) v
   refused-runs aim first pair dom gref verdict denial v e is =
@@ -71,13 +71,13 @@ module _ (c : CallerKnowledge) (k : Layout) (caller : DomId) where
       (through-refused aim first pair dom gref verdict denial e is) (runs-none c k caller start v)
 
   -- a Via whose pair is allowed: its second leg is walked
-  pub through-passed : (aim : Aim) (first : Leg) (pair : DomId × DomId) (dom : DomId) (gref : GrantRef)
+  pub through-passed : (aim : PinPurpose) (first : Leg) (pair : DomId × DomId) (dom : DomId) (gref : GrantRef)
       → via_judged c pair dom ≡ None
       → through_via c aim first pair dom gref ≡ Walking aim (second_leg c first dom gref) Header
   through-passed aim first pair dom gref e =
-      ap (λ (o : Option Verdict). where_via o aim (second_leg c first dom gref)) e
+      ap (λ (o : Option CallResult). where_via o aim (second_leg c first dom gref)) e
 
-  pub through-can : (aim : Aim) (first second : Leg) (pair : DomId × DomId) (dom : DomId) (gref : GrantRef) (v : View)
+  pub through-can : (aim : PinPurpose) (first second : Leg) (pair : DomId × DomId) (dom : DomId) (gref : GrantRef) (v : View)
       → via_judged c pair dom ≡ None → second ≡ second_leg c first dom gref
       → CanRun c k caller (through_via c aim first pair dom gref) v → CanWalkLeg k second v
   through-can aim first second pair dom gref v e is can =
@@ -86,7 +86,7 @@ module _ (c : CallerKnowledge) (k : Layout) (caller : DomId) where
       (can-from c k caller (through_via c aim first pair dom gref) (Walking aim (second_leg c first dom gref) Header) v
       (through-passed aim first pair dom gref e) can))
 
-  pub through-runs : (aim : Aim) (first second : Leg) (pair : DomId × DomId) (dom : DomId) (gref : GrantRef)
+  pub through-runs : (aim : PinPurpose) (first second : Leg) (pair : DomId × DomId) (dom : DomId) (gref : GrantRef)
       (next : LegNext) (v w : View) → via_judged c pair dom ≡ None → second ≡ second_leg c first dom gref
       → WalksLeg k second v next w
       → Runs c k caller (through_via c aim first pair dom gref) v
@@ -116,7 +116,7 @@ module _ (c : CallerKnowledge) (k : Layout) (caller : DomId) where
         → Runs c k caller (source_leg c caller copy) v (Ending (pins_so_far (Source copy None)) (Refused denial)) w
     source-refused v w denial x = source-runs v (LegRefused denial) w x
 
-    pub source-reached : (v w : View) (p : Held) → WalksLeg k leg v (LegPinned p) w → IsNoVia p.entry
+    pub source-reached : (v w : View) (p : HeldPin) → WalksLeg k leg v (LegPinned p) w → IsNoVia p.entry
         → Runs c k caller (source_leg c caller copy) v (at_dest c caller copy (Direct p)) w
     source-reached v w p x plain =
         runs-to c k caller (source_leg c caller copy) (after_source_pin c caller copy leg p p.entry)
@@ -128,7 +128,7 @@ module _ (c : CallerKnowledge) (k : Layout) (caller : DomId) where
         by (Sub dom ro frame off len) plain = refl
         by (Via dom ro dom2 gref) plain = absurd plain
 
-    pub source-via : (v w : View) (p : Held) (dom : DomId) (ro : Bool) (dom2 : DomId) (gref : GrantRef) (named : DomId)
+    pub source-via : (v w : View) (p : HeldPin) (dom : DomId) (ro : Bool) (dom2 : DomId) (gref : GrantRef) (named : DomId)
         → WalksLeg k leg v (LegPinned p) w → p.entry ≡ Via dom ro dom2 gref
         → (dom2, named) ≡ source_pair caller copy dom2
         → Runs c k caller (source_leg c caller copy) v
@@ -141,7 +141,7 @@ module _ (c : CallerKnowledge) (k : Layout) (caller : DomId) where
         (source-runs v (LegPinned p) w x)
 
   -- the leg to its destination
-  module _ (copy : CopyArgs) (source : Route) (leg : Leg) (is : leg ≡ end_leg c caller copy.dest Write copy.len) where
+  module _ (copy : CopyArgs) (source : AccessPath) (leg : Leg) (is : leg ≡ end_leg c caller copy.dest Write copy.len) where
     pub dest-can : (v : View) → CanRun c k caller (dest_leg c caller copy source) v → CanWalkLeg k leg v
     dest-can v can =
         subst (λ (l : Leg). CanWalkLeg k l v) (sym is)
@@ -161,7 +161,7 @@ module _ (c : CallerKnowledge) (k : Layout) (caller : DomId) where
         (Ending (pins_so_far (Dest copy source None)) (Refused denial)) w
     dest-refused v w denial x = dest-runs v (LegRefused denial) w x
 
-    pub dest-reached : (v w : View) (p : Held) → WalksLeg k leg v (LegPinned p) w → IsNoVia p.entry
+    pub dest-reached : (v w : View) (p : HeldPin) → WalksLeg k leg v (LegPinned p) w → IsNoVia p.entry
         → Runs c k caller (dest_leg c caller copy source) v (Accessing copy source (Direct p)) w
     dest-reached v w p x plain =
         runs-to c k caller (dest_leg c caller copy source) (after_dest_pin c caller copy source leg p p.entry)
@@ -174,7 +174,7 @@ module _ (c : CallerKnowledge) (k : Layout) (caller : DomId) where
         by (Sub dom ro frame off len) plain = refl
         by (Via dom ro dom2 gref) plain = absurd plain
 
-    pub dest-via : (v w : View) (p : Held) (dom : DomId) (ro : Bool) (dom2 : DomId) (gref : GrantRef) (from : DomId)
+    pub dest-via : (v w : View) (p : HeldPin) (dom : DomId) (ro : Bool) (dom2 : DomId) (gref : GrantRef) (from : DomId)
         → WalksLeg k leg v (LegPinned p) w → p.entry ≡ Via dom ro dom2 gref
         → (from, dom2) ≡ dest_pair caller source dom2
         → Runs c k caller (dest_leg c caller copy source) v
@@ -196,12 +196,12 @@ module _ (c : CallerKnowledge) (k : Layout) (caller : DomId) where
       → at_source c caller copy ≡ at_dest c caller copy Own
   source-own copy e = ap (λ (b : Bool). if b then source_leg c caller copy else at_dest c caller copy Own) e
 
-  pub dest-walked : (copy : CopyArgs) (source : Route) → is_dest_granted copy ≡ true
+  pub dest-walked : (copy : CopyArgs) (source : AccessPath) → is_dest_granted copy ≡ true
       → at_dest c caller copy source ≡ dest_leg c caller copy source
   dest-walked copy source e =
       ap (λ (b : Bool). if b then dest_leg c caller copy source else Accessing copy source Own) e
 
-  pub dest-own : (copy : CopyArgs) (source : Route) → is_dest_granted copy ≡ false
+  pub dest-own : (copy : CopyArgs) (source : AccessPath) → is_dest_granted copy ≡ false
       → at_dest c caller copy source ≡ Accessing copy source Own
   dest-own copy source e =
       ap (λ (b : Bool). if b then dest_leg c caller copy source else Accessing copy source Own) e

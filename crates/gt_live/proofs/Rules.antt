@@ -12,9 +12,9 @@ use Rattle.gt_types.specs.declared.denial.Rule.{Rule}
 use Rattle.gt_types.specs.declared.denial.Rule.TheVariants.{N10, N11, N12, N14, N16, N17}
 use Rattle.gt_entry.specs.declared.entry.Entry.{Entry}
 use Rattle.gt_entry.specs.declared.entry.Entry.TheVariants.{Invalid, Page, Sub, Via}
-use Rattle.gt_entry.specs.declared.control.Kind.{Kind}
-use Rattle.gt_entry.specs.declared.control.Kind.TheVariants.{Invalid as KindInvalid, Page as KindPage, Sub as KindSub}
-use Rattle.gt_entry.specs.declared.control.Kind.TheVariants.{Via as KindVia}
+use Rattle.gt_entry.specs.declared.control.EntryKind.{EntryKind}
+use Rattle.gt_entry.specs.declared.control.EntryKind.TheVariants.{Invalid as KindInvalid, Page as KindPage, Sub as KindSub}
+use Rattle.gt_entry.specs.declared.control.EntryKind.TheVariants.{Via as KindVia}
 use Rattle.gt_entry.specs.Entries.{frame_of}
 use Rattle.gt_entry.specs.Words.{control_of, control_word, is_kind, kind_of, pins_of}
 use Rattle.gt_entry.specs.Spelling.{control_with, idle_word_of, entry_of, entry_with}
@@ -33,7 +33,7 @@ pub is-there : {A : Type 0} (o : Option A) → is_none o ≡ false → (a : A) �
 is-there None e = cc
 is-there (Some a) e = (a, refl)
 
-is-page : (x : Kind) → is_kind x KindPage ≡ true → x ≡ KindPage
+is-page : (x : EntryKind) → is_kind x KindPage ≡ true → x ≡ KindPage
 is-page KindPage e = refl
 is-page KindInvalid e = cc
 is-page KindSub e = cc
@@ -68,7 +68,7 @@ lets-page l e dom ro frame page map off len h =
     subst (λ (x : Entry). (permits x l.grantee l.dir ForMap 0 0 ≡ true) × (nat_le l.frames (frame_of x) ≡ false)) (sym page) (subst (λ (x : Entry). Lets l x) page h)
 
 pub page-spelled : (word a b : ℕ) → kind_of word ≡ KindPage → entry_of (control_of word) a b ≡ Page (control_of word).dom (control_of word).ro a
-page-spelled word a b e = ap (λ (x : Kind). entry_with x (control_of word) a b) e
+page-spelled word a b e = ap (λ (x : EntryKind). entry_with x (control_of word) a b) e
 
 -- the owner's word of an entry
 pub idle-is : (e : Entry) (g : ℕ) → control_word (control_with e g 0 0) ≡ idle_word_of e g

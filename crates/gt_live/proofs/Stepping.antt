@@ -9,13 +9,13 @@ use Rattle.gt_calls.specs.Rules.{CallerKnowledge, begun}
 use Rattle.gt_calls.specs.Standing.{IsFreshCall}
 use Rattle.gt_calls.specs.declared.action.Action.{Action}
 use Rattle.gt_calls.specs.declared.action.Action.TheVariants.{Step as Makes, Done}
-use Rattle.gt_calls.specs.declared.action.Seen.{Seen}
-use Rattle.gt_calls.specs.declared.action.Seen.TheVariants.{Nothing as Unseen}
+use Rattle.gt_calls.specs.declared.action.Observation.{Observation}
+use Rattle.gt_calls.specs.declared.action.Observation.TheVariants.{Nothing as Unseen}
 use Rattle.gt_calls.specs.declared.action.Step.{Step}
-use Rattle.gt_calls.specs.declared.action.Verdict.{Verdict}
+use Rattle.gt_calls.specs.declared.action.CallResult.{CallResult}
 use Rattle.gt_calls.specs.declared.call.Call.{Call}
 use Rattle.gt_calls.specs.declared.call.Phase.{Phase}
-use Rattle.gt_calls.specs.declared.request.Asked.{Asked}
+use Rattle.gt_calls.specs.declared.request.OpenRequest.{OpenRequest}
 use Rattle.gt_live.specs.declared.driving.Effect.{Effect}
 use Rattle.gt_live.specs.declared.driving.Effect.TheVariants.{Nothing}
 use Rattle.gt_live.specs.Driving.{CanMake, Going, Knows}
@@ -26,14 +26,14 @@ use Rattle.gt_live.proofs.Advancing.{Ended, advance, begins, ends, makes-next}
 
 -- each call goes on by its phase
 abbrev pub PhaseLaw : CallerKnowledge → Type 0
-PhaseLaw c = (call : Call) (seen : Seen) → GoesByPhase c call seen
+PhaseLaw c = (call : Call) (seen : Observation) → GoesByPhase c call seen
 
 -- an open call in this phase
-abbrev pub call_in : DomId → Asked → Phase → Call
+abbrev pub call_in : DomId → OpenRequest → Phase → Call
 call_in caller request phase = record { caller = caller; request = request; phase = Some phase }
 
 -- the same before its first step
-abbrev pub fresh_call : DomId → Asked → Call
+abbrev pub fresh_call : DomId → OpenRequest → Call
 fresh_call caller request = record { caller = caller; request = request; phase = None }
 
 -- a call that goes on has only looked, whatever its last step was
@@ -52,7 +52,7 @@ looked-on c k effect v w call s g = record {
   carried = g.carried;
 }
 
-module _ (c : CallerKnowledge) (law : PhaseLaw c) (k : Layout) (v : View) (caller : DomId) (request : Asked) where
+module _ (c : CallerKnowledge) (law : PhaseLaw c) (k : Layout) (v : View) (caller : DomId) (request : OpenRequest) where
   -- the call is in this phase, whose step is this, and has only looked
   abbrev pub IsIn : Phase → Step → View → Type 0
   IsIn phase s w = Going c k Nothing v w (call_in caller request phase) (Makes s)
@@ -64,7 +64,7 @@ module _ (c : CallerKnowledge) (law : PhaseLaw c) (k : Layout) (v : View) (calle
       (subst (λ (p : Phase). Goes c (fresh_call caller request) Unseen (call_in caller request p) (action_at caller p)) is
       (law (fresh_call caller request) Unseen))
 
-  next-goes : (phase : Phase) (x : Seen) (next : Phase) (action : Action) → phase_after c caller phase x ≡ next
+  next-goes : (phase : Phase) (x : Observation) (next : Phase) (action : Action) → phase_after c caller phase x ≡ next
       → action_at caller next ≡ action → Goes c (call_in caller request phase) x (call_in caller request next) action
   next-goes phase x next action is acts =
       subst (λ (a : Action). Goes c (call_in caller request phase) x (call_in caller request next) a) acts
@@ -81,7 +81,7 @@ module _ (c : CallerKnowledge) (law : PhaseLaw c) (k : Layout) (v : View) (calle
       (subst (λ (o : Option Action). BeginsSo o) (sym (goes.first fresh).0.follows) tt) refl refl goes
 
   -- a step further
-  pub further : (phase : Phase) (s : Step) (x : Seen) (next : Phase) (n : Step) (u w : View) → Knows c k caller v
+  pub further : (phase : Phase) (s : Step) (x : Observation) (next : Phase) (n : Step) (u w : View) → Knows c k caller v
       → WaitsForNobody request → IsIn phase s u → Made k s x u w → phase_after c caller phase x ≡ next
       → action_at caller next ≡ Makes n → IsIn next n w
   further phase s x next n u w knows waits g made is acts =
@@ -90,7 +90,7 @@ module _ (c : CallerKnowledge) (law : PhaseLaw c) (k : Layout) (v : View) (calle
       made refl refl (next-goes phase x next (Makes n) is acts)).0
 
   -- its last step
-  pub over : (phase : Phase) (s : Step) (x : Seen) (verdict : Verdict) (u w : View) → Knows c k caller v
+  pub over : (phase : Phase) (s : Step) (x : Observation) (verdict : CallResult) (u w : View) → Knows c k caller v
       → WaitsForNobody request → IsIn phase s u → Made k s x u w → phase_after c caller phase x ≡ ended_as verdict
       → Ended c k caller request (effect_of s x) verdict v w
   over phase s x verdict u w knows waits g made is =
@@ -104,7 +104,7 @@ module _ (c : CallerKnowledge) (law : PhaseLaw c) (k : Layout) (v : View) (calle
   can-only phase s knows waits none is acts =
       makes-next c k Nothing v v (call_in caller request phase) s knows waits (starts phase s none is acts)
 
-  pub only : (phase : Phase) (s : Step) (x : Seen) (verdict : Verdict) (w : View) → Knows c k caller v
+  pub only : (phase : Phase) (s : Step) (x : Observation) (verdict : CallResult) (w : View) → Knows c k caller v
       → WaitsForNobody request → begun c caller request ≡ None → first_phase c caller request ≡ phase
       → action_at caller phase ≡ Makes s → Made k s x v w → phase_after c caller phase x ≡ ended_as verdict
       → Ended c k caller request (effect_of s x) verdict v w

@@ -11,26 +11,26 @@ use Rattle.gt_words.specs.declared.view.View.{View}
 use Rattle.gt_calls.specs.declared.action.Action.{Action}
 use Rattle.gt_calls.specs.declared.action.Action.TheVariants.{Step as Makes, Done}
 use Rattle.gt_types.specs.declared.places.Spot.{Spot}
-use Rattle.gt_calls.specs.declared.action.Seen.{Seen}
-use Rattle.gt_calls.specs.declared.action.Seen.TheVariants.{Nothing}
+use Rattle.gt_calls.specs.declared.action.Observation.{Observation}
+use Rattle.gt_calls.specs.declared.action.Observation.TheVariants.{Nothing}
 use Rattle.gt_calls.specs.declared.action.Step.{Step}
 use Rattle.gt_calls.specs.declared.action.Step.TheVariants.{Pin, Copy as CopyBytes}
-use Rattle.gt_calls.specs.declared.action.Verdict.{Verdict}
-use Rattle.gt_calls.specs.declared.action.Verdict.TheVariants.{Granted, Given, Mapped, Refused}
+use Rattle.gt_calls.specs.declared.action.CallResult.{CallResult}
+use Rattle.gt_calls.specs.declared.action.CallResult.TheVariants.{Granted, Given, Mapped, Refused}
 use Rattle.gt_calls.specs.declared.call.Call.{Call}
 use Rattle.gt_calls.specs.declared.call.Phase.{Phase}
 use Rattle.gt_calls.specs.declared.call.Phase.TheVariants.{Storing, StoringSecond, Exchanging, Looking, Changing}
 use Rattle.gt_calls.specs.declared.call.Phase.TheVariants.{Walking, Accessing, Asking, Last, Ending}
-use Rattle.gt_calls.specs.declared.copying.Aim.TheVariants.{Source}
-use Rattle.gt_calls.specs.declared.held.Held.{Held}
-use Rattle.gt_calls.specs.declared.held.Pins.{Pins}
-use Rattle.gt_calls.specs.declared.held.Route.{Route}
-use Rattle.gt_calls.specs.declared.held.Route.TheVariants.{Own}
+use Rattle.gt_calls.specs.declared.copying.PinPurpose.TheVariants.{Source}
+use Rattle.gt_calls.specs.declared.held.HeldPin.{HeldPin}
+use Rattle.gt_calls.specs.declared.held.CallPins.{CallPins}
+use Rattle.gt_calls.specs.declared.held.AccessPath.{AccessPath}
+use Rattle.gt_calls.specs.declared.held.AccessPath.TheVariants.{Own}
 use Rattle.gt_calls.specs.declared.leg.Leg.{Leg}
 use Rattle.gt_calls.specs.declared.leg.LegPhase.{LegPhase}
 use Rattle.gt_calls.specs.declared.leg.LegPhase.TheVariants.{Header, Look, Body, Second, Pinning, Relook}
-use Rattle.gt_calls.specs.declared.request.Asked.{Asked}
-use Rattle.gt_calls.specs.declared.request.Asked.TheVariants as asks
+use Rattle.gt_calls.specs.declared.request.OpenRequest.{OpenRequest}
+use Rattle.gt_calls.specs.declared.request.OpenRequest.TheVariants as asks
 use Rattle.gt_types.specs.declared.copies.CopyArgs.{CopyArgs}
 use Rattle.gt_calls.specs.Counting.{steps_to_come}
 use Rattle.gt_calls.specs.Following.{FitsNext, Goes}
@@ -55,8 +55,8 @@ use Rattle.gt_live.proofs.Taking.{all-back, none-taken}
 held-there : (call : Call) (phase : Phase) → call.phase ≡ Some phase → pins_by_call call ≡ pins_at phase
 held-there call phase there = ap (λ (o : Option Phase). pins_by_call (record call { phase = o })) there
 
-is-copy : (request : Asked) (copy : CopyArgs) → request ≡ asks.Copy copy → IsCopy request
-is-copy request copy is = subst (λ (r : Asked). IsCopy r) (sym is) tt
+is-copy : (request : OpenRequest) (copy : CopyArgs) → request ≡ asks.Copy copy → IsCopy request
+is-copy request copy is = subst (λ (r : OpenRequest). IsCopy r) (sym is) tt
 
 source-stands : (c : CallerKnowledge) (k : Layout) (caller : DomId) (v : View) (knows : Knows c k caller v) (copy : CopyArgs) → StandsWell k v v [] (at_source c caller copy)
 source-stands c k caller v knows copy = by (is_source_granted copy)
@@ -72,8 +72,8 @@ starts c k v call call' action copy knows fresh is callers requests goes =
     let on = goes.first fresh in let t = call.caller in let r = call.request in let phase = at_source c t copy in
     let same = same-call call call' callers requests in
     let there : call'.phase ≡ Some phase =
-    goes.moves ∙ (ap (λ (o : Option Phase). Some (standing_after c t r o Nothing)) fresh.unmoved ∙ ap (λ (x : Asked). Some (first_phase c t x)) is) in
-    let acts : action ≡ action_at t phase = goes.acts ∙ (ap (λ (o : Option Phase). action_at t (standing_after c t r o Nothing)) fresh.unmoved ∙ ap (λ (x : Asked). action_at t (first_phase c t x)) is) in
+    goes.moves ∙ (ap (λ (o : Option Phase). Some (standing_after c t r o Nothing)) fresh.unmoved ∙ ap (λ (x : OpenRequest). Some (first_phase c t x)) is) in
+    let acts : action ≡ action_at t phase = goes.acts ∙ (ap (λ (o : Option Phase). action_at t (standing_after c t r o Nothing)) fresh.unmoved ∙ ap (λ (x : OpenRequest). action_at t (first_phase c t x)) is) in
     let here : IsUnderway c k v v (record call { phase = call'.phase }) action =
     record {
       steps = [];
@@ -97,11 +97,11 @@ makes-copy c k v w call s knows u other =
     let held = held-there call u.phase u.there in
     subst (λ (z : View). CanMake k z s) (sym u.view)
     (can-walk c k call.caller v knows call.request (is-copy call.request u.copy u.of_copy) (pins_by_call call) u.steps s u.walked
-    (subst (λ (h : Pins). HasTaken k (last_first h) v (view_after u.steps v)) (sym held) (subst (λ (z : View). HasTaken k (held_in u.phase) v z) u.view u.stands.taken))
-    (subst (λ (h : Pins). AreOfRun k (last_first h)) (sym held) u.stands.of_run) u.rests other)
+    (subst (λ (h : CallPins). HasTaken k (last_first h) v (view_after u.steps v)) (sym held) (subst (λ (z : View). HasTaken k (held_in u.phase) v z) u.view u.stands.taken))
+    (subst (λ (h : CallPins). AreOfRun k (last_first h)) (sym held) u.stands.of_run) u.rests other)
 
 -- after a step that was made it goes on, and has fewer to come
-pub goes-on : (c : CallerKnowledge) (k : Layout) (v w w' : View) (call call' : Call) (action : Action) (s : Step) (x : Seen) → Knows c k call.caller v → IsUnderway c k v w call (Makes s) → Made k s x w w' → call'.caller ≡ call.caller → call'.request ≡ call.request
+pub goes-on : (c : CallerKnowledge) (k : Layout) (v w w' : View) (call call' : Call) (action : Action) (s : Step) (x : Observation) → Knows c k call.caller v → IsUnderway c k v w call (Makes s) → Made k s x w w' → call'.caller ≡ call.caller → call'.request ≡ call.request
     → Goes c call x call' action → IsUnderway c k v w' call' action × (steps_to_come call' < steps_to_come call)
 goes-on c k v w w' call call' action s x knows u m callers requests goes =
     let t = call.caller in let r = call.request in let mid = view_after u.steps v in
@@ -110,23 +110,23 @@ goes-on c k v w w' call call' action s x knows u m callers requests goes =
     let m1 : Made k s x mid w' = subst (λ (z : View). Made k s x z w') u.view m in
     let gain = made-gains k s x mid w' m1 in
     let view : w' ≡ view_after (gain.step ∷ u.steps) v = gain.view in
-    let m2 : Made k s (shown_by gain.step) mid (view_after (gain.step ∷ u.steps) v) = subst (λ (z : View). Made k s (shown_by gain.step) mid z) view (subst (λ (y : Seen). Made k s y mid w') (sym gain.shows) m1) in
+    let m2 : Made k s (shown_by gain.step) mid (view_after (gain.step ∷ u.steps) v) = subst (λ (z : View). Made k s (shown_by gain.step) mid z) view (subst (λ (y : Observation). Made k s y mid w') (sym gain.shows) m1) in
     let made : MakesStep k (path c t r (all_shown u.steps)) (shown_by gain.step) mid (view_after (gain.step ∷ u.steps) v) =
     subst (λ (o : Option Action). MakesStep k o (shown_by gain.step) mid (view_after (gain.step ∷ u.steps) v)) (sym u.goes) m2 in
     let held = held-there call u.phase u.there in
     let well : StandsWell k v mid u.steps u.phase = subst (λ (z : View). StandsWell k v z u.steps u.phase) u.view u.stands in
-    let tries : (p : Held) → s ≡ Pin p → Tries c k t v knows p mid =
-    λ p e. tries-pin c k t v knows r (is-copy r u.copy u.of_copy) (pins_by_call call) u.steps p u.walked (subst (λ (h : Pins). HasTaken k (last_first h) v mid) (sym held) well.taken)
-    (subst (λ (h : Pins). AreOfRun k (last_first h)) (sym held) well.of_run) (subst (λ (y : Step). Rests c t r (pins_by_call call) (all_shown u.steps) (Makes y)) e u.rests).1 in
+    let tries : (p : HeldPin) → s ≡ Pin p → Tries c k t v knows p mid =
+    λ p e. tries-pin c k t v knows r (is-copy r u.copy u.of_copy) (pins_by_call call) u.steps p u.walked (subst (λ (h : CallPins). HasTaken k (last_first h) v mid) (sym held) well.taken)
+    (subst (λ (h : CallPins). AreOfRun k (last_first h)) (sym held) well.of_run) (subst (λ (y : Step). Rests c t r (pins_by_call call) (all_shown u.steps) (Makes y)) e u.rests).1 in
     let same = same-call call call' callers requests in
     let here : IsUnderway c k v w' (record call { phase = call'.phase }) action =
     record {
       steps = gain.step ∷ u.steps;
       view = view;
       walked = (made, u.walked);
-      at = subst (λ (z : Call). IsAt c z (all_shown u.steps ++ shown_by gain.step ∷ [])) (sym same) (subst (λ (y : Seen). IsAt c call' (all_shown u.steps ++ y ∷ [])) (sym gain.shows) on.0.at);
-      goes = subst (λ (y : Seen). path c t r (all_shown u.steps ++ y ∷ []) ≡ Some action) (sym gain.shows) on.0.follows;
-      rests = subst (λ (y : Seen). Rests c t r (pins_by_call call') (all_shown u.steps ++ y ∷ []) action) (sym gain.shows) on.0.rests;
+      at = subst (λ (z : Call). IsAt c z (all_shown u.steps ++ shown_by gain.step ∷ [])) (sym same) (subst (λ (y : Observation). IsAt c call' (all_shown u.steps ++ y ∷ [])) (sym gain.shows) on.0.at);
+      goes = subst (λ (y : Observation). path c t r (all_shown u.steps ++ y ∷ []) ≡ Some action) (sym gain.shows) on.0.follows;
+      rests = subst (λ (y : Observation). Rests c t r (pins_by_call call') (all_shown u.steps ++ y ∷ []) action) (sym gain.shows) on.0.rests;
       copy = u.copy;
       of_copy = u.of_copy;
       phase = phase_after c t u.phase x;
@@ -137,18 +137,18 @@ goes-on c k v w w' call call' action s x knows u m callers requests goes =
     (subst (λ (z : Call). IsUnderway c k v w' z action) same here, on.2)
 
 -- the end of a copy that comes to no access
-pub ends-refused : (c : CallerKnowledge) (k : Layout) (v w : View) (call : Call) (verdict : Verdict) → IsUnderway c k v w call (Done verdict) → EndsRefused c k call verdict v w
+pub ends-refused : (c : CallerKnowledge) (k : Layout) (v w : View) (call : Call) (verdict : CallResult) → IsUnderway c k v w call (Done verdict) → EndsRefused c k call verdict v w
 ends-refused c k v w call verdict u = by u.phase u.acts u.stands
   where
-    at-end : (pins : Pins) (denial : Denial) (ps : List Held) → last_first pins ≡ ps → Done verdict ≡ next_to_give ps (Refused denial) → StandsWell k v w u.steps (Ending pins (Refused denial)) → EndsRefused c k call verdict v w
+    at-end : (pins : CallPins) (denial : Denial) (ps : List HeldPin) → last_first pins ≡ ps → Done verdict ≡ next_to_give ps (Refused denial) → StandsWell k v w u.steps (Ending pins (Refused denial)) → EndsRefused c k call verdict v w
     at-end pins denial [] e a well =
         let same : verdict ≡ Refused denial = cc in
         record {
           denial = denial;
           refused = same;
-          called = subst (λ (y : Verdict). Called k (path c call.caller call.request) y v w) (sym same)
-              (record { steps = u.steps; view = u.view; walked = u.walked; moments = walk-moments k (path c call.caller call.request) v u.steps u.walked; answered = u.goes ∙ ap (λ (y : Verdict). Some (Done y)) same; carried = well.stays });
-          same = all-back k v w (subst (λ (qs : List Held). HasTaken k qs v w) e well.taken);
+          called = subst (λ (y : CallResult). Called k (path c call.caller call.request) y v w) (sym same)
+              (record { steps = u.steps; view = u.view; walked = u.walked; moments = walk-moments k (path c call.caller call.request) v u.steps u.walked; answered = u.goes ∙ ap (λ (y : CallResult). Some (Done y)) same; carried = well.stays });
+          same = all-back k v w (subst (λ (qs : List HeldPin). HasTaken k qs v w) e well.taken);
         }
     at-end pins denial (p ∷ ps) e a well = cc
 
@@ -176,7 +176,7 @@ no-leg l (Second more word body) from to len e = cc
 no-leg l (Pinning more word body second) from to len e = cc
 no-leg l (Relook more word rule) from to len e = cc
 
-no-end : (ps : List Held) (verdict : Verdict) (from to : Spot) (len : ℕ) → Makes (CopyBytes from to len) ≡ next_to_give ps verdict → ⊥
+no-end : (ps : List HeldPin) (verdict : CallResult) (from to : Spot) (len : ℕ) → Makes (CopyBytes from to len) ≡ next_to_give ps verdict → ⊥
 no-end [] verdict from to len e = cc
 no-end (p ∷ ps) verdict from to len e = cc
 
@@ -184,21 +184,21 @@ no-end (p ∷ ps) verdict from to len e = cc
 pub comes-there : (c : CallerKnowledge) (k : Layout) (v w : View) (call : Call) (from to : Spot) (len : ℕ) → IsUnderway c k v w call (Makes (CopyBytes from to len)) → AtAccess c k call from to len v w
 comes-there c k v w call from to len u = by u.phase u.there u.acts u.stands
   where
-    here : (copy : CopyArgs) (source dest : Route) → call.phase ≡ Some (Accessing copy source dest) → StandsWell k v w u.steps (Accessing copy source dest) → AtAccess c k call from to len v w
+    here : (copy : CopyArgs) (source dest : AccessPath) → call.phase ≡ Some (Accessing copy source dest) → StandsWell k v w u.steps (Accessing copy source dest) → AtAccess c k call from to len v w
     here copy source dest there well =
         let t = call.caller in let r = call.request in let way = path c t r in
         let held : pins_by_call call ≡ record { source = source; dest = dest } = held-there call (Accessing copy source dest) there in
         let at : IsAt c (record call { phase = Some (Accessing copy source dest) }) (all_shown u.steps) = subst (λ (o : Option Phase). IsAt c (record call { phase = o }) (all_shown u.steps)) there u.at in
-        let leads : (vs : List Seen) → way ((all_shown u.steps ++ Nothing ∷ []) ++ vs) ≡ give_back (last_first (record { source = source; dest = dest })) Granted vs =
+        let leads : (vs : List Observation) → way ((all_shown u.steps ++ Nothing ∷ []) ++ vs) ≡ give_back (last_first (record { source = source; dest = dest })) Granted vs =
         λ vs. ap way (append_assoc (all_shown u.steps) (Nothing ∷ []) vs) ∙ at.leads (Nothing ∷ vs) in
         record {
           comes = record { steps = u.steps; view = u.view; walked = u.walked; moments = walk-moments k way v u.steps u.walked; next = u.goes; is_access = tt };
           copy = copy;
-          there = there ∙ ap (λ (h : Pins). Some (Accessing copy h.source h.dest)) (sym held);
+          there = there ∙ ap (λ (h : CallPins). Some (Accessing copy h.source h.dest)) (sym held);
           rests = u.rests.1;
-          taken = subst (λ (h : Pins). HasTaken k (last_first h) v w) (sym held) well.taken;
-          of_run = subst (λ (h : Pins). AreOfRun k (last_first h)) (sym held) well.of_run;
-          ends = fun_ext leads ∙ ap (λ (h : Pins). give_back (last_first h) Granted) (sym held);
+          taken = subst (λ (h : CallPins). HasTaken k (last_first h) v w) (sym held) well.taken;
+          of_run = subst (λ (h : CallPins). AreOfRun k (last_first h)) (sym held) well.of_run;
+          ends = fun_ext leads ∙ ap (λ (h : CallPins). give_back (last_first h) Granted) (sym held);
         }
 
     by : (phase : Phase) → call.phase ≡ Some phase → Makes (CopyBytes from to len) ≡ action_at call.caller phase → StandsWell k v w u.steps phase → AtAccess c k call from to len v w

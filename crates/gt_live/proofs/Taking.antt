@@ -11,7 +11,7 @@ use Rattle.gt_words.specs.Views.{IsAmong, LivePin, is_same_dir, last_seen, live_
 use Rattle.gt_words.specs.Views.{without_pin}
 use Rattle.gt_words.specs.declared.view.EntryRecord.{EntryRecord}
 use Rattle.gt_words.specs.declared.view.View.{View}
-use Rattle.gt_calls.specs.declared.held.Held.{Held}
+use Rattle.gt_calls.specs.declared.held.HeldPin.{HeldPin}
 use Rattle.gt_live.specs.Driving.{IsSame}
 use Rattle.gt_live.specs.Mappings.{HasPin, entry_record_of}
 use Rattle.gt_live.specs.Underway.{AreOfRun, HasTaken, is_of_entry, live_pins_by}
@@ -24,16 +24,16 @@ in-append a (x ∷ xs) ys (inl e) = inl e
 in-append a (x ∷ xs) ys (inr more) = inr (in-append a xs ys more)
 
 module _ (k : Layout) where
-  of-itself : (p : Held) → is_of_entry k (position_in k.ids p.dom) p.gref.0 p ≡ true
+  of-itself : (p : HeldPin) → is_of_entry k (position_in k.ids p.dom) p.gref.0 p ≡ true
   of-itself p =
       ap (λ (b : Bool). b && (p.gref.0 == p.gref.0)) (eq-eqb (position_in k.ids p.dom) (position_in k.ids p.dom) refl) ∙ eq-eqb p.gref.0 p.gref.0 refl
 
-  in-live : (taken : List Held) (p : Held) → IsAmong p taken → IsAmong (p.dir, entry_record_of p) (live_pins_by k (position_in k.ids p.dom) p.gref.0 taken)
+  in-live : (taken : List HeldPin) (p : HeldPin) → IsAmong p taken → IsAmong (p.dir, entry_record_of p) (live_pins_by k (position_in k.ids p.dom) p.gref.0 taken)
   in-live [] p is = absurd is
   in-live (q ∷ qs) p (inl e) =
       let t = position_in k.ids p.dom in let r = p.gref.0 in
-      let here : is_of_entry k t r q ≡ true = ap (λ (x : Held). is_of_entry k t r x) (sym e) ∙ of-itself p in
-      subst (λ (b : Bool). IsAmong (p.dir, entry_record_of p) (cond b ((q.dir, entry_record_of q) ∷ live_pins_by k t r qs) (live_pins_by k t r qs))) (sym here) (inl (ap (λ (x : Held). (x.dir, entry_record_of x)) e))
+      let here : is_of_entry k t r q ≡ true = ap (λ (x : HeldPin). is_of_entry k t r x) (sym e) ∙ of-itself p in
+      subst (λ (b : Bool). IsAmong (p.dir, entry_record_of p) (cond b ((q.dir, entry_record_of q) ∷ live_pins_by k t r qs) (live_pins_by k t r qs))) (sym here) (inl (ap (λ (x : HeldPin). (x.dir, entry_record_of x)) e))
   in-live (q ∷ qs) p (inr more) = by (is_of_entry k (position_in k.ids p.dom) p.gref.0 q) (in-live qs p more)
     where
       by : (b : Bool) → IsAmong (p.dir, entry_record_of p) (live_pins_by k (position_in k.ids p.dom) p.gref.0 qs)
@@ -42,20 +42,20 @@ module _ (k : Layout) where
       by false is = is
 
   -- a pin that was taken is in the view
-  pub is-taken : (taken : List Held) (v w : View) (p : Held) → HasTaken k taken v w → IsAmong p taken → IsAmong (p.dir, entry_record_of p) (live_pins (steps_on (position_in k.ids p.dom) p.gref.0 w))
+  pub is-taken : (taken : List HeldPin) (v w : View) (p : HeldPin) → HasTaken k taken v w → IsAmong p taken → IsAmong (p.dir, entry_record_of p) (live_pins (steps_on (position_in k.ids p.dom) p.gref.0 w))
   is-taken taken v w p x is =
       let t = position_in k.ids p.dom in let r = p.gref.0 in
       subst (λ (ps : List LivePin). IsAmong (p.dir, entry_record_of p) ps) (sym (x.pins t r)) (in-append (p.dir, entry_record_of p) (live_pins_by k t r taken) (live_pins (steps_on t r v)) (in-live taken p is))
 
-  pub of-run : (taken : List Held) (p : Held) → AreOfRun k taken → IsAmong p taken → HasDomain k p.dom × (p.gref.0 < TABLE_ENTRIES)
+  pub of-run : (taken : List HeldPin) (p : HeldPin) → AreOfRun k taken → IsAmong p taken → HasDomain k p.dom × (p.gref.0 < TABLE_ENTRIES)
   of-run [] p all is = absurd is
-  of-run (q ∷ qs) p all (inl e) = subst (λ (x : Held). HasDomain k x.dom × (x.gref.0 < TABLE_ENTRIES)) (sym e) all.0
+  of-run (q ∷ qs) p all (inl e) = subst (λ (x : HeldPin). HasDomain k x.dom × (x.gref.0 < TABLE_ENTRIES)) (sym e) all.0
   of-run (q ∷ qs) p all (inr more) = of-run qs p all.1 more
 
-  pub has-pin : (taken : List Held) (v w : View) (p : Held) → HasTaken k taken v w → AreOfRun k taken → IsAmong p taken → HasPin k w p
+  pub has-pin : (taken : List HeldPin) (v w : View) (p : HeldPin) → HasTaken k taken v w → AreOfRun k taken → IsAmong p taken → HasPin k w p
   has-pin taken v w p x all is = let run = of-run taken p all is in record { run = run.0; inside = run.1; held = is-taken taken v w p x is }
 
-  pub holds-taken : (taken : List Held) (v w : View) (p : Held) → HasTaken k taken v w → IsAmong p taken → Holds (position_in k.ids p.dom) p.gref.0 p.dir (generation_of p.word) w
+  pub holds-taken : (taken : List HeldPin) (v w : View) (p : HeldPin) → HasTaken k taken v w → IsAmong p taken → Holds (position_in k.ids p.dom) p.gref.0 p.dir (generation_of p.word) w
   holds-taken taken v w p x is = in-counted p.dir (entry_record_of p) (live_pins (steps_on (position_in k.ids p.dom) p.gref.0 w)) (is-taken taken v w p x is)
 
   -- nothing is taken at the beginning, and the same is there where nothing is held
@@ -66,7 +66,7 @@ module _ (k : Layout) where
   all-back v w x = record { pins = x.pins; records = x.records; seen = x.seen; position = x.position; ids = x.ids }
 
   -- a look changes nothing of it
-  pub taken-look : (taken : List Held) (v u w : View) → HasTaken k taken v u → IsSame u w → HasTaken k taken v w
+  pub taken-look : (taken : List HeldPin) (v u w : View) → HasTaken k taken v u → IsSame u w → HasTaken k taken v w
   taken-look taken v u w x s = record {
     pins = λ t r. s.pins t r ∙ x.pins t r;
     records = λ r. s.records r ∙ x.records r;
@@ -75,7 +75,7 @@ module _ (k : Layout) where
     ids = s.ids ∙ x.ids;
   }
 
-  module _ (p : Held) (taken : List Held) (v u w : View) where
+  module _ (p : HeldPin) (taken : List HeldPin) (v u w : View) where
     abbrev pub at : ℕ
     at = position_in k.ids p.dom
 

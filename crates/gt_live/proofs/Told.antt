@@ -5,7 +5,7 @@ use Rattle.gt_audit.specs.Telling.{Tells, Telling}
 use Rattle.gt_audit.specs.declared.record.Hypercall.{Hypercall}
 use Rattle.gt_audit.specs.declared.record.Record.{Record}
 use Rattle.gt_audit.specs.declared.record.Reply.{Reply}
-use Rattle.gt_calls.specs.declared.action.Verdict.{Verdict}
+use Rattle.gt_calls.specs.declared.action.CallResult.{CallResult}
 use Rattle.gt_calls.specs.declared.request.Request.{Request}
 use Rattle.gt_words.specs.Conditions.{Board, IsSameSeat, SeatOf}
 use Rattle.gt_types.specs.declared.config.Config.{Config}
@@ -25,7 +25,7 @@ still-mine b c may d seat is same view =
 
 -- what a call without a record did and answered stays, and its record is told
 pub told : {P : Type 0} (may : P → AllowRelation) (m : Monitor P) (d f e : Domain) (request : Request) (call : Hypercall)
-    (reply : Reply) (verdict : Verdict) → StaysIn may m d f → AnswersQuietly may m d request verdict f
+    (reply : Reply) (verdict : CallResult) → StaysIn may m d f → AnswersQuietly may m d request verdict f
     → Tells f.trail (record { dom = f.seat.dom; call = call; reply = reply }) e.trail → reply ≡ reply_of verdict
     → e ≡ record f { trail = e.trail } → AnswersTold may m d request call verdict e
 told may m d f e request call reply verdict stays quiet tells is same =

@@ -10,18 +10,18 @@ use Rattle.gt_calls.specs.Legs.{leg_after, leg_step}
 use Rattle.gt_calls.specs.Machine.{after_leg}
 use Rattle.gt_calls.specs.Path.{map_leg, path}
 use Rattle.gt_calls.specs.Rules.{CallerKnowledge, begun}
-use Rattle.gt_calls.specs.declared.action.Seen.{Seen}
-use Rattle.gt_calls.specs.declared.action.Verdict.TheVariants.{Mapped, Refused}
+use Rattle.gt_calls.specs.declared.action.Observation.{Observation}
+use Rattle.gt_calls.specs.declared.action.CallResult.TheVariants.{Mapped, Refused}
 use Rattle.gt_calls.specs.declared.call.Phase.TheVariants.{Walking}
-use Rattle.gt_calls.specs.declared.copying.Aim.TheVariants.{Mapping}
-use Rattle.gt_calls.specs.declared.held.Held.{Held}
+use Rattle.gt_calls.specs.declared.copying.PinPurpose.TheVariants.{Mapping}
+use Rattle.gt_calls.specs.declared.held.HeldPin.{HeldPin}
 use Rattle.gt_calls.specs.declared.leg.Leg.{Leg}
 use Rattle.gt_calls.specs.declared.leg.LegNext.{LegNext}
 use Rattle.gt_calls.specs.declared.leg.LegNext.TheVariants.{Going as GoesTo, Refused as LegRefused, Pinned as LegPinned}
 use Rattle.gt_calls.specs.declared.leg.LegPhase.{LegPhase}
 use Rattle.gt_calls.specs.declared.leg.LegPhase.TheVariants.{Header}
-use Rattle.gt_calls.specs.declared.request.Asked.{Asked}
-use Rattle.gt_calls.specs.declared.request.Asked.TheVariants as asks
+use Rattle.gt_calls.specs.declared.request.OpenRequest.{OpenRequest}
+use Rattle.gt_calls.specs.declared.request.OpenRequest.TheVariants as asks
 use Rattle.gt_live.specs.declared.driving.Effect.{Effect}
 use Rattle.gt_live.specs.declared.driving.Effect.TheVariants.{Nothing, Pinned, Unpinned, Changed, Stored}
 use Rattle.gt_live.specs.Driving.{Knows, Leaves}
@@ -32,7 +32,7 @@ use Rattle.gt_live.specs.Walks.{Called, Made}
 use Rattle.gt_live.proofs.Advancing.{makes-next}
 use Rattle.gt_live.proofs.Stepping.{IsIn, PhaseLaw, call_in, further, over, starts}
 
-refused-left : (c : CallerKnowledge) (k : Layout) (caller : DomId) (request : Asked) (v w : View) (effect : Effect)
+refused-left : (c : CallerKnowledge) (k : Layout) (caller : DomId) (request : OpenRequest) (v w : View) (effect : Effect)
     (denial : Denial) → Answers effect (Refused denial) → Leaves c k caller request v w effect
     → Leaves c k caller request v w Nothing
 refused-left c k caller request v w Nothing denial a left = left
@@ -41,11 +41,11 @@ refused-left c k caller request v w (Unpinned h) denial a left = absurd a
 refused-left c k caller request v w (Changed q change) denial a left = absurd a
 refused-left c k caller request v w Stored denial a left = absurd a
 
-pinned-left : (c : CallerKnowledge) (k : Layout) (caller : DomId) (request : Asked) (v w : View) (effect : Effect)
-    (p : Held) → Answers effect (Mapped p) → Leaves c k caller request v w effect
+pinned-left : (c : CallerKnowledge) (k : Layout) (caller : DomId) (request : OpenRequest) (v w : View) (effect : Effect)
+    (p : HeldPin) → Answers effect (Mapped p) → Leaves c k caller request v w effect
     → Leaves c k caller request v w (Pinned p)
 pinned-left c k caller request v w (Pinned q) p a left =
-    subst (λ (x : Held). Leaves c k caller request v w (Pinned x)) (sym a) left
+    subst (λ (x : HeldPin). Leaves c k caller request v w (Pinned x)) (sym a) left
 pinned-left c k caller request v w Nothing p a left = absurd a
 pinned-left c k caller request v w (Unpinned h) p a left = absurd a
 pinned-left c k caller request v w (Changed q change) p a left = absurd a
@@ -68,7 +68,7 @@ module _ (c : CallerKnowledge) (law : PhaseLaw c) (k : Layout) (v : View) (calle
       × Leaves c k caller (asks.Map dom gref flags) v w (Pinned p)
 
   -- a step that was made leads to what its leg goes on with
-  comes : (at : LegPhase) (seen : Seen) (next : LegNext) (u w : View) → Stands at u → Made k (leg_step l at) seen u w
+  comes : (at : LegPhase) (seen : Observation) (next : LegNext) (u w : View) → Stands at u → Made k (leg_step l at) seen u w
       → leg_after l at seen ≡ next → Comes next w
   comes at seen (GoesTo at2) u w here made is =
       further c law k v caller (asks.Map dom gref flags) (Walking Mapping l at) (leg_step l at) seen
@@ -103,7 +103,7 @@ module _ (c : CallerKnowledge) (law : PhaseLaw c) (k : Layout) (v : View) (calle
       (comes-by here x.0 (GoesTo at) w x.1)
 
   -- a map whose leg was walked to its end
-  pub map-walked : (result : Result Held Denial) (w : View) → Stands Header v → WalksLeg k l v (next_by result) w
+  pub map-walked : (result : Result HeldPin Denial) (w : View) → Stands Header v → WalksLeg k l v (next_by result) w
       → Called k (path c caller (asks.Map dom gref flags)) (pin_verdict result) v w
       × Leaves c k caller (asks.Map dom gref flags) v w (pin_effect result)
   map-walked (Ok p) w here x = comes-by here x.0 (LegPinned p) w x.1

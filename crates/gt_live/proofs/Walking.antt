@@ -4,17 +4,17 @@ use Rattle.std.proofs.Common.{◌++◌, Option, Some, None, arith, append_assoc}
 use Rattle.gt_types.specs.declared.limits.TheConstants.{ENTRIES_V1, ENTRIES_V2, MAX_TABLE_FRAMES, TABLE_ENTRIES}
 use Rattle.gt_types.specs.declared.DomId.{DomId}
 use Rattle.gt_types.specs.declared.GrantRef.{GrantRef}
-use Rattle.gt_entry.specs.declared.control.Kind.TheVariants.{Sub as KindSub}
+use Rattle.gt_entry.specs.declared.control.EntryKind.TheVariants.{Sub as KindSub}
 use Rattle.gt_entry.specs.Words.{control_of, header_of, size_of}
 use Rattle.gt_words.specs.Rule.{Layout, position_in}
-use Rattle.gt_words.specs.Views.{Seen as Looks, seen, steps_on, with_body}
-use Rattle.gt_entry.specs.declared.change.Half.TheVariants.{First}
+use Rattle.gt_words.specs.Views.{Observation as Looks, seen, steps_on, with_body}
+use Rattle.gt_entry.specs.declared.change.BodyWord.TheVariants.{First}
 use Rattle.gt_words.specs.History.{Moment}
 use Rattle.gt_words.specs.declared.view.View.{View}
 use Rattle.gt_calls.specs.declared.action.Action.{Action}
 use Rattle.gt_calls.specs.declared.action.Action.TheVariants.{Step as Makes}
-use Rattle.gt_calls.specs.declared.action.Seen.{Seen}
-use Rattle.gt_calls.specs.declared.action.Seen.TheVariants.{Word}
+use Rattle.gt_calls.specs.declared.action.Observation.{Observation}
+use Rattle.gt_calls.specs.declared.action.Observation.TheVariants.{Word}
 use Rattle.gt_calls.specs.declared.action.Step.{Step}
 use Rattle.gt_calls.specs.declared.action.Step.TheVariants.{LookHeader, LookControl, LookBody}
 use Rattle.gt_calls.specs.Path.{Continuation}
@@ -46,30 +46,30 @@ after-position [] v = refl
 after-position (x ∷ xs) v = after-position xs v
 
 -- the last step of a walk, which the call made after these values and which showed this
-pub record MadeLast (k : Layout) (way : Continuation) (v : View) (steps : List Moment) (before : List Seen) (x : Seen) (s : Step) : Type 0 where
+pub record MadeLast (k : Layout) (way : Continuation) (v : View) (steps : List Moment) (before : List Observation) (x : Observation) (s : Step) : Type 0 where
   pub rest : List Moment
   pub walked : IsWalk k way v rest
   pub shown_is : all_shown rest ≡ before
   pub made : Made k s x (view_after rest v) (view_after steps v)
 
-pub made-last : (k : Layout) (way : Continuation) (v : View) (steps : List Moment) (before : List Seen) (x : Seen) (s : Step) → IsWalk k way v steps → all_shown steps ≡ before ++ x ∷ [] → way before ≡ Some (Makes s)
+pub made-last : (k : Layout) (way : Continuation) (v : View) (steps : List Moment) (before : List Observation) (x : Observation) (s : Step) → IsWalk k way v steps → all_shown steps ≡ before ++ x ∷ [] → way before ≡ Some (Makes s)
     → MadeLast k way v steps before x s
 made-last k way v [] before x s walk e f = absurd (never before x [] e)
 made-last k way v (y ∷ rest) before x s walk e f =
     let i = snoc-inj (all_shown rest) before (shown_by y) x e in
     let m : Made k s (shown_by y) (view_after rest v) (view_after (y ∷ rest) v) =
     subst (λ (o : Option Action). MakesStep k o (shown_by y) (view_after rest v) (view_after (y ∷ rest) v)) (ap way i.0 ∙ f) walk.0 in
-    record { rest = rest; walked = walk.1; shown_is = i.0; made = subst (λ (z : Seen). Made k s z (view_after rest v) (view_after (y ∷ rest) v)) i.1 m }
+    record { rest = rest; walked = walk.1; shown_is = i.0; made = subst (λ (z : Observation). Made k s z (view_after rest v) (view_after (y ∷ rest) v)) i.1 m }
 
 -- a header that was shown has no larger table than there is room for
-shown-header : (k : Layout) (way : Continuation) (v : View) (steps : List Moment) (before : List Seen) (word : ℕ) (later : List Seen) (dom : DomId) → IsWalk k way v steps → all_shown steps ≡ before ++ Word word ∷ later
+shown-header : (k : Layout) (way : Continuation) (v : View) (steps : List Moment) (before : List Observation) (word : ℕ) (later : List Observation) (dom : DomId) → IsWalk k way v steps → all_shown steps ≡ before ++ Word word ∷ later
     → way before ≡ Some (Makes (LookHeader dom)) → size_of (header_of word) ≤ TABLE_ENTRIES
 shown-header k way v [] before word later dom walk e f = absurd (never before (Word word) later e)
 shown-header k way v (y ∷ rest) before word [] dom walk e f = (made-last k way v (y ∷ rest) before (Word word) (LookHeader dom) walk e f).made.size
 shown-header k way v (y ∷ rest) before word (a ∷ bs) dom walk e f =
     let u = unsnoc a bs in
     let split : before ++ Word word ∷ (a ∷ bs) ≡ (before ++ Word word ∷ u.0) ++ u.1 ∷ [] =
-    ap (λ (zs : List Seen). before ++ Word word ∷ zs) u.2 ∙ sym (append_assoc before (Word word ∷ u.0) (u.1 ∷ [])) in
+    ap (λ (zs : List Observation). before ++ Word word ∷ zs) u.2 ∙ sym (append_assoc before (Word word ∷ u.0) (u.1 ∷ [])) in
     shown-header k way v rest before word u.0 dom walk.1 (snoc-inj (all_shown rest) (before ++ Word word ∷ u.0) (shown_by y) u.1 (e ∙ split)).0 f
 
 -- a table within the limit of frames has no more entries than there is room for

@@ -1,13 +1,13 @@
 -- Calls with an access to bytes: the way to it, the access, and the way on to the end.
 use Rattle.std.specs.Prelude.{◌≡◌, ◌⊎◌, ℕ, List, [], ◌∷◌, ◌++◌, Some, Result, Ok, Err}
 use Rattle.gt_live.specs.Prelude.{DomId, Denial, N16, N26, NoFacts, denial_of, Layout, Moment, View, Copying, Reading}
-use Rattle.gt_live.specs.Prelude.{Writing, FrameName, IsReadOf, copying_at, writing_at, Makes, Seen}
+use Rattle.gt_live.specs.Prelude.{Writing, FrameName, IsReadOf, copying_at, writing_at, Makes, Observation}
 use Rattle.gt_live.specs.Prelude.{Nothing, Step, ReadBytes, WriteBytes, CopyBytes, Granted, Refused, Continuation}
 use Rattle.gt_live.specs.Walks.{AreMoments, Called, IsWalk, view_after, all_shown}
 pub use Rattle.gt_calls.specs.Standing.{IsAccess}
 
 -- what follows on this way after these values
-abbrev pub onward : Continuation → List Seen → Continuation
+abbrev pub onward : Continuation → List Observation → Continuation
 onward way values vs = way (values ++ vs)
 
 -- A call came to this access: the steps that took its seat's view from v to w are those of
@@ -22,9 +22,9 @@ pub record ComesTo (k : Layout) (way : Continuation) (access : Step) (v w : View
 
 -- of the actions on this way, over the values of a whole call, none is an access to bytes but the one
 -- that comes after the values before
-abbrev pub IsOnlyAccess : Continuation → List Seen → List Seen → Type 0
+abbrev pub IsOnlyAccess : Continuation → List Observation → List Observation → Type 0
 IsOnlyAccess way before whole =
-    (vs rest : List Seen) (s : Step) → whole ≡ vs ++ rest → way vs ≡ Some (Makes s) → IsAccess s → vs ≡ before
+    (vs rest : List Observation) (s : Step) → whole ≡ vs ++ rest → way vs ≡ Some (Makes s) → IsAccess s → vs ≡ before
 
 -- A call with this access was made whole: it came to the access, which shows nothing, and went on from there to its
 -- end, at which its way is Ok; so the access stands after the steps on the words that it came by and before those

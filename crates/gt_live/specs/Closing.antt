@@ -1,7 +1,7 @@
 -- How a domain closes its table, and what one look at an entry of its own finds.
 use Rattle.std.specs.Prelude.{◌≡◌, ◌⊎◌, ◌<◌, ◌≤◌, ℕ, Bool, true, nat_lt, not, ◌||◌, List, length, count_by, HoldsAt, Option, Some, None}
 use Rattle.gt_entry.specs.declared.control.Control.{Control}
-use Rattle.gt_entry.specs.declared.control.Kind.TheVariants.{Invalid as NoKind}
+use Rattle.gt_entry.specs.declared.control.EntryKind.TheVariants.{Invalid as NoKind}
 use Rattle.gt_calls.specs.Rules.{size_of}
 use Rattle.gt_handles.specs.Handles.{IsEmpty}
 use Rattle.gt_calls.specs.declared.request.Request.TheVariants as requests

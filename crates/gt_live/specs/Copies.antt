@@ -2,11 +2,11 @@
 -- specs/ because contracts cite it.
 use Rattle.std.specs.Prelude.{◌≡◌, List, [], ◌∷◌, Some, None, Result, Ok, Err}
 use Rattle.gt_live.specs.Prelude.{DomId, Read, Write, GrantRef, Denial, Layout, View, Nothing, Unpin, Refused, Phase}
-use Rattle.gt_live.specs.Prelude.{Accessing, Ending, Walking, Aim, Source, Dest, Held, Pins, Route, Leg, Header}
+use Rattle.gt_live.specs.Prelude.{Accessing, Ending, Walking, PinPurpose, Source, Dest, HeldPin, CallPins, AccessPath, Leg, Header}
 use Rattle.gt_live.specs.Prelude.{CopyArgs, Copy, Call, ByLeg, last_first, no_pins, pins_so_far}
 use Rattle.gt_live.specs.Prelude.{without_last, after_pin_of, at_dest, end_leg, place_of, second_leg, CallerKnowledge}
-use Rattle.gt_live.specs.Prelude.{Halfway}
-use Rattle.gt_calls.specs.declared.held.Route.TheVariants.{Own}
+use Rattle.gt_live.specs.Prelude.{PendingCopy}
+use Rattle.gt_calls.specs.declared.held.AccessPath.TheVariants.{Own}
 use Rattle.gt_live.specs.Driving.{CanMake}
 use Rattle.gt_live.specs.Underway.{AtAccess, EndsRefused}
 use Rattle.gt_live.specs.Walks.{Made}
@@ -20,12 +20,12 @@ abbrev pub unmoved_copy : DomId → CopyArgs → Call
 unmoved_copy caller copy = record { caller = caller; request = Copy copy; phase = None }
 
 -- the pin of this Via is the last that is held for the aim
-abbrev pub IsLastOf : Held → Aim → Type 0
-IsLastOf via aim = (others : List Held) × (last_first (pins_so_far aim) ≡ via ∷ others)
+abbrev pub IsLastOf : HeldPin → PinPurpose → Type 0
+IsLastOf via aim = (others : List HeldPin) × (last_first (pins_so_far aim) ≡ via ∷ others)
 
 -- what follows the second leg of an end: what follows its pin, or the end of the call once the pin of the Via is given
 -- back
-abbrev pub after_through : CallerKnowledge → DomId → Aim → Leg → DomId → GrantRef → Result Held Denial → Phase
+abbrev pub after_through : CallerKnowledge → DomId → PinPurpose → Leg → DomId → GrantRef → Result HeldPin Denial → Phase
 after_through c caller aim first dom gref (Ok p) = after_pin_of c caller aim (second_leg c first dom gref) p
 after_through c caller aim first dom gref (Err denial) = Ending (without_last (pins_so_far aim)) (Refused denial)
 
@@ -38,43 +38,43 @@ filled (Err denial) value = Err denial
 abbrev pub source_leg : CallerKnowledge → DomId → CopyArgs → Phase
 source_leg c caller copy = Walking (Source copy None) (end_leg c caller copy.source Read copy.len) Header
 
-abbrev pub phase_after_source : CallerKnowledge → DomId → CopyArgs → Result Route Denial → Phase
+abbrev pub phase_after_source : CallerKnowledge → DomId → CopyArgs → Result AccessPath Denial → Phase
 phase_after_source c caller copy (Ok source) = at_dest c caller copy source
 phase_after_source c caller copy (Err denial) = Ending no_pins (Refused denial)
 
 -- a copy before the leg to its destination, and after it
-abbrev pub dest_leg : CallerKnowledge → DomId → CopyArgs → Route → Phase
+abbrev pub dest_leg : CallerKnowledge → DomId → CopyArgs → AccessPath → Phase
 dest_leg c caller copy source = Walking (Dest copy source None) (end_leg c caller copy.dest Write copy.len) Header
 
-abbrev pub after_dest : CopyArgs → Route → Result Route Denial → Phase
+abbrev pub after_dest : CopyArgs → AccessPath → Result AccessPath Denial → Phase
 after_dest copy source (Ok dest) = Accessing copy source dest
 after_dest copy source (Err denial) = Ending (record { source = source; dest = Own }) (Refused denial)
 
 -- a copy at its access, or at its end if it was refused before
-abbrev pub after_copy : CopyArgs → Result Pins Denial → Phase
+abbrev pub after_copy : CopyArgs → Result CallPins Denial → Phase
 after_copy copy (Ok pins) = Accessing copy pins.source pins.dest
 after_copy copy (Err denial) = Ending no_pins (Refused denial)
 
 -- where a copy stops: at its access with these pins, or refused before it
-abbrev pub StopsSo : CallerKnowledge → Layout → DomId → CopyArgs → Result Pins Denial → View → View → Type 0
-StopsSo c k caller copy (Ok pins) v w =
+abbrev pub CopyStopsWith : CallerKnowledge → Layout → DomId → CopyArgs → Result CallPins Denial → View → View → Type 0
+CopyStopsWith c k caller copy (Ok pins) v w =
     AtAccess c k (copy_call caller copy (Accessing copy pins.source pins.dest))
     (place_of caller copy.source pins.source) (place_of caller copy.dest pins.dest) copy.len v w
-StopsSo c k caller copy (Err denial) v w = EndsRefused c k (unmoved_copy caller copy) (Refused denial) v w
+CopyStopsWith c k caller copy (Err denial) v w = EndsRefused c k (unmoved_copy caller copy) (Refused denial) v w
 
 -- these pins were given back, the first of them first, and nothing else was done
-abbrev pub IsGivenBack : Layout → List Held → View → View → Type 0
+abbrev pub IsGivenBack : Layout → List HeldPin → View → View → Type 0
 IsGivenBack k [] v w = w ≡ v
 IsGivenBack k (p ∷ ps) v w = (u : View) × Made k (Unpin p (ByLeg 0)) Nothing v u × IsGivenBack k ps u w
 
 -- these pins can be given back, the first of them first
-abbrev pub CanGiveBack : Layout → List Held → View → Type 0
+abbrev pub CanGiveBack : Layout → List HeldPin → View → Type 0
 CanGiveBack k [] v = Unit {0}
 CanGiveBack k (p ∷ ps) v =
     CanMake k v (Unpin p (ByLeg 0)) × ((u : View) → Made k (Unpin p (ByLeg 0)) Nothing v u → CanGiveBack k ps u)
 
 -- a copy of this caller at its access, with these pins
-abbrev pub halfway_with : DomId → CopyArgs → Pins → Halfway
+abbrev pub halfway_with : DomId → CopyArgs → CallPins → PendingCopy
 halfway_with caller copy pins =
     record {
       call = copy_call caller copy (Accessing copy pins.source pins.dest);

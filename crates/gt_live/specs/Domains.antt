@@ -3,14 +3,14 @@ use Rattle.std.specs.Prelude.{◌≡◌, ◌⊎◌, ℕ, ◌<◌, Bool, length, 
 use Rattle.gt_live.specs.Prelude.{DomId, TypeId, GrantRef, Size, Hypercall, Record, Reply, Perms, Config}
 use Rattle.gt_live.specs.Prelude.{Denial, N16, N26, NoFacts, TABLE_ENTRIES, denial_of, Board, IsSameSeat, IsSeatOf}
 use Rattle.gt_live.specs.Prelude.{KeepsPins, Unpins, generation_of, Moment, Layout, position_in, last_of, own_table}
-use Rattle.gt_live.specs.Prelude.{live_pins, steps_on, View, HandleMap, value_of, Handle, Verdict, Granted, Given}
+use Rattle.gt_live.specs.Prelude.{live_pins, steps_on, View, HandleMap, value_of, Handle, CallResult, Granted, Given}
 use Rattle.gt_live.specs.Prelude.{Mapped}
-use Rattle.gt_live.specs.Prelude.{Refused, Frames, SizeTold, Version, Held, CopyArgs, Request, Copying, begun_of}
+use Rattle.gt_live.specs.Prelude.{Refused, Frames, SizeTold, Version, HeldPin, CopyArgs, Request, Copying, begun_of}
 use Rattle.gt_live.specs.Prelude.{path_of, CallerKnowledge, knowledge_of}
 use Rattle.gt_live.specs.Prelude.{entry_in}
-use Rattle.gt_live.specs.Prelude.{own_generation, Domain, Left, Monitor, NotMade, Gone, OutOfMemory, Step}
+use Rattle.gt_live.specs.Prelude.{own_generation, Domain, Departed, Monitor, NotMade, Gone, OutOfMemory, Step}
 use Rattle.gt_audit.specs.Telling.{Tells}
-use Rattle.gt_frames.specs.Visits.{Visit}
+use Rattle.gt_frames.specs.Visits.{FrameAccess}
 use Rattle.gt_audit.specs.declared.record.Hypercall.TheVariants as hypercalls
 use Rattle.gt_audit.specs.declared.record.Reply.TheVariants as replies
 use Rattle.gt_live.specs.Mappings.{AddsMapping, IsMappingOf, KeepsMappings, PinsAreOf, Removes}
@@ -35,7 +35,7 @@ pub record IsDomainOf (b : Board) (c : Config) (may : AllowRelation) (d : Domain
       ≡ record { generation = own_generation c.first_gen d.own.items r; entry = entry_in d.own.items r }
   pub generations : (r : ℕ) → r < TABLE_ENTRIES → own_generation c.first_gen d.own.items r < 1048576
   pub all_rows : length d.own.items ≡ TABLE_ENTRIES
-  pub mapped : (h : Handle) (m : Held) → value_of d.mappings h ≡ Some m
+  pub mapped : (h : Handle) (m : HeldPin) → value_of d.mappings h ≡ Some m
       → IsMappingOf b.layout c.domains.items may d.seat.dom d.seat.view m
   pub pins : PinsAreOf b.layout d.seat.view d.mappings
 
@@ -49,7 +49,7 @@ known_on may m d = knowledge m.config (may m.rights) d
 
 -- a call of the domain d asked this and was answered so, after which the domain is e: its steps are those
 -- of the call's path, each made as the words say, and the answer is the path's
-abbrev pub Answered : {P : Type 0} → (P → AllowRelation) → Monitor P → Domain → Request → Verdict → Domain → Type 0
+abbrev pub Answered : {P : Type 0} → (P → AllowRelation) → Monitor P → Domain → Request → CallResult → Domain → Type 0
 Answered may m d request verdict e =
     Called m.words.layout (path_of (known_on may m d) d.seat.dom request) verdict d.seat.view e.seat.view
 
@@ -64,26 +64,26 @@ abbrev pub KeepsPinned : Domain → Domain → Type 0
 KeepsPinned d e = KeepsMappings d.mappings e.mappings × KeepsPins d.seat.view e.seat.view
 
 -- the refusal of an answer; Ok, if there is none
-abbrev pub outcome_of : {R : Type 0} → Result R Denial → Verdict
+abbrev pub outcome_of : {R : Type 0} → Result R Denial → CallResult
 outcome_of (Ok value) = Granted
 outcome_of (Err denial) = Refused denial
 
 -- the answer that a verdict gives to a call without a value
-abbrev pub verdict_of : Result (Unit {0}) Denial → Verdict
+abbrev pub verdict_of : Result (Unit {0}) Denial → CallResult
 verdict_of result = outcome_of result
 
 -- the same of a call that answers a version (grant_table.h)
-abbrev pub verdict_of_version : Result ℕ Denial → Verdict
+abbrev pub verdict_of_version : Result ℕ Denial → CallResult
 verdict_of_version (Ok version) = Given (Version version)
 verdict_of_version (Err denial) = Refused denial
 
 -- of a call that answers a table's size (grant_table.h)
-abbrev pub verdict_of_size : Result Size Denial → Verdict
+abbrev pub verdict_of_size : Result Size Denial → CallResult
 verdict_of_size (Ok size) = Given (SizeTold size)
 verdict_of_size (Err denial) = Refused denial
 
 -- and of one that answers how many frames a table then has (grant_table.h)
-abbrev pub verdict_of_frames : Result ℕ Denial → Verdict
+abbrev pub verdict_of_frames : Result ℕ Denial → CallResult
 verdict_of_frames (Ok frames) = Given (Frames frames)
 verdict_of_frames (Err denial) = Refused denial
 
@@ -93,7 +93,7 @@ verdict_of_frames (Err denial) = Refused denial
 abbrev pub MapAnswered : {P : Type 0} → (P → AllowRelation) → Monitor P → Domain → Request → Result Handle Denial
     → Domain → Type 0
 MapAnswered may m d request (Ok handle) e =
-    (p : Held) × Answered may m d request (Mapped p) e × AddsMapping d.mappings e.mappings handle p
+    (p : HeldPin) × Answered may m d request (Mapped p) e × AddsMapping d.mappings e.mappings handle p
 MapAnswered may m d request (Err denial) e =
     (Answered may m d request (Refused denial) e
     ⊎ ((denial ≡ denial_of N26 NoFacts) × (begun_of (known_on may m d) d.seat.dom request ≡ None)
@@ -118,29 +118,29 @@ abbrev pub StaysOfRun : Domain → Domain → Type 0
 StaysOfRun d e = (b : Board) (c : Config) (may : AllowRelation) → IsDomainOf b c may d → IsDomainOf b c may e
 
 -- Ok, or the refusal
-abbrev pub done_by : Verdict → Result (Unit {0}) Denial
+abbrev pub done_by : CallResult → Result (Unit {0}) Denial
 done_by (Refused denial) = Err denial
 done_by verdict = Ok tt
 
 -- the number of frames that is answered, 0 if none is
-abbrev pub frames_told : Verdict → Result ℕ Denial
-frames_told (Refused denial) = Err denial
-frames_told (Given (Frames frames)) = Ok frames
-frames_told verdict = Ok 0
+abbrev pub frames_granted : CallResult → Result ℕ Denial
+frames_granted (Refused denial) = Err denial
+frames_granted (Given (Frames frames)) = Ok frames
+frames_granted verdict = Ok 0
 
 -- the pins of the mappings under these handles were given back, one after
 -- another, the last handle first, and nothing else was done
-abbrev pub Released : Layout → List Handle → HandleMap Held → View → HandleMap Held → View → Type 0
+abbrev pub Released : Layout → List Handle → HandleMap HeldPin → View → HandleMap HeldPin → View → Type 0
 Released k [] old v new w = (new ≡ old) × (w ≡ v)
 Released k (h ∷ hs) old v new w =
-    (m : Held) × (mid : HandleMap Held) × (u : View) × Released k hs old v mid u × Removes mid new h m
+    (m : HeldPin) × (mid : HandleMap HeldPin) × (u : View) × Released k hs old v mid u × Removes mid new h m
     × Unpins k (position_in k.ids m.dom) m.gref.0 m.dir (generation_of m.word) u w
 
 -- A domain has left: the pin of each of its mappings was given back, one after another
 -- and nothing else, each at its moment, and its seat has none
-pub record HasLeft (k : Layout) (d : Domain) (l : Left) : Type 0 where
+pub record HasLeft (k : Layout) (d : Domain) (l : Departed) : Type 0 where
   pub handles : List Handle
-  pub rest : HandleMap Held
+  pub rest : HandleMap HeldPin
   pub released : Released k handles d.mappings d.seat.view rest l.seat.view
   pub steps : List Moment
   pub view : l.seat.view ≡ view_after steps d.seat.view
@@ -151,7 +151,7 @@ pub record HasLeft (k : Layout) (d : Domain) (l : Left) : Type 0 where
   pub no_pins : (t r : ℕ) → live_pins (steps_on t r l.seat.view) ≡ []
 
 -- the refusal of a call that was refused
-abbrev pub denial_in : Verdict → Denial
+abbrev pub denial_in : CallResult → Denial
 denial_in (Refused denial) = denial
 denial_in verdict = denial_of N26 NoFacts
 
@@ -161,7 +161,7 @@ not_made Gone = denial_of N16 NoFacts
 not_made OutOfMemory = denial_of N26 NoFacts
 
 -- what a record keeps of an answer
-abbrev pub reply_of : Verdict → Reply
+abbrev pub reply_of : CallResult → Reply
 reply_of Granted = replies.Done
 reply_of (Mapped p) = replies.Done
 reply_of (Given (Frames frames)) = replies.Frames frames
@@ -174,7 +174,7 @@ abbrev pub mapping_reply : Result Handle Denial → Reply
 mapping_reply result = reply_of (outcome_of result)
 
 -- the answer that a reply says
-abbrev pub told_by : Reply → Verdict
+abbrev pub told_by : Reply → CallResult
 told_by replies.Done = Granted
 told_by (replies.Frames frames) = Given (Frames frames)
 told_by (replies.Size size) = Given (SizeTold size)
@@ -182,19 +182,19 @@ told_by (replies.Version version) = Given (Version version)
 told_by (replies.Denied denial) = Refused denial
 
 -- the record of a call of this domain, which was answered so
-abbrev pub told_of : Domain → Hypercall → Verdict → Record
+abbrev pub told_of : Domain → Hypercall → CallResult → Record
 told_of d call verdict = record { dom = d.seat.dom; call = call; reply = reply_of verdict }
 
 -- A call that is not recorded was answered so: the domain has the mappings, pins and records that it had, and locked
 -- no frame.
-abbrev pub AnswersQuietly : {P : Type 0} → (P → AllowRelation) → Monitor P → Domain → Request → Verdict → Domain
+abbrev pub AnswersQuietly : {P : Type 0} → (P → AllowRelation) → Monitor P → Domain → Request → CallResult → Domain
     → Type 0
 AnswersQuietly may m d request verdict e =
     Answered may m d request verdict e × KeepsPinned d e × (e.trail ≡ d.trail) × (e.visits ≡ d.visits)
 
 -- a call that is recorded was answered so: the domain has the mappings and pins that it had, and this call is the one
 -- record more, which is kept or counted as lost; it locked no frame
-abbrev pub AnswersTold : {P : Type 0} → (P → AllowRelation) → Monitor P → Domain → Request → Hypercall → Verdict
+abbrev pub AnswersTold : {P : Type 0} → (P → AllowRelation) → Monitor P → Domain → Request → Hypercall → CallResult
     → Domain
     → Type 0
 AnswersTold may m d request call verdict e =
@@ -204,7 +204,7 @@ AnswersTold may m d request call verdict e =
 -- An access to one frame was answered so: the domain has the mappings, pins and records that it had, and what was
 -- answered is what it did to the frame under its lock.
 abbrev pub AccessesQuietly : {P R : Type 0} → (P → AllowRelation) → Monitor P → Domain → Request → (Step → R → Type 0)
-    → (R → List Visit → Type 0) → Result R Denial → Domain → Type 0
+    → (R → List FrameAccess → Type 0) → Result R Denial → Domain → Type 0
 AccessesQuietly may m d request tells did result e =
     Accesses may m d request tells result e × KeepsPinned d e × (e.trail ≡ d.trail)
     × HasVisited did result d.visits e.visits
@@ -214,7 +214,7 @@ abbrev pub StaysIn : {P : Type 0} → (P → AllowRelation) → Monitor P → Do
 StaysIn may m d e = BelongsTo may m e × IsSameSeat d.seat e.seat
 
 -- the entry that a pin is of
-abbrev pub subject_in : Option Held → Option (DomId × GrantRef)
+abbrev pub subject_in : Option HeldPin → Option (DomId × GrantRef)
 subject_in None = None
 subject_in (Some p) = Some (p.dom, p.gref)
 

@@ -4,13 +4,13 @@ use Rattle.std.specs.Prelude.{◌≡◌, ℕ, ◌+◌, ◌^◌, ◌<◌, List, [
 use Rattle.gt_live.specs.Prelude.{DomId, DomainConfig, TABLE_ENTRIES, domain_of, Invalid, View, generation_of}
 use Rattle.gt_live.specs.Prelude.{CanChange, CanPin, HasDomain, Holds, KeepsPins, SeesNoEarlier, Changes, Unpins}
 use Rattle.gt_live.specs.Prelude.{IsKeptHeader, Layout, id_at, position_in, last_seen, record_seen, last_of, Moment}
-use Rattle.gt_live.specs.Prelude.{Action, Makes, Done, Change, Step, LookHeader, LookControl, LookBody, Pin, Unpin}
-use Rattle.gt_live.specs.Prelude.{StoreBody, StoreHeader, Exchange, Asked, Call, Held, Handle, raise_of, GoesOnWith}
+use Rattle.gt_live.specs.Prelude.{Action, Makes, Done, EntryChange, Step, LookHeader, LookControl, LookBody, Pin, Unpin}
+use Rattle.gt_live.specs.Prelude.{StoreBody, StoreHeader, Exchange, OpenRequest, Call, HeldPin, Handle, raise_of, GoesOnWith}
 use Rattle.gt_live.specs.Prelude.{path}
 use Rattle.gt_live.specs.Prelude.{Rests, CallerKnowledge, begun, IsAt, held_by_call, pins_by_call, Effect, Pinned}
 use Rattle.gt_live.specs.Prelude.{Unpinned, Changed, Stored}
 use Rattle.gt_words.specs.Answers.{Pins}
-use Rattle.gt_calls.specs.declared.request.Asked.TheVariants as asks
+use Rattle.gt_calls.specs.declared.request.OpenRequest.TheVariants as asks
 use Rattle.gt_live.specs.declared.driving.Effect.TheVariants.{Nothing}
 use Rattle.gt_live.specs.Walks.{IsWalk, TellsSteps, view_after, all_shown}
 use Rattle.gt_live.specs.Effects.{Answers}
@@ -49,11 +49,11 @@ pub record Knows (c : CallerKnowledge) (k : Layout) (caller : DomId) (v : View) 
   pub header : IsKeptHeader c.header
   pub rows : (r : ℕ) → r < TABLE_ENTRIES → last_of r v ≡ record { generation = c.generation r; entry = c.entry r }
   pub generations : (r : ℕ) → r < TABLE_ENTRIES → c.generation r < 1048576
-  pub mapped : (h : Handle) (m : Held) → c.mapping h ≡ Some m → HasPin k v m
+  pub mapped : (h : Handle) (m : HeldPin) → c.mapping h ≡ Some m → HasPin k v m
 
 -- a map took this pin, after looks only: of the entry and in the
 -- direction that it was asked, which its caller may
-pub record MapsBy (c : CallerKnowledge) (k : Layout) (caller : DomId) (request : Asked) (p : Held)
+pub record MapsBy (c : CallerKnowledge) (k : Layout) (caller : DomId) (request : OpenRequest) (p : HeldPin)
     (v w : View) : Type 0 where
   pub asked : IsMap request
   pub before : View
@@ -64,7 +64,7 @@ pub record MapsBy (c : CallerKnowledge) (k : Layout) (caller : DomId) (request :
   pub serial : c.maps_answered + 1 < 2 ^ 64
 
 -- the owner's change of its entry q was made, after looks only
-pub record ChangesBy (c : CallerKnowledge) (k : Layout) (request : Asked) (q : ℕ) (change : Change)
+pub record ChangesBy (c : CallerKnowledge) (k : Layout) (request : OpenRequest) (q : ℕ) (change : EntryChange)
     (v w : View) : Type 0 where
   pub asked : IsOwnChange request
   pub before : View
@@ -75,16 +75,16 @@ pub record ChangesBy (c : CallerKnowledge) (k : Layout) (request : Asked) (q : �
   pub fresh : c.generation q + raise_of change < 1048576
 
 -- the pin of the mapping under this handle was given back, as it was asked
-pub record UnpinsBy (c : CallerKnowledge) (k : Layout) (request : Asked) (handle : Handle) (v w : View) : Type 0 where
+pub record UnpinsBy (c : CallerKnowledge) (k : Layout) (request : OpenRequest) (handle : Handle) (v w : View) : Type 0 where
   pub asked : request ≡ asks.Unmap handle
-  pub mapping : Held
+  pub mapping : HeldPin
   pub found : c.mapping handle ≡ Some mapping
   pub before : View
   pub same : IsSame v before
   pub unpins : Unpins k (position_in k.ids mapping.dom) mapping.gref.0 mapping.dir (generation_of mapping.word) before w
 
 -- how a call left the seat, by what it did
-abbrev pub Leaves : CallerKnowledge → Layout → DomId → Asked → View → View → Effect → Type 0
+abbrev pub Leaves : CallerKnowledge → Layout → DomId → OpenRequest → View → View → Effect → Type 0
 Leaves c k caller request v w Nothing = IsSame v w
 Leaves c k caller request v w (Pinned p) = MapsBy c k caller request p v w
 Leaves c k caller request v w (Unpinned handle) = UnpinsBy c k request handle v w
@@ -92,7 +92,7 @@ Leaves c k caller request v w (Changed gref change) = ChangesBy c k request gref
 Leaves c k caller request v w Stored = IsSame v w × IsHeaderChange request
 
 -- a call that goes on has only looked, and one that ends left the seat by what it did
-abbrev pub StandsSo : CallerKnowledge → Layout → DomId → Asked → View → View → Effect → Action → Type 0
+abbrev pub StandsSo : CallerKnowledge → Layout → DomId → OpenRequest → View → View → Effect → Action → Type 0
 StandsSo c k caller request v w effect (Makes step) = IsSame v w
 StandsSo c k caller request v w effect (Done verdict) = Leaves c k caller request v w effect × Answers effect verdict
 

@@ -6,18 +6,18 @@ use Rattle.gt_types.specs.declared.denial.Facts.{Facts}
 use Rattle.gt_types.specs.declared.denial.Facts.TheVariants as facts
 use Rattle.gt_calls.specs.declared.action.Action.{Action}
 use Rattle.gt_calls.specs.declared.action.Action.TheVariants.{Step as Makes, Done}
-use Rattle.gt_calls.specs.declared.action.Seen.{Seen}
-use Rattle.gt_calls.specs.declared.action.Seen.TheVariants.{Taken, Word, Missed}
+use Rattle.gt_calls.specs.declared.action.Observation.{Observation}
+use Rattle.gt_calls.specs.declared.action.Observation.TheVariants.{Taken, Word, Missed}
 use Rattle.gt_calls.specs.declared.action.Step.{Step}
 use Rattle.gt_calls.specs.declared.action.Step.TheVariants.{LookHeader, LookControl, Pin, Unpin, StoreHeader, Exchange}
-use Rattle.gt_calls.specs.declared.action.Verdict.{Verdict}
-use Rattle.gt_calls.specs.declared.action.Verdict.TheVariants.{Granted, Given, Mapped, Refused}
-use Rattle.gt_calls.specs.declared.request.Holder.TheVariants.{Mapping as ByHandle}
+use Rattle.gt_calls.specs.declared.action.CallResult.{CallResult}
+use Rattle.gt_calls.specs.declared.action.CallResult.TheVariants.{Granted, Given, Mapped, Refused}
+use Rattle.gt_calls.specs.declared.request.PinHolder.TheVariants.{Mapping as ByHandle}
 use Rattle.gt_live.specs.declared.driving.Effect.{Effect}
 use Rattle.gt_live.specs.declared.driving.Effect.TheVariants.{Nothing, Pinned, Unpinned, Changed, Stored}
 
 -- what a step that saw this did
-abbrev pub effect_of : Step → Seen → Effect
+abbrev pub effect_of : Step → Observation → Effect
 effect_of (Pin p) Taken = Pinned p
 effect_of (Unpin p (ByHandle handle)) seen = Unpinned handle
 effect_of (Exchange gref looked change) Taken = Changed gref change
@@ -25,7 +25,7 @@ effect_of (StoreHeader version frames) seen = Stored
 effect_of step seen = Nothing
 
 -- a call that did this is answered so: what it did is granted, and nothing else is
-abbrev pub Answers : Effect → Verdict → Type 0
+abbrev pub Answers : Effect → CallResult → Type 0
 Answers Nothing (Refused denial) = Unit {0}
 Answers Nothing (Given value) = Unit {0}
 Answers (Pinned p) (Mapped q) = q ≡ p
@@ -36,30 +36,30 @@ Answers Stored (Given value) = Unit {0}
 Answers effect verdict = ⊥
 
 -- the step found this control word in this entry
-abbrev pub IsFoundAt : DomId → Step → Seen → DomId → GrantRef → ℕ → Type 0
+abbrev pub IsFoundAt : DomId → Step → Observation → DomId → GrantRef → ℕ → Type 0
 IsFoundAt caller (LookControl d q) (Word n) dom gref word = (d ≡ dom) × (q ≡ gref) × (n ≡ word)
 IsFoundAt caller (Pin p) (Missed n) dom gref word = (p.dom ≡ dom) × (p.gref ≡ gref) × (n ≡ word)
 IsFoundAt caller (Exchange q looked change) (Missed n) dom gref word = (caller ≡ dom) × (q ≡ gref) × (n ≡ word)
 IsFoundAt caller step seen dom gref word = ⊥
 
 -- the step saw this header word of this domain
-abbrev pub IsFoundIn : Step → Seen → DomId → ℕ → Type 0
+abbrev pub IsFoundIn : Step → Observation → DomId → ℕ → Type 0
 IsFoundIn (LookHeader d) (Word n) dom word = (d ≡ dom) × (n ≡ word)
 IsFoundIn step seen dom word = ⊥
 
 -- the word that a refusal carries, if it carries one, is the one that the step found
-abbrev pub IsFound : DomId → Step → Seen → Facts → Type 0
+abbrev pub IsFound : DomId → Step → Observation → Facts → Type 0
 IsFound caller step seen (facts.Entry dom gref word) = IsFoundAt caller step seen dom gref word
 IsFound caller step seen (facts.Header dom word) = IsFoundIn step seen dom word
 IsFound caller step seen other = Unit {0}
 
 -- the same of an answer
-abbrev pub TellsFound : DomId → Step → Seen → Verdict → Type 0
+abbrev pub TellsFound : DomId → Step → Observation → CallResult → Type 0
 TellsFound caller step seen (Refused denial) = IsFound caller step seen denial.facts
 TellsFound caller step seen verdict = Unit {0}
 
 -- what follows a step that saw this: a step that did more than look is the last one,
 -- and the call is answered by what its last step did and found
-abbrev pub EndsSo : DomId → Step → Seen → Action → Type 0
+abbrev pub EndsSo : DomId → Step → Observation → Action → Type 0
 EndsSo caller step seen (Makes next) = effect_of step seen ≡ Nothing
 EndsSo caller step seen (Done verdict) = Answers (effect_of step seen) verdict × TellsFound caller step seen verdict

@@ -1,14 +1,14 @@
 -- How calls without waiting are answered.
 use Rattle.gt_types.specs.declared.denial.Facts.{Facts}
 use Rattle.gt_types.specs.declared.denial.Facts.TheVariants as facts
-use Rattle.gt_calls.specs.declared.request.Asked.{Asked}
-use Rattle.gt_calls.specs.declared.request.Asked.TheVariants as asks
-use Rattle.gt_calls.specs.declared.action.Value.TheVariants as values
-use Rattle.gt_calls.specs.declared.action.Verdict.{Verdict}
-use Rattle.gt_calls.specs.declared.action.Verdict.TheVariants.{Granted, Given, Mapped, Refused}
+use Rattle.gt_calls.specs.declared.request.OpenRequest.{OpenRequest}
+use Rattle.gt_calls.specs.declared.request.OpenRequest.TheVariants as asks
+use Rattle.gt_calls.specs.declared.action.CallValue.TheVariants as values
+use Rattle.gt_calls.specs.declared.action.CallResult.{CallResult}
+use Rattle.gt_calls.specs.declared.action.CallResult.TheVariants.{Granted, Given, Mapped, Refused}
 
 -- the request is one whose steps are all on the words
-abbrev pub WaitsForNobody : Asked → Type 0
+abbrev pub WaitsForNobody : OpenRequest → Type 0
 WaitsForNobody (asks.Load handle off len) = ⊥
 WaitsForNobody (asks.Store handle off len) = ⊥
 WaitsForNobody (asks.Peek frame off len) = ⊥
@@ -17,7 +17,7 @@ WaitsForNobody (asks.Copy c) = ⊥
 WaitsForNobody request = Unit {0}
 
 -- the request is one whose steps have an access to bytes among them
-abbrev pub IsAccessing : Asked → Type 0
+abbrev pub IsAccessing : OpenRequest → Type 0
 IsAccessing (asks.Load handle off len) = Unit {0}
 IsAccessing (asks.Store handle off len) = Unit {0}
 IsAccessing (asks.Peek frame off len) = Unit {0}
@@ -26,7 +26,7 @@ IsAccessing (asks.Copy c) = Unit {0}
 IsAccessing request = ⊥
 
 -- the answer is one of this request: a refusal, a mapping to a map, a value to a call that asks it, and else Ok
-abbrev pub IsAnswerTo : Asked → Verdict → Type 0
+abbrev pub IsAnswerTo : OpenRequest → CallResult → Type 0
 IsAnswerTo request (Refused denial) = Unit {0}
 IsAnswerTo (asks.Map dom gref flags) (Mapped p) = Unit {0}
 IsAnswerTo (asks.SetupTable frames) (Given (values.Frames n)) = Unit {0}
@@ -42,18 +42,18 @@ IsAnswerTo (asks.SetVersion version) Granted = Unit {0}
 IsAnswerTo request verdict = ⊥
 
 -- the request is a map
-abbrev pub IsMap : Asked → Type 0
+abbrev pub IsMap : OpenRequest → Type 0
 IsMap (asks.Map dom gref flags) = Unit {0}
 IsMap request = ⊥
 
 -- the request takes a mapping, or gives one up
-abbrev pub IsOfMapping : Asked → Type 0
+abbrev pub IsOfMapping : OpenRequest → Type 0
 IsOfMapping (asks.Map dom gref flags) = Unit {0}
 IsOfMapping (asks.Unmap handle) = Unit {0}
 IsOfMapping request = ⊥
 
 -- the request changes an entry of the caller's own
-abbrev pub IsOwnChange : Asked → Type 0
+abbrev pub IsOwnChange : OpenRequest → Type 0
 IsOwnChange (asks.Grant gref entry) = Unit {0}
 IsOwnChange (asks.Revoke gref) = Unit {0}
 IsOwnChange (asks.Withdraw gref) = Unit {0}
@@ -62,7 +62,7 @@ IsOwnChange (asks.Promote gref) = Unit {0}
 IsOwnChange request = ⊥
 
 -- the request changes the caller's header
-abbrev pub IsHeaderChange : Asked → Type 0
+abbrev pub IsHeaderChange : OpenRequest → Type 0
 IsHeaderChange (asks.SetVersion version) = Unit {0}
 IsHeaderChange (asks.SetupTable frames) = Unit {0}
 IsHeaderChange request = ⊥
@@ -74,7 +74,7 @@ IsWordless (facts.Header dom word) = ⊥
 IsWordless other = Unit {0}
 
 -- the request may be answered so at its beginning: a refusal without a word, or Ok if nothing is left to do
-abbrev pub IsAtOnce : Asked → Verdict → Type 0
+abbrev pub IsAtOnce : OpenRequest → CallResult → Type 0
 IsAtOnce request (Refused denial) = IsWordless denial.facts
 IsAtOnce (asks.Demote gref) Granted = Unit {0}
 IsAtOnce (asks.Promote gref) Granted = Unit {0}

@@ -2,7 +2,7 @@
 use Rattle.std.specs.Prelude.{◌≡◌, ◌+◌, ◌≤◌, ℕ}
 use Rattle.gt_live.specs.Prelude.{Read, Write, ForCopy, IsSameSeat, KeepsPins, Layout, View, MayCopyBy, ReachesBy}
 use Rattle.gt_live.specs.Prelude.{Hypercall, Record, Spot, CopyBytes, Call, CopyArgs, path, path_of, CallerKnowledge}
-use Rattle.gt_live.specs.Prelude.{pins_by_call, Domain, Halfway, Monitor}
+use Rattle.gt_live.specs.Prelude.{pins_by_call, Domain, PendingCopy, Monitor}
 use Rattle.gt_audit.specs.declared.record.Hypercall.TheVariants as hypercalls
 use Rattle.gt_audit.specs.declared.record.Reply.TheVariants as replies
 use Rattle.gt_calls.specs.declared.request.Request.TheVariants as requests
@@ -11,18 +11,18 @@ use Rattle.gt_live.specs.Domains.{AllowRelation, BelongsTo, IsUnsettled, known_o
 use Rattle.gt_live.specs.Underway.{AtAccess, GivesBack}
 
 -- what a record keeps of a copy
-abbrev pub copy_told : CopyArgs → Hypercall
-copy_told c = hypercalls.Copy c.source c.dest c.len c.flags
+abbrev pub copy_hypercall : CopyArgs → Hypercall
+copy_hypercall c = hypercalls.Copy c.source c.dest c.len c.flags
 
 -- the record of a copy that this domain ended, which is Ok
 abbrev pub done_copy : Domain → CopyArgs → Record
-done_copy d c = record { dom = d.seat.dom; call = copy_told c; reply = replies.Done }
+done_copy d c = record { dom = d.seat.dom; call = copy_hypercall c; reply = replies.Done }
 
 -- The domain d was asked this copy and came to its access, after which it is e. Its steps are those of the copy's path.
 -- The pins that it holds reach both places, and the policy lets it copy by them; each place is inside its frame.
 -- Nothing else of the domain has changed
 pub record ComesHalfway {P : Type 0} (may : P → AllowRelation) (m : Monitor P) (d : Domain) (copy : CopyArgs)
-    (h : Halfway) (e : Domain) : Type 0 where
+    (h : PendingCopy) (e : Domain) : Type 0 where
   pub asked : h.copy ≡ copy
   pub way : path_of (known_on may m d) d.seat.dom (requests.Copy copy)
       ≡ path (known_on may m d) h.call.caller h.call.request
@@ -37,12 +37,12 @@ pub record ComesHalfway {P : Type 0} (may : P → AllowRelation) (m : Monitor P)
   pub kept : IsUnsettled d e
 
 -- the domain stands at the access of this copy, since it was one of this monitor's run and was asked it
-abbrev pub IsHalfway : {P : Type 0} → (P → AllowRelation) → Monitor P → Halfway → Domain → Type 0
+abbrev pub IsHalfway : {P : Type 0} → (P → AllowRelation) → Monitor P → PendingCopy → Domain → Type 0
 IsHalfway may m h e = (d : Domain) × BelongsTo may m d × ComesHalfway may m d h.copy h e
 
 -- the pins of a copy at its access were given back, one after another, the last one first, and nothing else changed but
 -- the trail
-pub record EndsHalfway (k : Layout) (h : Halfway) (e f : Domain) : Type 0 where
+pub record EndsHalfway (k : Layout) (h : PendingCopy) (e f : Domain) : Type 0 where
   pub gives : GivesBack k (pins_by_call h.call) e.seat.view f.seat.view
   pub seat : IsSameSeat e.seat f.seat
   pub own : f.own ≡ e.own

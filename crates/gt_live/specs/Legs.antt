@@ -4,8 +4,8 @@ use Rattle.std.specs.Prelude.{◌≡◌, List, [], ◌∷◌, Result, Ok, Err}
 use Rattle.gt_types.specs.declared.denial.Denial.{Denial}
 use Rattle.gt_words.specs.Rule.{Layout}
 use Rattle.gt_words.specs.declared.view.View.{View}
-use Rattle.gt_calls.specs.declared.action.Seen.{Seen}
-use Rattle.gt_calls.specs.declared.held.Held.{Held}
+use Rattle.gt_calls.specs.declared.action.Observation.{Observation}
+use Rattle.gt_calls.specs.declared.held.HeldPin.{HeldPin}
 use Rattle.gt_calls.specs.declared.leg.Leg.{Leg}
 use Rattle.gt_calls.specs.declared.leg.LegNext.{LegNext}
 use Rattle.gt_calls.specs.declared.leg.LegNext.TheVariants.{Going, Refused, Pinned}
@@ -17,7 +17,7 @@ use Rattle.gt_live.specs.Walks.{Made}
 
 -- a step of a leg: where the leg was, what it saw, and the seat's view before it
 abbrev pub LegStep : Type 0
-LegStep = LegPhase × Seen × View
+LegStep = LegPhase × Observation × View
 
 -- by these steps, the last first, the leg came from its header to what is next, and the seat's view from v to w
 abbrev pub ComesBy : Layout → Leg → View → List LegStep → LegNext → View → Type 0
@@ -34,6 +34,6 @@ abbrev pub CanWalkLeg : Layout → Leg → View → Type 0
 CanWalkLeg k l v = (at : LegPhase) (w : View) → WalksLeg k l v (Going at) w → CanMake k w (leg_step l at)
 
 -- how a leg ended: by its pin, or by a refusal
-abbrev pub next_by : Result Held Denial → LegNext
+abbrev pub next_by : Result HeldPin Denial → LegNext
 next_by (Ok p) = Pinned p
 next_by (Err denial) = Refused denial

@@ -5,23 +5,23 @@ use Rattle.gt_types.specs.declared.DomId.{DomId}
 use Rattle.gt_types.specs.declared.GrantRef.{GrantRef}
 use Rattle.gt_types.specs.declared.denial.Denial.{Denial}
 use Rattle.gt_types.specs.declared.denial.Rule.TheVariants.{N19}
-use Rattle.gt_entry.specs.declared.change.Change.{Change}
-use Rattle.gt_entry.specs.declared.change.Change.TheVariants.{Publish, Revoke, Withdraw, Demote, Promote}
+use Rattle.gt_entry.specs.declared.change.EntryChange.{EntryChange}
+use Rattle.gt_entry.specs.declared.change.EntryChange.TheVariants.{Publish, Revoke, Withdraw, Demote, Promote}
 use Rattle.gt_words.specs.Rule.{Layout}
 use Rattle.gt_words.specs.declared.view.View.{View}
 use Rattle.gt_calls.specs.Path.{entry_refusal}
 use Rattle.gt_calls.specs.Rules.{CallerKnowledge}
-use Rattle.gt_calls.specs.declared.known.Own.{Own}
-use Rattle.gt_calls.specs.declared.action.Seen.TheVariants.{Taken, Missed}
+use Rattle.gt_calls.specs.declared.known.OwnerEntry.{OwnerEntry}
+use Rattle.gt_calls.specs.declared.action.Observation.TheVariants.{Taken, Missed}
 use Rattle.gt_calls.specs.declared.action.Step.TheVariants.{Exchange}
-use Rattle.gt_calls.specs.declared.request.Asked.{Asked}
-use Rattle.gt_calls.specs.declared.request.Asked.TheVariants as asks
+use Rattle.gt_calls.specs.declared.request.OpenRequest.{OpenRequest}
+use Rattle.gt_calls.specs.declared.request.OpenRequest.TheVariants as asks
 use Rattle.gt_live.specs.declared.driving.Effect.{Effect}
 use Rattle.gt_live.specs.declared.driving.Effect.TheVariants.{Nothing, Changed}
 use Rattle.gt_live.specs.Walks.{Made}
 
 -- the request that asks this change of this entry
-abbrev pub asks_change : GrantRef → Change → Asked
+abbrev pub asks_change : GrantRef → EntryChange → OpenRequest
 asks_change gref (Publish entry) = asks.Grant gref entry
 asks_change gref Revoke = asks.Revoke gref
 asks_change gref Withdraw = asks.Withdraw gref
@@ -29,23 +29,23 @@ asks_change gref Demote = asks.Demote gref
 asks_change gref Promote = asks.Promote gref
 
 -- what a change did that ended so
-abbrev pub change_effect : GrantRef → Change → Result (Unit {0}) Denial → Effect
+abbrev pub change_effect : GrantRef → EntryChange → Result (Unit {0}) Denial → Effect
 change_effect gref change (Ok u) = Changed gref change
 change_effect gref change (Err denial) = Nothing
 
 -- the change is one that is tried in turns
-abbrev pub IsInTurns : Change → Type 0
+abbrev pub IsInTurns : EntryChange → Type 0
 IsInTurns (Publish entry) = ⊥
 IsInTurns Revoke = ⊥
 IsInTurns change = Unit {0}
 
 -- one exchange from this word was made, or missed, which is refused by N19 with the word found
-abbrev pub ChangesOnce : Layout → DomId → GrantRef → ℕ → Change → Result (Unit {0}) Denial → View → View → Type 0
+abbrev pub ChangesOnce : Layout → DomId → GrantRef → ℕ → EntryChange → Result (Unit {0}) Denial → View → View → Type 0
 ChangesOnce k caller gref looked change (Ok u) v w = Made k (Exchange gref looked change) Taken v w
 ChangesOnce k caller gref looked change (Err denial) v w =
     (n : ℕ) × (denial ≡ entry_refusal caller gref N19 n) × Made k (Exchange gref looked change) (Missed n) v w
 
 -- the row is what is known of this entry
-pub record IsRowOf (c : CallerKnowledge) (gref : GrantRef) (own : Own) : Type 0 where
+pub record IsRowOf (c : CallerKnowledge) (gref : GrantRef) (own : OwnerEntry) : Type 0 where
   pub entry : own.entry ≡ c.entry gref.0
   pub generation : own.generation ≡ c.generation gref.0

@@ -6,7 +6,7 @@ use Rattle.gt_words.specs.Rule.{Layout}
 use Rattle.gt_words.specs.declared.view.View.{View}
 use Rattle.gt_calls.specs.declared.action.Action.TheVariants.{Step as Makes}
 use Rattle.gt_types.specs.declared.places.Spot.{Spot}
-use Rattle.gt_calls.specs.declared.action.Seen.{Seen}
+use Rattle.gt_calls.specs.declared.action.Observation.{Observation}
 use Rattle.gt_calls.specs.declared.action.Step.{Step}
 use Rattle.gt_calls.specs.declared.action.Step.TheVariants.{Copy as CopyBytes}
 use Rattle.gt_calls.specs.declared.call.Phase.{Phase}
@@ -17,7 +17,7 @@ use Rattle.gt_live.specs.Walks.{MakesStep}
 
 -- a step of a call: the phase that it was in, what it saw, and the seat's view before it
 abbrev pub PhaseStep : Type 0
-PhaseStep = Phase × Seen × View
+PhaseStep = Phase × Observation × View
 
 -- by these steps, the last first, a call came from the phase start to another, and the seat's view from v to w: each
 -- was the next of its phase

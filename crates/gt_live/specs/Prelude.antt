@@ -1,8 +1,8 @@
 -- The names of other crates, and of the code, that the definitions here speak of.
 pub use Rattle.gt_access.specs.Accesses.{IsReadOf, copying_at, writing_at}
 pub use Rattle.gt_access.specs.Routes.{MayCopyBy, ReachesBy}
-pub use Rattle.gt_access.specs.declared.by.Refused.{Refused as NotMade}
-pub use Rattle.gt_access.specs.declared.by.Refused.TheVariants.{Gone, Memory as OutOfMemory}
+pub use Rattle.gt_access.specs.declared.by.AccessFault.{AccessFault as NotMade}
+pub use Rattle.gt_access.specs.declared.by.AccessFault.TheVariants.{Gone, Memory as OutOfMemory}
 pub use Rattle.gt_audit.specs.declared.record.Hypercall.{Hypercall}
 pub use Rattle.gt_audit.specs.declared.record.Record.{Record}
 pub use Rattle.gt_audit.specs.declared.record.Reply.{Reply}
@@ -21,41 +21,41 @@ pub use Rattle.gt_calls.specs.Rules.{map_perms, triples}
 pub use Rattle.gt_calls.specs.Standing.{IsAt, IsFreshCall, held_by_call, held_in, pins_by_call}
 pub use Rattle.gt_calls.specs.declared.action.Action.{Action}
 pub use Rattle.gt_calls.specs.declared.action.Action.TheVariants.{Done, Step as Makes}
-pub use Rattle.gt_calls.specs.declared.action.Seen.{Seen}
-pub use Rattle.gt_calls.specs.declared.action.Seen.TheVariants.{Missed, Nothing, Taken, Word}
+pub use Rattle.gt_calls.specs.declared.action.Observation.{Observation}
+pub use Rattle.gt_calls.specs.declared.action.Observation.TheVariants.{Missed, Nothing, Taken, Word}
 pub use Rattle.gt_calls.specs.declared.action.Step.{Step}
 pub use Rattle.gt_calls.specs.declared.action.Step.TheVariants.{Copy as CopyBytes, Exchange, LookBody, LookControl}
 pub use Rattle.gt_calls.specs.declared.action.Step.TheVariants.{LookHeader, Pin, Read as ReadBytes, StoreBody}
 pub use Rattle.gt_calls.specs.declared.action.Step.TheVariants.{StoreHeader, Unpin, Write as WriteBytes}
-pub use Rattle.gt_calls.specs.declared.action.Value.TheVariants.{Frames, Size as SizeTold, Version}
-pub use Rattle.gt_calls.specs.declared.action.Verdict.{Verdict}
-pub use Rattle.gt_calls.specs.declared.action.Verdict.TheVariants.{Given, Granted, Mapped, Refused}
+pub use Rattle.gt_calls.specs.declared.action.CallValue.TheVariants.{Frames, Size as SizeTold, Version}
+pub use Rattle.gt_calls.specs.declared.action.CallResult.{CallResult}
+pub use Rattle.gt_calls.specs.declared.action.CallResult.TheVariants.{Given, Granted, Mapped, Refused}
 pub use Rattle.gt_calls.specs.declared.call.Call.{Call}
 pub use Rattle.gt_calls.specs.declared.call.Phase.{Phase}
 pub use Rattle.gt_calls.specs.declared.call.Phase.TheVariants.{Accessing, Ending, Walking}
-pub use Rattle.gt_calls.specs.declared.copying.Aim.{Aim}
-pub use Rattle.gt_calls.specs.declared.copying.Aim.TheVariants.{Dest, Source}
-pub use Rattle.gt_calls.specs.declared.held.Held.{Held}
-pub use Rattle.gt_calls.specs.declared.held.Pins.{Pins}
-pub use Rattle.gt_calls.specs.declared.held.Route.{Route}
-pub use Rattle.gt_calls.specs.declared.held.Route.TheVariants.{Direct}
+pub use Rattle.gt_calls.specs.declared.copying.PinPurpose.{PinPurpose}
+pub use Rattle.gt_calls.specs.declared.copying.PinPurpose.TheVariants.{Dest, Source}
+pub use Rattle.gt_calls.specs.declared.held.HeldPin.{HeldPin}
+pub use Rattle.gt_calls.specs.declared.held.CallPins.{CallPins}
+pub use Rattle.gt_calls.specs.declared.held.AccessPath.{AccessPath}
+pub use Rattle.gt_calls.specs.declared.held.AccessPath.TheVariants.{Direct}
 pub use Rattle.gt_calls.specs.declared.leg.Leg.{Leg}
 pub use Rattle.gt_calls.specs.declared.leg.LegPhase.TheVariants.{Header}
 pub use Rattle.gt_calls.specs.declared.leg.TheConstants.{MORE_TRIES}
-pub use Rattle.gt_calls.specs.declared.request.Asked.{Asked}
-pub use Rattle.gt_calls.specs.declared.request.Asked.TheVariants.{Copy}
+pub use Rattle.gt_calls.specs.declared.request.OpenRequest.{OpenRequest}
+pub use Rattle.gt_calls.specs.declared.request.OpenRequest.TheVariants.{Copy}
 pub use Rattle.gt_types.specs.declared.copies.CopyArgs.{CopyArgs}
 pub use Rattle.gt_types.specs.declared.copies.End.{End}
-pub use Rattle.gt_calls.specs.declared.request.Holder.TheVariants.{Leg as ByLeg}
+pub use Rattle.gt_calls.specs.declared.request.PinHolder.TheVariants.{Leg as ByLeg}
 pub use Rattle.gt_calls.specs.declared.request.Request.{Request}
 pub use Rattle.gt_entry.specs.Entries.{frame_of}
 pub use Rattle.gt_entry.specs.Permits.{permits}
 pub use Rattle.gt_entry.specs.Words.{control_of, is_kind}
-pub use Rattle.gt_entry.specs.declared.change.Change.{Change}
-pub use Rattle.gt_entry.specs.declared.change.Change.TheVariants.{Demote, Promote, Publish, Revoke, Withdraw}
-pub use Rattle.gt_entry.specs.declared.change.Half.{Half}
-pub use Rattle.gt_entry.specs.declared.change.Half.TheVariants.{First as FirstHalf, Second as SecondHalf}
-pub use Rattle.gt_entry.specs.declared.control.Kind.TheVariants.{Sub}
+pub use Rattle.gt_entry.specs.declared.change.EntryChange.{EntryChange}
+pub use Rattle.gt_entry.specs.declared.change.EntryChange.TheVariants.{Demote, Promote, Publish, Revoke, Withdraw}
+pub use Rattle.gt_entry.specs.declared.change.BodyWord.{BodyWord}
+pub use Rattle.gt_entry.specs.declared.change.BodyWord.TheVariants.{First as FirstHalf, Second as SecondHalf}
+pub use Rattle.gt_entry.specs.declared.control.EntryKind.TheVariants.{Sub}
 pub use Rattle.gt_entry.specs.declared.entry.Entry.TheVariants.{Invalid}
 pub use Rattle.gt_frames.specs.Receipts.{Copying, Reading, Writing}
 pub use Rattle.gt_types.specs.declared.places.FrameName.{FrameName}
@@ -64,8 +64,8 @@ pub use Rattle.gt_handles.specs.Handles.{HandleMap, KeepsSpent, value_of}
 pub use Rattle.gt_handles.specs.Listing.{IsInserted, IsTaken, count_passing}
 pub use Rattle.gt_handles.specs.declared.handles.Handle.{Handle}
 pub use Rattle.gt_live.specs.declared.domain.Domain.{Domain}
-pub use Rattle.gt_live.specs.declared.domain.Left.{Left}
-pub use Rattle.gt_live.specs.declared.domain.copies.Halfway.{Halfway}
+pub use Rattle.gt_live.specs.declared.domain.Departed.{Departed}
+pub use Rattle.gt_live.specs.declared.domain.copies.PendingCopy.{PendingCopy}
 pub use Rattle.gt_live.specs.declared.driving.Effect.{Effect}
 pub use Rattle.gt_live.specs.declared.driving.Effect.TheVariants.{Changed, Pinned, Stored, Unpinned}
 pub use Rattle.gt_live.specs.declared.monitor.Monitor.{Monitor}

@@ -1,11 +1,11 @@
 -- What changes in an owner's rows.
 use Rattle.std.specs.Prelude.{ℕ, List, [], ◌∷◌, zero, suc}
-use Rattle.gt_entry.specs.declared.change.Change.{Change}
-use Rattle.gt_calls.specs.declared.known.Own.{Own}
+use Rattle.gt_entry.specs.declared.change.EntryChange.{EntryChange}
+use Rattle.gt_calls.specs.declared.known.OwnerEntry.{OwnerEntry}
 use Rattle.gt_calls.specs.Changes.{own_after}
 
 -- the rows after a change of the row r, if there is one
-abbrev pub row_changed : List Own → ℕ → Change → List Own
+abbrev pub row_changed : List OwnerEntry → ℕ → EntryChange → List OwnerEntry
 row_changed [] r change = []
 row_changed (o ∷ os) zero change = own_after change o ∷ os
 row_changed (o ∷ os) (suc r) change = o ∷ row_changed os r change

@@ -8,12 +8,12 @@ use Rattle.gt_types.specs.declared.limits.TheConstants.{TABLE_ENTRIES}
 use Rattle.gt_words.specs.Conditions.{Board}
 use Rattle.gt_words.specs.Answers.{IsNewSeat}
 use Rattle.gt_audit.specs.Telling.{silent}
-use Rattle.gt_calls.specs.declared.known.Own.{Own}
+use Rattle.gt_calls.specs.declared.known.OwnerEntry.{OwnerEntry}
 use Rattle.gt_live.specs.Domains.{IsDomainOf}
 use Rattle.gt_live.specs.declared.domain.Domain.{Domain}
 
 -- an owner's rows at the start: each entry invalid, at the first generation
-unfoldable pub first_rows : ℕ → List Own
+unfoldable pub first_rows : ℕ → List OwnerEntry
 first_rows first = replicate TABLE_ENTRIES (record { entry = Invalid; generation = first })
 
 -- the domain at the position i, which has done nothing: no step, no mapping, no map answered Ok, no record, and no

@@ -1,6 +1,6 @@
 -- How often a call tries, as a number.
 use Rattle.std.specs.Prelude.{◌≡◌, ◌≢◌, ◌⊎◌, ℕ, List, [], ◌∷◌, ◌++◌}
-use Rattle.gt_live.specs.Prelude.{DomId, GrantRef, N18, Denial, Dir, Change, Half, Moment, Layout, position_in}
+use Rattle.gt_live.specs.Prelude.{DomId, GrantRef, N18, Denial, Dir, EntryChange, BodyWord, Moment, Layout, position_in}
 use Rattle.gt_live.specs.Prelude.{on_entry, on_header, EntryStep, ChangeMissed, Looked, PinMissed, ReadBody, SeatStep}
 use Rattle.gt_live.specs.Prelude.{View, Refused, Request, Leg, MORE_TRIES, AfterPin, AfterRefusal, entry_refusal}
 use Rattle.gt_live.specs.Prelude.{path_of, refused_at, tries, try_pin, turn, turns, CallerKnowledge}
@@ -20,7 +20,7 @@ LegsMakeFourTries =
 -- the next, and the fourth to N18 with the word that it found
 abbrev pub ChangesMakeFourTries : Type 0
 ChangesMakeFourTries =
-    (change : Change) (caller : DomId) (gref : GrantRef)
+    (change : EntryChange) (caller : DomId) (gref : GrantRef)
     → turns change caller gref MORE_TRIES
     ≡ turn change caller gref (λ first. turn change caller gref (λ second. turn change caller gref (λ third.
     turn change caller gref (refused_at caller gref N18))))
@@ -40,7 +40,7 @@ FoundAnother step looked found = ⊥
 -- each of these steps read a body word of the entry r of the domain at t
 abbrev pub AreReads : ℕ → ℕ → List SeatStep → Type 0
 AreReads t r [] = Unit {0}
-AreReads t r (x ∷ xs) = ((h : Half) × (n : ℕ) × (x ≡ on_entry t r (ReadBody h n))) × AreReads t r xs
+AreReads t r (x ∷ xs) = ((h : BodyWord) × (n : ℕ) × (x ≡ on_entry t r (ReadBody h n))) × AreReads t r xs
 
 -- these steps are one try of the entry r of the domain at t, which was missed: a look at its control word, reads of its
 -- body words, and a last step that found another word than that look

@@ -2,8 +2,8 @@
 -- representation. It is in specs/ because contracts cite it.
 use Rattle.std.specs.Prelude.{◌≡◌, ℕ, ◌<◌, ◌==◌, ◌&&◌, Bool, cond, List, [], ◌∷◌, ◌++◌, Some}
 use Rattle.gt_live.specs.Prelude.{Denial, TABLE_ENTRIES, HasDomain, Layout, position_in, LivePin, last_of, live_pins}
-use Rattle.gt_live.specs.Prelude.{steps_on, Moment, View, Action, Spot, Nothing, CopyBytes, Verdict, Granted, Refused}
-use Rattle.gt_live.specs.Prelude.{Call, Phase, Accessing, Ending, Walking, Source, Dest, Held, Pins, CopyArgs, Copy}
+use Rattle.gt_live.specs.Prelude.{steps_on, Moment, View, Action, Spot, Nothing, CopyBytes, CallResult, Granted, Refused}
+use Rattle.gt_live.specs.Prelude.{Call, Phase, Accessing, Ending, Walking, Source, Dest, HeldPin, CallPins, CopyArgs, Copy}
 use Rattle.gt_live.specs.Prelude.{GoesOnWith, last_first, action_at, give_back, path, Rests, RestsOnWays}
 use Rattle.gt_live.specs.Prelude.{CallerKnowledge}
 use Rattle.gt_live.specs.Prelude.{IsAt, held_by_call, held_in, pins_by_call}
@@ -15,17 +15,17 @@ use Rattle.gt_live.specs.Mappings.{entry_record_of}
 use Rattle.gt_live.specs.Walks.{Called, CarriesFound, IsWalk, view_after, all_shown}
 
 -- the pin is one of the entry r of the domain t
-abbrev pub is_of_entry : Layout → ℕ → ℕ → Held → Bool
+abbrev pub is_of_entry : Layout → ℕ → ℕ → HeldPin → Bool
 is_of_entry k t r p = (position_in k.ids p.dom == t) && (p.gref.0 == r)
 
 -- of these pins those of the entry r of the domain t, as a view has them
-abbrev pub live_pins_by : Layout → ℕ → ℕ → List Held → List LivePin
+abbrev pub live_pins_by : Layout → ℕ → ℕ → List HeldPin → List LivePin
 live_pins_by k t r [] = []
 live_pins_by k t r (p ∷ ps) =
     cond (is_of_entry k t r p) ((p.dir, entry_record_of p) ∷ live_pins_by k t r ps) (live_pins_by k t r ps)
 
 -- the seat has taken these pins, the last one first, and else has the pins and records that it had
-pub record HasTaken (k : Layout) (taken : List Held) (v w : View) : Type 0 where
+pub record HasTaken (k : Layout) (taken : List HeldPin) (v w : View) : Type 0 where
   pub pins : (t r : ℕ) → live_pins (steps_on t r w) ≡ live_pins_by k t r taken ++ live_pins (steps_on t r v)
   pub records : (r : ℕ) → last_of r w ≡ last_of r v
   pub seen : SeesNoEarlier v w
@@ -33,7 +33,7 @@ pub record HasTaken (k : Layout) (taken : List Held) (v w : View) : Type 0 where
   pub ids : w.ids ≡ v.ids
 
 -- each of these pins is of an entry of the run
-abbrev pub AreOfRun : Layout → List Held → Type 0
+abbrev pub AreOfRun : Layout → List HeldPin → Type 0
 AreOfRun k [] = Unit {0}
 AreOfRun k (p ∷ ps) = (HasDomain k p.dom × (p.gref.0 < TABLE_ENTRIES)) × AreOfRun k ps
 
@@ -82,14 +82,14 @@ pub record AtAccess (c : CallerKnowledge) (k : Layout) (call : Call) (from to : 
       ≡ give_back (held_by_call call) Granted
 
 -- a copy ended without its access: it was refused, and its seat has the pins and records that it had
-pub record EndsRefused (c : CallerKnowledge) (k : Layout) (call : Call) (verdict : Verdict) (v w : View) : Type 0 where
+pub record EndsRefused (c : CallerKnowledge) (k : Layout) (call : Call) (verdict : CallResult) (v w : View) : Type 0 where
   pub denial : Denial
   pub refused : verdict ≡ Refused denial
   pub called : Called k (path c call.caller call.request) verdict v w
   pub same : IsSame v w
 
 -- the pins that a copy held at its access were given back, one after another, and nothing else
-pub record GivesBack (k : Layout) (routes : Pins) (v w : View) : Type 0 where
+pub record GivesBack (k : Layout) (routes : CallPins) (v w : View) : Type 0 where
   pub steps : List Moment
   pub view : w ≡ view_after steps v
   pub walked : IsWalk k (give_back (last_first routes) Granted) v steps

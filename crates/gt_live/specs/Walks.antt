@@ -6,8 +6,8 @@ use Rattle.gt_live.specs.Prelude.{Publishes, Revokes, Demotes, Layout, id_at, po
 use Rattle.gt_live.specs.Prelude.{TookPlace, Moment, part_of, IsAmong, last_of, with_step, EntryStep, DomId, GrantRef}
 use Rattle.gt_live.specs.Prelude.{Facts, Looked, ReadBody, PinMissed, StoredBody, ChangeMissed, SeatStep, Entry, View}
 use Rattle.gt_live.specs.Prelude.{Action, Makes, Done, control_of, is_kind, Publish, Revoke, Withdraw, Demote, Promote}
-use Rattle.gt_live.specs.Prelude.{FirstHalf, SecondHalf, Sub, Leg, Seen, Nothing, Word, Taken, Missed, Step, LookHeader}
-use Rattle.gt_live.specs.Prelude.{LookControl, LookBody, Pin, Unpin, StoreBody, StoreHeader, Exchange, Verdict, Refused}
+use Rattle.gt_live.specs.Prelude.{FirstHalf, SecondHalf, Sub, Leg, Observation, Nothing, Word, Taken, Missed, Step, LookHeader}
+use Rattle.gt_live.specs.Prelude.{LookControl, LookBody, Pin, Unpin, StoreBody, StoreHeader, Exchange, CallResult, Refused}
 use Rattle.gt_live.specs.Prelude.{Continuation}
 use Rattle.gt_words.specs.Answers.{Pins}
 use Rattle.gt_types.specs.declared.denial.Facts.TheVariants as facts
@@ -16,7 +16,7 @@ use Rattle.gt_words.specs.declared.view.HeaderStep.TheVariants as header
 use Rattle.gt_words.specs.declared.view.SeatStep.TheVariants.{Frame, Header}
 
 -- what a step of a seat shows to its call
-abbrev pub seen_in_step : SeatStep → Seen
+abbrev pub seen_in_step : SeatStep → Observation
 seen_in_step (Entry t r (Looked n)) = Word n
 seen_in_step (Entry t r (ReadBody h n)) = Word n
 seen_in_step (Entry t r (Pinned d e y)) = Taken
@@ -30,11 +30,11 @@ seen_in_step (Header t (header.Stored n)) = Nothing
 seen_in_step (Frame t f m) = Nothing
 
 -- the same of a step with its moment
-abbrev pub shown_by : Moment → Seen
+abbrev pub shown_by : Moment → Observation
 shown_by x = seen_in_step x.1
 
 -- what steps show, the first first; the steps are listed with the last first
-abbrev pub all_shown : List Moment → List Seen
+abbrev pub all_shown : List Moment → List Observation
 all_shown [] = []
 all_shown (x ∷ xs) = all_shown xs ++ shown_by x ∷ []
 
@@ -45,7 +45,7 @@ view_after (x ∷ xs) v = with_step x.0 x.1 (view_after xs v)
 
 -- The step of a call was made on the words, by a seat whose view it took from v to w, and
 -- showed this: what each of the words' own calls promises of it
-abbrev pub Made : Layout → Step → Seen → View → View → Type 0
+abbrev pub Made : Layout → Step → Observation → View → View → Type 0
 Made k (LookHeader d) (Word n) v w = LooksAtHeader k (position_in k.ids d) n v w
 Made k (LookControl d q) (Word n) v w =
     LooksAtControl k (position_in k.ids d) q.0 n v w × (d ≡ id_at k.ids v.position → IsWordOf (last_of q.0 w) n)
@@ -79,7 +79,7 @@ ReadsBody k l word first second v w =
     × ReadsSecond (is_kind (control_of word).kind Sub) k l second u w
 
 -- the action is a step, which was made and showed this
-abbrev pub MakesStep : Layout → Option Action → Seen → View → View → Type 0
+abbrev pub MakesStep : Layout → Option Action → Observation → View → View → Type 0
 MakesStep k (Some (Makes s)) seen v w = Made k s seen v w
 MakesStep k _ seen v w = ⊥
 
@@ -120,14 +120,14 @@ CarriesFound k v steps (facts.Header dom word) =
 CarriesFound k v steps other = Unit {0}
 
 -- the same of an answer
-abbrev pub TellsSteps : Layout → View → List Moment → Verdict → Type 0
+abbrev pub TellsSteps : Layout → View → List Moment → CallResult → Type 0
 TellsSteps k v steps (Refused denial) = CarriesFound k v steps denial.facts
 TellsSteps k v steps verdict = Unit {0}
 
 -- A call took its seat's view from v to w: it added steps, which are those of its way, one after another, each taken at
 -- its moment, and after what they showed the way ends with this answer; a word that the answer carries is one that they
 -- found
-pub record Called (k : Layout) (way : Continuation) (verdict : Verdict) (v w : View) : Type 0 where
+pub record Called (k : Layout) (way : Continuation) (verdict : CallResult) (v w : View) : Type 0 where
   pub steps : List Moment
   pub view : w ≡ view_after steps v
   pub walked : IsWalk k way v steps

@@ -10,10 +10,10 @@ ghost use Rattle.gt_live.specs.declared.domain.Domain.{Domain};
 ghost use Rattle.gt_live.specs.Rows.{row_changed};
 ghost use Rattle.gt_live.specs.Domains.{Answered, AnswersQuietly, AnswersTold, BelongsTo, StaysIn};
 ghost use Rattle.gt_live.specs.Domains.{done_by, known_on, outcome_of, denial_in};
-ghost use Rattle.gt_live.specs.Domains.{reply_of, told_by, frames_told};
+ghost use Rattle.gt_live.specs.Domains.{reply_of, told_by, frames_granted};
 ghost use Rattle.gt_live.specs.Domains.{verdict_of_frames, verdict_of_size, verdict_of_version};
 ghost use Rattle.gt_live.specs.Questions.{answer_by};
-ghost use Rattle.gt_calls.specs.declared.call.Question.{Question};
+ghost use Rattle.gt_calls.specs.declared.call.HeaderQuery.{HeaderQuery};
 ghost use Rattle.gt_live.specs.Walks.{Called};
 ghost use Rattle.gt_live.specs.Driving.{Leaves};
 ghost use Rattle.gt_audit.specs.Telling.{Tells};
@@ -26,15 +26,15 @@ use crate::driving::{drive_map, pin_of};
 use crate::headers::{drive_query, drive_setup, drive_version};
 use crate::monitor::Monitor;
 use crate::owning::{drive_change, judge_own};
-pub use copies::Halfway;
-use gt_access::{Refused, Run, read_by, write_by};
+pub use copies::PendingCopy;
+use gt_access::{AccessFault, AccessContext, read_by, write_by};
 use gt_audit::{Hypercall, Record, Reply, Trail};
 use gt_calls::{
-    Handle, Handles, Held, Known, Own, Route, Value, Verdict, judge_bytes, judge_map, judge_query,
+    Handle, Handles, HeldPin, CallerState, OwnerEntry, AccessPath, CallValue, CallResult, judge_bytes, judge_map, judge_query,
     judge_setup, judge_unmap, judge_version, own_entry, size_in, version_in,
 };
-use gt_entry::{Change, Entry};
-use gt_frames::Visits;
+use gt_entry::{EntryChange, Entry};
+use gt_frames::FrameAccesses;
 use gt_types::{Allows, Denial, DomId, Facts, GrantRef, Memory, Rule, Size, TypeId};
 use gt_words::Seat;
 use std::alloc::Global;
@@ -43,20 +43,20 @@ use std::alloc::Global;
 pub struct Domain {
     alloc: Global,
     seat: Seat,
-    own: Vec<Own>,
-    mappings: Handles<Held>,
+    own: Vec<OwnerEntry>,
+    mappings: Handles<HeldPin>,
     trail: Trail,
-    visits: Visits,
+    visits: FrameAccesses,
 }
 
 /// What a domain leaves behind: its records, and its seat, which is spent.
 #[derive(Drop)]
-pub struct Left {
+pub struct Departed {
     trail: Trail,
     seat: Seat,
 }
 
-impl Left {
+impl Departed {
     ghost use Rattle.std.specs.Prelude.{◌≡◌, IfOk};
 
     /// The records of its calls, in order.
@@ -78,7 +78,7 @@ impl Left {
 }
 
 // Changes an owner's row of an entry, if it has one.
-fn change_row(own: &mut [Own], gref: GrantRef, change: Change)
+fn change_row(own: &mut [OwnerEntry], gref: GrantRef, change: EntryChange)
     ensures { own.new ≡ row_changed own.old gref.0 change }
 {
     let at = gref.0 as usize;
@@ -91,14 +91,14 @@ fn change_row(own: &mut [Own], gref: GrantRef, change: Change)
 fn known_with<'a, P: Allows>(
     monitor: &'a Monitor<P>,
     seat: &Seat,
-    own: &'a [Own],
-    mappings: &'a Handles<Held>,
-) -> Known<'a, P>
+    own: &'a [OwnerEntry],
+    mappings: &'a Handles<HeldPin>,
+) -> CallerState<'a, P>
     ensures known { (d : Domain) → own.now ≡ d.own.items → seat.now ≡ d.seat → mappings.now ≡ d.mappings →
         knows P.may result ≡ known_on P.may monitor.now d }
     ensures kept { IsKeptHeader (own_table seat.now.view) }
 {
-    Known {
+    CallerState {
         config: &monitor.config,
         rights: &monitor.rights,
         own,
@@ -108,11 +108,11 @@ fn known_with<'a, P: Allows>(
 }
 
 // Ok, or the refusal.
-fn done(verdict: Verdict) -> Result<(), Denial>
+fn done(verdict: CallResult) -> Result<(), Denial>
     ensures { result ≡ done_by verdict }
 {
     match verdict {
-        Verdict::Refused(denial) => Err(denial),
+        CallResult::Refused(denial) => Err(denial),
         _ => Ok(()),
     }
 }
@@ -120,7 +120,7 @@ fn done(verdict: Verdict) -> Result<(), Denial>
 // The version that a header's word answers.
 #[inline(always)]
 fn version_by(answer: Result<u64, Denial>) -> Result<u32, Denial>
-    ensures { verdict_of_version result ≡ answer_by Question.Version answer }
+    ensures { verdict_of_version result ≡ answer_by HeaderQuery.Version answer }
 {
     match answer {
         Ok(word) => Ok(version_in(word)),
@@ -131,7 +131,7 @@ fn version_by(answer: Result<u64, Denial>) -> Result<u32, Denial>
 // The size that a header's word answers.
 #[inline(always)]
 fn size_by(answer: Result<u64, Denial>) -> Result<Size, Denial>
-    ensures { verdict_of_size result ≡ answer_by Question.Size answer }
+    ensures { verdict_of_size result ≡ answer_by HeaderQuery.Size answer }
 {
     match answer {
         Ok(word) => Ok(size_in(word)),
@@ -140,22 +140,22 @@ fn size_by(answer: Result<u64, Denial>) -> Result<Size, Denial>
 }
 
 // The number of frames that is answered.
-fn frames_told(verdict: Verdict) -> Result<u32, Denial>
-    ensures { result ≡ frames_told verdict }
+fn frames_granted(verdict: CallResult) -> Result<u32, Denial>
+    ensures { result ≡ frames_granted verdict }
 {
     match verdict {
-        Verdict::Refused(denial) => Err(denial),
-        Verdict::Given(Value::Frames(frames)) => Ok(frames),
+        CallResult::Refused(denial) => Err(denial),
+        CallResult::Given(CallValue::Frames(frames)) => Ok(frames),
         _ => Ok(0),
     }
 }
 
 // The refusal of a call that was refused.
-pub(crate) fn refusal_of(verdict: Verdict) -> Denial
+pub(crate) fn refusal_of(verdict: CallResult) -> Denial
     ensures { result ≡ denial_in verdict }
 {
     match verdict {
-        Verdict::Refused(denial) => denial,
+        CallResult::Refused(denial) => denial,
         _ => Denial::new(Rule::N26, Facts::None),
     }
 }
@@ -234,17 +234,17 @@ impl Domain {
     ghost use Rattle.gt_calls.specs.Asking.{asked, begun_of};
     ghost use Rattle.gt_calls.specs.Path.{idle_word, path};
     ghost use Rattle.gt_calls.specs.Rules.{begun};
-    ghost use Rattle.gt_calls.specs.declared.call.Question.{Question};
+    ghost use Rattle.gt_calls.specs.declared.call.HeaderQuery.{HeaderQuery};
     ghost use Rattle.gt_calls.specs.declared.request.Request.{Request};
     ghost use Rattle.gt_calls.specs.Rules.{knows, label_of, map_begun, unmap_begun};
-    ghost use Rattle.gt_calls.specs.declared.request.Asked.TheVariants as asks;
+    ghost use Rattle.gt_calls.specs.declared.request.OpenRequest.TheVariants as asks;
     ghost use Rattle.gt_live.specs.Domains.{known_on, verdict_of, verdict_of_frames, verdict_of_size};
     ghost use Rattle.gt_live.specs.Domains.{verdict_of_version};
     ghost use Rattle.gt_live.specs.Mappings.{ReachesItsFrame, Removes};
     ghost use Rattle.gt_access.specs.Routes.{MayAccessBy};
-    ghost use Rattle.gt_calls.specs.declared.held.Route.TheVariants.{Direct};
+    ghost use Rattle.gt_calls.specs.declared.held.AccessPath.TheVariants.{Direct};
     ghost use Rattle.gt_handles.specs.Handles.{value_of};
-    ghost use Rattle.gt_calls.specs.declared.held.Held.{Held};
+    ghost use Rattle.gt_calls.specs.declared.held.HeldPin.{HeldPin};
     ghost use Rattle.gt_handles.specs.Handles.{IsEmpty};
     ghost use Rattle.gt_words.specs.Conditions.{KeepsPins};
 
@@ -252,10 +252,10 @@ impl Domain {
     pub(crate) fn new(
         alloc: Global,
         seat: Seat,
-        own: Vec<Own>,
-        mappings: Handles<Held>,
+        own: Vec<OwnerEntry>,
+        mappings: Handles<HeldPin>,
         trail: Trail,
-        visits: Visits,
+        visits: FrameAccesses,
     ) -> Domain
         ensures { result ≡ record {
           alloc = alloc;
@@ -327,7 +327,7 @@ impl Domain {
 
     /// The mapping under a handle, by whose pin the domain reaches any range of the mapping's frame; None if the
     /// handle names none of its mappings.
-    pub fn mapping<P: Allows>(&self, monitor: &Monitor<P>, handle: Handle) -> Option<Held>
+    pub fn mapping<P: Allows>(&self, monitor: &Monitor<P>, handle: Handle) -> Option<HeldPin>
         requires mine { BelongsTo P.may monitor.now self.now }
         ensures value { result ≡ value_of self.now.mappings handle }
         ensures reaches { IfSome result (ReachesItsFrame monitor.now.words.layout self.now.seat) }
@@ -338,7 +338,7 @@ impl Domain {
     }
 
     // What it knows by itself, and what the monitor allows.
-    fn known<'a, P: Allows>(&'a self, monitor: &'a Monitor<P>) -> Known<'a, P>
+    fn known<'a, P: Allows>(&'a self, monitor: &'a Monitor<P>) -> CallerState<'a, P>
         ensures { knows P.may result ≡ known_on P.may monitor.now self.now }
     {
         known_with(monitor, &self.seat, &self.own, &self.mappings)
@@ -346,7 +346,7 @@ impl Domain {
 
     // What it knows of an entry of its own.
     #[inline(always)]
-    fn own_entry<P: Allows>(&self, monitor: &Monitor<P>, gref: GrantRef) -> Own
+    fn own_entry<P: Allows>(&self, monitor: &Monitor<P>, gref: GrantRef) -> OwnerEntry
         ensures { IsRowOf (known_on P.may monitor.now self.now) gref result }
     {
         own_entry(&self.known(monitor), gref)
@@ -357,10 +357,10 @@ impl Domain {
     fn judge_own<P: Allows>(
         &self,
         monitor: &Monitor<P>,
-        own: Own,
+        own: OwnerEntry,
         gref: GrantRef,
-        change: Change,
-    ) -> Option<Verdict>
+        change: EntryChange,
+    ) -> Option<CallResult>
         requires row { IsRowOf (known_on P.may monitor.now self.now) gref own }
         ensures { result ≡ begun (known_on P.may monitor.now self.now) self.now.seat.dom (asks_change gref change) }
     {
@@ -375,7 +375,7 @@ impl Domain {
         monitor: &Monitor<P>,
         gref: GrantRef,
         looked: u64,
-        change: Change,
+        change: EntryChange,
     ) -> Result<(), Denial>
         requires mine { BelongsTo P.may monitor.now self.old }
         requires unanswered { begun (known_on P.may monitor.now self.old) self.old.seat.dom (asks_change gref change)
@@ -407,9 +407,9 @@ impl Domain {
     fn change_own<P: Allows>(
         &mut self,
         monitor: &Monitor<P>,
-        own: Own,
+        own: OwnerEntry,
         gref: GrantRef,
-        change: Change,
+        change: EntryChange,
     ) -> Result<(), Denial>
         requires mine { BelongsTo P.may monitor.now self.old }
         requires row { IsRowOf (known_on P.may monitor.now self.old) gref own }
@@ -438,7 +438,7 @@ impl Domain {
         &mut self,
         monitor: &Monitor<P>,
         gref: GrantRef,
-        change: Change,
+        change: EntryChange,
     ) -> Result<(), Denial>
         requires mine { BelongsTo P.may monitor.now self.old }
         ensures stays { StaysIn P.may monitor.now self.old self.new }
@@ -461,14 +461,14 @@ impl Domain {
     fn judge_bytes<P: Allows>(
         &self,
         monitor: &Monitor<P>,
-        own: Own,
+        own: OwnerEntry,
         gref: GrantRef,
         bytes: &[u8],
     ) -> Result<Entry, Denial>
         requires row { IsRowOf (known_on P.may monitor.now self.now) gref own }
         ensures refused { IfErr result (λ denial.
             begun_of (known_on P.may monitor.now self.now) self.now.seat.dom (Request.GrantBytes gref bytes.entry)
-            ≡ Some (Verdict.Refused denial)) }
+            ≡ Some (CallResult.Refused denial)) }
         ensures open { IfOk result (λ entry.
             (begun_of (known_on P.may monitor.now self.now) self.now.seat.dom
             (Request.GrantBytes gref bytes.entry) ≡ None)
@@ -510,7 +510,7 @@ impl Domain {
         let label = self.label(monitor);
         let known = known_with(monitor, &self.seat, &self.own, &self.mappings);
         if let Some(verdict) = judge_setup(&known, label, frames) {
-            return frames_told(verdict);
+            return frames_granted(verdict);
         }
         let caller = self.seat.dom();
         drive_setup(&monitor.words, &known, &mut self.seat, caller, frames);
@@ -522,7 +522,7 @@ impl Domain {
     fn ask<P: Allows>(&mut self, monitor: &Monitor<P>, dom: DomId) -> Result<u64, Denial>
         requires mine { BelongsTo P.may monitor.now self.old }
         ensures stays { StaysIn P.may monitor.now self.old self.new }
-        ensures called { (question : Question) → Called monitor.now.words.layout
+        ensures called { (question : HeaderQuery) → Called monitor.now.words.layout
             (path (known_on P.may monitor.now self.old) self.old.seat.dom (asks_question dom question))
             (answer_by question result) self.old.seat.view self.new.seat.view }
         ensures kept { KeepsPinned self.old self.new }
@@ -575,7 +575,7 @@ impl Domain {
         ensures answers { AnswersQuietly P.may monitor.now self.old
             (Request.Grant gref entry.now) (verdict_of result) self.new }
     {
-        self.owner_call(monitor, gref, Change::Publish(*entry))
+        self.owner_call(monitor, gref, EntryChange::Publish(*entry))
     }
 
     /// Publishes the entry that the bytes spell in a table of the domain's version.
@@ -596,7 +596,7 @@ impl Domain {
     {
         let own = self.own_entry(monitor, gref);
         match self.judge_bytes(monitor, own, gref, bytes) {
-            Ok(entry) => self.change_own(monitor, own, gref, Change::Publish(entry)),
+            Ok(entry) => self.change_own(monitor, own, gref, EntryChange::Publish(entry)),
             Err(denial) => Err(denial),
         }
     }
@@ -610,7 +610,7 @@ impl Domain {
         ensures stays { StaysIn P.may monitor.now self.old self.new }
         ensures answers { AnswersQuietly P.may monitor.now self.old (Request.Revoke gref) (verdict_of result) self.new }
     {
-        self.owner_call(monitor, gref, Change::Revoke)
+        self.owner_call(monitor, gref, EntryChange::Revoke)
     }
 
     /// Makes an entry of its own invalid, with or without pins: those that there are stay, and no more are taken.
@@ -627,7 +627,7 @@ impl Domain {
         ensures answers { AnswersQuietly P.may monitor.now self.old
             (Request.Withdraw gref) (verdict_of result) self.new }
     {
-        self.owner_call(monitor, gref, Change::Withdraw)
+        self.owner_call(monitor, gref, EntryChange::Withdraw)
     }
 
     /// Makes an entry of its own read-only, if it has no write pins. Ok without a change if it is so already.
@@ -639,7 +639,7 @@ impl Domain {
         ensures stays { StaysIn P.may monitor.now self.old self.new }
         ensures answers { AnswersQuietly P.may monitor.now self.old (Request.Demote gref) (verdict_of result) self.new }
     {
-        self.owner_call(monitor, gref, Change::Demote)
+        self.owner_call(monitor, gref, EntryChange::Demote)
     }
 
     /// Makes an entry of its own writable. Ok without a change if it is so already.
@@ -652,7 +652,7 @@ impl Domain {
         ensures answers { AnswersQuietly P.may monitor.now self.old
             (Request.Promote gref) (verdict_of result) self.new }
     {
-        self.owner_call(monitor, gref, Change::Promote)
+        self.owner_call(monitor, gref, EntryChange::Promote)
     }
 
     /// Gives its table this version, 1 or 2, while all its entries are invalid. Ok without a change if it has that
@@ -740,7 +740,7 @@ impl Domain {
         dom: DomId,
         gref: GrantRef,
         flags: u32,
-    ) -> Result<Held, Denial>
+    ) -> Result<HeldPin, Denial>
         requires mine { BelongsTo P.may monitor.now self.old }
         requires unanswered { map_begun (known_on P.may monitor.now self.old) self.old.seat.dom dom flags ≡ None }
         ensures kept { IsUnsettled self.old self.new }
@@ -830,7 +830,7 @@ impl Domain {
     }
 
     // The verdict at the beginning of a map, if one is given there.
-    fn judge_map<P: Allows>(&self, monitor: &Monitor<P>, dom: DomId, flags: u32) -> Option<Verdict>
+    fn judge_map<P: Allows>(&self, monitor: &Monitor<P>, dom: DomId, flags: u32) -> Option<CallResult>
         requires mine { BelongsTo P.may monitor.now self.now }
         ensures { result ≡ map_begun (known_on P.may monitor.now self.now) self.now.seat.dom dom flags }
     {
@@ -839,7 +839,7 @@ impl Domain {
     }
 
     // The verdict at the beginning of an unmap, if one is given there.
-    fn judge_unmap<P: Allows>(&self, monitor: &Monitor<P>, handle: Handle) -> Option<Verdict>
+    fn judge_unmap<P: Allows>(&self, monitor: &Monitor<P>, handle: Handle) -> Option<CallResult>
         requires mine { BelongsTo P.may monitor.now self.now }
         ensures { result ≡ unmap_begun (known_on P.may monitor.now self.now) self.now.seat.dom handle }
     {
@@ -847,12 +847,12 @@ impl Domain {
     }
 
     // Gives a mapping up, without a record.
-    fn give_up<P: Allows>(&mut self, monitor: &Monitor<P>, handle: Handle) -> Result<(), Denial>
+    fn unmap_unrecorded<P: Allows>(&mut self, monitor: &Monitor<P>, handle: Handle) -> Result<(), Denial>
         requires mine { BelongsTo P.may monitor.now self.old }
         ensures mine { BelongsTo P.may monitor.now self.new }
         ensures seat { IsSameSeat self.old.seat self.new.seat }
         ensures answered { Answered P.may monitor.now self.old (Request.Unmap handle) (verdict_of result) self.new }
-        ensures removed { OnOk result ((p : Held) × Removes self.old.mappings self.new.mappings handle p) }
+        ensures removed { OnOk result ((p : HeldPin) × Removes self.old.mappings self.new.mappings handle p) }
         ensures refused { OnErr result (KeepsPinned self.old self.new) }
         ensures silent { self.new.trail ≡ self.old.trail }
         ensures untouched { self.new.visits ≡ self.old.visits }
@@ -874,14 +874,14 @@ impl Domain {
         ensures mine { BelongsTo P.may monitor.now self.new }
         ensures seat { IsSameSeat self.old.seat self.new.seat }
         ensures answered { Answered P.may monitor.now self.old (Request.Unmap handle) (verdict_of result) self.new }
-        ensures removed { OnOk result ((p : Held) × Removes self.old.mappings self.new.mappings handle p) }
+        ensures removed { OnOk result ((p : HeldPin) × Removes self.old.mappings self.new.mappings handle p) }
         ensures refused { OnErr result (KeepsPinned self.old self.new) }
         ensures told { Tells self.old.trail
             (told_of self.old (Hypercall.Unmap (subject_of self.old handle)) (verdict_of result)) self.new.trail }
         ensures untouched { self.new.visits ≡ self.old.visits }
     {
         let subject = self.subject(handle);
-        let result = self.give_up(monitor, handle);
+        let result = self.unmap_unrecorded(monitor, handle);
         let call = Hypercall::Unmap { subject };
         let dom = self.seat.dom();
         let reply = outcome_reply(&result);
@@ -905,7 +905,7 @@ impl Domain {
     }
 
     /// Leaves the run: each of its mappings is given up, and its pin back.
-    pub fn finish<P: Allows>(mut self, monitor: &Monitor<P>) -> Left
+    pub fn finish<P: Allows>(mut self, monitor: &Monitor<P>) -> Departed
         requires mine { BelongsTo P.may monitor.now self }
         ensures left { HasLeft monitor.now.words.layout self result }
     {
@@ -918,6 +918,6 @@ impl Domain {
             trail,
             visits: _,
         } = self;
-        Left { trail, seat }
+        Departed { trail, seat }
     }
 }

@@ -7,13 +7,13 @@ ghost use Rattle.gt_live.specs.Walks.{Made, Called, ReadsBody};
 ghost use Rattle.gt_live.specs.Driving.{CanMake, Knows, Leaves};
 ghost use Rattle.gt_live.specs.Legs.{CanWalkLeg, WalksLeg, next_by};
 ghost use Rattle.gt_live.specs.Maps.{pin_effect, pin_of, pin_verdict};
-ghost use Rattle.gt_calls.specs.declared.request.Asked.TheVariants as asks;
+ghost use Rattle.gt_calls.specs.declared.request.OpenRequest.TheVariants as asks;
 
 use gt_calls::{
-    Half, Held, Known, Leg, MORE_TRIES, Seen, Step, entry_refusal, every_call_goes_on_by_its_phase,
+    BodyWord, HeldPin, CallerState, Leg, MORE_TRIES, Observation, Step, entry_refusal, every_call_goes_on_by_its_phase,
     has_entry, header_refusal, judge_control, judge_words, map_leg, pinned,
 };
-use gt_entry::{Change, Control, Kind};
+use gt_entry::{EntryChange, Control, EntryKind};
 use gt_handles::Handle;
 use gt_types::{Allows, Denial, DomId, GrantRef, Rule};
 use gt_words::{Pin, Seat, Words};
@@ -23,17 +23,17 @@ use gt_words::{Pin, Seat, Words};
 pub enum Effect {
     Nothing,
     /// It took this pin.
-    Pinned(Held),
+    Pinned(HeldPin),
     /// It gave back the pin of the mapping under this handle.
     Unpinned(Handle),
     /// It changed this entry of the caller's own.
-    Changed(GrantRef, Change),
+    Changed(GrantRef, EntryChange),
     /// It stored the caller's header.
     Stored,
 }
 
 // The pin that is held, as the words know it.
-pub(crate) fn pin_of(held: Held) -> Pin
+pub(crate) fn pin_of(held: HeldPin) -> Pin
     ensures { result ≡ pin_of held }
 {
     Pin {
@@ -50,7 +50,7 @@ pub(crate) fn look_at_header(words: &Words, seat: &mut Seat, dom: DomId) -> u64
     requires seat { IsSeatOf words.now seat.old }
     requires can { CanMake words.now.layout seat.old.view (Step.LookHeader dom) }
     ensures seat { IsSameSeat seat.old seat.new }
-    ensures made { Made words.now.layout (Step.LookHeader dom) (Seen.Word result) seat.old.view seat.new.view }
+    ensures made { Made words.now.layout (Step.LookHeader dom) (Observation.Word result) seat.old.view seat.new.view }
 {
     words.load_header(seat, dom)
 }
@@ -60,54 +60,54 @@ pub(crate) fn look_at_control(words: &Words, seat: &mut Seat, dom: DomId, gref: 
     requires seat { IsSeatOf words.now seat.old }
     requires can { CanMake words.now.layout seat.old.view (Step.LookControl dom gref) }
     ensures seat { IsSameSeat seat.old seat.new }
-    ensures made { Made words.now.layout (Step.LookControl dom gref) (Seen.Word result) seat.old.view seat.new.view }
+    ensures made { Made words.now.layout (Step.LookControl dom gref) (Observation.Word result) seat.old.view seat.new.view }
 {
     words.load_control(seat, dom, gref)
 }
 
 #[inline(always)]
-fn look_at_half(words: &Words, seat: &mut Seat, dom: DomId, gref: GrantRef, half: Half) -> u64
+fn look_at_half(words: &Words, seat: &mut Seat, dom: DomId, gref: GrantRef, half: BodyWord) -> u64
     requires seat { IsSeatOf words.now seat.old }
     requires can { CanMake words.now.layout seat.old.view (Step.LookBody dom gref half) }
     ensures seat { IsSameSeat seat.old seat.new }
-    ensures made { Made words.now.layout (Step.LookBody dom gref half) (Seen.Word result) seat.old.view seat.new.view }
+    ensures made { Made words.now.layout (Step.LookBody dom gref half) (Observation.Word result) seat.old.view seat.new.view }
 {
     words.load_body(seat, dom, gref, half)
 }
 
 // The body words of a try. The second is 0 if the entry is no sub-page.
 #[derive(Clone, Copy)]
-struct Body {
+struct BodyWords {
     first: u64,
     second: u64,
 }
 
 // Reads the body words of the leg's entry, whose control word is this: the second only of a sub-page.
 #[inline(always)]
-fn look_at_body(words: &Words, seat: &mut Seat, leg: &Leg, word: u64) -> Body
+fn look_at_body(words: &Words, seat: &mut Seat, leg: &Leg, word: u64) -> BodyWords
     requires seat { IsSeatOf words.now seat.old }
-    requires can { CanMake words.now.layout seat.old.view (Step.LookBody leg.now.dom leg.now.gref Half.First) }
+    requires can { CanMake words.now.layout seat.old.view (Step.LookBody leg.now.dom leg.now.gref BodyWord.First) }
     ensures seat { IsSameSeat seat.old seat.new }
     ensures read { ReadsBody words.now.layout leg.now word result.first result.second seat.old.view seat.new.view }
 {
-    let first = look_at_half(words, seat, leg.dom, leg.gref, Half::First);
+    let first = look_at_half(words, seat, leg.dom, leg.gref, BodyWord::First);
     match Control::unpack(word).kind {
-        Kind::Sub => {
-            let second = look_at_half(words, seat, leg.dom, leg.gref, Half::Second);
-            Body { first, second }
+        EntryKind::Sub => {
+            let second = look_at_half(words, seat, leg.dom, leg.gref, BodyWord::Second);
+            BodyWords { first, second }
         }
-        _ => Body { first, second: 0 },
+        _ => BodyWords { first, second: 0 },
     }
 }
 
 #[inline(always)]
-fn take_pin(words: &Words, seat: &mut Seat, held: &Held) -> Result<(), u64>
+fn take_pin(words: &Words, seat: &mut Seat, held: &HeldPin) -> Result<(), u64>
     requires seat { IsSeatOf words.now seat.old }
     requires can { CanMake words.now.layout seat.old.view (Step.Pin held.now) }
     ensures seat { IsSameSeat seat.old seat.new }
     ensures made { MatchResult result
-        (λ _. Made words.now.layout (Step.Pin held.now) Seen.Taken seat.old.view seat.new.view)
-        (λ n. Made words.now.layout (Step.Pin held.now) (Seen.Missed n) seat.old.view seat.new.view) }
+        (λ _. Made words.now.layout (Step.Pin held.now) Observation.Taken seat.old.view seat.new.view)
+        (λ n. Made words.now.layout (Step.Pin held.now) (Observation.Missed n) seat.old.view seat.new.view) }
 {
     match words.pin(seat, held.dom, held.gref, held.word, held.dir) {
         Ok(_) => Ok(()),
@@ -118,7 +118,7 @@ fn take_pin(words: &Words, seat: &mut Seat, held: &Held) -> Result<(), u64>
 // Walks a leg to its pin, or to its refusal. Most calls of a run are maps and copies, so the steps of a leg are written
 // out here, and they need no room for a machine.
 #[inline(always)]
-pub(crate) fn walk_leg(words: &Words, seat: &mut Seat, leg: &Leg) -> Result<Held, Denial>
+pub(crate) fn walk_leg(words: &Words, seat: &mut Seat, leg: &Leg) -> Result<HeldPin, Denial>
     requires seat { IsSeatOf words.now seat.old }
     requires can { CanWalkLeg words.now.layout leg.now seat.old.view }
     ensures seat { IsSameSeat seat.old seat.new }
@@ -159,13 +159,13 @@ pub(crate) fn walk_leg(words: &Words, seat: &mut Seat, leg: &Leg) -> Result<Held
 // Drives a map that no rule answered at its beginning to its end: the pin that it took, or its refusal.
 pub(crate) fn drive_map<P: Allows>(
     words: &Words,
-    known: &Known<'_, P>,
+    known: &CallerState<'_, P>,
     seat: &mut Seat,
     caller: DomId,
     dom: DomId,
     gref: GrantRef,
     flags: u32,
-) -> Result<Held, Denial>
+) -> Result<HeldPin, Denial>
     requires seat { IsSeatOf words.now seat.old }
     requires unanswered { map_begun (knows P.may known.now) caller dom flags ≡ None }
     requires knows { Knows (knows P.may known.now) words.now.layout caller seat.old.view }

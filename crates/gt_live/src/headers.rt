@@ -1,16 +1,16 @@
 //! Calls of one step on a header: another version, a larger table, and the questions of a table.
 ghost use Rattle.std.specs.Prelude.{◌≡◌, ◌<◌, None};
-ghost use Rattle.gt_calls.specs.Path.{path, told_to};
+ghost use Rattle.gt_calls.specs.Path.{path, header_value_of};
 ghost use Rattle.gt_calls.specs.Rules.{begun, knows, query_begun};
-ghost use Rattle.gt_calls.specs.declared.call.Question.{Question};
-ghost use Rattle.gt_calls.specs.declared.request.Asked.TheVariants as asks;
+ghost use Rattle.gt_calls.specs.declared.call.HeaderQuery.{HeaderQuery};
+ghost use Rattle.gt_calls.specs.declared.request.OpenRequest.TheVariants as asks;
 ghost use Rattle.gt_words.specs.Conditions.{IsSeatOf, IsSameSeat};
 ghost use Rattle.gt_live.specs.Driving.{CanMake, IsSame, Knows};
 ghost use Rattle.gt_live.specs.Questions.{asks_question};
 ghost use Rattle.gt_live.specs.Walks.{Called, Made};
 
 use crate::driving::look_at_header;
-use gt_calls::{Known, Seen, Step, Value, Verdict, every_call_goes_on_by_its_phase, resolve};
+use gt_calls::{CallerState, Observation, Step, CallValue, CallResult, every_call_goes_on_by_its_phase, resolve};
 use gt_entry::Header;
 use gt_types::{Allows, DomId};
 use gt_words::{Seat, Words};
@@ -33,7 +33,7 @@ fn store_header(words: &Words, seat: &mut Seat, version: u32, frames: u32)
     requires seat { IsSeatOf words.now seat.old }
     requires can { CanMake words.now.layout seat.old.view (Step.StoreHeader version frames) }
     ensures seat { IsSameSeat seat.old seat.new }
-    ensures made { Made words.now.layout (Step.StoreHeader version frames) Seen.Nothing seat.old.view seat.new.view }
+    ensures made { Made words.now.layout (Step.StoreHeader version frames) Observation.Nothing seat.old.view seat.new.view }
 {
     words.store_header(seat, header_with(version, frames));
 }
@@ -42,7 +42,7 @@ fn store_header(words: &Words, seat: &mut Seat, version: u32, frames: u32)
 #[inline(always)]
 pub(crate) fn drive_version<P: Allows>(
     words: &Words,
-    known: &Known<'_, P>,
+    known: &CallerState<'_, P>,
     seat: &mut Seat,
     caller: DomId,
     version: u32,
@@ -52,7 +52,7 @@ pub(crate) fn drive_version<P: Allows>(
     requires knows { Knows (knows P.may known.now) words.now.layout caller seat.old.view }
     ensures seat { IsSameSeat seat.old seat.new }
     ensures called { Called words.now.layout (path (knows P.may known.now) caller (asks.SetVersion version))
-        Verdict.Granted seat.old.view seat.new.view }
+        CallResult.Granted seat.old.view seat.new.view }
     ensures same { IsSame seat.old.view seat.new.view }
 {
     every_call_goes_on_by_its_phase();
@@ -63,7 +63,7 @@ pub(crate) fn drive_version<P: Allows>(
 #[inline(always)]
 pub(crate) fn drive_setup<P: Allows>(
     words: &Words,
-    known: &Known<'_, P>,
+    known: &CallerState<'_, P>,
     seat: &mut Seat,
     caller: DomId,
     frames: u32,
@@ -73,7 +73,7 @@ pub(crate) fn drive_setup<P: Allows>(
     requires knows { Knows (knows P.may known.now) words.now.layout caller seat.old.view }
     ensures seat { IsSameSeat seat.old seat.new }
     ensures called { Called words.now.layout (path (knows P.may known.now) caller (asks.SetupTable frames))
-        (Verdict.Given (Value.Frames frames)) seat.old.view seat.new.view }
+        (CallResult.Given (CallValue.Frames frames)) seat.old.view seat.new.view }
     ensures same { IsSame seat.old.view seat.new.view }
 {
     every_call_goes_on_by_its_phase();
@@ -84,7 +84,7 @@ pub(crate) fn drive_setup<P: Allows>(
 #[inline(always)]
 pub(crate) fn drive_query<P: Allows>(
     words: &Words,
-    known: &Known<'_, P>,
+    known: &CallerState<'_, P>,
     seat: &mut Seat,
     caller: DomId,
     dom: DomId,
@@ -93,9 +93,9 @@ pub(crate) fn drive_query<P: Allows>(
     requires unanswered { query_begun (knows P.may known.now) caller dom ≡ None }
     requires knows { Knows (knows P.may known.now) words.now.layout caller seat.old.view }
     ensures seat { IsSameSeat seat.old seat.new }
-    ensures called { (question : Question) →
+    ensures called { (question : HeaderQuery) →
         Called words.now.layout (path (knows P.may known.now) caller (asks_question dom question))
-        (told_to question result) seat.old.view seat.new.view }
+        (header_value_of question result) seat.old.view seat.new.view }
     ensures same { IsSame seat.old.view seat.new.view }
 {
     every_call_goes_on_by_its_phase();

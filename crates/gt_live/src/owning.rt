@@ -2,7 +2,7 @@
 ghost use Rattle.std.specs.Prelude.{◌≡◌, None, MatchResult};
 ghost use Rattle.gt_calls.specs.Rules.{begun, knows};
 ghost use Rattle.gt_calls.specs.Path.{idle_word, is_stopped, path};
-ghost use Rattle.gt_calls.specs.declared.request.Asked.TheVariants as asks;
+ghost use Rattle.gt_calls.specs.declared.request.OpenRequest.TheVariants as asks;
 ghost use Rattle.gt_entry.specs.Words.{control_of};
 ghost use Rattle.gt_words.specs.Conditions.{IsSeatOf, IsSameSeat};
 ghost use Rattle.gt_live.specs.Domains.{verdict_of};
@@ -12,30 +12,30 @@ ghost use Rattle.gt_live.specs.Walks.{Called, Made};
 
 use crate::driving::look_at_control;
 use gt_calls::{
-    Half, Known, MORE_TRIES, Own, Seen, Step, Verdict, entry_refusal,
+    BodyWord, CallerState, MORE_TRIES, OwnerEntry, Observation, Step, CallResult, entry_refusal,
     every_call_goes_on_by_its_phase, is_stopped, judge_change, judge_grant, judge_revoke,
 };
-use gt_entry::{Change, Control, Entry};
+use gt_entry::{EntryChange, Control, Entry};
 use gt_types::{Allows, Denial, DomId, GrantRef, Rule};
 use gt_words::{Seat, Words};
 
 // The verdict at the beginning of a change of the entry with this row, if one is given there.
 #[inline(always)]
 pub(crate) fn judge_own<P: Allows>(
-    known: &Known<'_, P>,
-    own: Own,
+    known: &CallerState<'_, P>,
+    own: OwnerEntry,
     gref: GrantRef,
-    change: Change,
-) -> Option<Verdict>
+    change: EntryChange,
+) -> Option<CallResult>
     requires row { IsRowOf (knows P.may known.now) gref own }
     ensures { (caller : DomId) → result ≡ begun (knows P.may known.now) caller (asks_change gref change) }
 {
     match change {
-        Change::Publish(entry) => judge_grant(known.header, own, gref, entry),
-        Change::Revoke => judge_revoke(known.header, own, gref),
-        Change::Withdraw => judge_revoke(known.header, own, gref),
-        Change::Demote => judge_change(Change::Demote, known.header, own, gref),
-        Change::Promote => judge_change(Change::Promote, known.header, own, gref),
+        EntryChange::Publish(entry) => judge_grant(known.header, own, gref, entry),
+        EntryChange::Revoke => judge_revoke(known.header, own, gref),
+        EntryChange::Withdraw => judge_revoke(known.header, own, gref),
+        EntryChange::Demote => judge_change(EntryChange::Demote, known.header, own, gref),
+        EntryChange::Promote => judge_change(EntryChange::Promote, known.header, own, gref),
     }
 }
 
@@ -46,21 +46,21 @@ fn try_change(
     seat: &mut Seat,
     gref: GrantRef,
     looked: u64,
-    change: Change,
+    change: EntryChange,
 ) -> Result<(), u64>
     requires seat { IsSeatOf words.now seat.old }
     requires can { CanMake words.now.layout seat.old.view (Step.Exchange gref looked change) }
     ensures seat { IsSameSeat seat.old seat.new }
     ensures made { MatchResult result
-        (λ _. Made words.now.layout (Step.Exchange gref looked change) Seen.Taken seat.old.view seat.new.view)
-        (λ n. Made words.now.layout (Step.Exchange gref looked change) (Seen.Missed n) seat.old.view seat.new.view) }
+        (λ _. Made words.now.layout (Step.Exchange gref looked change) Observation.Taken seat.old.view seat.new.view)
+        (λ n. Made words.now.layout (Step.Exchange gref looked change) (Observation.Missed n) seat.old.view seat.new.view) }
 {
     match change {
-        Change::Publish(entry) => words.grant(seat, gref, looked, entry),
-        Change::Revoke => words.revoke(seat, gref, looked),
-        Change::Withdraw => words.withdraw(seat, gref, looked),
-        Change::Demote => words.demote(seat, gref, looked),
-        Change::Promote => words.promote(seat, gref, looked),
+        EntryChange::Publish(entry) => words.grant(seat, gref, looked, entry),
+        EntryChange::Revoke => words.revoke(seat, gref, looked),
+        EntryChange::Withdraw => words.withdraw(seat, gref, looked),
+        EntryChange::Demote => words.demote(seat, gref, looked),
+        EntryChange::Promote => words.promote(seat, gref, looked),
     }
 }
 
@@ -72,7 +72,7 @@ fn change_once(
     caller: DomId,
     gref: GrantRef,
     looked: u64,
-    change: Change,
+    change: EntryChange,
 ) -> Result<(), Denial>
     requires seat { IsSeatOf words.now seat.old }
     requires can { CanMake words.now.layout seat.old.view (Step.Exchange gref looked change) }
@@ -87,11 +87,11 @@ fn change_once(
 
 // Stores a body word of an entry.
 #[inline(always)]
-fn store_half(words: &Words, seat: &mut Seat, gref: GrantRef, half: Half, word: u64)
+fn store_half(words: &Words, seat: &mut Seat, gref: GrantRef, half: BodyWord, word: u64)
     requires seat { IsSeatOf words.now seat.old }
     requires can { CanMake words.now.layout seat.old.view (Step.StoreBody gref half word) }
     ensures seat { IsSameSeat seat.old seat.new }
-    ensures made { Made words.now.layout (Step.StoreBody gref half word) Seen.Nothing seat.old.view seat.new.view }
+    ensures made { Made words.now.layout (Step.StoreBody gref half word) Observation.Nothing seat.old.view seat.new.view }
 {
     words.store_body(seat, gref, half, word);
 }
@@ -100,7 +100,7 @@ fn store_half(words: &Words, seat: &mut Seat, gref: GrantRef, half: Half, word: 
 #[inline(always)]
 fn drive_revoke<P: Allows>(
     words: &Words,
-    known: &Known<'_, P>,
+    known: &CallerState<'_, P>,
     seat: &mut Seat,
     caller: DomId,
     gref: GrantRef,
@@ -114,17 +114,17 @@ fn drive_revoke<P: Allows>(
     ensures called { Called words.now.layout (path (knows P.may known.now) caller (asks.Revoke gref))
         (verdict_of result) seat.old.view seat.new.view }
     ensures leaves { Leaves (knows P.may known.now) words.now.layout caller (asks.Revoke gref)
-        seat.old.view seat.new.view (change_effect gref Change.Revoke result) }
+        seat.old.view seat.new.view (change_effect gref EntryChange.Revoke result) }
 {
     every_call_goes_on_by_its_phase();
-    change_once(words, seat, caller, gref, looked, Change::Revoke)
+    change_once(words, seat, caller, gref, looked, EntryChange::Revoke)
 }
 
 // Drives a grant that no rule answered at its beginning to its end.
 #[inline(always)]
 fn drive_grant<P: Allows>(
     words: &Words,
-    known: &Known<'_, P>,
+    known: &CallerState<'_, P>,
     seat: &mut Seat,
     caller: DomId,
     gref: GrantRef,
@@ -139,22 +139,22 @@ fn drive_grant<P: Allows>(
     ensures called { Called words.now.layout (path (knows P.may known.now) caller (asks.Grant gref entry))
         (verdict_of result) seat.old.view seat.new.view }
     ensures leaves { Leaves (knows P.may known.now) words.now.layout caller (asks.Grant gref entry)
-        seat.old.view seat.new.view (change_effect gref (Change.Publish entry) result) }
+        seat.old.view seat.new.view (change_effect gref (EntryChange.Publish entry) result) }
 {
     every_call_goes_on_by_its_phase();
-    store_half(words, seat, gref, Half::First, entry.first_body());
+    store_half(words, seat, gref, BodyWord::First, entry.first_body());
     match entry {
         Entry::Sub { .. } => {
-            store_half(words, seat, gref, Half::Second, entry.second_body());
-            change_once(words, seat, caller, gref, looked, Change::Publish(entry))
+            store_half(words, seat, gref, BodyWord::Second, entry.second_body());
+            change_once(words, seat, caller, gref, looked, EntryChange::Publish(entry))
         }
-        _ => change_once(words, seat, caller, gref, looked, Change::Publish(entry)),
+        _ => change_once(words, seat, caller, gref, looked, EntryChange::Publish(entry)),
     }
 }
 
 // The pins of this word stop the change.
 #[inline(always)]
-fn stops(change: Change, word: u64) -> bool
+fn stops(change: EntryChange, word: u64) -> bool
     ensures { result ≡ is_stopped change (control_of word) }
 {
     is_stopped(change, Control::unpack(word))
@@ -164,11 +164,11 @@ fn stops(change: Change, word: u64) -> bool
 #[inline(always)]
 fn drive_turns<P: Allows>(
     words: &Words,
-    known: &Known<'_, P>,
+    known: &CallerState<'_, P>,
     seat: &mut Seat,
     caller: DomId,
     gref: GrantRef,
-    change: Change,
+    change: EntryChange,
 ) -> Result<(), Denial>
     requires seat { IsSeatOf words.now seat.old }
     requires turns { IsInTurns change }
@@ -203,12 +203,12 @@ fn drive_turns<P: Allows>(
 #[inline(always)]
 pub(crate) fn drive_change<P: Allows>(
     words: &Words,
-    known: &Known<'_, P>,
+    known: &CallerState<'_, P>,
     seat: &mut Seat,
     caller: DomId,
     gref: GrantRef,
     looked: u64,
-    change: Change,
+    change: EntryChange,
 ) -> Result<(), Denial>
     requires seat { IsSeatOf words.now seat.old }
     requires unanswered { begun (knows P.may known.now) caller (asks_change gref change) ≡ None }
@@ -221,10 +221,10 @@ pub(crate) fn drive_change<P: Allows>(
         seat.old.view seat.new.view (change_effect gref change result) }
 {
     match change {
-        Change::Publish(entry) => drive_grant(words, known, seat, caller, gref, looked, entry),
-        Change::Revoke => drive_revoke(words, known, seat, caller, gref, looked),
-        Change::Withdraw => drive_turns(words, known, seat, caller, gref, Change::Withdraw),
-        Change::Demote => drive_turns(words, known, seat, caller, gref, Change::Demote),
-        Change::Promote => drive_turns(words, known, seat, caller, gref, Change::Promote),
+        EntryChange::Publish(entry) => drive_grant(words, known, seat, caller, gref, looked, entry),
+        EntryChange::Revoke => drive_revoke(words, known, seat, caller, gref, looked),
+        EntryChange::Withdraw => drive_turns(words, known, seat, caller, gref, EntryChange::Withdraw),
+        EntryChange::Demote => drive_turns(words, known, seat, caller, gref, EntryChange::Demote),
+        EntryChange::Promote => drive_turns(words, known, seat, caller, gref, EntryChange::Promote),
     }
 }

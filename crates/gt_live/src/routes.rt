@@ -2,12 +2,12 @@
 ghost use Rattle.std.specs.Prelude.{◌≡◌, ℕ, None};
 ghost use Rattle.gt_words.specs.Conditions.{IsSeatOf, IsSameSeat};
 ghost use Rattle.gt_words.specs.declared.view.View.{View};
-ghost use Rattle.gt_calls.specs.declared.copying.Aim.{Aim};
-ghost use Rattle.gt_calls.specs.declared.held.Route.TheVariants.{Own};
+ghost use Rattle.gt_calls.specs.declared.copying.PinPurpose.{PinPurpose};
+ghost use Rattle.gt_calls.specs.declared.held.AccessPath.TheVariants.{Own};
 ghost use Rattle.gt_calls.specs.Holding.{held_by, last_first, no_pins};
 ghost use Rattle.gt_calls.specs.Machine.{at_dest, at_source, through_via};
 ghost use Rattle.gt_calls.specs.Rules.{copy_begun, knows};
-ghost use Rattle.gt_live.specs.Copies.{CanGiveBack, IsGivenBack, IsLastOf, StopsSo, dest_leg, source_leg};
+ghost use Rattle.gt_live.specs.Copies.{CanGiveBack, IsGivenBack, IsLastOf, CopyStopsWith, dest_leg, source_leg};
 ghost use Rattle.gt_live.specs.Copies.{after_copy, after_dest, phase_after_source, after_through, filled};
 ghost use Rattle.gt_live.specs.Driving.{CanMake, Knows};
 ghost use Rattle.gt_live.specs.Phases.{CanRun, Runs};
@@ -17,7 +17,7 @@ ghost use Rattle.gt_live.specs.Walks.{Made};
 use crate::domain::refusal_of;
 use crate::driving::{pin_of, walk_leg};
 use gt_calls::{
-    CopyArgs, Held, Holder, Known, Leg, Pins, Route, Seen, Step, end_leg,
+    CopyArgs, HeldPin, PinHolder, CallerState, Leg, CallPins, AccessPath, Observation, Step, end_leg,
     every_call_goes_on_by_its_phase, judge_via, resolve, second_leg,
 };
 use gt_entry::Entry;
@@ -26,11 +26,11 @@ use gt_words::{Seat, Words};
 
 // Gives a pin back that a copy took, whatever its place among the copy's pins.
 #[inline(always)]
-fn give_pin_back(words: &Words, seat: &mut Seat, held: &Held)
+fn give_pin_back(words: &Words, seat: &mut Seat, held: &HeldPin)
     requires seat { IsSeatOf words.now seat.old }
-    requires can { CanMake words.now.layout seat.old.view (Step.Unpin held.now (Holder.Leg 0)) }
+    requires can { CanMake words.now.layout seat.old.view (Step.Unpin held.now (PinHolder.Leg 0)) }
     ensures seat { IsSameSeat seat.old seat.new }
-    ensures made { (place : ℕ) → Made words.now.layout (Step.Unpin held.now (Holder.Leg place)) Seen.Nothing
+    ensures made { (place : ℕ) → Made words.now.layout (Step.Unpin held.now (PinHolder.Leg place)) Observation.Nothing
         seat.old.view seat.new.view }
 {
     words.unpin(seat, pin_of(*held));
@@ -40,20 +40,20 @@ fn give_pin_back(words: &Words, seat: &mut Seat, held: &Held)
 // the second leg. The pin of the Via is given back if either refuses.
 fn go_through<P: Allows>(
     words: &Words,
-    known: &Known<'_, P>,
+    known: &CallerState<'_, P>,
     seat: &mut Seat,
     first: &Leg,
-    via: &Held,
+    via: &HeldPin,
     pair: (DomId, DomId),
     dom: DomId,
     gref: GrantRef,
-) -> Result<Held, Denial>
+) -> Result<HeldPin, Denial>
     requires seat { IsSeatOf words.now seat.old }
-    requires can { (caller : DomId) × (aim : Aim) × IsLastOf via.now aim
+    requires can { (caller : DomId) × (aim : PinPurpose) × IsLastOf via.now aim
         × CanRun (knows P.may known.now) words.now.layout caller
         (through_via (knows P.may known.now) aim first.now pair dom gref) seat.old.view }
     ensures seat { IsSameSeat seat.old seat.new }
-    ensures goes { (caller : DomId) (aim : Aim) → IsLastOf via.now aim
+    ensures goes { (caller : DomId) (aim : PinPurpose) → IsLastOf via.now aim
         → Runs (knows P.may known.now) words.now.layout caller
         (through_via (knows P.may known.now) aim first.now pair dom gref) seat.old.view
         (after_through (knows P.may known.now) caller aim first.now dom gref result) seat.new.view }
@@ -76,11 +76,11 @@ fn go_through<P: Allows>(
 // these do: a route or two, handed on by value, cost more than the steps.
 fn reach_source<P: Allows>(
     words: &Words,
-    known: &Known<'_, P>,
+    known: &CallerState<'_, P>,
     seat: &mut Seat,
     caller: DomId,
     copy: &CopyArgs,
-    route: &mut Route,
+    route: &mut AccessPath,
 ) -> Result<(), Denial>
     requires seat { IsSeatOf words.now seat.old }
     requires can { CanRun (knows P.may known.now) words.now.layout caller
@@ -101,14 +101,14 @@ fn reach_source<P: Allows>(
             let pair = (dom2, named);
             match go_through(words, known, seat, &leg, &first, pair, dom2, gref) {
                 Ok(held) => {
-                    *route = Route::Through { via: first, held };
+                    *route = AccessPath::Through { via: first, held };
                     Ok(())
                 }
                 Err(denial) => Err(denial),
             }
         }
         _ => {
-            *route = Route::Direct(first);
+            *route = AccessPath::Direct(first);
             Ok(())
         }
     }
@@ -118,12 +118,12 @@ fn reach_source<P: Allows>(
 #[inline(never)]
 fn reach_dest<P: Allows>(
     words: &Words,
-    known: &Known<'_, P>,
+    known: &CallerState<'_, P>,
     seat: &mut Seat,
     caller: DomId,
     copy: &CopyArgs,
-    source: &Route,
-    route: &mut Route,
+    source: &AccessPath,
+    route: &mut AccessPath,
 ) -> Result<(), Denial>
     requires seat { IsSeatOf words.now seat.old }
     requires can { CanRun (knows P.may known.now) words.now.layout caller
@@ -144,14 +144,14 @@ fn reach_dest<P: Allows>(
             let pair = (from, dom2);
             match go_through(words, known, seat, &leg, &first, pair, dom2, gref) {
                 Ok(held) => {
-                    *route = Route::Through { via: first, held };
+                    *route = AccessPath::Through { via: first, held };
                     Ok(())
                 }
                 Err(denial) => Err(denial),
             }
         }
         _ => {
-            *route = Route::Direct(first);
+            *route = AccessPath::Direct(first);
             Ok(())
         }
     }
@@ -161,11 +161,11 @@ fn reach_dest<P: Allows>(
 #[inline(always)]
 fn walk_to_dest<P: Allows>(
     words: &Words,
-    known: &Known<'_, P>,
+    known: &CallerState<'_, P>,
     seat: &mut Seat,
     caller: DomId,
     copy: &CopyArgs,
-    pins: &mut Pins,
+    pins: &mut CallPins,
 ) -> Result<(), Denial>
     requires seat { IsSeatOf words.now seat.old }
     requires own { pins.old.dest ≡ Own }
@@ -179,7 +179,7 @@ fn walk_to_dest<P: Allows>(
     if !copy.is_dest_granted() {
         return Ok(());
     }
-    let Pins { source, dest } = pins;
+    let CallPins { source, dest } = pins;
     match reach_dest(words, known, seat, caller, copy, source, dest) {
         Ok(()) => Ok(()),
         Err(denial) => {
@@ -192,11 +192,11 @@ fn walk_to_dest<P: Allows>(
 // Walks a copy to its access, or to its refusal.
 fn walk<P: Allows>(
     words: &Words,
-    known: &Known<'_, P>,
+    known: &CallerState<'_, P>,
     seat: &mut Seat,
     caller: DomId,
     copy: &CopyArgs,
-    pins: &mut Pins,
+    pins: &mut CallPins,
 ) -> Result<(), Denial>
     requires seat { IsSeatOf words.now seat.old }
     requires none { pins.old ≡ no_pins }
@@ -220,18 +220,18 @@ fn walk<P: Allows>(
 // the pins that it holds at its access. Its steps are written out, as a map's are.
 pub(crate) fn drive_copy<P: Allows>(
     words: &Words,
-    known: &Known<'_, P>,
+    known: &CallerState<'_, P>,
     seat: &mut Seat,
     caller: DomId,
     copy: &CopyArgs,
-    pins: &mut Pins,
+    pins: &mut CallPins,
 ) -> Result<(), Denial>
     requires seat { IsSeatOf words.now seat.old }
     requires none { pins.old ≡ no_pins }
     requires unanswered { copy_begun (knows P.may known.now) caller copy.now ≡ None }
     requires knows { Knows (knows P.may known.now) words.now.layout caller seat.old.view }
     ensures seat { IsSameSeat seat.old seat.new }
-    ensures stops { StopsSo (knows P.may known.now) words.now.layout
+    ensures stops { CopyStopsWith (knows P.may known.now) words.now.layout
         caller copy.now (filled result pins.new) seat.old.view seat.new.view }
 {
     every_call_goes_on_by_its_phase();
@@ -240,16 +240,16 @@ pub(crate) fn drive_copy<P: Allows>(
 
 // Gives back the pins of a route, the last one first.
 #[inline(always)]
-fn give_back_route(words: &Words, seat: &mut Seat, route: &Route)
+fn give_back_route(words: &Words, seat: &mut Seat, route: &AccessPath)
     requires seat { IsSeatOf words.now seat.old }
     requires can { CanGiveBack words.now.layout (held_by route.now) seat.old.view }
     ensures seat { IsSameSeat seat.old seat.new }
     ensures given { IsGivenBack words.now.layout (held_by route.now) seat.old.view seat.new.view }
 {
     match route {
-        Route::Own => {}
-        Route::Direct(held) => give_pin_back(words, seat, held),
-        Route::Through { via, held } => {
+        AccessPath::Own => {}
+        AccessPath::Direct(held) => give_pin_back(words, seat, held),
+        AccessPath::Through { via, held } => {
             give_pin_back(words, seat, held);
             give_pin_back(words, seat, via);
         }
@@ -257,7 +257,7 @@ fn give_back_route(words: &Words, seat: &mut Seat, route: &Route)
 }
 
 // Gives back the pins that a copy held at its access, the last one first.
-pub(crate) fn give_back(words: &Words, seat: &mut Seat, pins: &Pins)
+pub(crate) fn give_back(words: &Words, seat: &mut Seat, pins: &CallPins)
     requires seat { IsSeatOf words.now seat.old }
     requires taken { (base : View) × HasTaken words.now.layout (last_first pins.now) base seat.old.view }
     requires of_run { AreOfRun words.now.layout (last_first pins.now) }

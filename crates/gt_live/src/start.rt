@@ -8,8 +8,8 @@ ghost use Rattle.gt_live.specs.Starting.{first_rows, IsNewDomain};
 use crate::domain::Domain;
 use crate::monitor::Monitor;
 use gt_audit::Trail;
-use gt_calls::{ENTRIES, Handles, Own};
-use gt_frames::{Pool, Visits};
+use gt_calls::{ENTRIES, Handles, OwnerEntry};
+use gt_frames::{Pool, FrameAccesses};
 use gt_positions::Roster;
 use gt_types::{Allows, Config, StartFault};
 use gt_words::{Seat, Words};
@@ -17,12 +17,12 @@ use std::alloc::{AllocError, Global};
 
 // The rows of a domain at the start.
 #[tactic(auto, unfolding(crate::specs::Starting::first_rows))]
-fn first_rows(alloc: Global, first_gen: u32) -> Result<Vec<Own>, AllocError>
+fn first_rows(alloc: Global, first_gen: u32) -> Result<Vec<OwnerEntry>, AllocError>
     requires { first_gen < 1048576 }
     ensures { IfOk result (λ v. v.items ≡ first_rows first_gen) }
 {
     let mut rows = Vec::new(alloc);
-    rows.resize(ENTRIES, Own::new(first_gen))?;
+    rows.resize(ENTRIES, OwnerEntry::new(first_gen))?;
     Ok(rows)
 }
 
@@ -30,8 +30,8 @@ fn first_rows(alloc: Global, first_gen: u32) -> Result<Vec<Own>, AllocError>
 fn all_rows(
     alloc: Global,
     first_gen: u32,
-    all_visits: Vec<Visits>,
-) -> Result<Vec<(Vec<Own>, Visits)>, AllocError>
+    all_visits: Vec<FrameAccesses>,
+) -> Result<Vec<(Vec<OwnerEntry>, FrameAccesses)>, AllocError>
     requires first { first_gen < 1048576 }
     requires none { All (λ visits. visits ≡ []) all_visits.items }
     ensures count { IfOk result (λ v. length v.items ≡ length all_visits.items) }
@@ -50,7 +50,7 @@ fn make_domains<P: Allows>(
     alloc: Global,
     monitor: &Monitor<P>,
     mut seats: Vec<Seat>,
-    all_visits: Vec<Visits>,
+    all_visits: Vec<FrameAccesses>,
     first_gen: u32,
 ) -> Result<Vec<Domain>, AllocError>
     requires config { IsWithinLimits monitor.now.config }

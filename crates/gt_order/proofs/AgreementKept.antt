@@ -8,8 +8,8 @@ use Rattle.gt_types.specs.declared.config.Config.{Config}
 use Rattle.gt_types.specs.declared.limits.TheConstants.{TABLE_ENTRIES}
 use Rattle.gt_entry.specs.Spelling.{control_with}
 use Rattle.gt_entry.specs.Words.{control_word, header_word}
-use Rattle.gt_entry.specs.declared.change.Half.{Half}
-use Rattle.gt_entry.specs.declared.change.Half.TheVariants.{First, Second}
+use Rattle.gt_entry.specs.declared.change.BodyWord.{BodyWord}
+use Rattle.gt_entry.specs.declared.change.BodyWord.TheVariants.{First, Second}
 use Rattle.gt_words.specs.History.{StepHistory, Layout, half_index, left_by, word_after}
 use Rattle.gt_words.specs.Rule.{header_place, layout_of, place}
 use Rattle.gt_words.specs.declared.view.EntryStep.TheVariants.{StoredBody}
@@ -18,7 +18,7 @@ use Rattle.gt_words.specs.declared.view.SeatStep.{SeatStep}
 use Rattle.gt_words.specs.declared.view.SeatStep.TheVariants.{Entry, Header}
 use Rattle.gt_core.proofs.Steps.Observers.{kept-entry, kept-raises, kept-table, other-body, other-table, stepped}
 use Rattle.gt_core.proofs.Steps.Observers.{unstored}
-use Rattle.gt_core.proofs.Words.{GrantRef, None, Option, Pin, Seen, Some, StoreBody, StoreHeader, [], append-nil}
+use Rattle.gt_core.proofs.Words.{GrantRef, None, Option, Pin, Observation, Some, StoreBody, StoreHeader, [], append-nil}
 use Rattle.gt_core.proofs.Words.{header_or, or_else, pinned_by, unpinned_by, ◌++◌}
 use Rattle.gt_words.specs.declared.view.EntryRecord.{EntryRecord}
 use Rattle.gt_core.specs.History.{History as Items, Setting, body_at, change_at, entry_at, generation_at, header_stored}
@@ -46,11 +46,11 @@ pub live-kept : (item : Item) (g : Items) → KeepsWords item → live (item ∷
 unfolding live
 live-kept item g q = ap (λ (ps : List Pin). unpinned_by item.actor item.happened (live g) ++ ps) (q.pins g (live g)) ∙ (append-nil (unpinned_by item.actor item.happened (live g)) ∙ q.unpins (live g))
 
-pub half-few : (half : Half) → half_index half < 3
+pub half-few : (half : BodyWord) → half_index half < 3
 half-few First = omega arith
 half-few Second = omega arith
 
-pub half-some : (half : Half) → 0 ≡ half_index half → ⊥
+pub half-some : (half : BodyWord) → 0 ≡ half_index half → ⊥
 half-some First e = absurd (omega arith)
 half-some Second e = absurd (omega arith)
 
@@ -70,7 +70,7 @@ module _ (c : Config) (s : Setting) (k : Layout) (g : Items) (h : StepHistory) (
   )
 
   -- a step that leaves all as it is, and its item
-  pub quiet : (item : Item) (x : SeatStep) → KeepsWords item → header_stored item.happened ≡ None → ((r : ℕ) (half : Half) → stored_at item.happened r half ≡ None) → ((n : ℕ) → left_by x n ≡ n) → ChangesNothing x
+  pub quiet : (item : Item) (x : SeatStep) → KeepsWords item → header_stored item.happened ≡ None → ((r : ℕ) (half : BodyWord) → stored_at item.happened r half ≡ None) → ((n : ℕ) → left_by x n ≡ n) → ChangesNothing x
       → Agree s k (item ∷ g) ((i, x) ∷ h)
   quiet item x keeps head stores leaves none = record {
     words = λ t r l m. kept-word item t r keeps ∙ (agree.words t r l m ∙ sym (word-kept k i x h (place t r 0) leaves));
@@ -82,20 +82,20 @@ module _ (c : Config) (s : Setting) (k : Layout) (g : Items) (h : StepHistory) (
 
   -- a body word is stored
 
-  abbrev storing : GrantRef → Half → ℕ → Seen → Option Answer → Item
+  abbrev storing : GrantRef → BodyWord → ℕ → Observation → Option Answer → Item
   storing q half n seen answer = stepped d (StoreBody q half n) seen answer
 
-  body-here : (q : GrantRef) (half : Half) (n : ℕ) (seen : Seen) (answer : Option Answer) → body_at (storing q half n seen answer ∷ g) d.0 q.0 half ≡ n
+  body-here : (q : GrantRef) (half : BodyWord) (n : ℕ) (seen : Observation) (answer : Option Answer) → body_at (storing q half n seen answer ∷ g) d.0 q.0 half ≡ n
   unfolding body_at
   body-here q half n seen answer =
       ap (λ (b : Bool). or_else (cond b (cond ((q.0 == q.0) && same_half half half) (Some n) None) None) (body_at g d.0 q.0 half)) (eq-eqb d.0 d.0 refl)
       ∙ (ap (λ (b : Bool). or_else (cond (b && same_half half half) (Some n) None) (body_at g d.0 q.0 half)) (eq-eqb q.0 q.0 refl) ∙ same half)
     where
-      same : (z : Half) → or_else (cond (true && same_half z z) (Some n) None) (body_at g d.0 q.0 z) ≡ n
+      same : (z : BodyWord) → or_else (cond (true && same_half z z) (Some n) None) (body_at g d.0 q.0 z) ≡ n
       same First = refl
       same Second = refl
 
-  body-else : (q : GrantRef) (half : Half) (n : ℕ) (seen : Seen) (answer : Option Answer) (t r : ℕ) (which : Half) → t < k.domains → (i ≡ t → q.0 ≡ r → half_index half ≡ half_index which → ⊥)
+  body-else : (q : GrantRef) (half : BodyWord) (n : ℕ) (seen : Observation) (answer : Option Answer) (t r : ℕ) (which : BodyWord) → t < k.domains → (i ≡ t → q.0 ≡ r → half_index half ≡ half_index which → ⊥)
       → body_at (storing q half n seen answer ∷ g) (dom_at k t).0 r which ≡ body_at g (dom_at k t).0 r which
   unfolding body_at
   body-else q half n seen answer t r which l apart =
@@ -107,7 +107,7 @@ module _ (c : Config) (s : Setting) (k : Layout) (g : Items) (h : StepHistory) (
         | inr e ↦ other-body (storing q half n seen answer) g (dom_at k t).0 r which (test-apart c k i t is limits inside l e)
       ]
     where
-      other : (a b : Half) → (half_index a ≡ half_index b → ⊥) → same_half a b ≡ false
+      other : (a b : BodyWord) → (half_index a ≡ half_index b → ⊥) → same_half a b ≡ false
       other First First n = absurd (n refl)
       other First Second n = refl
       other Second First n = refl
@@ -122,19 +122,19 @@ module _ (c : Config) (s : Setting) (k : Layout) (g : Items) (h : StepHistory) (
       plain true = refl
       plain false = refl
 
-  same-index : (a b : Half) → half_index a ≡ half_index b → a ≡ b
+  same-index : (a b : BodyWord) → half_index a ≡ half_index b → a ≡ b
   same-index First First e = refl
   same-index First Second e = absurd (omega arith)
   same-index Second First e = absurd (omega arith)
   same-index Second Second e = refl
 
-  pub stores-body : (q : GrantRef) (half : Half) (n : ℕ) (seen : Seen) (answer : Option Answer) → q.0 < TABLE_ENTRIES → Agree s k (storing q half n seen answer ∷ g) ((i, Entry i q.0 (StoredBody half n)) ∷ h)
+  pub stores-body : (q : GrantRef) (half : BodyWord) (n : ℕ) (seen : Observation) (answer : Option Answer) → q.0 < TABLE_ENTRIES → Agree s k (storing q half n seen answer ∷ g) ((i, Entry i q.0 (StoredBody half n)) ∷ h)
   stores-body q half n seen answer lt = record {
     words = λ t r l m. kept-word item t r keeps ∙ (agree.words t r l m ∙ sym (word-else k i x h (place t r 0)
         (λ e. let p = places-apart i q.0 (half_index half) t r 0 lt m (half-few half) (omega arith) e in half-some half (sym p.2))));
     bodies = λ t r which l m. elim (cases_eq (place i q.0 (half_index half)) (place t r (half_index which))) [
       | inl e ↦ let p = places-apart i q.0 (half_index half) t r (half_index which) lt m (half-few half) (half-few which) e in
-          subst (λ (z : ℕ × (ℕ × Half)). body_at (item ∷ g) (dom_at k z.0).0 z.1.0 z.1.1 ≡ word_after k ((i, x) ∷ h) (place z.0 z.1.0 (half_index z.1.1))) (λ j. (p.0 j, (p.1 j, same-index half which p.2 j)))
+          subst (λ (z : ℕ × (ℕ × BodyWord)). body_at (item ∷ g) (dom_at k z.0).0 z.1.0 z.1.1 ≡ word_after k ((i, x) ∷ h) (place z.0 z.1.0 (half_index z.1.1))) (λ j. (p.0 j, (p.1 j, same-index half which p.2 j)))
           (body-here q half n seen answer ∙ sym (word-here k i x h (place i q.0 (half_index half)) refl))
       | inr ne ↦ body-else q half n seen answer t r which l (λ e f y. ne (λ j. place (e j) (f j) (y j))) ∙ (agree.bodies t r which l m ∙ sym (word-else k i x h (place t r (half_index which)) ne))
     ];
@@ -154,11 +154,11 @@ module _ (c : Config) (s : Setting) (k : Layout) (g : Items) (h : StepHistory) (
 
   -- a header is stored
 
-  table-here : (version frames : ℕ) (seen : Seen) (answer : Option Answer) → table_at s (stepped d (StoreHeader version frames) seen answer ∷ g) d ≡ record { version = version; frames = frames }
+  table-here : (version frames : ℕ) (seen : Observation) (answer : Option Answer) → table_at s (stepped d (StoreHeader version frames) seen answer ∷ g) d ≡ record { version = version; frames = frames }
   unfolding table_at
   table-here version frames seen answer = ap (λ (b : Bool). header_or (cond b (Some (record { version = version; frames = frames })) None) (table_at s g d)) (eq-eqb d.0 d.0 refl)
 
-  pub stores-header : (version frames : ℕ) (seen : Seen) (answer : Option Answer)
+  pub stores-header : (version frames : ℕ) (seen : Observation) (answer : Option Answer)
       → Agree s k (stepped d (StoreHeader version frames) seen answer ∷ g) ((i, Header i (header.Stored (header_word (record { version = version; frames = frames })))) ∷ h)
   stores-header version frames seen answer = record {
     words = λ t r l m. kept-word item t r keeps ∙ (agree.words t r l m ∙ sym (word-else k i x h (place t r 0) (λ e. header-apart t r 0 i m (omega arith) (sym e))));

@@ -13,7 +13,7 @@ use Rattle.gt_entry.specs.Bytes.{is_refused, is_set, is_table_version}
 use Rattle.gt_entry.specs.declared.entry.Entry.{Entry}
 use Rattle.gt_entry.specs.declared.entry.Entry.TheVariants.{Page, Sub, Via}
 use Rattle.gt_entry.specs.declared.header.Header.{Header}
-use Rattle.gt_calls.specs.Asking.{IsSaid, IsSaidBy, begun_by, begun_of, bytes_begun, bytes_of, entry_said, said_in_v1}
+use Rattle.gt_calls.specs.Asking.{SpellsItsEntry, SpellsEntryBy, begun_by, begun_of, bytes_begun, bytes_of, entry_spelled, said_in_v1}
 use Rattle.gt_calls.specs.Asking.{said_in_v2}
 use Rattle.gt_calls.specs.Rules.{CallerKnowledge}
 use Rattle.gt_calls.specs.declared.request.Request.{Request}
@@ -53,7 +53,7 @@ spells-v2 bytes len all e = by (flags_of bytes % 4 == 3) refl (is_set (flags_of 
         (v2-page bytes (len, all) e (eqb-false (flags_of bytes % 4) 3 a) f)
 
 -- in either version
-pub spells : (version : ℕ) (bytes : List ℕ) → All (λ byte. byte < 256) bytes → first_refused version bytes ≡ None → Spells version bytes (entry_said bytes)
+pub spells : (version : ℕ) (bytes : List ℕ) → All (λ byte. byte < 256) bytes → first_refused version bytes ≡ None → Spells version bytes (entry_spelled bytes)
 spells version bytes all e =
     let n = none-found (is_refused version (length bytes) (flags_of bytes) Length) Length (find (is_refused version (length bytes) (flags_of bytes)) flag_fields) e in
     let r = right-length (is_table_version version) (length bytes == entry_size version) n.0 in
@@ -64,29 +64,29 @@ spells version bytes all e =
     one false true f g = absurd (cc)
     one false false f g = g
 
-    by : (b : Bool) → (version == 2) ≡ b → is_table_version version ≡ true → length bytes ≡ entry_size version → find (is_refused version (length bytes) (flags_of bytes)) flag_fields ≡ None → Spells version bytes (entry_said bytes)
+    by : (b : Bool) → (version == 2) ≡ b → is_table_version version ≡ true → length bytes ≡ entry_size version → find (is_refused version (length bytes) (flags_of bytes)) flag_fields ≡ None → Spells version bytes (entry_spelled bytes)
     by true two table len none =
         let v : version ≡ 2 = eqb-true version 2 two in
         let size : length bytes ≡ 16 = len ∙ ap entry_size v in
         let clean : find (is_refused 2 16 (flags_of bytes)) flag_fields ≡ None = sym (λ j. find (is_refused (v j) (size j) (flags_of bytes)) flag_fields) ∙ none in
-        let said : entry_said bytes ≡ said_in_v2 bytes = ap (λ (z : Bool). cond z (said_in_v2 bytes) (said_in_v1 bytes)) (eq-eqb (length bytes) 16 size) in
-        subst (λ (z : Bool). MatchBool z (SpellsV2 bytes (entry_said bytes)) ((version ≡ 1) × SpellsV1 bytes (entry_said bytes))) (sym two) (subst (SpellsV2 bytes) (sym said) (spells-v2 bytes size all clean))
+        let said : entry_spelled bytes ≡ said_in_v2 bytes = ap (λ (z : Bool). cond z (said_in_v2 bytes) (said_in_v1 bytes)) (eq-eqb (length bytes) 16 size) in
+        subst (λ (z : Bool). MatchBool z (SpellsV2 bytes (entry_spelled bytes)) ((version ≡ 1) × SpellsV1 bytes (entry_spelled bytes))) (sym two) (subst (SpellsV2 bytes) (sym said) (spells-v2 bytes size all clean))
     by false other table len none =
         let v : version ≡ 1 = eqb-true version 1 (one (version == 1) (version == 2) other table) in
         let size : length bytes ≡ 8 = len ∙ ap entry_size v in
         let clean : find (is_refused 1 8 (flags_of bytes)) flag_fields ≡ None = sym (λ j. find (is_refused (v j) (size j) (flags_of bytes)) flag_fields) ∙ none in
         let short : (length bytes == 16) ≡ false = ne_eqb (length bytes) 16 (λ f. let z : 8 ≡ 16 = sym size ∙ f in absurd (omega arith)) in
-        let said : entry_said bytes ≡ said_in_v1 bytes = ap (λ (z : Bool). cond z (said_in_v2 bytes) (said_in_v1 bytes)) short in
-        subst (λ (z : Bool). MatchBool z (SpellsV2 bytes (entry_said bytes)) ((version ≡ 1) × SpellsV1 bytes (entry_said bytes))) (sym other) (v, subst (SpellsV1 bytes) (sym said) (v1-read bytes (size, all) clean))
+        let said : entry_spelled bytes ≡ said_in_v1 bytes = ap (λ (z : Bool). cond z (said_in_v2 bytes) (said_in_v1 bytes)) short in
+        subst (λ (z : Bool). MatchBool z (SpellsV2 bytes (entry_spelled bytes)) ((version ≡ 1) × SpellsV1 bytes (entry_spelled bytes))) (sym other) (v, subst (SpellsV1 bytes) (sym said) (v1-read bytes (size, all) clean))
 
 clean-bytes : (header : Header) (old : Entry) (generation r : ℕ) (bytes : List ℕ) → bytes_begun header old generation r bytes ≡ None → first_refused header.version bytes ≡ None
 clean-bytes header old generation r bytes e = grind arith
 
 -- what is asked is said
-pub said : (k : CallerKnowledge) (d : DomId) (request : Request) → AreBytesOf (bytes_of request) → begun_of k d request ≡ None → IsSaid k.header request
+pub said : (k : CallerKnowledge) (d : DomId) (request : Request) → AreBytesOf (bytes_of request) → begun_of k d request ≡ None → SpellsItsEntry k.header request
 said k d request are none = by (bytes_of request) refl are
   where
-    by : (o : Option (GrantRef × List ℕ)) → bytes_of request ≡ o → AreBytesOf o → IsSaid k.header request
-    by None e a = subst (IsSaidBy k.header) (sym e) tt
-    by (Some b) e a = subst (IsSaidBy k.header) (sym e)
+    by : (o : Option (GrantRef × List ℕ)) → bytes_of request ≡ o → AreBytesOf o → SpellsItsEntry k.header request
+    by None e a = subst (SpellsEntryBy k.header) (sym e) tt
+    by (Some b) e a = subst (SpellsEntryBy k.header) (sym e)
         (spells k.header.version b.1 a (clean-bytes k.header (k.entry b.0.0) (k.generation b.0.0) b.0.0 b.1 (ap (begun_by k d request) (sym e) ∙ none)))

@@ -2,11 +2,11 @@
 use Rattle.std.proofs.Common.{[], Ok, Err, refl, inl, inr}
 use Rattle.gt_handles.specs.Handles.{HandleMap}
 use Rattle.gt_calls.specs.Asking.{asked}
-use Rattle.gt_calls.specs.declared.action.Verdict.{Verdict}
-use Rattle.gt_calls.specs.declared.action.Verdict.TheVariants.{Refused}
-use Rattle.gt_calls.specs.declared.held.Held.{Held}
-use Rattle.gt_calls.specs.declared.request.Asked.{Asked}
-use Rattle.gt_calls.specs.declared.request.Asked.TheVariants.{Unmap}
+use Rattle.gt_calls.specs.declared.action.CallResult.{CallResult}
+use Rattle.gt_calls.specs.declared.action.CallResult.TheVariants.{Refused}
+use Rattle.gt_calls.specs.declared.held.HeldPin.{HeldPin}
+use Rattle.gt_calls.specs.declared.request.OpenRequest.{OpenRequest}
+use Rattle.gt_calls.specs.declared.request.OpenRequest.TheVariants.{Unmap}
 use Rattle.gt_live.specs.Domains.{AllowRelation}
 use Rattle.gt_live.specs.Ending.{IsOfMapping}
 use Rattle.gt_live.specs.Mappings.{KeepsMappings}
@@ -15,7 +15,7 @@ use Rattle.gt_order.specs.Calling.{MapsAreMade, PlainCallsAreMade, UnmapsAreMade
 use Rattle.gt_order.specs.Runs.{LeavesMappings}
 use Rattle.gt_order.specs.Runs.CallOutcome.{Told, Kept, Starved}
 
-leaves : (request : Asked) (verdict : Verdict) (old new : HandleMap Held) → (IsOfMapping request → ⊥) → KeepsMappings old new → LeavesMappings request verdict old new
+leaves : (request : OpenRequest) (verdict : CallResult) (old new : HandleMap HeldPin) → (IsOfMapping request → ⊥) → KeepsMappings old new → LeavesMappings request verdict old new
 leaves (Unmap handle) verdict old new n k = absurd (n tt)
 leaves request verdict old new n k = k
 

@@ -14,11 +14,11 @@ use Rattle.gt_entry.specs.Entries.{is_invalid, is_read_only}
 use Rattle.gt_entry.specs.Laws.{control-round}
 use Rattle.gt_entry.specs.Spelling.{control_with, idle_word_of}
 use Rattle.gt_entry.specs.Words.{control_of, control_word, header_word, unit_of}
-use Rattle.gt_entry.specs.declared.change.Change.{Change}
-use Rattle.gt_entry.specs.declared.change.Change.TheVariants.{Publish, Revoke, Withdraw, Demote, Promote}
+use Rattle.gt_entry.specs.declared.change.EntryChange.{EntryChange}
+use Rattle.gt_entry.specs.declared.change.EntryChange.TheVariants.{Publish, Revoke, Withdraw, Demote, Promote}
 use Rattle.gt_entry.specs.declared.control.Control.{Control}
-use Rattle.gt_entry.specs.declared.control.Kind.{Kind}
-use Rattle.gt_entry.specs.declared.control.Kind.TheVariants as kinds
+use Rattle.gt_entry.specs.declared.control.EntryKind.{EntryKind}
+use Rattle.gt_entry.specs.declared.control.EntryKind.TheVariants as kinds
 use Rattle.gt_entry.specs.declared.entry.Entry.{Entry as EntryOf}
 use Rattle.gt_entry.specs.declared.entry.Entry.TheVariants.{Invalid, Page, Sub, Via}
 use Rattle.gt_words.specs.Conditions.{HasDomain}
@@ -30,9 +30,9 @@ use Rattle.gt_words.specs.declared.view.EntryRecord.{EntryRecord}
 use Rattle.gt_words.specs.declared.view.EntryStep.TheVariants.{Pinned, Unpinned, Changed}
 use Rattle.gt_words.specs.declared.view.SeatStep.{SeatStep}
 use Rattle.gt_words.specs.declared.view.SeatStep.TheVariants.{Entry}
-use Rattle.gt_calls.specs.declared.held.Held.{Held}
-use Rattle.gt_calls.specs.declared.request.Holder.{Holder}
-use Rattle.gt_calls.specs.declared.action.Seen.{Seen}
+use Rattle.gt_calls.specs.declared.held.HeldPin.{HeldPin}
+use Rattle.gt_calls.specs.declared.request.PinHolder.{PinHolder}
+use Rattle.gt_calls.specs.declared.action.Observation.{Observation}
 use Rattle.gt_core.proofs.Steps.Observers.{exchanged, exchanged-live, grown-count, kept-entry, kept-raises, kept-table}
 use Rattle.gt_core.proofs.Steps.Observers.{new_pin, other-entry, other-raises, pinned-live, pins, pins_at}
 use Rattle.gt_core.proofs.Steps.Observers.{unpinned-live, unpins, unstored}
@@ -65,7 +65,7 @@ one Write true = refl
 one Write false = refl
 
 -- the word fits 64 bits
-low-few : (k : Kind) (ro : Bool) (rest : ℕ) → control_word (record { kind = k; ro = ro; reads = 0; writes = 0; dom = record { 0 = 0 }; generation = 0 }) < 16
+low-few : (k : EntryKind) (ro : Bool) (rest : ℕ) → control_word (record { kind = k; ro = ro; reads = 0; writes = 0; dom = record { 0 = 0 }; generation = 0 }) < 16
 low-few kinds.Invalid true rest = omega arith
 low-few kinds.Invalid false rest = omega arith
 low-few kinds.Page true rest = omega arith
@@ -102,13 +102,13 @@ read-back e g r w f = let c = control_with e g r w in let p = parts-of e g r w i
     (ap (λ (z : Control). z.generation) same ∙ p.0, ap (λ (z : Control). z.reads) same ∙ p.1, ap (λ (z : Control). z.writes) same ∙ p.2)
 
 -- it is one that this change turns
-abbrev pub IsTurned : Change → EntryOf → Type 0
+abbrev pub IsTurned : EntryChange → EntryOf → Type 0
 IsTurned Demote e = (is_read_only e ≡ false) × (is_invalid e ≡ false)
 IsTurned Promote e = (is_read_only e ≡ true) × (is_invalid e ≡ false)
 IsTurned change e = Unit {0}
 
 -- at a publication and a revocation no pin is live
-abbrev pub IsIdleFor : Change → ℕ → ℕ → Type 0
+abbrev pub IsIdleFor : EntryChange → ℕ → ℕ → Type 0
 IsIdleFor (Publish e) r w = (r ≡ 0) × (w ≡ 0)
 IsIdleFor Revoke r w = (r ≡ 0) × (w ≡ 0)
 IsIdleFor change r w = Unit {0}
@@ -131,7 +131,7 @@ promoted (Sub dom true frame off len) g r w a b = omega arith
 promoted (Via dom false dom2 gref) g r w a b = absurd (cc)
 promoted (Via dom true dom2 gref) g r w a b = omega arith
 
-change-word : (change : Change) (e : EntryOf) (g r w : ℕ) → FitsWord (control_with e g r w) → IsTurned change e → IsIdleFor change r w
+change-word : (change : EntryChange) (e : EntryOf) (g r w : ℕ) → FitsWord (control_with e g r w) → IsTurned change e → IsIdleFor change r w
     → control_word (control_with (changed_entry change e) (g + raise_of change) r w) ≡ changed_word change (record { generation = g; entry = e }) (control_word (control_with e g r w))
 change-word (Publish new) e g r w f t i = (λ j. control_word (control_with new (g + 1) (i.0 j) (i.1 j))) ∙ idle-word new (g + 1)
 change-word Revoke e g r w f t i = let b = read-back e g r w f in let z : generation_of (control_word (control_with e g r w)) ≡ g = b.0 in
@@ -157,7 +157,7 @@ module _ (c : Config) (s : Setting) (k : Layout) (g : Items) (h : StepHistory) (
   word-of new t r e n = λ j. control_word (control_with (e j) (s.first_generation + n j) (reads_at new t r) (writes_at new t r))
 
   -- a pin is taken
-  pinned-word : (p : Held) (answer : Option Answer) (t r : ℕ) (b : Bool) → ((p.dom.0 == t) && (p.gref.0 == r)) ≡ b → word_at s (pins d p answer ∷ g) t r ≡ word_at s g t r + cond b (unit_of p.dir) 0
+  pinned-word : (p : HeldPin) (answer : Option Answer) (t r : ℕ) (b : Bool) → ((p.dom.0 == t) && (p.gref.0 == r)) ≡ b → word_at s (pins d p answer ∷ g) t r ≡ word_at s g t r + cond b (unit_of p.dir) 0
   pinned-word p answer t r b e =
       let item = pins d p answer in let new = new_pin g d p answer in
       let reads : reads_at (item ∷ g) t r ≡ reads_at g t r + cond (b && same_dir p.dir Read) 1 0 = grown-count g item new t r Read (pinned-live g d p answer) ∙ ap (λ (z : Bool). reads_at g t r + cond (z && same_dir p.dir Read) 1 0) e in
@@ -168,7 +168,7 @@ module _ (c : Config) (s : Setting) (k : Layout) (g : Items) (h : StepHistory) (
       ∙ ap (λ (z : ℕ). word_at s g t r + z) (one p.dir b)))
 
   -- a pin is given back
-  unpinned-word : (p : Held) (holder : Holder) (seen : Seen) (answer : Option Answer) (t r : ℕ) (b : Bool) → ((p.dom.0 == t) && (p.gref.0 == r)) ≡ b → Loses p (live g) (without d.0 holder (live g))
+  unpinned-word : (p : HeldPin) (holder : PinHolder) (seen : Observation) (answer : Option Answer) (t r : ℕ) (b : Bool) → ((p.dom.0 == t) && (p.gref.0 == r)) ≡ b → Loses p (live g) (without d.0 holder (live g))
       → word_at s g t r ≡ word_at s (unpins d p holder seen answer ∷ g) t r + cond b (unit_of p.dir) 0
   unpinned-word p holder seen answer t r b e loses =
       let item = unpins d p holder seen answer in let now = unpinned-live g d p holder seen answer in
@@ -179,10 +179,10 @@ module _ (c : Config) (s : Setting) (k : Layout) (g : Items) (h : StepHistory) (
       ∙ (λ j. sym (word-of (item ∷ g) t r (kept-entry item g t r (λ z. refl)) (kept-raises item g t r (λ z. refl))) j + one p.dir b j))
 
   -- the entry of a pin is this one, or not
-  on-it : (p : Held) (u : ℕ) → HasDomain k p.dom → u ≡ position_in k.ids p.dom → ((p.dom.0 == (dom_at k u).0) && (p.gref.0 == p.gref.0)) ≡ true
+  on-it : (p : HeldPin) (u : ℕ) → HasDomain k p.dom → u ≡ position_in k.ids p.dom → ((p.dom.0 == (dom_at k u).0) && (p.gref.0 == p.gref.0)) ≡ true
   on-it p u has at = let e = dom-there c k p.dom u is has at in λ j. eq-eqb p.dom.0 (dom_at k u).0 (ap (λ (z : DomId). z.0) (sym e.0)) j && eq-eqb p.gref.0 p.gref.0 refl j
 
-  off-it : (p : Held) (u t r : ℕ) → HasDomain k p.dom → u ≡ position_in k.ids p.dom → t < k.domains → (u ≡ t → p.gref.0 ≡ r → ⊥) → ((p.dom.0 == (dom_at k t).0) && (p.gref.0 == r)) ≡ false
+  off-it : (p : HeldPin) (u t r : ℕ) → HasDomain k p.dom → u ≡ position_in k.ids p.dom → t < k.domains → (u ≡ t → p.gref.0 ≡ r → ⊥) → ((p.dom.0 == (dom_at k t).0) && (p.gref.0 == r)) ≡ false
   off-it p u t r has at l apart = let e = dom-there c k p.dom u is has at in
       elim (cases_eq u t) [
         | inl f ↦ let ne = apart f in (λ j. (p.dom.0 == (dom_at k t).0) && ne_eqb p.gref.0 r ne j) ∙ off (p.dom.0 == (dom_at k t).0)
@@ -193,7 +193,7 @@ module _ (c : Config) (s : Setting) (k : Layout) (g : Items) (h : StepHistory) (
       off true = refl
       off false = refl
 
-  pub takes-pin : (p : Held) (answer : Option Answer) (u : ℕ) (y : EntryRecord) → HasDomain k p.dom → u ≡ position_in k.ids p.dom → p.gref.0 < TABLE_ENTRIES
+  pub takes-pin : (p : HeldPin) (answer : Option Answer) (u : ℕ) (y : EntryRecord) → HasDomain k p.dom → u ≡ position_in k.ids p.dom → p.gref.0 < TABLE_ENTRIES
       → Agree s k (pins d p answer ∷ g) ((i, Entry u p.gref.0 (Pinned p.dir p.word y)) ∷ h)
   takes-pin p answer u y has at lt = record {
     words = λ t r l m. elim (cases_eq (place u p.gref.0 0) (place t r 0)) [
@@ -215,7 +215,7 @@ module _ (c : Config) (s : Setting) (k : Layout) (g : Items) (h : StepHistory) (
       x : SeatStep
       x = Entry u p.gref.0 (Pinned p.dir p.word y)
 
-  pub gives-back : (p : Held) (holder : Holder) (seen : Seen) (answer : Option Answer) (u gen : ℕ) → HasDomain k p.dom → u ≡ position_in k.ids p.dom → p.gref.0 < TABLE_ENTRIES
+  pub gives-back : (p : HeldPin) (holder : PinHolder) (seen : Observation) (answer : Option Answer) (u gen : ℕ) → HasDomain k p.dom → u ≡ position_in k.ids p.dom → p.gref.0 < TABLE_ENTRIES
       → Loses p (live g) (without d.0 holder (live g)) → FitsWord (control_at s g (dom_at k u).0 p.gref.0)
       → Agree s k (unpins d p holder seen answer ∷ g) ((i, Entry u p.gref.0 (Unpinned p.dir gen)) ∷ h)
   gives-back p holder seen answer u gen has at lt loses fits = record {
@@ -241,32 +241,32 @@ module _ (c : Config) (s : Setting) (k : Layout) (g : Items) (h : StepHistory) (
 
   -- an owner's exchange is taken
 
-  changes-here : (q : GrantRef) (looked : ℕ) (change : Change) (answer : Option Answer)
+  changes-here : (q : GrantRef) (looked : ℕ) (change : EntryChange) (answer : Option Answer)
       → (entry_at (exchanged d q looked change answer ∷ g) d.0 q.0 ≡ changed_entry change (entry_at g d.0 q.0)) × (raises_at (exchanged d q looked change answer ∷ g) d.0 q.0 ≡ raises_at g d.0 q.0 + raise_of change)
   unfolding entry_at raises_at
   changes-here q looked change answer =
       let e : cond (d.0 == d.0) (cond (q.0 == q.0) (Some change) None) None ≡ Some change = ap (λ (b : Bool). cond b (cond (q.0 == q.0) (Some change) None) None) (eq-eqb d.0 d.0 refl) ∙ ap (λ (b : Bool). cond b (Some change) None) (eq-eqb q.0 q.0 refl) in
-      (ap (λ (o : Option Change). changed_entry_of o (entry_at g d.0 q.0)) e, ap (λ (o : Option Change). raises_at g d.0 q.0 + raise_after o) e)
+      (ap (λ (o : Option EntryChange). changed_entry_of o (entry_at g d.0 q.0)) e, ap (λ (o : Option EntryChange). raises_at g d.0 q.0 + raise_after o) e)
 
-  changes-else : (q : GrantRef) (looked : ℕ) (change : Change) (answer : Option Answer) (t r : ℕ) → t < k.domains → (i ≡ t → q.0 ≡ r → ⊥)
+  changes-else : (q : GrantRef) (looked : ℕ) (change : EntryChange) (answer : Option Answer) (t r : ℕ) → t < k.domains → (i ≡ t → q.0 ≡ r → ⊥)
       → (entry_at (exchanged d q looked change answer ∷ g) (dom_at k t).0 r ≡ entry_at g (dom_at k t).0 r) × (raises_at (exchanged d q looked change answer ∷ g) (dom_at k t).0 r ≡ raises_at g (dom_at k t).0 r)
   unfolding entry_at raises_at
   changes-else q looked change answer t r l apart =
       elim (cases_eq i t) [
         | inl e ↦ let f : (q.0 == r) ≡ false = ne_eqb q.0 r (apart e) in
             let z : cond (d.0 == (dom_at k t).0) (cond (q.0 == r) (Some change) None) None ≡ None = ap (λ (b : Bool). cond (d.0 == (dom_at k t).0) (cond b (Some change) None) None) f ∙ none (d.0 == (dom_at k t).0) in
-            (ap (λ (o : Option Change). changed_entry_of o (entry_at g (dom_at k t).0 r)) z, ap (λ (o : Option Change). raises_at g (dom_at k t).0 r + raise_after o) z ∙ (let y : raises_at g (dom_at k t).0 r + 0 ≡ raises_at g (dom_at k t).0 r = omega arith in y))
+            (ap (λ (o : Option EntryChange). changed_entry_of o (entry_at g (dom_at k t).0 r)) z, ap (λ (o : Option EntryChange). raises_at g (dom_at k t).0 r + raise_after o) z ∙ (let y : raises_at g (dom_at k t).0 r + 0 ≡ raises_at g (dom_at k t).0 r = omega arith in y))
         | inr e ↦ (other-entry item g (dom_at k t).0 r (test-apart c k i t is limits inside l e), other-raises item g (dom_at k t).0 r (test-apart c k i t is limits inside l e))
       ]
     where
       item : Item
       item = exchanged d q looked change answer
 
-      none : (b : Bool) → ◌≡◌ {A = Option Change} (cond b None None) None
+      none : (b : Bool) → ◌≡◌ {A = Option EntryChange} (cond b None None) None
       none true = refl
       none false = refl
 
-  changed-word : (q : GrantRef) (looked : ℕ) (change : Change) (answer : Option Answer) → FitsWord (control_at s g d.0 q.0) → IsTurned change (entry_at g d.0 q.0) → IsIdleFor change (reads_at g d.0 q.0) (writes_at g d.0 q.0)
+  changed-word : (q : GrantRef) (looked : ℕ) (change : EntryChange) (answer : Option Answer) → FitsWord (control_at s g d.0 q.0) → IsTurned change (entry_at g d.0 q.0) → IsIdleFor change (reads_at g d.0 q.0) (writes_at g d.0 q.0)
       → word_at s (exchanged d q looked change answer ∷ g) d.0 q.0 ≡ changed_word change (record { generation = generation_at s g d.0 q.0; entry = entry_at g d.0 q.0 }) (word_at s g d.0 q.0)
   changed-word q looked change answer fits turned idle =
       let z = changes-here q looked change answer in let live = exchanged-live g d q looked change answer in
@@ -275,7 +275,7 @@ module _ (c : Config) (s : Setting) (k : Layout) (g : Items) (h : StepHistory) (
       ∙ (ap (λ (n : ℕ). control_word (control_with (changed_entry change (entry_at g d.0 q.0)) n (reads_at g d.0 q.0) (writes_at g d.0 q.0))) gen
       ∙ change-word change (entry_at g d.0 q.0) (generation_at s g d.0 q.0) (reads_at g d.0 q.0) (writes_at g d.0 q.0) fits turned idle)
 
-  pub changes-entry : (q : GrantRef) (looked : ℕ) (change : Change) (answer : Option Answer) → q.0 < TABLE_ENTRIES → FitsWord (control_at s g d.0 q.0) → IsTurned change (entry_at g d.0 q.0) → IsIdleFor change (reads_at g d.0 q.0) (writes_at g d.0 q.0)
+  pub changes-entry : (q : GrantRef) (looked : ℕ) (change : EntryChange) (answer : Option Answer) → q.0 < TABLE_ENTRIES → FitsWord (control_at s g d.0 q.0) → IsTurned change (entry_at g d.0 q.0) → IsIdleFor change (reads_at g d.0 q.0) (writes_at g d.0 q.0)
       → word_after k h (place i q.0 0) ≡ looked
       → Agree s k (exchanged d q looked change answer ∷ g) ((i, Entry i q.0 (Changed change looked (changed_word change (last_at k i q.0 h) looked) (changed change (last_at k i q.0 h)))) ∷ h)
   changes-entry q looked change answer lt fits turned idle found = record {

@@ -3,14 +3,14 @@ use Rattle.std.proofs.Common.{get_or}
 use Rattle.std.proofs.lemmas.Bool.{cases_lt}
 use Rattle.std.proofs.lemmas.Option.{slice_get_past}
 use Rattle.std.specs.Prelude.{position}
-use Rattle.gt_calls.specs.declared.known.Own.{Own}
+use Rattle.gt_calls.specs.declared.known.OwnerEntry.{OwnerEntry}
 use Rattle.gt_core.proofs.Words.{◌≡◌, ◌≢◌, ◌+◌, ◌<◌, ◌≤◌, inl, inr, ℕ, refl, false, List, ◌∷◌, length, Option, Some}
 use Rattle.gt_core.proofs.Words.{None, is_some, sym, ap, ◌∙◌, subst, same_Some, none-some, arith, fun_ext, DomId}
-use Rattle.gt_core.proofs.Words.{domain_of, Entry, Request, begun_of, Verdict, CallerKnowledge, knowledge_of, known_at}
+use Rattle.gt_core.proofs.Words.{domain_of, Entry, Request, begun_of, CallResult, CallerKnowledge, knowledge_of, known_at}
 use Rattle.gt_core.proofs.Words.{Setting, open_call, CallAgrees, StateStands, State, state_of, IsRight, MappingsAgree}
 use Rattle.gt_core.proofs.Words.{mappings_at, maps_answered_at, entry_at, generation_at, table_at, entry_in}
 use Rattle.gt_core.proofs.Words.{own_generation, row_entry, row_generation, answer_of, TABLE_ENTRIES, slice_get}
-use Rattle.gt_core.proofs.Words.{header_stored, stored_at, Half, Underway}
+use Rattle.gt_core.proofs.Words.{header_stored, stored_at, BodyWord, Underway}
 use Rattle.gt_core.proofs.Beginning.{begin-answers}
 use Rattle.gt_core.proofs.AgreementKept.{known-same}
 use Rattle.gt_core.proofs.Playing.{legal-grows}
@@ -24,7 +24,7 @@ use Rattle.gt_core.specs.declared.core_state.Begun.TheVariants.{Done as BegunDon
 use Rattle.gt_core.specs.declared.trace.Element.TheVariants.{Item as Did}
 use Rattle.gt_core.specs.declared.trace.Event.TheVariants.{Begin}
 use Rattle.gt_core.specs.declared.trace.Item.{Item}
-use Rattle.gt_core.specs.declared.underway.Open.{Open}
+use Rattle.gt_core.specs.declared.underway.OpenCall.{OpenCall}
 use Rattle.gt_entry.specs.Words.{header_word}
 use Rattle.gt_types.specs.declared.config.Config.{Config}
 use Rattle.gt_words.specs.Conditions.{Board}
@@ -50,7 +50,7 @@ module _ (b : Board) (c : Config) (may : AllowRelation) (k : Layout) (g : Items)
   last-same : (r : ℕ) → last_at k i r h ≡ last_of r D.seat.view
   last-same r = λ j. last_record (sym first j) (entry_steps (sym at j) r (sym steps j))
 
-  past-rows : (own : List Own) (r : ℕ) → length own ≡ TABLE_ENTRIES → TABLE_ENTRIES ≤ r → slice_get own r ≡ None
+  past-rows : (own : List OwnerEntry) (r : ℕ) → length own ≡ TABLE_ENTRIES → TABLE_ENTRIES ≤ r → slice_get own r ≡ None
   past-rows own r e l = slice_get_past own r (omega arith)
 
   known-entry : (r : ℕ) → entry_at g d.0 r ≡ entry_in D.own.items r
@@ -81,12 +81,12 @@ placed xs d x is = by (position (has_id d) xs) refl where
   by None e = absurd (none-some x (sym (not-found xs d e) ∙ is))
   by (Some at) e = (at, e, same_Some x (get_or xs at x) (sym is ∙ found xs d at x e))
 
-idle : (s : Setting) (g : Items) (d : DomId) (o : Option Open) (c : Option Underway) → CallAgrees s g d o c → c ≡ None → is_some o ≡ false
+idle : (s : Setting) (g : Items) (d : DomId) (o : Option OpenCall) (c : Option Underway) → CallAgrees s g d o c → c ≡ None → is_some o ≡ false
 idle s g d None c a e = refl
 idle s g d (Some o) None a e = absurd a
 idle s g d (Some o) (Some c) a e = absurd (none-some c (sym e))
 
-pub can-be-answered : (s : Setting) (g : Items) (d : DomId) (request : Request) (v : Verdict) → CanBeReached s g → domain_of s.domains d ≢ None → open_call g d.0 ≡ None → begun_of (known_at s g d) d request ≡ Some v
+pub can-be-answered : (s : Setting) (g : Items) (d : DomId) (request : Request) (v : CallResult) → CanBeReached s g → domain_of s.domains d ≢ None → open_call g d.0 ≡ None → begun_of (known_at s g d) d request ≡ Some v
     → IsRight s g (beginning d request (Some (answer_of v))) × CanBeReached s (beginning d request (Some (answer_of v)) ∷ g)
 can-be-answered s g d request v (core, st) named closed is =
     let t = state-there s g core.domains d st.domains named in let x = t.0 in let a = t.3 in
@@ -108,7 +108,7 @@ can-be-answered s g d request v (core, st) named closed is =
     )
 
 -- an item that is no step, and changes nothing, keeps items and history in agreement
-pub keeps-agreement : (s : Setting) (k : Layout) (g : Items) (h : StepHistory) (item : Item) → KeepsWords item → header_stored item.happened ≡ None → ((r : ℕ) (half : Half) → stored_at item.happened r half ≡ None) → Agree s k g h → Agree s k (item ∷ g) h
+pub keeps-agreement : (s : Setting) (k : Layout) (g : Items) (h : StepHistory) (item : Item) → KeepsWords item → header_stored item.happened ≡ None → ((r : ℕ) (half : BodyWord) → stored_at item.happened r half ≡ None) → Agree s k g h → Agree s k (item ∷ g) h
 keeps-agreement s k g h item keeps head stores a = record {
   words = λ t r l m. word-same s g (item ∷ g) (dom_at k t).0 r (kept-entry item g (dom_at k t).0 r keeps.changes) (kept-raises item g (dom_at k t).0 r keeps.changes) (live-kept item g keeps) ∙ a.words t r l m;
   bodies = λ t r half l m. unstored item g (dom_at k t).0 r half (stores r half) ∙ a.bodies t r half l m;

@@ -6,7 +6,7 @@ use Rattle.std.proofs.lemmas.Option.{none-some}
 use Rattle.gt_types.specs.Config.{IsWithinLimits}
 use Rattle.std.specs.Prelude.{is_none, nat_le, not, ◌||◌}
 use Rattle.gt_types.specs.declared.limits.TheConstants.{MAX_MAPPINGS}
-use Rattle.gt_core.proofs.Words.{END_OF_SERIALS}
+use Rattle.gt_core.proofs.Words.{SERIAL_LIMIT}
 use Rattle.gt_types.specs.Names.{domain_of, resolved}
 use Rattle.gt_types.specs.declared.DomId.{DomId}
 use Rattle.gt_types.specs.declared.TypeId.{TypeId}
@@ -29,22 +29,22 @@ use Rattle.gt_words.specs.Views.{own_header, own_table}
 use Rattle.gt_words.specs.declared.view.View.{View}
 use Rattle.gt_calls.proofs.Advancing.{opens as starts-open}
 use Rattle.gt_calls.proofs.Saying.{plain-asked, plain-begun}
-use Rattle.gt_calls.specs.Asking.{IsSaid, asked, asked_by, begun_of, bytes_of, bytes_given_by, judged_as, plainly_asked}
+use Rattle.gt_calls.specs.Asking.{SpellsItsEntry, asked, asked_by, begun_of, bytes_of, bytes_given_by, judged_as, plainly_asked}
 use Rattle.gt_calls.specs.Following.{IsStepAction as MakesFirst}
 use Rattle.gt_calls.specs.Path.{FitsStep, after_beginning, path, path_of, steps_of}
 use Rattle.gt_calls.specs.Standing.{pins_at}
 use Rattle.gt_calls.specs.Rules.{CallerKnowledge, begun, denied, first, knowledge_of, map_begun, map_dir, refused_when}
 use Rattle.gt_calls.specs.Rules.{rights_to_map, rights_to_unmap, unmap_begun, unmap_denied}
 use Rattle.gt_calls.specs.declared.action.Action.TheVariants.{Step as Makes, Done}
-use Rattle.gt_calls.specs.declared.action.Seen.{Seen}
-use Rattle.gt_calls.specs.declared.action.Seen.TheVariants.{Nothing}
+use Rattle.gt_calls.specs.declared.action.Observation.{Observation}
+use Rattle.gt_calls.specs.declared.action.Observation.TheVariants.{Nothing}
 use Rattle.gt_calls.specs.declared.action.Step.{Step}
 use Rattle.gt_calls.specs.declared.action.Step.TheVariants.{Write as WriteBytes}
-use Rattle.gt_calls.specs.declared.action.Verdict.{Verdict}
-use Rattle.gt_calls.specs.declared.action.Verdict.TheVariants.{Mapped as KeptPin, Refused}
-use Rattle.gt_calls.specs.declared.held.Held.{Held}
-use Rattle.gt_calls.specs.declared.request.Asked.{Asked}
-use Rattle.gt_calls.specs.declared.request.Asked.TheVariants.{Map, Unmap}
+use Rattle.gt_calls.specs.declared.action.CallResult.{CallResult}
+use Rattle.gt_calls.specs.declared.action.CallResult.TheVariants.{Mapped as KeptPin, Refused}
+use Rattle.gt_calls.specs.declared.held.HeldPin.{HeldPin}
+use Rattle.gt_calls.specs.declared.request.OpenRequest.{OpenRequest}
+use Rattle.gt_calls.specs.declared.request.OpenRequest.TheVariants.{Map, Unmap}
 use Rattle.gt_calls.specs.declared.request.Request.{Request}
 use Rattle.gt_core.proofs.Beginning.{plain-unmapped}
 use Rattle.gt_core.proofs.AgreementKept.{open_call-own}
@@ -59,7 +59,7 @@ use Rattle.gt_core.specs.Standing.{MappingsAgree}
 use Rattle.gt_core.specs.Acting.{answer_of, setting_of}
 use Rattle.gt_core.specs.declared.trace.Answer.{Answer}
 use Rattle.gt_core.specs.declared.trace.Answer.TheVariants.{Done as AnswerDone, Mapped}
-use Rattle.gt_core.specs.declared.trace.Happened.TheVariants.{Stepped}
+use Rattle.gt_core.specs.declared.trace.ItemEvent.TheVariants.{Stepped}
 use Rattle.gt_core.specs.declared.trace.Item.{Item}
 use Rattle.gt_live.specs.Domains.{AllowRelation, IsDomainOf, knowledge}
 use Rattle.gt_live.specs.Ending.{IsMap}
@@ -83,7 +83,7 @@ use Rattle.gt_order.specs.Runs.CallOutcome.{Told, Kept, Starved, Wrote}
 -- what answers a call at its beginning
 
 -- the verdict, if it is one, is a refusal
-abbrev pub Refuses : Option Verdict → Type 0
+abbrev pub Refuses : Option CallResult → Type 0
 Refuses None = Unit {0}
 Refuses (Some (Refused denial)) = Unit {0}
 Refuses (Some verdict) = ⊥
@@ -100,12 +100,12 @@ denied-refuses may (t ∷ ts) = by (may t.source t.target t.perm) (denied-refuse
     by true r = r
     by false r = tt
 
-first-of : (a b : Option Verdict) (more : List (Option Verdict)) → Refuses a → Refuses (first (b ∷ more)) → Refuses (first (a ∷ b ∷ more))
+first-of : (a b : Option CallResult) (more : List (Option CallResult)) → Refuses a → Refuses (first (b ∷ more)) → Refuses (first (a ∷ b ∷ more))
 first-of None b more r q = q
 first-of (Some (Refused denial)) b more r q = tt
 first-of (Some verdict) b more r q = absurd r
 
-last-of-all : (a : Option Verdict) → Refuses a → Refuses (first (a ∷ []))
+last-of-all : (a : Option CallResult) → Refuses a → Refuses (first (a ∷ []))
 last-of-all None r = tt
 last-of-all (Some (Refused denial)) r = tt
 last-of-all (Some verdict) r = absurd r
@@ -113,25 +113,25 @@ last-of-all (Some verdict) r = absurd r
 unmap-refuses : (k : CallerKnowledge) (d : DomId) (handle : Handle) → Refuses (unmap_begun k d handle)
 unmap-refuses k d handle = first-of (refused_when (is_none (k.mapping handle)) N6) (unmap_denied k d (k.mapping handle)) [] (refused-when (is_none (k.mapping handle)) N6) (last-of-all (unmap_denied k d (k.mapping handle)) (by (k.mapping handle)))
   where
-    by : (o : Option Held) → Refuses (unmap_denied k d o)
+    by : (o : Option HeldPin) → Refuses (unmap_denied k d o)
     by None = tt
     by (Some m) = denied-refuses k.may (rights_to_unmap k d m.dom)
 
-map-list : (a b e : Bool) (o : Option Verdict) → Refuses o → Refuses (first (refused_when a N1 ∷ refused_when b N2 ∷ o ∷ refused_when e N8 ∷ []))
+map-list : (a b e : Bool) (o : Option CallResult) → Refuses o → Refuses (first (refused_when a N1 ∷ refused_when b N2 ∷ o ∷ refused_when e N8 ∷ []))
 map-list a b e o r = first-of (refused_when a N1) (refused_when b N2) (o ∷ refused_when e N8 ∷ []) (refused-when a N1)
     (first-of (refused_when b N2) o (refused_when e N8 ∷ []) (refused-when b N2) (first-of o (refused_when e N8) [] r (last-of-all (refused_when e N8) (refused-when e N8))))
 
 map-refuses : (k : CallerKnowledge) (d dom : DomId) (flags : ℕ) → Refuses (map_begun k d dom flags)
-map-refuses k d dom flags = map-list (is_none (domain_of k.domains (resolved d dom))) (not ((flags == 2) || (flags == 6))) (nat_le MAX_MAPPINGS k.in_use || nat_le END_OF_SERIALS k.maps_answered)
+map-refuses k d dom flags = map-list (is_none (domain_of k.domains (resolved d dom))) (not ((flags == 2) || (flags == 6))) (nat_le MAX_MAPPINGS k.in_use || nat_le SERIAL_LIMIT k.maps_answered)
     (denied k.may (rights_to_map k d (resolved d dom) (map_dir flags))) (denied-refuses k.may (rights_to_map k d (resolved d dom) (map_dir flags)))
 
 -- by what a request asks
-abbrev pub RefusesOnly : Asked → Option Verdict → Type 0
+abbrev pub RefusesOnly : OpenRequest → Option CallResult → Type 0
 RefusesOnly (Unmap handle) o = Refuses o
 RefusesOnly (Map dom gref flags) o = Refuses o
 RefusesOnly request o = Unit {0}
 
-begun-refuses : (k : CallerKnowledge) (d : DomId) (r : Asked) → RefusesOnly r (begun k d r)
+begun-refuses : (k : CallerKnowledge) (d : DomId) (r : OpenRequest) → RefusesOnly r (begun k d r)
 begun-refuses k d (Unmap handle) = unmap-refuses k d handle
 begun-refuses k d (Map dom gref flags) = map-refuses k d dom flags
 begun-refuses k d r = tt
@@ -140,33 +140,33 @@ pub asked-refuses : (k : CallerKnowledge) (d : DomId) (request : Request) → Re
 asked-refuses k d request = by (bytes_of request) refl
   where
     by : (o : Option (GrantRef × List ℕ)) → bytes_of request ≡ o → RefusesOnly (asked request) (begun_of k d request)
-    by None e = subst (λ (z : Option Verdict). RefusesOnly (asked request) z) (sym (plain-begun k d request e))
-        (subst (λ (z : Asked). RefusesOnly z (begun k d (plainly_asked request))) (plain-asked k.header request e).0 (begun-refuses k d (plainly_asked request)))
-    by (Some bs) e = subst (λ (z : Asked). RefusesOnly z (begun_of k d request)) (sym (ap (asked_by request) e)) tt
+    by None e = subst (λ (z : Option CallResult). RefusesOnly (asked request) z) (sym (plain-begun k d request e))
+        (subst (λ (z : OpenRequest). RefusesOnly z (begun k d (plainly_asked request))) (plain-asked k.header request e).0 (begun-refuses k d (plainly_asked request)))
+    by (Some bs) e = subst (λ (z : OpenRequest). RefusesOnly z (begun_of k d request)) (sym (ap (asked_by request) e)) tt
 
 -- a call that no rule answers makes a step
-first-step : (k : CallerKnowledge) (d : DomId) (request : Request) (v : Verdict) → begun_of k d request ≡ None → (begun_of k d request ≡ None → IsSaid k.header request) → path_of k d request [] ≡ Some (Done v) → ⊥
+first-step : (k : CallerKnowledge) (d : DomId) (request : Request) (v : CallResult) → begun_of k d request ≡ None → (begun_of k d request ≡ None → SpellsItsEntry k.header request) → path_of k d request [] ≡ Some (Done v) → ⊥
 first-step k d request v none said e =
     let starts = starts-open k d request (asked request) said (sym (ap (judged_as (asked request)) none)) in
     let f : path k d (asked request) [] ≡ Some (Done v) = same-way k d request none said [] ∙ e in
     subst MakesFirst f starts.6
 
 -- so a call without a step was answered at its beginning
-pub answered-at-once : (k : CallerKnowledge) (d : DomId) (request : Request) (v : Verdict) → (begun_of k d request ≡ None → IsSaid k.header request) → path_of k d request [] ≡ Some (Done v) → begun_of k d request ≡ Some v
+pub answered-at-once : (k : CallerKnowledge) (d : DomId) (request : Request) (v : CallResult) → (begun_of k d request ≡ None → SpellsItsEntry k.header request) → path_of k d request [] ≡ Some (Done v) → begun_of k d request ≡ Some v
 answered-at-once k d request v said e = by (begun_of k d request) refl
   where
-    by : (o : Option Verdict) → begun_of k d request ≡ o → begun_of k d request ≡ Some v
+    by : (o : Option CallResult) → begun_of k d request ≡ o → begun_of k d request ≡ Some v
     by None f = absurd (first-step k d request v f said e)
     by (Some u) f =
-        let g : Some (Done u) ≡ Some (Done v) = sym (ap (λ (o : Option Verdict). after_beginning o (steps_of k d (asked request)) []) f) ∙ e in
-        let same : u ≡ v = cc in f ∙ ap (λ (z : Verdict). Some z) same
+        let g : Some (Done u) ≡ Some (Done v) = sym (ap (λ (o : Option CallResult). after_beginning o (steps_of k d (asked request)) []) f) ∙ e in
+        let same : u ≡ v = cc in f ∙ ap (λ (z : CallResult). Some z) same
 
-pub keeps-at-once : (request : Asked) (v : Verdict) (old new : HandleMap Held) → RefusesOnly request (Some v) → LeavesMappings request v old new → KeepsMappings old new
+pub keeps-at-once : (request : OpenRequest) (v : CallResult) (old new : HandleMap HeldPin) → RefusesOnly request (Some v) → LeavesMappings request v old new → KeepsMappings old new
 keeps-at-once (Unmap handle) (Refused denial) old new r l = l
 keeps-at-once (Unmap handle) v old new r l = absurd r
 keeps-at-once request v old new r l = l
 
-pub no-pin-at-once : (request : Asked) (p : Held) → IsMap request → RefusesOnly request (Some (KeptPin p)) → ⊥
+pub no-pin-at-once : (request : OpenRequest) (p : HeldPin) → IsMap request → RefusesOnly request (Some (KeptPin p)) → ⊥
 no-pin-at-once (Map dom gref flags) p m r = r
 no-pin-at-once request p m r = absurd m
 
@@ -194,7 +194,7 @@ module _ (b : Board) (c : Config) (may : AllowRelation) (limits : IsWithinLimits
     items = own-items item g refl ∙ (λ j. same j ∷ seat.items j);
     maps = mappings-same m.old.mappings _ _ _ _ (sym keeps.mappings) (sym keeps.answered) seat.maps;
     known = keeps.known ∙ seat.known;
-    call = (then, open-then, seat.call.2, map-append (λ (p : Step × Seen). p.1) cl.steps ((r.step, seen_in_step x.1) ∷ []) ∙ ap (λ (z : List Seen). z ++ shown_by x ∷ []) seat.call.3);
+    call = (then, open-then, seat.call.2, map-append (λ (p : Step × Observation). p.1) cl.steps ((r.step, seen_in_step x.1) ∷ []) ∙ ap (λ (z : List Observation). z ++ shown_by x ∷ []) seat.call.3);
   }
     where
       cl : Underway
@@ -250,7 +250,7 @@ module _ (b : Board) (c : Config) (may : AllowRelation) (limits : IsWithinLimits
 
   -- the step ends the call
 
-  pub ends-told : (g : Items) (ms : List CallMade) (m : CallMade) (xs : List Moment) (x : Moment) (v w : View) (verdict : Verdict) (call : IsCall b c may m) (seat : SeatNow c may g d first (Going ms m xs))
+  pub ends-told : (g : Items) (ms : List CallMade) (m : CallMade) (xs : List Moment) (x : Moment) (v w : View) (verdict : CallResult) (call : IsCall b c may m) (seat : SeatNow c may g d first (Going ms m xs))
       → (r : GoesSo c may k g i seat.call.0 (all_shown xs) (way_of c may m) x v w (Some (answer_of verdict))) → m.steps ≡ x ∷ xs → m.outcome ≡ Told verdict → LeavesMappings (asked m.request) verdict m.old.mappings m.new.mappings
       → v.position ≡ i → w.position ≡ i → m.new.seat.view ≡ w → m.new.seat.view.steps ≡ part_of i ((i, x.1) ∷ x.0) → SeatNow c may (stepped d r.step (seen_in_step x.1) (Some (answer_of verdict)) ∷ g) d first (Resting (m ∷ ms))
   ends-told g ms m xs x v w verdict call seat r made out leaves at-v at-w view steps = record {
@@ -269,12 +269,12 @@ module _ (b : Board) (c : Config) (may : AllowRelation) (limits : IsWithinLimits
 
       maps : MappingsAgree m.new.mappings (mappings_at (item ∷ g) d.0) (maps_answered_at (item ∷ g) d.0)
       maps = told-maps s g d cl (values cl) (seen_in_step x.1) verdict m.old.mappings m.new.mappings seat.call.1 seat.maps
-          (subst (λ (z : Asked). LeavesMappings z verdict m.old.mappings m.new.mappings) (sym seat.call.2) leaves) r.here.core.domains r.here.phase r.step r.here.here r.quiet r.on_path r.right
+          (subst (λ (z : OpenRequest). LeavesMappings z verdict m.old.mappings m.new.mappings) (sym seat.call.2) leaves) r.here.core.domains r.here.phase r.step r.here.here r.quiet r.on_path r.right
 
-  pub core-adds : (old new : HandleMap Held) (handle : Handle) (p : Held) → KeepsOneMore old new handle p → Adds old new handle p
+  pub core-adds : (old new : HandleMap HeldPin) (handle : Handle) (p : HeldPin) → KeepsOneMore old new handle p → Adds old new handle p
   core-adds old new handle p a = record { serial = a.serial; fresh = a.inserted.fresh; given = a.inserted.given; updates = a.inserted.updates; count = a.inserted.count }
 
-  pub ends-kept : (g : Items) (ms : List CallMade) (m : CallMade) (xs : List Moment) (x : Moment) (v w : View) (handle : Handle) (p : Held) (call : IsCall b c may m) (seat : SeatNow c may g d first (Going ms m xs))
+  pub ends-kept : (g : Items) (ms : List CallMade) (m : CallMade) (xs : List Moment) (x : Moment) (v w : View) (handle : Handle) (p : HeldPin) (call : IsCall b c may m) (seat : SeatNow c may g d first (Going ms m xs))
       → (r : GoesSo c may k g i seat.call.0 (all_shown xs) (way_of c may m) x v w (Some (Mapped handle))) → path (known_at s g d) d seat.call.0.request (values seat.call.0 ++ seen_by s g d r.step ∷ []) ≡ Some (Done (KeptPin p)) → m.steps ≡ x ∷ xs → m.outcome ≡ Kept handle p
       → KeepsOneMore m.old.mappings m.new.mappings handle p
       → v.position ≡ i → w.position ≡ i → m.new.seat.view ≡ w → m.new.seat.view.steps ≡ part_of i ((i, x.1) ∷ x.0) → SeatNow c may (stepped d r.step (seen_in_step x.1) (Some (Mapped handle)) ∷ g) d first (Resting (m ∷ ms))
@@ -293,7 +293,7 @@ module _ (b : Board) (c : Config) (may : AllowRelation) (limits : IsWithinLimits
       item = stepped d r.step (seen_in_step x.1) (Some (Mapped handle))
 
       maps : MappingsAgree m.new.mappings (mappings_at (item ∷ g) d.0) (maps_answered_at (item ∷ g) d.0)
-      maps = subst (λ (z : Seen). let it = stepped d r.step z (Some (Mapped handle)) in MappingsAgree m.new.mappings (mappings_at (it ∷ g) d.0) (maps_answered_at (it ∷ g) d.0)) r.sees
+      maps = subst (λ (z : Observation). let it = stepped d r.step z (Some (Mapped handle)) in MappingsAgree m.new.mappings (mappings_at (it ∷ g) d.0) (maps_answered_at (it ∷ g) d.0)) r.sees
           (kept-maps s g d cl r.step p handle m.old.mappings m.new.mappings r.here (subst (FitsStep r.step) (sym r.sees) r.fits) r.on_path last (core-adds m.old.mappings m.new.mappings handle p adds) seat.maps)
 
   -- a beginning
@@ -305,7 +305,7 @@ module _ (b : Board) (c : Config) (may : AllowRelation) (limits : IsWithinLimits
   begins g ms m rest seat =
       let keeps = began-keeps g m.request None refl in record {
         items = own-items (item_of_beginning d m.request None) g refl ∙ ap (λ (z : List Item). item_of_beginning d m.request None ∷ z) seat.items;
-        maps = subst (λ (z : HandleMap Held). MappingsAgree z (mappings_at (item_of_beginning d m.request None ∷ g) d.0) (maps_answered_at (item_of_beginning d m.request None ∷ g) d.0)) (sym rest.mappings)
+        maps = subst (λ (z : HandleMap HeldPin). MappingsAgree z (mappings_at (item_of_beginning d m.request None ∷ g) d.0) (maps_answered_at (item_of_beginning d m.request None ∷ g) d.0)) (sym rest.mappings)
             (mappings-same _ _ _ _ _ (sym keeps.mappings) (sym keeps.answered) seat.maps);
         known = keeps.known ∙ (seat.known ∙ sym (known-alike (domain_after first ms) m.old rest));
         call = (record { request = asked m.request; given = bytes_given_by m.request; steps = [] }, open_call-own (item_of_beginning d m.request None) g, refl, refl);
@@ -326,7 +326,7 @@ module _ (b : Board) (c : Config) (may : AllowRelation) (limits : IsWithinLimits
       → (domain_after first ms).seat.view.position ≡ i → (domain_after first ms).seat.view.first ≡ k.first → (domain_after first ms).seat.view.steps ≡ part_of i h → SeatNow c may g d first (Resting ms) → SeatNow c may g d first (Resting (m ∷ ms))
   starves g h ms m reached agree call rest out view keeps at first-is steps seat =
       let D = domain_after first ms in
-      let maps = handles-kept m.old.mappings m.new.mappings _ _ keeps (subst (λ (z : HandleMap Held). MappingsAgree z (mappings_at g d.0) (maps_answered_at g d.0)) (sym rest.mappings) seat.maps) in record {
+      let maps = handles-kept m.old.mappings m.new.mappings _ _ keeps (subst (λ (z : HandleMap HeldPin). MappingsAgree z (mappings_at g d.0) (maps_answered_at g d.0)) (sym rest.mappings) seat.maps) in record {
         items = seat.items ∙ (λ j. items_by_outcome d (way_of c may m) m.request (sym out j) m.steps ++ items_of_calls c may d ms);
         maps = maps;
         known = stays-known g g h D m.new reached agree call.afterwards (view ∙ ap (λ (z : SeatOf). z.view) rest.seat) at first-is steps seat.known refl maps;
@@ -334,14 +334,14 @@ module _ (b : Board) (c : Config) (may : AllowRelation) (limits : IsWithinLimits
       }
 
   -- it was answered at its beginning
-  pub answers : (g : Items) (h : StepHistory) (ms : List CallMade) (m : CallMade) (verdict : Verdict) → CanBeReached s (item_of_beginning d m.request (Some (answer_of verdict)) ∷ g) → Agree s k (item_of_beginning d m.request (Some (answer_of verdict)) ∷ g) h
+  pub answers : (g : Items) (h : StepHistory) (ms : List CallMade) (m : CallMade) (verdict : CallResult) → CanBeReached s (item_of_beginning d m.request (Some (answer_of verdict)) ∷ g) → Agree s k (item_of_beginning d m.request (Some (answer_of verdict)) ∷ g) h
       → IsCall b c may m → IsAtRest (domain_after first ms) m.old → m.outcome ≡ Told verdict → m.steps ≡ [] → m.new.seat.view ≡ m.old.seat.view → KeepsMappings m.old.mappings m.new.mappings
       → (domain_after first ms).seat.view.position ≡ i → (domain_after first ms).seat.view.first ≡ k.first → (domain_after first ms).seat.view.steps ≡ part_of i h → SeatNow c may g d first (Resting ms)
       → SeatNow c may (item_of_beginning d m.request (Some (answer_of verdict)) ∷ g) d first (Resting (m ∷ ms))
   answers g h ms m verdict reached agree call rest out none view keeps at first-is steps seat =
       let D = domain_after first ms in let item = item_of_beginning d m.request (Some (answer_of verdict)) in
       let own = began-keeps g m.request (Some (answer_of verdict)) (plain-unmapped verdict) in
-      let maps = handles-kept m.old.mappings m.new.mappings _ _ keeps (subst (λ (z : HandleMap Held). MappingsAgree z (mappings_at (item ∷ g) d.0) (maps_answered_at (item ∷ g) d.0)) (sym rest.mappings)
+      let maps = handles-kept m.old.mappings m.new.mappings _ _ keeps (subst (λ (z : HandleMap HeldPin). MappingsAgree z (mappings_at (item ∷ g) d.0) (maps_answered_at (item ∷ g) d.0)) (sym rest.mappings)
       (mappings-same _ _ _ _ _ (sym own.mappings) (sym own.answered) seat.maps)) in record {
         items = own-items item g refl ∙ (ap (λ (z : List Item). item ∷ z) seat.items ∙ (λ j. items_by_outcome d (way_of c may m) m.request (sym out j) (sym none j) ++ items_of_calls c may d ms));
         maps = maps;

@@ -5,20 +5,20 @@ use Rattle.std.proofs.Common.{zero, suc, slice_index_or, slice_set, is_some, cou
 use Rattle.std.proofs.lemmas.List.Elements.{All-pop}
 use Rattle.std.proofs.lemmas.List.Sums.{sum_by-cons}
 use Rattle.gt_core.proofs.Words.{Publish, ToInvalid, ToReadOnly, ToWithdrawn, ToWritable}
-use Rattle.gt_calls.specs.declared.held.Pins.{Pins}
+use Rattle.gt_calls.specs.declared.held.CallPins.{CallPins}
 use Rattle.gt_core.proofs.Words.{◌≡◌, ◌≢◌, ◌+◌, inl, inr, ℕ, refl, Bool, true, false, cond, ◌==◌, List, [], ◌∷◌, ◌++◌}
 use Rattle.gt_core.proofs.Words.{Option, Some, None, sym, ap, ◌∙◌, subst, reverse, same_Some, none-some, arith}
-use Rattle.gt_core.proofs.Words.{eqb-true, fun_ext, All, DomId, domain_of, Held, Handle, HandleMap, ByMapping, ByLeg}
-use Rattle.gt_core.proofs.Words.{value_of, count_of, Asked, Unmap, Seen, Nothing, Word, Taken, Missed, Step, LookHeader}
+use Rattle.gt_core.proofs.Words.{eqb-true, fun_ext, All, DomId, domain_of, HeldPin, Handle, HandleMap, ByMapping, ByLeg}
+use Rattle.gt_core.proofs.Words.{value_of, count_of, OpenRequest, Unmap, Observation, Nothing, Word, Taken, Missed, Step, LookHeader}
 use Rattle.gt_core.proofs.Words.{LookControl, LookBody, PinStep, Unpin, StoreBody, StoreHeader, Exchange, ReadBytes}
-use Rattle.gt_core.proofs.Words.{WriteBytes, CopyBytes, Verdict, Granted, Given, KeptPin, Refused, Makes, Done, Phase}
+use Rattle.gt_core.proofs.Words.{WriteBytes, CopyBytes, CallResult, Granted, Given, KeptPin, Refused, Makes, Done, Phase}
 use Rattle.gt_core.proofs.Words.{Ending, path, known_at, action_at, Setting, Underway, values, open_call, CallAgrees}
 use Rattle.gt_core.proofs.Words.{IsClean, IsRight, StepsRightIn, LeavesAll, Rests, pins_at, PhaseStands, next_to_give}
 use Rattle.gt_core.proofs.Words.{mapping_of, mappings_at, maps_answered_at, MappingsAgree, one_if_mapped, header_stored}
 use Rattle.gt_core.proofs.Words.{change_at, handle_taken, gather, mapping_named, seen_by, word_at, answer_of, FitsStep}
-use Rattle.gt_core.proofs.Words.{Slot}
+use Rattle.gt_core.proofs.Words.{HandleSlot}
 use Rattle.gt_core.proofs.Words.{after_beginning, same_handle, Denial, holder_after, FitsNext, eq-eqb, State}
-use Rattle.gt_calls.specs.declared.action.Value.TheVariants.{Frames, Size as SizeTold, Version as VersionTold}
+use Rattle.gt_calls.specs.declared.action.CallValue.TheVariants.{Frames, Size as SizeTold, Version as VersionTold}
 use Rattle.gt_calls.specs.declared.action.Action.{Action}
 use Rattle.gt_calls.specs.Rules.{begun}
 use Rattle.gt_calls.specs.Path.{by_mapping as by_handle}
@@ -74,15 +74,15 @@ pub clean-steps : (s : Setting) (g : Items) (d : DomId) (c : Underway) (step : S
 clean-steps s g d c step here waits = by here.phase here.here.acts here.here.place here.clean
   where
     by : (p : Phase) → action_at d p ≡ Makes step → PhaseStands s g d c.request (reverse c.steps) p → IsClean p c.steps → All LeavesAll c.steps
-    by (Ending pins verdict) e (inl none) a = let f : Done verdict ≡ Makes step = sym (ap (λ (l : List Held). next_to_give l verdict) none) ∙ e in absurd (cc)
+    by (Ending pins verdict) e (inl none) a = let f : Done verdict ≡ Makes step = sym (ap (λ (l : List HeldPin). next_to_give l verdict) none) ∙ e in absurd (cc)
     by (Ending pins verdict) e (inr copy) a = absurd (subst WaitsForNobody copy.1 waits)
     by p e b a = a
 
-pub last-leaves : (xs : List (Step × Seen)) (x : Step × Seen) → All LeavesAll (xs ++ x ∷ []) → LeavesAll x
+pub last-leaves : (xs : List (Step × Observation)) (x : Step × Observation) → All LeavesAll (xs ++ x ∷ []) → LeavesAll x
 last-leaves xs x a = (All-pop LeavesAll (xs ++ x ∷ []) xs (Some x) refl a).1
 
 -- so a step of a call that goes on leaves all as it was: only a call without accesses makes a step that might not
-pub leaves-of : (k : CallerKnowledge) (d : DomId) (request : Asked) (pins : Pins) (vs : List Seen) (step : Step) (seen : Seen) → IsOnWords step → Rests k d request pins vs (Makes step) → (WaitsForNobody request → LeavesAll (step, seen)) → LeavesAll (step, seen)
+pub leaves-of : (k : CallerKnowledge) (d : DomId) (request : OpenRequest) (pins : CallPins) (vs : List Observation) (step : Step) (seen : Observation) → IsOnWords step → Rests k d request pins vs (Makes step) → (WaitsForNobody request → LeavesAll (step, seen)) → LeavesAll (step, seen)
 leaves-of k d request pins vs (LookHeader dom) seen q r f = tt
 leaves-of k d request pins vs (LookControl dom gref) seen q r f = tt
 leaves-of k d request pins vs (LookBody dom gref half) seen q r f = tt
@@ -119,7 +119,7 @@ pub maps-quiet : (g : Items) (d : DomId) (item : Item) → KeepsWords item → m
 maps-quiet g d item q = ap (gather mapping_named d.0) (live-kept item g q)
 
 -- a step that leaves all as it is, of a call that goes on
-pub leaves-known : (s : Setting) (g : Items) (d : DomId) (step : Step) (seen : Seen) → LeavesAll (step, seen) → KeepsOwn s g d (stepped d step seen None)
+pub leaves-known : (s : Setting) (g : Items) (d : DomId) (step : Step) (seen : Observation) → LeavesAll (step, seen) → KeepsOwn s g d (stepped d step seen None)
 leaves-known s g d (LookHeader dom) seen l = keeps-own s g d _ (λ r. refl) refl refl (maps-quiet g d _ (record { changes = λ z. refl; pins = λ before ps. refl; unpins = λ ps. refl }))
 leaves-known s g d (LookControl dom gref) seen l = keeps-own s g d _ (λ r. refl) refl refl (maps-quiet g d _ (record { changes = λ z. refl; pins = λ before ps. refl; unpins = λ ps. refl }))
 leaves-known s g d (LookBody dom gref half) seen l = keeps-own s g d _ (λ r. refl) refl refl (maps-quiet g d _ (record { changes = λ z. refl; pins = λ before ps. refl; unpins = λ ps. refl }))
@@ -138,9 +138,9 @@ leaves-known s g d (CopyBytes from to len) seen l = absurd l
 -- the handles after a call
 
 -- they are kept
-pub handles-kept : (old new : HandleMap Held) (ms : List (Handle × Held)) (n : ℕ) → KeepsMappings old new → MappingsAgree old ms n → MappingsAgree new ms n
+pub handles-kept : (old new : HandleMap HeldPin) (ms : List (Handle × HeldPin)) (n : ℕ) → KeepsMappings old new → MappingsAgree old ms n → MappingsAgree new ms n
 handles-kept old new ms n keeps a = record {
-  named = fun_ext (λ handle. ap (λ (slots : List (Option (Slot Held))). under handle.serial (slice_index_or slots handle.key None)) keeps.slots ∙ ap (λ (f : Handle → Option Held). f handle) a.named);
+  named = fun_ext (λ handle. ap (λ (slots : List (Option (HandleSlot HeldPin))). under handle.serial (slice_index_or slots handle.key None)) keeps.slots ∙ ap (λ (f : Handle → Option HeldPin). f handle) a.named);
   count = ap (count_by is_some) keeps.slots ∙ a.count;
   given = keeps.given ∙ a.given;
   apart = a.apart;
@@ -148,35 +148,35 @@ handles-kept old new ms n keeps a = record {
 
 -- one is given up
 
-set-none : (slots : List (Option (Slot Held))) (key at : ℕ) → slice_index_or (slice_set slots key None) at None ≡ cond (at == key) None (slice_index_or slots at None)
+set-none : (slots : List (Option (HandleSlot HeldPin))) (key at : ℕ) → slice_index_or (slice_set slots key None) at None ≡ cond (at == key) None (slice_index_or slots at None)
 set-none [] key at = grind arith
 set-none (x ∷ xs) zero zero = refl
 set-none (x ∷ xs) zero (suc at) = grind arith
 set-none (x ∷ xs) (suc key) zero = grind arith
 set-none (x ∷ xs) (suc key) (suc at) = grind (arith, set-none xs key at)
 
-taken-of : (kept : HandleMap Held) (handle other : Handle) (m : Held) → value_of kept handle ≡ Some m → value_of (handle_taken handle kept) other ≡ cond (same_handle other handle) None (value_of kept other)
+taken-of : (kept : HandleMap HeldPin) (handle other : Handle) (m : HeldPin) → value_of kept handle ≡ Some m → value_of (handle_taken handle kept) other ≡ cond (same_handle other handle) None (value_of kept other)
 taken-of kept handle other m has = grind (arith, set-none, eqb-true)
 
-count-set : (slots : List (Option (Slot Held))) (key : ℕ) (slot : Slot Held) → slice_index_or slots key None ≡ Some slot → count_by is_some (slice_set slots key None) + 1 ≡ count_by is_some slots
+count-set : (slots : List (Option (HandleSlot HeldPin))) (key : ℕ) (slot : HandleSlot HeldPin) → slice_index_or slots key None ≡ Some slot → count_by is_some (slice_set slots key None) + 1 ≡ count_by is_some slots
 count-set (Some x ∷ os) zero slot e =
-    omega (arith, sum_by-cons (λ (o : Option (Slot Held)). cond (is_some o) 1 0) (Some x) os, sum_by-cons (λ (o : Option (Slot Held)). cond (is_some o) 1 0) None os)
+    omega (arith, sum_by-cons (λ (o : Option (HandleSlot HeldPin)). cond (is_some o) 1 0) (Some x) os, sum_by-cons (λ (o : Option (HandleSlot HeldPin)). cond (is_some o) 1 0) None os)
 count-set (o ∷ os) (suc key) slot e =
-    omega (arith, count-set os key slot e, sum_by-cons (λ (o : Option (Slot Held)). cond (is_some o) 1 0) o os, sum_by-cons (λ (o : Option (Slot Held)). cond (is_some o) 1 0) o (slice_set os key None))
+    omega (arith, count-set os key slot e, sum_by-cons (λ (o : Option (HandleSlot HeldPin)). cond (is_some o) 1 0) o os, sum_by-cons (λ (o : Option (HandleSlot HeldPin)). cond (is_some o) 1 0) o (slice_set os key None))
 count-set slots key slot e = absurd (none-some slot e)
 
-count-taken : (kept : HandleMap Held) (handle : Handle) (m : Held) → value_of kept handle ≡ Some m → count_of (handle_taken handle kept) + 1 ≡ count_of kept
+count-taken : (kept : HandleMap HeldPin) (handle : Handle) (m : HeldPin) → value_of kept handle ≡ Some m → count_of (handle_taken handle kept) + 1 ≡ count_of kept
 count-taken kept handle m has = grind (arith, count-set)
 
-given-taken : (kept : HandleMap Held) (handle : Handle) → (handle_taken handle kept).given ≡ kept.given
+given-taken : (kept : HandleMap HeldPin) (handle : Handle) → (handle_taken handle kept).given ≡ kept.given
 given-taken kept handle = by (is_some (value_of kept handle)) where
   by : (b : Bool) → (cond b (record kept { slots = slice_set kept.slots handle.key None }) kept).given ≡ kept.given
   by true = refl
   by false = refl
 
-handles-less : (old new : HandleMap Held) (handle : Handle) (p q : Held) (ms : List (Handle × Held)) (n : ℕ) → Removes old new handle q → value_of old handle ≡ Some p → MappingsAgree (handle_taken handle old) ms n → MappingsAgree new ms n
+handles-less : (old new : HandleMap HeldPin) (handle : Handle) (p q : HeldPin) (ms : List (Handle × HeldPin)) (n : ℕ) → Removes old new handle q → value_of old handle ≡ Some p → MappingsAgree (handle_taken handle old) ms n → MappingsAgree new ms n
 handles-less old new handle p q ms n removes has a = let t = removes.taken in record {
-  named = fun_ext (λ other. t.updates other ∙ (sym (taken-of old handle other p has) ∙ ap (λ (f : Handle → Option Held). f other) a.named));
+  named = fun_ext (λ other. t.updates other ∙ (sym (taken-of old handle other p has) ∙ ap (λ (f : Handle → Option HeldPin). f other) a.named));
   count = (let z = count-taken old handle p has in let y = t.count in let w : count_of new ≡ count_of (handle_taken handle old) = omega arith in w) ∙ a.count;
   given = t.given ∙ (sym (given-taken old handle) ∙ a.given);
   apart = a.apart;
@@ -184,7 +184,7 @@ handles-less old new handle p q ms n removes has a = let t = removes.taken in re
 
 -- the last step of a call that keeps no pin
 
-unmaps-by : (o : Option Verdict) (mapping : Option Held) (handle : Handle) (vs : List Seen) (step : Step) → after_beginning o (by_handle mapping (λ m. Unpin m (ByMapping handle))) vs ≡ Some (Makes step) → (m : Held) × (step ≡ Unpin m (ByMapping handle))
+unmaps-by : (o : Option CallResult) (mapping : Option HeldPin) (handle : Handle) (vs : List Observation) (step : Step) → after_beginning o (by_handle mapping (λ m. Unpin m (ByMapping handle))) vs ≡ Some (Makes step) → (m : HeldPin) × (step ≡ Unpin m (ByMapping handle))
 unmaps-by (Some v) mapping handle [] step e = absurd (cc)
 unmaps-by (Some v) mapping handle (x ∷ vs) step e = absurd (cc)
 unmaps-by None None handle [] step e = absurd (cc)
@@ -197,42 +197,42 @@ unmaps-by None (Some m) handle (Taken ∷ vs) step e = absurd (cc)
 unmaps-by None (Some m) handle (Missed w ∷ vs) step e = absurd (cc)
 
 -- no unmap
-abbrev IsOther : Asked → Type 0
+abbrev IsOther : OpenRequest → Type 0
 IsOther (Unmap handle) = ⊥
 IsOther request = Unit {0}
 
-keeps-others : (request : Asked) (verdict : Verdict) (old new : HandleMap Held) → IsOther request → LeavesMappings request verdict old new → KeepsMappings old new
+keeps-others : (request : OpenRequest) (verdict : CallResult) (old new : HandleMap HeldPin) → IsOther request → LeavesMappings request verdict old new → KeepsMappings old new
 keeps-others (Unmap handle) verdict old new o l = absurd o
 keeps-others request verdict old new o l = l
 
-module _ (s : Setting) (g : Items) (d : DomId) (cl : Underway) (vs : List Seen) (seen : Seen) (verdict : Verdict) (old new : HandleMap Held) (call : open_call g d.0 ≡ Some cl)
+module _ (s : Setting) (g : Items) (d : DomId) (cl : Underway) (vs : List Observation) (seen : Observation) (verdict : CallResult) (old new : HandleMap HeldPin) (call : open_call g d.0 ≡ Some cl)
     (a : MappingsAgree old (mappings_at g d.0) (maps_answered_at g d.0)) (leaves : LeavesMappings cl.request verdict old new) where
   abbrev item : Step → Item
   item step = stepped d step seen (Some (answer_of verdict))
 
   -- the mappings are the same, and the call was no unmap
-  as-it-was : (step : Step) → path (known_at s g d) d cl.request vs ≡ Some (Makes step) → ((p : Held) (handle : Handle) → step ≡ Unpin p (ByMapping handle) → ⊥) → mappings_at (item step ∷ g) d.0 ≡ mappings_at g d.0
+  as-it-was : (step : Step) → path (known_at s g d) d cl.request vs ≡ Some (Makes step) → ((p : HeldPin) (handle : Handle) → step ≡ Unpin p (ByMapping handle) → ⊥) → mappings_at (item step ∷ g) d.0 ≡ mappings_at g d.0
       → MappingsAgree new (mappings_at (item step ∷ g) d.0) (maps_answered_at (item step ∷ g) d.0)
   as-it-was step next not same =
       mappings-same new _ _ _ _ (sym same) (sym (answered-stays g (item step) d.0 (plain-unmapped verdict))) (handles-kept old new _ _ (keeps-others cl.request verdict old new (other cl.request next) leaves) a)
     where
-      other : (request : Asked) → path (known_at s g d) d request vs ≡ Some (Makes step) → IsOther request
+      other : (request : OpenRequest) → path (known_at s g d) d request vs ≡ Some (Makes step) → IsOther request
       other (Unmap handle) e = let u = unmaps-by (begun (known_at s g d) d (Unmap handle)) (mapping_of (mappings_at g d.0) handle) handle vs step e in absurd (not u.0 handle u.1)
       other request e = tt
 
-  gone : (p : Held) (handle : Handle) → cl.request ≡ Unmap handle → mapping_of (mappings_at g d.0) handle ≡ Some p → IsRight s g (item (Unpin p (ByMapping handle)))
+  gone : (p : HeldPin) (handle : Handle) → cl.request ≡ Unmap handle → mapping_of (mappings_at g d.0) handle ≡ Some p → IsRight s g (item (Unpin p (ByMapping handle)))
       → MappingsAgree new (mappings_at (item (Unpin p (ByMapping handle)) ∷ g) d.0) (maps_answered_at (item (Unpin p (ByMapping handle)) ∷ g) d.0)
-  gone p handle is found right = by verdict (subst (λ (z : Asked). LeavesMappings z verdict old new) is leaves) right
+  gone p handle is found right = by verdict (subst (λ (z : OpenRequest). LeavesMappings z verdict old new) is leaves) right
       (mapping-agrees g d p handle seen (Some (answer_of verdict)) old (plain-unmapped verdict) found a)
     where
       has : value_of old handle ≡ Some p
-      has = ap (λ (f : Handle → Option Held). f handle) a.named ∙ found
+      has = ap (λ (f : Handle → Option HeldPin). f handle) a.named ∙ found
 
       refused : (denial : Denial) → IsRight s g (stepped d (Unpin p (ByMapping handle)) seen (Some (Denied denial))) → ⊥
       refused denial ok = let r : StepsRightIn s g (stepped d (Unpin p (ByMapping handle)) seen (Some (Denied denial))) (Unpin p (ByMapping handle)) seen (Some cl) = subst (StepsRightIn s g (stepped d (Unpin p (ByMapping handle)) seen (Some (Denied denial))) (Unpin p (ByMapping handle)) seen) call ok in
           last-leaves cl.steps (Unpin p (ByMapping handle), seen) (r.left (λ e. none-some denial (sym e))).0
 
-      by : (v : Verdict) → LeavesMappings (Unmap handle) v old new → IsRight s g (stepped d (Unpin p (ByMapping handle)) seen (Some (answer_of v)))
+      by : (v : CallResult) → LeavesMappings (Unmap handle) v old new → IsRight s g (stepped d (Unpin p (ByMapping handle)) seen (Some (answer_of v)))
           → MappingsAgree (handle_taken handle old) (mappings_at (stepped d (Unpin p (ByMapping handle)) seen (Some (answer_of v)) ∷ g) d.0) (maps_answered_at (stepped d (Unpin p (ByMapping handle)) seen (Some (answer_of v)) ∷ g) d.0)
           → MappingsAgree new (mappings_at (stepped d (Unpin p (ByMapping handle)) seen (Some (answer_of v)) ∷ g) d.0) (maps_answered_at (stepped d (Unpin p (ByMapping handle)) seen (Some (answer_of v)) ∷ g) d.0)
       by (Refused denial) l ok t = absurd (refused denial ok)
@@ -249,7 +249,7 @@ module _ (s : Setting) (g : Items) (d : DomId) (cl : Underway) (vs : List Seen) 
       by (LookBody dom gref half) e r n ok = as-it-was _ n (λ p handle f. cc) (maps-quiet g d _ (record { changes = λ z. refl; pins = λ before ps. refl; unpins = λ ps. refl }))
       by (PinStep p) e r n ok = as-it-was _ n (λ p handle f. cc) (pinned seen)
         where
-          leg : (v : Verdict) (m : ℕ) → holder_after (Some (answer_of v)) m ≡ ByLeg m
+          leg : (v : CallResult) (m : ℕ) → holder_after (Some (answer_of v)) m ≡ ByLeg m
           leg Granted m = refl
           leg (Given (Frames n)) m = refl
           leg (Given (SizeTold n)) m = refl
@@ -257,7 +257,7 @@ module _ (s : Setting) (g : Items) (d : DomId) (cl : Underway) (vs : List Seen) 
           leg (KeptPin q) m = refl
           leg (Refused denial) m = refl
 
-          pinned : (v : Seen) → mappings_at (stepped d (PinStep p) v (Some (answer_of verdict)) ∷ g) d.0 ≡ mappings_at g d.0
+          pinned : (v : Observation) → mappings_at (stepped d (PinStep p) v (Some (answer_of verdict)) ∷ g) d.0 ≡ mappings_at g d.0
           pinned Taken = leg-maps g d p (Some (answer_of verdict)) (leg verdict _)
           pinned v = maps-quiet g d _ (record { changes = λ z. refl; pins = λ before ps. refl; unpins = λ ps. refl })
       by (Unpin p (ByMapping handle)) e r n ok = gone p handle r.1.0 r.1.1 ok
@@ -266,7 +266,7 @@ module _ (s : Setting) (g : Items) (d : DomId) (cl : Underway) (vs : List Seen) 
       by (StoreHeader version frames) e r n ok = as-it-was _ n (λ p handle f. cc) (maps-quiet g d _ (record { changes = λ z. refl; pins = λ before ps. refl; unpins = λ ps. refl }))
       by (Exchange gref looked change) e r n ok = as-it-was _ n (λ p handle f. cc) (turned seen)
         where
-          turned : (v : Seen) → mappings_at (stepped d (Exchange gref looked change) v (Some (answer_of verdict)) ∷ g) d.0 ≡ mappings_at g d.0
+          turned : (v : Observation) → mappings_at (stepped d (Exchange gref looked change) v (Some (answer_of verdict)) ∷ g) d.0 ≡ mappings_at g d.0
           turned Taken = ap (gather mapping_named d.0) (exchanged-live g d gref looked change (Some (answer_of verdict)))
           turned v = maps-quiet g d _ (record { changes = λ z. refl; pins = λ before ps. refl; unpins = λ ps. refl })
       by (ReadBytes dom frame off len) e r n ok = absurd (subst IsOnWords e quiet)
@@ -274,7 +274,7 @@ module _ (s : Setting) (g : Items) (d : DomId) (cl : Underway) (vs : List Seen) 
       by (CopyBytes from to len) e r n ok = absurd (subst IsOnWords e quiet)
 
 -- the last step of a map that keeps its pin
-pub kept-maps : (s : Setting) (g : Items) (d : DomId) (cl : Underway) (step : Step) (p : Held) (handle : Handle) (old new : HandleMap Held) (here : StandsHere s g d cl step) → FitsStep step (seen_by s g d step)
+pub kept-maps : (s : Setting) (g : Items) (d : DomId) (cl : Underway) (step : Step) (p : HeldPin) (handle : Handle) (old new : HandleMap HeldPin) (here : StandsHere s g d cl step) → FitsStep step (seen_by s g d step)
     → path (known_at s g d) d cl.request (values cl) ≡ Some (Makes step) → path (known_at s g d) d cl.request (values cl ++ seen_by s g d step ∷ []) ≡ Some (Done (KeptPin p)) → Adds old new handle p
     → MappingsAgree old (mappings_at g d.0) (maps_answered_at g d.0)
     → let item = stepped d step (seen_by s g d step) (Some (Mapped handle)) in MappingsAgree new (mappings_at (item ∷ g) d.0) (maps_answered_at (item ∷ g) d.0)
@@ -286,5 +286,5 @@ kept-maps s g d cl step p handle old new here fits next last adds a =
     let sees : seen_by s g d (PinStep p) ≡ Taken = ap (λ (b : Bool). cond b Taken (Missed (word_at s g p.dom.0 p.gref.0))) (eq-eqb (word_at s g p.dom.0 p.gref.0) p.word ends.taken) in
     let can = can-pin s g here.core.domains d cl.request (values cl) (reverse cl.steps) here.phase p (subst (IsHere s g here.core.domains d cl.request (values cl) (reverse cl.steps) here.phase) ends.is here.here) ends.taken in
     let m = map-agrees g d p handle old new (subst (Adds old new handle) (sym can.is) adds) a in
-    subst (λ (z : Step × Seen). let item = stepped d z.0 z.1 (Some (Mapped handle)) in MappingsAgree new (mappings_at (item ∷ g) d.0) (maps_answered_at (item ∷ g) d.0))
-    (sym (let e : ◌≡◌ {A = Step × Seen} (step, seen_by s g d step) (PinStep p, Taken) = (λ j. (ends.is j, seen_by s g d (ends.is j))) ∙ (λ j. (PinStep p, sees j)) in e)) m
+    subst (λ (z : Step × Observation). let item = stepped d z.0 z.1 (Some (Mapped handle)) in MappingsAgree new (mappings_at (item ∷ g) d.0) (maps_answered_at (item ∷ g) d.0))
+    (sym (let e : ◌≡◌ {A = Step × Observation} (step, seen_by s g d step) (PinStep p, Taken) = (λ j. (ends.is j, seen_by s g d (ends.is j))) ∙ (λ j. (PinStep p, sees j)) in e)) m

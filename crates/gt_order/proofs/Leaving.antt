@@ -20,10 +20,10 @@ use Rattle.gt_calls.specs.Path.{ended, makes, path_of, by_mapping, after_beginni
 use Rattle.gt_calls.specs.Rules.{CallerKnowledge, denied, first, refused_when, rights_to_unmap, unmap_begun}
 use Rattle.gt_calls.specs.Rules.{unmap_denied}
 use Rattle.gt_calls.specs.declared.action.Step.TheVariants.{Unpin}
-use Rattle.gt_calls.specs.declared.action.Verdict.{Verdict}
-use Rattle.gt_calls.specs.declared.action.Verdict.TheVariants.{Granted, Refused}
-use Rattle.gt_calls.specs.declared.held.Held.{Held}
-use Rattle.gt_calls.specs.declared.request.Holder.TheVariants.{Mapping as ByMapping}
+use Rattle.gt_calls.specs.declared.action.CallResult.{CallResult}
+use Rattle.gt_calls.specs.declared.action.CallResult.TheVariants.{Granted, Refused}
+use Rattle.gt_calls.specs.declared.held.HeldPin.{HeldPin}
+use Rattle.gt_calls.specs.declared.request.PinHolder.TheVariants.{Mapping as ByMapping}
 use Rattle.gt_calls.specs.declared.request.Request.TheVariants as requests
 use Rattle.gt_live.proofs.DomainKept.{unmapped}
 use Rattle.gt_live.proofs.Making.{still_seat}
@@ -39,27 +39,27 @@ allowed-none may [] a = refl
 allowed-none may (t ∷ ts) a = ap (λ (b : Bool). cond b (denied may ts) (Some (Refused (denial_of N5 (Policy t.source t.target t.perm))))) a.0 ∙ allowed-none may ts a.1
 
 -- an unmap of a mapping that may be given up gives its pin back, and is Ok
-unmap-way : (k : CallerKnowledge) (dom : DomId) (h : Handle) (m : Held) → k.mapping h ≡ Some m → IsAllowed k.may (rights_to_unmap k dom m.dom) → path_of k dom (requests.Unmap h) ≡ makes (Unpin m (ByMapping h)) (ended Granted)
+unmap-way : (k : CallerKnowledge) (dom : DomId) (h : Handle) (m : HeldPin) → k.mapping h ≡ Some m → IsAllowed k.may (rights_to_unmap k dom m.dom) → path_of k dom (requests.Unmap h) ≡ makes (Unpin m (ByMapping h)) (ended Granted)
 unmap-way k dom h m found a =
     let none : unmap_begun k dom h ≡ None =
     (λ j. first (refused_when (is_none (found j)) N6 ∷ unmap_denied k dom (found j) ∷ []))
-    ∙ ap (λ (o : Option Verdict). first (None ∷ o ∷ [])) (allowed-none k.may (rights_to_unmap k dom m.dom) a) in
+    ∙ ap (λ (o : Option CallResult). first (None ∷ o ∷ [])) (allowed-none k.may (rights_to_unmap k dom m.dom) a) in
     (λ j. after_beginning (none j) (by_mapping (found j) (λ q. Unpin q (ByMapping h))))
 
 -- the domain after so many mappings were given up
-abbrev with_rest : Domain → View → HandleMap Held → Domain
+abbrev with_rest : Domain → View → HandleMap HeldPin → Domain
 with_rest d w rest = record d { seat = record d.seat { view = w }; mappings = rest }
 
 module _ (b : Board) (c : Config) (may : AllowRelation) (d : Domain) (mine : IsDomainOf b c may d) (may-unmap : MayUnmapAll c may d) where
-  record Unmapped (w : View) (rest : HandleMap Held) : Type 0 where
+  record Unmapped (w : View) (rest : HandleMap HeldPin) : Type 0 where
     calls : List CallMade
     made : AreCalls b c may d calls
     unmaps : AreUnmaps calls
     now : domain_after d calls ≡ with_rest d w rest
     of-run : IsDomainOf b c may (with_rest d w rest)
-    fewer : (h : Handle) (m : Held) → value_of rest h ≡ Some m → value_of d.mappings h ≡ Some m
+    fewer : (h : Handle) (m : HeldPin) → value_of rest h ≡ Some m → value_of d.mappings h ≡ Some m
 
-  unmaps-each : (hs : List Handle) (rest : HandleMap Held) (w : View) → Released b.layout hs d.mappings d.seat.view rest w → Unmapped w rest
+  unmaps-each : (hs : List Handle) (rest : HandleMap HeldPin) (w : View) → Released b.layout hs d.mappings d.seat.view rest w → Unmapped w rest
   unmaps-each [] rest w r =
       let same : d ≡ with_rest d w rest = λ j. with_rest d (sym r.1 j) (sym r.0 j) in record {
         calls = [];
@@ -67,7 +67,7 @@ module _ (b : Board) (c : Config) (may : AllowRelation) (d : Domain) (mine : IsD
         unmaps = tt;
         now = same;
         of-run = subst (IsDomainOf b c may) same mine;
-        fewer = λ h m e. ap (λ (z : HandleMap Held). value_of z h) (sym r.0) ∙ e;
+        fewer = λ h m e. ap (λ (z : HandleMap HeldPin). value_of z h) (sym r.0) ∙ e;
       }
   unmaps-each (h ∷ hs) rest w (m, mid, u, before, removes, step) =
       let was = unmaps-each hs mid u before in
@@ -98,7 +98,7 @@ module _ (b : Board) (c : Config) (may : AllowRelation) (d : Domain) (mine : IsD
         fewer = λ other q e. was.fewer other q (stays (same_handle other h) (value_of mid other) q (sym (removes.taken.updates other) ∙ e));
       }
     where
-      stays : (z : Bool) (o : Option Held) (q : Held) → cond z None o ≡ Some q → o ≡ Some q
+      stays : (z : Bool) (o : Option HeldPin) (q : HeldPin) → cond z None o ≡ Some q → o ≡ Some q
       stays true o q e = absurd (none-some q e)
       stays false o q e = e
 

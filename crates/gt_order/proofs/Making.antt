@@ -1,8 +1,8 @@
 -- What a call's step is among the steps of the history.
 use Rattle.std.proofs.Common.{◌≡◌, ℕ, refl, sym, ap, ◌∙◌, subst, [], ◌∷◌, get_or, map, arith, ◌<◌}
 use Rattle.atomic_table.proofs.Lists.{at_map}
-use Rattle.gt_entry.specs.declared.change.Change.{Change}
-use Rattle.gt_entry.specs.declared.change.Change.TheVariants.{Publish, Revoke, Withdraw, Demote, Promote}
+use Rattle.gt_entry.specs.declared.change.EntryChange.{EntryChange}
+use Rattle.gt_entry.specs.declared.change.EntryChange.TheVariants.{Publish, Revoke, Withdraw, Demote, Promote}
 use Rattle.gt_words.proofs.Lists.{whose_at}
 use Rattle.gt_words.specs.History.{StepHistory, Layout, Moment, SaysWord, word_place_of, word_after}
 use Rattle.gt_words.specs.Rule.{header_place}
@@ -12,8 +12,8 @@ use Rattle.gt_words.specs.Views.{stored_header}
 use Rattle.gt_words.specs.declared.view.EntryRecord.{EntryRecord}
 use Rattle.gt_words.specs.declared.view.SeatStep.{SeatStep}
 use Rattle.gt_words.specs.declared.view.View.{View}
-use Rattle.gt_calls.specs.declared.action.Seen.{Seen}
-use Rattle.gt_calls.specs.declared.action.Seen.TheVariants.{Nothing, Word, Taken, Missed}
+use Rattle.gt_calls.specs.declared.action.Observation.{Observation}
+use Rattle.gt_calls.specs.declared.action.Observation.TheVariants.{Nothing, Word, Taken, Missed}
 use Rattle.gt_calls.specs.declared.action.Step.{Step}
 use Rattle.gt_calls.specs.declared.action.Step.TheVariants.{LookHeader, LookControl, LookBody, Pin, Unpin, StoreBody}
 use Rattle.gt_calls.specs.declared.action.Step.TheVariants.{StoreHeader, Exchange, Read as ReadBytes}
@@ -23,7 +23,7 @@ use Rattle.gt_live.specs.Walks.{Made, seen_in_step}
 use Rattle.gt_order.specs.Agreeing.{IsThe, StoresChange, last_at}
 
 -- a step of a call was made so: it is this step of its seat, taken after these steps of all seats
-pub record MadeAs (k : Layout) (i : ℕ) (step : Step) (seen : Seen) (v w : View) (x : Moment) : Type 0 where
+pub record MadeAs (k : Layout) (i : ℕ) (step : Step) (seen : Observation) (v w : View) (x : Moment) : Type 0 where
   pub view : w ≡ with_step x.0 x.1 v
   pub the : IsThe k i step x.1
   pub shows : seen_in_step x.1 ≡ seen
@@ -38,7 +38,7 @@ last-is k r v past stood = let p = stood.1.led_here.parts v.position v stood.2 i
     λ j. last_record (q.1 j) (entry_steps v.position r (p.0 j))
 
 module _ (k : Layout) (i : ℕ) (v w : View) (at : v.position ≡ i) where
-  made : (step : Step) (seen : Seen) (past : StepHistory) (x : SeatStep) (found left : ℕ) → w ≡ with_step past x v → TakesStep (Unit {0}) k v past x (word_place_of x) found left → IsThe k i step x → seen_in_step x ≡ seen → StoresChange k past x
+  made : (step : Step) (seen : Observation) (past : StepHistory) (x : SeatStep) (found left : ℕ) → w ≡ with_step past x v → TakesStep (Unit {0}) k v past x (word_place_of x) found left → IsThe k i step x → seen_in_step x ≡ seen → StoresChange k past x
       → (y : Moment) × MadeAs k i step seen v w y
   made step seen past x found left view takes the shows stores = (
     (past, x),
@@ -54,11 +54,11 @@ module _ (k : Layout) (i : ℕ) (v w : View) (at : v.position ≡ i) where
   )
 
   -- an exchange that was taken stores what its change makes of the last record
-  stored : (q : ℕ) (word : ℕ) (change : Change) (past : StepHistory) → StoodWith (Unit {0}) k past v
+  stored : (q : ℕ) (word : ℕ) (change : EntryChange) (past : StepHistory) → StoodWith (Unit {0}) k past v
       → (changed_word change (last_of q v) word ≡ changed_word change (last_at k v.position q past) word) × (changed change (last_of q v) ≡ changed change (last_at k v.position q past))
   stored q word change past stood = let e = last-is k q v past stood in (ap (λ (z : EntryRecord). changed_word change z word) e, ap (λ (z : EntryRecord). changed change z) e)
 
-  pub made-as : (step : Step) (seen : Seen) → Made k step seen v w → (x : Moment) × MadeAs k i step seen v w x
+  pub made-as : (step : Step) (seen : Observation) → Made k step seen v w → (x : Moment) × MadeAs k i step seen v w x
   made-as (LookHeader d) (Word n) m = made _ _ _ _ _ _ m.steps.adds.view m.steps.step refl refl tt
   made-as (LookControl d q) (Word n) m = made _ _ _ _ _ _ m.0.steps.adds.view m.0.steps.step (refl, refl) refl tt
   made-as (LookBody d q half) (Word n) m = made _ _ _ _ _ _ m.steps.adds.view m.steps.step (refl, refl, refl) refl tt
@@ -80,7 +80,7 @@ module _ (k : Layout) (i : ℕ) (v w : View) (at : v.position ≡ i) where
   made-as _ _ m = absurd m
 
 -- a step that was made is on words
-pub on-words : (k : Layout) (step : Step) (seen : Seen) (v w : View) → Made k step seen v w → IsOnWords step
+pub on-words : (k : Layout) (step : Step) (seen : Observation) (v w : View) → Made k step seen v w → IsOnWords step
 on-words k (LookHeader d) seen v w m = tt
 on-words k (LookControl d q) seen v w m = tt
 on-words k (LookBody d q half) seen v w m = tt

@@ -13,18 +13,18 @@ use Rattle.gt_words.specs.Rule.{layout_of}
 use Rattle.gt_words.specs.Steps.{StoodWith}
 use Rattle.gt_words.specs.declared.view.View.{View}
 use Rattle.gt_calls.proofs.Saying.{begun-asked}
-use Rattle.gt_calls.specs.Asking.{IsSaid, asked, begun_of}
+use Rattle.gt_calls.specs.Asking.{SpellsItsEntry, asked, begun_of}
 use Rattle.gt_calls.specs.Path.{Continuation, FitsStep, after_beginning, path, path_of, steps_of}
 use Rattle.gt_calls.specs.Rules.{CallerKnowledge, begun}
 use Rattle.gt_calls.specs.declared.action.Action.{Action}
 use Rattle.gt_calls.specs.declared.action.Action.TheVariants.{Step as Makes, Done}
-use Rattle.gt_calls.specs.declared.action.Seen.{Seen}
+use Rattle.gt_calls.specs.declared.action.Observation.{Observation}
 use Rattle.gt_calls.specs.declared.action.Step.{Step}
 use Rattle.gt_calls.specs.declared.action.Step.TheVariants.{Unpin}
-use Rattle.gt_calls.specs.declared.action.Verdict.{Verdict}
-use Rattle.gt_calls.specs.declared.held.Held.{Held}
-use Rattle.gt_calls.specs.declared.request.Holder.{Holder}
-use Rattle.gt_calls.specs.declared.request.Holder.TheVariants.{Mapping as ByMapping, Leg as ByLeg}
+use Rattle.gt_calls.specs.declared.action.CallResult.{CallResult}
+use Rattle.gt_calls.specs.declared.held.HeldPin.{HeldPin}
+use Rattle.gt_calls.specs.declared.request.PinHolder.{PinHolder}
+use Rattle.gt_calls.specs.declared.request.PinHolder.TheVariants.{Mapping as ByMapping, Leg as ByLeg}
 use Rattle.gt_calls.specs.declared.request.Request.{Request}
 use Rattle.gt_core.proofs.GoingOn.{open-calls-can-go-on}
 use Rattle.gt_core.proofs.Steps.Observers.{stepped}
@@ -50,19 +50,19 @@ use Rattle.gt_order.specs.Ordering.{way_of}
 use Rattle.gt_order.specs.Runs.{CallMade, IsCall}
 
 -- a way that goes on with a step was not answered at its beginning
-pub unanswered : (o : Option Verdict) (goes : Continuation) (vs : List Seen) (step : Step) → after_beginning o goes vs ≡ Some (Makes step) → o ≡ None
+pub unanswered : (o : Option CallResult) (goes : Continuation) (vs : List Observation) (step : Step) → after_beginning o goes vs ≡ Some (Makes step) → o ≡ None
 unanswered None goes vs step e = refl
 unanswered (Some v) goes [] step e = absurd (cc)
 unanswered (Some v) goes (x ∷ vs) step e = absurd (cc)
 
 -- and is the path of what is asked
-pub same-way : (k : CallerKnowledge) (d : DomId) (request : Request) → begun_of k d request ≡ None → (begun_of k d request ≡ None → IsSaid k.header request) → (vs : List Seen) → path k d (asked request) vs ≡ path_of k d request vs
+pub same-way : (k : CallerKnowledge) (d : DomId) (request : Request) → begun_of k d request ≡ None → (begun_of k d request ≡ None → SpellsItsEntry k.header request) → (vs : List Observation) → path k d (asked request) vs ≡ path_of k d request vs
 same-way k d request none said vs =
     let quiet : begun k d (asked request) ≡ None = begun-asked k d request none (said none) in
-    ap (λ (o : Option Verdict). after_beginning o (steps_of k d (asked request)) vs) (quiet ∙ sym none)
+    ap (λ (o : Option CallResult). after_beginning o (steps_of k d (asked request)) vs) (quiet ∙ sym none)
 
 -- the step and its item
-pub record GoesSo (c : Config) (may : AllowRelation) (k : Layout) (g : Items) (i : ℕ) (cl : Underway) (before : List Seen) (way : Continuation) (x : Moment) (v w : View) (answer : Option Answer) : Type 0 where
+pub record GoesSo (c : Config) (may : AllowRelation) (k : Layout) (g : Items) (i : ℕ) (cl : Underway) (before : List Observation) (way : Continuation) (x : Moment) (v w : View) (answer : Option Answer) : Type 0 where
   pub step : Step
   pub next : way before ≡ Some (Makes step)
   pub the : IsThe k i step x.1
@@ -112,12 +112,12 @@ module _ (b : Board) (c : Config) (may : AllowRelation) (limits : IsWithinLimits
   stood-at : v.position ≡ i
   stood-at = after-position xs m.old.seat.view ∙ at
 
-  pub on-way : (step : Step) → way (all_shown xs) ≡ Some (Makes step) → (vs : List Seen) → path (known_at s g d) d cl.request vs ≡ way vs
+  pub on-way : (step : Step) → way (all_shown xs) ≡ Some (Makes step) → (vs : List Observation) → path (known_at s g d) d cl.request vs ≡ way vs
   on-way step next vs =
       let none : begun_of know m.old.seat.dom m.request ≡ None = unanswered (begun_of know m.old.seat.dom m.request) (steps_of know m.old.seat.dom (asked m.request)) (all_shown xs) step next in
       (λ j. path (seat.known j) (sym own j) (seat.call.2 j) vs) ∙ same-way know m.old.seat.dom m.request none (said know m.old.seat.dom m.request call.fits.1) vs
 
-  values-then : (seen : Seen) → seen ≡ shown_by x → values cl ++ seen ∷ [] ≡ all_shown (x ∷ xs)
+  values-then : (seen : Observation) → seen ≡ shown_by x → values cl ++ seen ∷ [] ≡ all_shown (x ∷ xs)
   values-then seen e = λ j. seat.call.3 j ++ e j ∷ []
 
   goes-with : (step : Step) → way (all_shown xs) ≡ Some (Makes step) → Made k step (shown_by x) v w → (action : Action) (answer : Option Answer) → way (all_shown (x ∷ xs)) ≡ Some action → AnsweredSo g d action answer → GoesSo c may k g i cl (all_shown xs) way x v w answer
@@ -131,12 +131,12 @@ module _ (b : Board) (c : Config) (may : AllowRelation) (limits : IsWithinLimits
       let inner : IsWithin k step = within c may k g d cl step is here quiet (λ p holder e. unpinned step here p holder e) in
       let saw : seen_by s g d step ≡ seen_in_step x.1 = sees c s k g x.0 i is agree inside step x.1 inner so.the so.says in
       let goes = open-calls-can-go-on s g d cl step action answer reached named seat.call.1 on quiet (on-way step next (values cl ++ seen_by s g d step ∷ []) ∙ (ap way (values-then (seen_by s g d step) saw) ∙ then)) answered in
-      let right : IsRight s g (stepped d step (seen_in_step x.1) answer) = subst (λ (z : Seen). IsRight s g (stepped d step z answer)) saw goes.0 in record {
+      let right : IsRight s g (stepped d step (seen_in_step x.1) answer) = subst (λ (z : Observation). IsRight s g (stepped d step z answer)) saw goes.0 in record {
         step = step;
         next = next;
         the = so.the;
         right = right;
-        reached = subst (λ (z : Seen). CanBeReached s (stepped d step z answer ∷ g)) saw goes.1;
+        reached = subst (λ (z : Observation). CanBeReached s (stepped d step z answer ∷ g)) saw goes.1;
         agree = step-kept c may k g x.0 i cl step x.1 answer is limits inside reached agree named seat.call.1 on inner so.the so.stores so.says right;
         inner = inner;
         here = here;
@@ -148,10 +148,10 @@ module _ (b : Board) (c : Config) (may : AllowRelation) (limits : IsWithinLimits
         stands = so.stands;
       }
     where
-      mapped : (p : Held) (handle : Handle) → mapping_of (mappings_at g d.0) handle ≡ Some p → HasDomain k p.dom × (p.gref.0 < TABLE_ENTRIES)
-      mapped p handle found = let pin = (call.before.mapped handle p (ap (λ (f : Handle → Option Held). f handle) seat.maps.named ∙ found)).pin in (pin.run, pin.inside)
+      mapped : (p : HeldPin) (handle : Handle) → mapping_of (mappings_at g d.0) handle ≡ Some p → HasDomain k p.dom × (p.gref.0 < TABLE_ENTRIES)
+      mapped p handle found = let pin = (call.before.mapped handle p (ap (λ (f : Handle → Option HeldPin). f handle) seat.maps.named ∙ found)).pin in (pin.run, pin.inside)
 
-      unpinned : (z : Step) → StandsHere s g d cl z → (p : Held) (holder : Holder) → z ≡ Unpin p holder → HasDomain k p.dom × (p.gref.0 < TABLE_ENTRIES)
+      unpinned : (z : Step) → StandsHere s g d cl z → (p : HeldPin) (holder : PinHolder) → z ≡ Unpin p holder → HasDomain k p.dom × (p.gref.0 < TABLE_ENTRIES)
       unpinned z here p (ByMapping handle) e = let r = subst (StandsHere s g d cl) e here in mapped p handle r.here.rests.1.1
       unpinned z here p (ByLeg n) e = let r = subst (StandsHere s g d cl) e here in
           leg-all (IsBounded k) s g r.core.domains d cl.request (values cl) (reverse cl.steps) r.phase (Unpin p (ByLeg n)) p n r.here r.here.rests.1 bounded

@@ -17,21 +17,21 @@ use Rattle.gt_words.specs.Rule.{layout_of, position_in}
 use Rattle.gt_words.specs.Views.{with_step}
 use Rattle.gt_words.specs.declared.view.SeatStep.{SeatStep}
 use Rattle.gt_words.specs.declared.view.View.{View}
-use Rattle.gt_calls.specs.Asking.{IsSaid, asked, begun_of}
+use Rattle.gt_calls.specs.Asking.{SpellsItsEntry, asked, begun_of}
 use Rattle.gt_calls.specs.Path.{path, steps_of}
 use Rattle.gt_calls.specs.Rules.{CallerKnowledge}
 use Rattle.gt_calls.specs.declared.action.Action.{Action}
 use Rattle.gt_calls.specs.declared.action.Action.TheVariants.{Step as Makes, Done}
-use Rattle.gt_calls.specs.declared.action.Verdict.{Verdict}
-use Rattle.gt_calls.specs.declared.action.Verdict.TheVariants.{Granted, Given, Mapped as KeptPin, Refused}
+use Rattle.gt_calls.specs.declared.action.CallResult.{CallResult}
+use Rattle.gt_calls.specs.declared.action.CallResult.TheVariants.{Granted, Given, Mapped as KeptPin, Refused}
 use Rattle.gt_calls.specs.declared.request.Request.{Request}
-use Rattle.gt_calls.specs.declared.action.Seen.{Seen}
-use Rattle.gt_calls.specs.declared.action.Seen.TheVariants.{Nothing}
+use Rattle.gt_calls.specs.declared.action.Observation.{Observation}
+use Rattle.gt_calls.specs.declared.action.Observation.TheVariants.{Nothing}
 use Rattle.gt_calls.specs.declared.action.Step.{Step}
 use Rattle.gt_calls.specs.declared.action.Step.TheVariants.{Write as WriteBytes}
 use Rattle.gt_core.proofs.GoingOn.{calls-can-begin, open-calls-can-access}
 use Rattle.gt_core.proofs.Words.{fun_ext}
-use Rattle.gt_core.specs.declared.trace.Happened.TheVariants.{Stepped}
+use Rattle.gt_core.specs.declared.trace.ItemEvent.TheVariants.{Stepped}
 use Rattle.gt_core.specs.declared.trace.Item.{Item}
 use Rattle.gt_live.specs.Mappings.{KeepsMappings}
 use Rattle.gt_core.proofs.Steps.Observers.{stepped}
@@ -73,7 +73,7 @@ put-else : (i : ℕ) (y : Stage) (f : ℕ → Stage) (j : ℕ) → i ≢ j → p
 put-else i y f j n = ap (λ (b : Bool). cond b y (f j)) (ne_eqb i j n)
 
 -- how a call is answered that ends so without a pin
-answered-so : (g : Items) (d : DomId) (v : Verdict) → KeepsNoPin v → AnsweredSo g d (Done v) (Some (answer_of v))
+answered-so : (g : Items) (d : DomId) (v : CallResult) → KeepsNoPin v → AnsweredSo g d (Done v) (Some (answer_of v))
 answered-so g d Granted n = refl
 answered-so g d (Given value) n = refl
 answered-so g d (Refused denial) n = refl
@@ -91,7 +91,7 @@ module _ {A : Type 0} where
   no-head x xs e = cc
 
 -- a step of the words is the newest one
-then-more : (k : Layout) (d : DomId) (i : ℕ) (step : Step) (seen : Seen) (x : SeatStep) (rest : StepHistory → Type 0) (h : StepHistory) → d ≡ dom_at k i → IsThe k i step x → seen ≡ seen_in_step x → rest h → ThenStep k d step seen rest ((i, x) ∷ h)
+then-more : (k : Layout) (d : DomId) (i : ℕ) (step : Step) (seen : Observation) (x : SeatStep) (rest : StepHistory → Type 0) (h : StepHistory) → d ≡ dom_at k i → IsThe k i step x → seen ≡ seen_in_step x → rest h → ThenStep k d step seen rest ((i, x) ∷ h)
 then-more k d i (WriteBytes dom frame off len) seen x rest h own the shows r = absurd the
 then-more k d i step seen x rest h own the shows r = (own, the, shows, r)
 
@@ -171,7 +171,7 @@ module _ (b : Board) (c : Config) (may : AllowRelation) (limits : IsWithinLimits
 
   -- a call that made no step kept its view
 
-  took-none : (request : Request) (verdict : Verdict) (steps : List Moment) (D E : Domain) → TookSteps b c may request verdict steps D E → steps ≡ [] → E.seat.view ≡ D.seat.view
+  took-none : (request : Request) (verdict : CallResult) (steps : List Moment) (D E : Domain) → TookSteps b c may request verdict steps D E → steps ≡ [] → E.seat.view ≡ D.seat.view
   took-none request verdict steps D E t none = t.0.view ∙ ap (λ (xs : List Moment). view_after xs D.seat.view) (t.1 ∙ none)
 
   same-view : (request : Request) (o : CallOutcome) (steps : List Moment) (D E : Domain) → IsAnswered b c may request o steps D E → steps ≡ [] → E.seat.view ≡ D.seat.view
@@ -190,11 +190,11 @@ module _ (b : Board) (c : Config) (may : AllowRelation) (limits : IsWithinLimits
       let own : m.old.seat.dom ≡ d = sym call.before.seat.named ∙ ap (dom_at k) (ap (λ (z : SeatOf). z.view.position) rest.seat ∙ at.0) in
       let none : begun_of (knowledge c may m.old) m.old.seat.dom m.request ≡ None = unanswered (begun_of (knowledge c may m.old) m.old.seat.dom m.request) (steps_of (knowledge c may m.old) m.old.seat.dom (asked m.request)) [] going.step going.next in
       let here : begun_of (known_at s o.g d) d m.request ≡ None = (λ j. begun_of (known j) (sym own j) m.request) ∙ none in
-      let spelled : IsSaid (table_at s o.g d) m.request = subst (λ (z : CallerKnowledge). IsSaid z.header m.request) (sym known) (said (knowledge c may m.old) m.old.seat.dom m.request call.fits.1 none) in
+      let spelled : SpellsItsEntry (table_at s o.g d) m.request = subst (λ (z : CallerKnowledge). SpellsItsEntry z.header m.request) (sym known) (said (knowledge c may m.old) m.old.seat.dom m.request call.fits.1 none) in
       let begun = calls-can-begin s o.g d m.request o.reached (named i l) seat.call call.fits.0 spelled in
       let item = item_of_beginning d m.request None in
-      let right : IsRight s o.g item = subst (λ (z : Option Verdict). IsRight s o.g (beginning d m.request (begin_answer z))) here begun.0 in
-      let reached : CanBeReached s (item ∷ o.g) = subst (λ (z : Option Verdict). CanBeReached s (beginning d m.request (begin_answer z) ∷ o.g)) here begun.1 in
+      let right : IsRight s o.g item = subst (λ (z : Option CallResult). IsRight s o.g (beginning d m.request (begin_answer z))) here begun.0 in
+      let reached : CanBeReached s (item ∷ o.g) = subst (λ (z : Option CallResult). CanBeReached s (beginning d m.request (begin_answer z) ∷ o.g)) here begun.1 in
       one-more b c may limits is h h firsts (put i (Resting ms) stages) stages i item o l refl (named i l) right reached
       (keeps-agreement s k o.g h item (record { changes = λ z. refl; pins = λ before ps. refl; unpins = λ ps. refl }) refl (λ z half. refl) o.agree) o.steps (bounded-quiet k o.g item (record { changes = λ z. refl; pins = λ before ps. refl; unpins = λ ps. refl }) o.bounded)
       (λ j n. sym (put-else i (Resting ms) stages j n))
@@ -222,7 +222,7 @@ module _ (b : Board) (c : Config) (may : AllowRelation) (limits : IsWithinLimits
       let own : m.old.seat.dom ≡ d = sym call.before.seat.named ∙ ap (dom_at k) (ap (λ (z : SeatOf). z.view.position) rest.seat ∙ at.0) in
       let know = knowledge c may m.old in
       let none : begun_of know m.old.seat.dom m.request ≡ None = unanswered (begun_of know m.old.seat.dom m.request) (steps_of know m.old.seat.dom (asked m.request)) [] access next in
-      let on : (vs : List Seen) → path (known_at s p.g d) d seat.call.0.request vs ≡ way_of c may m vs =
+      let on : (vs : List Observation) → path (known_at s p.g d) d seat.call.0.request vs ≡ way_of c may m vs =
       λ vs. (λ j. path (seat.known j) (sym own j) (seat.call.2 j) vs) ∙ same-way know m.old.seat.dom m.request none (said know m.old.seat.dom m.request call.fits.1) vs in
       let comes : path (known_at s p.g d) d seat.call.0.request (values seat.call.0) ≡ Some (Makes access) = ap (path (known_at s p.g d) d seat.call.0.request) seat.call.3 ∙ (on [] ∙ next) in
       let ends : path (known_at s p.g d) d seat.call.0.request (values seat.call.0 ++ Nothing ∷ []) ≡ Some (Done Granted) = (λ j. path (known_at s p.g d) d seat.call.0.request (seat.call.3 j ++ Nothing ∷ [])) ∙ (on (Nothing ∷ []) ∙ done) in
@@ -267,7 +267,7 @@ module _ (b : Board) (c : Config) (may : AllowRelation) (limits : IsWithinLimits
       own = sym call.before.seat.named ∙ ap (dom_at k) (ap (λ (z : SeatOf). z.view.position) rest.seat ∙ at.0)
 
       -- what answers it at once
-      at-once : (v : Verdict) → TookSteps b c may m.request v m.steps m.old m.new → begun_of (knowledge c may m.old) m.old.seat.dom m.request ≡ Some v
+      at-once : (v : CallResult) → TookSteps b c may m.request v m.steps m.old m.new → begun_of (knowledge c may m.old) m.old.seat.dom m.request ≡ Some v
       at-once v t = answered-at-once (knowledge c may m.old) m.old.seat.dom m.request v (said (knowledge c may m.old) m.old.seat.dom m.request call.fits.1) (ap (λ (xs : List Moment). way_of c may m (all_shown xs)) (sym (t.1 ∙ none)) ∙ t.0.answered)
 
       same : (j : ℕ) → i ≢ j → stages j ≡ put i (Resting ms) stages j
@@ -345,13 +345,13 @@ module _ (b : Board) (c : Config) (may : AllowRelation) (limits : IsWithinLimits
       same : (j : ℕ) → i ≢ j → stages j ≡ put i (Going ms m xs) stages j
       same j n = sym (put-else i (Going ms m xs) stages j n)
 
-      walk-of : (verdict : Verdict) → (t : TookSteps b c may m.request verdict m.steps m.old m.new) → IsWalk k (way_of c may m) m.old.seat.view (x ∷ xs)
+      walk-of : (verdict : CallResult) → (t : TookSteps b c may m.request verdict m.steps m.old m.new) → IsWalk k (way_of c may m) m.old.seat.view (x ∷ xs)
       walk-of verdict t = subst (IsWalk k (way_of c may m) m.old.seat.view) (t.1 ∙ made) t.0.walked
 
-      done-of : (verdict : Verdict) → (t : TookSteps b c may m.request verdict m.steps m.old m.new) → way_of c may m (all_shown (x ∷ xs)) ≡ Some (Done verdict)
+      done-of : (verdict : CallResult) → (t : TookSteps b c may m.request verdict m.steps m.old m.new) → way_of c may m (all_shown (x ∷ xs)) ≡ Some (Done verdict)
       done-of verdict t = ap (λ (z : List Moment). way_of c may m (all_shown z)) (sym (t.1 ∙ made)) ∙ t.0.answered
 
-      view-of : (verdict : Verdict) → (t : TookSteps b c may m.request verdict m.steps m.old m.new) → m.new.seat.view ≡ w
+      view-of : (verdict : CallResult) → (t : TookSteps b c may m.request verdict m.steps m.old m.new) → m.new.seat.view ≡ w
       view-of verdict t = t.0.view ∙ ap (λ (z : List Moment). view_after z m.old.seat.view) (t.1 ∙ made)
 
       by : (out : CallOutcome) → m.outcome ≡ out → IsAnswered b c may m.request out m.steps m.old m.new → Ordered b c may ((i, x.1) ∷ x.0) firsts stages
@@ -409,7 +409,7 @@ module _ (b : Board) (c : Config) (may : AllowRelation) (limits : IsWithinLimits
           let fit = subst (Fits b c may [] n (firsts n)) e (f n l) in
           absurd (some-steps m.outcome fit.is.0.answered)
         where
-          view-then : (verdict : Verdict) → TookSteps b c may m.request verdict m.steps m.old m.new → m.new.seat.view.steps ≡ [] → ⊥
+          view-then : (verdict : CallResult) → TookSteps b c may m.request verdict m.steps m.old m.new → m.new.seat.view.steps ≡ [] → ⊥
           view-then verdict t none = no-head x.1 _ (ap (λ (q : View). q.steps) (sym (t.0.view ∙ ap (λ (z : List Moment). view_after z m.old.seat.view) (t.1 ∙ made))) ∙ none)
 
           some-steps : (o : CallOutcome) → IsAnswered b c may m.request o m.steps m.old m.new → ⊥
@@ -465,7 +465,7 @@ module _ (b : Board) (c : Config) (may : AllowRelation) (limits : IsWithinLimits
           at-old : m.old.seat.view.position ≡ i
           at-old = ap (λ (z : SeatOf). z.view.position) fit.is.1.seat ∙ (placed i l ms fit.is.2).0
 
-          took : (verdict : Verdict) → TookSteps b c may m.request verdict m.steps m.old m.new → Ordered b c may (p ∷ h) firsts st
+          took : (verdict : CallResult) → TookSteps b c may m.request verdict m.steps m.old m.new → Ordered b c may (p ∷ h) firsts st
           took verdict t =
               let view : m.new.seat.view ≡ view_after (x ∷ xs) m.old.seat.view = t.0.view ∙ ap (λ (z : List Moment). view_after z m.old.seat.view) (t.1 ∙ made) in
               let bk = back h p i ms m xs x refl fit.is.2 fit.is.1 fit.is.0 at-old (subst (IsWalk k (way_of c may m) m.old.seat.view) (t.1 ∙ made) t.0.walked)

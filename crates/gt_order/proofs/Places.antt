@@ -1,6 +1,6 @@
 -- Domains and positions, and what a step leaves of the words and of the owners' records.
 use Rattle.std.proofs.lemmas.Bool.{cases_eq, cases_lt}
-use Rattle.gt_entry.specs.declared.change.Change.{Change}
+use Rattle.gt_entry.specs.declared.change.EntryChange.{EntryChange}
 use Rattle.std.proofs.Common.{inl, inr, ◌≡◌, ◌≢◌, ℕ, ◌<◌, Bool, true, false, cond, ◌==◌, ◌&&◌, List, [], ◌∷◌, length}
 use Rattle.std.proofs.Common.{sym, refl, ap, ◌∙◌, subst, arith, eq-eqb, ne_eqb}
 use Rattle.gt_types.specs.Config.{IsWithinLimits}
@@ -114,7 +114,7 @@ record-kept k i x h t r c = by (i == t)
     by false = refl
 
 -- and a taken exchange leaves each but its own
-pub record-here : (k : Layout) (i q : ℕ) (c : Change) (e n : ℕ) (y : EntryRecord) (h : StepHistory) → last_at k i q ((i, Entry i q (Changed c e n y)) ∷ h) ≡ y
+pub record-here : (k : Layout) (i q : ℕ) (c : EntryChange) (e n : ℕ) (y : EntryRecord) (h : StepHistory) → last_at k i q ((i, Entry i q (Changed c e n y)) ∷ h) ≡ y
 record-here k i q c e n y h =
     ap (λ (l : List SeatStep). last_record k.first (entry_steps i q l)) (part_here i (Entry i q (Changed c e n y)) h)
     ∙ ap (λ (b : Bool). last_record k.first (cond b (Changed c e n y ∷ entry_steps i q (part_of i h)) (entry_steps i q (part_of i h)))) (let b : ((i == i) && (q == q)) ≡ true = λ z. eq-eqb i i refl z && eq-eqb q q refl z in b)

@@ -4,7 +4,7 @@ use Rattle.gt_types.specs.declared.DomId.{DomId}
 use Rattle.gt_types.specs.declared.config.Config.{Config}
 use Rattle.gt_types.specs.declared.limits.TheConstants.{TABLE_ENTRIES}
 use Rattle.gt_entry.specs.Words.{header_word}
-use Rattle.gt_entry.specs.declared.change.Half.{Half}
+use Rattle.gt_entry.specs.declared.change.BodyWord.{BodyWord}
 use Rattle.gt_words.specs.Conditions.{HasDomain}
 use Rattle.gt_words.specs.History.{StepHistory, Layout, SaysWord, half_index, word_place_of, word_after}
 use Rattle.gt_words.specs.Rule.{header_place, layout_of, place, position_in}
@@ -13,7 +13,7 @@ use Rattle.gt_words.specs.declared.view.EntryStep.TheVariants.{StoredBody, Chang
 use Rattle.gt_words.specs.declared.view.HeaderStep.TheVariants as header
 use Rattle.gt_words.specs.declared.view.SeatStep.{SeatStep}
 use Rattle.gt_words.specs.declared.view.SeatStep.TheVariants.{Entry, Header}
-use Rattle.gt_calls.specs.declared.action.Seen.TheVariants.{Word, Taken, Missed}
+use Rattle.gt_calls.specs.declared.action.Observation.TheVariants.{Word, Taken, Missed}
 use Rattle.gt_calls.specs.declared.action.Step.{Step}
 use Rattle.gt_calls.specs.declared.action.Step.TheVariants.{LookHeader, LookControl, LookBody, Pin as PinStep, Unpin}
 use Rattle.gt_calls.specs.declared.action.Step.TheVariants.{StoreBody, StoreHeader, Exchange}
@@ -34,7 +34,7 @@ module _ (c : Config) (s : Setting) (k : Layout) (g : Items) (h : StepHistory) (
   word-there d t r q has lt at e = let p = dom-there c k d t is has at in
       ap (λ (z : DomId). word_at s g z.0 q) (sym p.0) ∙ (agree.words t q p.1 lt ∙ ap (λ (z : ℕ). word_after k h (place t z 0)) (sym e))
 
-  pub body-there : (d : DomId) (t r q : ℕ) (half : Half) → HasDomain k d → q < TABLE_ENTRIES → t ≡ position_in k.ids d → r ≡ q → body_at g d.0 q half ≡ word_after k h (place t r (half_index half))
+  pub body-there : (d : DomId) (t r q : ℕ) (half : BodyWord) → HasDomain k d → q < TABLE_ENTRIES → t ≡ position_in k.ids d → r ≡ q → body_at g d.0 q half ≡ word_after k h (place t r (half_index half))
   body-there d t r q half has lt at e = let p = dom-there c k d t is has at in
       ap (λ (z : DomId). body_at g z.0 q half) (sym p.0) ∙ (agree.bodies t q half p.1 lt ∙ ap (λ (z : ℕ). word_after k h (place t z (half_index half))) (sym e))
 
@@ -51,7 +51,7 @@ module _ (c : Config) (s : Setting) (k : Layout) (g : Items) (h : StepHistory) (
   sees (LookHeader d) (Header t (header.Looked n)) w a b = ap (λ (z : ℕ). Word z) (header-there d t w a ∙ sym b)
   sees (LookControl d q) (Entry t r (Looked n)) w a b = ap (λ (z : ℕ). Word z) (word-there d t r q.0 w.0 w.1 a.0 a.1 ∙ sym b)
   sees (LookBody d q half) (Entry t r (ReadBody z n)) w a b =
-      ap (λ (z : ℕ). Word z) (body-there d t r q.0 half w.0 w.1 a.0 a.1 ∙ (ap (λ (y : Half). word_after k h (place t r (half_index y))) (sym a.2) ∙ sym b))
+      ap (λ (z : ℕ). Word z) (body-there d t r q.0 half w.0 w.1 a.0 a.1 ∙ (ap (λ (y : BodyWord). word_after k h (place t r (half_index y))) (sym a.2) ∙ sym b))
   sees (PinStep p) (Entry t r (Pinned d e y)) w a b = taken _ p.word e (word-there p.dom t r p.gref.0 w.0 w.1 a.0 a.1 ∙ sym b) a.3
   sees (PinStep p) (Entry t r (PinMissed d e f n)) w a b = missed _ p.word e n (word-there p.dom t r p.gref.0 w.0 w.1 a.0 a.1 ∙ sym b.0) b.1 a.3
   sees (Unpin p holder) (Entry t r (Unpinned d y)) w a b = refl

@@ -25,8 +25,8 @@ use Rattle.gt_core.specs.Standing.{MappingsAgree}
 use Rattle.gt_core.specs.Acting.{setting_of}
 use Rattle.gt_core.specs.declared.trace.Answer.{Answer}
 use Rattle.gt_core.specs.declared.trace.Element.TheVariants.{Item as Did}
-use Rattle.gt_core.specs.declared.trace.Happened.{Happened}
-use Rattle.gt_core.specs.declared.trace.Happened.TheVariants.{Began, Stepped}
+use Rattle.gt_core.specs.declared.trace.ItemEvent.{ItemEvent}
+use Rattle.gt_core.specs.declared.trace.ItemEvent.TheVariants.{Began, Stepped}
 use Rattle.gt_core.specs.declared.trace.Item.{Item}
 use Rattle.gt_live.specs.Domains.{AllowRelation, knowledge}
 use Rattle.gt_live.specs.Walks.{IsWalk, view_after, all_shown}
@@ -132,7 +132,7 @@ module _ (b : Board) (c : Config) (may : AllowRelation) (limits : IsWithinLimits
   trace-back [] = refl
   trace-back (i ∷ g) = history-more [] (trace_of g) (Did i) ∙ ap (λ (z : Items). i ∷ z) (trace-back g)
 
-  may-do : (g : Items) (d : DomId) (x : Happened) (a : Option Answer) → let item : Item = record { actor = d; happened = x; answer = a } in domain_of c.domains.items d ≢ None → IsRight s g item → MayDo s g (event_in d x) (Did item)
+  may-do : (g : Items) (d : DomId) (x : ItemEvent) (a : Option Answer) → let item : Item = record { actor = d; happened = x; answer = a } in domain_of c.domains.items d ≢ None → IsRight s g item → MayDo s g (event_in d x) (Did item)
   may-do g d (Began request) a named right = (named, (refl, refl), right)
   may-do g d (Stepped step seen) a named right = (named, (refl, tt), right)
 

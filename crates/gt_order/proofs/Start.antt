@@ -11,15 +11,15 @@ use Rattle.gt_types.specs.declared.config.Config.{Config}
 use Rattle.gt_types.specs.declared.config.DomainConfig.{DomainConfig}
 use Rattle.gt_types.specs.declared.limits.TheConstants.{TABLE_ENTRIES}
 use Rattle.gt_entry.specs.Words.{header_of, header_word}
-use Rattle.gt_entry.specs.declared.change.Half.{Half}
-use Rattle.gt_entry.specs.declared.change.Half.TheVariants.{First, Second}
+use Rattle.gt_entry.specs.declared.change.BodyWord.{BodyWord}
+use Rattle.gt_entry.specs.declared.change.BodyWord.TheVariants.{First, Second}
 use Rattle.gt_handles.specs.Handles.{HandleMap}
 use Rattle.gt_words.specs.Conditions.{Board}
 use Rattle.gt_words.specs.History.{Layout, half_index, initial}
 use Rattle.gt_words.specs.Laws.{id_at-map}
 use Rattle.gt_words.specs.Rule.{first_header, header_place, layout_of, place}
 use Rattle.gt_words.specs.Views.{header_steps, own_header, stored_header}
-use Rattle.gt_calls.specs.declared.held.Held.{Held}
+use Rattle.gt_calls.specs.declared.held.HeldPin.{HeldPin}
 use Rattle.gt_core.proofs.GoingOn.{runs-start}
 use Rattle.gt_core.proofs.Mappings.{no-handles}
 use Rattle.gt_core.proofs.Steps.See.{table-fits}
@@ -103,13 +103,13 @@ module _ (b : Board) (c : Config) (may : AllowRelation) (limits : IsWithinLimits
     generations = λ t r l m. (let z : generation_at s [] (dom_at k t).0 r ≡ c.first_gen = omega arith in z) ∙ ap (λ (y : Layout). y.first) (sym is);
   }
     where
-      body : (t r : ℕ) (half : Half) → r < TABLE_ENTRIES → initial k (place t r (half_index half)) ≡ 0
+      body : (t r : ℕ) (half : BodyWord) → r < TABLE_ENTRIES → initial k (place t r (half_index half)) ≡ 0
       body t r First m = initial-body k t r 1 m (omega arith) (omega arith)
       body t r Second m = initial-body k t r 2 m (omega arith) (omega arith)
 
-  no-maps : (d : ℕ) (kept : HandleMap Held) → kept ≡ record { slots = []; given = 0; room = 0 } → MappingsAgree kept (mappings_at [] d) (maps_answered_at [] d)
+  no-maps : (d : ℕ) (kept : HandleMap HeldPin) → kept ≡ record { slots = []; given = 0; room = 0 } → MappingsAgree kept (mappings_at [] d) (maps_answered_at [] d)
   unfolding live gather maps_answered_at
-  no-maps d kept e = subst (λ (z : HandleMap Held). MappingsAgree z [] 0) (sym e) no-handles
+  no-maps d kept e = subst (λ (z : HandleMap HeldPin). MappingsAgree z [] 0) (sym e) no-handles
 
   none-open : (d : ℕ) → open_call [] d ≡ None
   unfolding open_call

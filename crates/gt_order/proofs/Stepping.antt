@@ -11,8 +11,8 @@ use Rattle.gt_core.specs.Phases.{numbered}
 use Rattle.gt_core.proofs.Steps.Unpin.{Loses, loses-leg}
 use Rattle.gt_core.proofs.Words.{◌≡◌, ◌≢◌, ◌<◌, ◌≤◌, ℕ, refl, Bool, true, false, not, List, ◌∷◌, Option, Some, None}
 use Rattle.gt_core.proofs.Words.{sym, ap, ◌∙◌, subst, reverse, same_Some, none-some, arith, DomId, GrantRef, domain_of}
-use Rattle.gt_core.proofs.Words.{Entry as EntryOf, Change, Publish, ToInvalid, ToWithdrawn, ToReadOnly, ToWritable}
-use Rattle.gt_core.proofs.Words.{FirstHalf, SecondHalf, Held, Holder, ByMapping, ByLeg, Asked, Grant, Seen, Nothing}
+use Rattle.gt_core.proofs.Words.{Entry as EntryOf, EntryChange, Publish, ToInvalid, ToWithdrawn, ToReadOnly, ToWritable}
+use Rattle.gt_core.proofs.Words.{FirstHalf, SecondHalf, HeldPin, PinHolder, ByMapping, ByLeg, OpenRequest, Grant, Observation, Nothing}
 use Rattle.gt_core.proofs.Words.{Word, Taken, Missed, Step, LookHeader, LookControl, LookBody, PinStep, Unpin}
 use Rattle.gt_core.proofs.Words.{StoreBody, StoreHeader, Exchange, ReadBytes, WriteBytes, CopyBytes, Makes, State}
 use Rattle.gt_core.proofs.Words.{state_of, Phase, path, known_at, Setting, Underway, Rests, pins_at, DomainConfig}
@@ -29,10 +29,10 @@ use Rattle.gt_core.proofs.Steps.Unpin.{loses-mapping}
 use Rattle.gt_core.specs.GoingOn.{IsOnWords, CanBeReached}
 use Rattle.gt_core.specs.History.{History as Items}
 use Rattle.gt_core.specs.declared.trace.Answer.{Answer}
-use Rattle.gt_core.specs.declared.underway.Open.{Open}
+use Rattle.gt_core.specs.declared.underway.OpenCall.{OpenCall}
 use Rattle.gt_core.specs.Justified.{IsSafeChange}
 use Rattle.gt_entry.specs.Entries.{is_read_only}
-use Rattle.gt_calls.specs.declared.request.Asked.TheVariants.{Demote, Promote}
+use Rattle.gt_calls.specs.declared.request.OpenRequest.TheVariants.{Demote, Promote}
 use Rattle.gt_core.specs.Acting.{setting_of}
 use Rattle.gt_calls.specs.Opening.{opens}
 use Rattle.gt_types.specs.Config.{IsWithinLimits}
@@ -69,7 +69,7 @@ state-there s g xs d st named = by (state_of xs d.0) refl (st.each d) where
   by None e a = absurd (named a)
   by (Some x) e a = (x, e, a.1, a.2)
 
-pub open-there : (s : Setting) (g : Items) (d : DomId) (u : Option Open) (v : Option Underway) (c : Underway) → CallAgrees s g d u v → v ≡ Some c → (o : Open) × OpenAgrees s g d o c
+pub open-there : (s : Setting) (g : Items) (d : DomId) (u : Option OpenCall) (v : Option Underway) (c : Underway) → CallAgrees s g d u v → v ≡ Some c → (o : OpenCall) × OpenAgrees s g d o c
 open-there s g d None None c a e = absurd (none-some c e)
 open-there s g d None (Some z) c a e = absurd a
 open-there s g d (Some o) None c a e = absurd a
@@ -117,45 +117,45 @@ has-domain c may k g xs d is st some = subst (λ (z : Layout). HasDomain z d) (s
 -- a pin of the call's own that is given back
 
 -- the pins of the call, with the last one at the end
-legs-held : (s : Setting) (g : Items) (xs : List State) (d : DomId) (r : Asked) (vs : List Seen) (so_far : List (Step × Seen)) (phase : Phase) (step : Step) (p : Held) (n : ℕ) → IsHere s g xs d r vs so_far phase step → RestsOnLast (pins_at phase) p n
-    → (qs : List Held) × (legs_at g d.0 ≡ numbered 0 (qs ++ p ∷ [])) × (length qs ≡ n)
+legs-held : (s : Setting) (g : Items) (xs : List State) (d : DomId) (r : OpenRequest) (vs : List Observation) (so_far : List (Step × Observation)) (phase : Phase) (step : Step) (p : HeldPin) (n : ℕ) → IsHere s g xs d r vs so_far phase step → RestsOnLast (pins_at phase) p n
+    → (qs : List HeldPin) × (legs_at g d.0 ≡ numbered 0 (qs ++ p ∷ [])) × (length qs ≡ n)
 legs-held s g xs d r vs so_far phase step p n i rests = (
   reverse rests.others,
-  i.held ∙ (ap (λ (l : List Held). numbered 0 (reverse l)) rests.held ∙ ap (numbered 0) (reverse-append (p ∷ []) rests.others)),
+  i.held ∙ (ap (λ (l : List HeldPin). numbered 0 (reverse l)) rests.held ∙ ap (numbered 0) (reverse-append (p ∷ []) rests.others)),
   length-reverse rests.others ∙ sym rests.place_is,
 )
 
-pub leg-lost : (s : Setting) (g : Items) (xs : List State) (d : DomId) (r : Asked) (vs : List Seen) (so_far : List (Step × Seen)) (phase : Phase) (step : Step) (p : Held) (n : ℕ) → IsHere s g xs d r vs so_far phase step → RestsOnLast (pins_at phase) p n
+pub leg-lost : (s : Setting) (g : Items) (xs : List State) (d : DomId) (r : OpenRequest) (vs : List Observation) (so_far : List (Step × Observation)) (phase : Phase) (step : Step) (p : HeldPin) (n : ℕ) → IsHere s g xs d r vs so_far phase step → RestsOnLast (pins_at phase) p n
     → Loses p (live g) (without d.0 (ByLeg n) (live g))
 leg-lost s g xs d r vs so_far phase step p n i rests = let l = legs-held s g xs d r vs so_far phase step p n i rests in
     subst (λ (z : ℕ). Loses p (live g) (without d.0 (ByLeg z) (live g))) l.2 (loses-leg g d l.0 p l.1)
 
 -- what holds of all pins holds of it
-legs-all : (P : Held → Type 0) (d : ℕ) (ps : List Pin) → All (λ (q : Pin). P q.held) ps → All (λ (x : ℕ × Held). P x.1) (gather by_leg d ps)
+legs-all : (P : HeldPin → Type 0) (d : ℕ) (ps : List Pin) → All (λ (q : Pin). P q.held) ps → All (λ (x : ℕ × HeldPin). P x.1) (gather by_leg d ps)
 unfolding gather
-legs-all P d [] a = All-nil (λ (x : ℕ × Held). P x.1)
+legs-all P d [] a = All-nil (λ (x : ℕ × HeldPin). P x.1)
 legs-all P d (p ∷ ps) a =
-    All-append (λ (x : ℕ × Held). P x.1) (cond (p.actor == d) (by_leg p.holder p.held) []) (gather by_leg d ps) (one (p.actor == d) p.holder) (legs-all P d ps (All-tail (λ (q : Pin). P q.held) p ps a))
+    All-append (λ (x : ℕ × HeldPin). P x.1) (cond (p.actor == d) (by_leg p.holder p.held) []) (gather by_leg d ps) (one (p.actor == d) p.holder) (legs-all P d ps (All-tail (λ (q : Pin). P q.held) p ps a))
   where
-    one : (b : Bool) (x : Holder) → All (λ (x : ℕ × Held). P x.1) (cond b (by_leg x p.held) [])
-    one true (ByMapping handle) = All-nil (λ (x : ℕ × Held). P x.1)
-    one true (ByLeg n) = All-cons (λ (x : ℕ × Held). P x.1) (n, p.held) [] (All-head (λ (q : Pin). P q.held) p ps a) (All-nil (λ (x : ℕ × Held). P x.1))
-    one false x = All-nil (λ (x : ℕ × Held). P x.1)
+    one : (b : Bool) (x : PinHolder) → All (λ (x : ℕ × HeldPin). P x.1) (cond b (by_leg x p.held) [])
+    one true (ByMapping handle) = All-nil (λ (x : ℕ × HeldPin). P x.1)
+    one true (ByLeg n) = All-cons (λ (x : ℕ × HeldPin). P x.1) (n, p.held) [] (All-head (λ (q : Pin). P q.held) p ps a) (All-nil (λ (x : ℕ × HeldPin). P x.1))
+    one false x = All-nil (λ (x : ℕ × HeldPin). P x.1)
 
-numbered-last : (m : ℕ) (qs : List Held) (p : Held) → numbered m (qs ++ p ∷ []) ≡ numbered m qs ++ (m + length qs, p) ∷ []
+numbered-last : (m : ℕ) (qs : List HeldPin) (p : HeldPin) → numbered m (qs ++ p ∷ []) ≡ numbered m qs ++ (m + length qs, p) ∷ []
 numbered-last m [] p = let e : m ≡ m + 0 = omega arith in λ j. (e j, p) ∷ []
 numbered-last m (q ∷ qs) p = let e : m + 1 + length qs ≡ m + length (q ∷ qs) = omega arith in
-    ap (λ (z : List (ℕ × Held)). (m, q) ∷ z) (numbered-last (m + 1) qs p ∙ (λ j. numbered (m + 1) qs ++ (e j, p) ∷ []))
+    ap (λ (z : List (ℕ × HeldPin)). (m, q) ∷ z) (numbered-last (m + 1) qs p ∙ (λ j. numbered (m + 1) qs ++ (e j, p) ∷ []))
 
-pub leg-all : (P : Held → Type 0) (s : Setting) (g : Items) (xs : List State) (d : DomId) (r : Asked) (vs : List Seen) (so_far : List (Step × Seen)) (phase : Phase) (step : Step) (p : Held) (n : ℕ) → IsHere s g xs d r vs so_far phase step → RestsOnLast (pins_at phase) p n
+pub leg-all : (P : HeldPin → Type 0) (s : Setting) (g : Items) (xs : List State) (d : DomId) (r : OpenRequest) (vs : List Observation) (so_far : List (Step × Observation)) (phase : Phase) (step : Step) (p : HeldPin) (n : ℕ) → IsHere s g xs d r vs so_far phase step → RestsOnLast (pins_at phase) p n
     → All (λ (q : Pin). P q.held) (live g) → P p
 leg-all P s g xs d r vs so_far phase step p n i rests a =
     let l = legs-held s g xs d r vs so_far phase step p n i rests in
-    (All-pop (λ (x : ℕ × Held). P x.1) (numbered 0 l.0 ++ (0 + length l.0, p) ∷ []) (numbered 0 l.0) (Some (0 + length l.0, p)) refl
-    (subst (All (λ (x : ℕ × Held). P x.1)) (l.1 ∙ numbered-last 0 l.0 p) (legs-all P d.0 (live g) a))).1
+    (All-pop (λ (x : ℕ × HeldPin). P x.1) (numbered 0 l.0 ++ (0 + length l.0, p) ∷ []) (numbered 0 l.0) (Some (0 + length l.0, p)) refl
+    (subst (All (λ (x : ℕ × HeldPin). P x.1)) (l.1 ∙ numbered-last 0 l.0 p) (legs-all P d.0 (live g) a))).1
 
 pub within : (c : Config) (may : AllowRelation) (k : Layout) (g : Items) (d : DomId) (cl : Underway) (step : Step) → k ≡ layout_of c → StandsHere (setting_of c may) g d cl step → IsOnWords step
-    → ((p : Held) (holder : Holder) → step ≡ Unpin p holder → HasDomain k p.dom × (p.gref.0 < TABLE_ENTRIES)) → IsWithin k step
+    → ((p : HeldPin) (holder : PinHolder) → step ≡ Unpin p holder → HasDomain k p.dom × (p.gref.0 < TABLE_ENTRIES)) → IsWithin k step
 within c may k g d cl step is here quiet unpinned = by step refl (each-step s g xs d cl.request (values cl) (reverse cl.steps) here.phase step here.here).0 here.here.rests
   where
     s : Setting
@@ -168,7 +168,7 @@ within c may k g d cl step is here quiet unpinned = by step refl (each-step s g 
     has dom some = has-domain c may k g xs dom is here.st.domains some
 
     granted : (gref : GrantRef) (entry : EntryOf) → cl.request ≡ Grant gref entry → begun (known_at s g d) d cl.request ≡ None → gref.0 < TABLE_ENTRIES
-    granted gref entry e none = let o = opens (known_at s g d) d (Grant gref entry) (subst (λ (z : Asked). begun (known_at s g d) d z ≡ None) e none) in
+    granted gref entry e none = let o = opens (known_at s g d) d (Grant gref entry) (subst (λ (z : OpenRequest). begun (known_at s g d) d z ≡ None) e none) in
         let le : size_of (table_at s g d) ≤ TABLE_ENTRIES = (table-fits _ (here.st.domains.tables d)).0 in let lt = o.in_table in omega arith
 
     by : (z : Step) → step ≡ z → InCore xs d z → Rests (known_at s g d) d cl.request (pins_at here.phase) (values cl) (Makes z) → IsWithin k z
@@ -188,7 +188,7 @@ within c may k g d cl step is here quiet unpinned = by step refl (each-step s g 
 -- the step and its item
 
 module _ (c : Config) (may : AllowRelation) (k : Layout) (g : Items) (h : StepHistory) (i : ℕ) (is : k ≡ layout_of c) (limits : IsWithinLimits c) (inside : i < k.domains) (agree : Agree (setting_of c may) k g h) (answer : Option Answer)
-    (cl : Underway) (step : Step) (here : StandsHere (setting_of c may) g (dom_at k i) cl step) (right : (seen : Seen) → IsRight (setting_of c may) g (stepped (dom_at k i) step seen answer) → IsSafe (setting_of c may) g (stepped (dom_at k i) step seen answer)) where
+    (cl : Underway) (step : Step) (here : StandsHere (setting_of c may) g (dom_at k i) cl step) (right : (seen : Observation) → IsRight (setting_of c may) g (stepped (dom_at k i) step seen answer) → IsSafe (setting_of c may) g (stepped (dom_at k i) step seen answer)) where
   abbrev s : Setting
   s = setting_of c may
 
@@ -202,19 +202,19 @@ module _ (c : Config) (may : AllowRelation) (k : Layout) (g : Items) (h : StepHi
   rests : Rests (known_at s g d) d cl.request (pins_at here.phase) (values cl) (Makes step)
   rests = here.here.rests
 
-  turned : (q : GrantRef) (looked : ℕ) (change : Change) → Rests (known_at s g d) d cl.request (pins_at here.phase) (values cl) (Makes (Exchange q looked change)) → IsTurned change (entry_at g d.0 q.0)
+  turned : (q : GrantRef) (looked : ℕ) (change : EntryChange) → Rests (known_at s g d) d cl.request (pins_at here.phase) (values cl) (Makes (Exchange q looked change)) → IsTurned change (entry_at g d.0 q.0)
   turned q looked (Publish entry) r = tt
   turned q looked ToInvalid r = tt
   turned q looked ToWithdrawn r = tt
-  turned q looked ToReadOnly r = let o = opens (known_at s g d) d (Demote q) (subst (λ (z : Asked). begun (known_at s g d) d z ≡ None) r.1.0 r.0) in (o.not_already, o.valid)
-  turned q looked ToWritable r = let o = opens (known_at s g d) d (Promote q) (subst (λ (z : Asked). begun (known_at s g d) d z ≡ None) r.1.0 r.0) in
+  turned q looked ToReadOnly r = let o = opens (known_at s g d) d (Demote q) (subst (λ (z : OpenRequest). begun (known_at s g d) d z ≡ None) r.1.0 r.0) in (o.not_already, o.valid)
+  turned q looked ToWritable r = let o = opens (known_at s g d) d (Promote q) (subst (λ (z : OpenRequest). begun (known_at s g d) d z ≡ None) r.1.0 r.0) in
       ((let e : not (is_read_only (entry_at g d.0 q.0)) ≡ false = o.not_already in by (is_read_only (entry_at g d.0 q.0)) e), o.valid)
     where
       by : (b : Bool) → not b ≡ false → b ≡ true
       by true e = refl
       by false e = sym e
 
-  idle : (q : GrantRef) (change : Change) → IsSafeChange g d.0 q.0 change → IsIdleFor change (reads_at g d.0 q.0) (writes_at g d.0 q.0)
+  idle : (q : GrantRef) (change : EntryChange) → IsSafeChange g d.0 q.0 change → IsIdleFor change (reads_at g d.0 q.0) (writes_at g d.0 q.0)
   idle q (Publish entry) safe = (safe.2, safe.3)
   idle q ToInvalid safe = safe
   idle q ToWithdrawn safe = tt
@@ -256,7 +256,7 @@ step-kept c may k g h i cl step x answer is limits inside reached agree named ca
 
 -- the pins are on entries of the run
 
-abbrev pub IsBounded : Layout → Held → Type 0
+abbrev pub IsBounded : Layout → HeldPin → Type 0
 IsBounded k p = HasDomain k p.dom × (p.gref.0 < TABLE_ENTRIES)
 
 abbrev pub AreBounded : Layout → Items → Type 0
@@ -268,7 +268,7 @@ bounded-same k g new e a = subst (All (λ (q : Pin). IsBounded k q.held)) (sym e
 pub bounded-quiet : (k : Layout) (g : Items) (item : Item) → KeepsWords item → AreBounded k g → AreBounded k (item ∷ g)
 bounded-quiet k g item q a = bounded-same k g (item ∷ g) (live-kept item g q) a
 
-pub bounded-step : (k : Layout) (g : Items) (d : DomId) (step : Step) (seen : Seen) (answer : Option Answer) → IsWithin k step → AreBounded k g → AreBounded k (stepped d step seen answer ∷ g)
+pub bounded-step : (k : Layout) (g : Items) (d : DomId) (step : Step) (seen : Observation) (answer : Option Answer) → IsWithin k step → AreBounded k g → AreBounded k (stepped d step seen answer ∷ g)
 bounded-step k g d (LookHeader dom) seen answer w a = bounded-quiet k g _ (record { changes = λ z. refl; pins = λ before ps. refl; unpins = λ ps. refl }) a
 bounded-step k g d (LookControl dom gref) seen answer w a = bounded-quiet k g _ (record { changes = λ z. refl; pins = λ before ps. refl; unpins = λ ps. refl }) a
 bounded-step k g d (LookBody dom gref half) seen answer w a = bounded-quiet k g _ (record { changes = λ z. refl; pins = λ before ps. refl; unpins = λ ps. refl }) a

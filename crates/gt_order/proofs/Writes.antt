@@ -7,13 +7,13 @@ use Rattle.gt_calls.specs.Asking.{asked, begun_of}
 use Rattle.gt_calls.specs.Path.{Continuation, after_beginning, by_mapping, ended, makes, path_of}
 use Rattle.gt_calls.specs.declared.action.Action.{Action}
 use Rattle.gt_calls.specs.declared.action.Action.TheVariants.{Done, Step as Makes}
-use Rattle.gt_calls.specs.declared.action.Seen.{Seen}
-use Rattle.gt_calls.specs.declared.action.Seen.TheVariants.{Missed, Nothing, Taken, Word}
+use Rattle.gt_calls.specs.declared.action.Observation.{Observation}
+use Rattle.gt_calls.specs.declared.action.Observation.TheVariants.{Missed, Nothing, Taken, Word}
 use Rattle.gt_calls.specs.declared.action.Step.{Step}
 use Rattle.gt_calls.specs.declared.action.Step.TheVariants.{Write as WriteBytes}
-use Rattle.gt_calls.specs.declared.action.Verdict.{Verdict}
-use Rattle.gt_calls.specs.declared.action.Verdict.TheVariants.{Granted}
-use Rattle.gt_calls.specs.declared.held.Held.{Held}
+use Rattle.gt_calls.specs.declared.action.CallResult.{CallResult}
+use Rattle.gt_calls.specs.declared.action.CallResult.TheVariants.{Granted}
+use Rattle.gt_calls.specs.declared.held.HeldPin.{HeldPin}
 use Rattle.gt_calls.specs.declared.request.Request.{Request}
 use Rattle.gt_calls.specs.declared.request.Request.TheVariants as requests
 use Rattle.gt_frames.specs.Receipts.{Writing}
@@ -27,7 +27,7 @@ use Rattle.gt_order.specs.Calling.{IsStoring, LostWritesAreMade, StaysOf, WasMad
 use Rattle.gt_order.specs.Runs.{FitsTypes, IsWriteStep, WritesOnce}
 use Rattle.gt_order.specs.Runs.CallOutcome.{Wrote}
 
-no-step : (k : Layout) (step : Step) (seen : Seen) (u w : View) → IsWriteStep step → Made k step seen u w → ⊥
+no-step : (k : Layout) (step : Step) (seen : Observation) (u w : View) → IsWriteStep step → Made k step seen u w → ⊥
 no-step k (WriteBytes dom frame off len) (Word n) u w is made = absurd made
 no-step k (WriteBytes dom frame off len) Taken u w is made = absurd made
 no-step k (WriteBytes dom frame off len) (Missed n) u w is made = absurd made
@@ -35,8 +35,8 @@ no-step k (WriteBytes dom frame off len) Nothing u w is made = absurd made
 no-step k step seen u w is made = absurd is
 
 -- no step on the words is made after these values
-abbrev MakesNone : Layout → Continuation → List Seen → Type 0
-MakesNone k way vs = (seen : Seen) (u w : View) → MakesStep k (way vs) seen u w → ⊥
+abbrev MakesNone : Layout → Continuation → List Observation → Type 0
+MakesNone k way vs = (seen : Observation) (u w : View) → MakesStep k (way vs) seen u w → ⊥
 
 -- a way with one step, which writes
 abbrev IsOneWrite : Layout → Continuation → Type 0
@@ -45,11 +45,11 @@ IsOneWrite k way = MakesNone k way [] × MakesNone k way (Nothing ∷ [])
 one-write : (k : Layout) (step : Step) → IsWriteStep step → IsOneWrite k (makes step (ended Granted))
 one-write k step is = (λ seen u w made. no-step k step seen u w is made, λ seen u w made. made)
 
-by-mapping : (k : Layout) (o : Option Held) (step : Held → Step) → ((m : Held) → IsWriteStep (step m)) → IsOneWrite k (by_mapping o step)
+by-mapping : (k : Layout) (o : Option HeldPin) (step : HeldPin → Step) → ((m : HeldPin) → IsWriteStep (step m)) → IsOneWrite k (by_mapping o step)
 by-mapping k None step is = (λ seen u w made. made, λ seen u w made. made)
 by-mapping k (Some m) step is = one-write k (step m) (is m)
 
-begun-so : (k : Layout) (o : Option Verdict) (way : Continuation) → IsOneWrite k way → IsOneWrite k (after_beginning o way)
+begun-so : (k : Layout) (o : Option CallResult) (way : Continuation) → IsOneWrite k way → IsOneWrite k (after_beginning o way)
 begun-so k None way one = one
 begun-so k (Some verdict) way one = (λ seen u w made. made, λ seen u w made. made)
 

@@ -1,6 +1,6 @@
 -- When the items of the core and the steps of the words have made the same of all entries and headers.
 use Rattle.std.specs.Prelude.{◌≡◌, ℕ, ◌<◌}
-use Rattle.gt_order.specs.Prelude.{TABLE_ENTRIES, header_word, Half, HasDomain, generation_of, StepHistory, Layout}
+use Rattle.gt_order.specs.Prelude.{TABLE_ENTRIES, header_word, BodyWord, HasDomain, generation_of, StepHistory, Layout}
 use Rattle.gt_order.specs.Prelude.{half_index, part_of, word_after, header_place, id_at, place, position_in, changed}
 use Rattle.gt_order.specs.Prelude.{changed_word, entry_steps, last_record, EntryRecord, Looked, ReadBody, Pinned}
 use Rattle.gt_order.specs.Prelude.{PinMissed, Unpinned, StoredBody, Changed, ChangeMissed, SeatStep, Entry, Header}
@@ -17,7 +17,7 @@ dom_at k t = id_at k.ids t
 -- generation that its owner knows, and of each table its header
 pub record Agree (s : Setting) (k : Layout) (g : Items) (h : StepHistory) : Type 0 where
   pub words : (t r : ℕ) → t < k.domains → r < TABLE_ENTRIES → word_at s g (dom_at k t).0 r ≡ word_after k h (place t r 0)
-  pub bodies : (t r : ℕ) (half : Half) → t < k.domains → r < TABLE_ENTRIES
+  pub bodies : (t r : ℕ) (half : BodyWord) → t < k.domains → r < TABLE_ENTRIES
       → body_at g (dom_at k t).0 r half ≡ word_after k h (place t r (half_index half))
   pub headers : (t : ℕ) → t < k.domains → header_word (table_at s g (dom_at k t)) ≡ word_after k h (header_place t)
   pub entries : (t r : ℕ) → t < k.domains → r < TABLE_ENTRIES

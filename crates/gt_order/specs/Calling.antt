@@ -1,7 +1,7 @@
 -- The contracts of the calls of a domain, clause by clause, say that each is a call of a run.
 use Rattle.std.specs.Prelude.{◌≡◌, ℕ, List, [], Result, Ok, Err, OnOk, OnErr}
 use Rattle.gt_order.specs.Prelude.{denial_of, DomId, GrantRef, Denial, NoFacts, N26, IsSameSeat, Moment, Handle, asked}
-use Rattle.gt_order.specs.Prelude.{Verdict, Refused, Held, Request, Writing, path_of, Step, Accessed, IsWrittenBy}
+use Rattle.gt_order.specs.Prelude.{CallResult, Refused, HeldPin, Request, Writing, path_of, Step, Accessed, IsWrittenBy}
 use Rattle.gt_order.specs.Prelude.{Accesses, AllowRelation, Answered, BelongsTo, KeepsPinned, MapAnswered, known_on}
 use Rattle.gt_order.specs.Prelude.{verdict_of}
 use Rattle.gt_order.specs.Prelude.{IsOfMapping, Removes, Domain, Monitor}
@@ -26,7 +26,7 @@ pub record StaysOf {P : Type 0} (may : P → AllowRelation) (m : Monitor P) (d e
 -- the calls that neither map nor unmap, which their path answers: so those with an access only where they are refused
 abbrev pub PlainCallsAreMade : {P : Type 0} → (P → AllowRelation) → Monitor P → Type 0
 PlainCallsAreMade may m =
-    (d e : Domain) (request : Request) (verdict : Verdict) → StaysOf may m d e
+    (d e : Domain) (request : Request) (verdict : CallResult) → StaysOf may m d e
     → (IsOfMapping (asked request) → ⊥) → FitsTypes request → KeepsNoPin verdict → Answered may m d request verdict e
     → KeepsPinned d e → (steps : List Moment) × WasMade may m request (Told verdict) steps d e
 
@@ -35,7 +35,7 @@ abbrev pub UnmapsAreMade : {P : Type 0} → (P → AllowRelation) → Monitor P 
 UnmapsAreMade may m =
     (d e : Domain) (handle : Handle) (result : Result (Unit {0}) Denial) → StaysOf may m d e
     → Answered may m d (requests.Unmap handle) (verdict_of result) e
-    → OnOk result ((p : Held) × Removes d.mappings e.mappings handle p) → OnErr result (KeepsPinned d e)
+    → OnOk result ((p : HeldPin) × Removes d.mappings e.mappings handle p) → OnErr result (KeepsPinned d e)
     → (steps : List Moment) × WasMade may m (requests.Unmap handle) (Told (verdict_of result)) steps d e
 
 -- the outcome of a map that was answered so

@@ -6,19 +6,19 @@ use Rattle.gt_handles.specs.Handles.{value_of}
 use Rattle.gt_handles.specs.declared.handles.Handle.{Handle}
 use Rattle.gt_calls.specs.Opening.{IsAllowed}
 use Rattle.gt_calls.specs.Rules.{rights_to_unmap}
-use Rattle.gt_calls.specs.declared.action.Verdict.TheVariants.{Granted}
-use Rattle.gt_calls.specs.declared.held.Held.{Held}
+use Rattle.gt_calls.specs.declared.action.CallResult.TheVariants.{Granted}
+use Rattle.gt_calls.specs.declared.held.HeldPin.{HeldPin}
 use Rattle.gt_calls.specs.declared.request.Request.TheVariants as requests
 use Rattle.gt_live.specs.Domains.{AllowRelation, HasLeft, IsDomainOf, knowledge}
 use Rattle.gt_live.specs.declared.domain.Domain.{Domain}
-use Rattle.gt_live.specs.declared.domain.Left.{Left}
+use Rattle.gt_live.specs.declared.domain.Departed.{Departed}
 use Rattle.gt_order.specs.Runs.{AreCalls, CallMade, domain_after}
 use Rattle.gt_order.specs.Runs.CallOutcome.{Told}
 
 -- the policy allows the domain to give each of its mappings up
 abbrev pub MayUnmapAll : Config → AllowRelation → Domain → Type 0
 MayUnmapAll c may d =
-    (h : Handle) (m : Held) → value_of d.mappings h ≡ Some m
+    (h : Handle) (m : HeldPin) → value_of d.mappings h ≡ Some m
     → IsAllowed may (rights_to_unmap (knowledge c may d) d.seat.dom m.dom)
 
 -- each of these calls is an unmap that was answered Ok
@@ -31,7 +31,7 @@ AreUnmaps (m ∷ ms) =
 -- one after another, each answered Ok. So a run goes on past a domain that leaves
 abbrev pub LeavingIsUnmapping : Type 0
 LeavingIsUnmapping =
-    (b : Board) (c : Config) (may : AllowRelation) (d : Domain) (l : Left) → IsDomainOf b c may d
+    (b : Board) (c : Config) (may : AllowRelation) (d : Domain) (l : Departed) → IsDomainOf b c may d
     → HasLeft b.layout d l → MayUnmapAll c may d
     → (calls : List CallMade) × AreCalls b c may d calls × AreUnmaps calls
     × ((domain_after d calls).seat.view ≡ l.seat.view)

@@ -1,30 +1,30 @@
 -- The items of a run: the steps of its history in their order, and the beginnings of its calls between them.
 use Rattle.std.specs.Prelude.{◌≡◌, ℕ, ◌<◌, ◌==◌, if◌then◌else◌, List, [], ◌∷◌, ◌++◌, Option, Some, None}
 use Rattle.gt_order.specs.Prelude.{DomId, Config, StepHistory, Layout, Moment, Continuation, path_of, Action, Makes}
-use Rattle.gt_order.specs.Prelude.{Seen}
+use Rattle.gt_order.specs.Prelude.{Observation}
 use Rattle.gt_order.specs.Prelude.{Step, Nothing, LookHeader, WriteBytes, Request, CanBeReached, Items, Legal}
 use Rattle.gt_order.specs.Prelude.{answer_of}
 use Rattle.gt_order.specs.Prelude.{setting_of, Answer, AnswerDone, MappedAnswer, Element, Did, Event, Begin, Tick}
-use Rattle.gt_order.specs.Prelude.{Happened, Began, Stepped, Item, AllowRelation, knowledge, all_shown, shown_by}
+use Rattle.gt_order.specs.Prelude.{ItemEvent, Began, Stepped, Item, AllowRelation, knowledge, all_shown, shown_by}
 use Rattle.gt_order.specs.Prelude.{seen_in_step}
 use Rattle.gt_order.specs.Agreeing.{IsThe, dom_at}
 use Rattle.gt_order.specs.Runs.{CallMade, CallOutcome, SeatRun}
 use Rattle.gt_order.specs.Runs.CallOutcome.{Told, Kept, Starved, Wrote}
 
 -- the step on the words is the last one of the history, by its seat's domain, and it saw what that shows
-abbrev pub IsNewest : Layout → DomId → Step → Seen → (StepHistory → Type 0) → StepHistory → Type 0
+abbrev pub IsNewest : Layout → DomId → Step → Observation → (StepHistory → Type 0) → StepHistory → Type 0
 IsNewest k d step seen rest [] = ⊥
 IsNewest k d step seen rest (p ∷ h) =
     (d ≡ dom_at k p.0) × IsThe k p.0 step p.1 × (seen ≡ seen_in_step p.1) × rest h
 
 -- a write is none of the words' steps, and each other step is
-abbrev pub ThenStep : Layout → DomId → Step → Seen → (StepHistory → Type 0) → StepHistory → Type 0
+abbrev pub ThenStep : Layout → DomId → Step → Observation → (StepHistory → Type 0) → StepHistory → Type 0
 ThenStep k d (WriteBytes dom frame off len) seen rest h = rest h
 ThenStep k d step seen rest h = IsNewest k d step seen rest h
 
 -- the steps on the words among the items are those of the history, one by one in the same order, each by its seat's
 -- domain, and it saw what the history's step shows
-abbrev pub ThenSteps : Layout → DomId → Happened → (StepHistory → Type 0) → StepHistory → Type 0
+abbrev pub ThenSteps : Layout → DomId → ItemEvent → (StepHistory → Type 0) → StepHistory → Type 0
 ThenSteps k d (Began request) rest h = rest h
 ThenSteps k d (Stepped step seen) rest h = ThenStep k d step seen rest h
 
@@ -39,7 +39,7 @@ step_in action = LookHeader (record { 0 = 0 })
 
 -- the item of a step of a call by the domain d, after those that showed these values, with the answer if it ends the
 -- call
-abbrev pub item_of : DomId → Continuation → List Seen → Moment → Option Answer → Item
+abbrev pub item_of : DomId → Continuation → List Observation → Moment → Option Answer → Item
 item_of d way before x answer =
     record { actor = d; happened = Stepped (step_in (way before)) (shown_by x); answer = answer }
 
@@ -94,7 +94,7 @@ items_by d [] = []
 items_by d (i ∷ g) = if i.actor.0 == d.0 then i ∷ items_by d g else items_by d g
 
 -- the event of an item
-abbrev pub event_in : DomId → Happened → Event
+abbrev pub event_in : DomId → ItemEvent → Event
 event_in d (Began request) = Begin d request
 event_in d (Stepped step seen) = Tick d
 

@@ -4,16 +4,16 @@ pub use Rattle.gt_calls.specs.Asking.{FitsAsked, asked, bytes_of}
 pub use Rattle.gt_calls.specs.Path.{Continuation, path, path_of}
 pub use Rattle.gt_calls.specs.declared.action.Action.{Action}
 pub use Rattle.gt_calls.specs.declared.action.Action.TheVariants.{Done, Step as Makes}
-pub use Rattle.gt_calls.specs.declared.action.Seen.{Seen}
-pub use Rattle.gt_calls.specs.declared.action.Seen.TheVariants.{Nothing}
+pub use Rattle.gt_calls.specs.declared.action.Observation.{Observation}
+pub use Rattle.gt_calls.specs.declared.action.Observation.TheVariants.{Nothing}
 pub use Rattle.gt_calls.specs.declared.action.Step.{Step}
 pub use Rattle.gt_calls.specs.declared.action.Step.TheVariants.{Exchange, LookBody, LookControl, LookHeader}
 pub use Rattle.gt_calls.specs.declared.action.Step.TheVariants.{Pin as PinStep, StoreBody, StoreHeader, Unpin}
 pub use Rattle.gt_calls.specs.declared.action.Step.TheVariants.{Write as WriteBytes}
-pub use Rattle.gt_calls.specs.declared.action.Verdict.{Verdict}
-pub use Rattle.gt_calls.specs.declared.action.Verdict.TheVariants.{Granted, Mapped, Refused}
-pub use Rattle.gt_calls.specs.declared.held.Held.{Held}
-pub use Rattle.gt_calls.specs.declared.request.Asked.{Asked}
+pub use Rattle.gt_calls.specs.declared.action.CallResult.{CallResult}
+pub use Rattle.gt_calls.specs.declared.action.CallResult.TheVariants.{Granted, Mapped, Refused}
+pub use Rattle.gt_calls.specs.declared.held.HeldPin.{HeldPin}
+pub use Rattle.gt_calls.specs.declared.request.OpenRequest.{OpenRequest}
 pub use Rattle.gt_calls.specs.declared.request.Request.{Request}
 pub use Rattle.gt_core.specs.Acting.{answer_of, setting_of}
 pub use Rattle.gt_core.specs.GoingOn.{CanBeReached}
@@ -26,11 +26,11 @@ pub use Rattle.gt_core.specs.declared.trace.Element.{Element}
 pub use Rattle.gt_core.specs.declared.trace.Element.TheVariants.{Item as Did}
 pub use Rattle.gt_core.specs.declared.trace.Event.{Event}
 pub use Rattle.gt_core.specs.declared.trace.Event.TheVariants.{Begin, Tick}
-pub use Rattle.gt_core.specs.declared.trace.Happened.{Happened}
-pub use Rattle.gt_core.specs.declared.trace.Happened.TheVariants.{Began, Stepped}
+pub use Rattle.gt_core.specs.declared.trace.ItemEvent.{ItemEvent}
+pub use Rattle.gt_core.specs.declared.trace.ItemEvent.TheVariants.{Began, Stepped}
 pub use Rattle.gt_core.specs.declared.trace.Item.{Item}
 pub use Rattle.gt_entry.specs.Words.{header_word}
-pub use Rattle.gt_entry.specs.declared.change.Half.{Half}
+pub use Rattle.gt_entry.specs.declared.change.BodyWord.{BodyWord}
 pub use Rattle.gt_frames.specs.Receipts.{Writing}
 pub use Rattle.gt_handles.specs.Handles.{HandleMap}
 pub use Rattle.gt_handles.specs.declared.handles.Handle.{Handle}

@@ -2,16 +2,16 @@
 use Rattle.std.specs.Prelude.{◌≡◌, ℕ, ◌<◌, All, List, [], ◌∷◌, length, Option, Some, None}
 use Rattle.gt_order.specs.Prelude.{some, get_elem?, State, IsWithinLimits, GrantRef, Config, Board, IsSameSeat, Moment}
 use Rattle.gt_order.specs.Prelude.{Shows, layout_of, View, HandleMap, Handle, FitsAsked, asked, bytes_of, Continuation}
-use Rattle.gt_order.specs.Prelude.{path_of, Makes, Done, Nothing, Step, WriteBytes, Verdict, Granted, Mapped, Refused}
-use Rattle.gt_order.specs.Prelude.{Held, Asked, Request, AllowRelation, IsDomainOf, knowledge, IsMap, AddsMapping}
+use Rattle.gt_order.specs.Prelude.{path_of, Makes, Done, Nothing, Step, WriteBytes, CallResult, Granted, Mapped, Refused}
+use Rattle.gt_order.specs.Prelude.{HeldPin, OpenRequest, Request, AllowRelation, IsDomainOf, knowledge, IsMap, AddsMapping}
 use Rattle.gt_order.specs.Prelude.{KeepsMappings, Removes, IsNewDomain, Called, Domain}
-use Rattle.gt_calls.specs.declared.request.Asked.TheVariants as asks
+use Rattle.gt_calls.specs.declared.request.OpenRequest.TheVariants as asks
 
 -- how a call was answered: as its path ends, by a mapping under a handle, by a refusal for want of memory, or by Ok
 -- after it wrote the bytes that it was given
 pub data CallOutcome : Type 0 where
-  Told : Verdict → CallOutcome
-  Kept : Handle → Held → CallOutcome
+  Told : CallResult → CallOutcome
+  Kept : Handle → HeldPin → CallOutcome
   Starved : CallOutcome
   Wrote : CallOutcome
 
@@ -26,18 +26,18 @@ pub record CallMade : Type 0 where
 
 -- the mappings after a call that was answered so by its path: an unmap that is not refused gives one up, and no other
 -- call changes any
-abbrev pub LeavesMappings : Asked → Verdict → HandleMap Held → HandleMap Held → Type 0
+abbrev pub LeavesMappings : OpenRequest → CallResult → HandleMap HeldPin → HandleMap HeldPin → Type 0
 LeavesMappings (asks.Unmap handle) (Refused denial) old new = KeepsMappings old new
-LeavesMappings (asks.Unmap handle) verdict old new = (p : Held) × Removes old new handle p
+LeavesMappings (asks.Unmap handle) verdict old new = (p : HeldPin) × Removes old new handle p
 LeavesMappings request verdict old new = KeepsMappings old new
 
 -- a verdict that keeps no pin
-abbrev pub KeepsNoPin : Verdict → Type 0
+abbrev pub KeepsNoPin : CallResult → Type 0
 KeepsNoPin (Mapped p) = ⊥
 KeepsNoPin verdict = Unit {0}
 
 -- the call took its seat's view from the one to the other by these steps of its path, which ends with this verdict
-abbrev pub TookSteps : Board → Config → AllowRelation → Request → Verdict → List Moment → Domain → Domain → Type 0
+abbrev pub TookSteps : Board → Config → AllowRelation → Request → CallResult → List Moment → Domain → Domain → Type 0
 TookSteps b c may request verdict steps d e =
     (called : Called b.layout (path_of (knowledge c may d) d.seat.dom request) verdict d.seat.view e.seat.view)
     × (called.steps ≡ steps)

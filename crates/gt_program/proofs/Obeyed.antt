@@ -13,20 +13,20 @@ use Rattle.clap.specs.declared.error.kind.ErrorKind.TheVariants.{ArgumentConflic
 use Rattle.clap.specs.declared.error.kind.ErrorKind.TheVariants.{OutOfMemory, InvalidSubcommand, InvalidValue}
 use Rattle.clap.specs.declared.error.kind.ErrorKind.TheVariants.{MissingRequiredArgument, MissingSubcommand}
 use Rattle.clap.specs.declared.error.kind.ErrorKind.TheVariants.{TooManyValues, UnknownArgument}
-use Rattle.gt_advice.specs.declared.asking.Question.{Question}
+use Rattle.gt_advice.specs.declared.asking.WhyQuestion.{WhyQuestion}
 use Rattle.gt_commands.specs.Commands.{Request, to_play, to_run, to_explore, to_list, to_tell_rules, to_check}
 use Rattle.gt_commands.specs.Commands.{to_explain}
 use Rattle.gt_commands.specs.Commands.{to_tell_entries, for_help, for_version, nothing, asked_by_plan, refusals}
 use Rattle.gt_commands.specs.Commands.{request_in_words}
 use Rattle.gt_commands.specs.declared.invocation.Invocation.{Invocation}
-use Rattle.gt_dump.specs.declared.asked.Asked.{Asked}
+use Rattle.gt_dump.specs.declared.asked.DumpOptions.{DumpOptions}
 use Rattle.gt_commands.specs.declared.invocation.Format.{Format}
 use Rattle.gt_listing.specs.declared.fault.ListingFault.{ListingFault}
 use Rattle.gt_as_json.specs.AsJson.{Promise}
 use Rattle.gt_program.specs.Formats.{CheckedAs, RanAs}
 use Rattle.gt_run.specs.declared.fault.RunFault.{RunFault}
 use Rattle.gt_program.specs.Obeying.{IsSearched, Searches, Seeks}
-use Rattle.gt_explore.specs.declared.exploring.Asked.{Asked as Searched}
+use Rattle.gt_explore.specs.declared.exploring.ExploreOptions.{DumpOptions as Searched}
 use Rattle.gt_program.specs.Obeying.{AnswersQuestion, Checks, Does, Doing, Ending, Explains, FitsKind, IsAsked}
 use Rattle.gt_program.specs.Obeying.{IsQuestion}
 use Rattle.gt_program.specs.Obeying.{Lists, Obeys, Performs, Plays, RunsDomains, AnswersDump, AnswersEntries, Works}
@@ -151,29 +151,29 @@ refused nothing file input old new error status (inr (inr (inr (inr (inr (inr (i
 refused nothing file input old new error status (inr (inr (inr (inr (inr (inr (inr (inr none)))))))) fits = absurd none
 
 -- a question of these names was answered
-explains_names : (file : List ℕ) (q : Question) (source target : Option (List ℕ)) (permission input : List ℕ) (old new : Option (List ℕ)) (r : Ending) → IsQuestion source target permission q
+explains_names : (file : List ℕ) (q : WhyQuestion) (source target : Option (List ℕ)) (permission input : List ℕ) (old new : Option (List ℕ)) (r : Ending) → IsQuestion source target permission q
     → Does (Explains file q) input old new r → Does (AnswersQuestion file source target permission) input old new r
 explains_names file q source target permission input old new r is (inl does) = inl (q, is, does)
 explains_names file q source target permission input old new r is (inr unopened) = inr unopened
 
-answered_by : (file : List ℕ) (q : Question) (source target : Option (List ℕ)) (permission : List ℕ) (known old new : Option (List ℕ)) (status : ℕ) → IsQuestion source target permission q
+answered_by : (file : List ℕ) (q : WhyQuestion) (source target : Option (List ℕ)) (permission : List ℕ) (known old new : Option (List ℕ)) (status : ℕ) → IsQuestion source target permission q
     → Works (Explains file q) known old new status → Works (AnswersQuestion file source target permission) known old new status
 answered_by file q source target permission None old new status asks works = tt
 answered_by file q source target permission (Some bytes) old new status asks (r, is, inl does) = (r, is, inl (explains_names file q source target permission bytes old new r asks does))
 answered_by file q source target permission (Some bytes) old new status asks (r, is, inr none) = (r, is, inr none)
 
-pub answered : (file same : List ℕ) (q : Question) (source target : Option (List ℕ)) (permission : List ℕ) (known old new : Option (List ℕ)) (status : ℕ) → file ≡ same → IsQuestion source target permission q
+pub answered : (file same : List ℕ) (q : WhyQuestion) (source target : Option (List ℕ)) (permission : List ℕ) (known old new : Option (List ℕ)) (status : ℕ) → file ≡ same → IsQuestion source target permission q
     → Works (Explains file q) known old new status → Works (AnswersQuestion same source target permission) known old new status
 answered file same q source target permission known old new status shown asks works =
     subst (λ (f : List ℕ). Works (AnswersQuestion f source target permission) known old new status) shown (answered_by file q source target permission known old new status asks works)
 
 -- a dump was told as it was asked
-tells_asked : (asked : Asked) (version : ℕ) (hex every : Bool) (script : Option ℕ) (format : Format) (input : List ℕ) (old new : Option (List ℕ)) (r : Ending) → IsAsked version hex every script asked
+tells_asked : (asked : DumpOptions) (version : ℕ) (hex every : Bool) (script : Option ℕ) (format : Format) (input : List ℕ) (old new : Option (List ℕ)) (r : Ending) → IsAsked version hex every script asked
     → Does (AnswersEntries format asked) input old new r → Does (AnswersDump version hex every script format) input old new r
 tells_asked asked version hex every script format input old new r is (inl does) = inl (asked, is, does)
 tells_asked asked version hex every script format input old new r is (inr unopened) = inr unopened
 
-pub told : (asked : Asked) (version : ℕ) (hex every : Bool) (script : Option ℕ) (format : Format) (known old new : Option (List ℕ)) (status : ℕ) → IsAsked version hex every script asked
+pub told : (asked : DumpOptions) (version : ℕ) (hex every : Bool) (script : Option ℕ) (format : Format) (known old new : Option (List ℕ)) (status : ℕ) → IsAsked version hex every script asked
     → Works (AnswersEntries format asked) known old new status → Works (AnswersDump version hex every script format) known old new status
 told asked version hex every script format None old new status asks works = tt
 told asked version hex every script format (Some bytes) old new status asks (r, is, inl does) = (r, is, inl (tells_asked asked version hex every script format bytes old new r asks does))

@@ -9,13 +9,13 @@ use Rattle.gt_as_json.specs.Prelude.{Run, json_text}
 use Rattle.gt_commands.specs.declared.invocation.Format.{Format}
 use Rattle.gt_commands.specs.declared.invocation.Format.TheVariants.{Text, Json}
 use Rattle.gt_host.specs.Rights.{may_by}
-use Rattle.gt_host.specs.declared.rights.Rights.{Rights as ScriptRights}
+use Rattle.gt_host.specs.declared.rights.ScriptPolicy.{ScriptPolicy as ScriptRights}
 use Rattle.gt_host.specs.declared.fault.PlayFault.TheVariants.{Memory, Read, Write, Script, Policy}
 use Rattle.gt_run.specs.Printing.{BeginsAll, run_text, texts_in}
 use Rattle.gt_run.specs.Runs.{Ran}
 use Rattle.gt_run.specs.declared.fault.RunFault.{RunFault}
 use Rattle.gt_run.specs.declared.fault.RunFault.TheVariants.{Play, Thread}
-use Rattle.gt_run.specs.declared.lists.Duty.{Duty}
+use Rattle.gt_run.specs.declared.lists.ThreadJob.{ThreadJob}
 use Rattle.gt_script.specs.RunContents.{RunContents}
 use Rattle.gt_script.specs.RunScripts.{RunTells}
 use Rattle.gt_script.specs.Script.{Wrong}
@@ -31,7 +31,7 @@ kept_nothing (Some xs) (Some ys) kept = kept ∙ sym (append-nil xs)
 begins_nothing : (old new : Option (List ℕ)) (text : List ℕ) → Keeps old new → AppendsBeginning old new text
 begins_nothing old new text kept = (0, omega arith, kept_nothing old new kept)
 
-begins_all : (duties : List (Duty ScriptRights)) (a b old new : Option (List ℕ)) → Keeps old new → BeginsAll may_by duties a b → BeginsAll may_by duties old new
+begins_all : (duties : List (ThreadJob ScriptRights)) (a b old new : Option (List ℕ)) → Keeps old new → BeginsAll may_by duties a b → BeginsAll may_by duties old new
 begins_all duties a b old new kept (inl (all, rest, text, is, served, prints, begins)) = inl (all, rest, text, is, served, prints, begins_nothing old new (texts_in all ++ text) kept)
 begins_all duties a b old new kept (inr (all, is, served, begins)) = inr (all, is, served, begins_nothing old new (run_text all) kept)
 

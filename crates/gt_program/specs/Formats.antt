@@ -1,7 +1,7 @@
 -- What a command writes in a format.
 use Rattle.std.specs.Prelude.{◌≡◌, ◌⊎◌, ℕ, Bool, true, false, List, Option, Result, Ok, Err}
 use Rattle.std.specs.Io.KnownBytes.{Appends, Keeps}
-use Rattle.gt_program.specs.Prelude.{Asked, Format, RunTells}
+use Rattle.gt_program.specs.Prelude.{DumpOptions, Format, RunTells}
 use Rattle.gt_advising.specs.Checking.{Checked}
 use Rattle.gt_advising.specs.Scripts.{CheckedScript}
 use Rattle.gt_as_json.specs.AsJson.{Promise, ListedAsJson, PlayedAsJson, RanAsJson, ToldAsJson}
@@ -43,7 +43,7 @@ ListedAs Text input = Listed input
 ListedAs Json input = ListedAsJson input
 
 -- what `entries` writes
-abbrev pub ToldAs : Format → Asked → List ℕ → Promise DumpFault
+abbrev pub ToldAs : Format → DumpOptions → List ℕ → Promise DumpFault
 ToldAs Text asked input = Told asked input
 ToldAs Json asked input = ToldAsJson asked input
 

@@ -3,10 +3,10 @@ use Rattle.std.specs.Prelude.{◌≡◌, ◌⊎◌, ℕ, ◌≤◌, ◌++◌, Bo
 use Rattle.std.specs.Prelude.{IfSome, codes}
 use Rattle.std.specs.Borrow.{Bor}
 use Rattle.gt_program.specs.Prelude.{Keeps, option_map, ErrorKind, DisplayHelp, DisplayVersion, OutOfMemory}
-use Rattle.gt_program.specs.Prelude.{source_asked, target_asked, Question, Explained, why_fault_text, Request, to_play}
+use Rattle.gt_program.specs.Prelude.{source_asked, target_asked, WhyQuestion, Explained, why_fault_text, Request, to_play}
 use Rattle.gt_program.specs.Prelude.{to_explore, Explored, explore_fault_text, RunTells, Searched, word_asked}
 use Rattle.gt_program.specs.Prelude.{to_run, to_list, to_tell_rules, to_check, to_explain, to_tell_entries, for_help}
-use Rattle.gt_program.specs.Prelude.{for_version, nothing, dump_fault_text, Asked, read_word, play_fault_text}
+use Rattle.gt_program.specs.Prelude.{for_version, nothing, dump_fault_text, DumpOptions, read_word, play_fault_text}
 use Rattle.gt_program.specs.Prelude.{run_fault_text, listing_fault_text, Format, Failure, Work}
 use Rattle.gt_program.specs.Formats.{CheckedAs, ListedAs, PlayedAs, RanAs, ToldAs}
 use Rattle.gt_program.specs.declared.failure.Failure.TheVariants as failures
@@ -71,12 +71,12 @@ Checks script input old new (Err (failures.List fault)) = CheckedAs script input
 Checks script input old new (Err failure) = ⊥
 
 -- a good answer is that it is allowed
-abbrev pub Explains : List ℕ → Question → Doing
+abbrev pub Explains : List ℕ → WhyQuestion → Doing
 Explains file q input old new (Ok answer) = Explained file q input old new (Ok answer)
 Explains file q input old new (Err (failures.Why fault)) = Explained file q input old new (Err fault)
 Explains file q input old new (Err failure) = ⊥
 
-abbrev pub AnswersEntries : Format → Asked → Doing
+abbrev pub AnswersEntries : Format → DumpOptions → Doing
 AnswersEntries format asked input old new (Ok true) = ToldAs format asked input old new (Ok tt)
 AnswersEntries format asked input old new (Ok false) = ⊥
 AnswersEntries format asked input old new (Err (failures.Dump fault)) = ToldAs format asked input old new (Err fault)
@@ -132,12 +132,12 @@ Works P known old new status =
     × (Does P bytes old new r ⊎ ((r ≡ Err failures.Memory) × Keeps old new)))
 
 -- the question asks for these names
-abbrev pub IsQuestion : Option (List ℕ) → Option (List ℕ) → List ℕ → Question → Type 0
+abbrev pub IsQuestion : Option (List ℕ) → Option (List ℕ) → List ℕ → WhyQuestion → Type 0
 IsQuestion source target permission q =
     (source_asked q ≡ source) × (target_asked q ≡ target) × (q.perm.now ≡ permission)
 
 -- what is asked of a dump
-abbrev pub IsAsked : ℕ → Bool → Bool → Option ℕ → Asked → Type 0
+abbrev pub IsAsked : ℕ → Bool → Bool → Option ℕ → DumpOptions → Type 0
 IsAsked version hex every script asked =
     (asked.version ≡ version) × (asked.hex ≡ hex) × (asked.all ≡ every)
     × (option_map (λ d. d.0) asked.script ≡ script)
@@ -150,12 +150,12 @@ IsSearched find witness states asked =
 -- a question of these names is answered
 abbrev pub AnswersQuestion : List ℕ → Option (List ℕ) → Option (List ℕ) → List ℕ → Doing
 AnswersQuestion file source target permission input old new r =
-    (q : Question) × IsQuestion source target permission q × Explains file q input old new r
+    (q : WhyQuestion) × IsQuestion source target permission q × Explains file q input old new r
 
 -- a dump is told as it is asked
 abbrev pub AnswersDump : ℕ → Bool → Bool → Option ℕ → Format → Doing
 AnswersDump version hex every script format input old new r =
-    (asked : Asked) × IsAsked version hex every script asked × AnswersEntries format asked input old new r
+    (asked : DumpOptions) × IsAsked version hex every script asked × AnswersEntries format asked input old new r
 
 -- a script is explored as it is asked
 abbrev pub Seeks : Option (List ℕ) → Option ℕ → ℕ → Doing

@@ -7,15 +7,15 @@ use crate::failure::Failure;
 use crate::formats::{check_as, entries_as, list_as};
 use crate::obeying::report;
 use crate::reasons::Reasons;
-use crate::texts::{Texts, read_fault};
-use crate::told::{RunSettings, play_told, run_told};
-use gt_advice::Question;
+use crate::texts::{TextSource, read_fault};
+use crate::told::{RunSettings, play_with_reasons, run_with_reasons};
+use gt_advice::WhyQuestion;
 use gt_advising::why;
 use gt_audit::SharedLog;
 use gt_commands::Format;
-use gt_dump::Asked;
-use gt_explore::{Asked as Searched, explore};
-use gt_run::Flags;
+use gt_dump::DumpOptions;
+use gt_explore::{DumpOptions as Searched, explore};
+use gt_run::FlagGate;
 use std::alloc::Global;
 use std::io::{Read, Write};
 use std::sync::Wait;
@@ -46,11 +46,11 @@ pub enum Work<'w> {
     /// The question about the policy is answered. The lines begin with the name.
     Why {
         file: &'w str,
-        question: Question<'w>,
+        question: WhyQuestion<'w>,
     },
     /// The entries of the dump are told.
     Entries {
-        asked: Asked,
+        asked: DumpOptions,
         format: Format,
     },
 }
@@ -67,7 +67,7 @@ fn perform<R: Read, W: Write>(
         Performs work.entry input (W.contents out.old) (W.contents out.new) result) }
 {
     match work {
-        Work::Play { audit, format } => match play_told(
+        Work::Play { audit, format } => match play_with_reasons(
             alloc, format, audit, reader, out, reasons,
         ) {
             Ok(()) => Ok(true),
@@ -108,7 +108,7 @@ pub(crate) struct Context<'c, R, T, E> {
 }
 
 // Does what was asked for, with the text of the file that is named, or of the standard input.
-fn perform_on<R, T: Texts, W: Write, E>(
+fn perform_on<R, T: TextSource, W: Write, E>(
     context: &Context<R, T, E>,
     work: Work,
     name: Option<&str>,
@@ -151,7 +151,7 @@ fn run_script<R: Threads + Wait + Sync, T, E, I: Read, W: Write>(
     ensures { OfInput (I.remaining reader.old) (λ input.
         RunsDomains format audit input (W.contents out.old) (W.contents out.new) result) }
 {
-    let Ok(gate) = Flags::new(context.rt, context.alloc) else {
+    let Ok(gate) = FlagGate::new(context.rt, context.alloc) else {
         return Err(Failure::Memory);
     };
     let Ok(log) = SharedLog::new(context.alloc) else {
@@ -164,14 +164,14 @@ fn run_script<R: Threads + Wait + Sync, T, E, I: Read, W: Write>(
         log: log_for(audit, &log),
         gate: &gate,
     };
-    match run_told(&settings, reader, out, reasons) {
+    match run_with_reasons(&settings, reader, out, reasons) {
         Ok(()) => Ok(true),
         Err(fault) => Err(Failure::Run(fault)),
     }
 }
 
 // Runs the script of the file that is named, or of the standard input.
-fn run_on<R: Threads + Wait + Sync, T: Texts, W: Write, E>(
+fn run_on<R: Threads + Wait + Sync, T: TextSource, W: Write, E>(
     context: &Context<R, T, E>,
     format: Format,
     audit: bool,
@@ -196,7 +196,7 @@ fn run_on<R: Threads + Wait + Sync, T: Texts, W: Write, E>(
 }
 
 /// Does what is asked for with the text of the file that is named, or of the standard input.
-pub(crate) fn work_asked<R, T: Texts, W: Write, E: Eprint>(
+pub(crate) fn work_asked<R, T: TextSource, W: Write, E: Eprint>(
     context: &Context<R, T, E>,
     work: Work,
     file: Option<&str>,
@@ -211,7 +211,7 @@ pub(crate) fn work_asked<R, T: Texts, W: Write, E: Eprint>(
 }
 
 /// Runs a script.
-pub(crate) fn run_asked<R: Threads + Wait + Sync, T: Texts, W: Write, E: Eprint>(
+pub(crate) fn run_asked<R: Threads + Wait + Sync, T: TextSource, W: Write, E: Eprint>(
     context: &Context<R, T, E>,
     format: Format,
     audit: bool,

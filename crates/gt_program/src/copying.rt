@@ -4,15 +4,15 @@ use std::io::{self, Read, Write};
 
 /// The bytes that were read, as long as there was memory for them, and why the last read failed.
 #[derive(Drop)]
-pub(crate) struct Kept {
+pub(crate) struct KeptInput {
     bytes: Vec<u8>,
     is_whole: bool,
     fault: Vec<u8>,
 }
 
-impl Kept {
-    fn new(alloc: Global) -> Kept {
-        Kept {
+impl KeptInput {
+    fn new(alloc: Global) -> KeptInput {
+        KeptInput {
             bytes: Vec::new(alloc),
             is_whole: true,
             fault: Vec::new(alloc),
@@ -47,25 +47,25 @@ impl Kept {
 
 /// A reader, and what was read from it.
 #[derive(Drop)]
-pub(crate) struct Copied<R> {
+pub(crate) struct CopyingReader<R> {
     inner: R,
-    pub(crate) kept: Kept,
+    pub(crate) kept: KeptInput,
 }
 
-impl<R> Copied<R> {
+impl<R> CopyingReader<R> {
     ghost use Rattle.std.specs.Prelude.{◌≡◌};
 
-    pub(crate) fn new(alloc: Global, inner: R) -> Copied<R>
+    pub(crate) fn new(alloc: Global, inner: R) -> CopyingReader<R>
         ensures { result.inner ≡ inner }
     {
-        Copied {
+        CopyingReader {
             inner,
-            kept: Kept::new(alloc),
+            kept: KeptInput::new(alloc),
         }
     }
 }
 
-impl<R: Read> Read for Copied<R> {
+impl<R: Read> Read for CopyingReader<R> {
     ghost remaining = { λ c. R.remaining c.inner };
 
     fn read(&mut self, buf: &mut [u8]) -> io::Result<usize> {

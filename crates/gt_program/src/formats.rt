@@ -7,7 +7,7 @@ use gt_advising::{check, check_script};
 use gt_as_json::{entries_json, play_json, policy_json, run_json};
 use gt_audit::SharedLog;
 use gt_commands::Format;
-use gt_dump::{Asked, DumpFault, entries};
+use gt_dump::{DumpOptions, DumpFault, entries};
 use gt_host::{PlayFault, play};
 use gt_listing::{ListingFault, policy};
 use gt_run::{Gate, RunFault, run};
@@ -72,7 +72,7 @@ pub(crate) fn list_as<R: Read, W: Write>(
 pub(crate) fn entries_as<R: Read, W: Write>(
     alloc: Global,
     format: Format,
-    asked: Asked,
+    asked: DumpOptions,
     reader: &mut R,
     out: &mut W,
 ) -> Result<(), DumpFault>

@@ -7,7 +7,7 @@
 //! policy with an error, for a denied question and for a word that no text has, and 2 for a wrong command line. A fault
 //! goes to the standard error in one line that begins with `gthost: `, and its reasons after it if they are asked for.
 //!
-//! Texts come by a trait, `Texts`, and go to any writer. So the contracts say, for texts and a writer
+//! Texts come by a trait, `TextSource`, and go to any writer. So the contracts say, for texts and a writer
 //! that promise their bytes, what is written for which words and with which status. Tests, and the runs
 //! of the programs above this crate, show that an error comes only if there is one.
 #![tactic(auto)]
@@ -27,4 +27,4 @@ pub use commands::Work;
 pub use failure::{Failure, exit_status};
 pub use obeying::obey;
 pub use system::{System, run};
-pub use texts::Texts;
+pub use texts::FoundTexts;

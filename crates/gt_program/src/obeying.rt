@@ -10,13 +10,13 @@ use crate::commands::{Context, Work, run_asked, work_asked};
 use crate::failure::{Failure, exit_status};
 use crate::reasons::Reasons;
 use crate::rules::tell_rules;
-use crate::texts::Texts;
+use crate::texts::FoundTexts;
 use clap::Error;
 use clap::error::ErrorKind;
-use gt_advice::Question;
+use gt_advice::WhyQuestion;
 use gt_commands::{Format, Invocation, plan, with_long_flags};
-use gt_dump::Asked;
-use gt_explore::Asked as Searched;
+use gt_dump::DumpOptions;
+use gt_explore::ExploreOptions as Searched;
 use gt_streams::WriteFault;
 use gt_types::DomId;
 use std::alloc::Global;
@@ -89,7 +89,7 @@ fn is_json(format: Format) -> bool
 }
 
 // Does what the plan says.
-fn follow<R: Threads + Wait + Sync, T: Texts, W: Write, E: Eprint>(
+fn follow<R: Threads + Wait + Sync, T: TextSource, W: Write, E: Eprint>(
     context: &Context<R, T, E>,
     invocation: Invocation,
     out: &mut W,
@@ -146,7 +146,7 @@ fn follow<R: Threads + Wait + Sync, T: Texts, W: Write, E: Eprint>(
             permission: perm,
             file,
         } => {
-            let question = Question {
+            let question = WhyQuestion {
                 source,
                 target,
                 perm,
@@ -166,7 +166,7 @@ fn follow<R: Threads + Wait + Sync, T: Texts, W: Write, E: Eprint>(
             file,
         } => {
             let script = domain(dom);
-            let asked = Asked {
+            let asked = DumpOptions {
                 version,
                 hex,
                 all,
@@ -178,7 +178,7 @@ fn follow<R: Threads + Wait + Sync, T: Texts, W: Write, E: Eprint>(
 }
 
 // Does what words with long flags ask for.
-fn obey_long<R: Threads + Wait + Sync, T: Texts, W: Write, E: Eprint>(
+fn obey_long<R: Threads + Wait + Sync, T: TextSource, W: Write, E: Eprint>(
     context: &Context<R, T, E>,
     words: &[String],
     out: &mut W,
@@ -206,7 +206,7 @@ fn obey_long<R: Threads + Wait + Sync, T: Texts, W: Write, E: Eprint>(
 /// written, for a policy with an error, for a denied question and for a word that no text has, and 2 if the words ask
 /// for nothing that the program does.
 #[tactic(auto, using(crate::proofs::Obeyed::obeyed_long, crate::proofs::Obeyed::without_memory))]
-pub fn obey<R: Threads + Wait + Sync, T: Texts, W: Write, E: Eprint>(
+pub fn obey<R: Threads + Wait + Sync, T: TextSource, W: Write, E: Eprint>(
     rt: &R,
     alloc: Global,
     texts: &T,

@@ -1,5 +1,5 @@
 //! Reasons, told after the line of a fault.
-use crate::copying::Kept;
+use crate::copying::KeptInput;
 use crate::obeying::shown_name;
 use gt_commands::Invocation;
 use gt_host::{PlayFault, play};
@@ -30,7 +30,7 @@ fn named<'a>(verbose: bool, file: Option<&'a str>) -> Option<&'a str> {
 fn fault_reason(
     alloc: Global,
     file: &str,
-    input: &Kept,
+    input: &KeptInput,
     fault: &PlayFault,
 ) -> Result<Vec<u8>, AllocError> {
     let mut said = Vec::new(alloc);
@@ -48,7 +48,7 @@ fn fault_reason(
 
 // The rules that come near what the policy refused when the script that was read was played. It is played again: there
 // is only one text.
-fn play_refusals(alloc: Global, file: &str, input: &Kept) -> Result<Vec<u8>, AllocError> {
+fn play_refusals(alloc: Global, file: &str, input: &KeptInput) -> Result<Vec<u8>, AllocError> {
     let mut said = Vec::new(alloc);
     let mut text = Vec::new(alloc);
     if let Some(bytes) = input.bytes() {
@@ -64,7 +64,7 @@ fn play_refusals(alloc: Global, file: &str, input: &Kept) -> Result<Vec<u8>, All
 fn run_refusals(
     alloc: Global,
     file: &str,
-    input: &Kept,
+    input: &KeptInput,
     text: &[u8],
 ) -> Result<Vec<u8>, AllocError> {
     let mut said = Vec::new(alloc);
@@ -110,7 +110,7 @@ impl<'a> Reasons<'a> {
     }
 
     /// Adds those of a script that was read, and whose play ended so.
-    pub(crate) fn add_play(&mut self, input: &Kept, ending: &Result<(), PlayFault>) {
+    pub(crate) fn add_play(&mut self, input: &KeptInput, ending: &Result<(), PlayFault>) {
         if let Some(file) = self.file {
             let said = match ending {
                 Ok(()) => play_refusals(self.alloc, file, input),
@@ -121,7 +121,7 @@ impl<'a> Reasons<'a> {
     }
 
     /// Adds those of a script that was read, and whose run wrote this text and ended so.
-    pub(crate) fn add_run(&mut self, input: &Kept, text: &[u8], ending: &Result<(), RunFault>) {
+    pub(crate) fn add_run(&mut self, input: &KeptInput, text: &[u8], ending: &Result<(), RunFault>) {
         let Some(file) = self.file else {
             return;
         };

@@ -1,7 +1,7 @@
 //! The program over the system's files, words and streams.
 use crate::failure::Failure;
 use crate::obeying::{obey, report};
-use crate::texts::Texts;
+use crate::texts::FoundTexts;
 use std::alloc::Global;
 use std::fs::File;
 use std::io::{self, ErrorKind};
@@ -15,7 +15,7 @@ pub struct System<'r, R> {
     pub rt: &'r R,
 }
 
-impl<'r, R: Runtime> Texts for System<'r, R> {
+impl<'r, R: Runtime> TextSource for System<'r, R> {
     type File = R::File;
 
     type Input = R::Reader;

@@ -4,7 +4,7 @@ use std::io::{self, ErrorKind, Read};
 
 /// The texts that commands work on: files by their names, and the standard input. An implementation may promise the
 /// bytes of some of them; a contract then speaks of those.
-pub trait Texts {
+pub trait TextSource {
     ghost use Rattle.std.specs.Prelude.{◌≡◌, ℕ, List, Option, None, Some, IfOk, IfSome};
 
     /// A file that is open.

@@ -3,7 +3,7 @@ ghost use Rattle.std.specs.Prelude.{is_some};
 ghost use Rattle.gt_streams.specs.Streams.{OfInput};
 ghost use Rattle.gt_program.specs.Formats.{PlayedAs, RanAs, Relays};
 
-use crate::copying::Copied;
+use crate::copying::CopyingReader;
 use crate::formats::{play_as, run_as};
 use crate::reasons::Reasons;
 use gt_audit::SharedLog;
@@ -17,7 +17,7 @@ use std::sync::Wait;
 use std::thread::Threads;
 
 /// Plays the script of a reader, and adds the reasons that are asked for.
-pub(crate) fn play_told<R: Read, W: Write>(
+pub(crate) fn play_with_reasons<R: Read, W: Write>(
     alloc: Global,
     format: Format,
     audit: bool,
@@ -31,7 +31,7 @@ pub(crate) fn play_told<R: Read, W: Write>(
     if !reasons.are_asked() {
         return play_as(alloc, format, audit, reader, out);
     }
-    let mut input = Copied::new(alloc, reader);
+    let mut input = CopyingReader::new(alloc, reader);
     let ending = play_as(alloc, format, audit, &mut input, out);
     reasons.add_play(&input.kept, &ending);
     ending
@@ -84,7 +84,7 @@ fn relay<W: Write>(text: &[u8], ending: Result<(), RunFault>, out: &mut W) -> Re
 
 /// Runs the script of a reader, its domains in threads, and adds the reasons that are asked for. The text of a run
 /// can't be had again, so it is kept in memory then, and goes out at the end.
-pub(crate) fn run_told<R: Threads + Wait + Sync, I: Read, W: Write, G: Gate + Sync>(
+pub(crate) fn run_with_reasons<R: Threads + Wait + Sync, I: Read, W: Write, G: Gate + Sync>(
     settings: &RunSettings<R, G>,
     reader: &mut I,
     out: &mut W,
@@ -96,7 +96,7 @@ pub(crate) fn run_told<R: Threads + Wait + Sync, I: Read, W: Write, G: Gate + Sy
     if !reasons.are_asked() {
         return run_settled(settings, reader, out);
     }
-    let mut input = Copied::new(settings.alloc, reader);
+    let mut input = CopyingReader::new(settings.alloc, reader);
     let mut text = Vec::new(settings.alloc);
     let outcome = run_settled(settings, &mut input, &mut text);
     let ending = relay(text.as_slice(), outcome, out);

@@ -1,10 +1,10 @@
 //! The policy block of a script.
-use gt_lines::{is, line_words};
+use gt_lines::{is_word, line_words};
 use std::alloc::{AllocError, Global};
 
 fn is_just(words: &[&[u8]], word: &str) -> bool {
     match words {
-        [only] => is(only, word),
+        [only] => is_word(only, word),
         _ => false,
     }
 }

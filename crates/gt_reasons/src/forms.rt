@@ -1,5 +1,5 @@
 //! The forms of a script's lines, and what stands at each of their words.
-use gt_lines::is;
+use gt_lines::is_word;
 
 /// The form of each line, as docs/FORMATS.md writes it. A word in capitals is a part, and any other stands for itself.
 pub const FORMS: [&str; 30] = [
@@ -36,109 +36,109 @@ pub const FORMS: [&str; 30] = [
 ];
 
 // A part of a form: its name, a word that fits, and what is said to be expected there.
-struct Part {
+struct FormPart {
     name: &'static str,
     example: &'static str,
     expected: &'static str,
 }
 
-const PARTS: [Part; 20] = [
-    Part {
+const PARTS: [FormPart; 20] = [
+    FormPart {
         name: "TYPE",
         example: "t",
         expected: "a type, as the policy language has names",
     },
-    Part {
+    FormPart {
         name: "PERMISSION",
         example: "copy",
         expected: "map_read, map_write, unmap, transfer, setup, copy or query",
     },
-    Part {
+    FormPart {
         name: "GENERATION",
         example: "0",
         expected: "a generation, 0 to 1048575",
     },
-    Part {
+    FormPart {
         name: "ID",
         example: "0",
         expected: "the number of a domain",
     },
-    Part {
+    FormPart {
         name: "LABEL",
         example: "u:r:t",
         expected: "a label USER:ROLE:TYPE",
     },
-    Part {
+    FormPart {
         name: "FRAMES",
         example: "1",
         expected: "a number of frames",
     },
-    Part {
+    FormPart {
         name: "TABLEFRAMES",
         example: "1",
         expected: "a number of table frames",
     },
-    Part {
+    FormPart {
         name: "VERSION",
         example: "1",
         expected: "the version of a table",
     },
-    Part {
+    FormPart {
         name: "REF",
         example: "0",
         expected: "a reference, a number below 4294967296",
     },
-    Part {
+    FormPart {
         name: "DOM",
         example: "0",
         expected: "a domain, a number below 65536 or self",
     },
-    Part {
+    FormPart {
         name: "MODE",
         example: "rw",
         expected: "rw or ro",
     },
-    Part {
+    FormPart {
         name: "FRAME",
         example: "0",
         expected: "a frame, a number below 18446744073709551616",
     },
-    Part {
+    FormPart {
         name: "OFF",
         example: "0",
         expected: "an offset, a number below 65536",
     },
-    Part {
+    FormPart {
         name: "LEN",
         example: "0",
         expected: "a length, a number below 65536",
     },
-    Part {
+    FormPart {
         name: "HEX",
         example: "-",
         expected: "bytes: an even number of hexadecimal digits, at most 8192, or -",
     },
-    Part {
+    FormPart {
         name: "NAME",
         example: "a",
         expected: "a label: a letter, and at most 31 letters, digits or _",
     },
-    Part {
+    FormPart {
         name: "FLAGS",
         example: "rw",
         expected: "flags: rw, ro or a number below 4294967296",
     },
-    Part {
+    FormPart {
         name: "NUMBER",
         example: "0",
         expected: "a number below 4294967296",
     },
-    Part {
+    FormPart {
         name: "STEPS",
         example: "1",
         expected: "a number of steps, 1 to 100000",
     },
-    Part {
+    FormPart {
         name: "FLAG",
         example: "a",
         expected: "a flag: a letter, and at most 31 letters, digits or _",
@@ -148,7 +148,7 @@ const PARTS: [Part; 20] = [
 /// A word that fits this word of a form.
 pub fn example_of<'f>(word: &'f [u8]) -> &'f [u8] {
     for part in &PARTS {
-        if is(word, part.name) {
+        if is_word(word, part.name) {
             return part.example.as_bytes();
         }
     }
@@ -158,7 +158,7 @@ pub fn example_of<'f>(word: &'f [u8]) -> &'f [u8] {
 /// What is expected at this word of a form; nothing for a word that stands for itself.
 pub fn expected_at(word: &[u8]) -> Option<&'static str> {
     for part in &PARTS {
-        if is(word, part.name) {
+        if is_word(word, part.name) {
             return Some(part.expected);
         }
     }

@@ -4,10 +4,10 @@ ghost use Rattle.gt_reasons.specs.Reasons.{limit_of};
 
 use crate::blocks::block_text;
 use crate::columns::column_of;
-use crate::reason::{Note, Reason};
+use crate::reason::{ReasonNote, Reason};
 use crate::texts::push_word;
 use gt_advice::push_hint;
-use gt_lines::{BodyLine, DomainLine, Line, Number, line_words, read_line};
+use gt_lines::{BodyLine, DomainLine, ScriptLine, Number, line_words, read_line};
 use gt_policy::{LinedStatement, Statement, statements_of};
 use gt_streams::text_of;
 use gt_texts::{push_number, push_text};
@@ -68,7 +68,7 @@ fn configured_in(alloc: Global, lines: &[&str]) -> Result<Vec<Configured>, Alloc
     let mut found = Vec::new(alloc);
     for (i, line) in lines.iter().enumerate() {
         let words = line_words(alloc, line)?;
-        if let Some(Line::Domain(domain)) = read_line(words.as_slice()) {
+        if let Some(ScriptLine::Domain(domain)) = read_line(words.as_slice()) {
             found.push(Configured {
                 number: i.saturating_add(1),
                 column: column_of(line.as_bytes(), 1),
@@ -89,13 +89,13 @@ fn domains_of(alloc: Global, lines: &[Configured]) -> Result<Vec<DomainConfig>, 
 }
 
 // Says where a domain with this number is configured, if one is.
-fn first_of(alloc: Global, lines: &[Configured], id: DomId) -> Result<Option<Note>, AllocError> {
+fn first_of(alloc: Global, lines: &[Configured], id: DomId) -> Result<Option<ReasonNote>, AllocError> {
     let Some(first) = lines.iter().find(|line| line.domain.id == id) else {
         return Ok(None);
     };
     let mut message = Vec::new(alloc);
     push_text(&mut message, "it is the number of this domain")?;
-    Ok(Some(Note {
+    Ok(Some(ReasonNote {
         line: first.number,
         column: first.column,
         message,
@@ -210,14 +210,14 @@ fn push_numbers(alloc: Global, out: &mut Vec<u8>, lines: &[&str]) -> Result<(), 
 pub fn config_reason(alloc: Global, before: &[&str], line: &str) -> Result<Reason, AllocError> {
     let words = line_words(alloc, line)?;
     let read = read_line(words.as_slice());
-    if let Some(Line::Domain(domain)) = &read {
+    if let Some(ScriptLine::Domain(domain)) = &read {
         return domain_reason(alloc, before, line, domain);
     }
     let mut message = Vec::new(alloc);
     let word = words.get(1).copied().unwrap_or(&[]);
     push_word(&mut message, word)?;
     match read {
-        Some(Line::Triple(_)) => push_text(&mut message, MANY_TYPES)?,
+        Some(ScriptLine::Triple(_)) => push_text(&mut message, MANY_TYPES)?,
         _ => push_numbers(alloc, &mut message, before)?,
     }
     Ok(Reason::at(column_of(line.as_bytes(), 1), message))
@@ -232,7 +232,7 @@ pub fn mode_reason(alloc: Global, line: &str) -> Result<Reason, AllocError> {
         &mut message,
         match read_line(words.as_slice()) {
             Some(
-                Line::Body {
+                ScriptLine::Body {
                     asks: BodyLine::Signal(_),
                     ..
                 },

@@ -2,7 +2,7 @@
 
 /// What is said beside a reason, and where.
 #[derive(Drop)]
-pub struct Note {
+pub struct ReasonNote {
     pub line: usize,
     pub column: usize,
     pub message: Vec<u8>,
@@ -13,7 +13,7 @@ pub struct Note {
 pub struct Reason {
     pub column: usize,
     pub message: Vec<u8>,
-    pub note: Option<Note>,
+    pub note: Option<ReasonNote>,
 }
 
 impl Reason {

@@ -1,8 +1,8 @@
 //! The rules that come near a call that the policy refused.
 use crate::blocks::block_text;
 use crate::texts::push_word;
-use gt_advice::{Question, why};
-use gt_lines::{Line, line_words, read_line, text_lines};
+use gt_advice::{WhyQuestion, why};
+use gt_lines::{ScriptLine, line_words, read_line, text_lines};
 use gt_policy::PolicyFaultKind;
 use gt_streams::text_of;
 use gt_texts::{push_number, push_text};
@@ -10,7 +10,7 @@ use std::alloc::{AllocError, Global};
 
 // A call that was refused: the number of its line, and what the policy does not allow.
 #[derive(Clone, Copy)]
-struct Refusal<'t> {
+struct RefusedCall<'t> {
     line: &'t str,
     facts: &'t str,
     source: &'t str,
@@ -24,10 +24,10 @@ fn refusal_with<'t>(
     facts: &'t str,
     before_target: &str,
     before_perm: &str,
-) -> Option<Refusal<'t>> {
+) -> Option<RefusedCall<'t>> {
     let (source, rest) = facts.split_once(before_target)?;
     let (target, perm) = rest.split_once(before_perm)?;
-    Some(Refusal {
+    Some(RefusedCall {
         line,
         facts,
         source,
@@ -37,7 +37,7 @@ fn refusal_with<'t>(
 }
 
 // The refusal that the object of an answer line tells (docs/FORMATS.md, 'JSON Lines').
-fn refusal_of_object<'t>(line: &'t str) -> Option<Refusal<'t>> {
+fn refusal_of_object<'t>(line: &'t str) -> Option<RefusedCall<'t>> {
     let members = line.strip_prefix("{\"line\":")?.strip_suffix("\"}")?;
     let (number, rest) = members.split_once(",\"domain\":")?;
     let (_, facts) = rest.split_once(",\"rule\":\"N5\",\"status\":-8,\"source\":\"")?;
@@ -45,7 +45,7 @@ fn refusal_of_object<'t>(line: &'t str) -> Option<Refusal<'t>> {
 }
 
 // The refusal that an answer line tells: none of a line with another answer, or of an audit line.
-fn refusal_of<'t>(line: &'t str) -> Option<Refusal<'t>> {
+fn refusal_of<'t>(line: &'t str) -> Option<RefusedCall<'t>> {
     let (call, facts) = line.split_once(" N5 -8 source=")?;
     let (number, domain) = call.split_once(' ')?;
     if domain.contains(' ') {
@@ -60,9 +60,9 @@ fn push_statements(
     out: &mut Vec<u8>,
     file: &str,
     block: &str,
-    refusal: Refusal<'_>,
+    refusal: RefusedCall<'_>,
 ) -> Result<bool, AllocError> {
-    let question = Question {
+    let question = WhyQuestion {
         source: Some(refusal.source),
         target: Some(refusal.target),
         perm: refusal.perm,
@@ -90,10 +90,10 @@ fn push_triple(
     file: &str,
     number: usize,
     line: &str,
-    refusal: Refusal<'_>,
+    refusal: RefusedCall<'_>,
 ) -> Result<bool, AllocError> {
     let words = line_words(alloc, line)?;
-    let Some(Line::Triple(triple)) = read_line(words.as_slice()) else {
+    let Some(ScriptLine::Triple(triple)) = read_line(words.as_slice()) else {
         return Ok(false);
     };
     let has_target = triple.target.as_bytes() == refusal.target.as_bytes();
@@ -115,7 +115,7 @@ fn push_triples(
     out: &mut Vec<u8>,
     file: &str,
     lines: &[&str],
-    refusal: Refusal<'_>,
+    refusal: RefusedCall<'_>,
 ) -> Result<bool, AllocError> {
     let mut is_any = false;
     for (i, line) in lines.iter().enumerate() {
@@ -125,7 +125,7 @@ fn push_triples(
 }
 
 // Appends the first line about a refusal.
-fn push_refusal(out: &mut Vec<u8>, file: &str, refusal: Refusal<'_>) -> Result<(), AllocError> {
+fn push_refusal(out: &mut Vec<u8>, file: &str, refusal: RefusedCall<'_>) -> Result<(), AllocError> {
     push_text(out, file)?;
     push_text(out, ":")?;
     push_text(out, refusal.line)?;
@@ -145,7 +145,7 @@ fn push_near(
     file: &str,
     lines: &[&str],
     block: Option<&str>,
-    refusal: Refusal<'_>,
+    refusal: RefusedCall<'_>,
 ) -> Result<(), AllocError> {
     push_refusal(out, file, refusal)?;
     let is_any = match block {

@@ -4,11 +4,11 @@ ghost use Rattle.gt_reasons.specs.Reasons.{TellsAt};
 
 use crate::blocks::{block_text, has_policy};
 use crate::limits::{config_reason, mode_reason};
-use crate::reason::{Note, Reason};
+use crate::reason::{ReasonNote, Reason};
 use crate::syntax::syntax_reason;
 use crate::texts::push_heading;
 use crate::waits::stuck_reason;
-use gt_advice::{Finding, Kind, check};
+use gt_advice::{Finding, FindingKind, check};
 use gt_lines::text_lines;
 use gt_script::{BlockFault, ScriptFault, ScriptFaultKind};
 use gt_streams::text_of;
@@ -17,7 +17,7 @@ use gt_types::LONGEST_TEXT;
 use std::alloc::{AllocError, Global};
 
 // A reason that is about a whole line.
-fn said(alloc: Global, text: &str) -> Result<Reason, AllocError> {
+fn reason_of(alloc: Global, text: &str) -> Result<Reason, AllocError> {
     let mut message = Vec::new(alloc);
     push_text(&mut message, text)?;
     Ok(Reason::at(1, message))
@@ -33,7 +33,7 @@ fn limit_reason(alloc: Global) -> Result<Reason, AllocError> {
 
 // The column of the first byte that is no UTF-8.
 fn utf8_reason(alloc: Global, input: &[u8]) -> Result<Reason, AllocError> {
-    let mut reason = said(alloc, "here stands a byte that is no UTF-8")?;
+    let mut reason = reason_of(alloc, "here stands a byte that is no UTF-8")?;
     if let Err(error) = str::from_utf8(input) {
         let front = &input[..error.valid_up_to()];
         let before = front
@@ -49,12 +49,12 @@ fn utf8_reason(alloc: Global, input: &[u8]) -> Result<Reason, AllocError> {
 // What a script lacks that comes to its end.
 fn end_reason(alloc: Global, lines: &[&str], kind: ScriptFaultKind) -> Result<Reason, AllocError> {
     if kind == ScriptFaultKind::Config {
-        return said(alloc, "a script has a line domain, and this one has none");
+        return reason_of(alloc, "a script has a line domain, and this one has none");
     }
     if has_policy(alloc, lines)? {
-        return said(alloc, "the policy block has no line end");
+        return reason_of(alloc, "the policy block has no line end");
     }
-    said(
+    reason_of(
         alloc,
         "a script begins with a policy block or a line triple, and this one has neither",
     )
@@ -122,11 +122,11 @@ pub fn push_script_reason(
 }
 
 // What is said beside an error, if this is a note.
-fn note_found(alloc: Global, finding: Option<&Finding>) -> Result<Option<Note>, AllocError> {
-    let Some(note) = finding.filter(|one| one.kind == Kind::Note) else {
+fn note_found(alloc: Global, finding: Option<&Finding>) -> Result<Option<ReasonNote>, AllocError> {
+    let Some(note) = finding.filter(|one| one.kind == FindingKind::Note) else {
         return Ok(None);
     };
-    Ok(Some(Note {
+    Ok(Some(ReasonNote {
         line: note.line as usize,
         column: note.column as usize,
         message: Vec::from_slice(alloc, note.message.as_slice())?,
@@ -136,7 +136,7 @@ fn note_found(alloc: Global, finding: Option<&Finding>) -> Result<Option<Note>, 
 // The error that was found in a policy block, and the note after it.
 fn reason_found(alloc: Global, found: &[Finding]) -> Result<Reason, AllocError> {
     let [error, others @ ..] = found else {
-        return said(alloc, "the policy block has a fault");
+        return reason_of(alloc, "the policy block has a fault");
     };
     Ok(Reason {
         column: error.column as usize,
@@ -152,7 +152,7 @@ pub fn block_reason(alloc: Global, input: &[u8]) -> Result<Reason, AllocError> {
     };
     let lines = text_lines(alloc, text)?;
     let Some(block) = block_text(alloc, lines.as_slice())? else {
-        return said(alloc, "the script has no policy block");
+        return reason_of(alloc, "the script has no policy block");
     };
     let Ok(found) = check(alloc, block.as_str()) else {
         return Err(AllocError);

@@ -8,7 +8,7 @@ use crate::misfit::fitting;
 use crate::reason::Reason;
 use crate::texts::push_word;
 use gt_advice::push_hint;
-use gt_lines::{Line, is, line_words, read_line};
+use gt_lines::{ScriptLine, is_word, line_words, read_line};
 use gt_streams::text_of;
 use gt_texts::push_text;
 use gt_types::Perms;
@@ -66,7 +66,7 @@ fn push_meant(
 ) -> Result<(), AllocError> {
     let mut names: Vec<&str> = Vec::new(alloc);
     for part in expected {
-        if is(part, "PERMISSION") {
+        if is_word(part, "PERMISSION") {
             for perm in Perms::EVERY {
                 names.push(perm.name())?;
             }
@@ -118,15 +118,15 @@ fn misfit_reason(alloc: Global, line: &str, words: &[&[u8]]) -> Result<Reason, A
 }
 
 // Where a line may stand, for one that stands elsewhere.
-fn place_of(line: &Line) -> &'static str {
+fn place_of(line: &ScriptLine) -> &'static str {
     match line {
-        Line::Triple(_) =>
+        ScriptLine::Triple(_) =>
             "a line triple stands before wear and all domains, and not beside a policy block",
-        Line::Wear(_) =>
+        ScriptLine::Wear(_) =>
             "a line wear stands once, after the policy block or the triples and before all domains",
-        Line::Domain(_) =>
+        ScriptLine::Domain(_) =>
             "a line domain stands after the policy block or the triples, and before all calls",
-        Line::Body { .. } => "a line of the body stands after a line domain",
+        ScriptLine::Body { .. } => "a line of the body stands after a line domain",
     }
 }
 
@@ -141,7 +141,7 @@ pub fn syntax_reason(alloc: Global, line: &str) -> Result<Reason, AllocError> {
     let words = line_words(alloc, line)?;
     if words
         .first()
-        .is_some_and(|word| is(word, "policy") || is(word, "end"))
+        .is_some_and(|word| is_word(word, "policy") || is_word(word, "end"))
     {
         return place_reason(
             alloc,

@@ -1,16 +1,16 @@
 //! Why a domain waits forever.
 use crate::columns::column_of;
-use crate::reason::{Note, Reason};
+use crate::reason::{ReasonNote, Reason};
 use crate::texts::push_word;
 use gt_advice::push_hint;
-use gt_lines::{is, line_words};
+use gt_lines::{is_word, line_words};
 use gt_streams::text_of;
 use gt_texts::{push_number, push_text};
 use std::alloc::{AllocError, Global};
 
 // A line by which a domain tells a flag.
 #[derive(Clone, Copy)]
-struct Teller<'t> {
+struct TellLine<'t> {
     number: usize,
     column: usize,
     domain: &'t [u8],
@@ -18,13 +18,13 @@ struct Teller<'t> {
 }
 
 // The lines by which domains tell flags.
-fn tellers<'t>(alloc: Global, lines: &[&'t str]) -> Result<Vec<Teller<'t>>, AllocError> {
+fn tellers<'t>(alloc: Global, lines: &[&'t str]) -> Result<Vec<TellLine<'t>>, AllocError> {
     let mut found = Vec::new(alloc);
     for (i, line) in lines.iter().enumerate() {
         let words = line_words(alloc, line)?;
         if let [tell, domain, flag] = words.as_slice() {
-            if is(tell, "tell") {
-                found.push(Teller {
+            if is_word(tell, "tell") {
+                found.push(TellLine {
                     number: i.saturating_add(1),
                     column: column_of(line.as_bytes(), 2),
                     domain,
@@ -37,7 +37,7 @@ fn tellers<'t>(alloc: Global, lines: &[&'t str]) -> Result<Vec<Teller<'t>>, Allo
 }
 
 // Appends a line by which the flag would be told.
-fn push_teller(out: &mut Vec<u8>, teller: &Teller) -> Result<(), AllocError> {
+fn push_teller(out: &mut Vec<u8>, teller: &TellLine) -> Result<(), AllocError> {
     push_text(out, "; line ")?;
     push_number(out, teller.number)?;
     push_text(out, " of domain ")?;
@@ -49,7 +49,7 @@ fn push_teller(out: &mut Vec<u8>, teller: &Teller) -> Result<(), AllocError> {
 fn push_untold(
     alloc: Global,
     out: &mut Vec<u8>,
-    tellers: &[Teller],
+    tellers: &[TellLine],
     flag: &[u8],
 ) -> Result<(), AllocError> {
     push_text(out, "; no line tells it")?;
@@ -71,7 +71,7 @@ fn push_tellers(
     out: &mut Vec<u8>,
     lines: &[&str],
     flag: &[u8],
-) -> Result<Option<Note>, AllocError> {
+) -> Result<Option<ReasonNote>, AllocError> {
     let tellers = tellers(alloc, lines)?;
     let mut note = None;
     for teller in tellers.iter().filter(|one| one.flag == flag) {
@@ -87,11 +87,11 @@ fn push_tellers(
 }
 
 // Says where a flag would be told.
-fn told_here(alloc: Global, teller: &Teller) -> Result<Note, AllocError> {
+fn told_here(alloc: Global, teller: &TellLine) -> Result<ReasonNote, AllocError> {
     let mut message = Vec::new(alloc);
     push_word(&mut message, teller.flag)?;
     push_text(&mut message, " is told here")?;
-    Ok(Note {
+    Ok(ReasonNote {
         line: teller.number,
         column: teller.column,
         message,

@@ -24,9 +24,9 @@ use Rattle.gt_core.specs.declared.trace.Element.{Element}
 use Rattle.gt_core.specs.declared.trace.Event.{Event}
 use Rattle.gt_core.specs.declared.trace.Event.TheVariants.{Begin, Tick}
 use Rattle.gt_lines.specs.declared.calls.ScriptCall.{ScriptCall}
-use Rattle.gt_script.specs.Lists.{Deed, Task}
+use Rattle.gt_script.specs.Lists.{RunAction, RunTask}
 use Rattle.gt_script.specs.Stuck.{AreNumbered, IsBelow}
-use Rattle.gt_script.specs.declared.tasks.DeedBy.TheVariants.{Do}
+use Rattle.gt_script.specs.declared.tasks.RunActionBy.TheVariants.{Do}
 use Rattle.gt_host.specs.Naming.{AreNamed}
 use Rattle.gt_host.specs.Printing.{answer_line, call_text}
 use Rattle.gt_host.specs.Runs.{SaysRequest, answer_in, handle_given, label_given, with_name}
@@ -34,13 +34,13 @@ use Rattle.gt_host.proofs.AlikeLemmas.{text-same}
 use Rattle.gt_replay.specs.Orders.{Happening, did, given_up}
 use Rattle.gt_replay.specs.Walking.{AnswersLine, ClosesCall, IsClosedFrom, tasks_left, tasks_left_of}
 use Rattle.gt_replay.specs.Courses.{Opened, resting, calling, giving, Course, course_after, course_answered, back_after}
-use Rattle.gt_replay.specs.Courses.{DeedLeads, GivesAt, RestLeads, OpenLeads, CourseLeads}
+use Rattle.gt_replay.specs.Courses.{ActionLeads, GivesAt, RestLeads, OpenLeads, CourseLeads}
 use Rattle.gt_replay.specs.Making.{IsBegunFrom, BeginsLine, IsTickedFrom, TicksOpen, IsGivenFrom, GivesBackAt}
 use Rattle.gt_replay.specs.Abreast.{history_in, SameNames, SameHandles, IsDoingSo, HaveAnswered, WereAnswered, IsOpenSo}
 use Rattle.gt_replay.specs.Abreast.{WalksAbreast, CanComeNext}
 use Rattle.gt_replay.specs.declared.replay.Moved.{Moved}
-use Rattle.gt_replay.specs.declared.walker.Doing.{Doing}
-use Rattle.gt_replay.specs.declared.walker.Doing.TheVariants as doing
+use Rattle.gt_replay.specs.declared.walker.OpenTask.{OpenTask}
+use Rattle.gt_replay.specs.declared.walker.OpenTask.TheVariants as doing
 use Rattle.gt_replay.specs.declared.walker.Walker.{Walker}
 use Rattle.gt_replay.proofs.Alike.{DoAlike, asks_alike, asks_answered, begins_alike, held_alike, held_answered, held_at}
 use Rattle.gt_replay.proofs.Alike.{held_grown, held_here, held_left, left_alike, names_alike, names_grown, names_more}
@@ -50,10 +50,10 @@ use Rattle.gt_replay.proofs.Places.{drop_all, drop_next}
 
 -- tasks that are numbered
 
-pub numbered_first : (n : ℕ) (t : Task) (ts : List Task) → AreNumbered n (t ∷ ts) → IsBelow n t.deed
+pub numbered_first : (n : ℕ) (t : RunTask) (ts : List RunTask) → AreNumbered n (t ∷ ts) → IsBelow n t.deed
 numbered_first n t ts all = all 0 t (omega arith)
 
-pub numbered_rest : (n : ℕ) (t : Task) (ts : List Task) → AreNumbered n (t ∷ ts) → AreNumbered n ts
+pub numbered_rest : (n : ℕ) (t : RunTask) (ts : List RunTask) → AreNumbered n (t ∷ ts) → AreNumbered n ts
 numbered_rest n t ts all = λ k u lt. all (suc k) u (omega arith)
 
 -- one domain
@@ -62,7 +62,7 @@ line_alike : (types : List (List ℕ)) (line : ℕ) (dom : DomId) (a b : Answer)
 line_alike types line dom a b told = ap (λ (l : List ℕ). call_text line dom ++ l ++ codes "\n") (text-same types a b told)
 
 -- a domain has this open from here on, or nothing, and holds these
-goes_on : (n : ℕ) (s : Setting) (g h : History) (k : Course) (v w : Walker) (left : List Task) (kept : List Handle) (o : Opened) (x y : Element)
+goes_on : (n : ℕ) (s : Setting) (g h : History) (k : Course) (v w : Walker) (left : List RunTask) (kept : List Handle) (o : Opened) (x y : Element)
     → WalksAbreast n g h k v → IsOpenSo (grown g x) k.dom.0 o → IsDoingSo w.doing o → tasks_left w ≡ left → AreNumbered n left
     → w.dom ≡ v.dom → w.labels ≡ v.labels → w.text.items ≡ v.text.items
     → SameHandles kept w.held.items → WereAnswered g k.dom.0 kept → WereAnswered h k.dom.0 w.held.items
@@ -85,7 +85,7 @@ goes_on n s g h k v w left kept o x y walks opens does tasks numbered dom labels
 }
 
 -- the call of a line has its answer
-goes_answered : (n : ℕ) (s : Setting) (g h : History) (types : List (List ℕ)) (k : Course) (v w : Walker) (next : ℕ) (left : List Task) (line : ℕ) (call : ScriptCall) (lost freed : Option Handle) (x y : Element) (a b : Answer)
+goes_answered : (n : ℕ) (s : Setting) (g h : History) (types : List (List ℕ)) (k : Course) (v w : Walker) (next : ℕ) (left : List RunTask) (line : ℕ) (call : ScriptCall) (lost freed : Option Handle) (x y : Element) (a b : Answer)
     → WalksAbreast n g h k v → DoAlike s g h k.dom.0 x y → answer_in x ≡ Some a → answer_in y ≡ Some b → told_part a ≡ told_part b
     → AnswersLine types line call lost b (record v { next = next }) w → tasks_left (record v { next = next }) ≡ left → AreNumbered n left → option_map bare_handle freed ≡ option_map bare_handle lost
     → WalksAbreast n (grown g x) (grown h y) (course_answered types line call freed (record k { tasks = left }) a) w
@@ -93,7 +93,7 @@ goes_answered n s g h types k v w next left line call lost freed x y a b walks b
   dom = answers.dom ∙ walks.dom;
   tasks = left_same (record v { next = next }) w answers.tasks answers.next ∙ tasks;
   numbered = numbered;
-  doing = subst (λ (d : Doing). IsDoingSo d resting) (sym answers.doing) tt;
+  doing = subst (λ (d : OpenTask). IsDoingSo d resting) (sym answers.doing) tt;
   opened = both.over a mine;
   names = with_name walks.names v.dom (label_given call) (handle_given b);
   named = answers.named walks.names walks.named;
@@ -115,7 +115,7 @@ goes_answered n s g h types k v w next left line call lost freed x y a b walks b
 }
 
 -- a domain goes past a flag
-pub goes_past : (n : ℕ) (g h : History) (k : Course) (v : Walker) (left : List Task) → WalksAbreast n g h k v → tasks_left (record v { next = v.next + 1 }) ≡ left → AreNumbered n left
+pub goes_past : (n : ℕ) (g h : History) (k : Course) (v : Walker) (left : List RunTask) → WalksAbreast n g h k v → tasks_left (record v { next = v.next + 1 }) ≡ left → AreNumbered n left
     → WalksAbreast n g h (record k { tasks = left }) (record v { next = v.next + 1 })
 goes_past n g h k v left walks tasks numbered = record {
   dom = walks.dom;
@@ -188,7 +188,7 @@ given_bare q = refl
 given_alike : (q r : Request) → bare_request q ≡ bare_request r → option_map bare_handle (given_up q) ≡ option_map bare_handle (given_up r)
 given_alike q r same = given_bare q ∙ ap given_up same ∙ sym (given_bare r)
 
-pub rests : (d : Doing) (o : Opened) → d ≡ doing.Nothing → IsDoingSo d o → o ≡ resting
+pub rests : (d : OpenTask) (o : Opened) → d ≡ doing.Nothing → IsDoingSo d o → o ≡ resting
 rests doing.Nothing resting is so = refl
 rests doing.Nothing (calling number asked freed) is so = absurd so
 rests doing.Nothing giving is so = absurd so
@@ -196,28 +196,28 @@ rests (doing.Line line call lost) o is so = absurd (cc)
 rests doing.GivesBack o is so = absurd (cc)
 
 -- at its next line, a domain at rest does what the line says
-pub line_leads : (n : ℕ) (g h : History) (types : List (List ℕ)) (k j : Course) (v : Walker) (task : Task) (choice : ℕ) (x : Happening)
+pub line_leads : (n : ℕ) (g h : History) (types : List (List ℕ)) (k j : Course) (v : Walker) (task : RunTask) (choice : ℕ) (x : Happening)
     → WalksAbreast n g h k v → v.doing ≡ doing.Nothing → slice_get (tasks_left_of v) v.next ≡ Some task → CourseLeads types k choice x j
-    → DeedLeads types k task.line (drop (v.next + 1) (tasks_left_of v)) task.deed x j
+    → ActionLeads types k task.line (drop (v.next + 1) (tasks_left_of v)) task.deed x j
 line_leads n g h types k j v task choice x walks idle at leads =
     let one = subst (λ (o : Opened). OpenLeads types k o choice x j) (rests v.doing k.opened idle walks.doing) leads in
-    let two = subst (λ (l : List Task). RestLeads types k l choice x j) (sym walks.tasks ∙ drop_next (tasks_left_of v) v.next task at) one in
+    let two = subst (λ (l : List RunTask). RestLeads types k l choice x j) (sym walks.tasks ∙ drop_next (tasks_left_of v) v.next task at) one in
     two.1
 
-pub left_numbered : (n : ℕ) (g h : History) (k : Course) (v : Walker) (task : Task) → WalksAbreast n g h k v → slice_get (tasks_left_of v) v.next ≡ Some task
+pub left_numbered : (n : ℕ) (g h : History) (k : Course) (v : Walker) (task : RunTask) → WalksAbreast n g h k v → slice_get (tasks_left_of v) v.next ≡ Some task
     → IsBelow n task.deed × AreNumbered n (drop (v.next + 1) (tasks_left_of v))
 left_numbered n g h k v task walks at =
-    let all = subst (λ (l : List Task). AreNumbered n l) (sym walks.tasks ∙ drop_next (tasks_left_of v) v.next task at) walks.numbered in
+    let all = subst (λ (l : List RunTask). AreNumbered n l) (sym walks.tasks ∙ drop_next (tasks_left_of v) v.next task at) walks.numbered in
     (numbered_first n task (drop (v.next + 1) (tasks_left_of v)) all, numbered_rest n task (drop (v.next + 1) (tasks_left_of v)) all)
 
 -- the beginning of a line's call
-pub begin_came : (n : ℕ) (s : Setting) (types : List (List ℕ)) (hs : List Happening) (h : History) (k j : Course) (v w : Walker) (task : Task) (call : Bor ScriptCall) (choice : ℕ) (x : Happening) (m : Option Moved) (old new : CoreState)
+pub begin_came : (n : ℕ) (s : Setting) (types : List (List ℕ)) (hs : List Happening) (h : History) (k j : Course) (v w : Walker) (task : RunTask) (call : Bor ScriptCall) (choice : ℕ) (x : Happening) (m : Option Moved) (old new : CoreState)
     → WalksAbreast n (history_in hs) h k v → AreAlike s (history_in hs) h → CoreStands s h old → domain_of s.domains k.dom ≢ None
     → slice_get (tasks_left_of v) v.next ≡ Some task → task.deed ≡ Do call.now → v.doing ≡ doing.Nothing
     → CourseLeads types k choice x j → CanComeNext s hs x → BeginsLine s types old v task call m new w → Came n s (history_in hs) h k j x m new w
 begin_came n s types hs h k j v w task call choice x m old new walks alike stands there at does idle leads may (r, b, asks, makes, from) =
     let left = left_numbered n (history_in hs) h k v task walks at in
-    let deed = subst (λ (d : Deed). DeedLeads types k task.line (drop (v.next + 1) (tasks_left_of v)) d x j) does (line_leads n (history_in hs) h types k j v task choice x walks idle at leads) in
+    let deed = subst (λ (d : RunAction). ActionLeads types k task.line (drop (v.next + 1) (tasks_left_of v)) d x j) does (line_leads n (history_in hs) h types k j v task choice x walks idle at leads) in
     let q = deed.0 in
     let e = deed.1 in
     let theirs = subst (λ (d : DomId). SaysRequest walks.names d call.now r) walks.dom (asks walks.names walks.named) in
@@ -354,7 +354,7 @@ tick_came n s types hs h k j v w choice x m old new walks alike stands there bus
     back (ticked.Done step seen b) e opened does is to alike_now stood from =
         let some = some_told (answer_in e) b alike_now.told in
         let next = to ∙ ap (λ (o : Option Answer). back_after k o) some.1 in
-        let closed = subst (λ (d : Doing). IsClosedFrom types d b v w) does from.1 in
+        let closed = subst (λ (d : OpenTask). IsClosedFrom types d b v w) does from.1 in
         record {
           moved = from.0;
           event = Tick k.dom;
@@ -374,14 +374,14 @@ tick_came n s types hs h k j v w choice x m old new walks alike stands there bus
     back ticked.Idle e opened does is to alike_now stood from = absurd (let done = alike_now.done in cc)
     back ticked.NoDomain e opened does is to alike_now stood from = absurd (let done = alike_now.done in cc)
 
-    closes_line : (number : ℕ) (asked : ScriptCall) (d : Doing) (l : ℕ) (call : Bor ScriptCall) (lost : Option Handle) → v.doing ≡ d → d ≡ doing.Line l call lost → l ≡ number → call.now ≡ asked
+    closes_line : (number : ℕ) (asked : ScriptCall) (d : OpenTask) (l : ℕ) (call : Bor ScriptCall) (lost : Option Handle) → v.doing ≡ d → d ≡ doing.Line l call lost → l ≡ number → call.now ≡ asked
         → (b : Answer) → ClosesCall types b v w → AnswersLine types number asked lost b v w
     closes_line number asked d l call lost is line_is same_line same_call b closed =
-        let one : AnswersLine types l call.now lost b v w = subst (λ (z : Doing). IsClosedFrom types z b v w) (is ∙ line_is) closed in
+        let one : AnswersLine types l call.now lost b v w = subst (λ (z : OpenTask). IsClosedFrom types z b v w) (is ∙ line_is) closed in
         let two = subst (λ (i : ℕ). AnswersLine types i call.now lost b v w) same_line one in
         subst (λ (i : ScriptCall). AnswersLine types number i lost b v w) same_call two
 
-    by : (d : Doing) (o : Opened) (t : Ticked) → v.doing ≡ d → k.opened ≡ o → IsDoingSo d o → OpenLeads types k o choice x j
+    by : (d : OpenTask) (o : Opened) (t : Ticked) → v.doing ≡ d → k.opened ≡ o → IsDoingSo d o → OpenLeads types k o choice x j
         → MayDo s h (Tick v.dom) (ticked_element v.dom t) × CoreStands s (grown h (ticked_element v.dom t)) new → IsTickedFrom types v t m w → Came n s (history_in hs) h k j x m new w
     by doing.Nothing o t is opened so leads_on made from = absurd (busy is)
     by (doing.Line l call lost) resting t is opened so leads_on made from = absurd so
@@ -403,7 +403,7 @@ pub give_came : (n : ℕ) (s : Setting) (types : List (List ℕ)) (hs : List Hap
     → CourseLeads types k choice x j → CanComeNext s hs x → GivesBackAt s old v choice m new w → Came n s (history_in hs) h k j x m new w
 give_came n s types hs h k j v w choice x m old new walks alike stands there end idle leads may gives =
     let one = subst (λ (o : Opened). OpenLeads types k o choice x j) (rests v.doing k.opened idle walks.doing) leads in
-    let gave : GivesAt k choice x j = subst (λ (l : List Task). RestLeads types k l choice x j) (sym walks.tasks ∙ drop_all (tasks_left_of v) v.next end) one in
+    let gave : GivesAt k choice x j = subst (λ (l : List RunTask). RestLeads types k l choice x j) (sym walks.tasks ∙ drop_all (tasks_left_of v) v.next end) one in
     let (handle, e, at, is, done, to) = gave in
     let (other, here, same) = held_at k.held v.held.items choice handle walks.held at in
     let (b, makes, from) = gives other here in
@@ -433,7 +433,7 @@ give_came n s types hs h k j v w choice x m old new walks alike stands there end
           walks =
               subst (λ (i : Course). WalksAbreast n (grown (history_in hs) e) (grown h (begun_element v.dom (Unmap other) begun.Open)) i w) (sym next)
               (goes_on n s (history_in hs) h k v w k.tasks (take choice k.held ++ drop (suc choice) k.held) giving e (begun_element v.dom (Unmap other) begun.Open)
-              walks (both.goes none) (subst (λ (d : Doing). IsDoingSo d giving) (sym (ap (λ (u : Walker). u.doing) same)) tt)
+              walks (both.goes none) (subst (λ (d : OpenTask). IsDoingSo d giving) (sym (ap (λ (u : Walker). u.doing) same)) tt)
               (left_same v w (ap (λ (u : Walker). u.tasks.items) same) (ap (λ (u : Walker). u.next) same) ∙ walks.tasks) walks.numbered
               (ap (λ (u : Walker). u.dom) same) (ap (λ (u : Walker). u.labels) same) (ap (λ (u : Walker). u.text.items) same) held
               (held_left (history_in hs) k.dom.0 choice k.held walks.kept)

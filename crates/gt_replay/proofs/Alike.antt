@@ -19,8 +19,8 @@ use Rattle.gt_core.specs.declared.trace.Answer.TheVariants as answers
 use Rattle.gt_core.specs.declared.trace.Element.{Element}
 use Rattle.gt_core.specs.declared.trace.Element.TheVariants as elements
 use Rattle.gt_core.specs.declared.trace.Event.TheVariants.{Begin, Tick}
-use Rattle.gt_core.specs.declared.trace.Happened.{Happened}
-use Rattle.gt_core.specs.declared.trace.Happened.TheVariants.{Began, Stepped}
+use Rattle.gt_core.specs.declared.trace.ItemEvent.{ItemEvent}
+use Rattle.gt_core.specs.declared.trace.ItemEvent.TheVariants.{Began, Stepped}
 use Rattle.gt_core.specs.declared.trace.Item.{Item}
 use Rattle.gt_core.proofs.AlikeRuns.{does-alike, alike-grows}
 use Rattle.gt_lines.specs.declared.calls.ScriptCall.{ScriptCall}
@@ -172,11 +172,11 @@ held_here h d (suc n) (x ∷ xs) handle at g = held_here h d n xs handle at g.1
 
 -- calls that are open
 
-after_none : (actor : DomId) (x : Happened) (a : Option Answer) (c : Option Underway) → a ≡ None → underway_after (record { actor = actor; happened = x; answer = a }) c ≡ underway_with x c
+after_none : (actor : DomId) (x : ItemEvent) (a : Option Answer) (c : Option Underway) → a ≡ None → underway_after (record { actor = actor; happened = x; answer = a }) c ≡ underway_with x c
 after_none actor x None c e = refl
 after_none actor x (Some a) c e = absurd (none-some a (sym e))
 
-after_some : (actor : DomId) (x : Happened) (a : Option Answer) (b : Answer) (c : Option Underway) → a ≡ Some b → underway_after (record { actor = actor; happened = x; answer = a }) c ≡ None
+after_some : (actor : DomId) (x : ItemEvent) (a : Option Answer) (b : Answer) (c : Option Underway) → a ≡ Some b → underway_after (record { actor = actor; happened = x; answer = a }) c ≡ None
 after_some actor x None b c e = absurd (none-some b e)
 after_some actor x (Some a) b c e = refl
 
@@ -191,12 +191,12 @@ other_call h i d other = ap (λ (b : Bool). cond b (underway_after i (open_call 
 some_none : {A : Type 0} (x : A) (o : Option A) → o ≡ Some x → o ≢ None
 some_none x o is = λ none. none-some x (sym none ∙ is)
 
-with_some : (x : Happened) (c : Option Underway) → c ≢ None → underway_with x c ≢ None
+with_some : (x : ItemEvent) (c : Option Underway) → c ≢ None → underway_with x c ≢ None
 with_some (Began q) c some = λ e. none-some _ (sym e)
 with_some (Stepped step seen) None some = absurd (some refl)
 with_some (Stepped step seen) (Some c) some = λ e. none-some _ (sym e)
 
-began_some : (x : Happened) (q : Request) (c : Option Underway) → x ≡ Began q → underway_with x c ≢ None
+began_some : (x : ItemEvent) (q : Request) (c : Option Underway) → x ≡ Began q → underway_with x c ≢ None
 began_some (Began r) q c e = λ f. none-some _ (sym f)
 began_some (Stepped step seen) q c e = absurd (cc)
 

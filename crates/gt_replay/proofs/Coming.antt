@@ -10,7 +10,7 @@ use Rattle.std.proofs.lemmas.Option.{none-some, same_Some, slice_get_within, sli
 use Rattle.std.specs.Option.{option_map}
 use Rattle.std.specs.Prelude.{◌==◌, slice_get, All, AllPairs, IfOk, IsSome, Result, Ok, Err}
 use Rattle.gt_types.specs.declared.config.Config.{Config}
-use Rattle.gt_host.specs.declared.rights.Rights.{Rights}
+use Rattle.gt_host.specs.declared.rights.ScriptPolicy.{ScriptPolicy}
 use Rattle.gt_replay.specs.declared.replay.Moved.{Moved}
 use Rattle.gt_types.specs.Names.{domain_of}
 use Rattle.gt_types.specs.declared.DomId.{DomId}
@@ -282,4 +282,4 @@ pub comes_made : {E : Type 0} (c : RunContents) (hs : List Happening) (r q : Rep
 comes_made c hs r q place v w names (Err e) come at typed config rights types walkers told made = tt
 comes_made c hs r q place v w names (Ok m) come at typed config rights types walkers told made = λ some.
     comes_by c hs r q place v w come at (subst (λ (l : List (List ℕ)). WalksTo (setting_in may_by r.core) l r.core.state v q.core.state w) typed (made some))
-    (ap (λ (x : Config). setting_of x (may_by q.core.rights)) config ∙ ap (λ (x : Rights). setting_of r.core.config (may_by x)) rights) types walkers told
+    (ap (λ (x : Config). setting_of x (may_by q.core.rights)) config ∙ ap (λ (x : ScriptPolicy). setting_of r.core.config (may_by x)) rights) types walkers told

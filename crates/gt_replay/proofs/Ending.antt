@@ -11,11 +11,11 @@ use Rattle.gt_handles.specs.declared.handles.Handle.{Handle}
 use Rattle.gt_script.specs.Contents.{type_names}
 use Rattle.gt_script.specs.RunContents.{RunContents}
 use Rattle.gt_script.specs.RunScripts.{list_of}
-use Rattle.gt_script.specs.Lists.{Task}
+use Rattle.gt_script.specs.Lists.{RunTask}
 use Rattle.gt_replay.specs.Orders.{Happening, own_happenings, AllFollow, FollowsList, IsOrderOf, MayGive}
 use Rattle.gt_replay.specs.Walking.{Continues, HasWalked, HasFollowed, IsAtEnd, tasks_left_of}
 use Rattle.gt_replay.specs.declared.replay.Replay.{Replay}
-use Rattle.gt_replay.specs.declared.walker.Doing.{Doing}
+use Rattle.gt_replay.specs.declared.walker.OpenTask.{OpenTask}
 use Rattle.gt_replay.specs.declared.walker.Walker.{Walker}
 use Rattle.gt_replay.proofs.Places.{drop_all}
 
@@ -25,8 +25,8 @@ unfolding Continues
 finished c hs w (named, names, follows) end =
     let nothing : FollowsList (type_names c.head) w.dom named [] [] [] [] = ([], (refl, refl), refl) in
     let held = subst (λ (l : List Handle). FollowsList (type_names c.head) w.dom named l [] [] []) (sym end.held) nothing in
-    let left = subst (λ (l : List Task). FollowsList (type_names c.head) w.dom named w.held.items l [] []) (sym (drop_all (tasks_left_of w) w.next end.left)) held in
-    let still = subst (λ (d : Doing). Continues (type_names c.head) w named d [] []) (sym end.doing) left in
+    let left = subst (λ (l : List RunTask). FollowsList (type_names c.head) w.dom named w.held.items l [] []) (sym (drop_all (tasks_left_of w) w.next end.left)) held in
+    let still = subst (λ (d : OpenTask). Continues (type_names c.head) w named d [] []) (sym end.doing) left in
     let one = follows [] [] still in
     let two = subst (λ (l : List Happening). FollowsList (type_names c.head) w.dom [] [] (list_of c.tasks w.dom) l (w.text.items ++ [])) (append-nil (own_happenings w.dom hs)) one in
     subst (λ (l : List ℕ). FollowsList (type_names c.head) w.dom [] [] (list_of c.tasks w.dom) (own_happenings w.dom hs) l) (append-nil w.text.items) two

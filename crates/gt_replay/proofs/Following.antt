@@ -19,7 +19,7 @@ use Rattle.gt_core.specs.Standing.{CoreStands}
 use Rattle.gt_core.specs.declared.trace.Element.{Element}
 use Rattle.gt_core.specs.declared.trace.Event.{Event}
 use Rattle.gt_script.specs.Contents.{type_names}
-use Rattle.gt_script.specs.Lists.{Task}
+use Rattle.gt_script.specs.Lists.{RunTask}
 use Rattle.gt_script.specs.RunContents.{RunContents}
 use Rattle.gt_script.specs.RunScripts.{list_of}
 use Rattle.gt_script.specs.Stuck.{AreNumbered, IsBelow}
@@ -32,8 +32,8 @@ use Rattle.gt_replay.specs.Abreast.{IsDoingSo, WereAnswered, WalksAbreast, CanCo
 use Rattle.gt_replay.specs.declared.replay.Moved.{Moved}
 use Rattle.gt_replay.specs.declared.replay.Replay.{Replay}
 use Rattle.gt_replay.specs.declared.replay.Turn.{Turn}
-use Rattle.gt_replay.specs.declared.walker.Doing.{Doing}
-use Rattle.gt_replay.specs.declared.walker.Doing.TheVariants as doing
+use Rattle.gt_replay.specs.declared.walker.OpenTask.{OpenTask}
+use Rattle.gt_replay.specs.declared.walker.OpenTask.TheVariants as doing
 use Rattle.gt_replay.specs.declared.walker.Walker.{Walker}
 use Rattle.gt_replay.proofs.Coming.{domain_at, mapped_back}
 use Rattle.gt_replay.proofs.Places.{drop_all, drop_next, get_left}
@@ -51,8 +51,8 @@ unfolding open_call
 first_abreast c n d w first is numbered = record {
   dom = sym is;
   tasks = ap (λ (m : ℕ). drop m (tasks_left_of w)) first.next ∙ first.list ∙ ap (list_of c.tasks) (sym is);
-  numbered = All-filter (λ (t : Task). t.dom.0 == d.id.0) (λ (t : Task). IsBelow n t.deed) c.tasks numbered;
-  doing = subst (λ (x : Doing). IsDoingSo x resting) (sym first.doing) tt;
+  numbered = All-filter (λ (t : RunTask). t.dom.0 == d.id.0) (λ (t : RunTask). IsBelow n t.deed) c.tasks numbered;
+  doing = subst (λ (x : OpenTask). IsDoingSo x resting) (sym first.doing) tt;
   opened = refl;
   names = [];
   named = first.labels;
@@ -113,7 +113,7 @@ bare_none : (held : List Handle) → [] ≡ map bare_handle held → held ≡ []
 bare_none [] e = refl
 bare_none (x ∷ xs) e = absurd (cc)
 
-idle_of : (d : Doing) → IsDoingSo d resting → d ≡ doing.Nothing
+idle_of : (d : OpenTask) → IsDoingSo d resting → d ≡ doing.Nothing
 idle_of doing.Nothing so = refl
 idle_of (doing.Line line call lost) so = absurd so
 idle_of doing.GivesBack so = absurd so

@@ -14,9 +14,9 @@ use Rattle.gt_handles.specs.declared.handles.Handle.{Handle}
 use Rattle.gt_calls.specs.Asking.{asked, begun_of}
 use Rattle.gt_calls.specs.Rules.{CallerKnowledge, denied, first, refused_when, rights_to_unmap, unmap_begun}
 use Rattle.gt_calls.specs.Rules.{unmap_denied}
-use Rattle.gt_calls.specs.declared.held.Held.{Held}
-use Rattle.gt_calls.specs.declared.action.Verdict.{Verdict}
-use Rattle.gt_calls.specs.declared.action.Verdict.TheVariants.{Refused}
+use Rattle.gt_calls.specs.declared.held.HeldPin.{HeldPin}
+use Rattle.gt_calls.specs.declared.action.CallResult.{CallResult}
+use Rattle.gt_calls.specs.declared.action.CallResult.TheVariants.{Refused}
 use Rattle.gt_calls.specs.declared.request.Request.{Request}
 use Rattle.gt_calls.specs.declared.request.Request.TheVariants.{Unmap}
 use Rattle.gt_core.specs.Acting.{begun_element, ticked_element}
@@ -33,10 +33,10 @@ use Rattle.gt_core.specs.declared.trace.Answer.TheVariants as answers
 use Rattle.gt_core.specs.declared.trace.Element.{Element}
 use Rattle.gt_core.specs.declared.trace.Element.TheVariants as elements
 use Rattle.gt_core.specs.declared.trace.Event.TheVariants.{Begin, Tick}
-use Rattle.gt_core.specs.declared.trace.Happened.{Happened}
-use Rattle.gt_core.specs.declared.trace.Happened.TheVariants.{Began, Stepped}
+use Rattle.gt_core.specs.declared.trace.ItemEvent.{ItemEvent}
+use Rattle.gt_core.specs.declared.trace.ItemEvent.TheVariants.{Began, Stepped}
 use Rattle.gt_core.specs.declared.trace.Item.{Item}
-use Rattle.gt_script.specs.Lists.{Task}
+use Rattle.gt_script.specs.Lists.{RunTask}
 use Rattle.gt_host.specs.Runs.{answer_in}
 use Rattle.gt_replay.specs.Orders.{Happening}
 use Rattle.gt_replay.specs.Walking.{tasks_left_of}
@@ -44,8 +44,8 @@ use Rattle.gt_replay.specs.Courses.{Opened, resting, calling, giving, Course, Is
 use Rattle.gt_replay.specs.Courses.{CourseLeads}
 use Rattle.gt_replay.specs.Making.{StartKeeps, StepKeeps}
 use Rattle.gt_replay.specs.Abreast.{history_in, IsDoingSo, IsOpenSo, WalksAbreast, CanComeNext}
-use Rattle.gt_replay.specs.declared.walker.Doing.{Doing}
-use Rattle.gt_replay.specs.declared.walker.Doing.TheVariants as doing
+use Rattle.gt_replay.specs.declared.walker.OpenTask.{OpenTask}
+use Rattle.gt_replay.specs.declared.walker.OpenTask.TheVariants as doing
 use Rattle.gt_replay.specs.declared.walker.Walker.{Walker}
 use Rattle.gt_replay.proofs.Abreast.{rests, some_told}
 use Rattle.gt_replay.proofs.Alike.{begins_alike, held_at, held_here, ticks_alike}
@@ -53,7 +53,7 @@ use Rattle.gt_replay.proofs.Places.{drop_all}
 
 -- an unmap is not answered Ok at its beginning
 
-denied_refuses : (may : TypeId → TypeId → Perms → Bool) (ts : List Triple) (v : Verdict) → denied may ts ≡ Some v → (d : Denial) × (v ≡ Refused d)
+denied_refuses : (may : TypeId → TypeId → Perms → Bool) (ts : List Triple) (v : CallResult) → denied may ts ≡ Some v → (d : Denial) × (v ≡ Refused d)
 denied_refuses may [] v e = absurd (none-some v e)
 denied_refuses may (t ∷ ts) v e = by (may t.source t.target t.perm) _ (denied_refuses may ts v) e
   where
@@ -61,32 +61,32 @@ denied_refuses may (t ∷ ts) v e = by (may t.source t.target t.perm) _ (denied_
     by true d rest e = rest e
     by false d rest e = (d, sym (same_Some (Refused d) v e))
 
-first_one : (o : Option Verdict) (v : Verdict) → first (o ∷ []) ≡ Some v → o ≡ Some v
+first_one : (o : Option CallResult) (v : CallResult) → first (o ∷ []) ≡ Some v → o ≡ Some v
 first_one None v e = e
 first_one (Some w) v e = e
 
-unmap_refuses : (k : CallerKnowledge) (d : DomId) (handle : Handle) (v : Verdict) → unmap_begun k d handle ≡ Some v → (x : Denial) × (v ≡ Refused x)
+unmap_refuses : (k : CallerKnowledge) (d : DomId) (handle : Handle) (v : CallResult) → unmap_begun k d handle ≡ Some v → (x : Denial) × (v ≡ Refused x)
 unmap_refuses k d handle v = by (k.mapping handle)
   where
-    by : (m : Option Held) → first (refused_when (is_none m) N6 ∷ unmap_denied k d m ∷ []) ≡ Some v → (x : Denial) × (v ≡ Refused x)
+    by : (m : Option HeldPin) → first (refused_when (is_none m) N6 ∷ unmap_denied k d m ∷ []) ≡ Some v → (x : Denial) × (v ≡ Refused x)
     by None e = (_, sym (same_Some _ v e))
     by (Some held) e = denied_refuses k.may (rights_to_unmap k d held.dom) v (first_one (denied k.may (rights_to_unmap k d held.dom)) v e)
 
-answered_otherwise : (s : Setting) (h : History) (d actor : DomId) (handle : Handle) (o : Option Verdict) (given : Option Answer) (a : Answer) (against : Option Denial)
-    → ((v : Verdict) → o ≡ Some v → (x : Denial) × (v ≡ Refused x)) → AnsweredBy s h actor (asked (Unmap handle)) None false o given against → given ≡ Some a → a ≢ answers.Done
+answered_otherwise : (s : Setting) (h : History) (d actor : DomId) (handle : Handle) (o : Option CallResult) (given : Option Answer) (a : Answer) (against : Option Denial)
+    → ((v : CallResult) → o ≡ Some v → (x : Denial) × (v ≡ Refused x)) → AnsweredBy s h actor (asked (Unmap handle)) None false o given against → given ≡ Some a → a ≢ answers.Done
 answered_otherwise s h d actor handle o None a against refuses answered is = absurd (none-some a is)
 answered_otherwise s h d actor handle None (Some given) a against refuses answered is = absurd answered
 answered_otherwise s h d actor handle (Some v) (Some given) a against refuses answered is =
     let refused = refuses v refl in
     λ done. none-some refused.0 (
-    sym (ap refusal_of (same_Some given a is ∙ done)) ∙ answered.0 ∙ ap (λ (x : Verdict). refusal_in (Some x)) refused.1
+    sym (ap refusal_of (same_Some given a is ∙ done)) ∙ answered.0 ∙ ap (λ (x : CallResult). refusal_in (Some x)) refused.1
     )
 
-begins_otherwise : (s : Setting) (h : History) (handle : Handle) (i : Item) (x : Happened) (a : Answer) → i.happened ≡ x → x ≡ Began (Unmap handle) → IsRight s h i → i.answer ≡ Some a → a ≢ answers.Done
+begins_otherwise : (s : Setting) (h : History) (handle : Handle) (i : Item) (x : ItemEvent) (a : Answer) → i.happened ≡ x → x ≡ Began (Unmap handle) → IsRight s h i → i.answer ≡ Some a → a ≢ answers.Done
 begins_otherwise s h handle i x a same is right answer =
     by i.actor i.happened i.answer (same ∙ is) right answer
   where
-    by : (actor : DomId) (y : Happened) (given : Option Answer) → y ≡ Began (Unmap handle) → IsRight s h (record { actor = actor; happened = y; answer = given }) → given ≡ Some a → a ≢ answers.Done
+    by : (actor : DomId) (y : ItemEvent) (given : Option Answer) → y ≡ Began (Unmap handle) → IsRight s h (record { actor = actor; happened = y; answer = given }) → given ≡ Some a → a ≢ answers.Done
     by actor (Stepped step seen) given e right answer = absurd (cc)
     by actor (Began request) given e right answer =
         let own : request ≡ Unmap handle = cc in
@@ -117,7 +117,7 @@ pub start_given : (n : ℕ) (s : Setting) (types : List (List ℕ)) (hs : List H
     → length (tasks_left_of v) ≤ v.next → v.doing ≡ doing.Nothing → CourseLeads types k choice x j → CanComeNext s hs x → StartKeeps s old v choice new → ⊥
 start_given n s types hs h k j v choice x old new walks alike stands there end idle leads may (other, answer, here, makes) =
     let one = subst (λ (o : Opened). OpenLeads types k o choice x j) (rests v.doing k.opened idle walks.doing) leads in
-    let gave : GivesAt k choice x j = subst (λ (l : List Task). RestLeads types k l choice x j) (sym walks.tasks ∙ drop_all (tasks_left_of v) v.next end) one in
+    let gave : GivesAt k choice x j = subst (λ (l : List RunTask). RestLeads types k l choice x j) (sym walks.tasks ∙ drop_all (tasks_left_of v) v.next end) one in
     let (handle, e, at, is, done, to) = gave in
     let theirs = held_at k.held v.held.items choice handle walks.held at in
     let same : other ≡ theirs.0 = same_Some other theirs.0 (sym here ∙ theirs.1) in
@@ -145,7 +145,7 @@ step_given n s types hs h k j v choice x old new walks alike stands there leads 
     let ok : some.0 ≡ answers.Done = subst IsDoneIf some.1 done in
     otherwise (told_done answer (sym some.2 ∙ ap told_part ok))
   where
-    giving_of : (d : Doing) (o : Opened) → d ≡ doing.GivesBack → IsDoingSo d o → o ≡ giving
+    giving_of : (d : OpenTask) (o : Opened) → d ≡ doing.GivesBack → IsDoingSo d o → o ≡ giving
     giving_of doing.GivesBack giving is so = refl
     giving_of doing.GivesBack resting is so = absurd so
     giving_of doing.GivesBack (calling number asked freed) is so = absurd so

@@ -7,7 +7,7 @@ use Rattle.std.proofs.lemmas.List.{map-append, map_more}
 use Rattle.std.proofs.lemmas.List.Elements.{All-push}
 use Rattle.gt_types.specs.declared.DomId.{DomId}
 use Rattle.gt_host.specs.Naming.{AreNamed}
-use Rattle.gt_replay.specs.declared.walker.Doing.TheVariants.{Nothing}
+use Rattle.gt_replay.specs.declared.walker.OpenTask.TheVariants.{Nothing}
 use Rattle.gt_types.specs.declared.TypeId.{TypeId}
 use Rattle.gt_types.specs.declared.perms.Perms.{Perms}
 use Rattle.gt_types.specs.declared.config.DomainConfig.{DomainConfig}
@@ -16,18 +16,18 @@ use Rattle.gt_core.specs.Standing.{CoreModel, CoreStands, setting_in}
 use Rattle.gt_script.specs.Contents.{Contents, first_gen, type_names}
 use Rattle.gt_script.specs.RunContents.{RunContents}
 use Rattle.gt_script.specs.RunScripts.{list_of}
-use Rattle.gt_script.specs.Lists.{Task}
-use Rattle.gt_host.specs.declared.rights.Rights.{Rights}
+use Rattle.gt_script.specs.Lists.{RunTask}
+use Rattle.gt_host.specs.declared.rights.ScriptPolicy.{ScriptPolicy}
 use Rattle.gt_host.specs.Playing.{StartsFor, setting_of_script}
 use Rattle.gt_host.specs.Rights.{may_by}
 use Rattle.gt_replay.specs.Orders.{FollowsList}
 use Rattle.gt_replay.specs.Walking.{HaveOwnIds, Continues, HasWalked, HasFollowed, StartsWalk, tasks_left_of}
 use Rattle.gt_replay.specs.declared.replay.Replay.{Replay}
-use Rattle.gt_replay.specs.declared.walker.Doing.{Doing}
+use Rattle.gt_replay.specs.declared.walker.OpenTask.{OpenTask}
 use Rattle.gt_replay.specs.declared.walker.Walker.{Walker}
 
 -- the setting of such a core is that of the script
-pub setting_is : (c : Contents) (core : CoreModel Rights) → StartsFor c core → setting_in may_by core ≡ setting_of_script c
+pub setting_is : (c : Contents) (core : CoreModel ScriptPolicy) → StartsFor c core → setting_in may_by core ≡ setting_of_script c
 setting_is c core s =
     ap (λ (ds : List DomainConfig). record { domains = ds; first_generation = core.config.first_gen; may = may_by core.rights }) s.domains
     ∙ ap (λ (n : ℕ). record { domains = c.domains; first_generation = n; may = may_by core.rights }) s.generation
@@ -40,10 +40,10 @@ first_follows c w first = (
   [],
   first.labels,
   λ more rest go.
-      let one = subst (λ (d : Doing). Continues (type_names c.head) w [] d more rest) first.doing go in
+      let one = subst (λ (d : OpenTask). Continues (type_names c.head) w [] d more rest) first.doing go in
       let two = subst (λ l. FollowsList (type_names c.head) w.dom [] l (drop w.next (tasks_left_of w)) more rest) first.held one in
       let three = subst (λ (n : ℕ). FollowsList (type_names c.head) w.dom [] [] (drop n (tasks_left_of w)) more rest) first.next two in
-      let four = subst (λ (l : List Task). FollowsList (type_names c.head) w.dom [] [] l more rest) first.list three in
+      let four = subst (λ (l : List RunTask). FollowsList (type_names c.head) w.dom [] [] l more rest) first.list three in
       subst (λ (l : List ℕ). FollowsList (type_names c.head) w.dom [] [] (list_of c.tasks w.dom) more (l ++ rest)) (sym first.text) four,
 )
 
@@ -70,7 +70,7 @@ begins c r domains starts apart types doms same first told = record {
 }
 
 -- the walker of one domain more
-pub walkers_more : (tasks : List Task) (domains : List DomainConfig) (walkers : List Walker) (i : ℕ) (w : Walker) (d : DomainConfig) → i < length domains → w.dom ≡ (get_or domains i d).id → StartsWalk tasks w
+pub walkers_more : (tasks : List RunTask) (domains : List DomainConfig) (walkers : List Walker) (i : ℕ) (w : Walker) (d : DomainConfig) → i < length domains → w.dom ≡ (get_or domains i d).id → StartsWalk tasks w
     → (map (λ (u : Walker). u.dom) walkers ≡ map (λ (e : DomainConfig). e.id) (take i domains)) × All (StartsWalk tasks) walkers
     → (map (λ (u : Walker). u.dom) (walkers ++ w ∷ []) ≡ map (λ (e : DomainConfig). e.id) (take (i + 1) domains)) × All (StartsWalk tasks) (walkers ++ w ∷ [])
 walkers_more tasks domains walkers i w d within is first (doms, all) = (
@@ -79,10 +79,10 @@ walkers_more tasks domains walkers i w d within is first (doms, all) = (
   All-push (StartsWalk tasks) walkers w all first,
 )
 
-pub walker_first : (tasks : List Task) (w : Walker) (list : List (Bor Task)) (dom : DomId) → map (λ (t : Bor Task). t.now) list ≡ list_of tasks dom → w.dom ≡ dom → w.tasks.items ≡ list → w.next ≡ 0 → w.doing ≡ Nothing → AreNamed w.labels [] → w.held.items ≡ [] → w.text.items ≡ []
+pub walker_first : (tasks : List RunTask) (w : Walker) (list : List (Bor RunTask)) (dom : DomId) → map (λ (t : Bor RunTask). t.now) list ≡ list_of tasks dom → w.dom ≡ dom → w.tasks.items ≡ list → w.next ≡ 0 → w.doing ≡ Nothing → AreNamed w.labels [] → w.held.items ≡ [] → w.text.items ≡ []
     → StartsWalk tasks w
 walker_first tasks w list dom is d t next doing labels held text = record {
-  list = ap (map (λ (x : Bor Task). x.now)) t ∙ is ∙ ap (list_of tasks) (sym d);
+  list = ap (map (λ (x : Bor RunTask). x.now)) t ∙ is ∙ ap (list_of tasks) (sym d);
   next = next;
   doing = doing;
   labels = labels;

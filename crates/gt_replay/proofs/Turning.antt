@@ -12,9 +12,9 @@ use Rattle.gt_core.specs.declared.trace.Answer.TheVariants.{Done}
 use Rattle.gt_core.specs.declared.trace.Element.{Element}
 use Rattle.gt_core.specs.declared.trace.Event.TheVariants.{Begin, Tick}
 use Rattle.gt_lines.specs.declared.calls.ScriptCall.{ScriptCall}
-use Rattle.gt_script.specs.Lists.{Deed}
-use Rattle.gt_script.specs.declared.tasks.DeedBy.TheVariants.{Do, Tell, Await}
-use Rattle.gt_script.specs.Lists.{Task}
+use Rattle.gt_script.specs.Lists.{RunAction}
+use Rattle.gt_script.specs.declared.tasks.RunActionBy.TheVariants.{Do, Tell, Await}
+use Rattle.gt_script.specs.Lists.{RunTask}
 use Rattle.gt_script.specs.Contents.{type_names}
 use Rattle.gt_script.specs.RunContents.{RunContents}
 use Rattle.gt_script.specs.RunScripts.{list_of}
@@ -30,7 +30,7 @@ use Rattle.gt_replay.specs.Orders.{AllFollow}
 use Rattle.gt_replay.specs.Orders.{IsOrderOf}
 use Rattle.gt_replay.specs.Walking.{HaveOwnIds}
 use Rattle.gt_replay.specs.Courses.{Opened, resting, calling, giving, Course, course_answered, course_after, back_after}
-use Rattle.gt_replay.specs.Courses.{IsDoneIf, DeedLeads, GivesAt, RestLeads, OpenLeads, CourseLeads, CourseEnds}
+use Rattle.gt_replay.specs.Courses.{IsDoneIf, ActionLeads, GivesAt, RestLeads, OpenLeads, CourseLeads, CourseEnds}
 use Rattle.gt_replay.specs.Courses.{TurnsLead}
 use Rattle.gt_replay.specs.Courses.{AllCoursesEnd, courses_text, first_courses, IsTurnedBy}
 
@@ -108,7 +108,7 @@ printed : (old line part rest : List ℕ) → part ≡ line ++ rest → old ++ p
 printed old line part rest is = ap (λ (l : List ℕ). old ++ l) is ∙ sym (append_assoc old line rest)
 
 -- what follows the answer of a line's call, or its step
-line-next : (types : List (List ℕ)) (k : Course) (line : ℕ) (call : ScriptCall) (lost : Option Handle) (left : List Task) (e : Element) (more : List Happening) (part : List ℕ)
+line-next : (types : List (List ℕ)) (k : Course) (line : ℕ) (call : ScriptCall) (lost : Option Handle) (left : List RunTask) (e : Element) (more : List Happening) (part : List ℕ)
     → Answered k.dom (λ answer later.
     Prints (answer_line types line k.dom answer)
     (FollowsList types k.dom (with_name k.named k.dom (label_given call) (handle_given answer)) (held_after k.held lost answer) left later)
@@ -133,9 +133,9 @@ line-next types k line call lost left e more part (inr (none, goes)) = record {
   dom = refl;
 }
 
-deed-next : (types : List (List ℕ)) (k : Course) (line : ℕ) (left : List Task) (deed : Deed) (x : Happening) (more : List Happening) (part : List ℕ)
+deed-next : (types : List (List ℕ)) (k : Course) (line : ℕ) (left : List RunTask) (deed : RunAction) (x : Happening) (more : List Happening) (part : List ℕ)
     → DeedHappens types k.dom k.named k.held line deed (λ names holds later rest. FollowsList types k.dom names holds left later rest) (x ∷ more) part
-    → k.opened ≡ resting → Next types k (λ c j. DeedLeads types k line left deed x j) more part
+    → k.opened ≡ resting → Next types k (λ c j. ActionLeads types k line left deed x j) more part
 deed-next types k line left (Tell flag) x more part (later, is, follows) idle = record {
   choice = 0;
   next = record k { tasks = left };
@@ -194,7 +194,7 @@ back-next types k held order e more part nothing (inl (answer, is, (done, gives)
   next = record k { held = held; opened = resting };
   rest = part;
   leads = (subst IsDoneIf (sym is) done, ap (λ (o : Option Answer). back_after (record k { held = held }) o) (sym is));
-  goes = subst (λ (l : List Task). FollowsList types k.dom k.named held l more part) (sym end) (order, gives, nothing);
+  goes = subst (λ (l : List RunTask). FollowsList types k.dom k.named held l more part) (sym end) (order, gives, nothing);
   text = refl;
   dom = refl;
 }
@@ -203,7 +203,7 @@ back-next types k held order e more part nothing (inr (none, (trace, answer, lat
   next = record k { held = held; opened = giving };
   rest = part;
   leads = (subst IsDoneIf (sym none) tt, ap (λ (o : Option Answer). back_after (record k { held = held }) o) (sym none));
-  goes = (trace, answer, later, is, ends, (done, subst (λ (l : List Task). FollowsList types k.dom k.named held l later part) (sym end) (order, gives, nothing)));
+  goes = (trace, answer, later, is, ends, (done, subst (λ (l : List RunTask). FollowsList types k.dom k.named held l later part) (sym end) (order, gives, nothing)));
   text = refl;
   dom = refl;
 }
@@ -230,7 +230,7 @@ gives-next types k (handle ∷ order) x more part nothing (before, after, is, ha
       dom = n.dom;
     }
 
-rest-next : (types : List (List ℕ)) (k : Course) (tasks : List Task) (x : Happening) (more : List Happening) (part : List ℕ) → k.tasks ≡ tasks → k.opened ≡ resting
+rest-next : (types : List (List ℕ)) (k : Course) (tasks : List RunTask) (x : Happening) (more : List Happening) (part : List ℕ) → k.tasks ≡ tasks → k.opened ≡ resting
     → FollowsList types k.dom k.named k.held tasks (x ∷ more) part → Next types k (λ c j. RestLeads types k tasks c x j) more part
 rest-next types k [] x more part end idle (order, gives, nothing) = gives-next types k order x more part nothing gives end
 rest-next types k (t ∷ ts) x more part end idle follows =
@@ -299,12 +299,12 @@ open-next types k giving x more part is goes =
     }
 
 -- a domain that does no more is at its end
-over-by : (types : List (List ℕ)) (k : Course) (tasks : List Task) (part : List ℕ) → FollowsList types k.dom k.named k.held tasks [] part → (tasks ≡ []) × (k.held ≡ []) × (part ≡ [])
+over-by : (types : List (List ℕ)) (k : Course) (tasks : List RunTask) (part : List ℕ) → FollowsList types k.dom k.named k.held tasks [] part → (tasks ≡ []) × (k.held ≡ []) × (part ≡ [])
 over-by types k [] part ([], (none, nothing), is) = (refl, none, is)
 over-by types k [] part (handle ∷ order, (before, after, is, (e, trace, answer, more, so, ends, done)), nothing) = absurd (cc)
 over-by types k (t ∷ ts) part follows = absurd (by t.deed follows)
   where
-    by : (deed : Deed) → DeedHappens types k.dom k.named k.held t.line deed (λ names holds later rest. FollowsList types k.dom names holds ts later rest) [] part → ⊥
+    by : (deed : RunAction) → DeedHappens types k.dom k.named k.held t.line deed (λ names holds later rest. FollowsList types k.dom names holds ts later rest) [] part → ⊥
     by (Tell flag) (more, is, follows) = cc
     by (Await flag) (more, is, follows) = cc
     by (Do call) (request, asks, (e, trace, answer, more, so, ends, done)) = cc

@@ -21,21 +21,21 @@ use Rattle.gt_core.specs.declared.trace.Element.{Element}
 use Rattle.gt_core.specs.declared.trace.Event.{Event}
 use Rattle.gt_lines.specs.declared.calls.ScriptCall.{ScriptCall}
 use Rattle.gt_script.specs.Contents.{type_names}
-use Rattle.gt_script.specs.Lists.{Deed, Task}
+use Rattle.gt_script.specs.Lists.{RunAction, RunTask}
 use Rattle.gt_script.specs.RunContents.{RunContents}
 use Rattle.gt_script.specs.Stuck.{IsBelow}
-use Rattle.gt_script.specs.declared.tasks.DeedBy.TheVariants.{Do, Tell, Await}
-use Rattle.gt_host.specs.declared.rights.Rights.{Rights}
+use Rattle.gt_script.specs.declared.tasks.RunActionBy.TheVariants.{Do, Tell, Await}
+use Rattle.gt_host.specs.declared.rights.ScriptPolicy.{ScriptPolicy}
 use Rattle.gt_host.specs.Playing.{setting_of_script}
 use Rattle.gt_host.specs.Rights.{may_by}
 use Rattle.gt_replay.specs.Orders.{Happening, did, raised, passed, trace_in, IsRaisedBefore}
 use Rattle.gt_replay.specs.Walking.{tasks_left_of}
-use Rattle.gt_replay.specs.Courses.{Course, CourseLeads, DeedLeads}
+use Rattle.gt_replay.specs.Courses.{Course, CourseLeads, ActionLeads}
 use Rattle.gt_replay.specs.Making.{BeginsLine, TicksOpen, GivesBackAt, StartKeeps, StepKeeps}
 use Rattle.gt_replay.specs.Abreast.{history_in, WalksAbreast, CanComeNext, IsAbreast}
 use Rattle.gt_replay.specs.declared.replay.Moved.{Moved}
 use Rattle.gt_replay.specs.declared.replay.Replay.{Replay}
-use Rattle.gt_replay.specs.declared.walker.Doing.TheVariants as doing
+use Rattle.gt_replay.specs.declared.walker.OpenTask.TheVariants as doing
 use Rattle.gt_replay.specs.declared.walker.Walker.{Walker}
 use Rattle.gt_replay.proofs.Abreast.{Came, begin_came, give_came, goes_past, left_numbered, line_leads, stays}
 use Rattle.gt_replay.proofs.Abreast.{tick_came}
@@ -160,10 +160,10 @@ set_keeps (b ∷ told) (suc at) (suc flag) is = set_keeps told at flag is
 
 -- the moves
 
-same_setting : (a b : Config) (x y : Rights) → a ≡ b → x ≡ y → setting_of a (may_by x) ≡ setting_of b (may_by y)
-same_setting a b x y e f = ap (λ (c : Config). setting_of c (may_by x)) e ∙ ap (λ (r : Rights). setting_of b (may_by r)) f
+same_setting : (a b : Config) (x y : ScriptPolicy) → a ≡ b → x ≡ y → setting_of a (may_by x) ≡ setting_of b (may_by y)
+same_setting a b x y e f = ap (λ (c : Config). setting_of c (may_by x)) e ∙ ap (λ (r : ScriptPolicy). setting_of b (may_by r)) f
 
-pub begin_comes : {E : Type 0} (c : RunContents) (hs : List Happening) (ks : List Course) (r q : Replay) (x : Happening) (place choice : ℕ) (k j : Course) (v w : Walker) (task : Task) (call : Bor ScriptCall) (names : List (List ℕ)) (res : Result (Option Moved) E)
+pub begin_comes : {E : Type 0} (c : RunContents) (hs : List Happening) (ks : List Course) (r q : Replay) (x : Happening) (place choice : ℕ) (k j : Course) (v w : Walker) (task : RunTask) (call : Bor ScriptCall) (names : List (List ℕ)) (res : Result (Option Moved) E)
     → IsAbreast c hs ks r → slice_get ks place ≡ Some k → slice_get r.walkers.items place ≡ Some v → names ≡ r.types.items
     → q.core.config ≡ r.core.config → q.core.rights ≡ r.core.rights → q.types.items ≡ r.types.items → q.walkers.items ≡ set r.walkers.items place w → q.told.items ≡ r.told.items
     → slice_get (tasks_left_of v) v.next ≡ Some task → task.deed ≡ Do call.now → v.doing ≡ doing.Nothing
@@ -207,13 +207,13 @@ give_comes c hs ks r q x place choice k j v w (Ok m) abreast at there config rig
     (abreast.each place k v at there) abreast.alike abreast.stands (course_known c hs ks r place k abreast at) end idle leads may made_so)
 
 -- a flag that is to be raised has a place
-pub tell_below : (c : RunContents) (hs : List Happening) (ks : List Course) (r : Replay) (place : ℕ) (k : Course) (v : Walker) (task : Task) (flag : ℕ)
+pub tell_below : (c : RunContents) (hs : List Happening) (ks : List Course) (r : Replay) (place : ℕ) (k : Course) (v : Walker) (task : RunTask) (flag : ℕ)
     → IsAbreast c hs ks r → slice_get ks place ≡ Some k → slice_get r.walkers.items place ≡ Some v → slice_get (tasks_left_of v) v.next ≡ Some task → task.deed ≡ Tell flag → flag < length r.told.items
 tell_below c hs ks r place k v task flag abreast at there next does =
     let below = left_numbered (length r.told.items) (history_in hs) abreast.replayed k v task (abreast.each place k v at there) next in
-    subst (λ (d : Deed). IsBelow (length r.told.items) d) does below.0
+    subst (λ (d : RunAction). IsBelow (length r.told.items) d) does below.0
 
-pub tell_comes : (c : RunContents) (hs : List Happening) (ks : List Course) (r q : Replay) (x : Happening) (place choice : ℕ) (k j : Course) (v : Walker) (task : Task) (flag : ℕ)
+pub tell_comes : (c : RunContents) (hs : List Happening) (ks : List Course) (r q : Replay) (x : Happening) (place choice : ℕ) (k j : Course) (v : Walker) (task : RunTask) (flag : ℕ)
     → IsAbreast c hs ks r → slice_get ks place ≡ Some k → slice_get r.walkers.items place ≡ Some v
     → q.core ≡ r.core → q.types.items ≡ r.types.items → q.walkers.items ≡ set r.walkers.items place (record v { next = v.next + 1 }) → q.told.items ≡ set r.told.items flag true
     → slice_get (tasks_left_of v) v.next ≡ Some task → task.deed ≡ Tell flag → v.doing ≡ doing.Nothing → CourseLeads (type_names c.head) k choice x j
@@ -223,7 +223,7 @@ tell_comes c hs ks r q x place choice k j v task flag abreast at there core type
     let below = left_numbered (length r.told.items) (history_in hs) abreast.replayed k v task walks next in
     let fits = tell_below c hs ks r place k v task flag abreast at there next does in
     let deed : (x ≡ raised k.dom flag) × (j ≡ record k { tasks = drop (v.next + 1) (tasks_left_of v) }) =
-    subst (λ (d : Deed). DeedLeads (type_names c.head) k task.line (drop (v.next + 1) (tasks_left_of v)) d x j) does (line_leads (length r.told.items) (history_in hs) abreast.replayed (type_names c.head) k j v task choice x walks idle next leads) in
+    subst (λ (d : RunAction). ActionLeads (type_names c.head) k task.line (drop (v.next + 1) (tasks_left_of v)) d x j) does (line_leads (length r.told.items) (history_in hs) abreast.replayed (type_names c.head) k j v task choice x walks idle next leads) in
     comes_quiet c hs ks r q x place k j v (record v { next = v.next + 1 }) (subst IsQuiet (sym deed.0) (tells k.dom flag)) abreast at there core types walkers (ap length told ∙ length-set r.told.items flag true)
     (subst (λ (i : Course). WalksAbreast (length r.told.items) (history_in hs) abreast.replayed i (record v { next = v.next + 1 })) (sym deed.1)
     (goes_past (length r.told.items) (history_in hs) abreast.replayed k v (drop (v.next + 1) (tasks_left_of v)) walks refl below.1))
@@ -237,17 +237,17 @@ tell_comes c hs ks r q x place choice k j v task flag abreast at there core type
     one_flag d e a b is = cc
 
 -- a flag that is to be passed is raised
-pub await_told : (c : RunContents) (hs : List Happening) (ks : List Course) (r : Replay) (x : Happening) (place choice : ℕ) (k j : Course) (v : Walker) (task : Task) (flag : ℕ)
+pub await_told : (c : RunContents) (hs : List Happening) (ks : List Course) (r : Replay) (x : Happening) (place choice : ℕ) (k j : Course) (v : Walker) (task : RunTask) (flag : ℕ)
     → IsAbreast c hs ks r → slice_get ks place ≡ Some k → slice_get r.walkers.items place ≡ Some v → slice_get (tasks_left_of v) v.next ≡ Some task → task.deed ≡ Await flag → v.doing ≡ doing.Nothing
     → CourseLeads (type_names c.head) k choice x j → CanComeNext (setting_of_script c.head) hs x → get_or r.told.items flag false ≡ true
 await_told c hs ks r x place choice k j v task flag abreast at there next does idle leads may =
     let deed : (x ≡ passed k.dom flag) × (j ≡ record k { tasks = drop (v.next + 1) (tasks_left_of v) }) =
-    subst (λ (d : Deed). DeedLeads (type_names c.head) k task.line (drop (v.next + 1) (tasks_left_of v)) d x j) does
+    subst (λ (d : RunAction). ActionLeads (type_names c.head) k task.line (drop (v.next + 1) (tasks_left_of v)) d x j) does
     (line_leads (length r.told.items) (history_in hs) abreast.replayed (type_names c.head) k j v task choice x (abreast.each place k v at there) idle next leads) in
     let before : IsRaisedBefore (length hs) flag hs = subst (λ (z : Happening). CanComeNext (setting_of_script c.head) hs z) deed.0 may in
     abreast.told flag before
 
-pub await_comes : (c : RunContents) (hs : List Happening) (ks : List Course) (r q : Replay) (x : Happening) (place choice : ℕ) (k j : Course) (v : Walker) (task : Task) (flag : ℕ)
+pub await_comes : (c : RunContents) (hs : List Happening) (ks : List Course) (r q : Replay) (x : Happening) (place choice : ℕ) (k j : Course) (v : Walker) (task : RunTask) (flag : ℕ)
     → IsAbreast c hs ks r → slice_get ks place ≡ Some k → slice_get r.walkers.items place ≡ Some v
     → q.core ≡ r.core → q.types.items ≡ r.types.items → q.walkers.items ≡ set r.walkers.items place (record v { next = v.next + 1 }) → q.told.items ≡ r.told.items
     → slice_get (tasks_left_of v) v.next ≡ Some task → task.deed ≡ Await flag → v.doing ≡ doing.Nothing → CourseLeads (type_names c.head) k choice x j
@@ -256,7 +256,7 @@ await_comes c hs ks r q x place choice k j v task flag abreast at there core typ
     let walks = abreast.each place k v at there in
     let below = left_numbered (length r.told.items) (history_in hs) abreast.replayed k v task walks next in
     let deed : (x ≡ passed k.dom flag) × (j ≡ record k { tasks = drop (v.next + 1) (tasks_left_of v) }) =
-    subst (λ (d : Deed). DeedLeads (type_names c.head) k task.line (drop (v.next + 1) (tasks_left_of v)) d x j) does (line_leads (length r.told.items) (history_in hs) abreast.replayed (type_names c.head) k j v task choice x walks idle next leads) in
+    subst (λ (d : RunAction). ActionLeads (type_names c.head) k task.line (drop (v.next + 1) (tasks_left_of v)) d x j) does (line_leads (length r.told.items) (history_in hs) abreast.replayed (type_names c.head) k j v task choice x walks idle next leads) in
     comes_quiet c hs ks r q x place k j v (record v { next = v.next + 1 }) (subst IsQuiet (sym deed.0) (waits k.dom flag)) abreast at there core types walkers (ap length told)
     (subst (λ (i : Course). WalksAbreast (length r.told.items) (history_in hs) abreast.replayed i (record v { next = v.next + 1 })) (sym deed.1)
     (goes_past (length r.told.items) (history_in hs) abreast.replayed k v (drop (v.next + 1) (tasks_left_of v)) walks refl below.1))

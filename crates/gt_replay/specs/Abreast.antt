@@ -4,7 +4,7 @@ use Rattle.std.specs.Prelude.{◌≡◌, ◌≢◌, ℕ, true, false, List, [], 
 use Rattle.std.specs.Option.{option_map}
 use Rattle.gt_replay.specs.Prelude.{Handle, History, Setting, MayDo, history_after, open_call}
 use Rattle.gt_replay.specs.Prelude.{CoreStands, setting_in, bare_handle, AreAlike, IsGiven, type_names, RunContents}
-use Rattle.gt_replay.specs.Prelude.{AreNumbered, AreNamed, setting_of_script, may_by, Named, Replay, Doing, Nothing}
+use Rattle.gt_replay.specs.Prelude.{AreNumbered, AreNamed, setting_of_script, may_by, Named, Replay, OpenTask, Nothing}
 use Rattle.gt_replay.specs.Prelude.{Line, GivesBack, Walker}
 use Rattle.gt_replay.specs.Orders.{Happening, did, raised, passed, trace_in, IsRaisedBefore}
 use Rattle.gt_replay.specs.Walking.{HaveOwnIds, tasks_left}
@@ -27,7 +27,7 @@ abbrev pub SameHandles : List Handle → List Handle → Type 0
 SameHandles one other = map bare_handle one ≡ map bare_handle other
 
 -- both have the same open, and give up the same handle at its end
-abbrev pub IsDoingSo : Doing → Opened → Type 0
+abbrev pub IsDoingSo : OpenTask → Opened → Type 0
 IsDoingSo Nothing resting = Unit {0}
 IsDoingSo (Line line call lost) (calling number asked freed) =
     (line ≡ number) × (call.now ≡ asked) × (option_map bare_handle lost ≡ option_map bare_handle freed)

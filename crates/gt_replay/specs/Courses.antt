@@ -4,7 +4,7 @@ use Rattle.std.specs.Prelude.{◌≡◌, ◌++◌, ℕ, suc, List, [], ◌∷◌
 use Rattle.std.specs.Prelude.{slice_set}
 use Rattle.std.specs.List.{flat_map}
 use Rattle.gt_replay.specs.Prelude.{DomId, Handle, Request, Unmap, Answer, Done, Element, Begin, Tick}
-use Rattle.gt_replay.specs.Prelude.{type_names, RunContents, list_of, Deed, Do, Tell, Await, Task, answer_line, Named}
+use Rattle.gt_replay.specs.Prelude.{type_names, RunContents, list_of, RunAction, Do, Tell, Await, RunTask, answer_line, Named}
 use Rattle.gt_replay.specs.Prelude.{SaysRequest, handle_given, label_given, with_name, ScriptCall, answer_in}
 use Rattle.gt_replay.specs.declared.replay.Turn.{Turn}
 use Rattle.gt_replay.specs.Orders.{Happening, did, raised, passed, given_up, held_after, IsOrderOf}
@@ -20,7 +20,7 @@ pub data Opened : Type 0 where
 -- holds, and what it has printed
 pub record Course : Type 0 where
   pub dom : DomId
-  pub tasks : List Task
+  pub tasks : List RunTask
   pub opened : Opened
   pub named : List Named
   pub held : List Handle
@@ -54,10 +54,10 @@ IsDoneIf None = Unit {0}
 IsDoneIf (Some answer) = answer ≡ Done
 
 -- by this a domain does what its next line says, and these tasks are left
-abbrev pub DeedLeads : List (List ℕ) → Course → ℕ → List Task → Deed → Happening → Course → Type 0
-DeedLeads types k line left (Tell flag) x j = (x ≡ raised k.dom flag) × (j ≡ record k { tasks = left })
-DeedLeads types k line left (Await flag) x j = (x ≡ passed k.dom flag) × (j ≡ record k { tasks = left })
-DeedLeads types k line left (Do call) x j =
+abbrev pub ActionLeads : List (List ℕ) → Course → ℕ → List RunTask → RunAction → Happening → Course → Type 0
+ActionLeads types k line left (Tell flag) x j = (x ≡ raised k.dom flag) × (j ≡ record k { tasks = left })
+ActionLeads types k line left (Await flag) x j = (x ≡ passed k.dom flag) × (j ≡ record k { tasks = left })
+ActionLeads types k line left (Do call) x j =
     (request : Request) × (e : Element) × SaysRequest k.named k.dom call request
     × (x ≡ did (Begin k.dom request) e)
     × (j ≡ course_after types line call (given_up request) (record k { tasks = left }) (answer_in e))
@@ -70,9 +70,9 @@ GivesAt k choice x j =
     × (j ≡ back_after (record k { held = take choice k.held ++ drop (suc choice) k.held }) (answer_in e))
 
 -- by this a domain at rest goes on
-abbrev pub RestLeads : List (List ℕ) → Course → List Task → ℕ → Happening → Course → Type 0
+abbrev pub RestLeads : List (List ℕ) → Course → List RunTask → ℕ → Happening → Course → Type 0
 RestLeads types k [] choice x j = GivesAt k choice x j
-RestLeads types k (t ∷ ts) choice x j = (choice ≡ 0) × DeedLeads types k t.line ts t.deed x j
+RestLeads types k (t ∷ ts) choice x j = (choice ≡ 0) × ActionLeads types k t.line ts t.deed x j
 
 -- by this a domain goes on that has this open
 abbrev pub OpenLeads : List (List ℕ) → Course → Opened → ℕ → Happening → Course → Type 0

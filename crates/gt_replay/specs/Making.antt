@@ -1,7 +1,7 @@
 -- What a move of a domain was: the event of the core, what that did, and how far the domain is then.
 use Rattle.std.specs.Prelude.{◌≡◌, ◌≢◌, ◌++◌, ◌+◌, ℕ, suc, List, take, drop, Option, Some, slice_get, IsSome}
-use Rattle.gt_replay.specs.Prelude.{Handle, Request, Unmap, Setting, DoesEvent, CoreState, Begin, Tick, Task}
-use Rattle.gt_replay.specs.Prelude.{Seen, Step, Answer, Done, begun_element, ticked_element, Begun, Ticked}
+use Rattle.gt_replay.specs.Prelude.{Handle, Request, Unmap, Setting, DoesEvent, CoreState, Begin, Tick, RunTask}
+use Rattle.gt_replay.specs.Prelude.{Observation, Step, Answer, Done, begun_element, ticked_element, Begun, Ticked}
 use Rattle.gt_replay.specs.Prelude.{ScriptCall, AreNamed, Named}
 use Rattle.gt_replay.specs.Prelude.{SaysRequest, Moved, Line, GivesBack, Walker}
 use Rattle.std.specs.Borrow.{Bor}
@@ -15,7 +15,7 @@ abbrev pub AsksFor : Walker → ScriptCall → Request → Type 0
 AsksFor v call request = (named : List Named) → AreNamed v.labels named → SaysRequest named v.dom call request
 
 -- the call of a line, which gives up this handle, began so: it is open, or it has its answer
-abbrev pub IsBegunFrom : List (List ℕ) → Task → Bor ScriptCall → Option Handle → Walker → Begun → Option Moved
+abbrev pub IsBegunFrom : List (List ℕ) → RunTask → Bor ScriptCall → Option Handle → Walker → Begun → Option Moved
     → Walker → Type 0
 IsBegunFrom types task call lost v begun.Open m w =
     IsSome m × (w ≡ record v { next = v.next + 1; doing = Line task.line call lost })
@@ -25,7 +25,7 @@ IsBegunFrom types task call lost v begun.Busy m w = Unit {0}
 IsBegunFrom types task call lost v begun.NoDomain m w = Unit {0}
 
 -- the core began the call of a line for a domain
-abbrev pub BeginsLine : Setting → List (List ℕ) → CoreState → Walker → Task → Bor ScriptCall → Option Moved
+abbrev pub BeginsLine : Setting → List (List ℕ) → CoreState → Walker → RunTask → Bor ScriptCall → Option Moved
     → CoreState → Walker → Type 0
 BeginsLine s types old v task call m new w =
     (request : Request) × (b : Begun) × AsksFor v call.now request
@@ -69,5 +69,5 @@ StartKeeps s old v choice new =
 -- a step answered an unmap at the end of a list, and not Ok
 abbrev pub StepKeeps : Setting → CoreState → Walker → CoreState → Type 0
 StepKeeps s old v new =
-    (step : Step) × (seen : Seen) × (answer : Answer) × (v.doing ≡ GivesBack) × (answer ≢ Done)
+    (step : Step) × (seen : Observation) × (answer : Answer) × (v.doing ≡ GivesBack) × (answer ≢ Done)
     × DoesEvent s old (Tick v.dom) (ticked_element v.dom (ticked.Done step seen answer)) new

@@ -2,8 +2,8 @@
 use Rattle.std.specs.Prelude.{◌≡◌, ◌≢◌, ◌<◌, ◌++◌, ◌==◌, not, ℕ, List, [], ◌∷◌, map, filter, All, Option, Some, None}
 use Rattle.std.specs.Prelude.{slice_get}
 use Rattle.gt_replay.specs.Prelude.{domain_of, DomId, DomainConfig, Handle, Request, Unmap, Legal, actor_of, Answer}
-use Rattle.gt_replay.specs.Prelude.{Done, Mapped, Element, Event, Begin, Tick, type_names, RunContents, list_of, Deed}
-use Rattle.gt_replay.specs.Prelude.{Do, Tell, Await, Task, setting_of_script, answer_line, Named, SaysRequest, EndsWith}
+use Rattle.gt_replay.specs.Prelude.{Done, Mapped, Element, Event, Begin, Tick, type_names, RunContents, list_of, RunAction}
+use Rattle.gt_replay.specs.Prelude.{Do, Tell, Await, RunTask, setting_of_script, answer_line, Named, SaysRequest, EndsWith}
 use Rattle.gt_replay.specs.Prelude.{handle_given, label_given, with_name}
 
 -- orders
@@ -98,7 +98,7 @@ Prints line Rest text = (rest : List ℕ) × (text ≡ line ++ rest) × Rest res
 
 -- a domain does what a line says, and goes on so with what its labels then name, what it then holds
 -- and what it prints after that
-abbrev pub DeedHappens : List (List ℕ) → DomId → List Named → List Handle → ℕ → Deed
+abbrev pub DeedHappens : List (List ℕ) → DomId → List Named → List Handle → ℕ → RunAction
     → (List Named → List Handle → List Happening → List ℕ → Type 0) → List Happening → List ℕ → Type 0
 DeedHappens types dom named held line (Tell flag) Next hs text =
     (more : List Happening) × (hs ≡ raised dom flag ∷ more) × Next named held more text
@@ -112,7 +112,7 @@ DeedHappens types dom named held line (Do call) Next hs text =
     text) hs
 
 -- a domain does what its list says, line by line, and then gives back what it holds; this is what it prints
-abbrev pub FollowsList : List (List ℕ) → DomId → List Named → List Handle → List Task → List Happening → List ℕ → Type 0
+abbrev pub FollowsList : List (List ℕ) → DomId → List Named → List Handle → List RunTask → List Happening → List ℕ → Type 0
 FollowsList types dom named held [] hs text = (order : List Handle) × GivesMappingsBack dom order held hs × (text ≡ [])
 FollowsList types dom named held (t ∷ ts) hs text =
     DeedHappens types dom named held t.line t.deed

@@ -1,5 +1,5 @@
 -- The names of other crates, and of the code, that the definitions here speak of.
-pub use Rattle.gt_calls.specs.declared.action.Seen.{Seen}
+pub use Rattle.gt_calls.specs.declared.action.Observation.{Observation}
 pub use Rattle.gt_calls.specs.declared.action.Step.{Step}
 pub use Rattle.gt_calls.specs.declared.request.Request.{Request}
 pub use Rattle.gt_calls.specs.declared.request.Request.TheVariants.{Unmap}
@@ -25,15 +25,15 @@ pub use Rattle.gt_host.specs.Runs.{SaysRequest, EndsWith, Named, answer_in, hand
 pub use Rattle.gt_lines.specs.declared.calls.ScriptCall.{ScriptCall}
 pub use Rattle.gt_replay.specs.declared.replay.Moved.{Moved}
 pub use Rattle.gt_replay.specs.declared.replay.Replay.{Replay}
-pub use Rattle.gt_replay.specs.declared.walker.Doing.{Doing}
-pub use Rattle.gt_replay.specs.declared.walker.Doing.TheVariants.{GivesBack, Line, Nothing}
+pub use Rattle.gt_replay.specs.declared.walker.OpenTask.{OpenTask}
+pub use Rattle.gt_replay.specs.declared.walker.OpenTask.TheVariants.{GivesBack, Line, Nothing}
 pub use Rattle.gt_replay.specs.declared.walker.Walker.{Walker}
 pub use Rattle.gt_script.specs.Contents.{type_names}
 pub use Rattle.gt_script.specs.RunContents.{RunContents}
 pub use Rattle.gt_script.specs.RunScripts.{list_of}
-pub use Rattle.gt_script.specs.Lists.{Deed, Task}
+pub use Rattle.gt_script.specs.Lists.{RunAction, RunTask}
 pub use Rattle.gt_script.specs.Stuck.{AreNumbered, IsBelow}
-pub use Rattle.gt_script.specs.declared.tasks.DeedBy.TheVariants.{Await, Do, Tell}
+pub use Rattle.gt_script.specs.declared.tasks.RunActionBy.TheVariants.{Await, Do, Tell}
 pub use Rattle.gt_types.specs.Names.{domain_of}
 pub use Rattle.gt_types.specs.declared.DomId.{DomId}
 pub use Rattle.gt_types.specs.declared.config.DomainConfig.{DomainConfig}

@@ -3,8 +3,8 @@ use Rattle.std.specs.Prelude.{◌≡◌, ◌≢◌, ◌++◌, ◌≤◌, ℕ, tr
 use Rattle.std.specs.Prelude.{Option, Some, None, slice_get, get_or}
 use Rattle.gt_replay.specs.Prelude.{domain_of, DomainConfig, Handle, History, Setting, Legal, MayDo, grown}
 use Rattle.gt_replay.specs.Prelude.{history_after, CoreStands, setting_in, CoreState, Answer, Element, Event}
-use Rattle.gt_replay.specs.Prelude.{ScriptCall, type_names, RunContents, list_of, Task, AreNamed, setting_of_script}
-use Rattle.gt_replay.specs.Prelude.{answer_line, may_by, Named, handle_given, label_given, with_name, Replay, Doing}
+use Rattle.gt_replay.specs.Prelude.{ScriptCall, type_names, RunContents, list_of, RunTask, AreNamed, setting_of_script}
+use Rattle.gt_replay.specs.Prelude.{answer_line, may_by, Named, handle_given, label_given, with_name, Replay, OpenTask}
 use Rattle.gt_replay.specs.Prelude.{Nothing, Line, GivesBack, Walker}
 use Rattle.gt_core.specs.declared.trace.Answer.TheVariants as answers
 use Rattle.gt_replay.specs.Orders.{Happening, did, doer, own_happenings, events_in, trace_in, IsRaisedBefore}
@@ -12,15 +12,15 @@ use Rattle.gt_replay.specs.Orders.{FlagsAreRaised}
 use Rattle.gt_replay.specs.Orders.{CallGoesOn, Prints, FollowsList, held_after}
 
 -- a domain's list
-abbrev pub tasks_left_of : Walker → List Task
+abbrev pub tasks_left_of : Walker → List RunTask
 tasks_left_of w = map (λ t. t.now) w.tasks.items
 
 -- what it has still to begin
-abbrev pub tasks_left : Walker → List Task
+abbrev pub tasks_left : Walker → List RunTask
 tasks_left w = drop w.next (tasks_left_of w)
 
 -- what a domain does from here on, and what it prints then, if it has this open and its labels name these handles
-unfoldable pub Continues : List (List ℕ) → Walker → List Named → Doing → List Happening → List ℕ → Type 0
+unfoldable pub Continues : List (List ℕ) → Walker → List Named → OpenTask → List Happening → List ℕ → Type 0
 Continues types w named Nothing hs text = FollowsList types w.dom named w.held.items (tasks_left w) hs text
 Continues types w named (Line line call lost) hs text =
     CallGoesOn w.dom (λ answer more.
@@ -60,7 +60,7 @@ pub record AnswersLine (types : List (List ℕ)) (line : ℕ) (call : ScriptCall
   pub text : w.text.items ≡ v.text.items ++ answer_line types line v.dom answer
 
 -- what a domain has open has its answer
-unfoldable pub IsClosedFrom : List (List ℕ) → Doing → Answer → Walker → Walker → Type 0
+unfoldable pub IsClosedFrom : List (List ℕ) → OpenTask → Answer → Walker → Walker → Type 0
 IsClosedFrom types Nothing answer v w = ⊥
 IsClosedFrom types (Line line call lost) answer v w = AnswersLine types line call.now lost answer v w
 IsClosedFrom types GivesBack answer v w = (answer ≡ answers.Done) × (w ≡ record v { doing = Nothing })
@@ -69,7 +69,7 @@ abbrev pub ClosesCall : List (List ℕ) → Answer → Walker → Walker → Typ
 ClosesCall types answer v w = IsClosedFrom types v.doing answer v w
 
 -- a domain is before the first line of its list
-pub record StartsWalk (tasks : List Task) (w : Walker) : Type 0 where
+pub record StartsWalk (tasks : List RunTask) (w : Walker) : Type 0 where
   pub list : tasks_left_of w ≡ list_of tasks w.dom
   pub next : w.next ≡ 0
   pub doing : w.doing ≡ Nothing

@@ -13,10 +13,10 @@ ghost use Rattle.gt_replay.specs.declared.fault.ReplayFault.TheVariants as fault
 
 use crate::fault::ReplayFault;
 use crate::walker::Walker;
-use gt_core::{Core, Seen, Step};
-use gt_host::{Rights, core_of};
+use gt_core::{Core, Observation, Step};
+use gt_host::{ScriptPolicy, core_of};
 use gt_lines::Text;
-use gt_script::{Deed, RunScript};
+use gt_script::{RunAction, RunScript};
 use gt_types::DomainConfig;
 use std::alloc::{AllocError, Global};
 
@@ -28,7 +28,7 @@ pub enum Moved {
     /// A call began.
     Began,
     /// A call made this step, which saw this.
-    Stepped(Step, Seen),
+    Stepped(Step, Observation),
 }
 
 /// Whose move is next: that of the domain at this place of the script's domains. At the end of its list it gives back
@@ -43,7 +43,7 @@ pub struct Turn {
 #[derive(Drop)]
 pub struct Replay<'s, 'a> {
     alloc: Global,
-    core: Core<Rights>,
+    core: Core<ScriptPolicy>,
     walkers: Vec<Walker<'s, 'a>>,
     told: Vec<bool>,
     types: Vec<Text<'s>>,
@@ -135,7 +135,7 @@ impl<'s, 'a> Replay<'s, 'a> {
     }
 
     /// The core.
-    pub fn core(&self) -> &Core<Rights> {
+    pub fn core(&self) -> &Core<ScriptPolicy> {
         &self.core
     }
 
@@ -178,14 +178,14 @@ impl<'s, 'a> Replay<'s, 'a> {
             return walker.give_back(&mut self.core, turn.choice);
         };
         match &task.deed {
-            Deed::Do(call) => walker.begin(self.alloc, &mut self.core, types, task, call),
-            Deed::Tell(flag) => {
+            RunAction::Do(call) => walker.begin(self.alloc, &mut self.core, types, task, call),
+            RunAction::Tell(flag) => {
                 if raise(&mut self.told, *flag) {
                     return Ok(Some(walker.skip()));
                 }
                 Ok(None)
             }
-            Deed::Await(flag) => {
+            RunAction::Await(flag) => {
                 if is_raised(self.told.as_slice(), *flag) {
                     return Ok(Some(walker.skip()));
                 }

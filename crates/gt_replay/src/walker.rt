@@ -6,16 +6,16 @@ use crate::fault::ReplayFault;
 use crate::replay::Moved;
 use gt_core::{Answer, Begun, Core, Handle, Request, Ticked};
 use gt_host::{
-    Labels, Rights, bytes_said, label_given, name_mapping, push_answer_line, request_of,
+    Labels, ScriptPolicy, call_bytes, label_given, name_mapping, push_answer_line, request_of,
 };
 use gt_lines::{ScriptCall, Text};
-use gt_script::Task;
+use gt_script::RunTask;
 use gt_types::DomId;
 use std::alloc::{AllocError, Global};
 
 /// What a domain has open.
 #[derive(Clone, Copy)]
-pub enum Doing<'s, 'a> {
+pub enum OpenTask<'s, 'a> {
     Nothing,
     /// The call of a line, which gives up this handle if it is answered Ok.
     Line {
@@ -31,10 +31,10 @@ pub enum Doing<'s, 'a> {
 #[derive(Drop)]
 pub struct Walker<'s, 'a> {
     pub(crate) dom: DomId,
-    pub(crate) tasks: Vec<&'s Task<'a>>,
+    pub(crate) tasks: Vec<&'s RunTask<'a>>,
     // How many of the tasks were begun.
     pub(crate) next: usize,
-    pub(crate) doing: Doing<'s, 'a>,
+    pub(crate) doing: OpenTask<'s, 'a>,
     pub(crate) labels: Labels<'a>,
     // The handles of its mappings.
     pub(crate) held: Vec<Handle>,
@@ -87,10 +87,10 @@ impl<'s, 'a> Walker<'s, 'a> {
     ghost use Rattle.std.specs.Option.{option_map};
     ghost use Rattle.gt_host.specs.Naming.{AreNamed};
     ghost use Rattle.gt_replay.specs.Walking.{IsAtEnd, tasks_left_of};
-    ghost use Rattle.gt_replay.specs.declared.walker.Doing.TheVariants as doing;
+    ghost use Rattle.gt_replay.specs.declared.walker.OpenTask.TheVariants as doing;
 
     /// The domain of this number before the first line of its list.
-    pub(crate) fn new(alloc: Global, dom: DomId, tasks: Vec<&'s Task<'a>>) -> Walker<'s, 'a>
+    pub(crate) fn new(alloc: Global, dom: DomId, tasks: Vec<&'s RunTask<'a>>) -> Walker<'s, 'a>
         ensures dom { result.dom ≡ dom }
         ensures tasks { result.tasks.items ≡ tasks.entry.items }
         ensures next { result.next ≡ 0 }
@@ -103,7 +103,7 @@ impl<'s, 'a> Walker<'s, 'a> {
             dom,
             tasks,
             next: 0,
-            doing: Doing::Nothing,
+            doing: OpenTask::Nothing,
             labels: Labels::new(alloc),
             held: Vec::new(alloc),
             text: Vec::new(alloc),
@@ -126,8 +126,8 @@ impl<'s, 'a> Walker<'s, 'a> {
         ensures idle { (result ≡ false) → self.now.doing ≡ doing.Nothing }
     {
         match self.doing {
-            Doing::Nothing => false,
-            Doing::Line { .. } | Doing::GivesBack => true,
+            OpenTask::Nothing => false,
+            OpenTask::Line { .. } | OpenTask::GivesBack => true,
         }
     }
 
@@ -142,8 +142,8 @@ impl<'s, 'a> Walker<'s, 'a> {
     /// The call of a line that it has open, if it has one.
     pub fn call(&self) -> Option<&'s ScriptCall<'a>> {
         match self.doing {
-            Doing::Line { call, .. } => Some(call),
-            Doing::Nothing | Doing::GivesBack => None,
+            OpenTask::Line { call, .. } => Some(call),
+            OpenTask::Nothing | OpenTask::GivesBack => None,
         }
     }
 
@@ -167,7 +167,7 @@ impl<'s, 'a> Walker<'s, 'a> {
     }
 
     /// Its next task, none at the end of its list.
-    pub fn task(&self) -> Option<&'s Task<'a>>
+    pub fn task(&self) -> Option<&'s RunTask<'a>>
         ensures task { option_map (λ t. t.now) result ≡ slice_get (tasks_left_of self.now) self.now.next }
         ensures room { IsSome result → self.now.next < length self.now.tasks.items }
         ensures end { IfNone result (length self.now.tasks.items ≤ self.now.next) }
@@ -185,12 +185,12 @@ impl<'s, 'a> Walker<'s, 'a> {
     ghost use Rattle.std.specs.Prelude.{IfErr, Some};
     ghost use Rattle.gt_core.specs.Standing.{setting_in};
     ghost use Rattle.gt_host.specs.Rights.{may_by};
-    ghost use Rattle.gt_script.specs.declared.tasks.DeedBy.TheVariants as deeds;
+    ghost use Rattle.gt_script.specs.declared.tasks.RunActionBy.TheVariants as deeds;
     ghost use Rattle.gt_core.specs.declared.trace.Answer.TheVariants as answers;
     ghost use Rattle.gt_replay.specs.Making.{BeginsLine, GivesBackAt, TicksOpen, StartKeeps, StepKeeps};
     ghost use Rattle.gt_replay.specs.declared.fault.ReplayFault.TheVariants as faults;
     ghost use Rattle.gt_replay.specs.Walking.{AnswersLine, ClosesCall, WalksTo, tasks_left_of};
-    ghost use Rattle.gt_replay.specs.declared.walker.Doing.TheVariants as doing;
+    ghost use Rattle.gt_replay.specs.declared.walker.OpenTask.TheVariants as doing;
 
     // The call of this line has its answer.
     fn answer(
@@ -207,7 +207,7 @@ impl<'s, 'a> Walker<'s, 'a> {
         name_mapping(&mut self.labels, self.dom, label_given(call), answer)?;
         hold(alloc, &mut self.held, gone, answer)?;
         push_answer_line(alloc, &mut self.text, types, line, self.dom, answer)?;
-        self.doing = Doing::Nothing;
+        self.doing = OpenTask::Nothing;
         Ok(())
     }
 
@@ -215,9 +215,9 @@ impl<'s, 'a> Walker<'s, 'a> {
     pub(crate) fn begin(
         &mut self,
         alloc: Global,
-        core: &mut Core<Rights>,
+        core: &mut Core<ScriptPolicy>,
         types: &[Text],
-        task: &'s Task<'a>,
+        task: &'s RunTask<'a>,
         call: &'s ScriptCall<'a>,
     ) -> Result<Option<Moved>, ReplayFault>
         requires next { slice_get (tasks_left_of self.old) self.old.next ≡ Some task.now }
@@ -232,7 +232,7 @@ impl<'s, 'a> Walker<'s, 'a> {
         ensures config { core.new.config ≡ core.old.config }
         ensures rights { core.new.rights ≡ core.old.rights }
     {
-        let bytes = bytes_said(alloc, call)?;
+        let bytes = call_bytes(alloc, call)?;
         let request = request_of(&self.labels, self.dom, bytes.as_slice(), call);
         let gone = given_up(request);
         let begun = core.begin(self.dom, request)?;
@@ -240,7 +240,7 @@ impl<'s, 'a> Walker<'s, 'a> {
             Begun::Open => {
                 self.next += 1;
                 let line = task.line;
-                self.doing = Doing::Line { line, call, gone };
+                self.doing = OpenTask::Line { line, call, gone };
                 Ok(Some(Moved::Began))
             }
             Begun::Done(answer) => {
@@ -255,7 +255,7 @@ impl<'s, 'a> Walker<'s, 'a> {
     // Begins to give one of its mappings back, at the end of its list.
     pub(crate) fn give_back(
         &mut self,
-        core: &mut Core<Rights>,
+        core: &mut Core<ScriptPolicy>,
         choice: usize,
     ) -> Result<Option<Moved>, ReplayFault>
         requires end { length self.old.tasks.items ≤ self.old.next }
@@ -277,7 +277,7 @@ impl<'s, 'a> Walker<'s, 'a> {
         let begun = core.begin(self.dom, Request::Unmap { handle })?;
         match begun {
             Begun::Open => {
-                self.doing = Doing::GivesBack;
+                self.doing = OpenTask::GivesBack;
                 return Ok(Some(Moved::Began));
             }
             Begun::Done(_) => return Err(ReplayFault::Keeps(self.dom)),
@@ -294,16 +294,16 @@ impl<'s, 'a> Walker<'s, 'a> {
             ⊎ ((self.old.doing ≡ doing.GivesBack) × (answer.now ≢ answers.Done))) }
     {
         match self.doing {
-            Doing::Nothing => Ok(false),
-            Doing::Line { line, call, gone } => {
+            OpenTask::Nothing => Ok(false),
+            OpenTask::Line { line, call, gone } => {
                 self.answer(alloc, types, line, call, gone, answer)?;
                 Ok(true)
             }
-            Doing::GivesBack => {
+            OpenTask::GivesBack => {
                 let Answer::Done = answer else {
                     return Err(ReplayFault::Keeps(self.dom));
                 };
-                self.doing = Doing::Nothing;
+                self.doing = OpenTask::Nothing;
                 Ok(true)
             }
         }
@@ -313,7 +313,7 @@ impl<'s, 'a> Walker<'s, 'a> {
     pub(crate) fn tick(
         &mut self,
         alloc: Global,
-        core: &mut Core<Rights>,
+        core: &mut Core<ScriptPolicy>,
         types: &[Text],
     ) -> Result<Option<Moved>, ReplayFault>
         requires { self.old.doing ≢ doing.Nothing }

@@ -22,12 +22,12 @@ use Rattle.gt_live.specs.declared.domain.Domain.{Domain}
 use Rattle.gt_live.specs.declared.monitor.Monitor.{Monitor}
 use Rattle.gt_types.specs.declared.DomId.{DomId}
 use Rattle.gt_run.specs.Asking.{AnswersCall, Asks}
-use Rattle.gt_run.specs.Serving.{Calls, IsKeptAt, TellsOutcomes, Makes, MakesCall, Outcome, ListProgress, Records}
+use Rattle.gt_run.specs.Serving.{Calls, IsKeptAt, TellsOutcomes, Makes, MakesCall, ListOutcome, ListProgress, Records}
 use Rattle.gt_run.specs.Serving.{answer_lines}
 use Rattle.gt_run.specs.Serving.{counted, is_logged, lost_in, record_made, records_told}
-use Rattle.gt_run.specs.Telling.{TellsNext, TellsWhere}
-use Rattle.gt_run.specs.declared.lists.Duty.{Duty}
-use Rattle.gt_run.specs.declared.telling.Teller.{Teller}
+use Rattle.gt_run.specs.Telling.{TellsNext, LogsTrail}
+use Rattle.gt_run.specs.declared.lists.ThreadJob.{ThreadJob}
+use Rattle.gt_run.specs.declared.telling.TrailLogger.{TrailLogger}
 
 -- the trail has the record that a call makes, or counts it as lost; where it makes none, the trail is as it was
 abbrev AddsRecord : Option Record → Telling → Telling → Type 0
@@ -75,15 +75,15 @@ one_more_pushed : (most a b s : ℕ) → min (a + b) most ≡ min s most → min
 one_more_pushed most a b s e = omega (arith, e)
 
 -- one outcome more
-told_behind : (os : List Outcome) (o : Outcome) → records_told (os ++ o ∷ []) ≡ records_told os ++ o.told
-told_behind os o = flat_map-append (λ (x : Outcome). x.told) os (o ∷ []) ∙ ap (λ (l : List Record). records_told os ++ l) (append-nil o.told)
+told_behind : (os : List ListOutcome) (o : ListOutcome) → records_told (os ++ o ∷ []) ≡ records_told os ++ o.told
+told_behind os o = flat_map-append (λ (x : ListOutcome). x.told) os (o ∷ []) ∙ ap (λ (l : List Record). records_told os ++ l) (append-nil o.told)
 
-lost_behind : (os : List Outcome) (o : Outcome) → lost_in (os ++ o ∷ []) ≡ lost_in os + o.lost
-lost_behind os o = sum_by-append (λ (x : Outcome). x.lost) os (o ∷ []) ∙ ap (λ (n : ℕ). lost_in os + n) (omega arith)
+lost_behind : (os : List ListOutcome) (o : ListOutcome) → lost_in (os ++ o ∷ []) ≡ lost_in os + o.lost
+lost_behind os o = sum_by-append (λ (x : ListOutcome). x.lost) os (o ∷ []) ∙ ap (λ (n : ℕ). lost_in os + n) (omega arith)
 
-lines_behind : (names : List (List ℕ)) (dom : DomId) (os : List Outcome) (o : Outcome) → answer_lines names dom (os ++ o ∷ []) ≡ answer_lines names dom os ++ answer_line names o.line dom o.answer
+lines_behind : (names : List (List ℕ)) (dom : DomId) (os : List ListOutcome) (o : ListOutcome) → answer_lines names dom (os ++ o ∷ []) ≡ answer_lines names dom os ++ answer_line names o.line dom o.answer
 lines_behind names dom os o =
-    flat_map-append (λ (x : Outcome). answer_line names x.line dom x.answer) os (o ∷ []) ∙ ap (λ (l : List ℕ). answer_lines names dom os ++ l) (append-nil (answer_line names o.line dom o.answer))
+    flat_map-append (λ (x : ListOutcome). answer_line names x.line dom x.answer) os (o ∷ []) ∙ ap (λ (l : List ℕ). answer_lines names dom os ++ l) (append-nil (answer_line names o.line dom o.answer))
 
 -- the records behind those that were pushed
 next_read : (records : List Record) (r : Record) → slice_get (records ++ r ∷ []) (length records) ≡ Some r
@@ -94,7 +94,7 @@ none_next : (old new : List Record) (next : ℕ) → next ≡ length old → new
 none_next old new next n same = slice_get_past new next (omega (arith, n, ap length same))
 
 -- what a call adds to what was pushed, and to what was lost
-record Added (logged : Bool) (made : Option Record) (trail : Telling) (teller : Option Teller) (outcomes : List Outcome) : Type 0 where
+record Added (logged : Bool) (made : Option Record) (trail : Telling) (teller : Option TrailLogger) (outcomes : List ListOutcome) : Type 0 where
   told : List Record
   lost : ℕ
   records : Records logged made told lost
@@ -102,12 +102,12 @@ record Added (logged : Bool) (made : Option Record) (trail : Telling) (teller : 
   kept : (line : ℕ) (answer : Answer) → TellsOutcomes trail teller (outcomes ++ record { line = line; answer = answer; told = told; lost = lost } ∷ [])
 
 -- one outcome more, of a record that went so
-pushed_more : (told : List (ℕ × Record)) (more : List (ℕ × Record)) (records : List Record) (os : List Outcome) (o : Outcome)
+pushed_more : (told : List (ℕ × Record)) (more : List (ℕ × Record)) (records : List Record) (os : List ListOutcome) (o : ListOutcome)
     → map (λ (e : ℕ × Record). e.1) told ≡ records_told os → map (λ (e : ℕ × Record). e.1) more ≡ o.told → map (λ (e : ℕ × Record). e.1) (told ++ more) ≡ records_told (os ++ o ∷ [])
 pushed_more told more records os o e f = map-append (λ (x : ℕ × Record). x.1) told more ∙ cc (e, f, told_behind os o)
 
 -- nothing was pushed, and nothing lost
-quiet : (trail : Telling) (t : Teller) (os : List Outcome) (o : Outcome) → o.told ≡ [] → o.lost ≡ 0 → TellsOutcomes trail (Some t) os → TellsOutcomes trail (Some t) (os ++ o ∷ [])
+quiet : (trail : Telling) (t : TrailLogger) (os : List ListOutcome) (o : ListOutcome) → o.told ≡ [] → o.lost ≡ 0 → TellsOutcomes trail (Some t) os → TellsOutcomes trail (Some t) (os ++ o ∷ [])
 quiet trail t os o none zero i = (
   i.0,
   i.1 ∙ sym (told_behind os o ∙ ap (λ (l : List Record). records_told os ++ l) none ∙ append-nil (records_told os)),
@@ -115,7 +115,7 @@ quiet trail t os o none zero i = (
 )
 
 -- there is a record more to push
-tells_one : (old new : Telling) (r : Record) (t u : Teller) (os : List Outcome) → new.records ≡ old.records ++ r ∷ [] → new.lost ≡ old.lost → TellsOutcomes old (Some t) os
+tells_one : (old new : Telling) (r : Record) (t u : TrailLogger) (os : List ListOutcome) → new.records ≡ old.records ++ r ∷ [] → new.lost ≡ old.lost → TellsOutcomes old (Some t) os
     → TellsNext (slice_get new.records t.next) (length new.records) t u → Added true (Some r) new (Some u) os
 tells_one old new r t u os grew same i tells =
     let at : slice_get new.records t.next ≡ Some r =
@@ -148,11 +148,11 @@ tells_one old new r t u os grew same i tells =
     ]
 
 -- the trail lost the record
-tells_lost : (old new : Telling) (r : Record) (t u : Teller) (os : List Outcome) → new.records ≡ old.records → new.lost ≡ counted (old.lost + 1) → TellsOutcomes old (Some t) os
+tells_lost : (old new : Telling) (r : Record) (t u : TrailLogger) (os : List ListOutcome) → new.records ≡ old.records → new.lost ≡ counted (old.lost + 1) → TellsOutcomes old (Some t) os
     → TellsNext (slice_get new.records t.next) (length new.records) t u → Added true (Some r) new (Some u) os
 tells_lost old new r t u os same lost i tells =
     let u_is : u ≡ t = subst (λ (x : Option Record). TellsNext x (length new.records) t u) (none_next old.records new.records t.next i.0 same) tells in
-    subst (λ (x : Teller). Added true (Some r) new (Some x) os) (sym u_is) (record {
+    subst (λ (x : TrailLogger). Added true (Some r) new (Some x) os) (sym u_is) (record {
       told = [];
       lost = 1;
       records = inr (refl, refl);
@@ -166,12 +166,12 @@ tells_lost old new r t u os same lost i tells =
     })
 
 -- the call made no record
-tells_none : (old new : Telling) (t u : Teller) (os : List Outcome) → new ≡ old → TellsOutcomes old (Some t) os
+tells_none : (old new : Telling) (t u : TrailLogger) (os : List ListOutcome) → new ≡ old → TellsOutcomes old (Some t) os
     → TellsNext (slice_get new.records t.next) (length new.records) t u → Added true None new (Some u) os
 tells_none old new t u os same i tells =
     let u_is : u ≡ t = subst (λ (x : Option Record). TellsNext x (length new.records) t u)
     (none_next old.records new.records t.next i.0 (ap (λ (x : Telling). x.records) same)) tells in
-    subst (λ (x : Teller). Added true None new (Some x) os) (sym u_is) (record {
+    subst (λ (x : TrailLogger). Added true None new (Some x) os) (sym u_is) (record {
       told = [];
       lost = 0;
       records = (refl, refl);
@@ -180,7 +180,7 @@ tells_none old new t u os same i tells =
     })
 
 -- what the next push came to, where there is a log
-tells_some : (made : Option Record) (old new : Telling) (t u : Teller) (os : List Outcome) → AddsRecord made old new → TellsOutcomes old (Some t) os
+tells_some : (made : Option Record) (old new : Telling) (t u : TrailLogger) (os : List ListOutcome) → AddsRecord made old new → TellsOutcomes old (Some t) os
     → TellsNext (slice_get new.records t.next) (length new.records) t u → Added true made new (Some u) os
 tells_some None old new t u os same i tells = tells_none old new t u os same i tells
 tells_some (Some r) old new t u os a i tells = elim a.told [
@@ -192,32 +192,32 @@ unlogged : (made : Option Record) → Records false made [] 0
 unlogged made = (refl, refl)
 
 -- and without one
-tells_where : (logged : Bool) (made : Option Record) (old new : Telling) (t u : Option Teller) (os : List Outcome) → is_some t ≡ logged → AddsRecord made old new → TellsOutcomes old t os
-    → TellsWhere new t u → Added logged made new u os
+tells_where : (logged : Bool) (made : Option Record) (old new : Telling) (t u : Option TrailLogger) (os : List ListOutcome) → is_some t ≡ logged → AddsRecord made old new → TellsOutcomes old t os
+    → LogsTrail new t u → Added logged made new u os
 tells_where logged made old new None u os asked a i is =
-    subst (λ (b : Bool). Added b made new u os) asked (subst (λ (x : Option Teller). Added false made new x os) (sym is) (record {
+    subst (λ (b : Bool). Added b made new u os) asked (subst (λ (x : Option TrailLogger). Added false made new x os) (sym is) (record {
       told = [];
       lost = 0;
       records = unlogged made;
       asked = refl;
       kept = λ line answer.
-          let o : Outcome = record { line = line; answer = answer; told = []; lost = 0 } in
+          let o : ListOutcome = record { line = line; answer = answer; told = []; lost = 0 } in
           (told_behind os o ∙ append-nil (records_told os) ∙ i.0, lost_behind os o ∙ omega (arith, i.1));
     }))
 tells_where logged made old new (Some t) u os asked a i (next, is, tells) =
     subst (λ (b : Bool). Added b made new u os) asked
-    (subst (λ (x : Option Teller). Added true made new x os) (sym is) (tells_some made old new t next os a i tells))
+    (subst (λ (x : Option TrailLogger). Added true made new x os) (sym is) (tells_some made old new t next os a i tells))
 
 -- the call of a line was made, its record was pushed, and its answer is printed
-pub calls : {P : Type 0} (may : P → AllowRelation) (duty : Duty P) (line : ℕ) (call : ScriptCall) (d e : Domain) (before after : Labels) (t u : Option Teller) (answer : Answer) (text : List ℕ)
-    → Makes may duty call d e before after answer → TellsWhere e.trail t u → text ≡ answer_line duty.part.types.now line duty.part.dom answer
+pub calls : {P : Type 0} (may : P → AllowRelation) (duty : ThreadJob P) (line : ℕ) (call : ScriptCall) (d e : Domain) (before after : Labels) (t u : Option TrailLogger) (answer : Answer) (text : List ℕ)
+    → Makes may duty call d e before after answer → LogsTrail e.trail t u → text ≡ answer_line duty.part.types.now line duty.part.dom answer
     → Calls may duty line call d e before after t u text
 calls may duty line call d e before after t u answer text makes tells is = λ p kept.
     let made = makes p.named kept.names in
     let own : AddsRecord (record_made duty.part.dom d made.0 answer) d.trail e.trail =
     subst (λ (x : DomId). AddsRecord (record_made x d made.0 answer) d.trail e.trail) kept.own (adds_record may duty.monitor.now d made.0 answer e made.2.1) in
     let added = tells_where (is_logged duty) _ d.trail e.trail t u p.outcomes kept.asked own kept.told tells in
-    let o : Outcome = record { line = line; answer = answer; told = added.told; lost = added.lost } in (
+    let o : ListOutcome = record { line = line; answer = answer; told = added.told; lost = added.lost } in (
       record { domain = e; named = with_name p.named duty.part.dom (label_given call) (handle_given answer); outcomes = p.outcomes ++ o ∷ [] },
       record {
         request = made.0;
@@ -235,8 +235,8 @@ calls may duty line call d e before after t u answer text makes tells is = λ p 
     )
 
 -- the same of a call that may have had no memory, and had it
-pub calls_of : {P E : Type 0} (may : P → AllowRelation) (duty : Duty P) (line : ℕ) (call : ScriptCall) (d e : Domain) (before after : Labels) (t u : Option Teller) (r : Result Answer E) (answer : Answer) (none text : List ℕ)
-    → r ≡ Ok answer → IfOk r (Makes may duty call d e before after) → TellsWhere e.trail t u → none ≡ [] → text ≡ none ++ answer_line duty.part.types.now line duty.part.dom answer
+pub calls_of : {P E : Type 0} (may : P → AllowRelation) (duty : ThreadJob P) (line : ℕ) (call : ScriptCall) (d e : Domain) (before after : Labels) (t u : Option TrailLogger) (r : Result Answer E) (answer : Answer) (none text : List ℕ)
+    → r ≡ Ok answer → IfOk r (Makes may duty call d e before after) → LogsTrail e.trail t u → none ≡ [] → text ≡ none ++ answer_line duty.part.types.now line duty.part.dom answer
     → Calls may duty line call d e before after t u text
 calls_of may duty line call d e before after t u r answer none text was made tells empty is =
     calls may duty line call d e before after t u answer text (subst (λ (q : Result Answer _). IfOk q (Makes may duty call d e before after)) was made) tells

@@ -33,28 +33,28 @@ use Rattle.gt_run.specs.Printing.{AreDuties, AreServed, BeginsLists, BeginsRunTe
 use Rattle.gt_run.specs.Printing.{WritesLists}
 use Rattle.gt_run.specs.Printing.{all_lost, audits_in, duties_in, promised, texts_in}
 use Rattle.gt_run.specs.Runs.{Wrote, WroteLists}
-use Rattle.gt_run.specs.Serving.{AreReady, IsBegun, IsFirst, IsReady, IsServed, Outcome, Serves, ServesAll, ServesSome}
+use Rattle.gt_run.specs.Serving.{AreReady, IsBegun, IsFirst, IsReady, IsServed, ListOutcome, Serves, ServesAll, ServesSome}
 use Rattle.gt_run.specs.Serving.{list_start, audit_lines, counted, lost_in}
 use Rattle.gt_run.specs.declared.fault.RunFault.{RunFault}
 use Rattle.gt_run.specs.declared.fault.RunFault.TheVariants.{Play, Thread}
-use Rattle.gt_run.specs.declared.lists.Duty.{Duty}
-use Rattle.gt_run.specs.declared.lists.Part.{Part}
+use Rattle.gt_run.specs.declared.lists.ThreadJob.{ThreadJob}
+use Rattle.gt_run.specs.declared.lists.DomainPart.{DomainPart}
 use Rattle.gt_run.specs.declared.serving.Output.{Output}
-use Rattle.gt_run.specs.declared.telling.Teller.{Teller}
-use Rattle.gt_run.specs.declared.threads.Refusal.{Refusal}
-use Rattle.gt_run.specs.declared.threads.Refusal.TheVariants as refusals
+use Rattle.gt_run.specs.declared.telling.TrailLogger.{TrailLogger}
+use Rattle.gt_run.specs.declared.threads.ThreadRefusal.{ThreadRefusal}
+use Rattle.gt_run.specs.declared.threads.ThreadRefusal.TheVariants as refusals
 
 -- what comes of a duty
 
 -- no line was served yet
-pub begun_not : {P : Type 0} (may : P → AllowRelation) (duty : Duty P) (s : Stand P) (text : List ℕ) → text ≡ [] → IsReady may duty.monitor.now duty.part.dom s → IsBegun may duty text
+pub begun_not : {P : Type 0} (may : P → AllowRelation) (duty : ThreadJob P) (s : Stand P) (text : List ℕ) → text ≡ [] → IsReady may duty.monitor.now duty.part.dom s → IsBegun may duty text
 begun_not may duty s text none ready =
     record { domain = s.domain; first = ready.1; number = 0; left = list_start s.domain; leads = refl; prints = none }
 
-begun : {P : Type 0} (may : P → AllowRelation) (duty : Duty P) (d : Domain) (text : List ℕ) → IsFirst may duty.monitor.now duty.part.dom d → ServesSome may duty d text → IsBegun may duty text
+begun : {P : Type 0} (may : P → AllowRelation) (duty : ThreadJob P) (d : Domain) (text : List ℕ) → IsFirst may duty.monitor.now duty.part.dom d → ServesSome may duty d text → IsBegun may duty text
 begun may duty d text first s = record { domain = d; first = first; number = s.number; left = s.left; leads = s.leads; prints = s.prints }
 
-served : {P : Type 0} (may : P → AllowRelation) (duty : Duty P) (d e : Domain) (text : List ℕ) (t : Option Teller) → IsFirst may duty.monitor.now duty.part.dom d
+served : {P : Type 0} (may : P → AllowRelation) (duty : ThreadJob P) (d e : Domain) (text : List ℕ) (t : Option TrailLogger) → IsFirst may duty.monitor.now duty.part.dom d
     → (s : ServesAll may duty d text e t) → IsServed may duty s.left.outcomes text
 served may duty d e text t first s = record {
   domain = d;
@@ -73,7 +73,7 @@ if_ok_as (Ok v) P Q f p = f v p
 if_ok_as (Err e) P Q f p = tt
 
 -- a list was served without a log
-pub came_plain : {P : Type 0} (may : P → AllowRelation) (duty : Duty P) (s : Stand P) (e : Domain) (whole : Bool) (t : Option Teller) (o : Output) → IsReady may duty.monitor.now duty.part.dom s
+pub came_plain : {P : Type 0} (may : P → AllowRelation) (duty : ThreadJob P) (s : Stand P) (e : Domain) (whole : Bool) (t : Option TrailLogger) (o : Output) → IsReady may duty.monitor.now duty.part.dom s
     → t ≡ None → Serves may duty s.domain whole o.text.items e t → IfOk o.audit (λ a. a.items ≡ []) → o.lost ≡ 0 → CameBy whole may duty o
 came_plain may duty s e false t o ready none serves audit lost = begun may duty s.domain o.text.items ready.1 serves
 came_plain may duty s e true (Some t) o ready none serves audit lost = let e : Some t ≡ None = none in cc
@@ -85,7 +85,7 @@ came_plain may duty s e true None o ready none serves audit lost = (
 )
 
 -- a list was served with one
-pub came_told : {P : Type 0} (may : P → AllowRelation) (duty : Duty P) (s : Stand P) (e : Domain) (trail : Telling) (whole : Bool) (t : Option Teller) (u : Teller) (o : Output)
+pub came_told : {P : Type 0} (may : P → AllowRelation) (duty : ThreadJob P) (s : Stand P) (e : Domain) (trail : Telling) (whole : Bool) (t : Option TrailLogger) (u : TrailLogger) (o : Output)
     → IsReady may duty.monitor.now duty.part.dom s → t ≡ Some u → trail ≡ e.trail → Serves may duty s.domain whole o.text.items e t
     → IfOk o.audit (λ a. a.items ≡ flat_map (line_text (type_text (λ name. name) duty.part.types.now)) (map (λ x. x.1) u.told.told))
     → o.lost ≡ counted (trail.lost + u.told.lost) → CameBy whole may duty o
@@ -95,21 +95,21 @@ came_told may duty s e trail true (Some t) u o ready some same serves audit lost
     let is : t ≡ u = cc some in (
       serves.left.outcomes,
       served may duty s.domain e o.text.items (Some t) ready.1 serves,
-      if_ok_as o.audit _ _ (λ a of_u. of_u ∙ ap (λ (x : Teller). flat_map (line_text (type_text (λ name. name) duty.part.types.now)) (map (λ y. y.1) x.told.told)) (sym is)
+      if_ok_as o.audit _ _ (λ a of_u. of_u ∙ ap (λ (x : TrailLogger). flat_map (line_text (type_text (λ name. name) duty.part.types.now)) (map (λ y. y.1) x.told.told)) (sym is)
           ∙ ap (flat_map (line_text (type_text (λ name. name) duty.part.types.now))) serves.told.1) audit,
-      lost ∙ ap (λ (x : Teller). counted (trail.lost + x.told.lost)) (sym is) ∙ ap (λ (x : Telling). counted (x.lost + t.told.lost)) same ∙ serves.told.2,
+      lost ∙ ap (λ (x : TrailLogger). counted (trail.lost + x.told.lost)) (sym is) ∙ ap (λ (x : Telling). counted (x.lost + t.told.lost)) same ∙ serves.told.2,
     )
 
 -- starting
 
 -- one duty more
-pub duties_more : {P : Type 0} (m : Monitor P) (logged : Bool) (parts : List Part) (i : ℕ) (p : Part) (ds : List (Duty P)) (d : Duty P) → i < length parts → p ≡ get_or parts i p → d.part ≡ p
+pub duties_more : {P : Type 0} (m : Monitor P) (logged : Bool) (parts : List DomainPart) (i : ℕ) (p : DomainPart) (ds : List (ThreadJob P)) (d : ThreadJob P) → i < length parts → p ≡ get_or parts i p → d.part ≡ p
     → d.monitor.now ≡ m → is_some d.log ≡ logged → AreDuties m logged (take i parts) ds → AreDuties m logged (take (i + 1) parts) (ds ++ d ∷ [])
 duties_more {P} m logged parts i p ds d within is of_part over log (same, all) = (
-  map-append (λ (x : Duty _). x.part) ds (d ∷ []) ∙ ap (λ l. l ++ d.part ∷ []) same ∙ ap (λ (x : Part). take i parts ++ x ∷ []) (of_part ∙ is)
+  map-append (λ (x : ThreadJob _). x.part) ds (d ∷ []) ∙ ap (λ l. l ++ d.part ∷ []) same ∙ ap (λ (x : DomainPart). take i parts ++ x ∷ []) (of_part ∙ is)
       ∙ sym (rw add-one (take-suc parts i p within)),
-  All-append (λ (x : Duty P). (x.monitor.now ≡ m) × (is_some x.log ≡ logged)) ds (d ∷ []) all
-      (All-cons (λ (x : Duty P). (x.monitor.now ≡ m) × (is_some x.log ≡ logged)) d [] (over, log) (All-nil (λ (x : Duty P). (x.monitor.now ≡ m) × (is_some x.log ≡ logged)))),
+  All-append (λ (x : ThreadJob P). (x.monitor.now ≡ m) × (is_some x.log ≡ logged)) ds (d ∷ []) all
+      (All-cons (λ (x : ThreadJob P). (x.monitor.now ≡ m) × (is_some x.log ≡ logged)) d [] (over, log) (All-nil (λ (x : ThreadJob P). (x.monitor.now ≡ m) × (is_some x.log ≡ logged)))),
 )
 
 -- a push that did not fail
@@ -117,29 +117,29 @@ pub pushed_items : {A V E : Type 0} (r : Result V E) (old more new : List A) (fa
 pushed_items (Ok v) old more new failed items well same = items
 pushed_items (Err x) old more new failed items well same = absurd (false≢true (sym well ∙ same))
 
-promised_more : {P : Type 0} (hs : List (PromisedHandle Output (Duty P))) (h : PromisedHandle Output (Duty P)) → promised (hs ++ h ∷ []) ≡ promised hs ++ h.promise ∷ []
-promised_more {P} hs h = map-append (λ (x : PromisedHandle Output (Duty P)). x.promise) hs (h ∷ [])
+promised_more : {P : Type 0} (hs : List (PromisedHandle Output (ThreadJob P))) (h : PromisedHandle Output (ThreadJob P)) → promised (hs ++ h ∷ []) ≡ promised hs ++ h.promise ∷ []
+promised_more {P} hs h = map-append (λ (x : PromisedHandle Output (ThreadJob P)). x.promise) hs (h ∷ [])
 
 -- the thread of one duty more was kept
-pub duties_pushed : {P : Type 0} (m : Monitor P) (parts : List Part) (i : ℕ) (p : Part) (logged : Bool) (hs new : List (PromisedHandle Output (Duty P))) (h : PromisedHandle Output (Duty P)) (d : Duty P)
+pub duties_pushed : {P : Type 0} (m : Monitor P) (parts : List DomainPart) (i : ℕ) (p : DomainPart) (logged : Bool) (hs new : List (PromisedHandle Output (ThreadJob P))) (h : PromisedHandle Output (ThreadJob P)) (d : ThreadJob P)
     → i < length parts → p ≡ get_or parts i p → h.promise ≡ d → d.part ≡ p → d.monitor.now ≡ m → is_some d.log ≡ logged → new ≡ hs ++ h ∷ []
     → AreDuties m logged (take i parts) (promised hs) → AreDuties m logged (take (i + 1) parts) (promised new)
 duties_pushed {P} m parts i p logged hs new h d within is kept part over log items are =
-    let grown : promised new ≡ promised hs ++ d ∷ [] = ap promised items ∙ promised_more hs h ∙ ap (λ (x : Duty P). promised hs ++ x ∷ []) kept in
-    subst (λ (l : List (Duty P)). AreDuties m logged (take (i + 1) parts) l) (sym grown) (duties_more m logged parts i p (promised hs) d within is part over log are)
+    let grown : promised new ≡ promised hs ++ d ∷ [] = ap promised items ∙ promised_more hs h ∙ ap (λ (x : ThreadJob P). promised hs ++ x ∷ []) kept in
+    subst (λ (l : List (ThreadJob P)). AreDuties m logged (take (i + 1) parts) l) (sym grown) (duties_more m logged parts i p (promised hs) d within is part over log are)
 
 -- the next domain is ready for the next part, and the others for the others
-ready_step : {P : Type 0} (may : P → AllowRelation) (m : Monitor P) (stands rest : List (Stand P)) (s : Stand P) (parts : List Part) (i : ℕ) (p : Part) → i < length parts → p ≡ get_or parts i p
+ready_step : {P : Type 0} (may : P → AllowRelation) (m : Monitor P) (stands rest : List (Stand P)) (s : Stand P) (parts : List DomainPart) (i : ℕ) (p : DomainPart) → i < length parts → p ≡ get_or parts i p
     → stands ≡ s ∷ rest → AreReady may m stands (drop i parts) → IsReady may m p.dom s × AreReady may m rest (drop (i + 1) parts)
 ready_step may m stands rest s parts i p within is next ready =
-    let at : drop i parts ≡ p ∷ drop (i + 1) parts = rw add-one (drop-cons parts i p within ∙ ap (λ (x : Part). x ∷ drop (suc i) parts) (sym is)) in
-    subst (λ (l : List Part). AllZip (λ x y. IsReady may m y.dom x) (s ∷ rest) l) at (subst (λ (l : List (Stand _)). AreReady may m l (drop i parts)) next ready)
+    let at : drop i parts ≡ p ∷ drop (i + 1) parts = rw add-one (drop-cons parts i p within ∙ ap (λ (x : DomainPart). x ∷ drop (suc i) parts) (sym is)) in
+    subst (λ (l : List DomainPart). AllZip (λ x y. IsReady may m y.dom x) (s ∷ rest) l) at (subst (λ (l : List (Stand _)). AreReady may m l (drop i parts)) next ready)
 
-pub ready_next : {P : Type 0} (may : P → AllowRelation) (m : Monitor P) (stands rest : List (Stand P)) (s : Stand P) (parts : List Part) (i : ℕ) (p : Part) → i < length parts → p ≡ get_or parts i p
+pub ready_next : {P : Type 0} (may : P → AllowRelation) (m : Monitor P) (stands rest : List (Stand P)) (s : Stand P) (parts : List DomainPart) (i : ℕ) (p : DomainPart) → i < length parts → p ≡ get_or parts i p
     → stands ≡ s ∷ rest → AreReady may m stands (drop i parts) → IsReady may m p.dom s
 ready_next may m stands rest s parts i p within is next ready = (ready_step may m stands rest s parts i p within is next ready).0
 
-pub ready_rest : {P : Type 0} (may : P → AllowRelation) (m : Monitor P) (stands rest : List (Stand P)) (s : Stand P) (parts : List Part) (i : ℕ) (p : Part) → i < length parts → p ≡ get_or parts i p
+pub ready_rest : {P : Type 0} (may : P → AllowRelation) (m : Monitor P) (stands rest : List (Stand P)) (s : Stand P) (parts : List DomainPart) (i : ℕ) (p : DomainPart) → i < length parts → p ≡ get_or parts i p
     → stands ≡ s ∷ rest → AreReady may m stands (drop i parts) → AreReady may m rest (drop (i + 1) parts)
 ready_rest may m stands rest s parts i p within is next ready = (ready_step may m stands rest s parts i p within is next ready).1
 
@@ -168,11 +168,11 @@ late_now r well f was (inl same) = cc
 late_now r well f was (inr memory) = inl memory
 
 -- one list more
-goes_on : {P : Type 0} (may : P → AllowRelation) (rest : List (Duty P)) (d : Duty P) (text : List ℕ) → PrintsOn may rest text → PrintsOn may (rest ++ d ∷ []) text
+goes_on : {P : Type 0} (may : P → AllowRelation) (rest : List (ThreadJob P)) (d : ThreadJob P) (text : List ℕ) → PrintsOn may rest text → PrintsOn may (rest ++ d ∷ []) text
 goes_on may [] d text none = inl none
 goes_on may (next ∷ rest) d text on = on
 
-begins_more : {P : Type 0} (may : P → AllowRelation) (ds : List (Duty P)) (d : Duty P) (old now new : Option (List ℕ)) → BeginsLists may ds old now → Keeps now new → BeginsLists may (ds ++ d ∷ []) old new
+begins_more : {P : Type 0} (may : P → AllowRelation) (ds : List (ThreadJob P)) (d : ThreadJob P) (old now new : Option (List ℕ)) → BeginsLists may ds old now → Keeps now new → BeginsLists may (ds ++ d ∷ []) old new
 begins_more may ds d old now new (all, rest, text, same, are, on, out) kept = (
   all,
   rest ++ d ∷ [],
@@ -194,7 +194,7 @@ audits_behind all s =
 all_lost_behind : {P : Type 0} (all : List (Served P)) (s : Served P) → all_lost (all ++ s ∷ []) ≡ all_lost all + lost_in s.outcomes
 all_lost_behind all s = sum_by-append (λ (x : Served _). lost_in x.outcomes) all (s ∷ []) ∙ ap (λ (n : ℕ). all_lost all + n) (omega arith)
 
-duties_behind : {P : Type 0} (all : List (Served P)) (s : Served P) (ds : List (Duty P)) → duties_in all ≡ ds → duties_in (all ++ s ∷ []) ≡ ds ++ s.duty ∷ []
+duties_behind : {P : Type 0} (all : List (Served P)) (s : Served P) (ds : List (ThreadJob P)) → duties_in all ≡ ds → duties_in (all ++ s ∷ []) ≡ ds ++ s.duty ∷ []
 duties_behind all s ds same = map-append (λ (x : Served _). x.duty) all (s ∷ []) ∙ ap (λ l. l ++ s.duty ∷ []) same
 
 both_ok : {V E : Type 0} (r : Result V E) (P Q : V → Type 0) → IsOk r → IfOk r P → IfOk r Q → (v : V) × P v × Q v
@@ -202,7 +202,7 @@ both_ok (Ok v) P Q ok p q = (v, p, q)
 both_ok (Err e) P Q ok p q = let o : false ≡ true = ok in cc
 
 -- the lists that were served, and one more
-lists_more : {P : Type 0} (may : P → AllowRelation) (all : List (Served P)) (s : Served P) (ds : List (Duty P)) (old now new : Option (List ℕ)) → WritesLists may ds all old now
+lists_more : {P : Type 0} (may : P → AllowRelation) (all : List (Served P)) (s : Served P) (ds : List (ThreadJob P)) (old now new : Option (List ℕ)) → WritesLists may ds all old now
     → IsServed may s.duty s.outcomes s.text → Appends now new s.text → WritesLists may (ds ++ s.duty ∷ []) (all ++ s ∷ []) old new
 lists_more {P} may all s ds old now new (same, are, out) is more = (
   duties_behind all s ds same,
@@ -212,7 +212,7 @@ lists_more {P} may all s ds old now new (same, are, out) is more = (
 )
 
 -- the same, of which a beginning went out
-begins_served : {P : Type 0} (may : P → AllowRelation) (all : List (Served P)) (s : Served P) (ds : List (Duty P)) (old now new : Option (List ℕ)) → WritesLists may ds all old now
+begins_served : {P : Type 0} (may : P → AllowRelation) (all : List (Served P)) (s : Served P) (ds : List (ThreadJob P)) (old now new : Option (List ℕ)) → WritesLists may ds all old now
     → IsServed may s.duty s.outcomes s.text → AppendsBeginning now new s.text → BeginsLists may (ds ++ s.duty ∷ []) old new
 begins_served {P} may all s ds old now new (same, are, out) is more = (
   all ++ s ∷ [],
@@ -226,7 +226,7 @@ begins_served {P} may all s ds old now new (same, are, out) is more = (
       (begins_after old now new (texts_in all) s.text out more),
 )
 
-begins_next : {P : Type 0} (may : P → AllowRelation) (all : List (Served P)) (d : Duty P) (text : List ℕ) (ds : List (Duty P)) (old now new : Option (List ℕ)) → WritesLists may ds all old now
+begins_next : {P : Type 0} (may : P → AllowRelation) (all : List (Served P)) (d : ThreadJob P) (text : List ℕ) (ds : List (ThreadJob P)) (old now new : Option (List ℕ)) → WritesLists may ds all old now
     → IsBegun may d text → AppendsBeginning now new text → BeginsLists may (ds ++ d ∷ []) old new
 begins_next may all d text ds old now new (same, are, out) is more = (
   all,
@@ -239,7 +239,7 @@ begins_next may all d text ds old now new (same, are, out) is more = (
 )
 
 -- a list that was joined, of which a beginning went out
-begins_one : {P : Type 0} (may : P → AllowRelation) (all : List (Served P)) (d : Duty P) (whole : Bool) (o : Output) (ds : List (Duty P)) (old now new : Option (List ℕ)) → WritesLists may ds all old now
+begins_one : {P : Type 0} (may : P → AllowRelation) (all : List (Served P)) (d : ThreadJob P) (whole : Bool) (o : Output) (ds : List (ThreadJob P)) (old now new : Option (List ℕ)) → WritesLists may ds all old now
     → CameBy whole may d o → AppendsBeginning now new o.text.items → BeginsLists may (ds ++ d ∷ []) old new
 begins_one may all d true o ds old now new lists came out =
     begins_served may all (record { duty = d; outcomes = came.0; text = o.text.items }) ds old now new lists came.1 out
@@ -258,7 +258,7 @@ count_more : (most a b l0 lost l1 : ℕ) → l1 ≡ min (l0 + lost) most → l0 
 count_more most a b l0 lost l1 is before more = omega (arith, is, before, more)
 
 -- a list was joined, and all went well
-joins_well : {P : Type 0} (may : P → AllowRelation) (ds : List (Duty P)) (d : Duty P) (o : Output) (a0 a1 : List ℕ) (l0 l1 : ℕ) (old now new : Option (List ℕ))
+joins_well : {P : Type 0} (may : P → AllowRelation) (ds : List (ThreadJob P)) (d : ThreadJob P) (o : Output) (a0 a1 : List ℕ) (l0 l1 : ℕ) (old now new : Option (List ℕ))
     → Joins may ds a0 l0 old now (Ok tt) → Appends now new o.text.items → IfOk o.audit (λ more. a1 ≡ a0 ++ more.items) → IsOk o.audit
     → l1 ≡ counted (l0 + o.lost) → CameBy true may d o → Joins may (ds ++ d ∷ []) a1 l1 old new (Ok tt)
 joins_well {P} may ds d o a0 a1 l0 l1 old now new (all, lists, audit, count) out more ok lost came =
@@ -271,7 +271,7 @@ joins_well {P} may ds d o a0 a1 l0 l1 old now new (all, lists, audit, count) out
     )
 
 -- what is known of all threads that were joined, where one more is
-joins_on : {P : Type 0} (may : P → AllowRelation) (ds : List (Duty P)) (d : Duty P) (whole : Bool) (o : Output) (a0 a1 : List ℕ) (l0 l1 : ℕ) (r0 r1 r2 : Result (Unit {0}) RunFault)
+joins_on : {P : Type 0} (may : P → AllowRelation) (ds : List (ThreadJob P)) (d : ThreadJob P) (whole : Bool) (o : Output) (a0 a1 : List ℕ) (l0 l1 : ℕ) (r0 r1 r2 : Result (Unit {0}) RunFault)
     (old now new : Option (List ℕ))
     → Joins may ds a0 l0 old now r0
     → WritesNext r0 whole o.text.items now new r1
@@ -290,7 +290,7 @@ joins_on may ds d whole o a0 a1 l0 l1 (Ok b) (Ok c) (Err g) old now new (all, li
 joins_on may ds d whole o a0 a1 l0 l1 (Ok b) (Err f) (Err g) old now new (all, lists, audit, count) w k e lost came =
     (late_after (Err f) f g w.0 refl e, begins_one may all d whole o ds old now new lists came w.1)
 
-pub joins_more : {A P : Type 0} (may : P → AllowRelation) (duty : A → Duty P) (hs : List A) (h : A) (o : Output) (a0 a1 : List ℕ) (l0 l1 : ℕ) (r0 r1 r2 : Result (Unit {0}) RunFault)
+pub joins_more : {A P : Type 0} (may : P → AllowRelation) (duty : A → ThreadJob P) (hs : List A) (h : A) (o : Output) (a0 a1 : List ℕ) (l0 l1 : ℕ) (r0 r1 r2 : Result (Unit {0}) RunFault)
     (old now new : Option (List ℕ))
     → Joins may (map duty hs) a0 l0 old now r0
     → WritesNext r0 o.whole o.text.items now new r1
@@ -308,20 +308,20 @@ joins_none may None audit none = ([], (refl, All-nil _, tt), none, refl)
 joins_none may (Some xs) audit none = ([], (refl, All-nil _, sym (append-nil xs)), none, refl)
 
 -- a fault that came late
-late_wrote : {P : Type 0} (may : P → AllowRelation) (ds : List (Duty P)) (e : RunFault) (old new : Option (List ℕ)) → IsLate e → BeginsLists may ds old new ⊎ BeginsRunText may ds old new
+late_wrote : {P : Type 0} (may : P → AllowRelation) (ds : List (ThreadJob P)) (e : RunFault) (old new : Option (List ℕ)) → IsLate e → BeginsLists may ds old new ⊎ BeginsRunText may ds old new
     → WroteLists may ds old new (Err e)
 late_wrote may ds e old new (inl memory) begun = subst (λ (f : RunFault). WroteLists may ds old new (Err f)) (sym memory) begun
 late_wrote may ds e old new (inr write) begun = subst (λ (f : RunFault). WroteLists may ds old new (Err f)) (sym write) begun
 
 -- a fault stopped the threads' lines
-pub wrote_lines : {P : Type 0} (may : P → AllowRelation) (ds : List (Duty P)) (all : Option Refusal) (r : Result (Unit {0}) RunFault) (e : RunFault) (audit : List ℕ) (lost : ℕ) (old new : Option (List ℕ))
+pub wrote_lines : {P : Type 0} (may : P → AllowRelation) (ds : List (ThreadJob P)) (all : Option ThreadRefusal) (r : Result (Unit {0}) RunFault) (e : RunFault) (audit : List ℕ) (lost : ℕ) (old new : Option (List ℕ))
     → r ≡ Err e → all ≡ None → Joins may ds audit lost old new r → WroteStarted may all ds old new (Err e)
 wrote_lines may ds all r e audit lost old new is given joined =
     let j = subst (λ (q : Result (Unit {0}) RunFault). Joins may ds audit lost old new q) is joined in
-    subst (λ (b : Option Refusal). WroteStarted may b ds old new (Err e)) (sym given) (late_wrote may ds e old new j.0 (inl j.1))
+    subst (λ (b : Option ThreadRefusal). WroteStarted may b ds old new (Err e)) (sym given) (late_wrote may ds e old new j.0 (inl j.1))
 
 -- the audit lines went out too, or a beginning of them
-wrote_end : {P : Type 0} (may : P → AllowRelation) (ds : List (Duty P)) (all : List (Served P)) (r : Result (Unit {0}) RunFault) (audit : List ℕ) (lost : ℕ) (old now new : Option (List ℕ))
+wrote_end : {P : Type 0} (may : P → AllowRelation) (ds : List (ThreadJob P)) (all : List (Served P)) (r : Result (Unit {0}) RunFault) (audit : List ℕ) (lost : ℕ) (old now new : Option (List ℕ))
     → WritesLists may ds all old now → audit ≡ audits_in all → lost ≡ counted (all_lost all)
     → OnOk r (Appends now new (audit ++ lost_text lost)) → AppendsBeginning now new (audit ++ lost_text lost) → IfErr r IsLate → WroteLists may ds old new r
 wrote_end may ds all (Ok done) audit lost old now new (same, are, out) a l end begun late =
@@ -331,15 +331,15 @@ wrote_end may ds all (Err e) audit lost old now new (same, are, out) a l end beg
     let tail : audit ++ lost_text lost ≡ audits_in all ++ lost_text (counted (all_lost all)) = ap (λ (x : List ℕ). x ++ lost_text lost) a ∙ ap (λ (n : ℕ). audits_in all ++ lost_text n) l in
     late_wrote may ds e old new late (inr (all, same, are, begins_after old now new (texts_in all) _ out (subst (λ (x : List ℕ). AppendsBeginning now new x) tail begun)))
 
-pub wrote_all : {P : Type 0} (may : P → AllowRelation) (ds : List (Duty P)) (all : Option Refusal) (r0 r : Result (Unit {0}) RunFault) (d : Unit {0}) (audit : List ℕ) (lost : ℕ) (old now new : Option (List ℕ))
+pub wrote_all : {P : Type 0} (may : P → AllowRelation) (ds : List (ThreadJob P)) (all : Option ThreadRefusal) (r0 r : Result (Unit {0}) RunFault) (d : Unit {0}) (audit : List ℕ) (lost : ℕ) (old now new : Option (List ℕ))
     → r0 ≡ Ok d → all ≡ None → Joins may ds audit lost old now r0 → OnOk r (Appends now new (audit ++ lost_text lost)) → AppendsBeginning now new (audit ++ lost_text lost)
     → IfErr r IsLate → WroteStarted may all ds old new r
 wrote_all may ds all r0 r d audit lost old now new was given joined out begun late =
     let j = subst (λ (q : Result (Unit {0}) RunFault). Joins may ds audit lost old now q) was joined in
-    subst (λ (b : Option Refusal). WroteStarted may b ds old new r) (sym given) (wrote_end may ds j.0 r audit lost old now new j.1 j.2 j.3 out begun late)
+    subst (λ (b : Option ThreadRefusal). WroteStarted may b ds old new r) (sym given) (wrote_end may ds j.0 r audit lost old now new j.1 j.2 j.3 out begun late)
 
 -- what duties wrote of which this is known
-wrote_of : {P : Type 0} (may : P → AllowRelation) (Are : List (Duty P) → Type 0) (ds : List (Duty P)) (r : Result (Unit {0}) RunFault) (old new : Option (List ℕ)) → Are ds → WroteLists may ds old new r
+wrote_of : {P : Type 0} (may : P → AllowRelation) (Are : List (ThreadJob P) → Type 0) (ds : List (ThreadJob P)) (r : Result (Unit {0}) RunFault) (old new : Option (List ℕ)) → Are ds → WroteLists may ds old new r
     → Wrote may Are old new r
 wrote_of may Are ds (Ok done) old new are wrote = (ds, are, wrote)
 wrote_of may Are ds (Err Thread) old new are wrote = wrote
@@ -350,14 +350,14 @@ wrote_of may Are ds (Err (Play (plays.Script fault))) old new are wrote = absurd
 wrote_of may Are ds (Err (Play (plays.Policy fault))) old new are wrote = absurd wrote
 
 -- the threads that were started are those of these duties, where all were
-pub wrote_started : {P : Type 0} (may : P → AllowRelation) (Are : List (Duty P) → Type 0) (all : Option Refusal) (hs : List (Duty P)) (r : Result (Unit {0}) RunFault) (old new : Option (List ℕ))
+pub wrote_started : {P : Type 0} (may : P → AllowRelation) (Are : List (ThreadJob P) → Type 0) (all : Option ThreadRefusal) (hs : List (ThreadJob P)) (r : Result (Unit {0}) RunFault) (old new : Option (List ℕ))
     → (all ≡ None → Are hs) → WroteStarted may all hs old new r → Wrote may Are old new r
 wrote_started may Are None hs r old new are wrote = wrote_of may Are hs r old new (are refl) wrote
 wrote_started may Are (Some refusals.Memory) hs r old new are wrote = subst (λ (q : Result (Unit {0}) RunFault). Wrote may Are old new q) (sym wrote.0) (inl wrote.1)
 wrote_started may Are (Some refusals.Thread) hs r old new are wrote = subst (λ (q : Result (Unit {0}) RunFault). Wrote may Are old new q) (sym wrote.0) wrote.1
 
 -- more is known of the duties
-pub wrote_as : {P : Type 0} (may : P → AllowRelation) (Are Be : List (Duty P) → Type 0) (r : Result (Unit {0}) RunFault) (old new : Option (List ℕ)) → ((ds : List (Duty P)) → Are ds → Be ds)
+pub wrote_as : {P : Type 0} (may : P → AllowRelation) (Are Be : List (ThreadJob P) → Type 0) (r : Result (Unit {0}) RunFault) (old new : Option (List ℕ)) → ((ds : List (ThreadJob P)) → Are ds → Be ds)
     → Wrote may Are old new r → Wrote may Be old new r
 wrote_as may Are Be (Ok done) old new f (ds, are, wrote) = (ds, f ds are, wrote)
 wrote_as may Are Be (Err Thread) old new f wrote = wrote
@@ -369,7 +369,7 @@ wrote_as may Are Be (Err (Play (plays.Script fault))) old new f wrote = absurd w
 wrote_as may Are Be (Err (Play (plays.Policy fault))) old new f wrote = absurd wrote
 
 -- no memory, and nothing was written yet
-pub wrote_none : {P : Type 0} (may : P → AllowRelation) (Are : List (Duty P) → Type 0) (e : RunFault) (old : Option (List ℕ)) → e ≡ run_out_of_memory → Wrote may Are old old (Err e)
+pub wrote_none : {P : Type 0} (may : P → AllowRelation) (Are : List (ThreadJob P) → Type 0) (e : RunFault) (old : Option (List ℕ)) → e ≡ run_out_of_memory → Wrote may Are old old (Err e)
 wrote_none may Are e old is = subst (λ (f : RunFault). Wrote may Are old old (Err f)) (sym is) (inl (keeps_same old))
 
 -- one domain more stands beside its monitor
@@ -381,8 +381,8 @@ stands_on {P} m before after whole d s more rest is of_d next all =
     ∙ ap (λ (l : List Domain). before ++ map (λ x. record { monitor = m; domain = x }) l) (sym next) ∙ all
 
 -- the domains of a new monitor are ready for the parts of its configuration
-stand_at : {P : Type 0} (may : P → AllowRelation) (m : Monitor P) (ds : List Domain) (parts : List Part) → length ds ≡ length parts
-    → ((i : ℕ) → i < length ds → (d : Domain) (p : Part) → IsFirst may m (get_or parts i p).dom (get_or ds i d))
+stand_at : {P : Type 0} (may : P → AllowRelation) (m : Monitor P) (ds : List Domain) (parts : List DomainPart) → length ds ≡ length parts
+    → ((i : ℕ) → i < length ds → (d : Domain) (p : DomainPart) → IsFirst may m (get_or parts i p).dom (get_or ds i d))
     → AreReady may m (map (λ d. record { monitor = m; domain = d }) ds) parts
 stand_at may m [] [] same at = tt
 stand_at may m [] (p ∷ parts) same at = absurd (omega (arith, same))
@@ -393,22 +393,22 @@ stand_at may m (d ∷ ds) (p ∷ parts) same at = (
 )
 
 -- a domain at its position has the number of the part there
-first_at : {P : Type 0} (may : P → AllowRelation) (m : Monitor P) (domains : List DomainConfig) (parts : List Part) (i : ℕ) (d : Domain) (p : Part) → map (λ (x : Part). x.dom) parts ≡ map (λ (x : DomainConfig). x.id) domains
+first_at : {P : Type 0} (may : P → AllowRelation) (m : Monitor P) (domains : List DomainConfig) (parts : List DomainPart) (i : ℕ) (d : Domain) (p : DomainPart) → map (λ (x : DomainPart). x.dom) parts ≡ map (λ (x : DomainConfig). x.id) domains
     → m.words.layout.ids ≡ map (λ (x : DomainConfig). x.id) domains → i < length parts → IsNewDomain m.words m.config (may m.rights) i d → IsFirst may m (get_or parts i p).dom d
 first_at may m domains parts i d p same ids within new =
     record {
       position = i;
       fresh = new;
       own = sym new.domain.seat.named ∙ ap (λ (n : ℕ). id_at m.words.layout.ids n) new.seat.position ∙ ap (λ (l : List DomId). id_at l i) (ids ∙ sym same)
-          ∙ get_or-map (λ (x : Part). x.dom) parts i p (record { 0 = 0 }) within;
+          ∙ get_or-map (λ (x : DomainPart). x.dom) parts i p (record { 0 = 0 }) within;
     }
 
-pub ready_all : {P : Type 0} (may : P → AllowRelation) (m : Monitor P) (config : Config) (rights : P) (domains : List Domain) (stands : List (Stand P)) (parts : List Part)
-    → map (λ (x : Part). x.dom) parts ≡ map (λ (x : DomainConfig). x.id) config.domains.items → m.config ≡ config → m.rights ≡ rights → length domains ≡ length config.domains.items
+pub ready_all : {P : Type 0} (may : P → AllowRelation) (m : Monitor P) (config : Config) (rights : P) (domains : List Domain) (stands : List (Stand P)) (parts : List DomainPart)
+    → map (λ (x : DomainPart). x.dom) parts ≡ map (λ (x : DomainConfig). x.id) config.domains.items → m.config ≡ config → m.rights ≡ rights → length domains ≡ length config.domains.items
     → ((i : ℕ) → i < length config.domains.items → HoldsAt (λ d. IsNewDomain m.words config (may rights) i d) domains i)
     → stands ≡ map (λ d. record { monitor = m; domain = d }) domains → AreReady may m stands parts
 ready_all {P} may m config rights domains stands parts same is allows count new are =
-    let many : length parts ≡ length config.domains.items = sym (length-map parts (λ (x : Part). x.dom)) ∙ ap length same ∙ length-map config.domains.items (λ (x : DomainConfig). x.id) in
+    let many : length parts ≡ length config.domains.items = sym (length-map parts (λ (x : DomainPart). x.dom)) ∙ ap length same ∙ length-map config.domains.items (λ (x : DomainConfig). x.id) in
     subst (λ l. AreReady may m l parts) (sym are) (stand_at may m domains parts (count ∙ sym many) (λ i within d p.
     first_at may m config.domains.items parts i (get_or domains i d) p same
     (ap (λ (k : Layout). k.ids) m.same_run ∙ ap (λ (x : Config). map (λ (y : DomainConfig). y.id) x.domains.items) is) (omega (arith, within, count, many))

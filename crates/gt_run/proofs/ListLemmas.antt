@@ -14,33 +14,33 @@ use Rattle.gt_host.specs.declared.labels.Labels.{Labels}
 use Rattle.gt_lines.specs.declared.calls.ScriptCall.{ScriptCall}
 use Rattle.gt_live.specs.Domains.{AllowRelation}
 use Rattle.gt_live.specs.declared.domain.Domain.{Domain}
-use Rattle.gt_script.specs.Lists.{Deed, Task}
-use Rattle.gt_script.specs.declared.tasks.DeedBy.TheVariants.{Do, Tell, Await}
+use Rattle.gt_script.specs.Lists.{RunAction, RunTask}
+use Rattle.gt_script.specs.declared.tasks.RunActionBy.TheVariants.{Do, Tell, Await}
 use Rattle.gt_run.specs.Serving.{Calls, DoesDeed, DoesWhere, HasCome, IsAwait, IsKeptAt, IsReady, TellsOutcomes}
 use Rattle.gt_run.specs.Serving.{ListLeadsTo}
 use Rattle.gt_run.specs.Serving.{ListProgress, Serves, ServesSome, StartsTold, answer_lines, list_start, counted}
 use Rattle.gt_run.specs.Serving.{gate_line}
 use Rattle.gt_run.specs.Asking.{Stand}
-use Rattle.gt_run.specs.declared.lists.Duty.{Duty}
-use Rattle.gt_run.specs.declared.telling.Teller.{Teller}
+use Rattle.gt_run.specs.declared.lists.ThreadJob.{ThreadJob}
+use Rattle.gt_run.specs.declared.telling.TrailLogger.{TrailLogger}
 
 -- one line more leads on
-leads_behind : {P : Type 0} (may : P → AllowRelation) (duty : Duty P) (p : ListProgress) (tasks : List Task) (task : Task) (q r : ListProgress)
+leads_behind : {P : Type 0} (may : P → AllowRelation) (duty : ThreadJob P) (p : ListProgress) (tasks : List RunTask) (task : RunTask) (q r : ListProgress)
     → ListLeadsTo may duty p tasks q → DoesWhere (task.dom.0 == duty.part.dom.0) may duty task q r → ListLeadsTo may duty p (tasks ++ task ∷ []) r
 leads_behind may duty p [] task q r leads does =
     (r, subst (λ (x : ListProgress). DoesWhere (task.dom.0 == duty.part.dom.0) may duty task x r) leads does, refl)
 leads_behind may duty p (first ∷ tasks) task q r leads does = (leads.0, leads.1, leads_behind may duty leads.0 tasks task q r leads.2 does)
 
-take_more : (list : List Task) (i : ℕ) (l : Task) → i < length list → l ≡ get_or list i l → take (i + 1) list ≡ take i list ++ l ∷ []
-take_more list i l within is = rw add-one (take-suc list i l within ∙ ap (λ (x : Task). take i list ++ x ∷ []) (sym is))
+take_more : (list : List RunTask) (i : ℕ) (l : RunTask) → i < length list → l ≡ get_or list i l → take (i + 1) list ≡ take i list ++ l ∷ []
+take_more list i l within is = rw add-one (take-suc list i l within ∙ ap (λ (x : RunTask). take i list ++ x ∷ []) (sym is))
 
-leads_more : {P : Type 0} (may : P → AllowRelation) (duty : Duty P) (p : ListProgress) (list : List Task) (i : ℕ) (l : Task) (q r : ListProgress) → i < length list → l ≡ get_or list i l
+leads_more : {P : Type 0} (may : P → AllowRelation) (duty : ThreadJob P) (p : ListProgress) (list : List RunTask) (i : ℕ) (l : RunTask) (q r : ListProgress) → i < length list → l ≡ get_or list i l
     → ListLeadsTo may duty p (take i list) q → DoesWhere (l.dom.0 == duty.part.dom.0) may duty l q r → ListLeadsTo may duty p (take (i + 1) list) r
 leads_more may duty p list i l q r within is leads does =
-    subst (λ (ls : List Task). ListLeadsTo may duty p ls r) (sym (take_more list i l within is)) (leads_behind may duty p (take i list) l q r leads does)
+    subst (λ (ls : List RunTask). ListLeadsTo may duty p ls r) (sym (take_more list i l within is)) (leads_behind may duty p (take i list) l q r leads does)
 
 -- a line after which all is as it was
-quiet_more : {P : Type 0} (may : P → AllowRelation) (duty : Duty P) (d : Domain) (whole : Bool) (i : ℕ) (l : Task) (text : List ℕ) (e : Domain) (labels : Labels) (t : Option Teller)
+quiet_more : {P : Type 0} (may : P → AllowRelation) (duty : ThreadJob P) (d : Domain) (whole : Bool) (i : ℕ) (l : RunTask) (text : List ℕ) (e : Domain) (labels : Labels) (t : Option TrailLogger)
     → i < length duty.part.tasks.now → l ≡ get_or duty.part.tasks.now i l → ((q : ListProgress) → DoesWhere (l.dom.0 == duty.part.dom.0) may duty l q q)
     → HasCome may duty d whole i text e labels t → HasCome may duty d whole (i + 1) text e labels t
 quiet_more may duty d true i l text e labels t within is does (q, leads, kept, prints) =
@@ -48,20 +48,20 @@ quiet_more may duty d true i l text e labels t within is does (q, leads, kept, p
 quiet_more may duty d false i l text e labels t within is does come = come
 
 -- what a line of the domain does
-own_does : {P : Type 0} (may : P → AllowRelation) (duty : Duty P) (l : Task) (deed : Deed) (q r : ListProgress) → (l.dom.0 == duty.part.dom.0) ≡ true → l.deed ≡ deed
+own_does : {P : Type 0} (may : P → AllowRelation) (duty : ThreadJob P) (l : RunTask) (deed : RunAction) (q r : ListProgress) → (l.dom.0 == duty.part.dom.0) ≡ true → l.deed ≡ deed
     → DoesDeed may duty l.line deed q r → DoesWhere (l.dom.0 == duty.part.dom.0) may duty l q r
 own_does may duty l deed q r own is does =
-    subst (λ (b : Bool). DoesWhere b may duty l q r) (sym own) (subst (λ (x : Deed). DoesDeed may duty l.line x q r) (sym is) does)
+    subst (λ (b : Bool). DoesWhere b may duty l q r) (sym own) (subst (λ (x : RunAction). DoesDeed may duty l.line x q r) (sym is) does)
 
 -- a line of another domain
-pub other_more : {P : Type 0} (may : P → AllowRelation) (duty : Duty P) (d : Domain) (whole : Bool) (i : ℕ) (l : Task) (text : List ℕ) (e : Domain) (labels : Labels) (t : Option Teller)
+pub other_more : {P : Type 0} (may : P → AllowRelation) (duty : ThreadJob P) (d : Domain) (whole : Bool) (i : ℕ) (l : RunTask) (text : List ℕ) (e : Domain) (labels : Labels) (t : Option TrailLogger)
     → i < length duty.part.tasks.now → l ≡ get_or duty.part.tasks.now i l → (l.dom.0 == duty.part.dom.0) ≡ false
     → HasCome may duty d whole i text e labels t → HasCome may duty d whole (i + 1) text e labels t
 other_more may duty d whole i l text e labels t within is other come =
     quiet_more may duty d whole i l text e labels t within is (λ q. subst (λ (b : Bool). DoesWhere b may duty l q q) (sym other) refl) come
 
 -- a line that tells a flag
-pub tell_more : {P : Type 0} (may : P → AllowRelation) (duty : Duty P) (d : Domain) (whole : Bool) (i : ℕ) (l : Task) (text : List ℕ) (e : Domain) (labels : Labels) (t : Option Teller) (flag : ℕ)
+pub tell_more : {P : Type 0} (may : P → AllowRelation) (duty : ThreadJob P) (d : Domain) (whole : Bool) (i : ℕ) (l : RunTask) (text : List ℕ) (e : Domain) (labels : Labels) (t : Option TrailLogger) (flag : ℕ)
     → i < length duty.part.tasks.now → l ≡ get_or duty.part.tasks.now i l → (l.dom.0 == duty.part.dom.0) ≡ true → l.deed ≡ Tell flag
     → HasCome may duty d whole i text e labels t → HasCome may duty d whole (i + 1) text e labels t
 unfolding DoesDeed
@@ -69,7 +69,7 @@ tell_more may duty d whole i l text e labels t flag within is own tells come =
     quiet_more may duty d whole i l text e labels t within is (λ q. own_does may duty l (Tell flag) q q own tells refl) come
 
 -- a line that awaits a flag
-pub await_more : {P : Type 0} (may : P → AllowRelation) (duty : Duty P) (d : Domain) (whole : Bool) (i : ℕ) (l : Task) (text : List ℕ) (e : Domain) (labels : Labels) (t : Option Teller) (flag : ℕ)
+pub await_more : {P : Type 0} (may : P → AllowRelation) (duty : ThreadJob P) (d : Domain) (whole : Bool) (i : ℕ) (l : RunTask) (text : List ℕ) (e : Domain) (labels : Labels) (t : Option TrailLogger) (flag : ℕ)
     → i < length duty.part.tasks.now → l ≡ get_or duty.part.tasks.now i l → (l.dom.0 == duty.part.dom.0) ≡ true → l.deed ≡ Await flag
     → HasCome may duty d whole i text e labels t → HasCome may duty d whole (i + 1) text e labels t
 unfolding DoesDeed
@@ -77,14 +77,14 @@ await_more may duty d whole i l text e labels t flag within is own awaits come =
     quiet_more may duty d whole i l text e labels t within is (λ q. own_does may duty l (Await flag) q q own awaits refl) come
 
 -- a text that breaks off
-breaks_off : {P : Type 0} (may : P → AllowRelation) (duty : Duty P) (d : Domain) (whole : Bool) (i : ℕ) (old new : List ℕ) (e : Domain) (labels : Labels) (t : Option Teller)
+breaks_off : {P : Type 0} (may : P → AllowRelation) (duty : ThreadJob P) (d : Domain) (whole : Bool) (i : ℕ) (old new : List ℕ) (e : Domain) (labels : Labels) (t : Option TrailLogger)
     → HasCome may duty d whole i old e labels t → new ≡ old → ServesSome may duty d new
 breaks_off may duty d true i old new e labels t (q, leads, kept, prints) same = record { left = q; number = i; leads = leads; prints = same ∙ prints }
 breaks_off may duty d false i old new e labels t come same = subst (λ (l : List ℕ). ServesSome may duty d l) (sym same) come
 
 -- a line that makes a call
-pub do_more : {P V E : Type 0} (may : P → AllowRelation) (items : V → List ℕ) (duty : Duty P) (d : Domain) (whole r : Bool) (i : ℕ) (l : Task) (line : Result V E) (old new : List ℕ) (e f : Domain)
-    (before after : Labels) (t u : Option Teller) (call : ScriptCall)
+pub do_more : {P V E : Type 0} (may : P → AllowRelation) (items : V → List ℕ) (duty : ThreadJob P) (d : Domain) (whole r : Bool) (i : ℕ) (l : RunTask) (line : Result V E) (old new : List ℕ) (e f : Domain)
+    (before after : Labels) (t u : Option TrailLogger) (call : ScriptCall)
     → i < length duty.part.tasks.now → l ≡ get_or duty.part.tasks.now i l → (l.dom.0 == duty.part.dom.0) ≡ true → l.deed ≡ Do call
     → IfOk line (λ v. Calls may duty l.line call e f before after t u (items v)) → HasCome may duty d whole i old e before t
     → (IsTrue r → IsTrue whole × IsOk line × IfOk line (λ v. new ≡ old ++ items v)) → (r ≡ false → new ≡ old) → HasCome may duty d r (i + 1) new f after u
@@ -102,8 +102,8 @@ do_more may items duty d whole false i l line old new e f before after t u call 
     breaks_off may duty d whole i old new e before t come (same refl)
 
 -- the gate answers false at a line
-pub gate_stops : {P V E : Type 0} (may : P → AllowRelation) (items : V → List ℕ) (duty : Duty P) (d : Domain) (whole r : Bool) (i : ℕ) (l : Task) (line : Result V E) (old new : List ℕ) (e : Domain)
-    (labels : Labels) (t : Option Teller) (flag : ℕ)
+pub gate_stops : {P V E : Type 0} (may : P → AllowRelation) (items : V → List ℕ) (duty : ThreadJob P) (d : Domain) (whole r : Bool) (i : ℕ) (l : RunTask) (line : Result V E) (old new : List ℕ) (e : Domain)
+    (labels : Labels) (t : Option TrailLogger) (flag : ℕ)
     → i < length duty.part.tasks.now → l ≡ get_or duty.part.tasks.now i l → (l.dom.0 == duty.part.dom.0) ≡ true → l.deed ≡ Await flag
     → IfOk line (λ v. items v ≡ gate_line l.line duty.part.dom) → HasCome may duty d whole i old e labels t
     → (IsTrue r → IsTrue whole × IsOk line × IfOk line (λ v. new ≡ old ++ items v)) → (r ≡ false → new ≡ old) → Serves may duty d r new e t
@@ -131,7 +131,7 @@ gate_stops may items duty d whole false i l line old new e labels t flag within 
     breaks_off may duty d whole i old new e labels t come (same refl)
 
 -- all lines were served
-pub list_ends : {P : Type 0} (may : P → AllowRelation) (duty : Duty P) (d : Domain) (whole : Bool) (i : ℕ) (text : List ℕ) (e : Domain) (labels : Labels) (t : Option Teller)
+pub list_ends : {P : Type 0} (may : P → AllowRelation) (duty : ThreadJob P) (d : Domain) (whole : Bool) (i : ℕ) (text : List ℕ) (e : Domain) (labels : Labels) (t : Option TrailLogger)
     → i ≡ length duty.part.tasks.now → HasCome may duty d whole i text e labels t → Serves may duty d whole text e t
 list_ends may duty d true i text e labels t all (q, leads, kept, prints) =
     record {
@@ -147,19 +147,19 @@ list_ends may duty d true i text e labels t all (q, leads, kept, prints) =
 list_ends may duty d false i text e labels t all come = come
 
 -- before the first line
-pub come_none : {P : Type 0} (may : P → AllowRelation) (duty : Duty P) (d : Domain) (text : List ℕ) (labels : Labels) (t : Option Teller) → text ≡ [] → StartsTold duty d t → AreNamed labels []
+pub come_none : {P : Type 0} (may : P → AllowRelation) (duty : ThreadJob P) (d : Domain) (text : List ℕ) (labels : Labels) (t : Option TrailLogger) → text ≡ [] → StartsTold duty d t → AreNamed labels []
     → HasCome may duty d true 0 text d labels t
 come_none may duty d text labels t none starts names =
     (list_start d, refl, record { domain = refl; own = starts.0; names = names; asked = starts.1; told = starts.2 }, none)
 
-told_none : {A : Type 0} (dom : DomId) (log : Option A) (t : Option Teller) (trail : Telling) → trail ≡ silent → t ≡ option_map (λ l. record { told = nothing_told dom; next = 0 }) log
+told_none : {A : Type 0} (dom : DomId) (log : Option A) (t : Option TrailLogger) (trail : Telling) → trail ≡ silent → t ≡ option_map (λ l. record { told = nothing_told dom; next = 0 }) log
     → (is_some t ≡ is_some log) × TellsOutcomes trail t []
-told_none dom None t trail fresh is = (ap is_some is, subst (λ (x : Option Teller). TellsOutcomes trail x []) (sym is) (refl, refl))
+told_none dom None t trail fresh is = (ap is_some is, subst (λ (x : Option TrailLogger). TellsOutcomes trail x []) (sym is) (refl, refl))
 told_none dom (Some log) t trail fresh is =
-    (ap is_some is, subst (λ (x : Option Teller). TellsOutcomes trail x []) (sym is) (sym (ap (λ (x : Telling). length x.records) fresh), refl, ap (λ (x : Telling). counted (x.lost + 0)) fresh))
+    (ap is_some is, subst (λ (x : Option TrailLogger). TellsOutcomes trail x []) (sym is) (sym (ap (λ (x : Telling). length x.records) fresh), refl, ap (λ (x : Telling). counted (x.lost + 0)) fresh))
 
 -- nothing was pushed for a domain that has made no call
-pub starts_told : {P : Type 0} (may : P → AllowRelation) (duty : Duty P) (s : Stand P) (t : Option Teller) → IsReady may duty.monitor.now duty.part.dom s
+pub starts_told : {P : Type 0} (may : P → AllowRelation) (duty : ThreadJob P) (s : Stand P) (t : Option TrailLogger) → IsReady may duty.monitor.now duty.part.dom s
     → t ≡ option_map (λ l. record { told = nothing_told duty.part.dom; next = 0 }) duty.log → StartsTold duty s.domain t
 starts_told may duty s t ready is =
     let told = told_none duty.part.dom duty.log t s.domain.trail ready.1.fresh.trail is in

@@ -7,7 +7,7 @@ use Rattle.gt_types.specs.declared.config.Config.{Config}
 use Rattle.gt_types.specs.declared.config.DomainConfig.{DomainConfig}
 use Rattle.gt_host.specs.Faults.{fault_of, read_fault}
 use Rattle.gt_host.specs.Rights.{may_by, may_in}
-use Rattle.gt_host.specs.declared.rights.Rights.{Rights as ScriptRights}
+use Rattle.gt_host.specs.declared.rights.ScriptPolicy.{ScriptPolicy as ScriptRights}
 use Rattle.gt_host.specs.declared.fault.PlayFault.{PlayFault}
 use Rattle.gt_host.specs.declared.fault.PlayFault.TheVariants as plays
 use Rattle.gt_script.specs.Contents.{first_gen, type_names}
@@ -16,7 +16,7 @@ use Rattle.gt_script.specs.RunScripts.{RunAnswers, RunTells}
 use Rattle.gt_script.specs.Script.{Wrong}
 use Rattle.gt_script.specs.declared.faults.ScriptError.{ScriptError}
 use Rattle.gt_script.specs.declared.faults.ScriptError.TheVariants as errors
-use Rattle.gt_script.specs.Lists.{Task}
+use Rattle.gt_script.specs.Lists.{RunTask}
 use Rattle.gt_streams.specs.Laws.{keeps_same, of_any_input}
 use Rattle.gt_streams.specs.Streams.{OfInput}
 use Rattle.gt_streams.specs.declared.fault.ReadFault.{ReadFault}
@@ -25,23 +25,23 @@ use Rattle.gt_run.specs.Faults.{run_out_of_memory}
 use Rattle.gt_run.specs.Runs.{AreOf, AreParts, AreListsOf, AreUnder, IsOver, Ran, Wrote, WroteScript}
 use Rattle.gt_run.specs.declared.fault.RunFault.{RunFault}
 use Rattle.gt_run.specs.declared.fault.RunFault.TheVariants.{Play, Thread}
-use Rattle.gt_run.specs.declared.lists.Duty.{Duty}
-use Rattle.gt_run.specs.declared.lists.Part.{Part}
+use Rattle.gt_run.specs.declared.lists.ThreadJob.{ThreadJob}
+use Rattle.gt_run.specs.declared.lists.DomainPart.{DomainPart}
 use Rattle.gt_run.proofs.DutyLemmas.{wrote_as, wrote_none}
 
 -- the part of one domain more
-pub parts_more : (domains : List DomainConfig) (i : ℕ) (d : DomainConfig) (tasks : List Task) (names : List (List ℕ)) (parts : List Part) (p : Part) → i < length domains → d ≡ get_or domains i d
+pub parts_more : (domains : List DomainConfig) (i : ℕ) (d : DomainConfig) (tasks : List RunTask) (names : List (List ℕ)) (parts : List DomainPart) (p : DomainPart) → i < length domains → d ≡ get_or domains i d
     → p.dom ≡ d.id → IsOver tasks names p → AreParts (take i domains) tasks names parts → AreParts (take (i + 1) domains) tasks names (parts ++ p ∷ [])
 parts_more domains i d tasks names parts p within is same over (doms, all) = (
-  map-append (λ (x : Part). x.dom) parts (p ∷ []) ∙ ap (λ l. l ++ p.dom ∷ []) doms
+  map-append (λ (x : DomainPart). x.dom) parts (p ∷ []) ∙ ap (λ l. l ++ p.dom ∷ []) doms
       ∙ ap (λ x. map (λ (y : DomainConfig). y.id) (take i domains) ++ x ∷ []) (same ∙ ap (λ (x : DomainConfig). x.id) is)
       ∙ sym (map_more (λ (y : DomainConfig). y.id) domains i d within),
   All-append (IsOver tasks names) parts (p ∷ []) all (All-cons (IsOver tasks names) p [] over (All-nil (IsOver tasks names))),
 )
 
 -- the duties are those of the script
-are_of : (c : RunContents) (logged : Bool) (config : Config) (rights : ScriptRights) (parts : List Part) → AreListsOf c parts → config.domains.items ≡ c.head.domains
-    → config.first_gen ≡ first_gen c.head → may_by rights ≡ may_in c.head → (ds : List (Duty ScriptRights)) → AreUnder config rights logged parts ds → AreOf c logged ds
+are_of : (c : RunContents) (logged : Bool) (config : Config) (rights : ScriptRights) (parts : List DomainPart) → AreListsOf c parts → config.domains.items ≡ c.head.domains
+    → config.first_gen ≡ first_gen c.head → may_by rights ≡ may_in c.head → (ds : List (ThreadJob ScriptRights)) → AreUnder config rights logged parts ds → AreOf c logged ds
 are_of c logged config rights parts are domains generation may ds (m, of_config, of_rights, duties) = record {
   parts = parts;
   of_script = are;
@@ -53,8 +53,8 @@ are_of c logged config rights parts are domains generation may ds (m, of_config,
 }
 
 -- the parts over what the script's head and tasks are kept as, under its rights, wrote
-pub wrote_script : (c : RunContents) (logged : Bool) (config : Config) (rights : ScriptRights) (parts shown : List Part) (r : Result (Unit {0}) RunFault) (old new : Option (List ℕ))
-    (domains : List DomainConfig) (tasks : List Task) (names : List (List ℕ))
+pub wrote_script : (c : RunContents) (logged : Bool) (config : Config) (rights : ScriptRights) (parts shown : List DomainPart) (r : Result (Unit {0}) RunFault) (old new : Option (List ℕ))
+    (domains : List DomainConfig) (tasks : List RunTask) (names : List (List ℕ))
     → AreParts domains tasks names parts → (domains ≡ c.head.domains) → (tasks ≡ c.tasks) → (names ≡ type_names c.head) → shown ≡ parts
     → config.domains.items ≡ c.head.domains → config.first_gen ≡ first_gen c.head → may_by rights ≡ may_in c.head
     → Wrote may_by (AreUnder config rights logged shown) old new r → WroteScript c logged old new r

@@ -1,6 +1,6 @@
 -- What a domain that runs is asked, and how it is answered.
 use Rattle.std.specs.Prelude.{◌≡◌, ℕ, List, Result, Ok, Err, OnOk, OnErr}
-use Rattle.gt_run.specs.Prelude.{Size, Denial, Copying, Reading, Writing, Handle, Tells, Hypercall, Held}
+use Rattle.gt_run.specs.Prelude.{Size, Denial, Copying, Reading, Writing, Handle, Tells, Hypercall, HeldPin}
 use Rattle.gt_run.specs.Prelude.{Request, Answer, Domain, Monitor, IsCopiedBy, IsReadBy, IsWrittenBy}
 use Rattle.gt_run.specs.Prelude.{Accesses, Answered, KeepsPinned, MapAnswered, AllowRelation, mapping_reply}
 use Rattle.gt_run.specs.Prelude.{subject_of, told_copy, told_of, verdict_of, verdict_of_frames, verdict_of_size}
@@ -61,7 +61,7 @@ AnswersCall may m d (requests.Map dom gref flags) answer e =
 AnswersCall may m d (requests.Unmap handle) answer e =
     (r : Result (Unit {0}) Denial) × (answer ≡ plain_answer r)
     × Answered may m d (requests.Unmap handle) (verdict_of r) e
-    × OnOk r ((p : Held) × Removes d.mappings e.mappings handle p) × OnErr r (KeepsPinned d e)
+    × OnOk r ((p : HeldPin) × Removes d.mappings e.mappings handle p) × OnErr r (KeepsPinned d e)
     × Tells d.trail (told_of d (hypercalls.Unmap (subject_of d handle)) (verdict_of r)) e.trail
     × (e.visits ≡ d.visits)
 AnswersCall may m d (requests.SetVersion version) answer e =

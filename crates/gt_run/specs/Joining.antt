@@ -5,9 +5,9 @@ use Rattle.gt_live.specs.Domains.{AllowRelation}
 use Rattle.gt_streams.specs.Streams.{AppendsBeginning}
 use Rattle.gt_run.specs.declared.fault.RunFault.{RunFault}
 use Rattle.gt_run.specs.declared.fault.RunFault.TheVariants.{Thread}
-use Rattle.gt_run.specs.declared.lists.Duty.{Duty}
-use Rattle.gt_run.specs.declared.threads.Refusal.{Refusal}
-use Rattle.gt_run.specs.declared.threads.Refusal.TheVariants as refusals
+use Rattle.gt_run.specs.declared.lists.ThreadJob.{ThreadJob}
+use Rattle.gt_run.specs.declared.threads.ThreadRefusal.{ThreadRefusal}
+use Rattle.gt_run.specs.declared.threads.ThreadRefusal.TheVariants as refusals
 use Rattle.gt_run.specs.Faults.{not_written, run_out_of_memory}
 use Rattle.gt_run.specs.Printing.{BeginsLists, Served, WritesLists, all_lost, audits_in}
 use Rattle.gt_run.specs.Runs.{WroteLists}
@@ -28,7 +28,7 @@ WritesNext (Ok well) whole text old new (Err fault) = IsLate fault × AppendsBeg
 -- what was joined so far, with these audit lines and so many records lost: the lines of
 -- the lists went out, and these tell of the same calls; or, after a
 -- fault, a beginning of the lines
-abbrev pub Joins : {P : Type 0} → (P → AllowRelation) → List (Duty P) → List ℕ → ℕ → Option (List ℕ) → Option (List ℕ)
+abbrev pub Joins : {P : Type 0} → (P → AllowRelation) → List (ThreadJob P) → List ℕ → ℕ → Option (List ℕ) → Option (List ℕ)
     → Result (Unit {0}) RunFault → Type 0
 Joins {P} may duties audit lost old new (Ok done) =
     (all : List (Served P)) × WritesLists may duties all old new × (audit ≡ audits_in all)
@@ -36,13 +36,13 @@ Joins {P} may duties audit lost old new (Ok done) =
 Joins may duties audit lost old new (Err fault) = IsLate fault × BeginsLists may duties old new
 
 -- the fault of a run that has not a thread for each domain
-abbrev pub run_fault_of : Refusal → RunFault
+abbrev pub run_fault_of : ThreadRefusal → RunFault
 run_fault_of refusals.Thread = Thread
 run_fault_of refusals.Memory = run_out_of_memory
 
 -- what was written of the duties that were started, if something was refused or nothing:
 -- nothing, and what was refused is the fault, unless all were started
-abbrev pub WroteStarted : {P : Type 0} → (P → AllowRelation) → Option Refusal → List (Duty P) → Option (List ℕ) → Option (List ℕ)
+abbrev pub WroteStarted : {P : Type 0} → (P → AllowRelation) → Option ThreadRefusal → List (ThreadJob P) → Option (List ℕ) → Option (List ℕ)
     → Result (Unit {0}) RunFault → Type 0
 WroteStarted may None duties old new r = WroteLists may duties old new r
 WroteStarted may (Some refusal) duties old new r = (r ≡ Err (run_fault_of refusal)) × Keeps old new

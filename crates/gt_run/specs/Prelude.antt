@@ -5,14 +5,14 @@ pub use Rattle.gt_audit.specs.declared.record.Hypercall.{Hypercall}
 pub use Rattle.gt_audit.specs.declared.record.Record.{Record}
 pub use Rattle.gt_calls.specs.Asking.{asked}
 pub use Rattle.gt_calls.specs.declared.action.Step.{Step}
-pub use Rattle.gt_calls.specs.declared.action.Verdict.{Verdict}
-pub use Rattle.gt_calls.specs.declared.held.Held.{Held}
+pub use Rattle.gt_calls.specs.declared.action.CallResult.{CallResult}
+pub use Rattle.gt_calls.specs.declared.held.HeldPin.{HeldPin}
 pub use Rattle.gt_calls.specs.declared.request.Request.{Request}
 pub use Rattle.gt_core.specs.declared.trace.Answer.{Answer}
 pub use Rattle.gt_frames.specs.Receipts.{Copying, Reading, Writing}
-pub use Rattle.gt_frames.specs.Visits.{Visit}
+pub use Rattle.gt_frames.specs.Visits.{FrameAccess}
 pub use Rattle.gt_handles.specs.declared.handles.Handle.{Handle}
-pub use Rattle.gt_host.specs.Auditing.{call_told, record_told}
+pub use Rattle.gt_host.specs.Auditing.{hypercall_of_request, encoded_record}
 pub use Rattle.gt_host.specs.Naming.{AreNamed}
 pub use Rattle.gt_host.specs.Printing.{answer_line, call_text}
 pub use Rattle.gt_host.specs.Runs.{SaysRequest, Named, handle_given, label_given, with_name}
@@ -28,11 +28,11 @@ pub use Rattle.gt_live.specs.Starting.{IsNewDomain}
 pub use Rattle.gt_live.specs.Visiting.{HasVisited, WasCopied, WasRead, WasWritten}
 pub use Rattle.gt_live.specs.declared.domain.Domain.{Domain}
 pub use Rattle.gt_live.specs.declared.monitor.Monitor.{Monitor}
-pub use Rattle.gt_run.specs.declared.lists.Duty.{Duty}
-pub use Rattle.gt_run.specs.declared.lists.Part.{Part}
-pub use Rattle.gt_run.specs.declared.telling.Teller.{Teller}
-pub use Rattle.gt_script.specs.Lists.{Deed, Task}
-pub use Rattle.gt_script.specs.declared.tasks.DeedBy.TheVariants.{Await, Do, Tell}
+pub use Rattle.gt_run.specs.declared.lists.ThreadJob.{ThreadJob}
+pub use Rattle.gt_run.specs.declared.lists.DomainPart.{DomainPart}
+pub use Rattle.gt_run.specs.declared.telling.TrailLogger.{TrailLogger}
+pub use Rattle.gt_script.specs.Lists.{RunAction, RunTask}
+pub use Rattle.gt_script.specs.declared.tasks.RunActionBy.TheVariants.{Await, Do, Tell}
 pub use Rattle.gt_texts.specs.Printing.{type_text}
 pub use Rattle.gt_types.specs.declared.DomId.{DomId}
 pub use Rattle.gt_types.specs.declared.Size.{Size}

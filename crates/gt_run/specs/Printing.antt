@@ -7,15 +7,15 @@ use Rattle.gt_audit.specs.Lines.{lost_text}
 use Rattle.gt_live.specs.Domains.{AllowRelation}
 use Rattle.gt_live.specs.declared.monitor.Monitor.{Monitor}
 use Rattle.gt_streams.specs.Streams.{AppendsBeginning}
-use Rattle.gt_run.specs.declared.lists.Duty.{Duty}
-use Rattle.gt_run.specs.declared.lists.Part.{Part}
+use Rattle.gt_run.specs.declared.lists.ThreadJob.{ThreadJob}
+use Rattle.gt_run.specs.declared.lists.DomainPart.{DomainPart}
 use Rattle.gt_run.specs.declared.serving.Output.{Output}
-use Rattle.gt_run.specs.Serving.{IsBegun, IsServed, Outcome, audit_lines, counted, lost_in}
+use Rattle.gt_run.specs.Serving.{IsBegun, IsServed, ListOutcome, audit_lines, counted, lost_in}
 
 -- a list that was served, what its calls came to, and what it printed
 pub record Served (P : Type 0) : Type 0 where
-  pub duty : Duty P
-  pub outcomes : List Outcome
+  pub duty : ThreadJob P
+  pub outcomes : List ListOutcome
   pub text : List ℕ
 
 -- each of these lists was served so
@@ -23,7 +23,7 @@ abbrev pub AreServed : {P : Type 0} → (P → AllowRelation) → List (Served P
 AreServed may all = All (λ s. IsServed may s.duty s.outcomes s.text) all
 
 -- whose lists they are
-abbrev pub duties_in : {P : Type 0} → List (Served P) → List (Duty P)
+abbrev pub duties_in : {P : Type 0} → List (Served P) → List (ThreadJob P)
 duties_in all = map (λ s. s.duty) all
 
 -- what they printed, in their order
@@ -45,54 +45,54 @@ run_text all = texts_in all ++ (audits_in all ++ lost_text (counted (all_lost al
 -- what came of a duty, whose list printed all or did not: what its calls came to is
 -- what its text, its audit lines and its count of lost records tell;
 -- or its text is that of some first lines
-abbrev pub CameBy : {P : Type 0} → Bool → (P → AllowRelation) → Duty P → Output → Type 0
+abbrev pub CameBy : {P : Type 0} → Bool → (P → AllowRelation) → ThreadJob P → Output → Type 0
 CameBy true may duty o =
-    (outcomes : List Outcome) × IsServed may duty outcomes o.text.items
+    (outcomes : List ListOutcome) × IsServed may duty outcomes o.text.items
     × IfOk o.audit (λ audit. audit.items ≡ audit_lines duty.part.types.now outcomes)
     × (o.lost ≡ counted (lost_in outcomes))
 CameBy false may duty o = IsBegun may duty o.text.items
 
-abbrev pub CameOf : {P : Type 0} → (P → AllowRelation) → Duty P → Output → Type 0
-CameOf may duty o = CameBy o.whole may duty o
+abbrev pub IsOutputOf : {P : Type 0} → (P → AllowRelation) → ThreadJob P → Output → Type 0
+IsOutputOf may duty o = CameBy o.whole may duty o
 
 -- the duties of these parts, in their order, all over this monitor, and with a log or without
-abbrev pub AreDuties : {P : Type 0} → Monitor P → Bool → List Part → List (Duty P) → Type 0
+abbrev pub AreDuties : {P : Type 0} → Monitor P → Bool → List DomainPart → List (ThreadJob P) → Type 0
 AreDuties m logged parts duties =
     (map (λ d. d.part) duties ≡ parts) × All (λ d. (d.monitor.now ≡ m) × (is_some d.log ≡ logged)) duties
 
 -- the lists of these duties were served, and what they printed went out
-abbrev pub WritesLists : {P : Type 0} → (P → AllowRelation) → List (Duty P) → List (Served P) → Option (List ℕ)
+abbrev pub WritesLists : {P : Type 0} → (P → AllowRelation) → List (ThreadJob P) → List (Served P) → Option (List ℕ)
     → Option (List ℕ) → Type 0
 WritesLists may duties all old new = (duties_in all ≡ duties) × AreServed may all × Appends old new (texts_in all)
 
 -- the lists of these duties were served, and their whole text went out
-abbrev pub WritesAll : {P : Type 0} → (P → AllowRelation) → List (Duty P) → Option (List ℕ) → Option (List ℕ) → Type 0
+abbrev pub WritesAll : {P : Type 0} → (P → AllowRelation) → List (ThreadJob P) → Option (List ℕ) → Option (List ℕ) → Type 0
 WritesAll {P} may duties old new =
     (all : List (Served P)) × (duties_in all ≡ duties) × AreServed may all × Appends old new (run_text all)
 
 -- what goes on after those lists that printed all: nothing, or what some first lines of the next list printed
-abbrev pub PrintsOn : {P : Type 0} → (P → AllowRelation) → List (Duty P) → List ℕ → Type 0
+abbrev pub PrintsOn : {P : Type 0} → (P → AllowRelation) → List (ThreadJob P) → List ℕ → Type 0
 PrintsOn may [] text = text ≡ []
 PrintsOn may (next ∷ rest) text = (text ≡ []) ⊎ IsBegun may next text
 
 -- a beginning of what these lists print went out: the first ones were served, and after
 -- what they printed goes nothing, or the beginning of the next one
-abbrev pub BeginsLists : {P : Type 0} → (P → AllowRelation) → List (Duty P) → Option (List ℕ) → Option (List ℕ) → Type 0
+abbrev pub BeginsLists : {P : Type 0} → (P → AllowRelation) → List (ThreadJob P) → Option (List ℕ) → Option (List ℕ) → Type 0
 BeginsLists {P} may duties old new =
-    (all : List (Served P)) × (rest : List (Duty P)) × (text : List ℕ)
+    (all : List (Served P)) × (rest : List (ThreadJob P)) × (text : List ℕ)
     × (duties_in all ++ rest ≡ duties) × AreServed may all × PrintsOn may rest text
     × AppendsBeginning old new (texts_in all ++ text)
 
 -- a beginning of the whole text of these lists went out
-abbrev pub BeginsRunText : {P : Type 0} → (P → AllowRelation) → List (Duty P) → Option (List ℕ) → Option (List ℕ)
+abbrev pub BeginsRunText : {P : Type 0} → (P → AllowRelation) → List (ThreadJob P) → Option (List ℕ) → Option (List ℕ)
     → Type 0
 BeginsRunText {P} may duties old new =
     (all : List (Served P)) × (duties_in all ≡ duties) × AreServed may all × AppendsBeginning old new (run_text all)
 
 -- a beginning of a whole text that these lists may print went out, if they were served so far
-abbrev pub BeginsAll : {P : Type 0} → (P → AllowRelation) → List (Duty P) → Option (List ℕ) → Option (List ℕ) → Type 0
+abbrev pub BeginsAll : {P : Type 0} → (P → AllowRelation) → List (ThreadJob P) → Option (List ℕ) → Option (List ℕ) → Type 0
 BeginsAll may duties old new = BeginsLists may duties old new ⊎ BeginsRunText may duties old new
 
 -- the duties that were promised
-abbrev pub promised : {P : Type 0} → List (PromisedHandle Output (Duty P)) → List (Duty P)
+abbrev pub promised : {P : Type 0} → List (PromisedHandle Output (ThreadJob P)) → List (ThreadJob P)
 promised handles = map (λ h. h.promise) handles

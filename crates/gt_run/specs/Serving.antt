@@ -2,18 +2,18 @@
 use Rattle.std.specs.Prelude.{◌≡◌, ◌⊎◌, ◌++◌, ◌+◌, ◌==◌, ◌^◌, ◌-◌, ℕ, Bool, true, false, List, [], ◌∷◌, length, map}
 use Rattle.std.specs.Prelude.{min, take, codes, Option, None, Some, is_some, slice_get}
 use Rattle.gt_run.specs.Prelude.{AllZip, flat_map, sum_by, DomId, type_text, line_text, Telling, Tells, Record, asked}
-use Rattle.gt_run.specs.Prelude.{Request, Answer, call_told, record_told, AreNamed, answer_line, call_text, Named}
+use Rattle.gt_run.specs.Prelude.{Request, Answer, hypercall_of_request, encoded_record, AreNamed, answer_line, call_text, Named}
 use Rattle.gt_run.specs.Prelude.{handle_given, label_given, with_name, SaysRequest, Labels, ScriptCall, AllowRelation}
-use Rattle.gt_run.specs.Prelude.{subject_of, IsNewDomain, Domain, Monitor, Deed, Do, Tell, Await, Task, Duty, Part}
-use Rattle.gt_run.specs.Prelude.{Teller}
+use Rattle.gt_run.specs.Prelude.{subject_of, IsNewDomain, Domain, Monitor, RunAction, Do, Tell, Await, RunTask, ThreadJob, DomainPart}
+use Rattle.gt_run.specs.Prelude.{TrailLogger}
 use Rattle.gt_run.specs.Asking.{Asks, Stand}
-use Rattle.gt_run.specs.Telling.{TellsWhere}
+use Rattle.gt_run.specs.Telling.{LogsTrail}
 
 -- calls
 
 -- what came of the call of a line: its answer; its record, if that went
 -- into the log; and how many records of it were lost
-pub record Outcome : Type 0 where
+pub record ListOutcome : Type 0 where
   pub line : ℕ
   pub answer : Answer
   pub told : List Record
@@ -23,7 +23,7 @@ pub record Outcome : Type 0 where
 pub record ListProgress : Type 0 where
   pub domain : Domain
   pub named : List Named
-  pub outcomes : List Outcome
+  pub outcomes : List ListOutcome
 
 -- before its first line no label stands for a handle, and no call was made
 abbrev pub list_start : Domain → ListProgress
@@ -38,16 +38,16 @@ Records false made told lost = (told ≡ []) × (lost ≡ 0)
 
 -- the record of a request of this domain, which it made of this and answered so, if such calls are audited
 abbrev pub record_made : DomId → Domain → Request → Answer → Option Record
-record_made dom d request answer = record_told dom (call_told (subject_of d) (asked request)) answer
+record_made dom d request answer = encoded_record dom (hypercall_of_request (subject_of d) (asked request)) answer
 
 -- the duty's calls are recorded
-abbrev pub is_logged : {P : Type 0} → Duty P → Bool
+abbrev pub is_logged : {P : Type 0} → ThreadJob P → Bool
 is_logged duty = is_some duty.log
 
 -- The call of a line was made: the domain was asked what the line says, by what its
 -- labels stood for then, and answered so. What it came to is the one
 -- outcome more, and a map answered Ok gives its handle to its label.
-pub record MakesCall {P : Type 0} (may : P → AllowRelation) (duty : Duty P) (line : ℕ) (call : ScriptCall)
+pub record MakesCall {P : Type 0} (may : P → AllowRelation) (duty : ThreadJob P) (line : ℕ) (call : ScriptCall)
     (p q : ListProgress) : Type 0 where
   pub request : Request
   pub answer : Answer
@@ -60,18 +60,18 @@ pub record MakesCall {P : Type 0} (may : P → AllowRelation) (duty : Duty P) (l
   pub outcomes : q.outcomes ≡ p.outcomes ++ record { line = line; answer = answer; told = told; lost = lost } ∷ []
 
 -- what a line leads to that has its domain do this: a call is made; a flag told or awaited changes nothing
-unfoldable pub DoesDeed : {P : Type 0} → (P → AllowRelation) → Duty P → ℕ → Deed → ListProgress → ListProgress → Type 0
+unfoldable pub DoesDeed : {P : Type 0} → (P → AllowRelation) → ThreadJob P → ℕ → RunAction → ListProgress → ListProgress → Type 0
 DoesDeed may duty line (Do call) p q = MakesCall may duty line call p q
 DoesDeed may duty line (Tell flag) p q = q ≡ p
 DoesDeed may duty line (Await flag) p q = q ≡ p
 
 -- what a line leads to that is the domain's, or is not: another's changes nothing
-abbrev pub DoesWhere : {P : Type 0} → Bool → (P → AllowRelation) → Duty P → Task → ListProgress → ListProgress → Type 0
+abbrev pub DoesWhere : {P : Type 0} → Bool → (P → AllowRelation) → ThreadJob P → RunTask → ListProgress → ListProgress → Type 0
 DoesWhere true may duty task p q = DoesDeed may duty task.line task.deed p q
 DoesWhere false may duty task p q = q ≡ p
 
 -- these lines, one after the other, lead from one point of a list to another
-abbrev pub ListLeadsTo : {P : Type 0} → (P → AllowRelation) → Duty P → ListProgress → List Task → ListProgress → Type 0
+abbrev pub ListLeadsTo : {P : Type 0} → (P → AllowRelation) → ThreadJob P → ListProgress → List RunTask → ListProgress → Type 0
 ListLeadsTo may duty p [] q = q ≡ p
 ListLeadsTo may duty p (task ∷ tasks) q =
     (r : ListProgress) × DoesWhere (task.dom.0 == duty.part.dom.0) may duty task p r × ListLeadsTo may duty r tasks q
@@ -79,19 +79,19 @@ ListLeadsTo may duty p (task ∷ tasks) q =
 -- what outcomes print
 
 -- the lines of these answers, in order
-abbrev pub answer_lines : List (List ℕ) → DomId → List Outcome → List ℕ
+abbrev pub answer_lines : List (List ℕ) → DomId → List ListOutcome → List ℕ
 answer_lines names dom outcomes = flat_map (λ o. answer_line names o.line dom o.answer) outcomes
 
 -- the records of these calls that the log has, in order
-abbrev pub records_told : List Outcome → List Record
+abbrev pub records_told : List ListOutcome → List Record
 records_told outcomes = flat_map (λ o. o.told) outcomes
 
 -- the audit lines of these calls, in order
-abbrev pub audit_lines : List (List ℕ) → List Outcome → List ℕ
+abbrev pub audit_lines : List (List ℕ) → List ListOutcome → List ℕ
 audit_lines names outcomes = flat_map (line_text (type_text (λ name. name) names)) (records_told outcomes)
 
 -- how many records of these calls were lost
-abbrev pub lost_in : List Outcome → ℕ
+abbrev pub lost_in : List ListOutcome → ℕ
 lost_in outcomes = sum_by (λ o. o.lost) outcomes
 
 -- a count of 64 bits, which stays at its largest value
@@ -111,11 +111,11 @@ abbrev pub IsReady : {P : Type 0} → (P → AllowRelation) → Monitor P → Do
 IsReady may m dom s = (s.monitor ≡ m) × IsFirst may m dom s.domain
 
 -- the domains are ready for these parts, each for its own
-abbrev pub AreReady : {P : Type 0} → (P → AllowRelation) → Monitor P → List (Stand P) → List Part → Type 0
+abbrev pub AreReady : {P : Type 0} → (P → AllowRelation) → Monitor P → List (Stand P) → List DomainPart → Type 0
 AreReady may m stands parts = AllZip (λ s p. IsReady may m p.dom s) stands parts
 
 -- the line awaits a flag
-unfoldable pub IsAwait : Deed → Type 0
+unfoldable pub IsAwait : RunAction → Type 0
 IsAwait (Do call) = ⊥
 IsAwait (Tell flag) = ⊥
 IsAwait (Await flag) = Unit {0}
@@ -125,21 +125,21 @@ abbrev pub gate_line : ℕ → DomId → List ℕ
 gate_line line dom = call_text line dom ++ codes "gate\n"
 
 -- a list stops at this line, which awaits a flag, if its gate answers false; this is its last line then
-pub record Stops (dom : DomId) (tasks : List Task) (number : ℕ) (last : List ℕ) : Type 0 where
-  pub at : Task
+pub record Stops (dom : DomId) (tasks : List RunTask) (number : ℕ) (last : List ℕ) : Type 0 where
+  pub at : RunTask
   pub own : (at.dom.0 == dom.0) ≡ true
   pub stands : slice_get tasks number ≡ Some at
   pub awaits : IsAwait at.deed
   pub last_is : last ≡ gate_line at.line dom
 
 -- a list ends after so many lines: they are all, and nothing more is printed; or it stops there
-abbrev pub EndsList : DomId → List Task → ℕ → List ℕ → Type 0
+abbrev pub EndsList : DomId → List RunTask → ℕ → List ℕ → Type 0
 EndsList dom tasks number last = ((number ≡ length tasks) × (last ≡ [])) ⊎ Stops dom tasks number last
 
 -- The duty's list was served from a domain that had done nothing up to its end: its
 -- calls came to these outcomes, and it printed the lines of their
 -- answers, and the line of its gate if that ended it
-pub record IsServed {P : Type 0} (may : P → AllowRelation) (duty : Duty P) (outcomes : List Outcome)
+pub record IsServed {P : Type 0} (may : P → AllowRelation) (duty : ThreadJob P) (outcomes : List ListOutcome)
     (text : List ℕ) : Type 0 where
   pub domain : Domain
   pub first : IsFirst may duty.monitor.now duty.part.dom domain
@@ -153,7 +153,7 @@ pub record IsServed {P : Type 0} (may : P → AllowRelation) (duty : Duty P) (ou
 
 -- some first lines of the duty's list were served from a domain that had
 -- done nothing, and this is what their calls printed
-pub record IsBegun {P : Type 0} (may : P → AllowRelation) (duty : Duty P) (text : List ℕ) : Type 0 where
+pub record IsBegun {P : Type 0} (may : P → AllowRelation) (duty : ThreadJob P) (text : List ℕ) : Type 0 where
   pub domain : Domain
   pub first : IsFirst may duty.monitor.now duty.part.dom domain
   pub number : ℕ
@@ -165,15 +165,15 @@ pub record IsBegun {P : Type 0} (may : P → AllowRelation) (duty : Duty P) (tex
 
 -- what went into the log, or was lost, are the records of these calls:
 -- each record of the domain's trail was pushed
-abbrev pub TellsOutcomes : Telling → Option Teller → List Outcome → Type 0
+abbrev pub TellsOutcomes : Telling → Option TrailLogger → List ListOutcome → Type 0
 TellsOutcomes trail None outcomes = (records_told outcomes ≡ []) × (lost_in outcomes ≡ 0)
 TellsOutcomes trail (Some t) outcomes =
     (t.next ≡ length trail.records) × (map (λ e. e.1) t.told.told ≡ records_told outcomes)
     × (counted (trail.lost + t.told.lost) ≡ counted (lost_in outcomes))
 
 -- the domain and what is kept beside it are where the list has come to
-pub record IsKeptAt {P : Type 0} (duty : Duty P) (p : ListProgress) (d : Domain) (labels : Labels)
-    (teller : Option Teller) : Type 0 where
+pub record IsKeptAt {P : Type 0} (duty : ThreadJob P) (p : ListProgress) (d : Domain) (labels : Labels)
+    (teller : Option TrailLogger) : Type 0 where
   pub domain : p.domain ≡ d
   pub own : d.seat.dom ≡ duty.part.dom
   pub names : AreNamed labels p.named
@@ -181,8 +181,8 @@ pub record IsKeptAt {P : Type 0} (duty : Duty P) (p : ListProgress) (d : Domain)
   pub told : TellsOutcomes d.trail teller p.outcomes
 
 -- from each point that is kept so, the call of this line leads to a next one, and prints this
-abbrev pub Calls : {P : Type 0} → (P → AllowRelation) → Duty P → ℕ → ScriptCall → Domain → Domain → Labels → Labels
-    → Option Teller → Option Teller → List ℕ → Type 0
+abbrev pub Calls : {P : Type 0} → (P → AllowRelation) → ThreadJob P → ℕ → ScriptCall → Domain → Domain → Labels → Labels
+    → Option TrailLogger → Option TrailLogger → List ℕ → Type 0
 Calls may duty line call d e before after t u text =
     (p : ListProgress) → IsKeptAt duty p d before t
     → (q : ListProgress) × MakesCall may duty line call p q × IsKeptAt duty q e after u
@@ -191,7 +191,7 @@ Calls may duty line call d e before after t u text =
 
 -- the domain made the call of a line: from what the labels stood for it was asked what the
 -- line says and answered so, and they stand for what they then do
-abbrev pub Makes : {P : Type 0} → (P → AllowRelation) → Duty P → ScriptCall → Domain → Domain → Labels → Labels → Answer
+abbrev pub Makes : {P : Type 0} → (P → AllowRelation) → ThreadJob P → ScriptCall → Domain → Domain → Labels → Labels → Answer
     → Type 0
 Makes may duty call d e before after answer =
     (named : List Named) → AreNamed before named
@@ -199,14 +199,14 @@ Makes may duty call d e before after answer =
     × AreNamed after (with_name named duty.part.dom (label_given call) (handle_given answer))
 
 -- nothing was pushed for the calls of this domain, which has made none
-abbrev pub StartsTold : {P : Type 0} → Duty P → Domain → Option Teller → Type 0
+abbrev pub StartsTold : {P : Type 0} → ThreadJob P → Domain → Option TrailLogger → Type 0
 StartsTold duty d teller =
     (d.seat.dom ≡ duty.part.dom) × (is_some teller ≡ is_logged duty) × TellsOutcomes d.trail teller []
 
 -- a list was served from this domain on, up to its end; what is kept is
 -- where it came to, and the text is what it printed
-pub record ServesAll {P : Type 0} (may : P → AllowRelation) (duty : Duty P) (d : Domain) (text : List ℕ) (e : Domain)
-    (teller : Option Teller) : Type 0 where
+pub record ServesAll {P : Type 0} (may : P → AllowRelation) (duty : ThreadJob P) (d : Domain) (text : List ℕ) (e : Domain)
+    (teller : Option TrailLogger) : Type 0 where
   pub left : ListProgress
   pub number : ℕ
   pub leads : ListLeadsTo may duty (list_start d) (take number duty.part.tasks.now) left
@@ -217,22 +217,22 @@ pub record ServesAll {P : Type 0} (may : P → AllowRelation) (duty : Duty P) (d
   pub told : TellsOutcomes e.trail teller left.outcomes
 
 -- some first lines of it were served, and the text is what their calls printed
-pub record ServesSome {P : Type 0} (may : P → AllowRelation) (duty : Duty P) (d : Domain) (text : List ℕ) : Type 0 where
+pub record ServesSome {P : Type 0} (may : P → AllowRelation) (duty : ThreadJob P) (d : Domain) (text : List ℕ) : Type 0 where
   pub left : ListProgress
   pub number : ℕ
   pub leads : ListLeadsTo may duty (list_start d) (take number duty.part.tasks.now) left
   pub prints : text ≡ answer_lines duty.part.types.now duty.part.dom left.outcomes
 
 -- a list that printed all, or did not, was served so
-abbrev pub Serves : {P : Type 0} → (P → AllowRelation) → Duty P → Domain → Bool → List ℕ → Domain → Option Teller
+abbrev pub Serves : {P : Type 0} → (P → AllowRelation) → ThreadJob P → Domain → Bool → List ℕ → Domain → Option TrailLogger
     → Type 0
 Serves may duty d true text e teller = ServesAll may duty d text e teller
 Serves may duty d false text e teller = ServesSome may duty d text
 
 -- what so many first lines of a list came to, if their text is all there or is not:
 -- with what is kept beside it, or only some first ones of them
-abbrev pub HasCome : {P : Type 0} → (P → AllowRelation) → Duty P → Domain → Bool → ℕ → List ℕ → Domain → Labels
-    → Option Teller → Type 0
+abbrev pub HasCome : {P : Type 0} → (P → AllowRelation) → ThreadJob P → Domain → Bool → ℕ → List ℕ → Domain → Labels
+    → Option TrailLogger → Type 0
 HasCome may duty d true count text e labels teller =
     (q : ListProgress) × ListLeadsTo may duty (list_start d) (take count duty.part.tasks.now) q
     × IsKeptAt duty q e labels teller

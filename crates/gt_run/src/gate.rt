@@ -19,19 +19,19 @@ pub const FLAGS: usize = 131_072;
 
 /// The gate of a program: it waits until the flag is raised, however long that takes, and lets the caller on.
 #[derive(Drop)]
-pub struct Flags<'r, R: Wait> {
+pub struct FlagGate<'r, R: Wait> {
     rt: &'r R,
     told: Mutex<Vec<bool>>,
     more: Condvar,
 }
 
-impl<'r, R: Wait> Flags<'r, R> {
+impl<'r, R: Wait> FlagGate<'r, R> {
     /// A gate of [`FLAGS`] flags, none of which is raised.
     ///
     /// # Errors
     /// Memory was refused. It is asked for only here.
     pub fn new(rt: &'r R, alloc: Global) -> Result<Self, Memory> {
-        Ok(Flags {
+        Ok(FlagGate {
             rt,
             told: Mutex::new(vec![in alloc; false; FLAGS]?),
             more: Condvar::new(),
@@ -44,7 +44,7 @@ fn is_told(told: &Vec<bool>, flag: usize) -> bool {
     told.get(flag).copied().unwrap_or(true)
 }
 
-impl<'r, R: Wait> Gate for Flags<'r, R> {
+impl<'r, R: Wait> Gate for FlagGate<'r, R> {
     fn tell(&self, flag: usize) {
         let mut told = self.told.lock(self.rt);
         if let Some(it) = told.get_mut(flag) {

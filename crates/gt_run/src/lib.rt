@@ -17,8 +17,8 @@ mod telling;
 mod threads;
 
 pub use fault::RunFault;
-pub use gate::{FLAGS, Flags, Gate};
+pub use gate::{FLAGS, FlagGate, Gate};
 pub use laws::no_script_names_so_many_flags;
-pub use lists::{Part, RunContext};
+pub use lists::{DomainPart, RunContext};
 pub use reading::run;
 pub use threads::run_lists;

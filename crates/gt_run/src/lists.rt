@@ -4,7 +4,7 @@ use crate::serving::Output;
 use gt_audit::SharedLog;
 use gt_lines::Text;
 use gt_live::Monitor;
-use gt_script::Task;
+use gt_script::RunTask;
 use gt_types::{Allows, DomId};
 use std::alloc::Global;
 use std::sync::Wait;
@@ -22,23 +22,23 @@ pub struct RunContext<'s, R: Wait, G: Gate> {
 
 /// A domain's part of a run: its lines among those of all domains, and the names of types that its answers print.
 #[derive(Clone, Copy)]
-pub struct Part<'s, 'a> {
+pub struct DomainPart<'s, 'a> {
     pub dom: DomId,
-    pub tasks: &'s [Task<'a>],
+    pub tasks: &'s [RunTask<'a>],
     pub types: &'s [Text<'s>],
 }
 
 /// What the thread of a domain is to do: its part, on a monitor, with a record of its calls if there is a log.
 #[derive(Drop)]
-pub struct Duty<'s, 'a, P: Allows> {
-    pub part: Part<'s, 'a>,
+pub struct ThreadJob<'s, 'a, P: Allows> {
+    pub part: DomainPart<'s, 'a>,
     pub monitor: &'s Monitor<P>,
     pub log: Option<&'s SharedLog>,
 }
 
 // The thread of a domain promises what comes of its duty.
-impl<'s, 'a, P: Allows> Promise<Output> for Duty<'s, 'a, P> {
-    ghost use Rattle.gt_run.specs.Printing.{CameOf};
+impl<'s, 'a, P: Allows> Promise<Output> for ThreadJob<'s, 'a, P> {
+    ghost use Rattle.gt_run.specs.Printing.{IsOutputOf};
 
-    ghost kept_by = { λ duty output. CameOf P.may duty output };
+    ghost kept_by = { λ duty output. IsOutputOf P.may duty output };
 }

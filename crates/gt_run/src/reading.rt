@@ -9,12 +9,12 @@ ghost use Rattle.gt_run.specs.Runs.{AreParts, Ran, WroteScript};
 
 use crate::fault::RunFault;
 use crate::gate::Gate;
-use crate::lists::{Part, RunContext};
+use crate::lists::{DomainPart, RunContext};
 use crate::threads::run_lists;
 use gt_audit::SharedLog;
-use gt_host::{PlayFault, Rights};
+use gt_host::{PlayFault, ScriptPolicy};
 use gt_lines::Text;
-use gt_script::{RunScript, Task, parse_run};
+use gt_script::{RunScript, RunTask, parse_run};
 use gt_streams::read_text;
 use gt_types::{Config, DomainConfig};
 use std::alloc::{AllocError, Global};
@@ -26,15 +26,15 @@ use std::thread::Threads;
 fn parts_of<'s, 'a>(
     alloc: Global,
     domains: &[DomainConfig],
-    tasks: &'s [Task<'a>],
+    tasks: &'s [RunTask<'a>],
     types: &'s [Text<'s>],
-) -> Result<Vec<Part<'s, 'a>>, AllocError>
+) -> Result<Vec<DomainPart<'s, 'a>>, AllocError>
     ensures { IfOk result (λ parts. AreParts domains.entry.now tasks.entry.now types.entry.now parts.items) }
 {
     let mut parts = Vec::new(alloc);
     'domains: for domain in domains {
         let dom = domain.id;
-        parts.push(Part { dom, tasks, types })?;
+        parts.push(DomainPart { dom, tasks, types })?;
     }
     Ok(parts)
 }
@@ -57,7 +57,7 @@ fn run_script<'a, R: Threads + Wait + Sync, G: Gate + Sync, W: Write>(
         domains: Vec::from_slice(alloc, head.domains())?,
         first_gen: head.first_gen(),
     };
-    let rights = Rights::of(alloc, head)?;
+    let rights = ScriptPolicy::of(alloc, head)?;
     let types = head.type_names(alloc)?;
     let parts = parts_of(alloc, head.domains(), script.tasks(), types.as_slice())?;
     let context = RunContext {

@@ -5,7 +5,7 @@ ghost use Rattle.gt_run.specs.Asking.{IsReadAnswer, plain_answer};
 use gt_audit::Trail;
 use gt_core::{Answer, Bytes, Request};
 use gt_frames::{Copied, Read, Written};
-use gt_live::{Domain, Left, Monitor};
+use gt_live::{Domain, Departed, Monitor};
 use gt_types::{Allows, Denial};
 use std::marker::Model;
 use std::sync::Wait;
@@ -13,12 +13,12 @@ use std::sync::Wait;
 /// A domain beside the monitor that it came with. Dropping it finishes the domain.
 ///
 /// A closure takes nothing that can't be dropped, and a [`Domain`] can't be. So this is what moves into a thread.
-pub struct Running<'m, P: Allows> {
+pub struct RunningDomain<'m, P: Allows> {
     monitor: &'m Monitor<P>,
     domain: Domain,
 }
 
-impl<'m, P: Allows> Model for Running<'m, P> {
+impl<'m, P: Allows> Model for RunningDomain<'m, P> {
     ghost use Rattle.gt_live.specs.Domains.{BelongsTo};
     ghost use Rattle.gt_run.specs.Asking.{Stand};
 
@@ -29,9 +29,9 @@ impl<'m, P: Allows> Model for Running<'m, P> {
     ghost invariant = { λ r. BelongsTo P.may r.monitor.now r.domain };
 }
 
-impl<'m, P: Allows> Drop for Running<'m, P> {
+impl<'m, P: Allows> Drop for RunningDomain<'m, P> {
     fn drop(self) {
-        let Running { monitor, domain } = self;
+        let RunningDomain { monitor, domain } = self;
         domain.finish(monitor);
     }
 }
@@ -75,7 +75,7 @@ fn copied(answer: Result<Copied, Denial>) -> Answer
     }
 }
 
-impl<'m, P: Allows> Running<'m, P> {
+impl<'m, P: Allows> RunningDomain<'m, P> {
     ghost use Rattle.gt_live.specs.Domains.{BelongsTo};
     ghost use Rattle.gt_run.specs.Asking.{Asks};
 
@@ -84,7 +84,7 @@ impl<'m, P: Allows> Running<'m, P> {
         requires { BelongsTo P.may monitor.now domain }
         ensures { result ≡ record { monitor = monitor.now; domain = domain } }
     {
-        Running { monitor, domain }
+        RunningDomain { monitor, domain }
     }
 
     /// The records of its calls so far, in order.
@@ -95,10 +95,10 @@ impl<'m, P: Allows> Running<'m, P> {
     }
 
     /// Leaves the run.
-    pub fn finish(self) -> Left
+    pub fn finish(self) -> Departed
         ensures { result.trail ≡ self.entry.domain.trail }
     {
-        let Running { monitor, domain } = self;
+        let RunningDomain { monitor, domain } = self;
         domain.finish(monitor)
     }
 

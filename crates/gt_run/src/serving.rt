@@ -1,16 +1,16 @@
 //! One domain's list, from its first line to its last.
 ghost use Rattle.std.specs.Prelude.{◌≡◌, ◌++◌, [], false, IfOk, IsOk, IsTrue};
-ghost use Rattle.gt_run.specs.Printing.{CameOf};
+ghost use Rattle.gt_run.specs.Printing.{IsOutputOf};
 ghost use Rattle.gt_run.specs.Serving.{gate_line, Calls, IsReady, Makes, Serves, StartsTold};
 
 use crate::gate::Gate;
-use crate::lists::Duty;
-use crate::running::Running;
-use crate::telling::{Teller, tell_next, teller_for};
+use crate::lists::ThreadJob;
+use crate::running::RunningDomain;
+use crate::telling::{TrailLogger, tell_next, teller_for};
 use gt_core::Answer;
-use gt_host::{Labels, bytes_said, label_given, name_mapping, push_answer_line, request_of};
+use gt_host::{Labels, call_bytes, label_given, name_mapping, push_answer_line, request_of};
 use gt_lines::ScriptCall;
-use gt_script::Deed;
+use gt_script::RunAction;
 use gt_texts::{push_number, push_text};
 use gt_types::{Allows, DomId, Memory};
 use std::alloc::{AllocError, Global};
@@ -33,9 +33,9 @@ pub struct Output {
 fn make_call<'a, R: Wait, P: Allows>(
     rt: &R,
     alloc: Global,
-    domain: &mut Running<'_, P>,
+    domain: &mut RunningDomain<'_, P>,
     labels: &mut Labels<'a>,
-    duty: &Duty<'_, 'a, P>,
+    duty: &ThreadJob<'_, 'a, P>,
     call: &ScriptCall<'a>,
 ) -> Result<Answer, AllocError>
     requires { domain.old.monitor ≡ duty.now.monitor.now }
@@ -43,7 +43,7 @@ fn make_call<'a, R: Wait, P: Allows>(
     ensures made { IfOk result
         (Makes P.may duty.now call.now domain.old.domain domain.new.domain labels.old labels.new) }
 {
-    let bytes = bytes_said(alloc, call)?;
+    let bytes = call_bytes(alloc, call)?;
     let dom = duty.part.dom;
     let answer = domain.ask(rt, request_of(labels, dom, bytes.as_slice(), call));
     name_mapping(labels, dom, label_given(call), &answer)?;
@@ -61,10 +61,10 @@ struct CallLine<'b, 'a> {
 fn call_line<'a, R: Wait, P: Allows>(
     rt: &R,
     alloc: Global,
-    domain: &mut Running<'_, P>,
+    domain: &mut RunningDomain<'_, P>,
     labels: &mut Labels<'a>,
-    teller: &mut Option<Teller<'_>>,
-    duty: &Duty<'_, 'a, P>,
+    teller: &mut Option<TrailLogger<'_>>,
+    duty: &ThreadJob<'_, 'a, P>,
     at: CallLine<'_, 'a>,
 ) -> Result<Vec<u8>, AllocError>
     requires { domain.old.monitor ≡ duty.now.monitor.now }
@@ -116,9 +116,9 @@ fn has_appended(text: &mut Vec<u8>, whole: bool, line: Result<Vec<u8>, AllocErro
 fn serve<'a, R: Wait, P: Allows, G: Gate>(
     rt: &R,
     alloc: Global,
-    domain: &mut Running<'_, P>,
-    duty: Duty<'_, 'a, P>,
-    teller: &mut Option<Teller<'_>>,
+    domain: &mut RunningDomain<'_, P>,
+    duty: ThreadJob<'_, 'a, P>,
+    teller: &mut Option<TrailLogger<'_>>,
     gate: &G,
     text: &mut Vec<u8>,
 ) -> bool
@@ -133,14 +133,14 @@ fn serve<'a, R: Wait, P: Allows, G: Gate>(
     'tasks: for task in duty.part.tasks {
         if task.dom.0 == dom.0 {
             match &task.deed {
-                Deed::Do(call) => {
+                RunAction::Do(call) => {
                     let line = task.line;
                     let at = CallLine { line, call };
                     let printed = call_line(rt, alloc, domain, &mut labels, teller, &duty, at);
                     whole = has_appended(text, whole, printed);
                 }
-                Deed::Tell(flag) => gate.tell(*flag),
-                Deed::Await(flag) => {
+                RunAction::Tell(flag) => gate.tell(*flag),
+                RunAction::Await(flag) => {
                     if !gate.pass(*flag) {
                         return has_appended(text, whole, gate_line(alloc, task.line, dom));
                     }
@@ -156,13 +156,13 @@ fn serve<'a, R: Wait, P: Allows, G: Gate>(
 pub fn work<'a, R: Wait, P: Allows, G: Gate>(
     rt: &R,
     alloc: Global,
-    domain: Running<'_, P>,
-    duty: Duty<'_, 'a, P>,
+    domain: RunningDomain<'_, P>,
+    duty: ThreadJob<'_, 'a, P>,
     gate: &G,
     start: &OnceLock<bool>,
 ) -> Output
     requires { IsReady P.may duty.monitor.now duty.part.dom domain }
-    ensures { CameOf P.may duty.entry result }
+    ensures { IsOutputOf P.may duty.entry result }
 {
     let mut domain = domain;
     let types = duty.part.types;

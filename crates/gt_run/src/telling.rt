@@ -1,24 +1,24 @@
 //! What a domain pushes into the log that all share.
 ghost use Rattle.std.specs.Option.{option_map};
 ghost use Rattle.gt_audit.specs.Telling.{nothing_told};
-ghost use Rattle.gt_run.specs.Telling.{TellsWhere};
+ghost use Rattle.gt_run.specs.Telling.{LogsTrail};
 ghost use Rattle.std.specs.Prelude.{◌≡◌};
 
-use gt_audit::{SharedLog, Told, Trail, push_line};
+use gt_audit::{SharedLog, DomainLog, Trail, push_line};
 use gt_lines::Text;
-use gt_live::Left;
+use gt_live::Departed;
 use gt_types::{DomId, Memory};
 use std::alloc::Global;
 use std::sync::Wait;
 
 /// What a domain pushed into the log: each record of its trail under its place there, counted from 0.
 #[derive(Drop)]
-pub struct Teller<'l> {
-    told: Told<'l>,
+pub struct TrailLogger<'l> {
+    told: DomainLog<'l>,
     next: usize,
 }
 
-impl<'l> Teller<'l> {
+impl<'l> TrailLogger<'l> {
     ghost use Rattle.std.specs.Prelude.{◌≡◌, ◌+◌, length, map, slice_get, IfOk};
     ghost use Rattle.std.specs.List.{flat_map};
     ghost use Rattle.gt_texts.specs.Printing.{type_text};
@@ -31,8 +31,8 @@ impl<'l> Teller<'l> {
     pub fn new(alloc: Global, log: &'l SharedLog, dom: DomId) -> Self
         ensures { result ≡ record { told = nothing_told dom; next = 0 } }
     {
-        Teller {
-            told: Told::new(alloc, log, dom),
+        TrailLogger {
+            told: DomainLog::new(alloc, log, dom),
             next: 0,
         }
     }
@@ -62,7 +62,7 @@ impl<'l> Teller<'l> {
     }
 
     /// How many records of a domain that has left were lost: memory was refused for them in its trail, or in the log.
-    pub fn lost(&self, left: &Left) -> u64
+    pub fn lost(&self, left: &Departed) -> u64
         ensures { result ≡ counted (left.now.trail.lost + self.now.told.lost) }
     {
         left.lost().saturating_add(self.told.lost())
@@ -70,18 +70,18 @@ impl<'l> Teller<'l> {
 }
 
 /// What a domain pushes into a log, if there is one. Nothing was pushed yet.
-pub fn teller_for<'l>(alloc: Global, log: Option<&'l SharedLog>, dom: DomId) -> Option<Teller<'l>>
+pub fn teller_for<'l>(alloc: Global, log: Option<&'l SharedLog>, dom: DomId) -> Option<TrailLogger<'l>>
     ensures { result ≡ option_map (λ l. record { told = nothing_told dom; next = 0 }) log.entry }
 {
     match log {
-        Some(log) => Some(Teller::new(alloc, log, dom)),
+        Some(log) => Some(TrailLogger::new(alloc, log, dom)),
         None => None,
     }
 }
 
 /// Pushes the next record of a trail, if there is a log.
-pub fn tell_next(rt: &impl Wait, teller: &mut Option<Teller<'_>>, trail: &Trail)
-    ensures { TellsWhere trail.now teller.old teller.new }
+pub fn tell_next(rt: &impl Wait, teller: &mut Option<TrailLogger<'_>>, trail: &Trail)
+    ensures { LogsTrail trail.now teller.old teller.new }
 {
     if let Some(teller) = teller {
         teller.tell(rt, trail);

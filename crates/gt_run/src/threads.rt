@@ -9,15 +9,15 @@ ghost use Rattle.gt_live.specs.Domains.{BelongsTo};
 ghost use Rattle.gt_streams.specs.Streams.{AppendsBeginning};
 ghost use Rattle.gt_run.specs.Faults.{run_out_of_memory};
 ghost use Rattle.gt_run.specs.Joining.{IsLate, Joins, WritesNext, WroteStarted, run_fault_of};
-ghost use Rattle.gt_run.specs.declared.threads.Refusal.TheVariants as refusals;
-ghost use Rattle.gt_run.specs.Printing.{AreDuties, CameOf, promised};
+ghost use Rattle.gt_run.specs.declared.threads.ThreadRefusal.TheVariants as refusals;
+ghost use Rattle.gt_run.specs.Printing.{AreDuties, IsOutputOf, promised};
 ghost use Rattle.gt_run.specs.Runs.{AreUnder, Wrote};
 ghost use Rattle.gt_run.specs.Serving.{counted, AreReady, IsReady};
 
 use crate::fault::RunFault;
 use crate::gate::Gate;
-use crate::lists::{Duty, Part, RunContext};
-use crate::running::Running;
+use crate::lists::{ThreadJob, DomainPart, RunContext};
+use crate::running::RunningDomain;
 use crate::serving::{Output, work};
 use gt_audit::push_lost;
 use gt_live::{Domain, Monitor};
@@ -45,7 +45,7 @@ pub fn all_running<'m, P: Allows>(
     alloc: Global,
     monitor: &'m Monitor<P>,
     domains: Vec<Domain>,
-) -> Result<Vec<Running<'m, P>>, Memory>
+) -> Result<Vec<RunningDomain<'m, P>>, Memory>
     requires { All (λ d. BelongsTo P.may monitor.now d) domains.items }
     ensures { IfOk result (λ all. all.items ≡ map (λ d. record { monitor = monitor.now; domain = d }) domains.items) }
 {
@@ -53,10 +53,10 @@ pub fn all_running<'m, P: Allows>(
         finish_all(monitor, domains);
         return Err(Memory);
     };
-    let mut all: Vec<Running<'m, P>> = room;
+    let mut all: Vec<RunningDomain<'m, P>> = room;
     let mut rest = domains.into_iter();
     'rest: while let Some(domain) = rest.next() {
-        all.push_reserved(Running::new(monitor, domain));
+        all.push_reserved(RunningDomain::new(monitor, domain));
     }
     rest.destroy_empty();
     Ok(all)
@@ -64,43 +64,43 @@ pub fn all_running<'m, P: Allows>(
 
 // Why there is not a thread for each domain: one was refused, or memory for the list of them.
 #[derive(Clone, Copy)]
-enum Refusal {
+enum ThreadRefusal {
     Thread,
     Memory,
 }
 
-impl From<Refusal> for RunFault {
+impl From<ThreadRefusal> for RunFault {
     ghost from_gives = { λ refusal fault. fault ≡ run_fault_of refusal };
 
-    fn from(refusal: Refusal) -> RunFault {
+    fn from(refusal: ThreadRefusal) -> RunFault {
         match refusal {
-            Refusal::Thread => RunFault::Thread,
-            Refusal::Memory => RunFault::from(Memory),
+            ThreadRefusal::Thread => RunFault::Thread,
+            ThreadRefusal::Memory => RunFault::from(Memory),
         }
     }
 }
 
-impl<F: Drop> From<SpawnError<F>> for Refusal {
+impl<F: Drop> From<SpawnError<F>> for ThreadRefusal {
     ghost from_gives = { λ _ refusal. refusal ≡ refusals.Thread };
 
-    fn from(_error: SpawnError<F>) -> Refusal {
-        Refusal::Thread
+    fn from(_error: SpawnError<F>) -> ThreadRefusal {
+        ThreadRefusal::Thread
     }
 }
 
-impl<T: Drop> From<AllocFailed<T>> for Refusal {
+impl<T: Drop> From<AllocFailed<T>> for ThreadRefusal {
     ghost from_gives = { λ _ refusal. refusal ≡ refusals.Memory };
 
-    fn from(_error: AllocFailed<T>) -> Refusal {
-        Refusal::Memory
+    fn from(_error: AllocFailed<T>) -> ThreadRefusal {
+        ThreadRefusal::Memory
     }
 }
 
 // What was started: the threads in the order of their domains, and what was refused if there is not one for each.
 #[derive(Drop)]
 struct Started<'s, 'a, P: Allows> {
-    handles: Vec<PromisedHandle<Output, Duty<'s, 'a, P>>>,
-    refused: Option<Refusal>,
+    handles: Vec<PromisedHandle<Output, ThreadJob<'s, 'a, P>>>,
+    refused: Option<ThreadRefusal>,
 }
 
 // Starts a thread for each domain, with its part. It waits for the start before it does anything. Behind a thread that
@@ -109,8 +109,8 @@ fn start_each<'s, 'a, E, R: Wait + Sync, P: Allows + Sync, G: Gate + Sync>(
     scope: &'s Scope<'s, E>,
     context: &RunContext<'s, R, G>,
     monitor: &'s Monitor<P>,
-    domains: Vec<Running<'s, P>>,
-    parts: &'s [Part<'s, 'a>],
+    domains: Vec<RunningDomain<'s, P>>,
+    parts: &'s [DomainPart<'s, 'a>],
     start: &'s OnceLock<bool>,
 ) -> Started<'s, 'a, P>
     requires { AreReady P.may monitor.now domains.items parts.now }
@@ -125,22 +125,22 @@ fn start_each<'s, 'a, E, R: Wait + Sync, P: Allows + Sync, G: Gate + Sync>(
         let Some(domain) = rest.next() else {
             unreachable!()
         };
-        let duty = Duty { part, monitor, log };
+        let duty = ThreadJob { part, monitor, log };
         match scope.spawn_with(
-            Duty { part, monitor, log },
+            ThreadJob { part, monitor, log },
             move || -> Output
                 requires { IsReady P.may duty.monitor.now duty.part.dom domain }
-                ensures { CameOf P.may duty.entry result }
+                ensures { IsOutputOf P.may duty.entry result }
             { work(rt, alloc, domain, duty, gate, start) },
         ) {
             Ok(handle) => {
                 if let Err(error) = handles.push(handle) {
-                    let refused = Some(Refusal::from(error));
+                    let refused = Some(ThreadRefusal::from(error));
                     return Started { handles, refused };
                 }
             }
             Err(error) => {
-                let refused = Some(Refusal::from(error));
+                let refused = Some(ThreadRefusal::from(error));
                 return Started { handles, refused };
             }
         }
@@ -198,7 +198,7 @@ fn keep_audit(
 fn join_each<'s, 'a, R: Threads, P: Allows, W: Write>(
     rt: &R,
     alloc: Global,
-    handles: Vec<PromisedHandle<Output, Duty<'s, 'a, P>>>,
+    handles: Vec<PromisedHandle<Output, ThreadJob<'s, 'a, P>>>,
     writer: &mut W,
 ) -> Joined
     ensures { Joins P.may (promised handles.entry.items) result.audit.items result.lost
@@ -223,7 +223,7 @@ fn join_each<'s, 'a, R: Threads, P: Allows, W: Write>(
 // Joins threads that ran no list.
 fn join_idle<'s, 'a, R: Threads, P: Allows>(
     rt: &R,
-    handles: Vec<PromisedHandle<Output, Duty<'s, 'a, P>>>,
+    handles: Vec<PromisedHandle<Output, ThreadJob<'s, 'a, P>>>,
 ) {
     'joins: for handle in handles {
         let _ = handle.join(rt);
@@ -250,7 +250,7 @@ fn write_audit<W: Write>(
 
 // A writer on its way back out of a scope, and how it went there.
 #[derive(Drop)]
-struct Written<'w, W> {
+struct ReturnedWriter<'w, W> {
     writer: &'w mut W,
     outcome: Result<(), RunFault>,
 }
@@ -264,8 +264,8 @@ fn take_back<W>(writer: &mut W)
 fn write_each<'s, 'a, R: Threads, P: Allows, W: Write>(
     rt: &R,
     alloc: Global,
-    handles: Vec<PromisedHandle<Output, Duty<'s, 'a, P>>>,
-    refused: Option<Refusal>,
+    handles: Vec<PromisedHandle<Output, ThreadJob<'s, 'a, P>>>,
+    refused: Option<ThreadRefusal>,
     writer: &mut W,
 ) -> Result<(), RunFault>
     ensures { WroteStarted P.may refused (promised handles.entry.items)
@@ -290,8 +290,8 @@ fn write_each<'s, 'a, R: Threads, P: Allows, W: Write>(
 pub fn run_each<'a, R: Threads + Wait + Sync, P: Allows + Sync, G: Gate + Sync, W: Write>(
     context: &RunContext<'_, R, G>,
     monitor: &Monitor<P>,
-    domains: Vec<Running<'_, P>>,
-    parts: &[Part<'_, 'a>],
+    domains: Vec<RunningDomain<'_, P>>,
+    parts: &[DomainPart<'_, 'a>],
     writer: &mut W,
 ) -> Result<(), RunFault>
     requires { AreReady P.may monitor.now domains.items parts.now }
@@ -301,10 +301,10 @@ pub fn run_each<'a, R: Threads + Wait + Sync, P: Allows + Sync, G: Gate + Sync, 
     let start = OnceLock::new();
     let start = &start;
     let (rt, alloc) = (context.rt, context.alloc);
-    let Written { writer, outcome } = thread::scope(
+    let ReturnedWriter { writer, outcome } = thread::scope(
         thread::scope_env(),
         rt,
-        move |scope| -> Written<'_, W>
+        move |scope| -> ReturnedWriter<'_, W>
             requires { AreReady P.may monitor.now domains.items parts.now }
             ensures same { result.writer.ghost_name ≡ writer.entry.ghost_name }
             ensures text { Wrote P.may (AreDuties monitor.entry.now (is_some context.entry.now.log) parts.entry.now)
@@ -315,7 +315,7 @@ pub fn run_each<'a, R: Threads + Wait + Sync, P: Allows + Sync, G: Gate + Sync, 
             );
             let _ = start.try_set(refused.is_none());
             let outcome = write_each(rt, alloc, handles, refused, writer);
-            Written { writer, outcome }
+            ReturnedWriter { writer, outcome }
         },
     );
     take_back(writer);
@@ -327,7 +327,7 @@ pub fn run_lists<'a, R: Threads + Wait + Sync, P: Allows + Drop + Sync, G: Gate 
     context: &RunContext<'_, R, G>,
     config: Config,
     rights: P,
-    parts: &[Part<'_, 'a>],
+    parts: &[DomainPart<'_, 'a>],
     writer: &mut W,
 ) -> Result<(), RunFault>
     requires faultless { AreFaultless config.domains.items }

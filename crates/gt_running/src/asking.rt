@@ -13,7 +13,7 @@ pub const READ_ONLY: u32 = 6;
 /// What a domain is asked. Domains, references and frames are named by their numbers; a mapping is the last one that
 /// the domain made, or one that never was.
 #[derive(Clone, Copy)]
-pub enum Asks<'a> {
+pub enum TestCall<'a> {
     Grant(u32, Entry),
     Bytes(u32, &'a [u8]),
     Revoke(u32),
@@ -38,7 +38,7 @@ pub enum Asks<'a> {
 
 /// How it is answered.
 #[derive(Drop)]
-pub enum Said {
+pub enum TestReply {
     Done,
     Frames(u32),
     Size(Size),
@@ -48,14 +48,14 @@ pub enum Said {
 }
 
 /// An answer as a text: `ok` with its value, or the rule, its status and the word or field that decided.
-pub fn text(alloc: Global, said: &Said) -> Result<String, AllocError> {
+pub fn text(alloc: Global, said: &TestReply) -> Result<String, AllocError> {
     match said {
-        Said::Done => format!(in alloc; "ok"),
-        Said::Frames(frames) => format!(in alloc; "ok frames={frames}"),
-        Said::Size(size) => format!(in alloc; "ok frames={} max={}", size.frames, size.max),
-        Said::Version(version) => format!(in alloc; "ok version={version}"),
-        Said::Bytes(bytes) => format!(in alloc; "ok {:?}", bytes.as_slice()),
-        Said::Denied(denial) => refusal_text(alloc, denial),
+        TestReply::Done => format!(in alloc; "ok"),
+        TestReply::Frames(frames) => format!(in alloc; "ok frames={frames}"),
+        TestReply::Size(size) => format!(in alloc; "ok frames={} max={}", size.frames, size.max),
+        TestReply::Version(version) => format!(in alloc; "ok version={version}"),
+        TestReply::Bytes(bytes) => format!(in alloc; "ok {:?}", bytes.as_slice()),
+        TestReply::Denied(denial) => refusal_text(alloc, denial),
     }
 }
 

@@ -1,13 +1,13 @@
 //! Monitors and running domains for tests and timed loads: a call written as a value, and its answer said as a text.
 //!
-//! [`start`] makes a run of so many domains, and [`all_running`] keeps each of them beside its monitor ([`Running`]),
-//! so that it may be let go and may move into a thread. [`Running::ask`] makes the call that an [`Asks`] names, and
+//! [`start`] makes a run of so many domains, and [`all_running`] keeps each of them beside its monitor ([`TestDomain`]),
+//! so that it may be let go and may move into a thread. [`TestDomain::ask`] makes the call that an [`TestCall`] names, and
 //! [`text`] says its answer in words, with the word that a refusal carries.
 //!
 //! What holds: a domain that is let go has left its run, so none keeps a pin; and calls that access no bytes wait for
 //! nobody. What a call answers is left to the tests, which compare it.
 //!
-//! [`Running::make`] makes the call of a request and answers as `gt_core` would.
+//! [`TestDomain::make`] makes the call of a request and answers as `gt_core` would.
 //!
 //! It uses `gt_live`, and what that names: `gt_calls`, `gt_entry`, `gt_frames` and `gt_types`; and the answers of
 //! `gt_core`.
@@ -17,6 +17,6 @@ mod asking;
 mod running;
 mod starting;
 
-pub use asking::{Asks, READ_ONLY, Said, WRITABLE, text};
-pub use running::{Running, all_running};
+pub use asking::{TestCall, READ_ONLY, TestReply, WRITABLE, text};
+pub use running::{TestDomain, all_running};
 pub use starting::{numbered, rights, start};

@@ -2,26 +2,26 @@
 ghost use Rattle.std.specs.Prelude.{All};
 ghost use Rattle.gt_live.specs.Domains.{BelongsTo};
 
-use crate::asking::{Asks, Said};
+use crate::asking::{TestCall, TestReply};
 use gt_audit::{Record, Trail};
 use gt_calls::{CopyArgs, Handle, Request};
 use gt_core::{Answer, Bytes};
 use gt_entry::Entry;
 use gt_frames::Read;
-use gt_live::{Domain, Left, Monitor};
+use gt_live::{Domain, Departed, Monitor};
 use gt_types::{Allows, Denial, DomId, GrantRef, Memory, Size};
 use std::alloc::Global;
 use std::marker::Model;
 use std::sync::Wait;
 
 /// A domain beside its monitor, which leaves the run when it is let go.
-pub struct Running<'m, P: Allows> {
+pub struct TestDomain<'m, P: Allows> {
     monitor: &'m Monitor<P>,
     domain: Domain,
     last: Handle,
 }
 
-impl<'m, P: Allows> Model for Running<'m, P> {
+impl<'m, P: Allows> Model for TestDomain<'m, P> {
     ghost use Rattle.gt_types.specs.declared.DomId.{DomId};
     ghost use Rattle.gt_live.specs.Domains.{BelongsTo};
 
@@ -32,9 +32,9 @@ impl<'m, P: Allows> Model for Running<'m, P> {
     ghost invariant = { λ r. BelongsTo P.may r.monitor.now r.domain };
 }
 
-impl<'m, P: Allows> Drop for Running<'m, P> {
+impl<'m, P: Allows> Drop for TestDomain<'m, P> {
     fn drop(self) {
-        let Running {
+        let TestDomain {
             monitor,
             domain,
             last: _last,
@@ -49,38 +49,38 @@ const NEVER_GIVEN: Handle = Handle {
     key: 0,
 };
 
-fn done<T: Drop>(answer: Result<T, Denial>) -> Said {
+fn done<T: Drop>(answer: Result<T, Denial>) -> TestReply {
     match answer {
-        Ok(_) => Said::Done,
-        Err(denial) => Said::Denied(denial),
+        Ok(_) => TestReply::Done,
+        Err(denial) => TestReply::Denied(denial),
     }
 }
 
-fn frames(answer: Result<u32, Denial>) -> Said {
+fn frames(answer: Result<u32, Denial>) -> TestReply {
     match answer {
-        Ok(frames) => Said::Frames(frames),
-        Err(denial) => Said::Denied(denial),
+        Ok(frames) => TestReply::Frames(frames),
+        Err(denial) => TestReply::Denied(denial),
     }
 }
 
-fn size(answer: Result<Size, Denial>) -> Said {
+fn size(answer: Result<Size, Denial>) -> TestReply {
     match answer {
-        Ok(size) => Said::Size(size),
-        Err(denial) => Said::Denied(denial),
+        Ok(size) => TestReply::Size(size),
+        Err(denial) => TestReply::Denied(denial),
     }
 }
 
-fn version(answer: Result<u32, Denial>) -> Said {
+fn version(answer: Result<u32, Denial>) -> TestReply {
     match answer {
-        Ok(version) => Said::Version(version),
-        Err(denial) => Said::Denied(denial),
+        Ok(version) => TestReply::Version(version),
+        Err(denial) => TestReply::Denied(denial),
     }
 }
 
-fn read(answer: Result<Read, Denial>) -> Said {
+fn read(answer: Result<Read, Denial>) -> TestReply {
     match answer {
-        Ok(read) => Said::Bytes(read.into_bytes()),
-        Err(denial) => Said::Denied(denial),
+        Ok(read) => TestReply::Bytes(read.into_bytes()),
+        Err(denial) => TestReply::Denied(denial),
     }
 }
 
@@ -93,25 +93,25 @@ fn plain<T: Drop>(answer: Result<T, Denial>) -> Result<(), Denial> {
 }
 
 // The answer of a call as the core gives it.
-fn answer_of(said: Said, mapped: Option<Handle>) -> Answer {
+fn answer_of(said: TestReply, mapped: Option<Handle>) -> Answer {
     match (said, mapped) {
-        (Said::Done, Some(handle)) => Answer::Mapped(handle),
-        (Said::Done, None) => Answer::Done,
-        (Said::Frames(frames), _) => Answer::Frames(frames),
-        (Said::Size(size), _) => Answer::Size(size),
-        (Said::Version(version), _) => Answer::Version(version),
-        (Said::Bytes(bytes), _) => Answer::Bytes(Bytes { bytes }),
-        (Said::Denied(denial), _) => Answer::Denied(denial),
+        (TestReply::Done, Some(handle)) => Answer::Mapped(handle),
+        (TestReply::Done, None) => Answer::Done,
+        (TestReply::Frames(frames), _) => Answer::Frames(frames),
+        (TestReply::Size(size), _) => Answer::Size(size),
+        (TestReply::Version(version), _) => Answer::Version(version),
+        (TestReply::Bytes(bytes), _) => Answer::Bytes(Bytes { bytes }),
+        (TestReply::Denied(denial), _) => Answer::Denied(denial),
     }
 }
 
-impl<'m, P: Allows> Running<'m, P> {
+impl<'m, P: Allows> TestDomain<'m, P> {
     ghost use Rattle.gt_live.specs.Domains.{BelongsTo};
 
     pub fn new(monitor: &'m Monitor<P>, domain: Domain) -> Self
         requires { BelongsTo P.may monitor.now domain }
     {
-        Running {
+        TestDomain {
             monitor,
             domain,
             last: NEVER_GIVEN,
@@ -194,30 +194,30 @@ impl<'m, P: Allows> Running<'m, P> {
     }
 
     /// Makes the call that is asked, and says its answer.
-    pub fn ask<R: Wait>(&mut self, rt: &R, asks: Asks<'_>) -> Said {
+    pub fn ask<R: Wait>(&mut self, rt: &R, asks: TestCall<'_>) -> TestReply {
         let monitor = self.monitor;
         match asks {
-            Asks::Grant(gref, entry) => done(self.grant(gref, &entry)),
-            Asks::Bytes(gref, bytes) => {
+            TestCall::Grant(gref, entry) => done(self.grant(gref, &entry)),
+            TestCall::Bytes(gref, bytes) => {
                 done(self.domain.grant_bytes(monitor, GrantRef(gref), bytes))
             }
-            Asks::Revoke(gref) => done(self.revoke(gref)),
-            Asks::Withdraw(gref) => done(self.withdraw(gref)),
-            Asks::Demote(gref) => done(self.demote(gref)),
-            Asks::Promote(gref) => done(self.promote(gref)),
-            Asks::Map(dom, gref, flags) => done(self.map(dom, gref, flags)),
-            Asks::Unmap => done(self.unmap()),
-            Asks::Version(version) => done(self.domain.set_version(monitor, version)),
-            Asks::Setup(count) => frames(self.domain.setup_table(monitor, count)),
-            Asks::Size(dom) => size(self.domain.query_size(monitor, DomId(dom))),
-            Asks::GetVersion(dom) => version(self.domain.get_version(monitor, DomId(dom))),
-            Asks::Load(off, len) => read(self.load(rt, off, len)),
-            Asks::Store(off, bytes) => done(self.store(rt, off, bytes)),
-            Asks::Peek(frame, off, len) => read(self.domain.peek(rt, monitor, frame, off, len)),
-            Asks::Poke(frame, off, bytes) => {
+            TestCall::Revoke(gref) => done(self.revoke(gref)),
+            TestCall::Withdraw(gref) => done(self.withdraw(gref)),
+            TestCall::Demote(gref) => done(self.demote(gref)),
+            TestCall::Promote(gref) => done(self.promote(gref)),
+            TestCall::Map(dom, gref, flags) => done(self.map(dom, gref, flags)),
+            TestCall::Unmap => done(self.unmap()),
+            TestCall::Version(version) => done(self.domain.set_version(monitor, version)),
+            TestCall::Setup(count) => frames(self.domain.setup_table(monitor, count)),
+            TestCall::Size(dom) => size(self.domain.query_size(monitor, DomId(dom))),
+            TestCall::GetVersion(dom) => version(self.domain.get_version(monitor, DomId(dom))),
+            TestCall::Load(off, len) => read(self.load(rt, off, len)),
+            TestCall::Store(off, bytes) => done(self.store(rt, off, bytes)),
+            TestCall::Peek(frame, off, len) => read(self.domain.peek(rt, monitor, frame, off, len)),
+            TestCall::Poke(frame, off, bytes) => {
                 done(self.domain.poke(rt, monitor, frame, off, bytes))
             }
-            Asks::Copy(copy) => done(self.copy(rt, &copy)),
+            TestCall::Copy(copy) => done(self.copy(rt, &copy)),
         }
     }
 
@@ -297,8 +297,8 @@ impl<'m, P: Allows> Running<'m, P> {
         self.domain.trail().lost()
     }
 
-    pub fn finish(self) -> Left {
-        let Running {
+    pub fn finish(self) -> Departed {
+        let TestDomain {
             monitor,
             domain,
             last: _last,
@@ -316,14 +316,14 @@ pub fn all_running<'m, P: Allows>(
     alloc: Global,
     monitor: &'m Monitor<P>,
     domains: Vec<Domain>,
-) -> Result<Vec<Running<'m, P>>, Memory>
+) -> Result<Vec<TestDomain<'m, P>>, Memory>
     requires mine { All (λ d. BelongsTo P.may monitor.now d) domains.items }
 {
     let mut all = Vec::new(alloc);
     let mut has_room = true;
     let mut rest = domains.into_iter();
     'rest: while let Some(domain) = rest.next() {
-        has_room &= all.push(Running::new(monitor, domain)).is_ok();
+        has_room &= all.push(TestDomain::new(monitor, domain)).is_ok();
     }
     rest.destroy_empty();
     if has_room { Ok(all) } else { Err(Memory) }

@@ -14,8 +14,8 @@ use Rattle.gt_types.specs.declared.DomId.{DomId}
 use Rattle.gt_script.specs.Flags.{names_in, with_flag, flag_in, flag_names_of, flag_number}
 use Rattle.gt_script.specs.Stuck.{IsBelow, AreNumbered}
 use Rattle.gt_script.specs.Tasks.{deed_of, task_of, tasks_for}
-use Rattle.gt_script.specs.Lists.{Order, RunLine, Task}
-use Rattle.gt_script.specs.declared.tasks.DeedBy.TheVariants as runs
+use Rattle.gt_script.specs.Lists.{NamedRunTask, NamedRunAction, RunTask}
+use Rattle.gt_script.specs.declared.tasks.RunActionBy.TheVariants as runs
 use Rattle.gt_script.proofs.TypeLemmas.{same_bytes}
 
 any-names : (keys : List (Bor (List ℕ))) (name : List ℕ) → list_any (λ k. bytes_eq name k.now) keys ≡ list_any (bytes_eq name) (names_in keys)
@@ -58,22 +58,22 @@ named-one : (names : List (List ℕ)) (o : Option (List ℕ)) → fold with_flag
 named-one names None = refl
 named-one names (Some name) = refl
 
-flags-more : (orders : List Order) (i : ℕ) (x : Order) → i < length orders
+flags-more : (orders : List NamedRunTask) (i : ℕ) (x : NamedRunTask) → i < length orders
     → flag_names_of (take (i + 1) orders) ≡ fold with_flag (flag_names_of (take i orders)) (option_to_list (flag_in (get_or orders i x).deed))
 flags-more orders i x within =
     let front : take (i + 1) orders ≡ take i orders ++ get_or orders i x ∷ [] = rw add-one (take-suc orders i x within) in
     ap flag_names_of front
-    ∙ ap (fold with_flag []) (filter_map-append (λ (o : Order). flag_in o.deed) (take i orders) (get_or orders i x ∷ []))
-    ∙ fold-append with_flag [] (filter_map (λ (o : Order). flag_in o.deed) (take i orders)) (cons_option (flag_in (get_or orders i x).deed) [])
+    ∙ ap (fold with_flag []) (filter_map-append (λ (o : NamedRunTask). flag_in o.deed) (take i orders) (get_or orders i x ∷ []))
+    ∙ fold-append with_flag [] (filter_map (λ (o : NamedRunTask). flag_in o.deed) (take i orders)) (cons_option (flag_in (get_or orders i x).deed) [])
     ∙ named-one (flag_names_of (take i orders)) (flag_in (get_or orders i x).deed)
 
-pub flags-named : (orders : List Order) (i : ℕ) (x : Order) (names new : List (List ℕ)) (name : List ℕ) → i < length orders → names ≡ flag_names_of (take i orders) → flag_in (get_or orders i x).deed ≡ Some name
+pub flags-named : (orders : List NamedRunTask) (i : ℕ) (x : NamedRunTask) (names new : List (List ℕ)) (name : List ℕ) → i < length orders → names ≡ flag_names_of (take i orders) → flag_in (get_or orders i x).deed ≡ Some name
     → new ≡ with_flag names name → new ≡ flag_names_of (take (i + 1) orders)
 flags-named orders i x names new name within so_far here e =
     e ∙ ap (λ (l : List (List ℕ)). with_flag l name) so_far
     ∙ ap (λ (o : Option (List ℕ)). fold with_flag (flag_names_of (take i orders)) (option_to_list o)) (sym here) ∙ sym (flags-more orders i x within)
 
-pub flags-unnamed : (orders : List Order) (i : ℕ) (x : Order) (names : List (List ℕ)) → i < length orders → names ≡ flag_names_of (take i orders) → flag_in (get_or orders i x).deed ≡ None
+pub flags-unnamed : (orders : List NamedRunTask) (i : ℕ) (x : NamedRunTask) (names : List (List ℕ)) → i < length orders → names ≡ flag_names_of (take i orders) → flag_in (get_or orders i x).deed ≡ None
     → names ≡ flag_names_of (take (i + 1) orders)
 flags-unnamed orders i x names within so_far here =
     so_far ∙ ap (λ (o : Option (List ℕ)). fold with_flag (flag_names_of (take i orders)) (option_to_list o)) (sym here) ∙ sym (flags-more orders i x within)
@@ -128,7 +128,7 @@ number-below : (names : List (List ℕ)) (name : List ℕ) → Has names name �
 unfolding flag_number
 number-below names name h = position-below (bytes_eq name) names h
 
-line-below : (names : List (List ℕ)) (line : RunLine) → ((name : List ℕ) → flag_in line ≡ Some name → Has names name) → IsBelow (length names) (deed_of names line)
+line-below : (names : List (List ℕ)) (line : NamedRunAction) → ((name : List ℕ) → flag_in line ≡ Some name → Has names name) → IsBelow (length names) (deed_of names line)
 unfolding deed_of
 line-below names (runs.Do call) h = tt
 line-below names (runs.Tell flag) h = number-below names flag (h flag refl)
@@ -142,19 +142,19 @@ rest-named : (names : List (List ℕ)) (o : Option (List ℕ)) (more : List (Lis
 rest-named names None more h = h
 rest-named names (Some other) more h = All-tail (Has names) other more h
 
-lines-below : (names : List (List ℕ)) (orders : List Order) → All (Has names) (filter_map (λ o. flag_in o.deed) orders) → All (λ (o : Order). IsBelow (length names) (deed_of names o.deed)) orders
-lines-below names [] h = All-nil (λ (o : Order). IsBelow (length names) (deed_of names o.deed))
+lines-below : (names : List (List ℕ)) (orders : List NamedRunTask) → All (Has names) (filter_map (λ o. flag_in o.deed) orders) → All (λ (o : NamedRunTask). IsBelow (length names) (deed_of names o.deed)) orders
+lines-below names [] h = All-nil (λ (o : NamedRunTask). IsBelow (length names) (deed_of names o.deed))
 lines-below names (o ∷ orders) h =
-    All-cons (λ (o : Order). IsBelow (length names) (deed_of names o.deed)) o orders
+    All-cons (λ (o : NamedRunTask). IsBelow (length names) (deed_of names o.deed)) o orders
     (line-below names o.deed (first-named names (flag_in o.deed) _ h))
     (lines-below names orders (rest-named names (flag_in o.deed) _ h))
 
 -- the tasks of a script name no flag past the last
-pub tasks-numbered : (orders : List Order) → AreNumbered (length (flag_names_of orders)) (tasks_for (flag_names_of orders) orders)
+pub tasks-numbered : (orders : List NamedRunTask) → AreNumbered (length (flag_names_of orders)) (tasks_for (flag_names_of orders) orders)
 tasks-numbered orders =
-    All-map (λ (t : Task). IsBelow (length (flag_names_of orders)) t.deed) (task_of (flag_names_of orders)) orders
-    (lines-below (flag_names_of orders) orders (has-all (filter_map (λ (o : Order). flag_in o.deed) orders) []))
+    All-map (λ (t : RunTask). IsBelow (length (flag_names_of orders)) t.deed) (task_of (flag_names_of orders)) orders
+    (lines-below (flag_names_of orders) orders (has-all (filter_map (λ (o : NamedRunTask). flag_in o.deed) orders) []))
 
 -- each task is one of a domain that each order is of
-pub tasks-known : (P : DomId → Type 0) (names : List (List ℕ)) (orders : List Order) → All (λ (o : Order). P o.dom) orders → All (λ (t : Task). P t.dom) (tasks_for names orders)
-tasks-known P names orders h = All-map (λ (t : Task). P t.dom) (task_of names) orders h
+pub tasks-known : (P : DomId → Type 0) (names : List (List ℕ)) (orders : List NamedRunTask) → All (λ (o : NamedRunTask). P o.dom) orders → All (λ (t : RunTask). P t.dom) (tasks_for names orders)
+tasks-known P names orders h = All-map (λ (t : RunTask). P t.dom) (task_of names) orders h

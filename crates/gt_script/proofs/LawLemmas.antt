@@ -34,12 +34,12 @@ use Rattle.gt_lines.specs.declared.numbers.Number.{Number}
 use Rattle.gt_lines.specs.declared.calls.ScriptAction.{ScriptAction}
 use Rattle.gt_lines.specs.declared.lines.TripleLine.{TripleLine}
 use Rattle.gt_lines.specs.declared.lines.DomainLine.{DomainLine}
-use Rattle.gt_lines.specs.declared.lines.Line.{Line}
-use Rattle.gt_lines.specs.declared.lines.Line.TheVariants as line
+use Rattle.gt_lines.specs.declared.lines.ScriptLine.{ScriptLine}
+use Rattle.gt_lines.specs.declared.lines.ScriptLine.TheVariants as line
 use Rattle.gt_lines.specs.declared.lines.BodyLine.{BodyLine}
-use Rattle.gt_script.specs.declared.command.Command.{Command}
-use Rattle.gt_script.specs.declared.command.Command.TheVariants.{Play, Run}
-use Rattle.gt_script.specs.Lists.{Order, RunLine}
+use Rattle.gt_script.specs.declared.command.ScriptCommand.{ScriptCommand}
+use Rattle.gt_script.specs.declared.command.ScriptCommand.TheVariants.{Play, Run}
+use Rattle.gt_script.specs.Lists.{NamedRunTask, NamedRunAction}
 use Rattle.gt_script.specs.declared.script.ScriptStep.{ScriptStep}
 use Rattle.gt_script.specs.declared.faults.ScriptFaultKind.{ScriptFaultKind}
 use Rattle.gt_script.specs.declared.faults.ScriptFaultKind.TheVariants.{Syntax, Config}
@@ -98,12 +98,12 @@ taken-push : (ds : List DomainConfig) (d : DomainConfig) (id : DomId) → IsTrue
 taken-push ds d id h = list_any-append (λ (e : DomainConfig). e.id.0 == id.0) ds (d ∷ []) ∙ rw h refl
 
 -- the line l, if it says one, is for this command
-abbrev Suits : Command → Option Line → Type 0
+abbrev Suits : ScriptCommand → Option ScriptLine → Type 0
 Suits command None = Unit {0}
 Suits command (Some l) = IsTrue (is_for command l)
 
 -- what the line l, if it says one, adds to a script as line n
-record Adds (n : ℕ) (l : Option Line) (c d : Contents) : Type 0 where
+record Adds (n : ℕ) (l : Option ScriptLine) (c d : Contents) : Type 0 where
   policy : d.policy ≡ c.policy
   no_triples : (p : Allowed) → c.policy ≡ Some p → d.triples ≡ c.triples
   types : Grown c.types d.types
@@ -116,7 +116,7 @@ record Adds (n : ℕ) (l : Option Line) (c d : Contents) : Type 0 where
   suited : Suits c.command l
   faultless : AreFaultless c.domains → AreFaultless d.domains
   configured : All (λ (s : ScriptStep). IsTrue (is_taken c.domains s.dom)) c.steps → All (λ (s : ScriptStep). IsTrue (is_taken d.domains s.dom)) d.steps
-  ordered : All (λ (o : Order). IsTrue (is_taken c.domains o.dom)) c.orders → All (λ (o : Order). IsTrue (is_taken d.domains o.dom)) d.orders
+  ordered : All (λ (o : NamedRunTask). IsTrue (is_taken c.domains o.dom)) c.orders → All (λ (o : NamedRunTask). IsTrue (is_taken d.domains o.dom)) d.orders
 
 adds-nothing : (n : ℕ) (c : Contents) → Adds n None c c
 adds-nothing n c = record {
@@ -238,12 +238,12 @@ adds-step n c d number asks dom play small taken e =
       command = refl;
       steps =
           let lines_said : step_on c.command n (line.Body number asks) ≡ Some (record { line = n; dom = dom; action = p.0 }) =
-          ap (λ (k : Command). step_for k n number asks) play ∙ bind-at _ _ _ small ∙ bind-at _ _ _ p.1 in
+          ap (λ (k : ScriptCommand). step_for k n number asks) play ∙ bind-at _ _ _ small ∙ bind-at _ _ _ p.1 in
           ap (λ (o : Option ScriptStep). c.steps ++ option_to_list o) (sym lines_said);
       orders =
-          let lines_said : order_on c.command n (line.Body number asks) ≡ None = ap (λ (k : Command). order_for k n number asks) play in
-          sym (append-nil c.orders) ∙ ap (λ (o : Option Order). c.orders ++ option_to_list o) (sym lines_said);
-      suited = ap (λ (k : Command). asks_for k asks) play ∙ ap (λ (o : Option ScriptAction). is_some o) p.1;
+          let lines_said : order_on c.command n (line.Body number asks) ≡ None = ap (λ (k : ScriptCommand). order_for k n number asks) play in
+          sym (append-nil c.orders) ∙ ap (λ (o : Option NamedRunTask). c.orders ++ option_to_list o) (sym lines_said);
+      suited = ap (λ (k : ScriptCommand). asks_for k asks) play ∙ ap (λ (o : Option ScriptAction). is_some o) p.1;
       faultless = λ h. h;
       configured = λ h. All-push (λ (s : ScriptStep). IsTrue (is_taken c.domains s.dom)) c.steps _ h taken;
       ordered = λ h. h;
@@ -263,19 +263,19 @@ adds-order n c d number asks dom run small taken e =
       domains = λ types g. sym (append-nil c.domains);
       command = refl;
       steps =
-          let lines_said : step_on c.command n (line.Body number asks) ≡ None = ap (λ (k : Command). step_for k n number asks) run in
+          let lines_said : step_on c.command n (line.Body number asks) ≡ None = ap (λ (k : ScriptCommand). step_for k n number asks) run in
           sym (append-nil c.steps) ∙ ap (λ (o : Option ScriptStep). c.steps ++ option_to_list o) (sym lines_said);
       orders =
           let lines_said : order_on c.command n (line.Body number asks) ≡ Some (record { line = n; dom = dom; deed = p.0 }) =
-          ap (λ (k : Command). order_for k n number asks) run ∙ bind-at _ _ _ small ∙ bind-at _ _ _ p.1 in
-          ap (λ (o : Option Order). c.orders ++ option_to_list o) (sym lines_said);
-      suited = ap (λ (k : Command). asks_for k asks) run ∙ ap (λ (o : Option RunLine). is_some o) p.1;
+          ap (λ (k : ScriptCommand). order_for k n number asks) run ∙ bind-at _ _ _ small ∙ bind-at _ _ _ p.1 in
+          ap (λ (o : Option NamedRunTask). c.orders ++ option_to_list o) (sym lines_said);
+      suited = ap (λ (k : ScriptCommand). asks_for k asks) run ∙ ap (λ (o : Option NamedRunAction). is_some o) p.1;
       faultless = λ h. h;
       configured = λ h. h;
-      ordered = λ h. All-push (λ (o : Order). IsTrue (is_taken c.domains o.dom)) c.orders _ h taken;
+      ordered = λ h. All-push (λ (o : NamedRunTask). IsTrue (is_taken c.domains o.dom)) c.orders _ h taken;
     })
 
-adds-asked : (n : ℕ) (c d : Contents) (number : Number) (asks : BodyLine) (dom : DomId) (command : Command) → c.command ≡ command → number_below (2 ^ 16) number ≡ Some dom.0
+adds-asked : (n : ℕ) (c d : Contents) (number : Number) (asks : BodyLine) (dom : DomId) (command : ScriptCommand) → c.command ≡ command → number_below (2 ^ 16) number ≡ Some dom.0
     → is_taken c.domains dom ≡ true → with_asked command c n dom asks ≡ Ok d → Adds n (Some (line.Body number asks)) c d
 adds-asked n c d number asks dom Play is small taken e = adds-step n c d number asks dom is small taken e
 adds-asked n c d number asks dom Run is small taken e = adds-order n c d number asks dom is small taken e
@@ -324,7 +324,7 @@ adds-wear n c d first fresh same =
       ordered = λ h. h;
     })
 
-adds-placed : (n : ℕ) (c d : Contents) (l : Line) → is_misplaced c l ≡ false → with_placed c n l ≡ Ok d → Adds n (Some l) c d
+adds-placed : (n : ℕ) (c d : Contents) (l : ScriptLine) → is_misplaced c l ≡ false → with_placed c n l ≡ Ok d → Adds n (Some l) c d
 unfolding is_misplaced
 adds-placed n c d (line.Triple t) p e = adds-triple n c d t (none-yet c.policy (first-false (is_some c.policy) (is_some c.wear) (not (is_empty c.domains)) p)) e
 adds-placed n c d (line.Wear first) p e =
@@ -334,7 +334,7 @@ adds-placed n c d (line.Wear first) p e =
 adds-placed n c d (line.Domain l) p e = adds-domain n c d l e
 adds-placed n c d (line.Body number asks) p e = adds-body n c d number asks e
 
-adds-line : (n : ℕ) (c d : Contents) (l : Line) → with_script_line c n l ≡ Ok d → Adds n (Some l) c d
+adds-line : (n : ℕ) (c d : Contents) (l : ScriptLine) → with_script_line c n l ≡ Ok d → Adds n (Some l) c d
 unfolding with_script_line
 adds-line n c d l e = let p = not-fault _ _ _ d e in adds-placed n c d l p.0 p.1
 
@@ -343,11 +343,11 @@ record Said (n : ℕ) (ws : List (List ℕ)) (c d : Contents) : Type 0 where
   readable : (ws ≡ []) ⊎ IsSome (line_of ws)
   adds : Adds n (line_of ws) c d
 
-said-some : (n : ℕ) (w : List ℕ) (ws : List (List ℕ)) (c d : Contents) (o : Option Line) → line_of (w ∷ ws) ≡ o → (let r : Result Contents ScriptFaultKind = elim o [ None ↦ Err Syntax | Some l ↦ with_script_line c n l ] in r ≡ Ok d) → Said n (w ∷ ws) c d
+said-some : (n : ℕ) (w : List ℕ) (ws : List (List ℕ)) (c d : Contents) (o : Option ScriptLine) → line_of (w ∷ ws) ≡ o → (let r : Result Contents ScriptFaultKind = elim o [ None ↦ Err Syntax | Some l ↦ with_script_line c n l ] in r ≡ Ok d) → Said n (w ∷ ws) c d
 said-some n w ws c d None p e = absurd cc
 said-some n w ws c d (Some l) p e = record {
   readable = inr (subst IsSome (sym p) refl);
-  adds = subst (λ (o : Option Line). Adds n o c d) (sym p) (adds-line n c d l e);
+  adds = subst (λ (o : Option ScriptLine). Adds n o c d) (sym p) (adds-line n c d l e);
 }
 
 said-words : (n : ℕ) (ws : List (List ℕ)) (c d : Contents) → with_words c n ws ≡ Ok d → Said n ws c d
@@ -370,21 +370,21 @@ pub record Extends (n : ℕ) (ls : List (List ℕ)) (c d : Contents) : Type 0 wh
   pub suited : All (λ l. IsTrue (is_for c.command l.1)) (lines_said n ls)
   pub faultless : AreFaultless c.domains → AreFaultless d.domains
   pub configured : All (λ (s : ScriptStep). IsTrue (is_taken c.domains s.dom)) c.steps → All (λ (s : ScriptStep). IsTrue (is_taken d.domains s.dom)) d.steps
-  pub ordered : All (λ (o : Order). IsTrue (is_taken c.domains o.dom)) c.orders → All (λ (o : Order). IsTrue (is_taken d.domains o.dom)) d.orders
+  pub ordered : All (λ (o : NamedRunTask). IsTrue (is_taken c.domains o.dom)) c.orders → All (λ (o : NamedRunTask). IsTrue (is_taken d.domains o.dom)) d.orders
 
 cons-list : {X : Type 0} (o : Option X) (xs : List X) → cons_option o xs ≡ option_to_list o ++ xs
 cons-list None xs = refl
 cons-list (Some x) xs = refl
 
-pub filter-cons : {X : Type 0} (g : ℕ → Line → Option X) (n : ℕ) (o : Option Line) (xs : List (ℕ × Line))
+pub filter-cons : {X : Type 0} (g : ℕ → ScriptLine → Option X) (n : ℕ) (o : Option ScriptLine) (xs : List (ℕ × ScriptLine))
     → filter_map (λ l. g l.0 l.1) (cons_option (option_map (λ x. (n, x)) o) xs) ≡ option_to_list (o >>= g n) ++ filter_map (λ l. g l.0 l.1) xs
 filter-cons g n None xs = refl
 filter-cons g n (Some l) xs = cons-list (g n l) _
 
-suits-cons : (command : Command) (n : ℕ) (o : Option Line) (xs : List (ℕ × Line)) → Suits command o → All (λ l. IsTrue (is_for command l.1)) xs
+suits-cons : (command : ScriptCommand) (n : ℕ) (o : Option ScriptLine) (xs : List (ℕ × ScriptLine)) → Suits command o → All (λ l. IsTrue (is_for command l.1)) xs
     → All (λ l. IsTrue (is_for command l.1)) (cons_option (option_map (λ x. (n, x)) o) xs)
 suits-cons command n None xs here rest = rest
-suits-cons command n (Some l) xs here rest = All-cons (λ (l : ℕ × Line). IsTrue (is_for command l.1)) (n, l) xs here rest
+suits-cons command n (Some l) xs here rest = All-cons (λ (l : ℕ × ScriptLine). IsTrue (is_for command l.1)) (n, l) xs here rest
 
 joined : {X : Type 0} (a b e o f : List X) → b ≡ a ++ o → e ≡ b ++ f → e ≡ a ++ (o ++ f)
 joined a b e o f p q = q ∙ ap (λ xs. xs ++ f) p ∙ append_assoc a o f
@@ -405,11 +405,11 @@ extends-cons n l ls c d e a x =
           (subst (λ (q : Option Allowed). e.domains ≡ d.domains ++ filter_map (λ l. domain_in (type_names_with q types) l.1) (lines_said (n + 1) ls)) here.policy (x.domains types g))
           ∙ ap (λ (ds : List DomainConfig). c.domains ++ ds) (sym (filter-cons (λ _ y. domain_in (type_names_with c.policy types) y) n (line_of (words l)) (lines_said (n + 1) ls)));
       command = x.command ∙ here.command;
-      steps = joined c.steps d.steps e.steps _ _ here.steps (subst (λ (k : Command). e.steps ≡ d.steps ++ filter_map (λ l. step_on k l.0 l.1) (lines_said (n + 1) ls)) here.command x.steps)
+      steps = joined c.steps d.steps e.steps _ _ here.steps (subst (λ (k : ScriptCommand). e.steps ≡ d.steps ++ filter_map (λ l. step_on k l.0 l.1) (lines_said (n + 1) ls)) here.command x.steps)
           ∙ ap (λ (ss : List ScriptStep). c.steps ++ ss) (sym (filter-cons (step_on c.command) n (line_of (words l)) (lines_said (n + 1) ls)));
-      orders = joined c.orders d.orders e.orders _ _ here.orders (subst (λ (k : Command). e.orders ≡ d.orders ++ filter_map (λ l. order_on k l.0 l.1) (lines_said (n + 1) ls)) here.command x.orders)
-          ∙ ap (λ (os : List Order). c.orders ++ os) (sym (filter-cons (order_on c.command) n (line_of (words l)) (lines_said (n + 1) ls)));
-      suited = suits-cons c.command n (line_of (words l)) (lines_said (n + 1) ls) here.suited (subst (λ (k : Command). All (λ l. IsTrue (is_for k l.1)) (lines_said (n + 1) ls)) here.command x.suited);
+      orders = joined c.orders d.orders e.orders _ _ here.orders (subst (λ (k : ScriptCommand). e.orders ≡ d.orders ++ filter_map (λ l. order_on k l.0 l.1) (lines_said (n + 1) ls)) here.command x.orders)
+          ∙ ap (λ (os : List NamedRunTask). c.orders ++ os) (sym (filter-cons (order_on c.command) n (line_of (words l)) (lines_said (n + 1) ls)));
+      suited = suits-cons c.command n (line_of (words l)) (lines_said (n + 1) ls) here.suited (subst (λ (k : ScriptCommand). All (λ l. IsTrue (is_for k l.1)) (lines_said (n + 1) ls)) here.command x.suited);
       faultless = λ h. x.faultless (here.faultless h);
       configured = λ h. x.configured (here.configured h);
       ordered = λ h. x.ordered (here.ordered h);

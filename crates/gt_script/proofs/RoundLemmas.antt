@@ -22,27 +22,27 @@ use Rattle.gt_script.specs.Stuck.{IsJudged}
 use Rattle.gt_script.specs.Rounds.{flag_holds, HasFlag, Within, is_untold, untold, IsDone, is_waiting, told_after}
 use Rattle.gt_script.specs.Rounds.{is_new}
 use Rattle.gt_script.specs.Rounds.{Comes, WayTo, WaitsFor, TurnGoesOn, HaveCome, Turning, WaitsIn}
-use Rattle.gt_script.specs.Lists.{Deed, Task}
-use Rattle.gt_script.specs.declared.tasks.DeedBy.TheVariants.{Do, Tell, Await}
+use Rattle.gt_script.specs.Lists.{RunAction, RunTask}
+use Rattle.gt_script.specs.declared.tasks.RunActionBy.TheVariants.{Do, Tell, Await}
 
 -- a place further on
 
-comes-more : (tasks : List Task) (dom : DomId) (place : ℕ) (told : List Bool) (x : Task) → place < length tasks → Comes tasks dom place told
+comes-more : (tasks : List RunTask) (dom : DomId) (place : ℕ) (told : List Bool) (x : RunTask) → place < length tasks → Comes tasks dom place told
     → ((get_or tasks place x).dom.0 ≡ dom.0 → IsDone told (get_or tasks place x).deed) → Comes tasks dom (place + 1) told
 comes-more tasks dom place told x within so_far here =
-    subst (λ (l : List Task). All (λ t. t.dom.0 ≡ dom.0 → IsDone told t.deed) l) (sym (rw add-one (take-suc tasks place x within)))
-    (All-push (λ (t : Task). t.dom.0 ≡ dom.0 → IsDone told t.deed) (take place tasks) (get_or tasks place x) so_far here)
+    subst (λ (l : List RunTask). All (λ t. t.dom.0 ≡ dom.0 → IsDone told t.deed) l) (sym (rw add-one (take-suc tasks place x within)))
+    (All-push (λ (t : RunTask). t.dom.0 ≡ dom.0 → IsDone told t.deed) (take place tasks) (get_or tasks place x) so_far here)
 
-done-grown : (old new : List Bool) → ((flag : ℕ) → HasFlag old flag → HasFlag new flag) → (d : Deed) → IsDone old d → IsDone new d
+done-grown : (old new : List Bool) → ((flag : ℕ) → HasFlag old flag → HasFlag new flag) → (d : RunAction) → IsDone old d → IsDone new d
 done-grown old new grown (Do call) h = tt
 done-grown old new grown (Tell flag) h = grown flag h
 done-grown old new grown (Await flag) h = grown flag h
 
-comes-grown : (tasks : List Task) (dom : DomId) (place : ℕ) (old new : List Bool) → ((flag : ℕ) → HasFlag old flag → HasFlag new flag) → Comes tasks dom place old → Comes tasks dom place new
+comes-grown : (tasks : List RunTask) (dom : DomId) (place : ℕ) (old new : List Bool) → ((flag : ℕ) → HasFlag old flag → HasFlag new flag) → Comes tasks dom place old → Comes tasks dom place new
 comes-grown tasks dom place old new grown come =
-    All-weaker (λ (t : Task). t.dom.0 ≡ dom.0 → IsDone old t.deed) (λ (t : Task). t.dom.0 ≡ dom.0 → IsDone new t.deed) (λ t h own. done-grown old new grown t.deed (h own)) (take place tasks) come
+    All-weaker (λ (t : RunTask). t.dom.0 ≡ dom.0 → IsDone old t.deed) (λ (t : RunTask). t.dom.0 ≡ dom.0 → IsDone new t.deed) (λ t h own. done-grown old new grown t.deed (h own)) (take place tasks) come
 
-pub way-start : (tasks : List Task) (dom : DomId) (told : List Bool) (place : ℕ) → Comes tasks dom place told → WayTo tasks dom told told place false
+pub way-start : (tasks : List RunTask) (dom : DomId) (told : List Bool) (place : ℕ) → Comes tasks dom place told → WayTo tasks dom told told place false
 way-start tasks dom told place come = record {
   comes = come;
   grown = λ flag h. h;
@@ -53,7 +53,7 @@ way-start tasks dom told place come = record {
 }
 
 -- past a task of another domain, or one whose flag is told
-pub way-past : (tasks : List Task) (dom : DomId) (old new : List Bool) (place : ℕ) (news : Bool) (x : Task) → WayTo tasks dom old new place news → place < length tasks
+pub way-past : (tasks : List RunTask) (dom : DomId) (old new : List Bool) (place : ℕ) (news : Bool) (x : RunTask) → WayTo tasks dom old new place news → place < length tasks
     → ((get_or tasks place x).dom.0 ≡ dom.0 → IsDone new (get_or tasks place x).deed) → WayTo tasks dom old new (place + 1) news
 way-past tasks dom old new place news x w within here = record {
   comes = comes-more tasks dom place new x within w.comes here;
@@ -64,8 +64,8 @@ way-past tasks dom old new place news x w within here = record {
   loud = w.loud;
 }
 
-pub done-await : (told : List Bool) (d : Deed) (flag : ℕ) → d ≡ Await flag → HasFlag told flag → IsDone told d
-done-await told d flag e h = subst (λ (k : Deed). IsDone told k) (sym e) h
+pub done-await : (told : List Bool) (d : RunAction) (flag : ℕ) → d ≡ Await flag → HasFlag told flag → IsDone told d
+done-await told d flag e h = subst (λ (k : RunAction). IsDone told k) (sym e) h
 
 -- telling a flag
 
@@ -105,24 +105,24 @@ loud-tell old new flag news false within quiet loud h e = let some = no_fewer ol
 loud-tell old new flag true true within quiet loud h e = subst (λ (k : ℕ). k < untold old) (sym (ap untold (same-told new flag h))) (loud refl)
 loud-tell old new flag false true within quiet loud h e = absurd cc
 
-passes : (told : List Bool) (set : ℕ → Bool) → Within told set → (d : Deed) → IsDone told d → IsPassed (λ f. IsTrue (set f)) d
+passes : (told : List Bool) (set : ℕ → Bool) → Within told set → (d : RunAction) → IsDone told d → IsPassed (λ f. IsTrue (set f)) d
 passes told set within (Do call) h = tt
 passes told set within (Tell flag) h = tt
 passes told set within (Await flag) h = within flag h
 
-passes-all : (tasks : List Task) (dom own : DomId) (place : ℕ) (told : List Bool) (set : ℕ → Bool) → Within told set → own.0 ≡ dom.0 → Comes tasks dom place told
+passes-all : (tasks : List RunTask) (dom own : DomId) (place : ℕ) (told : List Bool) (set : ℕ → Bool) → Within told set → own.0 ≡ dom.0 → Comes tasks dom place told
     → PassesAll (λ f. IsTrue (set f)) own (take place tasks)
 passes-all tasks dom own place told set within same come =
-    All-weaker (λ (t : Task). t.dom.0 ≡ dom.0 → IsDone told t.deed) (λ (t : Task). t.dom.0 ≡ own.0 → IsPassed (λ f. IsTrue (set f)) t.deed)
+    All-weaker (λ (t : RunTask). t.dom.0 ≡ dom.0 → IsDone told t.deed) (λ (t : RunTask). t.dom.0 ≡ own.0 → IsPassed (λ f. IsTrue (set f)) t.deed)
     (λ t h e. passes told set within t.deed (h (e ∙ same))) (take place tasks) come
 
-pub way-tell : (tasks : List Task) (dom : DomId) (old new : List Bool) (place flag : ℕ) (news : Bool) (x : Task) → WayTo tasks dom old new place news → place < length tasks
+pub way-tell : (tasks : List RunTask) (dom : DomId) (old new : List Bool) (place flag : ℕ) (news : Bool) (x : RunTask) → WayTo tasks dom old new place news → place < length tasks
     → (get_or tasks place x).deed ≡ Tell flag → (get_or tasks place x).dom.0 ≡ dom.0 → flag < length new → WayTo tasks dom old (set new flag true) (place + 1) (news || not (flag_holds new flag))
 way-tell tasks dom old new place flag news x w within deed own below =
     let grown : (f : ℕ) → HasFlag new f → HasFlag (set new flag true) f = λ f h. told-more new flag f below h in
     record {
       comes = comes-more tasks dom place (set new flag true) x within (comes-grown tasks dom place new (set new flag true) grown w.comes)
-          (λ e. subst (λ (d : Deed). IsDone (set new flag true) d) (sym deed) (get_or-set_same new flag true false below));
+          (λ e. subst (λ (d : RunAction). IsDone (set new flag true) d) (sym deed) (get_or-set_same new flag true false below));
       grown = λ f h. grown f (w.grown f h);
       sound = λ all closed inside f h. elim (told-before new flag f h) [
         | inl e ↦ subst (λ (k : ℕ). IsTrue (all k)) (sym e)
@@ -144,46 +144,46 @@ or-false : (b : Bool) → (b || false) ≡ b
 or-false true = refl
 or-false false = refl
 
-way-by : (tasks : List Task) (dom : DomId) (old new : List Bool) (place : ℕ) (news : Bool) (x : Task) (d : Deed) → WayTo tasks dom old new place news → place < length tasks → (get_or tasks place x).deed ≡ d
+way-by : (tasks : List RunTask) (dom : DomId) (old new : List Bool) (place : ℕ) (news : Bool) (x : RunTask) (d : RunAction) → WayTo tasks dom old new place news → place < length tasks → (get_or tasks place x).deed ≡ d
     → (get_or tasks place x).dom.0 ≡ dom.0 → IsBelow (length new) d → is_waiting new d ≡ false → WayTo tasks dom old (told_after new d) (place + 1) (news || is_new new d)
 unfolding is_waiting told_after is_new
 way-by tasks dom old new place news x (Do call) w within deed own below waits =
     subst (λ (b : Bool). WayTo tasks dom old new (place + 1) b) (sym (or-false news))
-    (way-past tasks dom old new place news x w within (λ e. subst (λ (k : Deed). IsDone new k) (sym deed) tt))
+    (way-past tasks dom old new place news x w within (λ e. subst (λ (k : RunAction). IsDone new k) (sym deed) tt))
 way-by tasks dom old new place news x (Tell flag) w within deed own below waits = way-tell tasks dom old new place flag news x w within deed own below
 way-by tasks dom old new place news x (Await flag) w within deed own below waits =
     subst (λ (b : Bool). WayTo tasks dom old new (place + 1) b) (sym (or-false news))
     (way-past tasks dom old new place news x w within (λ e. done-await new _ flag deed (not-true (flag_holds new flag) waits)))
 
-pub below-at : (tasks : List Task) (old new : List Bool) (dom : DomId) (place : ℕ) (news : Bool) (x : Task) → AreNumbered (length old) tasks → WayTo tasks dom old new place news → place < length tasks → x ≡ get_or tasks place x
+pub below-at : (tasks : List RunTask) (old new : List Bool) (dom : DomId) (place : ℕ) (news : Bool) (x : RunTask) → AreNumbered (length old) tasks → WayTo tasks dom old new place news → place < length tasks → x ≡ get_or tasks place x
     → IsBelow (length new) x.deed
 below-at tasks old new dom place news x numbered w within is =
-    subst (λ (k : ℕ). IsBelow k x.deed) (sym w.many) (subst (λ (t : Task). IsBelow (length old) t.deed) (sym is) (numbered place x within))
+    subst (λ (k : ℕ). IsBelow k x.deed) (sym w.many) (subst (λ (t : RunTask). IsBelow (length old) t.deed) (sym is) (numbered place x within))
 
-pub way-own : (tasks : List Task) (dom : DomId) (old new newer : List Bool) (place : ℕ) (news more : Bool) (x : Task) → WayTo tasks dom old new place news → place < length tasks → x ≡ get_or tasks place x
+pub way-own : (tasks : List RunTask) (dom : DomId) (old new newer : List Bool) (place : ℕ) (news more : Bool) (x : RunTask) → WayTo tasks dom old new place news → place < length tasks → x ≡ get_or tasks place x
     → x.dom.0 ≡ dom.0 → IsBelow (length new) x.deed → is_waiting new x.deed ≡ false → newer ≡ told_after new x.deed → more ≡ is_new new x.deed → WayTo tasks dom old newer (place + 1) (news || more)
 way-own tasks dom old new newer place news more x w within is own below waits told new_one =
     subst (λ (l : List Bool). WayTo tasks dom old l (place + 1) (news || more)) (sym told)
     (subst (λ (b : Bool). WayTo tasks dom old (told_after new x.deed) (place + 1) (news || b)) (sym new_one)
-    (way-by tasks dom old new place news x x.deed w within (ap (λ (t : Task). t.deed) (sym is)) (ap (λ (t : Task). t.dom.0) (sym is) ∙ own) below waits))
+    (way-by tasks dom old new place news x x.deed w within (ap (λ (t : RunTask). t.deed) (sym is)) (ap (λ (t : RunTask). t.dom.0) (sym is) ∙ own) below waits))
 
-pub way-other : (tasks : List Task) (dom : DomId) (old new : List Bool) (place : ℕ) (news : Bool) (x : Task) → WayTo tasks dom old new place news → place < length tasks → x ≡ get_or tasks place x
+pub way-other : (tasks : List RunTask) (dom : DomId) (old new : List Bool) (place : ℕ) (news : Bool) (x : RunTask) → WayTo tasks dom old new place news → place < length tasks → x ≡ get_or tasks place x
     → (x.dom.0 ≡ dom.0 → ⊥) → WayTo tasks dom old new (place + 1) news
-way-other tasks dom old new place news x w within is other = way-past tasks dom old new place news x w within (λ e. absurd (other (ap (λ (t : Task). t.dom.0) is ∙ e)))
+way-other tasks dom old new place news x w within is other = way-past tasks dom old new place news x w within (λ e. absurd (other (ap (λ (t : RunTask). t.dom.0) is ∙ e)))
 
 -- where a domain stops
 
-pub goes-on : (tasks : List Task) (dom : DomId) (old new : List Bool) (place flag : ℕ) (news : Bool) (x : Task) → WayTo tasks dom old new place news → place < length tasks
+pub goes-on : (tasks : List RunTask) (dom : DomId) (old new : List Bool) (place flag : ℕ) (news : Bool) (x : RunTask) → WayTo tasks dom old new place news → place < length tasks
     → (get_or tasks place x).deed ≡ Await flag → (get_or tasks place x).dom.0 ≡ dom.0 → flag_holds new flag ≡ false → TurnGoesOn tasks dom old new place news
 goes-on tasks dom old new place flag news x w within deed own untold = (
   let le : place ≤ length tasks = omega arith in le,
   w,
   λ task there.
       let is : get_or tasks place x ≡ task = get_or_from_slice_get tasks place task x there in
-      (flag, subst (λ (t : Task). t.deed ≡ Await flag) is deed, subst (λ (t : Task). t.dom.0 ≡ dom.0) is own, untold),
+      (flag, subst (λ (t : RunTask). t.deed ≡ Await flag) is deed, subst (λ (t : RunTask). t.dom.0 ≡ dom.0) is own, untold),
 )
 
-waits-at : (told : List Bool) (d : Deed) → is_waiting told d ≡ true → (flag : ℕ) × (d ≡ Await flag) × (flag_holds told flag ≡ false)
+waits-at : (told : List Bool) (d : RunAction) → is_waiting told d ≡ true → (flag : ℕ) × (d ≡ Await flag) × (flag_holds told flag ≡ false)
 unfolding is_waiting
 waits-at told (Do call) e = absurd cc
 waits-at told (Tell flag) e = absurd cc
@@ -193,19 +193,19 @@ waits-at told (Await flag) e = (flag, refl, not-false (flag_holds told flag) e)
     not-false true e = absurd cc
     not-false false e = refl
 
-pub stops-at : (tasks : List Task) (dom : DomId) (old new : List Bool) (place : ℕ) (news : Bool) (x : Task) → WayTo tasks dom old new place news → place < length tasks → x ≡ get_or tasks place x
+pub stops-at : (tasks : List RunTask) (dom : DomId) (old new : List Bool) (place : ℕ) (news : Bool) (x : RunTask) → WayTo tasks dom old new place news → place < length tasks → x ≡ get_or tasks place x
     → x.dom.0 ≡ dom.0 → is_waiting new x.deed ≡ true → TurnGoesOn tasks dom old new place news
 stops-at tasks dom old new place news x w within is own waits =
     let f = waits-at new x.deed waits in
-    goes-on tasks dom old new place f.0 news x w within (ap (λ (t : Task). t.deed) (sym is) ∙ f.1) (ap (λ (t : Task). t.dom.0) (sym is) ∙ own) f.2
+    goes-on tasks dom old new place f.0 news x w within (ap (λ (t : RunTask). t.deed) (sym is) ∙ f.1) (ap (λ (t : RunTask). t.dom.0) (sym is) ∙ own) f.2
 
-pub goes-to-end : (tasks : List Task) (dom : DomId) (old new : List Bool) (place : ℕ) (news : Bool) → WayTo tasks dom old new place news → place ≡ length tasks → TurnGoesOn tasks dom old new (length tasks) news
+pub goes-to-end : (tasks : List RunTask) (dom : DomId) (old new : List Bool) (place : ℕ) (news : Bool) → WayTo tasks dom old new place news → place ≡ length tasks → TurnGoesOn tasks dom old new (length tasks) news
 goes-to-end tasks dom old new place news w e =
     (omega arith, subst (λ (k : ℕ). WayTo tasks dom old new k news) e w, λ task there. absurd (omega (arith, slice_get_within tasks (length tasks) task there)))
 
 -- one domain more in its turn
 
-pub turn-start : (tasks : List Task) (domains : List DomainConfig) (places : List ℕ) (told : List Bool) → HaveCome tasks domains places told → Turning tasks domains places told told 0 false
+pub turn-start : (tasks : List RunTask) (domains : List DomainConfig) (places : List ℕ) (told : List Bool) → HaveCome tasks domains places told → Turning tasks domains places told told 0 false
 turn-start tasks domains places told have = record {
   have = have;
   sound = λ set closed within. within;
@@ -221,7 +221,7 @@ loud-turn old new newer news true quiet loud calm strong e = let some = no_fewer
 loud-turn old new newer true false quiet loud calm strong e = subst (λ (l : List Bool). untold l < untold old) (sym (calm refl)) (loud refl)
 loud-turn old new newer false false quiet loud calm strong e = absurd cc
 
-pub turn-more : (tasks : List Task) (domains : List DomainConfig) (places : List ℕ) (old new newer : List Bool) (i p : ℕ) (news more : Bool) (x : DomainConfig) → Turning tasks domains places old new i news
+pub turn-more : (tasks : List RunTask) (domains : List DomainConfig) (places : List ℕ) (old new newer : List Bool) (i p : ℕ) (news more : Bool) (x : DomainConfig) → Turning tasks domains places old new i news
     → i < length domains → length places ≡ length domains → TurnGoesOn tasks (get_or domains i x).id new newer p more → Turning tasks domains (set places i p) old newer (i + 1) (news || more)
 turn-more tasks domains places old new newer i p news more x t within many (short, way, waits) =
     let room : i < length places = omega arith in
@@ -257,7 +257,7 @@ turn-more tasks domains places old new newer i p news more x t within many (shor
       ];
     }
 
-pub come-here : (tasks : List Task) (domains : List DomainConfig) (places : List ℕ) (told : List Bool) (i from : ℕ) (x : DomainConfig) → HaveCome tasks domains places told → i < length domains
+pub come-here : (tasks : List RunTask) (domains : List DomainConfig) (places : List ℕ) (told : List Bool) (i from : ℕ) (x : DomainConfig) → HaveCome tasks domains places told → i < length domains
     → length places ≡ length domains → from ≡ get_or places i from → (from ≤ length tasks) × Comes tasks (get_or domains i x).id from told
 come-here tasks domains places told i from x have within many is =
     let room : i < length places = omega arith in
@@ -265,11 +265,11 @@ come-here tasks domains places told i from x have within many is =
     let come = have i (get_or domains i x) (slice_get-get_or domains i x within) in
     (subst (λ (k : ℕ). k ≤ length tasks) (sym here) come.0, subst (λ (k : ℕ). Comes tasks (get_or domains i x).id k told) (sym here) come.1)
 
-pub numbered-more : (tasks : List Task) (old new : List Bool) → AreNumbered (length old) tasks → length new ≡ length old → AreNumbered (length new) tasks
+pub numbered-more : (tasks : List RunTask) (old new : List Bool) → AreNumbered (length old) tasks → length new ≡ length old → AreNumbered (length new) tasks
 numbered-more tasks old new numbered same = subst (λ (k : ℕ). AreNumbered k tasks) (sym same) numbered
 
 -- a turn leads from told flags that each closed set has to such flags
-pub sound-more : (tasks : List Task) (old new : List Bool) → ((set : ℕ → Bool) → IsClosed tasks set → Within old set → Within new set) → ((set : ℕ → Bool) → IsClosed tasks set → Within old set)
+pub sound-more : (tasks : List RunTask) (old new : List Bool) → ((set : ℕ → Bool) → IsClosed tasks set → Within old set → Within new set) → ((set : ℕ → Bool) → IsClosed tasks set → Within old set)
     → (set : ℕ → Bool) → IsClosed tasks set → Within new set
 sound-more tasks old new step so_far set closed = step set closed (so_far set closed)
 
@@ -290,34 +290,34 @@ none-passed n i = elim (cases_lt i n) [
   | inr past ↦ get_or_past (replicate n 0) i 0 (omega (arith, length-replicate {A = ℕ} n 0))
 ]
 
-pub nobody-went : (tasks : List Task) (domains : List DomainConfig) (n : ℕ) (told : List Bool) → HaveCome tasks domains (replicate n 0) told
+pub nobody-went : (tasks : List RunTask) (domains : List DomainConfig) (n : ℕ) (told : List Bool) → HaveCome tasks domains (replicate n 0) told
 nobody-went tasks domains n told i d there = (
   subst (λ (k : ℕ). k ≤ length tasks) (sym (none-passed n i)) (omega arith),
-  subst (λ (k : ℕ). Comes tasks d.id k told) (sym (none-passed n i)) (All-nil (λ (t : Task). t.dom.0 ≡ d.id.0 → IsDone told t.deed)),
+  subst (λ (k : ℕ). Comes tasks d.id k told) (sym (none-passed n i)) (All-nil (λ (t : RunTask). t.dom.0 ≡ d.id.0 → IsDone told t.deed)),
 )
 
 -- after a turn without news the told flags are closed
 
-at-tell : (told : List Bool) (d : Deed) (flag : ℕ) → d ≡ Tell flag → IsDone told d → HasFlag told flag
-at-tell told d flag e h = subst (λ (k : Deed). IsDone told k) e h
+at-tell : (told : List Bool) (d : RunAction) (flag : ℕ) → d ≡ Tell flag → IsDone told d → HasFlag told flag
+at-tell told d flag e h = subst (λ (k : RunAction). IsDone told k) e h
 
-at-await : (told : List Bool) (d : Deed) (flag : ℕ) → d ≡ Await flag → IsPassed (HasFlag told) d → HasFlag told flag
-at-await told d flag e h = subst (λ (k : Deed). IsPassed (HasFlag told) k) e h
+at-await : (told : List Bool) (d : RunAction) (flag : ℕ) → d ≡ Await flag → IsPassed (HasFlag told) d → HasFlag told flag
+at-await told d flag e h = subst (λ (k : RunAction). IsPassed (HasFlag told) k) e h
 
-tell-or-await : (d : Deed) (f g : ℕ) → d ≡ Tell f → d ≡ Await g → ⊥
+tell-or-await : (d : RunAction) (f g : ℕ) → d ≡ Tell f → d ≡ Await g → ⊥
 tell-or-await d f g e h = cc
 
 -- the task at this place tells its flag, where the domain has come further
-behind : (tasks : List Task) (dom : DomId) (place at : ℕ) (task : Task) (flag : ℕ) (told : List Bool) → Comes tasks dom place told → slice_get tasks at ≡ Some task → task.dom.0 ≡ dom.0 → task.deed ≡ Tell flag
+behind : (tasks : List RunTask) (dom : DomId) (place at : ℕ) (task : RunTask) (flag : ℕ) (told : List Bool) → Comes tasks dom place told → slice_get tasks at ≡ Some task → task.dom.0 ≡ dom.0 → task.deed ≡ Tell flag
     → at < place → HasFlag told flag
 behind tasks dom place at task flag told come there own deed less =
     let within : at < length tasks = slice_get_within tasks at task there in
     let inside : at < length (take place tasks) = rw length-take (omega arith) in
     let is : get_or (take place tasks) at task ≡ task = get_or-take place tasks at task less ∙ get_or_from_slice_get tasks at task task there in
-    at-tell told task.deed flag deed (subst (λ (t : Task). t.dom.0 ≡ dom.0 → IsDone told t.deed) is (come at task inside) own)
+    at-tell told task.deed flag deed (subst (λ (t : RunTask). t.dom.0 ≡ dom.0 → IsDone told t.deed) is (come at task inside) own)
 
 -- it can't stand where the domain waits, nor behind that place, past which the domain would have gone
-ahead : (tasks : List Task) (dom : DomId) (place at : ℕ) (task : Task) (flag : ℕ) (told : List Bool) → WaitsFor tasks dom place told → slice_get tasks at ≡ Some task → task.dom.0 ≡ dom.0 → task.deed ≡ Tell flag
+ahead : (tasks : List RunTask) (dom : DomId) (place at : ℕ) (task : RunTask) (flag : ℕ) (told : List Bool) → WaitsFor tasks dom place told → slice_get tasks at ≡ Some task → task.dom.0 ≡ dom.0 → task.deed ≡ Tell flag
     → PassesAll (HasFlag told) task.dom (take at tasks) → place ≤ at → ⊥
 ahead tasks dom place at task flag told waits there own deed before le =
     let within : at < length tasks = slice_get_within tasks at task there in
@@ -325,53 +325,53 @@ ahead tasks dom place at task flag told waits there own deed before le =
     elim (cases_eq place at) [
       | inl e ↦
           let is : get_or tasks place task ≡ task = ap (λ (k : ℕ). get_or tasks k task) e ∙ get_or_from_slice_get tasks at task task there in
-          tell-or-await task.deed flag w.0 deed (ap (λ (t : Task). t.deed) (sym is) ∙ w.1)
+          tell-or-await task.deed flag w.0 deed (ap (λ (t : RunTask). t.deed) (sym is) ∙ w.1)
       | inr n ↦
           let less : place < at = omega (arith, n) in
           let inside : place < length (take at tasks) = rw length-take (omega arith) in
           let is : get_or (take at tasks) place task ≡ get_or tasks place task = get_or-take at tasks place task less in
-          let passed = subst (λ (t : Task). t.dom.0 ≡ task.dom.0 → IsPassed (HasFlag told) t.deed) is (before place task inside) (w.2 ∙ sym own) in
+          let passed = subst (λ (t : RunTask). t.dom.0 ≡ task.dom.0 → IsPassed (HasFlag told) t.deed) is (before place task inside) (w.2 ∙ sym own) in
           cc (at-await told _ w.0 w.1 passed, w.3)
     ]
 
-closed-at : (tasks : List Task) (domains : List DomainConfig) (places : List ℕ) (told : List Bool) → HaveCome tasks domains places told
+closed-at : (tasks : List RunTask) (domains : List DomainConfig) (places : List ℕ) (told : List Bool) → HaveCome tasks domains places told
     → ((i : ℕ) (d : DomainConfig) → i < length domains → slice_get domains i ≡ Some d → WaitsFor tasks d.id (get_or places i 0) told)
-    → (i at : ℕ) (d : DomainConfig) (task : Task) (flag : ℕ) → slice_get domains i ≡ Some d → task.dom.0 ≡ d.id.0 → slice_get tasks at ≡ Some task → task.deed ≡ Tell flag
+    → (i at : ℕ) (d : DomainConfig) (task : RunTask) (flag : ℕ) → slice_get domains i ≡ Some d → task.dom.0 ≡ d.id.0 → slice_get tasks at ≡ Some task → task.deed ≡ Tell flag
     → PassesAll (HasFlag told) task.dom (take at tasks) → HasFlag told flag
 closed-at tasks domains places told have rest i at d task flag known own there deed before = elim (cases_lt at (get_or places i 0)) [
   | inl less ↦ behind tasks d.id (get_or places i 0) at task flag told (have i d known).1 there own deed less
   | inr past ↦ absurd (ahead tasks d.id (get_or places i 0) at task flag told (rest i d (slice_get_within domains i d known) known) there own deed before past)
 ]
 
-pub closed-told : (tasks : List Task) (domains : List DomainConfig) (places : List ℕ) (old told : List Bool) (news : Bool) → All (λ (t : Task). IsTrue (is_taken domains t.dom)) tasks
+pub closed-told : (tasks : List RunTask) (domains : List DomainConfig) (places : List ℕ) (old told : List Bool) (news : Bool) → All (λ (t : RunTask). IsTrue (is_taken domains t.dom)) tasks
     → Turning tasks domains places old told (length domains) news → news ≡ false → IsClosed tasks (flag_holds told)
 closed-told tasks domains places old told news known t e at task flag there deed before =
     let within : at < length tasks = slice_get_within tasks at task there in
     let is : get_or tasks at task ≡ task = get_or_from_slice_get tasks at task task there in
-    let taken : is_taken domains task.dom ≡ true = subst (λ (x : Task). is_taken domains x.dom ≡ true) is (known at task within) in
+    let taken : is_taken domains task.dom ≡ true = subst (λ (x : RunTask). is_taken domains x.dom ≡ true) is (known at task within) in
     let (i, d, below, same, own) = Any-from_list_any (λ (y : DomainConfig). y.id.0 == task.dom.0) domains taken in
     let here : slice_get domains i ≡ Some d = slice_get-get_or domains i d below ∙ ap Some same in
     closed-at tasks domains places told t.have (t.rest e) i at d task flag here (sym (eqb-true d.id.0 task.dom.0 own)) there deed before
 
 -- flags that are told in the least closed set
 
-pub told-is : (tasks : List Task) (told : List Bool) → IsClosed tasks (flag_holds told) → ((set : ℕ → Bool) → IsClosed tasks set → Within told set) → (flag : ℕ) → HasFlag told flag ↔ IsTold tasks flag
+pub told-is : (tasks : List RunTask) (told : List Bool) → IsClosed tasks (flag_holds told) → ((set : ℕ → Bool) → IsClosed tasks set → Within told set) → (flag : ℕ) → HasFlag told flag ↔ IsTold tasks flag
 told-is tasks told closed least flag = (λ h set c. least set c flag h, λ h. h (flag_holds told) closed)
 
-passed-as : (A B : ℕ → Type 0) → ((f : ℕ) → A f → B f) → (d : Deed) → IsPassed A d → IsPassed B d
+passed-as : (A B : ℕ → Type 0) → ((f : ℕ) → A f → B f) → (d : RunAction) → IsPassed A d → IsPassed B d
 passed-as A B to (Do call) h = tt
 passed-as A B to (Tell flag) h = tt
 passed-as A B to (Await flag) h = to flag h
 
-all-passed-as : (A B : ℕ → Type 0) → ((f : ℕ) → A f → B f) → (dom : DomId) (tasks : List Task) → PassesAll A dom tasks → PassesAll B dom tasks
+all-passed-as : (A B : ℕ → Type 0) → ((f : ℕ) → A f → B f) → (dom : DomId) (tasks : List RunTask) → PassesAll A dom tasks → PassesAll B dom tasks
 all-passed-as A B to dom tasks h =
-    All-weaker (λ (t : Task). t.dom.0 ≡ dom.0 → IsPassed A t.deed) (λ (t : Task). t.dom.0 ≡ dom.0 → IsPassed B t.deed) (λ t p own. passed-as A B to t.deed (p own)) tasks h
+    All-weaker (λ (t : RunTask). t.dom.0 ≡ dom.0 → IsPassed A t.deed) (λ (t : RunTask). t.dom.0 ≡ dom.0 → IsPassed B t.deed) (λ t p own. passed-as A B to t.deed (p own)) tasks h
 
-all-end-as : (A B : ℕ → Type 0) → ((f : ℕ) → A f → B f) → (tasks : List Task) (domains : List DomainConfig) → AllEnd A tasks domains → AllEnd B tasks domains
+all-end-as : (A B : ℕ → Type 0) → ((f : ℕ) → A f → B f) → (tasks : List RunTask) (domains : List DomainConfig) → AllEnd A tasks domains → AllEnd B tasks domains
 all-end-as A B to tasks domains h =
     All-weaker (λ (d : DomainConfig). PassesAll A d.id tasks) (λ (d : DomainConfig). PassesAll B d.id tasks) (λ d p. all-passed-as A B to d.id tasks p) domains h
 
-waits-as : (A B : ℕ → Type 0) → ((f : ℕ) → A f → B f) → ((f : ℕ) → B f → A f) → (tasks : List Task) (dom : DomId) (line : ℕ) → WaitsAt A tasks dom line → WaitsAt B tasks dom line
+waits-as : (A B : ℕ → Type 0) → ((f : ℕ) → A f → B f) → ((f : ℕ) → B f → A f) → (tasks : List RunTask) (dom : DomId) (line : ℕ) → WaitsAt A tasks dom line → WaitsAt B tasks dom line
 waits-as A B to back tasks dom line w = record {
   at = w.at;
   task = w.task;
@@ -384,7 +384,7 @@ waits-as A B to back tasks dom line w = record {
   untold = λ b. w.untold (back w.flag b);
 }
 
-pub judged-as : (A B : ℕ → Type 0) → ((f : ℕ) → A f ↔ B f) → (tasks : List Task) (domains : List DomainConfig) (o : Option ℕ) → IsJudged A tasks domains o → IsJudged B tasks domains o
+pub judged-as : (A B : ℕ → Type 0) → ((f : ℕ) → A f ↔ B f) → (tasks : List RunTask) (domains : List DomainConfig) (o : Option ℕ) → IsJudged A tasks domains o → IsJudged B tasks domains o
 judged-as A B to tasks domains None h = all-end-as A B (λ f. (to f).0) tasks domains h
 judged-as A B to tasks domains (Some line) h = record {
   place = h.place;
@@ -396,35 +396,35 @@ judged-as A B to tasks domains (Some line) h = record {
 
 -- domain by domain
 
-all-end-more : (told : List Bool) (tasks : List Task) (domains : List DomainConfig) (i : ℕ) (x : DomainConfig) → AllEnd (HasFlag told) tasks (take i domains) → i < length domains
+all-end-more : (told : List Bool) (tasks : List RunTask) (domains : List DomainConfig) (i : ℕ) (x : DomainConfig) → AllEnd (HasFlag told) tasks (take i domains) → i < length domains
     → PassesAll (HasFlag told) (get_or domains i x).id tasks → AllEnd (HasFlag told) tasks (take (i + 1) domains)
 all-end-more told tasks domains i x so_far within here =
     subst (λ (l : List DomainConfig). AllEnd (HasFlag told) tasks l) (sym (rw add-one (take-suc domains i x within)))
     (All-push (λ (d : DomainConfig). PassesAll (HasFlag told) d.id tasks) (take i domains) (get_or domains i x) so_far here)
 
-none-by : (told : List Bool) (tasks : List Task) (domains : List DomainConfig) (i : ℕ) (x : DomainConfig) (o : Option ℕ) → AllEnd (HasFlag told) tasks (take i domains) → i < length domains
+none-by : (told : List Bool) (tasks : List RunTask) (domains : List DomainConfig) (i : ℕ) (x : DomainConfig) (o : Option ℕ) → AllEnd (HasFlag told) tasks (take i domains) → i < length domains
     → WaitsIn told tasks (get_or domains i x).id o → is_some o ≡ false → AllEnd (HasFlag told) tasks (take (i + 1) domains)
 none-by told tasks domains i x None so_far within here e = all-end-more told tasks domains i x so_far within here
 none-by told tasks domains i x (Some line) so_far within here e = absurd cc
 
-one-by : (told : List Bool) (tasks : List Task) (domains : List DomainConfig) (i : ℕ) (x : DomainConfig) (o : Option ℕ) → ((f : ℕ) → HasFlag told f ↔ IsTold tasks f) → AllEnd (HasFlag told) tasks (take i domains)
+one-by : (told : List Bool) (tasks : List RunTask) (domains : List DomainConfig) (i : ℕ) (x : DomainConfig) (o : Option ℕ) → ((f : ℕ) → HasFlag told f ↔ IsTold tasks f) → AllEnd (HasFlag told) tasks (take i domains)
     → i < length domains → WaitsIn told tasks (get_or domains i x).id o → is_some o ≡ true → IsJudged (IsTold tasks) tasks domains o
 one-by told tasks domains i x None to so_far within here e = absurd cc
 one-by told tasks domains i x (Some line) to so_far within here e =
     judged-as (HasFlag told) (IsTold tasks) to tasks domains (Some line)
     (record { place = i; domain = get_or domains i x; there = slice_get-get_or domains i x within; others = so_far; waits = here })
 
-pub none-waits : (told now : List Bool) (tasks : List Task) (domains : List DomainConfig) (i : ℕ) (x : DomainConfig) (o : Option ℕ) → AllEnd (HasFlag told) tasks (take i domains) → i < length domains → now ≡ told
+pub none-waits : (told now : List Bool) (tasks : List RunTask) (domains : List DomainConfig) (i : ℕ) (x : DomainConfig) (o : Option ℕ) → AllEnd (HasFlag told) tasks (take i domains) → i < length domains → now ≡ told
     → WaitsIn now tasks (get_or domains i x).id o → is_some o ≡ false → AllEnd (HasFlag told) tasks (take (i + 1) domains)
 none-waits told now tasks domains i x o so_far within same here e =
     none-by told tasks domains i x o so_far within (subst (λ (l : List Bool). WaitsIn l tasks (get_or domains i x).id o) same here) e
 
-pub one-waits : (told now : List Bool) (tasks : List Task) (domains : List DomainConfig) (i : ℕ) (x : DomainConfig) (o : Option ℕ) → ((f : ℕ) → HasFlag told f ↔ IsTold tasks f)
+pub one-waits : (told now : List Bool) (tasks : List RunTask) (domains : List DomainConfig) (i : ℕ) (x : DomainConfig) (o : Option ℕ) → ((f : ℕ) → HasFlag told f ↔ IsTold tasks f)
     → AllEnd (HasFlag told) tasks (take i domains) → i < length domains → now ≡ told → WaitsIn now tasks (get_or domains i x).id o → is_some o ≡ true → IsJudged (IsTold tasks) tasks domains o
 one-waits told now tasks domains i x o to so_far within same here e =
     one-by told tasks domains i x o to so_far within (subst (λ (l : List Bool). WaitsIn l tasks (get_or domains i x).id o) same here) e
 
-pub nobody-waits : (told : List Bool) (tasks : List Task) (domains : List DomainConfig) (i : ℕ) → ((f : ℕ) → HasFlag told f ↔ IsTold tasks f) → AllEnd (HasFlag told) tasks (take i domains) → length domains ≤ i
+pub nobody-waits : (told : List Bool) (tasks : List RunTask) (domains : List DomainConfig) (i : ℕ) → ((f : ℕ) → HasFlag told f ↔ IsTold tasks f) → AllEnd (HasFlag told) tasks (take i domains) → length domains ≤ i
     → IsJudged (IsTold tasks) tasks domains None
 nobody-waits told tasks domains i to so_far all =
     judged-as (HasFlag told) (IsTold tasks) to tasks domains None (subst (λ (l : List DomainConfig). AllEnd (HasFlag told) tasks l) (take_all i domains all) so_far)

@@ -17,12 +17,12 @@ use Rattle.gt_lines.specs.declared.numbers.Number.{Number}
 use Rattle.gt_lines.specs.declared.lines.BodyLine.{BodyLine}
 use Rattle.gt_lines.specs.declared.lines.TripleLine.{TripleLine}
 use Rattle.gt_lines.specs.declared.lines.DomainLine.{DomainLine}
-use Rattle.gt_lines.specs.declared.lines.Line.{Line}
-use Rattle.gt_lines.specs.declared.lines.Line.TheVariants as line
+use Rattle.gt_lines.specs.declared.lines.ScriptLine.{ScriptLine}
+use Rattle.gt_lines.specs.declared.lines.ScriptLine.TheVariants as line
 use Rattle.gt_script.proofs.LawLemmas.{filter-cons}
 
 -- a line that gives no generation past the last
-abbrev Ages : Line → Type 0
+abbrev Ages : ScriptLine → Type 0
 Ages (line.Triple t) = Unit {0}
 Ages (line.Wear first) = first ≤ LAST_GENERATION
 Ages (line.Domain d) = Unit {0}
@@ -45,18 +45,18 @@ wear-ages [] first e = absurd cc
 wear-ages (word ∷ []) first e = generation-ages word first e
 wear-ages (word ∷ other ∷ args) first e = absurd cc
 
-body-by : (number : Option Number) (asks : Option BodyLine) (l : Line) → (number >>= λ n. asks >>= λ a. Some (line.Body n a)) ≡ Some l → Ages l
+body-by : (number : Option Number) (asks : Option BodyLine) (l : ScriptLine) → (number >>= λ n. asks >>= λ a. Some (line.Body n a)) ≡ Some l → Ages l
 body-by None asks l e = absurd cc
 body-by (Some n) None l e = absurd cc
 body-by (Some n) (Some a) l e = let same : line.Body n a ≡ l = cc in subst Ages same tt
 
-body-ages : (word : List ℕ) (args : List (List ℕ)) (l : Line) → body_of word args ≡ Some l → Ages l
+body-ages : (word : List ℕ) (args : List (List ℕ)) (l : ScriptLine) → body_of word args ≡ Some l → Ages l
 unfolding body_of
 body-ages word [] l e = absurd cc
 body-ages word (id ∷ args) l e = body-by (decimal_number id) (body_line_of word args) l e
 
 -- a line by its first word, which is `triple`, `wear`, `domain` or another
-by-word : (a b c : Bool) (t : Option TripleLine) (w : Option ℕ) (d : Option DomainLine) (rest : Option Line) (l : Line)
+by-word : (a b c : Bool) (t : Option TripleLine) (w : Option ℕ) (d : Option DomainLine) (rest : Option ScriptLine) (l : ScriptLine)
     → ((first : ℕ) → w ≡ Some first → first ≤ LAST_GENERATION) → (rest ≡ Some l → Ages l)
     → cond a (option_map line.Triple t) (cond b (option_map line.Wear w) (cond c (option_map line.Domain d) rest)) ≡ Some l → Ages l
 by-word true b c None w d rest l f g e = absurd cc
@@ -67,11 +67,11 @@ by-word false false true t w None rest l f g e = absurd cc
 by-word false false true t w (Some d) rest l f g e = let same : line.Domain d ≡ l = cc in subst Ages same tt
 by-word false false false t w d rest l f g e = g e
 
-line-ages : (ws : List (List ℕ)) (l : Line) → line_of ws ≡ Some l → Ages l
+line-ages : (ws : List (List ℕ)) (l : ScriptLine) → line_of ws ≡ Some l → Ages l
 line-ages [] l e = absurd cc
 line-ages (word ∷ args) l e = by-word (bytes_eq word (codes "triple")) (bytes_eq word (codes "wear")) (bytes_eq word (codes "domain")) (triple_of args) (wear_of args) (domain_line_of args) (body_of word args) l (wear-ages args) (body-ages word args l) e
 
-ages-cons : (o : Option Line) → ((l : Line) → o ≡ Some l → Ages l) → (gs : List ℕ) → All (λ g. g ≤ LAST_GENERATION) gs → All (λ g. g ≤ LAST_GENERATION) (option_to_list (o >>= wear_in) ++ gs)
+ages-cons : (o : Option ScriptLine) → ((l : ScriptLine) → o ≡ Some l → Ages l) → (gs : List ℕ) → All (λ g. g ≤ LAST_GENERATION) gs → All (λ g. g ≤ LAST_GENERATION) (option_to_list (o >>= wear_in) ++ gs)
 ages-cons None h gs a = a
 ages-cons (Some (line.Triple t)) h gs a = a
 ages-cons (Some (line.Wear first)) h gs a = All-cons (λ g. g ≤ LAST_GENERATION) first gs (h (line.Wear first) refl) a

@@ -4,33 +4,33 @@ use Rattle.std.specs.Option.{unwrap_or, option_map}
 use Rattle.gt_types.specs.declared.rights.Triple.{Triple}
 use Rattle.gt_types.specs.declared.config.DomainConfig.{DomainConfig}
 use Rattle.gt_policy.specs.Allowing.{KeptPolicy, Allowed, allowed_of}
-use Rattle.gt_script.specs.declared.command.Command.{Command}
-use Rattle.gt_script.specs.Lists.{Order}
+use Rattle.gt_script.specs.declared.command.ScriptCommand.{ScriptCommand}
+use Rattle.gt_script.specs.Lists.{NamedRunTask}
 use Rattle.gt_script.specs.declared.script.ScriptStep.{ScriptStep}
 
 -- the command that it is for; what the policy of its block says, if it has one; else the names of its types, by
 -- their numbers, and its triples; its domains; the lines of its body, which are steps for `play` and orders for `run`;
 -- all in the order of their lines; and the number of its line `wear`, if it has one
 pub record Contents : Type 0 where
-  pub command : Command
+  pub command : ScriptCommand
   pub policy : Option Allowed
   pub types : List (List ℕ)
   pub triples : List Triple
   pub wear : Option ℕ
   pub domains : List DomainConfig
   pub steps : List ScriptStep
-  pub orders : List Order
+  pub orders : List NamedRunTask
 
 -- the same, with the policy as it is kept
 pub record KeptContents : Type 0 where
-  pub command : Command
+  pub command : ScriptCommand
   pub policy : Option KeptPolicy
   pub types : List (List ℕ)
   pub triples : List Triple
   pub wear : Option ℕ
   pub domains : List DomainConfig
   pub steps : List ScriptStep
-  pub orders : List Order
+  pub orders : List NamedRunTask
 
 -- what a script holds that is kept so
 abbrev pub contents_told : KeptContents → Contents
@@ -46,7 +46,7 @@ contents_told k = record {
 }
 
 -- a script of no line, for this command
-abbrev pub empty : Command → Contents
+abbrev pub empty : ScriptCommand → Contents
 empty command =
     record {
       command = command;
@@ -60,7 +60,7 @@ empty command =
     }
 
 -- a script of only a policy block
-abbrev pub with_policy : Command → Allowed → Contents
+abbrev pub with_policy : ScriptCommand → Allowed → Contents
 with_policy command p = record (empty command) { policy = Some p }
 
 -- a script without the lines of its body for `run`

@@ -3,8 +3,8 @@ use Rattle.std.specs.Prelude.{ℕ, List, [], ◌∷◌, ◌++◌, Option, Some, 
 use Rattle.std.specs.Borrow.{Bor}
 use Rattle.std.specs.List.{filter_map, list_any, position_or_len}
 use Rattle.std.specs.Str.{bytes_eq}
-use Rattle.gt_script.specs.Lists.{Order, RunLine}
-use Rattle.gt_script.specs.declared.tasks.DeedBy.TheVariants as runs
+use Rattle.gt_script.specs.Lists.{NamedRunTask, NamedRunAction}
+use Rattle.gt_script.specs.declared.tasks.RunActionBy.TheVariants as runs
 
 -- the texts that are lent
 abbrev pub names_in : List (Bor (List ℕ)) → List (List ℕ)
@@ -15,13 +15,13 @@ unfoldable pub with_flag : List (List ℕ) → List ℕ → List (List ℕ)
 with_flag names name = if list_any (bytes_eq name) names then names else names ++ name ∷ []
 
 -- the flag that a line names, if it names one
-abbrev pub flag_in : RunLine → Option (List ℕ)
+abbrev pub flag_in : NamedRunAction → Option (List ℕ)
 flag_in (runs.Do call) = None
 flag_in (runs.Tell flag) = Some flag
 flag_in (runs.Await flag) = Some flag
 
 -- the names of the flags of these lines, each once, in the order in which they first appear
-abbrev pub flag_names_of : List Order → List (List ℕ)
+abbrev pub flag_names_of : List NamedRunTask → List (List ℕ)
 flag_names_of orders = fold with_flag [] (filter_map (λ o. flag_in o.deed) orders)
 
 -- the number of a flag: the place of its name

@@ -4,21 +4,21 @@ use Rattle.std.specs.Prelude.{Option, Some, None, Ok, Err, IsSome, IsTrue, All, 
 use Rattle.gt_script.specs.Prelude.{option_map, option_to_list, is_some, filter_map, enumerate_from, IsUtf8, lines_in}
 use Rattle.gt_script.specs.Prelude.{utf8_valid_len, line_after, is_taken, AreFaultless, LAST_GENERATION, LONGEST_TEXT}
 use Rattle.gt_script.specs.Prelude.{Triple, DomainConfig, Allowed, type_named, words, number_below, ◌>>=◌, line_of}
-use Rattle.gt_script.specs.Prelude.{Line, Number, BodyLine, Command, Play, Run, Order, ScriptStep, ScriptFault, Limit}
+use Rattle.gt_script.specs.Prelude.{ScriptLine, Number, BodyLine, ScriptCommand, Play, Run, NamedRunTask, ScriptStep, ScriptFault, Limit}
 use Rattle.gt_script.specs.Prelude.{Utf8, Syntax, Config, ScriptError, Memory}
 use Rattle.gt_policy.specs.declared.fault.TokenFault as policy
 use Rattle.gt_script.specs.Blocks.{Means, IsFaultyBlock, block_fault_shown}
 use Rattle.gt_script.specs.Contents.{Contents, empty, with_policy, type_names, first_gen}
-use Rattle.gt_script.specs.Script.{domain_written, action_in, run_line_in, with_words, with_lines}
-use Rattle.gt_lines.specs.declared.lines.Line.TheVariants as line
+use Rattle.gt_script.specs.Script.{domain_written, play_action_in, run_action_in, with_words, with_lines}
+use Rattle.gt_lines.specs.declared.lines.ScriptLine.TheVariants as line
 use Rattle.gt_script.specs.declared.faults.ScriptError.TheVariants as errors
 
 -- what the lines say, each with its number
-abbrev pub lines_said : ℕ → List (List ℕ) → List (ℕ × Line)
+abbrev pub lines_said : ℕ → List (List ℕ) → List (ℕ × ScriptLine)
 lines_said n lines = filter_map (λ l. option_map (λ x. (l.0, x)) (line_of (words l.1))) (enumerate_from n lines)
 
 -- the triple of a line, if it says one
-abbrev pub triple_in : List (List ℕ) → Line → Option Triple
+abbrev pub triple_in : List (List ℕ) → ScriptLine → Option Triple
 triple_in types (line.Triple t) = do
   source ← type_named types t.source
   target ← type_named types t.target
@@ -28,14 +28,14 @@ triple_in types (line.Domain d) = None
 triple_in types (line.Body id asks) = None
 
 -- the first generation of a line, if it gives one
-abbrev pub wear_in : Line → Option ℕ
+abbrev pub wear_in : ScriptLine → Option ℕ
 wear_in (line.Triple t) = None
 wear_in (line.Wear first) = Some first
 wear_in (line.Domain d) = None
 wear_in (line.Body id asks) = None
 
 -- the domain of a line, if it configures one
-abbrev pub domain_in : List (List ℕ) → Line → Option DomainConfig
+abbrev pub domain_in : List (List ℕ) → ScriptLine → Option DomainConfig
 domain_in types (line.Triple t) = None
 domain_in types (line.Wear first) = None
 domain_in types (line.Domain d) = do
@@ -44,42 +44,42 @@ domain_in types (line.Domain d) = do
 domain_in types (line.Body id asks) = None
 
 -- the step that line n is in a script for this command, if it is one
-abbrev pub step_for : Command → ℕ → Number → BodyLine → Option ScriptStep
+abbrev pub step_for : ScriptCommand → ℕ → Number → BodyLine → Option ScriptStep
 step_for Play n number asks = do
   id ← number_below (2 ^ 16) number
-  action ← action_in asks
+  action ← play_action_in asks
   Some (record { line = n; dom = record { 0 = id }; action = action })
 step_for Run n number asks = None
 
 -- the order that line n is in a script for this command, if it is one
-abbrev pub order_for : Command → ℕ → Number → BodyLine → Option Order
+abbrev pub order_for : ScriptCommand → ℕ → Number → BodyLine → Option NamedRunTask
 order_for Play n number asks = None
 order_for Run n number asks = do
   id ← number_below (2 ^ 16) number
-  order ← run_line_in asks
+  order ← run_action_in asks
   Some (record { line = n; dom = record { 0 = id }; deed = order })
 
 -- the step of line n, if it is one of the body of a script for `play`
-abbrev pub step_on : Command → ℕ → Line → Option ScriptStep
+abbrev pub step_on : ScriptCommand → ℕ → ScriptLine → Option ScriptStep
 step_on command n (line.Triple t) = None
 step_on command n (line.Wear first) = None
 step_on command n (line.Domain d) = None
 step_on command n (line.Body number asks) = step_for command n number asks
 
 -- the order of line n, if it is one of the body of a script for `run`
-abbrev pub order_on : Command → ℕ → Line → Option Order
+abbrev pub order_on : ScriptCommand → ℕ → ScriptLine → Option NamedRunTask
 order_on command n (line.Triple t) = None
 order_on command n (line.Wear first) = None
 order_on command n (line.Domain d) = None
 order_on command n (line.Body number asks) = order_for command n number asks
 
 -- a line is for this command: each but those of the body that are for the other one
-abbrev pub asks_for : Command → BodyLine → Bool
-asks_for Play asks = is_some (action_in asks)
-asks_for Run asks = is_some (run_line_in asks)
+abbrev pub asks_for : ScriptCommand → BodyLine → Bool
+asks_for Play asks = is_some (play_action_in asks)
+asks_for Run asks = is_some (run_action_in asks)
 
 -- the same of any line
-abbrev pub is_for : Command → Line → Bool
+abbrev pub is_for : ScriptCommand → ScriptLine → Bool
 is_for command (line.Triple t) = true
 is_for command (line.Wear first) = true
 is_for command (line.Domain d) = true
@@ -107,7 +107,7 @@ pub record SayParts (n : ℕ) (lines : List (List ℕ)) (c : Contents) : Type 0 
 
 -- the lines are those of this script for the command, which says by triples what
 -- is allowed: any name is a type, and each has one number
-pub record IsTripleScript (command : Command) (lines : List (List ℕ)) (c : Contents) : Type 0 where
+pub record IsTripleScript (command : ScriptCommand) (lines : List (List ℕ)) (c : Contents) : Type 0 where
   pub for_command : c.command ≡ command
   pub parts : SayParts 1 lines c
   pub policy : c.policy ≡ None
@@ -133,7 +133,7 @@ lines_before b = length b.front + 1
 
 -- the lines are those of this script for the command, whose policy is that of its block; the
 -- lines after the block say the rest, and no triple is one of them
-pub record IsPolicyScript (command : Command) (lines : List (List ℕ)) (c : Contents) : Type 0 where
+pub record IsPolicyScript (command : ScriptCommand) (lines : List (List ℕ)) (c : Contents) : Type 0 where
   pub for_command : c.command ≡ command
   pub block : List (List ℕ)
   pub rest : List (List ℕ)
@@ -145,7 +145,7 @@ pub record IsPolicyScript (command : Command) (lines : List (List ℕ)) (c : Con
   pub no_triples : c.triples ≡ []
 
 -- the lines are those of this script for the command
-abbrev pub IsScriptFor : Command → List (List ℕ) → Contents → Type 0
+abbrev pub IsScriptFor : ScriptCommand → List (List ℕ) → Contents → Type 0
 IsScriptFor command lines c = IsTripleScript command lines c ⊎ IsPolicyScript command lines c
 
 -- the lines are those of this script for `play`
@@ -196,7 +196,7 @@ pub record HasNoBlock (lines : List (List ℕ)) : Type 0 where
   pub another : (l : List ℕ) (ls : List (List ℕ)) → others ≡ l ∷ ls → (words l ≢ []) × (words l ≢ codes "policy" ∷ [])
 
 -- the first fault after a policy block
-pub record IsFaultBehind (command : Command) (lines : List (List ℕ)) (f : ScriptFault) : Type 0 where
+pub record IsFaultBehind (command : ScriptCommand) (lines : List (List ℕ)) (f : ScriptFault) : Type 0 where
   pub block : List (List ℕ)
   pub rest : List (List ℕ)
   pub has : HasBlock lines block rest
@@ -206,7 +206,7 @@ pub record IsFaultBehind (command : Command) (lines : List (List ℕ)) (f : Scri
       (lines_before has + length block + 2) rest f
 
 -- the first fault of the lines, if it is none of a policy
-abbrev pub IsFaultOfLines : Command → List (List ℕ) → ScriptFault → Type 0
+abbrev pub IsFaultOfLines : ScriptCommand → List (List ℕ) → ScriptFault → Type 0
 IsFaultOfLines command lines f =
     (HasNoBlock lines × IsFirstScriptFault (length lines) (empty command) 1 lines f)
     ⊎ ((IsOpen lines × (f ≡ record { line = length lines + 1; kind = Syntax }))
@@ -220,7 +220,7 @@ IsUnread bytes f =
     × (f ≡ record { line = line_after (take (utf8_valid_len bytes) bytes); kind = Utf8 }))
 
 -- the first fault of the bytes, if it is none of a policy: too many, no text, or the first fault of the lines
-abbrev pub IsFaultOf : Command → List ℕ → ScriptFault → Type 0
+abbrev pub IsFaultOf : ScriptCommand → List ℕ → ScriptFault → Type 0
 IsFaultOf command bytes f =
     IsUnread bytes f ⊎ ((length bytes ≤ LONGEST_TEXT) × IsUtf8 bytes × IsFaultOfLines command (lines_in bytes) f)
 
@@ -234,7 +234,7 @@ pub record IsFaultOfBlock (bytes : List ℕ) (g : policy.TokenFault) : Type 0 wh
   pub faulty : IsFaultyBlock (lines_before has) block g
 
 -- memory ran out, or this is the first fault of a script for the command
-abbrev pub StandsFor : Command → List ℕ → ScriptError → Type 0
+abbrev pub StandsFor : ScriptCommand → List ℕ → ScriptError → Type 0
 StandsFor command bytes Memory = Unit {0}
 StandsFor command bytes (errors.Fault f) = IsFaultOf command bytes f
 StandsFor command bytes (errors.Policy e) =

@@ -1,20 +1,20 @@
 -- A line of the body of a script for `run`, its flag by name or by number.
 use Rattle.std.specs.Prelude.{ℕ, List}
-use Rattle.gt_script.specs.declared.tasks.DeedBy.{DeedBy}
-use Rattle.gt_script.specs.declared.tasks.TaskBy.{TaskBy}
+use Rattle.gt_script.specs.declared.tasks.RunActionBy.{RunActionBy}
+use Rattle.gt_script.specs.declared.tasks.RunTaskBy.{RunTaskBy}
 
 -- a line as it is written
-abbrev pub Order : Type 0
-Order = TaskBy (List ℕ)
+abbrev pub NamedRunTask : Type 0
+NamedRunTask = RunTaskBy (List ℕ)
 
 -- what such a line asks
-abbrev pub RunLine : Type 0
-RunLine = DeedBy (List ℕ)
+abbrev pub NamedRunAction : Type 0
+NamedRunAction = RunActionBy (List ℕ)
 
 -- a line whose flag is named by its number
-abbrev pub Task : Type 0
-Task = TaskBy ℕ
+abbrev pub RunTask : Type 0
+RunTask = RunTaskBy ℕ
 
 -- what such a line has its domain do
-abbrev pub Deed : Type 0
-Deed = DeedBy ℕ
+abbrev pub RunAction : Type 0
+RunAction = RunActionBy ℕ

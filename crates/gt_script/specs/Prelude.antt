@@ -6,18 +6,18 @@ pub use Rattle.gt_lines.specs.Words.{words}
 pub use Rattle.gt_lines.specs.declared.calls.ScriptAction.{ScriptAction}
 pub use Rattle.gt_lines.specs.declared.lines.BodyLine.{BodyLine}
 pub use Rattle.gt_lines.specs.declared.lines.DomainLine.{DomainLine}
-pub use Rattle.gt_lines.specs.declared.lines.Line.{Line}
+pub use Rattle.gt_lines.specs.declared.lines.ScriptLine.{ScriptLine}
 pub use Rattle.gt_lines.specs.declared.lines.TripleLine.{TripleLine}
 pub use Rattle.gt_lines.specs.declared.numbers.Number.{Number}
 pub use Rattle.gt_policy.specs.Allowing.{Allowed, type_named}
-pub use Rattle.gt_script.specs.declared.command.Command.{Command}
-pub use Rattle.gt_script.specs.declared.command.Command.TheVariants.{Play, Run}
+pub use Rattle.gt_script.specs.declared.command.ScriptCommand.{ScriptCommand}
+pub use Rattle.gt_script.specs.declared.command.ScriptCommand.TheVariants.{Play, Run}
 pub use Rattle.gt_script.specs.declared.faults.ScriptError.{ScriptError}
 pub use Rattle.gt_script.specs.declared.faults.ScriptError.TheVariants.{Memory}
 pub use Rattle.gt_script.specs.declared.faults.ScriptFault.{ScriptFault}
 pub use Rattle.gt_script.specs.declared.faults.ScriptFaultKind.{ScriptFaultKind}
 pub use Rattle.gt_script.specs.declared.faults.ScriptFaultKind.TheVariants.{Config, Limit, Mode, Syntax, Utf8}
-pub use Rattle.gt_script.specs.Lists.{Order, RunLine}
+pub use Rattle.gt_script.specs.Lists.{NamedRunTask, NamedRunAction}
 pub use Rattle.gt_script.specs.declared.script.ScriptStep.{ScriptStep}
 pub use Rattle.gt_streams.specs.Texts.{line_after}
 pub use Rattle.gt_types.specs.Config.{AreFaultless, domain_fault, is_taken}

@@ -5,8 +5,8 @@ use Rattle.std.specs.List.{sum_by}
 use Rattle.gt_types.specs.declared.DomId.{DomId}
 use Rattle.gt_types.specs.declared.config.DomainConfig.{DomainConfig}
 use Rattle.gt_script.specs.Stuck.{IsClosed, PassesAll, WaitsAt}
-use Rattle.gt_script.specs.Lists.{Deed, Task}
-use Rattle.gt_script.specs.declared.tasks.DeedBy.TheVariants.{Do, Tell, Await}
+use Rattle.gt_script.specs.Lists.{RunAction, RunTask}
+use Rattle.gt_script.specs.declared.tasks.RunActionBy.TheVariants.{Do, Tell, Await}
 
 -- whether a flag is raised
 abbrev pub flag_holds : List Bool → ℕ → Bool
@@ -30,35 +30,35 @@ abbrev pub untold : List Bool → ℕ
 untold told = sum_by is_untold told
 
 -- the flag of a task is raised
-abbrev pub IsDone : List Bool → Deed → Type 0
+abbrev pub IsDone : List Bool → RunAction → Type 0
 IsDone told (Do call) = Unit {0}
 IsDone told (Tell flag) = HasFlag told flag
 IsDone told (Await flag) = HasFlag told flag
 
 -- a domain waits at this deed
-unfoldable pub is_waiting : List Bool → Deed → Bool
+unfoldable pub is_waiting : List Bool → RunAction → Bool
 is_waiting told (Do call) = false
 is_waiting told (Tell flag) = false
 is_waiting told (Await flag) = not (flag_holds told flag)
 
 -- the raised flags after this deed
-unfoldable pub told_after : List Bool → Deed → List Bool
+unfoldable pub told_after : List Bool → RunAction → List Bool
 told_after told (Do call) = told
 told_after told (Tell flag) = slice_set told flag true
 told_after told (Await flag) = told
 
 -- this deed raises a flag that is not raised yet
-unfoldable pub is_new : List Bool → Deed → Bool
+unfoldable pub is_new : List Bool → RunAction → Bool
 is_new told (Do call) = false
 is_new told (Tell flag) = not (flag_holds told flag)
 is_new told (Await flag) = false
 
 -- the domain has come to this place: the flags of its own tasks before it are raised
-abbrev pub Comes : List Task → DomId → ℕ → List Bool → Type 0
+abbrev pub Comes : List RunTask → DomId → ℕ → List Bool → Type 0
 Comes tasks dom place told = All (λ t. t.dom.0 ≡ dom.0 → IsDone told t.deed) (take place tasks)
 
 -- a domain went on to this place and raised flags on its way; the last part says whether one was new
-pub record WayTo (tasks : List Task) (dom : DomId) (old new : List Bool) (place : ℕ) (is_news : Bool) : Type 0 where
+pub record WayTo (tasks : List RunTask) (dom : DomId) (old new : List Bool) (place : ℕ) (is_news : Bool) : Type 0 where
   pub comes : Comes tasks dom place new
   pub grown : (flag : ℕ) → HasFlag old flag → HasFlag new flag
   pub sound : (set : ℕ → Bool) → IsClosed tasks set → Within old set → Within new set
@@ -67,22 +67,22 @@ pub record WayTo (tasks : List Task) (dom : DomId) (old new : List Bool) (place 
   pub loud : is_news ≡ true → untold new < untold old
 
 -- a domain at this place waits there for a flag that is not raised, unless it is at its end
-abbrev pub WaitsFor : List Task → DomId → ℕ → List Bool → Type 0
-WaitsFor tasks dom place told = (task : Task) → slice_get tasks place ≡ Some task
+abbrev pub WaitsFor : List RunTask → DomId → ℕ → List Bool → Type 0
+WaitsFor tasks dom place told = (task : RunTask) → slice_get tasks place ≡ Some task
     → (flag : ℕ) × (task.deed ≡ Await flag) × (task.dom.0 ≡ dom.0) × (flag_holds told flag ≡ false)
 
 -- a domain went on as far as raised flags let it
-abbrev pub TurnGoesOn : List Task → DomId → List Bool → List Bool → ℕ → Bool → Type 0
+abbrev pub TurnGoesOn : List RunTask → DomId → List Bool → List Bool → ℕ → Bool → Type 0
 TurnGoesOn tasks dom old new place is_news =
     (place ≤ length tasks) × WayTo tasks dom old new place is_news × WaitsFor tasks dom place new
 
 -- each domain has come to its place
-abbrev pub HaveCome : List Task → List DomainConfig → List ℕ → List Bool → Type 0
+abbrev pub HaveCome : List RunTask → List DomainConfig → List ℕ → List Bool → Type 0
 HaveCome tasks domains places told = (i : ℕ) (d : DomainConfig) → slice_get domains i ≡ Some d
     → (get_or places i 0 ≤ length tasks) × Comes tasks d.id (get_or places i 0) told
 
 -- the first of the domains went on in turn, up to this one
-pub record Turning (tasks : List Task) (domains : List DomainConfig) (places : List ℕ) (old new : List Bool) (upto : ℕ)
+pub record Turning (tasks : List RunTask) (domains : List DomainConfig) (places : List ℕ) (old new : List Bool) (upto : ℕ)
     (is_news : Bool) : Type 0 where
   pub have : HaveCome tasks domains places new
   pub sound : (set : ℕ → Bool) → IsClosed tasks set → Within old set → Within new set
@@ -93,6 +93,6 @@ pub record Turning (tasks : List Task) (domains : List DomainConfig) (places : L
       → WaitsFor tasks d.id (get_or places i 0) new
 
 -- the line where a domain waits, if these flags are raised; none if it comes to its end
-abbrev pub WaitsIn : List Bool → List Task → DomId → Option ℕ → Type 0
+abbrev pub WaitsIn : List Bool → List RunTask → DomId → Option ℕ → Type 0
 WaitsIn told tasks dom None = PassesAll (HasFlag told) dom tasks
 WaitsIn told tasks dom (Some line) = WaitsAt (HasFlag told) tasks dom line

@@ -11,19 +11,19 @@ use Rattle.gt_script.specs.RunContents.{RunContents, run_told}
 use Rattle.gt_script.specs.Script.{Wrong, in_script, in_policy, TellsFor}
 use Rattle.gt_script.specs.Stuck.{IsTold, AllEnd, IsStuckAt}
 use Rattle.gt_script.specs.Tasks.{tasks_of}
-use Rattle.gt_script.specs.declared.command.Command.TheVariants.{Run}
+use Rattle.gt_script.specs.declared.command.ScriptCommand.TheVariants.{Run}
 use Rattle.gt_script.specs.declared.faults.ScriptFaultKind.TheVariants.{Stuck}
 use Rattle.gt_script.specs.declared.faults.ScriptError.{ScriptError}
 use Rattle.gt_script.specs.declared.faults.ScriptError.TheVariants as errors
 use Rattle.gt_script.specs.declared.run_script.RunScript.{RunScript}
-use Rattle.gt_script.specs.Lists.{Task}
+use Rattle.gt_script.specs.Lists.{RunTask}
 
 -- the domains and the first generation are within the limits of a run
 abbrev pub CanConfigure : Contents → Type 0
 CanConfigure c = AreFaultless c.domains × (1 ≤ length c.domains) × (first_gen c ≤ LAST_GENERATION)
 
 -- the list of a domain: its own tasks, in their order
-abbrev pub list_of : List Task → DomId → List Task
+abbrev pub list_of : List RunTask → DomId → List RunTask
 list_of tasks dom = filter (λ t. t.dom.0 == dom.0) tasks
 
 -- what a script that was read for `run` holds: flags are numbered as they first appear in it

@@ -3,8 +3,8 @@ use Rattle.std.specs.Prelude.{◌≡◌, ◌⊎◌, ◌<◌, ◌≤◌, ℕ, ◌
 use Rattle.std.specs.Prelude.{Option, Some, None, Result, Ok, Err, take, drop, is_none, is_some, ◌^◌, if◌then◌else◌}
 use Rattle.gt_script.specs.Prelude.{option_map, IsUtf8, utf8_valid_len, line_after, LONGEST_TEXT, lines_in, is_taken}
 use Rattle.gt_script.specs.Prelude.{domain_fault, DomId, TypeId, DomainConfig, Allowed, type_named, words, number_below}
-use Rattle.gt_script.specs.Prelude.{◌>>=◌, line_of, Number, ScriptAction, BodyLine, Command, Play, Run, RunLine}
-use Rattle.gt_script.specs.Prelude.{TripleLine, DomainLine, Line, ScriptFaultKind, Limit, Utf8, Syntax, Config, Mode}
+use Rattle.gt_script.specs.Prelude.{◌>>=◌, line_of, Number, ScriptAction, BodyLine, ScriptCommand, Play, Run, NamedRunAction}
+use Rattle.gt_script.specs.Prelude.{TripleLine, DomainLine, ScriptLine, ScriptFaultKind, Limit, Utf8, Syntax, Config, Mode}
 use Rattle.gt_script.specs.Prelude.{ScriptFault}
 use Rattle.gt_policy.specs.declared.fault.TokenFault as policy
 use Rattle.gt_script.specs.Blocks.{opening, closing, Means, IsFaultyBlock}
@@ -12,9 +12,9 @@ use Rattle.gt_script.specs.Types.{with_type_name}
 use Rattle.gt_script.specs.Contents.{Contents, empty, with_policy}
 use Rattle.gt_lines.specs.declared.calls.ScriptAction.TheVariants as actions
 use Rattle.gt_lines.specs.declared.lines.BodyLine.TheVariants as bodies
-use Rattle.gt_lines.specs.declared.signals.Signal.TheVariants as signals
-use Rattle.gt_script.specs.declared.tasks.DeedBy.TheVariants as runs
-use Rattle.gt_lines.specs.declared.lines.Line.TheVariants as line
+use Rattle.gt_lines.specs.declared.signals.FlagLine.TheVariants as signals
+use Rattle.gt_script.specs.declared.tasks.RunActionBy.TheVariants as runs
+use Rattle.gt_lines.specs.declared.lines.ScriptLine.TheVariants as line
 
 -- a list without elements
 abbrev pub is_empty : {X : Type 0} → List X → Bool
@@ -38,7 +38,7 @@ unfoldable pub has_body : Contents → Bool
 has_body c = not (is_empty c.steps) || not (is_empty c.orders)
 
 -- the policy or triples come first, then at most one line `wear`, then domains, then the body
-unfoldable pub is_misplaced : Contents → Line → Bool
+unfoldable pub is_misplaced : Contents → ScriptLine → Bool
 is_misplaced c (line.Triple t) = (is_some c.policy || is_some c.wear) || not (is_empty c.domains)
 is_misplaced c (line.Wear first) = (has_no_rights c || is_some c.wear) || not (is_empty c.domains)
 is_misplaced c (line.Domain d) = has_no_rights c || has_body c
@@ -90,18 +90,18 @@ configured domains number = do
   if is_taken domains (record { 0 = id }) then Some (record { 0 = id }) else None
 
 -- what a line of the body is for `play`: an action
-unfoldable pub action_in : BodyLine → Option ScriptAction
-action_in (bodies.Action a) = Some a
-action_in (bodies.Signal s) = None
+unfoldable pub play_action_in : BodyLine → Option ScriptAction
+play_action_in (bodies.Action a) = Some a
+play_action_in (bodies.Signal s) = None
 
 -- what a line of the body is for `run`: a whole call, or what it says of a flag
-unfoldable pub run_line_in : BodyLine → Option RunLine
-run_line_in (bodies.Action (actions.Do call)) = Some (runs.Do call)
-run_line_in (bodies.Action (actions.Begin call)) = None
-run_line_in (bodies.Action (actions.Tick count)) = None
-run_line_in (bodies.Action (actions.Show gref)) = None
-run_line_in (bodies.Signal (signals.Tell flag)) = Some (runs.Tell flag)
-run_line_in (bodies.Signal (signals.Await flag)) = Some (runs.Await flag)
+unfoldable pub run_action_in : BodyLine → Option NamedRunAction
+run_action_in (bodies.Action (actions.Do call)) = Some (runs.Do call)
+run_action_in (bodies.Action (actions.Begin call)) = None
+run_action_in (bodies.Action (actions.Tick count)) = None
+run_action_in (bodies.Action (actions.Show gref)) = None
+run_action_in (bodies.Signal (signals.Tell flag)) = Some (runs.Tell flag)
+run_action_in (bodies.Signal (signals.Await flag)) = Some (runs.Await flag)
 
 -- what a line adds, or that it is for the other command
 abbrev pub or_mode : Option Contents → Result Contents ScriptFaultKind
@@ -111,17 +111,17 @@ or_mode None = Err Mode
 -- a script for `play` with one step more, on line n
 unfoldable pub with_domain_line : Contents → ℕ → DomId → BodyLine → Result Contents ScriptFaultKind
 with_domain_line c n dom asks = or_mode (do
-  action ← action_in asks
+  action ← play_action_in asks
   Some (record c { steps = c.steps ++ record { line = n; dom = dom; action = action } ∷ [] }))
 
 -- a script for `run` with one order more, on line n
 unfoldable pub with_order : Contents → ℕ → DomId → BodyLine → Result Contents ScriptFaultKind
 with_order c n dom asks = or_mode (do
-  order ← run_line_in asks
+  order ← run_action_in asks
   Some (record c { orders = c.orders ++ record { line = n; dom = dom; deed = order } ∷ [] }))
 
 -- a script for this command with a line of the body more
-abbrev pub with_asked : Command → Contents → ℕ → DomId → BodyLine → Result Contents ScriptFaultKind
+abbrev pub with_asked : ScriptCommand → Contents → ℕ → DomId → BodyLine → Result Contents ScriptFaultKind
 with_asked Play c n dom asks = with_domain_line c n dom asks
 with_asked Run c n dom asks = with_order c n dom asks
 
@@ -131,14 +131,14 @@ with_body_line c n number asks =
     elim (configured c.domains number) [ None ↦ Err Config | Some dom ↦ with_asked c.command c n dom asks ]
 
 -- a script with line n more, which is in its place
-abbrev pub with_placed : Contents → ℕ → Line → Result Contents ScriptFaultKind
+abbrev pub with_placed : Contents → ℕ → ScriptLine → Result Contents ScriptFaultKind
 with_placed c n (line.Triple t) = with_triple c t
 with_placed c n (line.Wear first) = Ok (record c { wear = Some first })
 with_placed c n (line.Domain d) = with_domain c d
 with_placed c n (line.Body id asks) = with_body_line c n id asks
 
 -- a script with line n more
-unfoldable pub with_script_line : Contents → ℕ → Line → Result Contents ScriptFaultKind
+unfoldable pub with_script_line : Contents → ℕ → ScriptLine → Result Contents ScriptFaultKind
 with_script_line c n l = if is_misplaced c l then Err Syntax else with_placed c n l
 
 -- the words of line n: none change nothing
@@ -180,30 +180,30 @@ in_result (Err f) = Err (in_script f)
 
 -- the lines after a line `policy` of this number, of which the one at this place is `end`, say this: the rest of
 -- a script of `count` lines for this command with the policy of the block, or its fault
-abbrev pub ClosedSays : Command → ℕ → ℕ → List (List ℕ) → ℕ → Result Contents Wrong → Type 0
+abbrev pub ClosedSays : ScriptCommand → ℕ → ℕ → List (List ℕ) → ℕ → Result Contents Wrong → Type 0
 ClosedSays command count first lines end said =
     ((p : Allowed) × Means (take end lines) p
     × (said ≡ in_result (whole count (with_policy command p) (first + end + 1 + 1) (drop (end + 1) lines))))
     ⊎ ((g : policy.TokenFault) × IsFaultyBlock first (take end lines) g × (said ≡ Err (in_policy g)))
 
 -- the same, if a line `end` may be missing
-abbrev pub BlockSays : Command → ℕ → ℕ → List (List ℕ) → Option ℕ → Result Contents Wrong → Type 0
+abbrev pub BlockSays : ScriptCommand → ℕ → ℕ → List (List ℕ) → Option ℕ → Result Contents Wrong → Type 0
 BlockSays command count first lines None said = said ≡ Err (in_script (record { line = count + 1; kind = Syntax }))
 BlockSays command count first lines (Some end) said = ClosedSays command count first lines end said
 
 -- the lines say this: they begin with a policy block, or have none
-abbrev pub LinesSay : Command → List (List ℕ) → Option ℕ → Result Contents Wrong → Type 0
+abbrev pub LinesSay : ScriptCommand → List (List ℕ) → Option ℕ → Result Contents Wrong → Type 0
 LinesSay command lines None said = said ≡ in_result (whole (length lines) (empty command) 1 lines)
 LinesSay command lines (Some place) said =
     BlockSays command (length lines) (place + 1) (drop (place + 1) lines) (closing (drop (place + 1) lines)) said
 
 -- the text says this
-abbrev pub TextSays : Command → List ℕ → Result Contents Wrong → Type 0
+abbrev pub TextSays : ScriptCommand → List ℕ → Result Contents Wrong → Type 0
 TextSays command text said = LinesSay command (lines_in text) (opening (lines_in text)) said
 
 -- the bytes say this script for the command, or have this fault, which is their first:
 -- they are too many, or no text, or it is that of the text
-abbrev pub TellsFor : Command → List ℕ → Result Contents Wrong → Type 0
+abbrev pub TellsFor : ScriptCommand → List ℕ → Result Contents Wrong → Type 0
 TellsFor command bytes said =
     ((LONGEST_TEXT < length bytes) × (said ≡ Err (in_script (record { line = 1; kind = Limit }))))
     ⊎ (((length bytes ≤ LONGEST_TEXT) × (¬ IsUtf8 bytes)

@@ -2,48 +2,48 @@
 use Rattle.std.specs.Prelude.{◌≡◌, ◌<◌, ℕ, Bool, List, take, Option, Some, None, slice_get, All, IsTrue}
 use Rattle.gt_types.specs.declared.DomId.{DomId}
 use Rattle.gt_types.specs.declared.config.DomainConfig.{DomainConfig}
-use Rattle.gt_script.specs.Lists.{Deed, Task}
-use Rattle.gt_script.specs.declared.tasks.DeedBy.TheVariants.{Do, Tell, Await}
+use Rattle.gt_script.specs.Lists.{RunAction, RunTask}
+use Rattle.gt_script.specs.declared.tasks.RunActionBy.TheVariants.{Do, Tell, Await}
 
 -- a flag that a task names is below this number
-abbrev pub IsBelow : ℕ → Deed → Type 0
+abbrev pub IsBelow : ℕ → RunAction → Type 0
 IsBelow count (Do call) = Unit {0}
 IsBelow count (Tell flag) = flag < count
 IsBelow count (Await flag) = flag < count
 
 -- each flag of these tasks is below this number
-abbrev pub AreNumbered : ℕ → List Task → Type 0
+abbrev pub AreNumbered : ℕ → List RunTask → Type 0
 AreNumbered count tasks = All (λ t. IsBelow count t.deed) tasks
 
 -- a domain goes past a task if the flags that have this are raised: it waits
 -- at no other task than one that awaits another flag
-abbrev pub IsPassed : (ℕ → Type 0) → Deed → Type 0
+abbrev pub IsPassed : (ℕ → Type 0) → RunAction → Type 0
 IsPassed Told (Do call) = Unit {0}
 IsPassed Told (Tell flag) = Unit {0}
 IsPassed Told (Await flag) = Told flag
 
 -- a domain goes past all its own tasks among these
-abbrev pub PassesAll : (ℕ → Type 0) → DomId → List Task → Type 0
+abbrev pub PassesAll : (ℕ → Type 0) → DomId → List RunTask → Type 0
 PassesAll Told dom tasks = All (λ t. t.dom.0 ≡ dom.0 → IsPassed Told t.deed) tasks
 
 -- a set of flags is closed: it has each flag that a task raises, if the
 -- task's domain goes past all that it has to do before it
-abbrev pub IsClosed : List Task → (ℕ → Bool) → Type 0
-IsClosed tasks set = (at : ℕ) (task : Task) (flag : ℕ) → slice_get tasks at ≡ Some task → task.deed ≡ Tell flag
+abbrev pub IsClosed : List RunTask → (ℕ → Bool) → Type 0
+IsClosed tasks set = (at : ℕ) (task : RunTask) (flag : ℕ) → slice_get tasks at ≡ Some task → task.deed ≡ Tell flag
     → PassesAll (λ f. IsTrue (set f)) task.dom (take at tasks) → IsTrue (set flag)
 
 -- a flag is raised: each closed set has it, so it is one of the least closed set
-abbrev pub IsTold : List Task → ℕ → Type 0
+abbrev pub IsTold : List RunTask → ℕ → Type 0
 IsTold tasks flag = (set : ℕ → Bool) → IsClosed tasks set → IsTrue (set flag)
 
 -- a domain comes to the end of its list, if these flags are raised
-abbrev pub CanEnd : (ℕ → Type 0) → List Task → DomId → Type 0
+abbrev pub CanEnd : (ℕ → Type 0) → List RunTask → DomId → Type 0
 CanEnd Told tasks dom = PassesAll Told dom tasks
 
 -- a domain goes on as far as the line with this number, where it waits for a flag that is not raised
-pub record WaitsAt (Told : ℕ → Type 0) (tasks : List Task) (dom : DomId) (line : ℕ) : Type 0 where
+pub record WaitsAt (Told : ℕ → Type 0) (tasks : List RunTask) (dom : DomId) (line : ℕ) : Type 0 where
   pub at : ℕ
-  pub task : Task
+  pub task : RunTask
   pub flag : ℕ
   pub there : slice_get tasks at ≡ Some task
   pub own : task.dom.0 ≡ dom.0
@@ -53,11 +53,11 @@ pub record WaitsAt (Told : ℕ → Type 0) (tasks : List Task) (dom : DomId) (li
   pub untold : ¬ Told flag
 
 -- each of the domains comes to the end of its list
-abbrev pub AllEnd : (ℕ → Type 0) → List Task → List DomainConfig → Type 0
+abbrev pub AllEnd : (ℕ → Type 0) → List RunTask → List DomainConfig → Type 0
 AllEnd Told tasks domains = All (λ d. CanEnd Told tasks d.id) domains
 
 -- the first of the domains that does not come to its end waits at this line
-pub record IsStuckAt (Told : ℕ → Type 0) (tasks : List Task) (domains : List DomainConfig) (line : ℕ) : Type 0 where
+pub record IsStuckAt (Told : ℕ → Type 0) (tasks : List RunTask) (domains : List DomainConfig) (line : ℕ) : Type 0 where
   pub place : ℕ
   pub domain : DomainConfig
   pub there : slice_get domains place ≡ Some domain
@@ -65,6 +65,6 @@ pub record IsStuckAt (Told : ℕ → Type 0) (tasks : List Task) (domains : List
   pub waits : WaitsAt Told tasks domain.id line
 
 -- the line where the first of the domains that waits for ever does so; none if each comes to its end
-abbrev pub IsJudged : (ℕ → Type 0) → List Task → List DomainConfig → Option ℕ → Type 0
+abbrev pub IsJudged : (ℕ → Type 0) → List RunTask → List DomainConfig → Option ℕ → Type 0
 IsJudged Told tasks domains None = AllEnd Told tasks domains
 IsJudged Told tasks domains (Some line) = IsStuckAt Told tasks domains line

@@ -4,7 +4,7 @@ ghost use Rattle.gt_script.specs.Blocks.{is_just as says_just, opening as openin
 ghost use Rattle.gt_script.specs.Blocks.{block_text as text_in, IsPolicyOf};
 
 use crate::faults::ScriptError;
-use gt_lines::{is, line_words};
+use gt_lines::{is_word, line_words};
 use gt_policy::Policy;
 use std::alloc::{AllocError, Global};
 
@@ -12,7 +12,7 @@ fn is_just(words: &[&[u8]], word: &str) -> bool
     ensures { result ≡ says_just word.now (map (λ w. w.now) words.now) }
 {
     match words {
-        [only] => is(only, word),
+        [only] => is_word(only, word),
         _ => false,
     }
 }

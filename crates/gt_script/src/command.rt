@@ -2,7 +2,7 @@
 
 /// Which command a script is for.
 #[derive(Clone, Copy, Debug, PartialEq, Eq)]
-pub enum Command {
+pub enum ScriptCommand {
     Play,
     Run,
 }

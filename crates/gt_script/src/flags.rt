@@ -3,7 +3,7 @@ ghost use Rattle.std.specs.Prelude.{◌≡◌, length, IfOk};
 ghost use Rattle.std.specs.Option.{option_map};
 ghost use Rattle.gt_script.specs.Flags.{flag_in as flag_in_line, flag_names_of as flags_in, flag_number};
 
-use crate::tasks::{DeedBy, Order};
+use crate::tasks::{RunActionBy, NamedRunTask};
 use gt_lines::Text;
 use indexmap::IndexSet;
 use std::alloc::{AllocError, Global};
@@ -61,17 +61,17 @@ impl<'a> FlagNames<'a> {
 }
 
 // The flag that a line names, if it names one.
-fn flag_in<'a>(deed: &DeedBy<'a, Text<'a>>) -> Option<&'a [u8]>
+fn flag_in<'a>(deed: &RunActionBy<'a, Text<'a>>) -> Option<&'a [u8]>
     ensures { option_map (λ name. name.now) result ≡ flag_in_line deed.now }
 {
     match deed {
-        DeedBy::Do(_) => None,
-        DeedBy::Tell(flag) | DeedBy::Await(flag) => Some(flag.as_bytes()),
+        RunActionBy::Do(_) => None,
+        RunActionBy::Tell(flag) | RunActionBy::Await(flag) => Some(flag.as_bytes()),
     }
 }
 
 /// The flags that the lines name.
-pub fn flags_of<'a>(alloc: Global, orders: &[Order<'a>]) -> Result<FlagNames<'a>, AllocError>
+pub fn flags_of<'a>(alloc: Global, orders: &[NamedRunTask<'a>]) -> Result<FlagNames<'a>, AllocError>
     ensures { IfOk result (λ flags. flags ≡ flags_in orders.now) }
 {
     let mut flags = FlagNames::new(alloc);

@@ -3,7 +3,7 @@ ghost use Rattle.std.specs.Prelude.{◌≡◌, ℕ, List, Result, Err};
 ghost use Rattle.gt_script.specs.Contents.{Contents};
 ghost use Rattle.gt_script.specs.Laws.{IsFaultOf, IsFaultOfBlock};
 ghost use Rattle.gt_script.specs.Script.{TellsScript, TellsFor, Wrong, in_policy, in_script};
-ghost use Rattle.gt_script.specs.declared.command.Command.{Command};
+ghost use Rattle.gt_script.specs.declared.command.ScriptCommand.{ScriptCommand};
 ghost use Rattle.gt_script.specs.declared.faults.ScriptFault.{ScriptFault};
 ghost use Rattle.gt_policy.specs.declared.fault.TokenFault as policy;
 
@@ -20,9 +20,9 @@ pub fn every_text_tells_one_thing()
 
 /// A law: a fault that comes first, of the bytes or of their policy block, is the one that they say. So
 /// there is no other.
-pub fn every_fault_that_stands_is_told()
-    ensures script { (command : Command) (bytes : List ℕ) (f : ScriptFault) →
+pub fn every_fault_is_reported()
+    ensures script { (command : ScriptCommand) (bytes : List ℕ) (f : ScriptFault) →
         IsFaultOf command bytes f → TellsFor command bytes (Err (in_script f)) }
-    ensures block { (command : Command) (bytes : List ℕ) (g : policy.TokenFault) →
+    ensures block { (command : ScriptCommand) (bytes : List ℕ) (g : policy.TokenFault) →
         IsFaultOfBlock bytes g → TellsFor command bytes (Err (in_policy g)) }
 {}

@@ -24,7 +24,7 @@ mod types;
 
 pub use faults::{BlockFault, ScriptError, ScriptFault, ScriptFaultKind};
 pub use gt_lines::{ScriptAction, ScriptCall, Text, hex_bytes};
-pub use laws::{every_fault_that_stands_is_told, every_text_tells_one_thing};
+pub use laws::{every_fault_is_reported, every_text_tells_one_thing};
 pub use run_script::{RunScript, parse_run};
 pub use script::{Script, ScriptStep, parse};
-pub use tasks::{Deed, DeedBy, Task, TaskBy};
+pub use tasks::{RunAction, RunActionBy, RunTask, RunTaskBy};

@@ -6,12 +6,12 @@ ghost use Rattle.gt_script.specs.Contents.{contents_told};
 ghost use Rattle.gt_script.specs.RunScripts.{CanConfigure, RunSays, RunTells, RunAnswers, list_of as list_in};
 ghost use Rattle.gt_script.specs.Stuck.{AreNumbered};
 
-use crate::command::Command;
+use crate::command::ScriptCommand;
 use crate::faults::{ScriptError, ScriptFault, ScriptFaultKind};
 use crate::flags::flags_of;
 use crate::script::{Script, parse_for};
 use crate::stuck::stuck_line;
-use crate::tasks::{Task, tasks_for};
+use crate::tasks::{RunTask, tasks_for};
 use gt_types::DomId;
 use std::alloc::{AllocError, Global};
 use std::marker::Model;
@@ -20,7 +20,7 @@ use std::marker::Model;
 #[derive(Drop)]
 pub struct RunScript<'a> {
     head: Script<'a>,
-    tasks: Vec<Task<'a>>,
+    tasks: Vec<RunTask<'a>>,
     flags: usize,
 }
 
@@ -41,7 +41,7 @@ impl<'a> RunScript<'a> {
     }
 
     /// What the lines of the body have their domains do, in the order of the lines.
-    pub fn tasks(&self) -> &[Task<'a>]
+    pub fn tasks(&self) -> &[RunTask<'a>]
         ensures { result.now ≡ self.now.tasks }
     {
         self.tasks.as_slice()
@@ -55,7 +55,7 @@ impl<'a> RunScript<'a> {
     }
 
     /// The list of a domain: its own lines, in their order.
-    pub fn list_of<'s>(&'s self, alloc: Global, dom: DomId) -> Result<Vec<&'s Task<'a>>, AllocError>
+    pub fn list_of<'s>(&'s self, alloc: Global, dom: DomId) -> Result<Vec<&'s RunTask<'a>>, AllocError>
         ensures { IfOk result (λ list. map (λ t. t.now) list.items ≡ list_in self.entry.now.tasks dom) }
     {
         let mut list = Vec::new(alloc);
@@ -100,7 +100,7 @@ pub fn parse_run<'a>(alloc: Global, bytes: &'a [u8]) -> Result<RunScript<'a>, Sc
     ensures beginning { (all : List ℕ) → bytes.entry.now ≡ take (LONGEST_TEXT + 1) all →
         RunAnswers result (RunTells all) }
 {
-    match parse_for(alloc, Command::Run, bytes) {
+    match parse_for(alloc, ScriptCommand::Run, bytes) {
         Ok(script) => of_script(alloc, script),
         Err(error) => Err(error),
     }

@@ -4,19 +4,19 @@ ghost use Rattle.std.specs.Str.{IsUtf8};
 ghost use Rattle.std.specs.Str.Lines.{lines as lines_in};
 ghost use Rattle.gt_types.specs.Config.{is_taken};
 ghost use Rattle.gt_script.specs.Blocks.{opening as opening_in, closing as closing_in};
-ghost use Rattle.gt_script.specs.Script.{domain_written, configured, action_in, run_line_in, LinesSay};
+ghost use Rattle.gt_script.specs.Script.{domain_written, configured, play_action_in, run_action_in, LinesSay};
 ghost use Rattle.gt_script.specs.Script.{BlockSays, TextSays, TellsFor, TellsScript};
 ghost use Rattle.gt_script.specs.Contents.{contents_told};
 ghost use Rattle.gt_script.specs.Outcomes.{AnswersScript};
 ghost use Rattle.gt_script.specs.Laws.{IsScriptFor, IsScriptOf, StandsFor, ErrorStands, IsUnread};
 
 use crate::blocks::{closing, opening, read_policy};
-use crate::command::Command;
+use crate::command::ScriptCommand;
 use crate::faults::{ScriptError, ScriptFault, ScriptFaultKind};
-use crate::tasks::{DeedBy, Order};
+use crate::tasks::{RunActionBy, NamedRunTask};
 use crate::types::TypeNames;
 use gt_lines::{
-    BodyLine, DomainLine, Line, Number, ScriptAction, Signal, Text, TripleLine, line_words,
+    BodyLine, DomainLine, ScriptLine, Number, ScriptAction, FlagLine, Text, TripleLine, line_words,
     read_line, text_lines,
 };
 use gt_policy::Policy;
@@ -36,14 +36,14 @@ pub struct ScriptStep<'a> {
 /// A script without fault. With a policy block it has neither triples nor types of its own.
 #[derive(Drop)]
 pub struct Script<'a> {
-    command: Command,
+    command: ScriptCommand,
     policy: Option<Policy>,
     types: TypeNames<'a>,
     triples: Vec<Triple>,
     wear: Option<u32>,
     domains: Vec<DomainConfig>,
     steps: Vec<ScriptStep<'a>>,
-    orders: Vec<Order<'a>>,
+    orders: Vec<NamedRunTask<'a>>,
 }
 
 impl<'a> Model for Script<'a> {
@@ -115,9 +115,9 @@ fn configured(domains: &[DomainConfig], number: Number) -> Option<DomId>
 }
 
 // What a line of the body is for `play`.
-#[tactic(auto, unfolding(crate::specs::Script::action_in))]
-fn action_in<'a>(asks: BodyLine<'a>) -> Option<ScriptAction<'a>>
-    ensures { result ≡ action_in asks.entry }
+#[tactic(auto, unfolding(crate::specs::Script::play_action_in))]
+fn play_action_in<'a>(asks: BodyLine<'a>) -> Option<ScriptAction<'a>>
+    ensures { result ≡ play_action_in asks.entry }
 {
     match asks {
         BodyLine::Action(action) => Some(action),
@@ -126,16 +126,16 @@ fn action_in<'a>(asks: BodyLine<'a>) -> Option<ScriptAction<'a>>
 }
 
 // What a line of the body is for `run`.
-#[tactic(auto, unfolding(crate::specs::Script::run_line_in))]
-fn run_line_in<'a>(asks: BodyLine<'a>) -> Option<DeedBy<'a, Text<'a>>>
-    ensures { result ≡ run_line_in asks.entry }
+#[tactic(auto, unfolding(crate::specs::Script::run_action_in))]
+fn run_action_in<'a>(asks: BodyLine<'a>) -> Option<RunActionBy<'a, Text<'a>>>
+    ensures { result ≡ run_action_in asks.entry }
 {
     match asks {
-        BodyLine::Action(ScriptAction::Do(call)) => Some(DeedBy::Do(call)),
+        BodyLine::Action(ScriptAction::Do(call)) => Some(RunActionBy::Do(call)),
         BodyLine::Action(ScriptAction::Begin(_) | ScriptAction::Tick(_) | ScriptAction::Show(_)) =>
             None,
-        BodyLine::Signal(Signal::Tell(flag)) => Some(DeedBy::Tell(flag)),
-        BodyLine::Signal(Signal::Await(flag)) => Some(DeedBy::Await(flag)),
+        BodyLine::Signal(FlagLine::Tell(flag)) => Some(RunActionBy::Tell(flag)),
+        BodyLine::Signal(FlagLine::Await(flag)) => Some(RunActionBy::Await(flag)),
     }
 }
 
@@ -190,7 +190,7 @@ impl<'a> Script<'a> {
     ghost use Rattle.gt_script.specs.Script.{has_no_rights, has_body, is_misplaced};
     ghost use Rattle.gt_script.specs.Outcomes.{AddsLine, SaysScript};
 
-    fn new(alloc: Global, command: Command) -> Script<'a>
+    fn new(alloc: Global, command: ScriptCommand) -> Script<'a>
         ensures { contents_told result ≡ empty command }
     {
         Script {
@@ -206,7 +206,7 @@ impl<'a> Script<'a> {
     }
 
     // A script with this policy, and nothing more so far.
-    fn with_policy(alloc: Global, command: Command, policy: Policy) -> Script<'a>
+    fn with_policy(alloc: Global, command: ScriptCommand, policy: Policy) -> Script<'a>
         ensures { contents_told result ≡ with_policy command (allowed_of policy) }
     {
         let mut script = Script::new(alloc, command);
@@ -254,7 +254,7 @@ impl<'a> Script<'a> {
     }
 
     // The script without the lines of its body for `run`, and these.
-    pub(crate) fn into_parts(mut self, alloc: Global) -> (Script<'a>, Vec<Order<'a>>)
+    pub(crate) fn into_parts(mut self, alloc: Global) -> (Script<'a>, Vec<NamedRunTask<'a>>)
         ensures head { contents_told result.0 ≡ without_orders (contents_told self.entry) }
         ensures orders { result.1.items ≡ (contents_told self.entry).orders }
     {
@@ -326,7 +326,7 @@ impl<'a> Script<'a> {
     ) -> Result<Script<'a>, AddError>
         ensures { AddsLine result (with_domain_line (contents_told self.entry) line dom asks.entry) }
     {
-        let Some(action) = action_in(asks) else {
+        let Some(action) = play_action_in(asks) else {
             return Err(AddError::Fault(ScriptFaultKind::Mode));
         };
         self.steps
@@ -344,11 +344,11 @@ impl<'a> Script<'a> {
     ) -> Result<Script<'a>, AddError>
         ensures { AddsLine result (with_order (contents_told self.entry) line dom asks.entry) }
     {
-        let Some(deed) = run_line_in(asks) else {
+        let Some(deed) = run_action_in(asks) else {
             return Err(AddError::Fault(ScriptFaultKind::Mode));
         };
         self.orders
-            .push(Order { line, dom, deed })
+            .push(NamedRunTask { line, dom, deed })
             .map_err(AllocError::from)?;
         Ok(self)
     }
@@ -361,8 +361,8 @@ impl<'a> Script<'a> {
             return Err(AddError::Fault(ScriptFaultKind::Config));
         };
         match self.command {
-            Command::Play => self.with_step(line, dom, asks),
-            Command::Run => self.with_order(line, dom, asks),
+            ScriptCommand::Play => self.with_step(line, dom, asks),
+            ScriptCommand::Run => self.with_order(line, dom, asks),
         }
     }
 
@@ -381,36 +381,36 @@ impl<'a> Script<'a> {
     }
 
     #[tactic(auto, unfolding(crate::specs::Script::is_misplaced))]
-    fn is_misplaced(&self, line: &Line<'a>) -> bool
+    fn is_misplaced(&self, line: &ScriptLine<'a>) -> bool
         ensures { result ≡ is_misplaced (contents_told self.now) line.now }
     {
         match line {
-            Line::Triple(_) => {
+            ScriptLine::Triple(_) => {
                 self.policy.is_some() || self.wear.is_some() || !self.domains.is_empty()
             }
-            Line::Wear(_) => {
+            ScriptLine::Wear(_) => {
                 self.has_no_rights() || self.wear.is_some() || !self.domains.is_empty()
             }
-            Line::Domain(_) => self.has_no_rights() || self.has_body(),
-            Line::Body { .. } => self.domains.is_empty(),
+            ScriptLine::Domain(_) => self.has_no_rights() || self.has_body(),
+            ScriptLine::Body { .. } => self.domains.is_empty(),
         }
     }
 
     #[tactic(auto, unfolding(crate::specs::Script::with_script_line))]
-    fn with_line(mut self, number: usize, line: Line<'a>) -> Result<Script<'a>, AddError>
+    fn with_line(mut self, number: usize, line: ScriptLine<'a>) -> Result<Script<'a>, AddError>
         ensures { AddsLine result (with_script_line (contents_told self.entry) number line.entry) }
     {
         if self.is_misplaced(&line) {
             return Err(AddError::Fault(ScriptFaultKind::Syntax));
         }
         match line {
-            Line::Triple(triple) => self.with_triple(triple),
-            Line::Wear(first) => {
+            ScriptLine::Triple(triple) => self.with_triple(triple),
+            ScriptLine::Wear(first) => {
                 self.wear = Some(first);
                 Ok(self)
             }
-            Line::Domain(domain) => self.with_domain(domain),
-            Line::Body { id, asks } => self.with_body(number, id, asks),
+            ScriptLine::Domain(domain) => self.with_domain(domain),
+            ScriptLine::Body { id, asks } => self.with_body(number, id, asks),
         }
     }
 
@@ -498,7 +498,7 @@ impl<'a> Script<'a> {
 // number `first`.
 fn of_block<'a>(
     alloc: Global,
-    command: Command,
+    command: ScriptCommand,
     count: usize,
     first: usize,
     lines: &[&'a str],
@@ -526,7 +526,7 @@ fn of_block<'a>(
 // The script that the lines say.
 fn of_lines<'a>(
     alloc: Global,
-    command: Command,
+    command: ScriptCommand,
     lines: &[&'a str],
 ) -> Result<Script<'a>, ScriptError>
     ensures { let said = map (λ line. line.now) lines.now in
@@ -538,7 +538,7 @@ fn of_lines<'a>(
     }
 }
 
-fn of_text<'a>(alloc: Global, command: Command, text: &'a str) -> Result<Script<'a>, ScriptError>
+fn of_text<'a>(alloc: Global, command: ScriptCommand, text: &'a str) -> Result<Script<'a>, ScriptError>
     ensures { AnswersScript result (TextSays command text.entry.now) }
 {
     let lines = text_lines(alloc, text)?;
@@ -571,7 +571,7 @@ fn script_text<'a>(bytes: &'a [u8]) -> Result<&'a str, ScriptFault>
 /// here.
 pub fn parse_for<'a>(
     alloc: Global,
-    command: Command,
+    command: ScriptCommand,
     bytes: &'a [u8],
 ) -> Result<Script<'a>, ScriptError>
     ensures script { AnswersScript result (TellsFor command bytes.entry.now) }
@@ -600,5 +600,5 @@ pub fn parse<'a>(alloc: Global, bytes: &'a [u8]) -> Result<Script<'a>, ScriptErr
     ensures beginning { (all : List ℕ) → bytes.entry.now ≡ take (LONGEST_TEXT + 1) all →
         AnswersScript result (TellsScript all) }
 {
-    parse_for(alloc, Command::Play, bytes)
+    parse_for(alloc, ScriptCommand::Play, bytes)
 }

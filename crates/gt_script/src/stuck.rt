@@ -7,57 +7,57 @@ ghost use Rattle.gt_script.specs.Stuck.{IsBelow, AreNumbered, IsClosed, IsTold, 
 ghost use Rattle.gt_script.specs.Rounds.{flag_holds, is_waiting, told_after, is_new, Within, TurnGoesOn, Comes};
 ghost use Rattle.gt_script.specs.Rounds.{HaveCome, Turning, WaitsIn};
 
-use crate::tasks::{Deed, Task};
+use crate::tasks::{RunAction, RunTask};
 use gt_types::{DomId, DomainConfig};
 use std::alloc::{AllocError, Global};
 
 // How far a domain came, and whether it raised a flag that was not raised before.
 #[derive(Clone, Copy)]
-struct Way {
+struct DomainProgress {
     place: usize,
     is_news: bool,
 }
 
 // The place to which each domain has come, and for each flag whether it is raised.
 #[derive(Drop)]
-struct Turns {
+struct ListPositions {
     places: Vec<usize>,
     told: Vec<bool>,
 }
 
 // The task is one of the domain's own.
-fn is_own(task: &Task, dom: DomId) -> bool
+fn is_own(task: &RunTask, dom: DomId) -> bool
     ensures { IsTrue result ↔ (task.now.dom.0 ≡ dom.0) }
 {
     task.dom == dom
 }
 
-impl Turns {
+impl ListPositions {
     ghost use Rattle.std.specs.Prelude.{◌≡◌, ◌≤◌, length};
 
     // A domain waits at this deed.
     #[tactic(auto, unfolding(crate::specs::Rounds::is_waiting))]
-    fn is_waiting(&self, deed: &Deed) -> bool
+    fn is_waiting(&self, deed: &RunAction) -> bool
         requires { IsBelow (length self.now.told.items) deed.now }
         ensures { result ≡ is_waiting self.now.told.items deed.now }
     {
         match deed {
-            Deed::Do(_) | Deed::Tell(_) => false,
-            Deed::Await(flag) => !self.told[*flag],
+            RunAction::Do(_) | RunAction::Tell(_) => false,
+            RunAction::Await(flag) => !self.told[*flag],
         }
     }
 
     // Raises the flag that this deed raises, if it raises one. Answers whether the flag is newly raised.
     #[tactic(auto, unfolding(crate::specs::Rounds::told_after, crate::specs::Rounds::is_new))]
-    fn tell(&mut self, deed: &Deed) -> bool
+    fn tell(&mut self, deed: &RunAction) -> bool
         requires { IsBelow (length self.old.told.items) deed.now }
         ensures told { self.new.told.items ≡ told_after self.old.told.items deed.now }
         ensures places { self.new.places.items ≡ self.old.places.items }
         ensures news { result ≡ is_new self.old.told.items deed.now }
     {
         match deed {
-            Deed::Do(_) | Deed::Await(_) => false,
-            Deed::Tell(flag) => {
+            RunAction::Do(_) | RunAction::Await(_) => false,
+            RunAction::Tell(flag) => {
                 let was_told = self.told[*flag];
                 self.told[*flag] = true;
                 !was_told
@@ -66,7 +66,7 @@ impl Turns {
     }
 
     // A domain that is at a place goes on as far as raised flags let it, and raises those on its way.
-    fn go_on(&mut self, tasks: &[Task], dom: DomId, from: usize) -> Way
+    fn go_on(&mut self, tasks: &[RunTask], dom: DomId, from: usize) -> DomainProgress
         requires numbered { AreNumbered (length self.old.told.items) tasks.now }
         requires place { from ≤ length tasks.now }
         requires come { Comes tasks.now dom from self.old.told.items }
@@ -78,19 +78,19 @@ impl Turns {
             let task = &tasks[place];
             if is_own(task, dom) {
                 if self.is_waiting(&task.deed) {
-                    return Way { place, is_news };
+                    return DomainProgress { place, is_news };
                 }
                 is_news |= self.tell(&task.deed);
             }
         }
-        Way {
+        DomainProgress {
             place: tasks.len(),
             is_news,
         }
     }
 
     // Each domain in turn goes on from its place. Answers whether one raised a flag that was not raised before.
-    fn turn(&mut self, tasks: &[Task], domains: &[DomainConfig]) -> bool
+    fn turn(&mut self, tasks: &[RunTask], domains: &[DomainConfig]) -> bool
         requires numbered { AreNumbered (length self.old.told.items) tasks.now }
         requires many { length self.old.places.items ≡ length domains.now }
         requires come { HaveCome tasks.now domains.now self.old.places.items self.old.told.items }
@@ -110,9 +110,9 @@ impl Turns {
 }
 
 // The flags that are raised, of so many.
-fn told_flags(
+fn raised_flags(
     alloc: Global,
-    tasks: &[Task],
+    tasks: &[RunTask],
     domains: &[DomainConfig],
     flags: usize,
 ) -> Result<Vec<bool>, AllocError>
@@ -122,7 +122,7 @@ fn told_flags(
     ensures closed { IfOk result (λ told. IsClosed tasks.now (flag_holds told.items)) }
     ensures least { IfOk result (λ told. (set : ℕ → Bool) → IsClosed tasks.now set → Within told.items set) }
 {
-    let mut turns = Turns {
+    let mut turns = ListPositions {
         places: vec![in alloc; 0; domains.len()]?,
         told: vec![in alloc; false; flags]?,
     };
@@ -134,13 +134,13 @@ fn told_flags(
 }
 
 // The line where a domain waits, if these flags are raised.
-fn waiting_line(tasks: &[Task], dom: DomId, told: &[bool]) -> Option<usize>
+fn waiting_line(tasks: &[RunTask], dom: DomId, told: &[bool]) -> Option<usize>
     requires { AreNumbered (length told.now) tasks.now }
     ensures { WaitsIn told.now tasks.now dom result }
 {
     'tasks: for task in tasks {
         if task.dom == dom {
-            if let Deed::Await(flag) = task.deed {
+            if let RunAction::Await(flag) = task.deed {
                 if !told[flag] {
                     return Some(task.line);
                 }
@@ -153,7 +153,7 @@ fn waiting_line(tasks: &[Task], dom: DomId, told: &[bool]) -> Option<usize>
 /// The line where the first of the domains that waits for ever does so, if one does. The tasks name so many flags.
 pub fn stuck_line(
     alloc: Global,
-    tasks: &[Task],
+    tasks: &[RunTask],
     domains: &[DomainConfig],
     flags: usize,
 ) -> Result<Option<usize>, AllocError>
@@ -161,7 +161,7 @@ pub fn stuck_line(
     requires known { All (λ t. IsTrue (is_taken domains.now t.dom)) tasks.now }
     ensures { IfOk result (λ line. IsJudged (IsTold tasks.now) tasks.now domains.now line) }
 {
-    let told = told_flags(alloc, tasks, domains, flags)?;
+    let told = raised_flags(alloc, tasks, domains, flags)?;
     'domains: for domain in domains {
         let line = waiting_line(tasks, domain.id, told.as_slice());
         if line.is_some() {

@@ -9,7 +9,7 @@ use std::alloc::{AllocError, Global};
 
 /// What a line of the body has its domain do, with its flag as `F` names it.
 #[derive(Debug, Drop)]
-pub enum DeedBy<'a, F> {
+pub enum RunActionBy<'a, F> {
     /// `do ID CALL`: the call, from its beginning to its answer.
     Do(ScriptCall<'a>),
     /// `tell ID FLAG`: raises the flag.
@@ -20,46 +20,46 @@ pub enum DeedBy<'a, F> {
 
 /// A line of the body, with its number and its domain.
 #[derive(Debug, Drop)]
-pub struct TaskBy<'a, F> {
+pub struct RunTaskBy<'a, F> {
     pub line: usize,
     pub dom: DomId,
-    pub deed: DeedBy<'a, F>,
+    pub deed: RunActionBy<'a, F>,
 }
 
 /// A line as it is written, its flag by name.
-pub(crate) type Order<'a> = TaskBy<'a, Text<'a>>;
+pub(crate) type NamedRunTask<'a> = RunTaskBy<'a, Text<'a>>;
 
 /// What a line has its domain do, its flag by number.
-pub type Deed<'a> = DeedBy<'a, usize>;
+pub type RunAction<'a> = RunActionBy<'a, usize>;
 
 /// A line whose flag is named by its number. The list of a domain is its lines, in their order.
-pub type Task<'a> = TaskBy<'a, usize>;
+pub type RunTask<'a> = RunTaskBy<'a, usize>;
 
 #[tactic(auto, unfolding(crate::specs::Tasks::deed_of))]
-fn deed_of<'a>(flags: &FlagNames<'a>, deed: DeedBy<'a, Text<'a>>) -> Deed<'a>
+fn deed_of<'a>(flags: &FlagNames<'a>, deed: RunActionBy<'a, Text<'a>>) -> RunAction<'a>
     ensures { result ≡ deed_of flags.now deed.entry }
 {
     match deed {
-        DeedBy::Do(call) => Deed::Do(call),
-        DeedBy::Tell(flag) => Deed::Tell(flags.number(flag.as_bytes())),
-        DeedBy::Await(flag) => Deed::Await(flags.number(flag.as_bytes())),
+        RunActionBy::Do(call) => RunAction::Do(call),
+        RunActionBy::Tell(flag) => RunAction::Tell(flags.number(flag.as_bytes())),
+        RunActionBy::Await(flag) => RunAction::Await(flags.number(flag.as_bytes())),
     }
 }
 
-fn task_of<'a>(flags: &FlagNames<'a>, order: Order<'a>) -> Task<'a>
+fn task_of<'a>(flags: &FlagNames<'a>, order: NamedRunTask<'a>) -> RunTask<'a>
     ensures { result ≡ task_of flags.now order.entry }
 {
-    let TaskBy { line, dom, deed } = order;
+    let RunTaskBy { line, dom, deed } = order;
     let deed = deed_of(flags, deed);
-    Task { line, dom, deed }
+    RunTask { line, dom, deed }
 }
 
 /// What these lines have their domains do, with the numbers of flags in the place of their names.
 pub fn tasks_for<'a>(
     alloc: Global,
     flags: &FlagNames<'a>,
-    orders: Vec<Order<'a>>,
-) -> Result<Vec<Task<'a>>, AllocError>
+    orders: Vec<NamedRunTask<'a>>,
+) -> Result<Vec<RunTask<'a>>, AllocError>
     ensures { IfOk result (λ tasks. tasks.items ≡ tasks_for flags.now orders.entry.items) }
 {
     let mut tasks = Vec::new(alloc);

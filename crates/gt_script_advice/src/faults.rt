@@ -4,8 +4,8 @@ ghost use Rattle.gt_advice.specs.Check.{error_lines};
 ghost use Rattle.gt_script_advice.specs.Judging.{error_line, IsAtEither};
 
 use crate::warning::{column_number, push_warning};
-use gt_advice::{Finding, Kind};
-use gt_reasons::{Note, Reason, block_reason, script_reason};
+use gt_advice::{Finding, FindingKind};
+use gt_reasons::{ReasonNote, Reason, block_reason, script_reason};
 use gt_script::{ScriptError, ScriptFaultKind};
 use gt_types::Memory;
 use std::alloc::{AllocError, Global};
@@ -36,7 +36,7 @@ fn reason_of(alloc: Global, input: &[u8], error: &ScriptError) -> Result<Reason,
 }
 
 // Adds what is said beside an error, if anything is.
-fn push_note(found: &mut Vec<Finding>, note: Option<Note>) -> Result<(), AllocError>
+fn push_note(found: &mut Vec<Finding>, note: Option<ReasonNote>) -> Result<(), AllocError>
     ensures { OnOk result (error_lines found.new.items ≡ error_lines found.old.items) }
 {
     let Some(note) = note else {
@@ -45,7 +45,7 @@ fn push_note(found: &mut Vec<Finding>, note: Option<Note>) -> Result<(), AllocEr
     push_warning(
         found,
         Finding {
-            kind: Kind::Note,
+            kind: FindingKind::Note,
             line: column_number(note.line),
             column: column_number(note.column),
             message: note.message,
@@ -72,7 +72,7 @@ fn error_at(
     } = reason_of(alloc, input, error)?;
     let mut found = Vec::new(alloc);
     found.push(Finding {
-        kind: Kind::Fault,
+        kind: FindingKind::Fault,
         line: number,
         column: column_number(column),
         message,

@@ -3,8 +3,8 @@ ghost use Rattle.std.specs.Prelude.{◌≡◌, OnOk};
 ghost use Rattle.gt_advice.specs.Check.{error_lines};
 
 use crate::warning::{column_number, push_warning};
-use gt_advice::{Finding, Kind, push_hint, said_of};
-use gt_lines::{BodyLine, Line, Number, ScriptAction, ScriptCall, line_words, read_line};
+use gt_advice::{Finding, FindingKind, push_hint, said_of};
+use gt_lines::{BodyLine, ScriptLine, Number, ScriptAction, ScriptCall, line_words, read_line};
 use gt_reasons::column_of;
 use gt_streams::text_of;
 use std::alloc::{AllocError, Global};
@@ -50,7 +50,7 @@ fn labelled<'t>(id: Number, asks: &BodyLine<'t>) -> Option<Label<'t>> {
 pub(crate) fn label_in<'t>(alloc: Global, line: &'t str) -> Result<Option<Label<'t>>, AllocError> {
     let words = line_words(alloc, line)?;
     match read_line(words.as_slice()) {
-        Some(Line::Body { id, asks }) => Ok(labelled(id, &asks)),
+        Some(ScriptLine::Body { id, asks }) => Ok(labelled(id, &asks)),
         _ => Ok(None),
     }
 }
@@ -95,7 +95,7 @@ pub(crate) fn warn_label(
         return Ok(());
     }
     let message = message_of(alloc, label, mapped)?;
-    let kind = Kind::NeverMapped;
+    let kind = FindingKind::NeverMapped;
     push_warning(
         found,
         Finding {

@@ -3,8 +3,8 @@ ghost use Rattle.std.specs.Prelude.{◌≡◌, OnOk};
 ghost use Rattle.gt_advice.specs.Check.{error_lines};
 
 use crate::warning::{column_number, push_warning};
-use gt_advice::{Finding, Kind, said_of};
-use gt_lines::{Line, line_words, read_line};
+use gt_advice::{Finding, FindingKind, said_of};
+use gt_lines::{ScriptLine, line_words, read_line};
 use gt_reasons::column_of;
 use gt_streams::text_of;
 use std::alloc::{AllocError, Global};
@@ -28,7 +28,7 @@ fn unworn_in<'t>(
     worn: &[&str],
 ) -> Result<Option<Unworn<'t>>, AllocError> {
     let words = line_words(alloc, line)?;
-    let Some(Line::Triple(triple)) = read_line(words.as_slice()) else {
+    let Some(ScriptLine::Triple(triple)) = read_line(words.as_slice()) else {
         return Ok(None);
     };
     let (name, place) = if is_unworn(worn, triple.source.as_bytes()) {
@@ -57,7 +57,7 @@ pub(crate) fn warn_triple(
     };
     let said = " is the type of no domain of this script, so this triple never matters";
     let message = said_of(alloc, unworn.name, said)?;
-    let kind = Kind::NeverMatters;
+    let kind = FindingKind::NeverMatters;
     push_warning(
         found,
         Finding {

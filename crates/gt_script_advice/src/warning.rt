@@ -2,25 +2,25 @@
 ghost use Rattle.std.specs.Prelude.{◌≡◌, false, OnOk};
 ghost use Rattle.gt_advice.specs.Check.{error_lines, is_error};
 
-use gt_advice::{Finding, Kind};
+use gt_advice::{Finding, FindingKind};
 use std::alloc::AllocError;
 
 /// Whether a finding of this kind is an error.
-pub(crate) fn is_error(kind: Kind) -> bool
+pub(crate) fn is_error(kind: FindingKind) -> bool
     ensures { result ≡ is_error kind }
 {
     match kind {
-        Kind::Fault => true,
-        Kind::OtherClass
-        | Kind::OtherPermission
-        | Kind::AllowsNothing
-        | Kind::NeverAsked
-        | Kind::Repeats
-        | Kind::NeverNamed
-        | Kind::NoDomain
-        | Kind::NeverMatters
-        | Kind::NeverMapped
-        | Kind::Note => false,
+        FindingKind::Fault => true,
+        FindingKind::OtherClass
+        | FindingKind::OtherPermission
+        | FindingKind::AllowsNothing
+        | FindingKind::NeverAsked
+        | FindingKind::Repeats
+        | FindingKind::NeverNamed
+        | FindingKind::NoDomain
+        | FindingKind::NeverMatters
+        | FindingKind::NeverMapped
+        | FindingKind::Note => false,
     }
 }
 

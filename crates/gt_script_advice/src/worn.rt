@@ -1,5 +1,5 @@
 //! The types that the domains of a script have.
-use gt_lines::{Line, line_words, read_line};
+use gt_lines::{ScriptLine, line_words, read_line};
 use gt_reasons::has_policy;
 use gt_streams::text_of;
 use std::alloc::{AllocError, Global};
@@ -25,7 +25,7 @@ pub(crate) fn worn_types<'t>(alloc: Global, lines: &[&'t str]) -> Result<Vec<&'t
     let mut names = Vec::new(alloc);
     for line in lines {
         let words = line_words(alloc, *line)?;
-        if let Some(Line::Domain(domain)) = read_line(words.as_slice()) {
+        if let Some(ScriptLine::Domain(domain)) = read_line(words.as_slice()) {
             if let Ok(name) = text_of(domain.type_name.as_bytes()) {
                 names.push(name)?;
             }

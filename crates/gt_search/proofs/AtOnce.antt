@@ -19,7 +19,7 @@ use Rattle.gt_core.proofs.Swapping.{begins-first, grown-same, may-same}
 use Rattle.gt_host.specs.Playing.{setting_of_script}
 use Rattle.gt_host.specs.Runs.{answer_in}
 use Rattle.gt_replay.specs.Abreast.{CanComeNext, history_in}
-use Rattle.gt_replay.specs.Courses.{AllCoursesEnd, Course, CourseEnds, CourseLeads, DeedLeads, Opened, OpenLeads}
+use Rattle.gt_replay.specs.Courses.{AllCoursesEnd, Course, CourseEnds, CourseLeads, ActionLeads, Opened, OpenLeads}
 use Rattle.gt_replay.specs.Courses.{RestLeads, back_after, calling, giving, resting}
 use Rattle.gt_replay.specs.Orders.{Happening, did, raised, passed, doer, IsRaisedBefore}
 use Rattle.gt_replay.specs.declared.replay.Turn.{Turn}
@@ -29,17 +29,17 @@ use Rattle.gt_replay.proofs.Places.{drop_here, get_cases, get_end, get_left}
 use Rattle.gt_replay.proofs.Turning.{AllDiffer, IsNoneOf, all-differ, ids, numbers}
 use Rattle.gt_replay.proofs.Whole.{history_did, history_quiet, raised_or}
 use Rattle.gt_script.specs.Contents.{type_names}
-use Rattle.gt_script.specs.Lists.{Task, Deed}
-use Rattle.gt_script.specs.declared.tasks.DeedBy.TheVariants.{Await, Do, Tell}
+use Rattle.gt_script.specs.Lists.{RunTask, RunAction}
+use Rattle.gt_script.specs.declared.tasks.RunActionBy.TheVariants.{Await, Do, Tell}
 use Rattle.gt_script.specs.RunContents.{RunContents}
 use Rattle.gt_search.specs.Calls.{ShowsCalls, ShowsOpen}
 use Rattle.gt_search.specs.Ends.{AreToBeTried, TakesAtOnce, disturbs_none, goes_at_once, task_disturbs_none, tasks_at}
 use Rattle.gt_search.specs.Scenes.{IsSceneOf, SceneShows}
 use Rattle.gt_search.specs.Spaces.{Point, printed_by, scene_ways}
 use Rattle.gt_search.specs.declared.actor.Actor.{Actor}
-use Rattle.gt_search.specs.declared.actor.Open.{Open}
-use Rattle.gt_search.specs.declared.scene.Scene.{Scene}
-use Rattle.gt_search.specs.declared.scene.World.{World}
+use Rattle.gt_search.specs.declared.actor.ActorCall.{ActorCall}
+use Rattle.gt_search.specs.declared.scene.SearchContext.{SearchContext}
+use Rattle.gt_search.specs.declared.scene.SearchState.{SearchState}
 use Rattle.gt_search.proofs.HandlesAnswered.{after-dom, back-dom}
 use Rattle.gt_search.proofs.MovesAlong.{none-open}
 use Rattle.gt_search.proofs.SpaceMoves.{each-turn}
@@ -206,14 +206,14 @@ module _ (s : Setting) where
 
 -- courses
 
-leads-line : (types : List (List ℕ)) (k j : Course) (line : ℕ) (left : List Task) (deed : Deed) (x : Happening)
-    → DeedLeads types k line left deed x j → (j.dom ≡ k.dom) × (doer x ≡ k.dom)
+leads-line : (types : List (List ℕ)) (k j : Course) (line : ℕ) (left : List RunTask) (deed : RunAction) (x : Happening)
+    → ActionLeads types k line left deed x j → (j.dom ≡ k.dom) × (doer x ≡ k.dom)
 leads-line types k j line left (Tell flag) x leads = (ap (λ (z : Course). z.dom) leads.1, ap doer leads.0)
 leads-line types k j line left (Await flag) x leads = (ap (λ (z : Course). z.dom) leads.1, ap doer leads.0)
 leads-line types k j line left (Do call) x (q, e, says, is, to) =
     (ap (λ (z : Course). z.dom) to ∙ after-dom types line call _ (record k { tasks = left }) _, ap doer is)
 
-leads-rest : (types : List (List ℕ)) (k j : Course) (tasks : List Task) (choice : ℕ) (x : Happening)
+leads-rest : (types : List (List ℕ)) (k j : Course) (tasks : List RunTask) (choice : ℕ) (x : Happening)
     → RestLeads types k tasks choice x j → (j.dom ≡ k.dom) × (doer x ≡ k.dom)
 leads-rest types k j [] choice x (handle, e, there, is, done, to) = (
   ap (λ (z : Course). z.dom) to ∙ back-dom (record k { held = take choice k.held ++ drop (suc choice) k.held })
@@ -315,25 +315,25 @@ module _ (c : RunContents) where
       × CanComeNext (setting_of_script c.head) hs x × Goes (hs ++ x ∷ []) (slice_set ks e j) us ls
 
   -- a line that disturbs nobody: what it waits for was raised
-  abbrev pub FreeLine : List Happening → Deed → Type 0
+  abbrev pub FreeLine : List Happening → RunAction → Type 0
   FreeLine hs (Do call) = Unit {0}
   FreeLine hs (Tell flag) = Unit {0}
   FreeLine hs (Await flag) = IsRaisedBefore (length hs) flag hs
 
-  free-still : (hs : List Happening) (x : Happening) (deed : Deed) → FreeLine hs deed → FreeLine (hs ++ x ∷ []) deed
+  free-still : (hs : List Happening) (x : Happening) (deed : RunAction) → FreeLine hs deed → FreeLine (hs ++ x ∷ []) deed
   free-still hs x (Do call) free = tt
   free-still hs x (Tell flag) free = tt
   free-still hs x (Await flag) free = raised-still hs x flag free
 
-  module _ (e : ℕ) (k : Course) (rest : k.opened ≡ resting) (t : Task) (left : List Task)
+  module _ (e : ℕ) (k : Course) (rest : k.opened ≡ resting) (t : RunTask) (left : List RunTask)
       (tasks : k.tasks ≡ t ∷ left) where
     line-leads : (choice : ℕ) (x : Happening) (j : Course) → CourseLeads (type_names c.head) k choice x j
         → RestLeads (type_names c.head) k (t ∷ left) choice x j
     line-leads choice x j leads = subst (λ ts. RestLeads (type_names c.head) k ts choice x j) tasks
         (subst (λ o. OpenLeads (type_names c.head) k o choice x j) rest leads)
 
-    line-free : (hs : List Happening) (deed : Deed) (x : Happening) (j : Course) → FreeLine hs deed
-        → DeedLeads (type_names c.head) k t.line left deed x j → IsFree (setting_of_script c.head) hs x
+    line-free : (hs : List Happening) (deed : RunAction) (x : Happening) (j : Course) → FreeLine hs deed
+        → ActionLeads (type_names c.head) k t.line left deed x j → IsFree (setting_of_script c.head) hs x
     line-free hs (Tell flag) x j free leads = subst (λ z. IsFree (setting_of_script c.head) hs z) (sym leads.0) tt
     line-free hs (Await flag) x j free leads = subst (λ z. IsFree (setting_of_script c.head) hs z) (sym leads.0) free
     line-free hs (Do call) x j free (q, y, says, did-is, to) = subst (λ z. IsFree (setting_of_script c.head) hs z)
@@ -344,7 +344,7 @@ module _ (c : RunContents) where
         → slice_get ks e ≡ Some k → FreeLine hs t.deed → Goes hs ks us ls → GoesFirst e k hs ks ls
     pull hs ks [] ls differ here free goes = absurd (cons-none t left
         (sym tasks ∙ (one-ends ks e k goes.1 here).tasks)) where
-          cons-none : (t : Task) (ts : List Task) → t ∷ ts ≡ [] → ⊥
+          cons-none : (t : RunTask) (ts : List RunTask) → t ∷ ts ≡ [] → ⊥
           cons-none t ts is = absurd (cc)
     pull hs ks (u ∷ us) ls differ here free (l, i, y, there, leads, may, on) =
         by (u.place == e) refl (λ apart. pull (hs ++ y ∷ []) (slice_set ks u.place i) us ls
@@ -403,7 +403,7 @@ module _ (c : RunContents) where
 abbrev point : RunContents → List Happening → List Course → Point
 point c hs ks = record { script = c; happened = hs; courses = ks }
 
-to-goes : (scene : Scene) (c : RunContents) (hs : List Happening) (ks : List Course) (us : List Turn) (q : Point)
+to-goes : (scene : SearchContext) (c : RunContents) (hs : List Happening) (ks : List Course) (us : List Turn) (q : Point)
     → GoesTo (scene_ways scene) (point c hs ks) us q → Goes c hs ks us q.courses
 to-goes scene c hs ks [] q goes = (ap (λ (z : Point). z.courses) goes.0, goes.1)
 to-goes scene c hs ks (u ∷ us) q (m, next, goes) = (
@@ -419,7 +419,7 @@ to-goes scene c hs ks (u ∷ us) q (m, next, goes) = (
       (subst (λ z. GoesTo (scene_ways scene) (point z m.happened m.courses) us q) next.script goes))),
 )
 
-from-goes : (scene : Scene) (c : RunContents) (hs : List Happening) (ks : List Course) (us : List Turn)
+from-goes : (scene : SearchContext) (c : RunContents) (hs : List Happening) (ks : List Course) (us : List Turn)
     (ls : List Course) → Goes c hs ks us ls
     → (r : Point) × GoesTo (scene_ways scene) (point c hs ks) us r × (r.courses ≡ ls)
 from-goes scene c hs ks [] ls goes = (point c hs ks, (refl, goes.1), goes.0)
@@ -450,8 +450,8 @@ not-some : {A : Type 0} (o : Option A) → not (is_some o) ≡ true → o ≡ No
 not-some None is = refl
 not-some (Some x) is = absurd (false≢true is)
 
-free-task : (told : List Bool) (o : Option Task) → task_disturbs_none told o ≡ true
-    → (t : Task) × (o ≡ Some t) × (disturbs_none told t.deed ≡ true)
+free-task : (told : List Bool) (o : Option RunTask) → task_disturbs_none told o ≡ true
+    → (t : RunTask) × (o ≡ Some t) × (disturbs_none told t.deed ≡ true)
 free-task told None is = absurd (false≢true is)
 free-task told (Some t) is = (t, refl, is)
 
@@ -460,7 +460,7 @@ get-told [] flag is = absurd (false≢true is)
 get-told (b ∷ told) zero is = ap Some is
 get-told (b ∷ told) (suc flag) is = get-told told flag is
 
-free-line : (c : RunContents) (told : List Bool) (hs : List Happening) (deed : Deed)
+free-line : (c : RunContents) (told : List Bool) (hs : List Happening) (deed : RunAction)
     → ((flag : ℕ) → slice_get told flag ≡ Some true → IsRaisedBefore (length hs) flag hs)
     → disturbs_none told deed ≡ true → FreeLine c hs deed
 free-line c told hs (Do call) heard is = tt
@@ -483,7 +483,7 @@ numbered : (c : RunContents) (ks : List Course) → map (λ (k : Course). k.dom)
 numbered c ks domains apart = subst AllDiffer (sym (numbers-as ks c.head.domains domains))
     (all-differ c.head.domains apart)
 
-once-enough : (scene : Scene) (w : World) (turns : List Turn) → TakesAtOnce scene w turns
+once-enough : (scene : SearchContext) (w : SearchState) (turns : List Turn) → TakesAtOnce scene w turns
     → HasEnoughTurns (scene_ways scene) w turns
 once-enough scene w turns (e, a, there, once, are) p turn m more q shows next goes =
     let lt = slice_get_within w.actors.items e a there in
@@ -523,7 +523,7 @@ once-enough scene w turns (e, a, there, once, are) p turn m more q shows next go
       λ at. ap (λ (ks : List Course). printed_by ks at) back.2,
     )
 
-pub enough-turns : (scene : Scene) (w : World) (turns : List Turn) → AreToBeTried scene w turns
+pub enough-turns : (scene : SearchContext) (w : SearchState) (turns : List Turn) → AreToBeTried scene w turns
     → HasEnoughTurns (scene_ways scene) w turns
 enough-turns scene w turns (inl all) = each_enough (scene_ways scene) w turns (each-turn scene w turns all)
 enough-turns scene w turns (inr once) = once-enough scene w turns once

@@ -7,26 +7,26 @@ use Rattle.std.proofs.lemmas.Option.{slice_get_past}
 use Rattle.gt_types.specs.declared.DomId.{DomId}
 use Rattle.gt_handles.specs.Handles.{value_of}
 use Rattle.gt_handles.specs.declared.handles.Handle.{Handle}
-use Rattle.gt_calls.specs.declared.held.Held.{Held}
-use Rattle.gt_calls.specs.declared.judging.TheConstants.{END_OF_SERIALS}
-use Rattle.gt_calls.specs.declared.request.Asked.{Asked}
+use Rattle.gt_calls.specs.declared.held.HeldPin.{HeldPin}
+use Rattle.gt_calls.specs.declared.judging.TheConstants.{SERIAL_LIMIT}
+use Rattle.gt_calls.specs.declared.request.OpenRequest.{OpenRequest}
 use Rattle.gt_calls.specs.declared.request.Request.{Request}
 use Rattle.gt_calls.specs.Asking.{asked, begun_of, bytes_of, plainly_asked}
 use Rattle.gt_core.specs.History.{History, Setting, known_at, mapping_of, mappings_at, maps_answered_at}
 use Rattle.gt_host.specs.Runs.{Named, SaysRequest, handle_of, never_given}
 use Rattle.gt_lines.specs.declared.calls.ScriptCall.{ScriptCall}
 use Rattle.gt_replay.specs.Courses.{Course}
-use Rattle.gt_script.specs.Lists.{Task}
+use Rattle.gt_script.specs.Lists.{RunTask}
 use Rattle.gt_search.specs.Beginnings.{BeginsAlike}
-use Rattle.gt_search.specs.Calls.{KnowsTable, Rise, ShowsCalls, handles_at, known_by_place, known_in, pins_mapped_at}
+use Rattle.gt_search.specs.Calls.{KnowsTable, SerialsRise, ShowsCalls, handles_at, known_by_place, known_in, pins_mapped_at}
 use Rattle.gt_search.specs.Mappings.{labels_of, mapping_pins, label_bytes}
 use Rattle.gt_search.specs.Placing.{ArePlaced, CountFrom, place_names, pin_by_place}
 use Rattle.gt_search.specs.Renaming.{FindsSame, KnowAlike, asked_under}
 use Rattle.gt_search.specs.declared.actor.Actor.{Actor}
-use Rattle.gt_search.specs.declared.actor.Mapping.{Mapping}
-use Rattle.gt_search.specs.declared.names.Names.{Names}
-use Rattle.gt_search.specs.declared.scene.Scene.{Scene}
-use Rattle.gt_world.specs.declared.table.Table.{Table}
+use Rattle.gt_search.specs.declared.actor.LabelledMapping.{LabelledMapping}
+use Rattle.gt_search.specs.declared.names.ActorHandles.{ActorHandles}
+use Rattle.gt_search.specs.declared.scene.SearchContext.{SearchContext}
+use Rattle.gt_world.specs.declared.table.SparseTable.{SparseTable}
 use Rattle.gt_search.proofs.ByPlace.{counted, names-alike, NamesAlike, NamesNothing}
 use Rattle.gt_search.proofs.MappingFound.{count-rises, finds-alike, label_asked, listed-at, listed-gone, mapping-listed}
 use Rattle.gt_search.proofs.MappingFound.{never-listed}
@@ -38,9 +38,9 @@ use Rattle.std.specs.Prelude.{unwrap_or}
 use Rattle.std.proofs.lemmas.Option.{none-some}
 use Rattle.gt_calls.specs.Opening.{opens}
 use Rattle.gt_calls.specs.Rules.{CallerKnowledge}
-use Rattle.gt_calls.specs.declared.request.Asked.TheVariants as asks-for
+use Rattle.gt_calls.specs.declared.request.OpenRequest.TheVariants as asks-for
 use Rattle.gt_host.specs.Naming.{AreNamed}
-use Rattle.gt_host.specs.Runs.{bytes_said, handle_named, request_of}
+use Rattle.gt_host.specs.Runs.{call_bytes, handle_named, request_of}
 use Rattle.gt_lines.specs.declared.calls.ScriptCall.TheVariants as calls
 use Rattle.gt_search.specs.Beginnings.{OpensSo}
 use Rattle.gt_search.specs.Calls.{AsksByPlace}
@@ -50,25 +50,25 @@ use Rattle.gt_replay.specs.Courses.{resting}
 use Rattle.gt_search.specs.Starting.{BeginsAsRun, GivesAsRun}
 use Rattle.gt_search.proofs.ByPlace.{get-there}
 use Rattle.gt_search.proofs.CallOpened.{rests}
-use Rattle.gt_search.specs.declared.calls.Opening.{Opening as Opened}
-use Rattle.gt_search.specs.declared.calls.Opening.TheVariants.{Open, Done}
+use Rattle.gt_search.specs.declared.calls.CallOpening.{CallOpening as Opened}
+use Rattle.gt_search.specs.declared.calls.CallOpening.TheVariants.{Open, Done}
 
 -- what is known of the domain's table in the state and by what happened is alike
-pub knows-alike : (s : Setting) (h : History) (d : DomId) (scene : Scene) (a : Actor) (t : Table) (n : Names) → KnowsTable s h d scene t → ArePlaced d a.mappings.items n → mapping_pins a.mappings.items ≡ pins_mapped_at h d
-    → maps_answered_at h d.0 < END_OF_SERIALS → length a.mappings.items < END_OF_SERIALS → KnowAlike (known_at s h d) (known_in scene t n.mappings)
+pub knows-alike : (s : Setting) (h : History) (d : DomId) (scene : SearchContext) (a : Actor) (t : SparseTable) (n : ActorHandles) → KnowsTable s h d scene t → ArePlaced d a.mappings.items n → mapping_pins a.mappings.items ≡ pins_mapped_at h d
+    → maps_answered_at h d.0 < SERIAL_LIMIT → length a.mappings.items < SERIAL_LIMIT → KnowAlike (known_at s h d) (known_in scene t n.mappings)
 knows-alike s h d scene a t n table placed pins below also = record {
   domains = table.domains;
   may = table.may;
   entry = table.entries;
   generation = table.generations;
   header = table.header;
-  in_use = placed.kept.count ∙ sym (length-map placed.pairs (λ (m : Handle × Held). m.1)) ∙ ap (λ (l : List Held). length l) (placed.pins ∙ pins) ∙ length-map (mappings_at h d.0) (λ (m : Handle × Held). m.1);
+  in_use = placed.kept.count ∙ sym (length-map placed.pairs (λ (m : Handle × HeldPin). m.1)) ∙ ap (λ (l : List HeldPin). length l) (placed.pins ∙ pins) ∙ length-map (mappings_at h d.0) (λ (m : Handle × HeldPin). m.1);
   below = below;
-  also_below = subst (λ (m : ℕ). m < END_OF_SERIALS) (sym placed.kept.given_is) also;
+  also_below = subst (λ (m : ℕ). m < SERIAL_LIMIT) (sym placed.kept.given_is) also;
 }
 
 -- and alike to that by places
-pub place-alike : (s : Setting) (h : History) (d : DomId) → maps_answered_at h d.0 < END_OF_SERIALS → KnowAlike (known_at s h d) (known_by_place s h d)
+pub place-alike : (s : Setting) (h : History) (d : DomId) → maps_answered_at h d.0 < SERIAL_LIMIT → KnowAlike (known_at s h d) (known_by_place s h d)
 place-alike s h d below = record {
   domains = refl;
   may = refl;
@@ -77,21 +77,21 @@ place-alike s h d below = record {
   header = refl;
   in_use = refl;
   below = below;
-  also_below = (let e : 0 < END_OF_SERIALS = omega arith in e);
+  also_below = (let e : 0 < SERIAL_LIMIT = omega arith in e);
 }
 
-module _ (s : Setting) (h : History) (tasks : List Task) (k : Course) (scene : Scene) (a : Actor) (t : Table) (n : Names) (show : ShowsCalls s h tasks k a) (table : KnowsTable s h k.dom scene t) (placed : ArePlaced k.dom a.mappings.items n)
-    (below : maps_answered_at h k.dom.0 < END_OF_SERIALS) (few : length a.mappings.items < END_OF_SERIALS) where
+module _ (s : Setting) (h : History) (tasks : List RunTask) (k : Course) (scene : SearchContext) (a : Actor) (t : SparseTable) (n : ActorHandles) (show : ShowsCalls s h tasks k a) (table : KnowsTable s h k.dom scene t) (placed : ArePlaced k.dom a.mappings.items n)
+    (below : maps_answered_at h k.dom.0 < SERIAL_LIMIT) (few : length a.mappings.items < SERIAL_LIMIT) where
   abbrev names : List Named
   names = place_names k.dom n.handles.items (labels_of a.mappings.items)
 
   many-labels : length n.handles.items ≡ length (labels_of a.mappings.items)
-  many-labels = ap (λ (l : List Handle). length l) (sym placed.handles) ∙ length-map placed.pairs (λ (m : Handle × Held). m.0) ∙ sym (length-map placed.pairs (λ (m : Handle × Held). m.1))
-      ∙ ap (λ (l : List Held). length l) placed.pins ∙ length-map a.mappings.items (λ (m : Mapping). m.held) ∙ sym (length-map a.mappings.items (λ (m : Mapping). label_bytes m.label))
+  many-labels = ap (λ (l : List Handle). length l) (sym placed.handles) ∙ length-map placed.pairs (λ (m : Handle × HeldPin). m.0) ∙ sym (length-map placed.pairs (λ (m : Handle × HeldPin). m.1))
+      ∙ ap (λ (l : List HeldPin). length l) placed.pins ∙ length-map a.mappings.items (λ (m : LabelledMapping). m.held) ∙ sym (length-map a.mappings.items (λ (m : LabelledMapping). label_bytes m.label))
 
   many-handles : length (handles_at h k.dom) ≡ length (labels_of a.mappings.items)
-  many-handles = length-map (mappings_at h k.dom.0) (λ (m : Handle × Held). m.0) ∙ sym (length-map (mappings_at h k.dom.0) (λ (m : Handle × Held). m.1))
-      ∙ ap (λ (l : List Held). length l) (sym show.pins) ∙ length-map a.mappings.items (λ (m : Mapping). m.held) ∙ sym (length-map a.mappings.items (λ (m : Mapping). label_bytes m.label))
+  many-handles = length-map (mappings_at h k.dom.0) (λ (m : Handle × HeldPin). m.0) ∙ sym (length-map (mappings_at h k.dom.0) (λ (m : Handle × HeldPin). m.1))
+      ∙ ap (λ (l : List HeldPin). length l) (sym show.pins) ∙ length-map a.mappings.items (λ (m : LabelledMapping). m.held) ∙ sym (length-map a.mappings.items (λ (m : LabelledMapping). label_bytes m.label))
 
   -- what the label of a call names
   pub named-so : (label : List ℕ) → NamesAlike k.named names k.dom (handles_at h k.dom) n.handles.items label ⊎ NamesNothing k.named names k.dom (handles_at h k.dom) label
@@ -106,23 +106,23 @@ module _ (s : Setting) (h : History) (tasks : List Task) (k : Course) (scene : S
   run-at : (at : ℕ) (handle : Handle) → slice_get (handles_at h k.dom) at ≡ Some handle → mapping_of (mappings_at h k.dom.0) handle ≡ slice_get (pins_mapped_at h k.dom) at
   run-at at handle there = mapping-listed (mappings_at h k.dom.0) handle ∙ listed-at 0 (mappings_at h k.dom.0) (maps_answered_at h k.dom.0) at handle show.rising there
 
-  pairs-rise : Rise 0 (map (λ (m : Handle × Held). m.0) placed.pairs) (0 + length (map (λ (m : Handle × Held). m.0) placed.pairs))
-  pairs-rise = count-rises 0 (map (λ (m : Handle × Held). m.0) placed.pairs) (subst (CountFrom 0) (sym placed.handles) placed.places)
+  pairs-rise : SerialsRise 0 (map (λ (m : Handle × HeldPin). m.0) placed.pairs) (0 + length (map (λ (m : Handle × HeldPin). m.0) placed.pairs))
+  pairs-rise = count-rises 0 (map (λ (m : Handle × HeldPin). m.0) placed.pairs) (subst (CountFrom 0) (sym placed.handles) placed.places)
 
   state-at : (at : ℕ) (handle place : Handle) → slice_get (handles_at h k.dom) at ≡ Some handle → slice_get n.handles.items at ≡ Some place → value_of n.mappings place ≡ mapping_of (mappings_at h k.dom.0) handle
   state-at at handle place there here =
-      ap (λ (f : Handle → Option Held). f place) placed.kept.named
-      ∙ listed-at 0 placed.pairs (0 + length (map (λ (m : Handle × Held). m.0) placed.pairs)) at place pairs-rise (ap (λ (l : List Handle). slice_get l at) placed.handles ∙ here)
-      ∙ ap (λ (l : List Held). slice_get l at) (placed.pins ∙ show.pins) ∙ sym (run-at at handle there)
+      ap (λ (f : Handle → Option HeldPin). f place) placed.kept.named
+      ∙ listed-at 0 placed.pairs (0 + length (map (λ (m : Handle × HeldPin). m.0) placed.pairs)) at place pairs-rise (ap (λ (l : List Handle). slice_get l at) placed.handles ∙ here)
+      ∙ ap (λ (l : List HeldPin). slice_get l at) (placed.pins ∙ show.pins) ∙ sym (run-at at handle there)
 
   no-state : value_of n.mappings never_given ≡ None
-  no-state = ap (λ (f : Handle → Option Held). f never_given) placed.kept.named
-      ∙ never-listed 0 placed.pairs (0 + length (map (λ (m : Handle × Held). m.0) placed.pairs)) pairs-rise
-      (let e : length (map (λ (m : Handle × Held). m.0) placed.pairs) ≡ length a.mappings.items = ap (λ (l : List Handle). length l) placed.handles ∙ many-labels ∙ length-map a.mappings.items (λ (m : Mapping). label_bytes m.label) in omega arith)
+  no-state = ap (λ (f : Handle → Option HeldPin). f never_given) placed.kept.named
+      ∙ never-listed 0 placed.pairs (0 + length (map (λ (m : Handle × HeldPin). m.0) placed.pairs)) pairs-rise
+      (let e : length (map (λ (m : Handle × HeldPin). m.0) placed.pairs) ≡ length a.mappings.items = ap (λ (l : List Handle). length l) placed.handles ∙ many-labels ∙ length-map a.mappings.items (λ (m : LabelledMapping). label_bytes m.label) in omega arith)
 
   no-place : pin_by_place (pins_mapped_at h k.dom) never_given ≡ None
   no-place = slice_get_past (pins_mapped_at h k.dom) (2 ^ 64 - 1)
-      (let e : length (pins_mapped_at h k.dom) ≡ length a.mappings.items = ap (λ (l : List Held). length l) (sym show.pins) ∙ length-map a.mappings.items (λ (m : Mapping). m.held) in omega arith)
+      (let e : length (pins_mapped_at h k.dom) ≡ length a.mappings.items = ap (λ (l : List HeldPin). length l) (sym show.pins) ∙ length-map a.mappings.items (λ (m : LabelledMapping). m.held) in omega arith)
 
   -- by the label of a call the state finds the mapping that the run finds
   state-finds : (label : List ℕ) → value_of n.mappings (handle_of names k.dom label) ≡ mapping_of (mappings_at h k.dom.0) (handle_of k.named k.dom label)
@@ -134,7 +134,7 @@ module _ (s : Setting) (h : History) (tasks : List Task) (k : Course) (scene : S
       gone-run no-place no-run (named-so label)
 
   -- the handle that a label names has a mapping in the run only if in the state it names the place of that mapping
-  place-of : (label : List ℕ) (m : Held) → mapping_of (mappings_at h k.dom.0) (handle_of k.named k.dom label) ≡ Some m
+  place-of : (label : List ℕ) (m : HeldPin) → mapping_of (mappings_at h k.dom.0) (handle_of k.named k.dom label) ≡ Some m
       → slice_get (handles_at h k.dom) (handle_of names k.dom label).serial ≡ Some (handle_of k.named k.dom label)
   place-of label m found = by (named-so label) where
     none : NamesNothing k.named names k.dom (handles_at h k.dom) label → (o : Option Handle) → handle_named k.named k.dom.0 label ≡ o → mapping_of (mappings_at h k.dom.0) (unwrap_or o never_given) ≡ None
@@ -200,7 +200,7 @@ module _ (s : Setting) (h : History) (tasks : List Task) (k : Course) (scene : S
     pub begins-by-place : BeginsAlike (known_by_place s h k.dom) (known_in scene t n.mappings) k.dom p
     begins-by-place = begins-alike (known_in scene t n.mappings) (known_by_place s h k.dom) k.dom p
         (alike-between (known_at s h k.dom) (known_in scene t n.mappings) (known_by_place s h k.dom) alike (place-alike s h k.dom below))
-        (subst (λ (r : Asked). FindsSame (pin_by_place (pins_mapped_at h k.dom)) (own_handle r) (value_of n.mappings) r) (sym asks-by-place)
+        (subst (λ (r : OpenRequest). FindsSame (pin_by_place (pins_mapped_at h k.dom)) (own_handle r) (value_of n.mappings) r) (sym asks-by-place)
         (finds-own (pin_by_place (pins_mapped_at h k.dom)) (value_of n.mappings) place (asked q) (place-finds (label_asked call) ∙ sym (state-finds (label_asked call)))))
 
     -- one that is open asks by the place of its mapping
@@ -219,20 +219,20 @@ module _ (s : Setting) (h : History) (tasks : List Task) (k : Course) (scene : S
         (none, (p, place, asks-by-place, in-place none, o))
 
 -- the call of a line of this domain begins as in the run
-pub begun-line : (s : Setting) (h : History) (tasks : List Task) (k : Course) (scene : Scene) (a : Actor) (t : Table) (d : DomId) (n : Names) (call : ScriptCall) (q p : Request) (bytes : Bor (List ℕ)) (result : Opened) → d ≡ k.dom → ShowsCalls s h tasks k a → length tasks < 2 ^ 63
-    → KnowsTable s h k.dom scene t → ArePlaced d a.mappings.items n → SaysRequest k.named k.dom call q → bytes.now ≡ bytes_said call → ((named : List Named) → AreNamed n.labels named → p ≡ request_of named d bytes call)
+pub begun-line : (s : Setting) (h : History) (tasks : List RunTask) (k : Course) (scene : SearchContext) (a : Actor) (t : SparseTable) (d : DomId) (n : ActorHandles) (call : ScriptCall) (q p : Request) (bytes : Bor (List ℕ)) (result : Opened) → d ≡ k.dom → ShowsCalls s h tasks k a → length tasks < 2 ^ 63
+    → KnowsTable s h k.dom scene t → ArePlaced d a.mappings.items n → SaysRequest k.named k.dom call q → bytes.now ≡ call_bytes call → ((named : List Named) → AreNamed n.labels named → p ≡ request_of named d bytes call)
     → ((z : CallerKnowledge) → BeginsAlike z (known_in scene t n.mappings) d p → OpensSo z d p result) → BeginsAsRun s h k.dom q result
 begun-line s h tasks k scene a t d n call q p bytes result dom show short table placed asks hex asked-so opened =
     let there : ArePlaced k.dom a.mappings.items n = subst (λ (x : DomId). ArePlaced x a.mappings.items n) dom placed in
     let names-now : List Named = place_names k.dom n.handles.items (labels_of a.mappings.items) in
     let few = show.few in let begun = show.begun in let ok = a.mappings.ok in let small = a.mappings.small in
-    let below : maps_answered_at h k.dom.0 < END_OF_SERIALS = omega arith in
-    let many : length a.mappings.items < END_OF_SERIALS = (let len : a.mappings.len ≡ length a.mappings.items = ok.0 in let le : a.mappings.len ≤ a.mappings.cap = ok.1 in omega arith) in
+    let below : maps_answered_at h k.dom.0 < SERIAL_LIMIT = omega arith in
+    let many : length a.mappings.items < SERIAL_LIMIT = (let len : a.mappings.len ≡ length a.mappings.items = ok.0 in let le : a.mappings.len ≤ a.mappings.cap = ok.1 in omega arith) in
     begins-run s h tasks k scene a t n show table there below many call q p asks
     (bytes, hex, subst (λ (x : DomId). p ≡ request_of names-now x bytes call) dom (asked-so names-now there.labels)) result
     (subst (λ (x : DomId). (z : CallerKnowledge) → BeginsAlike z (known_in scene t n.mappings) x p → OpensSo z x p result) dom opened)
 
-module _ (s : Setting) (h : History) (tasks : List Task) (k : Course) (scene : Scene) (a : Actor) (t : Table) (d : DomId) (n : Names) (choice : ℕ) (handle : Handle) (dom : d ≡ k.dom) (show : ShowsCalls s h tasks k a) (short : length tasks < 2 ^ 63)
+module _ (s : Setting) (h : History) (tasks : List RunTask) (k : Course) (scene : SearchContext) (a : Actor) (t : SparseTable) (d : DomId) (n : ActorHandles) (choice : ℕ) (handle : Handle) (dom : d ≡ k.dom) (show : ShowsCalls s h tasks k a) (short : length tasks < 2 ^ 63)
     (table : KnowsTable s h k.dom scene t) (placed : ArePlaced d a.mappings.items n) (rest : k.opened ≡ resting) (held : slice_get k.held choice ≡ Some handle) where
   at-choice : slice_get (handles_at h k.dom) choice ≡ Some handle
   at-choice = ap (λ (l : List Handle). slice_get l choice) (sym (rests s h tasks k a.next k.opened (open_call h k.dom.0) a.«open» rest show.opens)) ∙ held
@@ -241,8 +241,8 @@ module _ (s : Setting) (h : History) (tasks : List Task) (k : Course) (scene : S
   placed-there = subst (λ (x : DomId). ArePlaced x a.mappings.items n) dom placed
 
   as-many-there : length (handles_at h k.dom) ≡ length n.handles.items
-  as-many-there = length-map (mappings_at h k.dom.0) (λ (m : Handle × Held). m.0) ∙ sym (length-map (mappings_at h k.dom.0) (λ (m : Handle × Held). m.1)) ∙ ap (λ (l : List Held). length l) (sym (placed-there.pins ∙ show.pins))
-      ∙ length-map placed-there.pairs (λ (m : Handle × Held). m.1) ∙ sym (length-map placed-there.pairs (λ (m : Handle × Held). m.0)) ∙ ap (λ (l : List Handle). length l) placed-there.handles
+  as-many-there = length-map (mappings_at h k.dom.0) (λ (m : Handle × HeldPin). m.0) ∙ sym (length-map (mappings_at h k.dom.0) (λ (m : Handle × HeldPin). m.1)) ∙ ap (λ (l : List HeldPin). length l) (sym (placed-there.pins ∙ show.pins))
+      ∙ length-map placed-there.pairs (λ (m : Handle × HeldPin). m.1) ∙ sym (length-map placed-there.pairs (λ (m : Handle × HeldPin). m.0)) ∙ ap (λ (l : List Handle). length l) placed-there.handles
 
   -- a domain that holds a mapping at a place has a handle there
   pub given-there : slice_get n.handles.items choice ≡ None → ⊥
@@ -253,7 +253,7 @@ module _ (s : Setting) (h : History) (tasks : List Task) (k : Course) (scene : S
       → GivesAsRun s h k.dom handle choice (Some result)
   given-line place result here opened =
       let few = show.few in let begun = show.begun in let ok = a.mappings.ok in let small = a.mappings.small in
-      let below : maps_answered_at h k.dom.0 < END_OF_SERIALS = omega arith in
-      let many : length a.mappings.items < END_OF_SERIALS = (let len : a.mappings.len ≡ length a.mappings.items = ok.0 in let le : a.mappings.len ≤ a.mappings.cap = ok.1 in omega arith) in
+      let below : maps_answered_at h k.dom.0 < SERIAL_LIMIT = omega arith in
+      let many : length a.mappings.items < SERIAL_LIMIT = (let len : a.mappings.len ≡ length a.mappings.items = ok.0 in let le : a.mappings.len ≤ a.mappings.cap = ok.1 in omega arith) in
       gives-run s h tasks k scene a t n show table placed-there below many choice handle place at-choice here result
       (subst (λ (x : DomId). (z : CallerKnowledge) → BeginsAlike z (known_in scene t n.mappings) x (requests.Unmap place) → OpensSo z x (requests.Unmap place) result) dom opened)

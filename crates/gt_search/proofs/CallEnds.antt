@@ -10,12 +10,12 @@ use Rattle.std.proofs.lemmas.Slice.Eq.{bytes_eq-Decides}
 use Rattle.gt_types.specs.declared.DomId.{DomId}
 use Rattle.gt_entry.specs.declared.entry.Entry.{Entry}
 use Rattle.gt_handles.specs.declared.handles.Handle.{Handle}
-use Rattle.gt_calls.specs.declared.action.Seen.{Seen}
-use Rattle.gt_calls.specs.declared.action.Seen.TheVariants.{Taken}
+use Rattle.gt_calls.specs.declared.action.Observation.{Observation}
+use Rattle.gt_calls.specs.declared.action.Observation.TheVariants.{Taken}
 use Rattle.gt_calls.specs.declared.action.Step.{Step}
 use Rattle.gt_calls.specs.declared.action.Step.TheVariants.{Exchange, Pin as PinStep, Unpin}
-use Rattle.gt_calls.specs.declared.held.Held.{Held}
-use Rattle.gt_calls.specs.declared.request.Holder.TheVariants.{Leg as ByLeg, Mapping as ByHandle}
+use Rattle.gt_calls.specs.declared.held.HeldPin.{HeldPin}
+use Rattle.gt_calls.specs.declared.request.PinHolder.TheVariants.{Leg as ByLeg, LabelledMapping as ByHandle}
 use Rattle.gt_core.specs.Alike.{IsRun}
 use Rattle.gt_core.specs.History.{History, Pin, Setting, Underway, entry_at, gather, holder_after, legs_at, live}
 use Rattle.gt_core.specs.History.{mapping_named, mappings_at, maps_answered_at}
@@ -32,12 +32,12 @@ use Rattle.gt_host.specs.Runs.{Named, handle_named, with_name}
 use Rattle.gt_replay.specs.Abreast.{HaveAnswered}
 use Rattle.gt_replay.specs.Courses.{Course, resting}
 use Rattle.gt_replay.specs.Orders.{handles_without}
-use Rattle.gt_script.specs.Lists.{Task}
-use Rattle.gt_search.specs.Calls.{LabelsShow, Rise, ShowsCalls, ShowsOpen, handles_at, pins_mapped_at}
+use Rattle.gt_script.specs.Lists.{RunTask}
+use Rattle.gt_search.specs.Calls.{LabelsShow, SerialsRise, ShowsCalls, ShowsOpen, handles_at, pins_mapped_at}
 use Rattle.gt_search.specs.Mappings.{apart_from, labels_of, mapping_pins, label_bytes, unless_given}
 use Rattle.gt_search.specs.declared.actor.Actor.{Actor}
-use Rattle.gt_search.specs.declared.actor.Mapping.{Mapping}
-use Rattle.gt_search.specs.declared.actor.Open.{Open}
+use Rattle.gt_search.specs.declared.actor.LabelledMapping.{LabelledMapping}
+use Rattle.gt_search.specs.declared.actor.ActorCall.{ActorCall}
 use Rattle.gt_search.proofs.MappingFound.{rise-below}
 use Rattle.gt_search.proofs.NextSerial.{maps-one, named-below}
 use Rattle.gt_search.proofs.GivingBack.{without-place}
@@ -48,8 +48,8 @@ abbrev pub over_course : Course → List Named → List Handle → List ℕ → 
 over_course k named held text = record k { opened = resting; named = named; held = held; text = text }
 
 -- a domain with nothing open is there, if its mappings are those that the run then has
-pub shows-over : (s : Setting) (h : History) (i : Item) (tasks : List Task) (k : Course) (a b : Actor) (named : List Named) (held : List Handle) (text : List ℕ) (answer : Answer) → i.actor ≡ k.dom → i.answer ≡ Some answer → ShowsCalls s h tasks k a → b.next ≡ a.next
-    → b.«open» ≡ None → held ≡ handles_at (i ∷ h) k.dom → maps_answered_at (i ∷ h) k.dom.0 ≤ a.next → Rise 0 (handles_at (i ∷ h) k.dom) (maps_answered_at (i ∷ h) k.dom.0) → mapping_pins b.mappings.items ≡ pins_mapped_at (i ∷ h) k.dom
+pub shows-over : (s : Setting) (h : History) (i : Item) (tasks : List RunTask) (k : Course) (a b : Actor) (named : List Named) (held : List Handle) (text : List ℕ) (answer : Answer) → i.actor ≡ k.dom → i.answer ≡ Some answer → ShowsCalls s h tasks k a → b.next ≡ a.next
+    → b.«open» ≡ None → held ≡ handles_at (i ∷ h) k.dom → maps_answered_at (i ∷ h) k.dom.0 ≤ a.next → SerialsRise 0 (handles_at (i ∷ h) k.dom) (maps_answered_at (i ∷ h) k.dom.0) → mapping_pins b.mappings.items ≡ pins_mapped_at (i ∷ h) k.dom
     → LabelsShow named k.dom (handles_at (i ∷ h) k.dom) (labels_of b.mappings.items) → ShowsCalls s (i ∷ h) tasks (over_course k named held text) b
 shows-over s h i tasks k a b named held text answer own answered show next none all few rising pins labels =
     let closed : open_call (i ∷ h) k.dom.0 ≡ None = ap (λ (d : DomId). open_call (i ∷ h) d.0) (sym own) ∙ open_call-own i h ∙ by i.answer answered in record {
@@ -59,7 +59,7 @@ shows-over s h i tasks k a b named held text answer own answered show next none 
       rising = rising;
       pins = pins;
       labels = labels;
-      opens = subst (λ (o : Option Open). ShowsOpen s (i ∷ h) tasks (over_course k named held text) b.next resting (open_call (i ∷ h) k.dom.0) o) (sym none)
+      opens = subst (λ (o : Option ActorCall). ShowsOpen s (i ∷ h) tasks (over_course k named held text) b.next resting (open_call (i ∷ h) k.dom.0) o) (sym none)
           (subst (λ (c : Option Underway). ShowsOpen s (i ∷ h) tasks (over_course k named held text) b.next resting c None) (sym closed) all);
     }
   where
@@ -77,7 +77,7 @@ GivesNone z = Unit {0}
 leg-held : (answer : Answer) (n : ℕ) → one_if_mapped (Some answer) ≡ 0 → holder_after (Some answer) n ≡ ByLeg n
 leg-held answer n none = grind arith
 
-kept-mappings : (h : History) (d : DomId) (z : Step) (seen : Seen) (answer : Answer) → GivesNone z → one_if_mapped (Some answer) ≡ 0 → mappings_at (stepped d z seen (Some answer) ∷ h) d.0 ≡ mappings_at h d.0
+kept-mappings : (h : History) (d : DomId) (z : Step) (seen : Observation) (answer : Answer) → GivesNone z → one_if_mapped (Some answer) ≡ 0 → mappings_at (stepped d z seen (Some answer) ∷ h) d.0 ≡ mappings_at h d.0
 kept-mappings h d (PinStep p) Taken answer gives none = leg-maps h d p (Some answer) (leg-held answer (length (legs_at h d.0)) none)
 kept-mappings h d (Unpin p (ByLeg n)) seen answer gives none = leg-mappings h d p n seen (Some answer)
 kept-mappings h d (Unpin p (ByHandle handle)) seen answer gives none = absurd gives
@@ -86,37 +86,37 @@ kept-mappings h d z seen answer gives none = ap (λ (ps : List Pin). gather mapp
     (kept-live (stepped d z seen (Some answer)) h (record { changes = λ r. refl; pins = λ before ps. refl; unpins = λ pins. refl; maps = none }))
 
 -- so it is after a call that gives it no mapping and takes none
-pub shows-kept : (s : Setting) (h : History) (tasks : List Task) (k : Course) (a b : Actor) (z : Step) (seen : Seen) (text : List ℕ) (answer : Answer) → ShowsCalls s h tasks k a → k.held ≡ handles_at h k.dom → GivesNone z → one_if_mapped (Some answer) ≡ 0 → b.next ≡ a.next
+pub shows-kept : (s : Setting) (h : History) (tasks : List RunTask) (k : Course) (a b : Actor) (z : Step) (seen : Observation) (text : List ℕ) (answer : Answer) → ShowsCalls s h tasks k a → k.held ≡ handles_at h k.dom → GivesNone z → one_if_mapped (Some answer) ≡ 0 → b.next ≡ a.next
     → b.«open» ≡ None → b.mappings.items ≡ a.mappings.items → ShowsCalls s (stepped k.dom z seen (Some answer) ∷ h) tasks (over_course k k.named k.held text) b
 shows-kept s h tasks k a b z seen text answer show all gives none next closed same =
     let d = k.dom in let i = stepped d z seen (Some answer) in
     let maps : mappings_at (i ∷ h) d.0 ≡ mappings_at h d.0 = kept-mappings h d z seen answer gives none in
-    let hs : handles_at (i ∷ h) d ≡ handles_at h d = ap (λ (ms : List (Handle × Held)). map (λ (m : Handle × Held). m.0) ms) maps in
+    let hs : handles_at (i ∷ h) d ≡ handles_at h d = ap (λ (ms : List (Handle × HeldPin)). map (λ (m : Handle × HeldPin). m.0) ms) maps in
     let count : maps_answered_at (i ∷ h) d.0 ≡ maps_answered_at h d.0 = answered-stays h i d.0 none in
     let few = show.few in
     shows-over s h i tasks k a b k.named k.held text answer refl refl show next closed (all ∙ sym hs) (omega arith)
-    (subst (λ (m : ℕ). Rise 0 (handles_at (i ∷ h) d) m) (sym count) (subst (λ (l : List Handle). Rise 0 l (maps_answered_at h d.0)) (sym hs) show.rising))
-    (ap mapping_pins same ∙ show.pins ∙ ap (λ (ms : List (Handle × Held)). map (λ (m : Handle × Held). m.1) ms) (sym maps))
-    (subst (λ (l : List Handle). LabelsShow k.named d l (labels_of b.mappings.items)) (sym hs) (subst (λ (ms : List Mapping). LabelsShow k.named d (handles_at h d) (labels_of ms)) (sym same) show.labels))
+    (subst (λ (m : ℕ). SerialsRise 0 (handles_at (i ∷ h) d) m) (sym count) (subst (λ (l : List Handle). SerialsRise 0 l (maps_answered_at h d.0)) (sym hs) show.rising))
+    (ap mapping_pins same ∙ show.pins ∙ ap (λ (ms : List (Handle × HeldPin)). map (λ (m : Handle × HeldPin). m.1) ms) (sym maps))
+    (subst (λ (l : List Handle). LabelsShow k.named d l (labels_of b.mappings.items)) (sym hs) (subst (λ (ms : List LabelledMapping). LabelsShow k.named d (handles_at h d) (labels_of ms)) (sym same) show.labels))
 
 -- the domain gives up a mapping
 
-pub shows-less : (s : Setting) (h : History) (tasks : List Task) (k : Course) (a b : Actor) (p : Held) (handle place : Handle) (seen : Seen) (held : List Handle) (text : List ℕ) (answer : Answer) → ShowsCalls s h tasks k a → held ≡ handles_without handle (handles_at h k.dom)
+pub shows-less : (s : Setting) (h : History) (tasks : List RunTask) (k : Course) (a b : Actor) (p : HeldPin) (handle place : Handle) (seen : Observation) (held : List Handle) (text : List ℕ) (answer : Answer) → ShowsCalls s h tasks k a → held ≡ handles_without handle (handles_at h k.dom)
     → slice_get (handles_at h k.dom) place.serial ≡ Some handle → one_if_mapped (Some answer) ≡ 0 → b.next ≡ a.next → b.«open» ≡ None → b.mappings.items ≡ but place.serial a.mappings.items
     → ShowsCalls s (stepped k.dom (Unpin p (ByHandle handle)) seen (Some answer) ∷ h) tasks (over_course k k.named held text) b
 shows-less s h tasks k a b p handle place seen held text answer show all there none next closed same =
     let d = k.dom in let i = stepped d (Unpin p (ByHandle handle)) seen (Some answer) in let n = place.serial in
     let maps : mappings_at (i ∷ h) d.0 ≡ but n (mappings_at h d.0) = mappings-less h d p handle seen (Some answer) ∙ less-is n 0 (mappings_at h d.0) (maps_answered_at h d.0) handle show.rising there in
-    let hs : handles_at (i ∷ h) d ≡ but n (handles_at h d) = ap (λ (ms : List (Handle × Held)). map (λ (m : Handle × Held). m.0) ms) maps ∙ map-but (λ (m : Handle × Held). m.0) n (mappings_at h d.0) in
-    let ps : pins_mapped_at (i ∷ h) d ≡ but n (pins_mapped_at h d) = ap (λ (ms : List (Handle × Held)). map (λ (m : Handle × Held). m.1) ms) maps ∙ map-but (λ (m : Handle × Held). m.1) n (mappings_at h d.0) in
+    let hs : handles_at (i ∷ h) d ≡ but n (handles_at h d) = ap (λ (ms : List (Handle × HeldPin)). map (λ (m : Handle × HeldPin). m.0) ms) maps ∙ map-but (λ (m : Handle × HeldPin). m.0) n (mappings_at h d.0) in
+    let ps : pins_mapped_at (i ∷ h) d ≡ but n (pins_mapped_at h d) = ap (λ (ms : List (Handle × HeldPin)). map (λ (m : Handle × HeldPin). m.1) ms) maps ∙ map-but (λ (m : Handle × HeldPin). m.1) n (mappings_at h d.0) in
     let count : maps_answered_at (i ∷ h) d.0 ≡ maps_answered_at h d.0 = answered-stays h i d.0 none in
     let few = show.few in
     shows-over s h i tasks k a b k.named held text answer refl refl show next closed
     (all ∙ sym (without-place 0 (handles_at h d) (maps_answered_at h d.0) n handle show.rising there) ∙ sym hs) (omega arith)
-    (subst (λ (m : ℕ). Rise 0 (handles_at (i ∷ h) d) m) (sym count) (subst (λ (l : List Handle). Rise 0 l (maps_answered_at h d.0)) (sym hs) (rise-but n 0 (handles_at h d) (maps_answered_at h d.0) show.rising)))
-    (ap mapping_pins same ∙ map-but (λ (m : Mapping). m.held) n a.mappings.items ∙ ap (but n) show.pins ∙ sym ps)
+    (subst (λ (m : ℕ). SerialsRise 0 (handles_at (i ∷ h) d) m) (sym count) (subst (λ (l : List Handle). SerialsRise 0 l (maps_answered_at h d.0)) (sym hs) (rise-but n 0 (handles_at h d) (maps_answered_at h d.0) show.rising)))
+    (ap mapping_pins same ∙ map-but (λ (m : LabelledMapping). m.held) n a.mappings.items ∙ ap (but n) show.pins ∙ sym ps)
     (subst (λ (l : List Handle). LabelsShow k.named d l (labels_of b.mappings.items)) (sym hs)
-    (subst (λ (ls : List (Option (List ℕ))). LabelsShow k.named d (but n (handles_at h d)) ls) (sym (ap labels_of same ∙ map-but (λ (m : Mapping). label_bytes m.label) n a.mappings.items))
+    (subst (λ (ls : List (Option (List ℕ))). LabelsShow k.named d (but n (handles_at h d)) ls) (sym (ap labels_of same ∙ map-but (λ (m : LabelledMapping). label_bytes m.label) n a.mappings.items))
     (labels-but k.named d n (handles_at h d) (labels_of a.mappings.items) show.labels)))
 
 -- the domain has a mapping more
@@ -134,7 +134,7 @@ at-push (z ∷ xs) x (suc at) y e = by (at-push xs x at y e) where
   by (inl f) = inl f
   by (inr f) = inr (ap (λ (n : ℕ). suc n) f.0, f.1)
 
-rise-push : (low : ℕ) (hs : List Handle) (high : ℕ) (handle : Handle) → Rise low hs high → handle.serial ≡ high → Rise low (hs ++ handle ∷ []) (1 + high)
+rise-push : (low : ℕ) (hs : List Handle) (high : ℕ) (handle : Handle) → SerialsRise low hs high → handle.serial ≡ high → SerialsRise low (hs ++ handle ∷ []) (1 + high)
 rise-push low [] high handle r e = (omega arith, omega arith)
 rise-push low (x ∷ hs) high handle r e = (r.0, rise-push (suc x.serial) hs high handle r.1 e)
 
@@ -191,7 +191,7 @@ new-label named d given label handle fresh = by (bytes_eq given label) refl wher
     λ f. absurd (fresh label (sym (named-now named d given label handle false e) ∙ f)),
   )
 
-labels-push : (named : List Named) (d : DomId) (hs : List Handle) (labels : List (Option (List ℕ))) (high : ℕ) (given : List ℕ) (handle : Handle) → length hs ≡ length labels → Rise 0 hs high → handle.serial ≡ high → ((l : List ℕ) → handle_named named d.0 l ≡ Some handle → ⊥)
+labels-push : (named : List Named) (d : DomId) (hs : List Handle) (labels : List (Option (List ℕ))) (high : ℕ) (given : List ℕ) (handle : Handle) → length hs ≡ length labels → SerialsRise 0 hs high → handle.serial ≡ high → ((l : List ℕ) → handle_named named d.0 l ≡ Some handle → ⊥)
     → LabelsShow named d hs labels → LabelsShow (record { dom = d; label = given; handle = handle } ∷ named) d (hs ++ handle ∷ []) (apart_from (Some given) labels ++ Some given ∷ [])
 labels-push named d hs labels high given handle long rise serial fresh show at old has label there is =
     by (at-push hs handle at old there) (at-push (apart_from (Some given) labels) (Some given) at has is) where
@@ -207,31 +207,31 @@ labels-push named d hs labels high given handle long rise serial fresh show at o
       by (inr f) (inr g) = subst (λ (z : Handle). (has ≡ Some label) ↔ (handle_named (record { dom = d; label = given; handle = handle } ∷ named) d.0 label ≡ Some z)) f.1
           (subst (λ (z : Option (List ℕ)). (z ≡ Some label) ↔ (handle_named (record { dom = d; label = given; handle = handle } ∷ named) d.0 label ≡ Some handle)) g.1 (new-label named d given label handle fresh))
 
-gather-one : (h : History) (d : DomId) (p : Held) (handle : Handle) → gather mapping_named d.0 (new_pin h d p (Some (Mapped handle)) ∷ []) ≡ (handle, record p { entry = entry_at h p.dom.0 p.gref.0 }) ∷ []
+gather-one : (h : History) (d : DomId) (p : HeldPin) (handle : Handle) → gather mapping_named d.0 (new_pin h d p (Some (Mapped handle)) ∷ []) ≡ (handle, record p { entry = entry_at h p.dom.0 p.gref.0 }) ∷ []
 unfolding gather
 gather-one h d p handle = ap (λ (b : Bool). cond b ((handle, record p { entry = entry_at h p.dom.0 p.gref.0 }) ∷ []) [] ++ []) (eq-eqb d.0 d.0 refl)
 
-mappings-more : (h : History) (d : DomId) (p : Held) (handle : Handle) → entry_at h p.dom.0 p.gref.0 ≡ p.entry → mappings_at (stepped d (PinStep p) Taken (Some (Mapped handle)) ∷ h) d.0 ≡ mappings_at h d.0 ++ (handle, p) ∷ []
+mappings-more : (h : History) (d : DomId) (p : HeldPin) (handle : Handle) → entry_at h p.dom.0 p.gref.0 ≡ p.entry → mappings_at (stepped d (PinStep p) Taken (Some (Mapped handle)) ∷ h) d.0 ≡ mappings_at h d.0 ++ (handle, p) ∷ []
 mappings-more h d p handle same = ap (gather mapping_named d.0) (pinned-live h d p (Some (Mapped handle)))
     ∙ gather-append mapping_named d.0 (live h) (new_pin h d p (Some (Mapped handle)) ∷ [])
-    ∙ ap (λ (l : List (Handle × Held)). mappings_at h d.0 ++ l) (gather-one h d p handle ∙ ap (λ (e : Entry). (handle, record p { entry = e }) ∷ []) same)
+    ∙ ap (λ (l : List (Handle × HeldPin)). mappings_at h d.0 ++ l) (gather-one h d p handle ∙ ap (λ (e : Entry). (handle, record p { entry = e }) ∷ []) same)
 
-pub shows-more : (s : Setting) (h : History) (tasks : List Task) (k : Course) (a b : Actor) (p : Held) (handle : Handle) (given : List ℕ) (text : List ℕ) → ShowsCalls s h tasks k a → k.held ≡ handles_at h k.dom → IsRun s h → HaveAnswered h k.named
+pub shows-more : (s : Setting) (h : History) (tasks : List RunTask) (k : Course) (a b : Actor) (p : HeldPin) (handle : Handle) (given : List ℕ) (text : List ℕ) → ShowsCalls s h tasks k a → k.held ≡ handles_at h k.dom → IsRun s h → HaveAnswered h k.named
     → handle.serial ≡ maps_answered_at h k.dom.0 → entry_at h p.dom.0 p.gref.0 ≡ p.entry → maps_answered_at h k.dom.0 + 1 ≤ a.next → b.next ≡ a.next → b.«open» ≡ None → mapping_pins b.mappings.items ≡ mapping_pins a.mappings.items ++ p ∷ []
     → labels_of b.mappings.items ≡ apart_from (Some given) (labels_of a.mappings.items) ++ Some given ∷ []
     → ShowsCalls s (stepped k.dom (PinStep p) Taken (Some (Mapped handle)) ∷ h) tasks (over_course k (with_name k.named k.dom (Some given) (Some handle)) (k.held ++ handle ∷ []) text) b
 shows-more s h tasks k a b p handle given text show all run named serial entry few next closed pins labels =
     let d = k.dom in let i = stepped d (PinStep p) Taken (Some (Mapped handle)) in
     let maps : mappings_at (i ∷ h) d.0 ≡ mappings_at h d.0 ++ (handle, p) ∷ [] = mappings-more h d p handle entry in
-    let hs : handles_at (i ∷ h) d ≡ handles_at h d ++ handle ∷ [] = ap (λ (ms : List (Handle × Held)). map (λ (m : Handle × Held). m.0) ms) maps ∙ map-append (λ (m : Handle × Held). m.0) (mappings_at h d.0) ((handle, p) ∷ []) in
-    let ps : pins_mapped_at (i ∷ h) d ≡ pins_mapped_at h d ++ p ∷ [] = ap (λ (ms : List (Handle × Held)). map (λ (m : Handle × Held). m.1) ms) maps ∙ map-append (λ (m : Handle × Held). m.1) (mappings_at h d.0) ((handle, p) ∷ []) in
+    let hs : handles_at (i ∷ h) d ≡ handles_at h d ++ handle ∷ [] = ap (λ (ms : List (Handle × HeldPin)). map (λ (m : Handle × HeldPin). m.0) ms) maps ∙ map-append (λ (m : Handle × HeldPin). m.0) (mappings_at h d.0) ((handle, p) ∷ []) in
+    let ps : pins_mapped_at (i ∷ h) d ≡ pins_mapped_at h d ++ p ∷ [] = ap (λ (ms : List (Handle × HeldPin)). map (λ (m : Handle × HeldPin). m.1) ms) maps ∙ map-append (λ (m : Handle × HeldPin). m.1) (mappings_at h d.0) ((handle, p) ∷ []) in
     let count : maps_answered_at (i ∷ h) d.0 ≡ 1 + maps_answered_at h d.0 = maps-one i h d.0 handle refl refl in
-    let long : length (handles_at h d) ≡ length (labels_of a.mappings.items) = length-map (mappings_at h d.0) (λ (m : Handle × Held). m.0) ∙ sym (length-map (mappings_at h d.0) (λ (m : Handle × Held). m.1))
-    ∙ ap (λ (l : List Held). length l) (sym show.pins) ∙ length-map a.mappings.items (λ (m : Mapping). m.held) ∙ sym (length-map a.mappings.items (λ (m : Mapping). label_bytes m.label)) in
+    let long : length (handles_at h d) ≡ length (labels_of a.mappings.items) = length-map (mappings_at h d.0) (λ (m : Handle × HeldPin). m.0) ∙ sym (length-map (mappings_at h d.0) (λ (m : Handle × HeldPin). m.1))
+    ∙ ap (λ (l : List HeldPin). length l) (sym show.pins) ∙ length-map a.mappings.items (λ (m : LabelledMapping). m.held) ∙ sym (length-map a.mappings.items (λ (m : LabelledMapping). label_bytes m.label)) in
     shows-over s h i tasks k a b (with_name k.named d (Some given) (Some handle)) (k.held ++ handle ∷ []) text (Mapped handle) refl refl show next closed
     (ap (λ (l : List Handle). l ++ handle ∷ []) all ∙ sym hs) (omega arith)
-    (subst (λ (m : ℕ). Rise 0 (handles_at (i ∷ h) d) m) (sym count) (subst (λ (l : List Handle). Rise 0 l (1 + maps_answered_at h d.0)) (sym hs) (rise-push 0 (handles_at h d) (maps_answered_at h d.0) handle show.rising serial)))
-    (pins ∙ ap (λ (l : List Held). l ++ p ∷ []) show.pins ∙ sym ps)
+    (subst (λ (m : ℕ). SerialsRise 0 (handles_at (i ∷ h) d) m) (sym count) (subst (λ (l : List Handle). SerialsRise 0 l (1 + maps_answered_at h d.0)) (sym hs) (rise-push 0 (handles_at h d) (maps_answered_at h d.0) handle show.rising serial)))
+    (pins ∙ ap (λ (l : List HeldPin). l ++ p ∷ []) show.pins ∙ sym ps)
     (subst (λ (l : List Handle). LabelsShow (with_name k.named d (Some given) (Some handle)) d l (labels_of b.mappings.items)) (sym hs)
     (subst (λ (ls : List (Option (List ℕ))). LabelsShow (with_name k.named d (Some given) (Some handle)) d (handles_at h d ++ handle ∷ []) ls) (sym labels)
     (labels-push k.named d (handles_at h d) (labels_of a.mappings.items) (maps_answered_at h d.0) given handle long show.rising serial

@@ -6,68 +6,68 @@ use Rattle.std.proofs.lemmas.Bool.{and_parts, eq-eqb, eqb-true}
 use Rattle.std.proofs.lemmas.List.{length-map}
 use Rattle.std.proofs.lemmas.Option.{none-some, slice_get_within}
 use Rattle.gt_handles.specs.declared.handles.Handle.{Handle}
-use Rattle.gt_calls.specs.declared.held.Held.{Held}
+use Rattle.gt_calls.specs.declared.held.HeldPin.{HeldPin}
 use Rattle.gt_core.specs.History.{History, Setting, Underway, mappings_at, open_call}
 use Rattle.gt_replay.specs.Courses.{Course, CourseEnds, CourseLeads, Opened, OpenLeads, RestLeads, calling, giving}
 use Rattle.gt_replay.specs.Courses.{resting}
 use Rattle.gt_replay.specs.Orders.{Happening}
-use Rattle.gt_script.specs.Lists.{Task}
+use Rattle.gt_script.specs.Lists.{RunTask}
 use Rattle.gt_search.specs.Calls.{ShowsCalls, ShowsOpen, handles_at}
 use Rattle.gt_search.specs.Ends.{choices_at, is_done, is_ended, tasks_at}
 use Rattle.gt_search.specs.declared.actor.Actor.{Actor}
-use Rattle.gt_search.specs.declared.actor.Mapping.{Mapping}
-use Rattle.gt_search.specs.declared.actor.Open.{Open}
-use Rattle.gt_search.specs.declared.scene.Scene.{Scene}
+use Rattle.gt_search.specs.declared.actor.LabelledMapping.{LabelledMapping}
+use Rattle.gt_search.specs.declared.actor.ActorCall.{ActorCall}
+use Rattle.gt_search.specs.declared.scene.SearchContext.{SearchContext}
 use Rattle.gt_search.specs.Ends.{turns_from}
 use Rattle.gt_search.proofs.MovesListed.{IsListed, turn-listed}
 
-nothing-left : (n : ℕ) (xs : List Task) → drop n xs ≡ [] → length xs ≤ n
+nothing-left : (n : ℕ) (xs : List RunTask) → drop n xs ≡ [] → length xs ≤ n
 nothing-left n [] e = omega arith
 nothing-left zero (x ∷ xs) e = cc
 nothing-left (suc n) (x ∷ xs) e = let le = nothing-left n xs e in omega arith
 
-something-left : (n : ℕ) (xs : List Task) (t : Task) (ts : List Task) → drop n xs ≡ t ∷ ts → n < length xs
+something-left : (n : ℕ) (xs : List RunTask) (t : RunTask) (ts : List RunTask) → drop n xs ≡ t ∷ ts → n < length xs
 something-left zero [] t ts e = cc
 something-left (suc n) [] t ts e = cc
 something-left zero (x ∷ xs) t ts e = omega arith
 something-left (suc n) (x ∷ xs) t ts e = let lt = something-left n xs t ts e in omega arith
 
-left-none : (n : ℕ) (xs : List Task) → length xs ≤ n → drop n xs ≡ []
+left-none : (n : ℕ) (xs : List RunTask) → length xs ≤ n → drop n xs ≡ []
 left-none zero [] le = refl
 left-none (suc n) [] le = refl
 left-none zero (x ∷ xs) le = absurd (omega arith)
 left-none (suc n) (x ∷ xs) le = left-none n xs (omega arith)
 
 -- the test of an end
-ended-by : (m n : ℕ) (o : Option Open) → o ≡ None → m ≤ n → (not (is_some o) && nat_le m n) ≡ true
+ended-by : (m n : ℕ) (o : Option ActorCall) → o ≡ None → m ≤ n → (not (is_some o) && nat_le m n) ≡ true
 ended-by m n o none le = grind arith
 
-open-not : (m n : ℕ) (o : Option Open) (x : Open) → o ≡ Some x → (not (is_some o) && nat_le m n) ≡ false
+open-not : (m n : ℕ) (o : Option ActorCall) (x : ActorCall) → o ≡ Some x → (not (is_some o) && nat_le m n) ≡ false
 open-not m n o x some = grind arith
 
-more-not : (m n : ℕ) (o : Option Open) → n < m → (not (is_some o) && nat_le m n) ≡ false
+more-not : (m n : ℕ) (o : Option ActorCall) → n < m → (not (is_some o) && nat_le m n) ≡ false
 more-not m n o lt = grind arith
 
 -- what the test says
-ended-says : (m n : ℕ) (o : Option Open) → (not (is_some o) && nat_le m n) ≡ true → (o ≡ None) × (m ≤ n)
+ended-says : (m n : ℕ) (o : Option ActorCall) → (not (is_some o) && nat_le m n) ≡ true → (o ≡ None) × (m ≤ n)
 ended-says m n o e = grind arith
 
-module _ (s : Setting) (h : History) (scene : Scene) (place : ℕ) (k : Course) (a : Actor) (show : ShowsCalls s h (tasks_at scene place) k a) where
+module _ (s : Setting) (h : History) (scene : SearchContext) (place : ℕ) (k : Course) (a : Actor) (show : ShowsCalls s h (tasks_at scene place) k a) where
   many : length a.mappings.items ≡ length (handles_at h k.dom)
-  many = sym (length-map a.mappings.items (λ (m : Mapping). m.held)) ∙ ap (λ (l : List Held). length l) show.pins
-      ∙ length-map (mappings_at h k.dom.0) (λ (m : Handle × Held). m.1) ∙ sym (length-map (mappings_at h k.dom.0) (λ (m : Handle × Held). m.0))
+  many = sym (length-map a.mappings.items (λ (m : LabelledMapping). m.held)) ∙ ap (λ (l : List HeldPin). length l) show.pins
+      ∙ length-map (mappings_at h k.dom.0) (λ (m : Handle × HeldPin). m.1) ∙ sym (length-map (mappings_at h k.dom.0) (λ (m : Handle × HeldPin). m.0))
 
   -- what a domain at rest has open, and holds
-  at-rest : (opened : Opened) (c : Option Underway) (o : Option Open) → opened ≡ resting → ShowsOpen s h (tasks_at scene place) k a.next opened c o → (o ≡ None) × (k.held ≡ handles_at h k.dom)
+  at-rest : (opened : Opened) (c : Option Underway) (o : Option ActorCall) → opened ≡ resting → ShowsOpen s h (tasks_at scene place) k a.next opened c o → (o ≡ None) × (k.held ≡ handles_at h k.dom)
   at-rest opened c o rest show = by c o (subst (λ (z : Opened). ShowsOpen s h (tasks_at scene place) k a.next z c o) rest show) where
-    by : (c : Option Underway) (o : Option Open) → ShowsOpen s h (tasks_at scene place) k a.next resting c o → (o ≡ None) × (k.held ≡ handles_at h k.dom)
+    by : (c : Option Underway) (o : Option ActorCall) → ShowsOpen s h (tasks_at scene place) k a.next resting c o → (o ≡ None) × (k.held ≡ handles_at h k.dom)
     by None None show = (refl, show)
     by None (Some o) show = absurd show
     by (Some c) None show = absurd show
     by (Some c) (Some o) show = absurd show
 
   -- a domain that has something open on its course has it open in the state
-  has-open : (opened : Opened) (c : Option Underway) (o : Option Open) → opened ≢ resting → ShowsOpen s h (tasks_at scene place) k a.next opened c o → (x : Open) × (o ≡ Some x)
+  has-open : (opened : Opened) (c : Option Underway) (o : Option ActorCall) → opened ≢ resting → ShowsOpen s h (tasks_at scene place) k a.next opened c o → (x : ActorCall) × (o ≡ Some x)
   has-open resting c o not-rest show = absurd (not-rest refl)
   has-open opened c (Some o) not-rest show = (o, refl)
   has-open (calling line call lost) None None not-rest show = absurd show
@@ -99,7 +99,7 @@ module _ (s : Setting) (h : History) (scene : Scene) (place : ℕ) (k : Course) 
   zero-choice : (choice : ℕ) → choice ≡ 0 → is_ended scene place a ≡ false → choice < choices_at scene place a
   zero-choice choice none e = let one = one-choice e in omega arith
 
-  rest-moves : (types : List (List ℕ)) (choice : ℕ) (x : Happening) (j : Course) (tasks : List Task) → k.opened ≡ resting → k.tasks ≡ tasks → RestLeads types k tasks choice x j → choice < choices_at scene place a
+  rest-moves : (types : List (List ℕ)) (choice : ℕ) (x : Happening) (j : Course) (tasks : List RunTask) → k.opened ≡ resting → k.tasks ≡ tasks → RestLeads types k tasks choice x j → choice < choices_at scene place a
   rest-moves types choice x j [] rest left leads = some-held choice leads.0 rest left leads.2
   rest-moves types choice x j (t ∷ ts) rest left leads = zero-choice choice leads.0
       (more-not (length (tasks_at scene place)) a.next a.«open» (something-left a.next (tasks_at scene place) t ts (sym show.left ∙ left)))
@@ -112,7 +112,7 @@ module _ (s : Setting) (h : History) (scene : Scene) (place : ℕ) (k : Course) 
     by (calling line call lost) is leads = zero-choice choice leads.0 (open-goes (λ e. let f : calling line call lost ≡ resting = sym is ∙ e in cc))
     by giving is leads = zero-choice choice leads.0 (open-goes (λ e. let f : giving ≡ resting = sym is ∙ e in cc))
 
-  none-open : (opened : Opened) (c : Option Underway) (o : Option Open) → o ≡ None → ShowsOpen s h (tasks_at scene place) k a.next opened c o → opened ≡ resting
+  none-open : (opened : Opened) (c : Option Underway) (o : Option ActorCall) → o ≡ None → ShowsOpen s h (tasks_at scene place) k a.next opened c o → opened ≡ resting
   none-open resting c o none show = refl
   none-open opened c (Some o) none show = absurd (none-some o (sym none))
   none-open (calling line call lost) None None none show = absurd show

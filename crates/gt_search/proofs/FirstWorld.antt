@@ -21,7 +21,7 @@ use Rattle.gt_replay.specs.Courses.{Course, first_courses, resting}
 use Rattle.gt_replay.proofs.Coming.{mapped_back}
 use Rattle.gt_replay.specs.Orders.{Happening}
 use Rattle.gt_script.specs.Contents.{Contents, first_gen}
-use Rattle.gt_script.specs.Lists.{Task}
+use Rattle.gt_script.specs.Lists.{RunTask}
 use Rattle.gt_script.specs.RunContents.{RunContents}
 use Rattle.gt_script.specs.RunScripts.{list_of}
 use Rattle.gt_search.specs.Calls.{ShowsCalls, ShowsOpen}
@@ -31,9 +31,9 @@ use Rattle.gt_search.specs.Mappings.{mapping_pins}
 use Rattle.gt_search.specs.Scenes.{IsSceneOf, SceneShows, WasAnsweredAll}
 use Rattle.gt_search.specs.Spaces.{scene_ways}
 use Rattle.gt_search.specs.declared.actor.Actor.{Actor}
-use Rattle.gt_search.specs.declared.actor.Open.{Open}
-use Rattle.gt_search.specs.declared.scene.Scene.{Scene}
-use Rattle.gt_search.specs.declared.scene.World.{World}
+use Rattle.gt_search.specs.declared.actor.ActorCall.{ActorCall}
+use Rattle.gt_search.specs.declared.scene.SearchContext.{SearchContext}
+use Rattle.gt_search.specs.declared.scene.SearchState.{SearchState}
 use Rattle.gt_ways.specs.Ways.{ShowsFirst}
 use Rattle.gt_world.specs.Likeness.{IsLikeReached}
 use Rattle.gt_world.specs.Shows.{IsSettingOf, PagesShow, TablesShow}
@@ -50,14 +50,14 @@ setting-is c config fits domains generation = record {
 }
 
 -- the list of one domain more
-pub lists-more : (tasks : List Task) (domains : List DomainConfig) (old new : List (Vec (Bor Task))) (list : Vec (Bor Task)) (i : ℕ) (d : DomainConfig) → i < length domains → map (λ (t : Bor Task). t.now) list.items ≡ list_of tasks (get_or domains i d).id → new ≡ old ++ list ∷ []
-    → map (λ (v : Vec (Bor Task)). map (λ (t : Bor Task). t.now) v.items) old ≡ map (λ (e : DomainConfig). list_of tasks e.id) (take i domains)
-    → map (λ (v : Vec (Bor Task)). map (λ (t : Bor Task). t.now) v.items) new ≡ map (λ (e : DomainConfig). list_of tasks e.id) (take (i + 1) domains)
+pub lists-more : (tasks : List RunTask) (domains : List DomainConfig) (old new : List (Vec (Bor RunTask))) (list : Vec (Bor RunTask)) (i : ℕ) (d : DomainConfig) → i < length domains → map (λ (t : Bor RunTask). t.now) list.items ≡ list_of tasks (get_or domains i d).id → new ≡ old ++ list ∷ []
+    → map (λ (v : Vec (Bor RunTask)). map (λ (t : Bor RunTask). t.now) v.items) old ≡ map (λ (e : DomainConfig). list_of tasks e.id) (take i domains)
+    → map (λ (v : Vec (Bor RunTask)). map (λ (t : Bor RunTask). t.now) v.items) new ≡ map (λ (e : DomainConfig). list_of tasks e.id) (take (i + 1) domains)
 lists-more tasks domains old new list i d within list_is pushed before =
-    ap (map (λ (v : Vec (Bor Task)). map (λ (t : Bor Task). t.now) v.items)) pushed
-    ∙ map-append (λ (v : Vec (Bor Task)). map (λ (t : Bor Task). t.now) v.items) old (list ∷ [])
-    ∙ ap (λ (l : List (List Task)). l ++ map (λ (t : Bor Task). t.now) list.items ∷ []) before
-    ∙ ap (λ (l : List Task). map (λ (e : DomainConfig). list_of tasks e.id) (take i domains) ++ l ∷ []) list_is
+    ap (map (λ (v : Vec (Bor RunTask)). map (λ (t : Bor RunTask). t.now) v.items)) pushed
+    ∙ map-append (λ (v : Vec (Bor RunTask)). map (λ (t : Bor RunTask). t.now) v.items) old (list ∷ [])
+    ∙ ap (λ (l : List (List RunTask)). l ++ map (λ (t : Bor RunTask). t.now) list.items ∷ []) before
+    ∙ ap (λ (l : List RunTask). map (λ (e : DomainConfig). list_of tasks e.id) (take i domains) ++ l ∷ []) list_is
     ∙ sym (map_more (λ (e : DomainConfig). list_of tasks e.id) domains i d within)
 
 -- the first state
@@ -70,12 +70,12 @@ first-doms c [] = refl
 first-doms c (d ∷ ds) = ap (λ (l : List DomId). d.id ∷ l) (first-doms c ds)
 
 -- the list of the domain at a place
-list-there : (c : RunContents) (scene : Scene) (at : ℕ) (d : DomainConfig) → IsSceneOf c scene → slice_get c.head.domains at ≡ Some d → tasks_at scene at ≡ list_of c.tasks d.id
-list-there c scene at d is there = ap (λ (ls : List (List Task)). get_or ls at []) is.lists
+list-there : (c : RunContents) (scene : SearchContext) (at : ℕ) (d : DomainConfig) → IsSceneOf c scene → slice_get c.head.domains at ≡ Some d → tasks_at scene at ≡ list_of c.tasks d.id
+list-there c scene at d is there = ap (λ (ls : List (List RunTask)). get_or ls at []) is.lists
     ∙ get_or_from_slice_get (map (λ (e : DomainConfig). list_of c.tasks e.id) c.head.domains) at (list_of c.tasks d.id) []
     (slice_get-map (λ (e : DomainConfig). list_of c.tasks e.id) c.head.domains at ∙ ap (option_map (λ (e : DomainConfig). list_of c.tasks e.id)) there)
 
-shows-first : (s : Setting) (c : RunContents) (tasks : List Task) (d : DomainConfig) (a : Actor) → IsFirstActor a → tasks ≡ list_of c.tasks d.id → ShowsCalls s [] tasks (first_course c d) a
+shows-first : (s : Setting) (c : RunContents) (tasks : List RunTask) (d : DomainConfig) (a : Actor) → IsFirstActor a → tasks ≡ list_of c.tasks d.id → ShowsCalls s [] tasks (first_course c d) a
 unfolding gather live maps_answered_at open_call
 shows-first s c tasks d a first list = record {
   left = sym list ∙ ap (λ (n : ℕ). drop n tasks) (sym first.next);
@@ -84,7 +84,7 @@ shows-first s c tasks d a first list = record {
   rising = omega arith;
   pins = ap mapping_pins first.mappings;
   labels = λ at handle given label here there. absurd (none-some handle here);
-  opens = subst (λ (o : Option Open). ShowsOpen s [] tasks (first_course c d) a.next resting None o) (sym first.open_call) refl;
+  opens = subst (λ (o : Option ActorCall). ShowsOpen s [] tasks (first_course c d) a.next resting None o) (sym first.open_call) refl;
 }
 
 pub none-raised : (told : List Bool) (n : ℕ) → told ≡ replicate n false → (flag : ℕ) → slice_get told flag ≡ Some true → ⊥
@@ -97,7 +97,7 @@ none-raised told n are flag is = none n flag (ap (λ (l : List Bool). slice_get 
 no-place : (at : ℕ) → at < 0 → ⊥
 no-place at lt = absurd (omega arith)
 
-pub first-shows : (c : RunContents) (scene : Scene) (w : World) → length w.actors.items ≡ length scene.roster.domains.items → All IsFirstActor w.actors.items
+pub first-shows : (c : RunContents) (scene : SearchContext) (w : SearchState) → length w.actors.items ≡ length scene.roster.domains.items → All IsFirstActor w.actors.items
     → ((config : Config) (s : Setting) → IsSettingOf config s → IsWithinLimits config → config.domains.items ≡ scene.roster.domains.items → TablesShow s [] w.ground.tables.items)
     → PagesShow [] w.ground.pages.items → length w.told.items ≡ scene.flags → ((flag : ℕ) → slice_get w.told.items flag ≡ Some true → ⊥) → IsSceneOf c scene → SceneShows c scene [] (first_courses c) w
 first-shows c scene w many first tables pages told none is = record {
@@ -123,7 +123,7 @@ first-shows c scene w many first tables pages told none is = record {
         ∙ ap (λ (n : ℕ). record { domains = c.head.domains; first_generation = n; may = may_in c.head }) is.setting.first
 
 -- as the space asks it
-pub first-shown : (scene : Scene) (w : World) → ((c : RunContents) → IsSceneOf c scene → SceneShows c scene [] (first_courses c) w) → ShowsFirst (scene_ways scene) w
+pub first-shown : (scene : SearchContext) (w : SearchState) → ((c : RunContents) → IsSceneOf c scene → SceneShows c scene [] (first_courses c) w) → ShowsFirst (scene_ways scene) w
 first-shown scene w shows p begins = (
   begins.scene_is,
   subst (λ (ks : List Course). SceneShows p.script scene p.happened ks w) (sym begins.courses)

@@ -8,8 +8,8 @@ use Rattle.gt_handles.specs.declared.handles.Handle.{Handle}
 use Rattle.gt_calls.specs.declared.action.Action.TheVariants.{Step as Makes}
 use Rattle.gt_calls.specs.declared.action.Step.{Step}
 use Rattle.gt_calls.specs.declared.call.Call.{Call}
-use Rattle.gt_calls.specs.declared.held.Held.{Held}
-use Rattle.gt_calls.specs.declared.request.Asked.{Asked}
+use Rattle.gt_calls.specs.declared.held.HeldPin.{HeldPin}
+use Rattle.gt_calls.specs.declared.request.OpenRequest.{OpenRequest}
 use Rattle.gt_calls.specs.declared.request.Request.TheVariants as requests
 use Rattle.gt_calls.specs.Path.{path}
 use Rattle.gt_calls.specs.Rules.{CallerKnowledge}
@@ -18,9 +18,9 @@ use Rattle.gt_core.specs.History.{History, Setting, Underway, maps_answered_at, 
 use Rattle.gt_core.proofs.AgreementKept.{open_call-own}
 use Rattle.gt_replay.specs.Courses.{Course, Opened, giving, resting}
 use Rattle.gt_replay.specs.Orders.{handles_without}
-use Rattle.gt_script.specs.Lists.{Task}
+use Rattle.gt_script.specs.Lists.{RunTask}
 use Rattle.gt_search.specs.Beginnings.{OpensAsRun}
-use Rattle.gt_search.specs.Calls.{LabelsShow, Rise, ShowsCalls, ShowsOpen, handles_at, known_by_place, tasks_open}
+use Rattle.gt_search.specs.Calls.{LabelsShow, SerialsRise, ShowsCalls, ShowsOpen, handles_at, known_by_place, tasks_open}
 use Rattle.gt_search.specs.Mappings.{labels_of}
 use Rattle.gt_search.specs.declared.actor.Actor.{Actor}
 use Rattle.gt_search.specs.Starting.{giving_actor}
@@ -30,7 +30,7 @@ use Rattle.gt_search.proofs.OthersStay.{same-by-place, same-handles}
 
 -- all but one handle
 
-others-kept : (low : ℕ) (hs : List Handle) (high : ℕ) (handle : Handle) → handle.serial < low → Rise low hs high → handles_without handle hs ≡ hs
+others-kept : (low : ℕ) (hs : List Handle) (high : ℕ) (handle : Handle) → handle.serial < low → SerialsRise low hs high → handles_without handle hs ≡ hs
 others-kept low [] high handle lt r = refl
 others-kept low (x ∷ hs) high handle lt r =
     let le : low ≤ x.serial = r.0 in
@@ -39,7 +39,7 @@ others-kept low (x ∷ hs) high handle lt r =
     ∙ ap (λ (l : List Handle). x ∷ l) (others-kept (suc x.serial) hs high handle (omega arith) r.1)
 
 -- without the handle at a place, that is without the handle
-pub without-place : (low : ℕ) (hs : List Handle) (high at : ℕ) (handle : Handle) → Rise low hs high → slice_get hs at ≡ Some handle → take at hs ++ drop (suc at) hs ≡ handles_without handle hs
+pub without-place : (low : ℕ) (hs : List Handle) (high at : ℕ) (handle : Handle) → SerialsRise low hs high → slice_get hs at ≡ Some handle → take at hs ++ drop (suc at) hs ≡ handles_without handle hs
 without-place low [] high at handle r there = absurd (none-some handle there)
 without-place low (x ∷ hs) high zero handle r there =
     let same : x.serial ≡ handle.serial = ap (λ (z : Handle). z.serial) (same_Some x handle there) in
@@ -56,7 +56,7 @@ abbrev pub giving_course : Course → ℕ → Course
 giving_course k choice = record k { opened = giving; held = take choice k.held ++ drop (suc choice) k.held }
 
 -- it is where the run has brought it, if the unmap is of the mapping at this place
-pub shows-giving : (s : Setting) (h : History) (tasks : List Task) (k : Course) (a : Actor) (choice : ℕ) (handle place : Handle) (now : Call) (step : Step) → ShowsCalls s h tasks k a → k.opened ≡ resting → slice_get k.held choice ≡ Some handle
+pub shows-giving : (s : Setting) (h : History) (tasks : List RunTask) (k : Course) (a : Actor) (choice : ℕ) (handle place : Handle) (now : Call) (step : Step) → ShowsCalls s h tasks k a → k.opened ≡ resting → slice_get k.held choice ≡ Some handle
     → place.serial ≡ choice → OpensAsRun (known_by_place s h k.dom) k.dom (requests.Unmap place) now step → ShowsCalls s (began k.dom (requests.Unmap handle) ∷ h) tasks (giving_course k choice) (giving_actor a now step)
 shows-giving s h tasks k a choice handle place now step show rest there serial is =
     let d = k.dom in let q = requests.Unmap handle in let g : History = began d q ∷ h in let same = begun-same s h d q in
@@ -67,8 +67,8 @@ shows-giving s h tasks k a choice handle place now step show rest there serial i
       left = show.left;
       begun = show.begun;
       few = subst (λ (m : ℕ). m + 0 ≤ a.next) (sym same.answered) few;
-      rising = subst (λ (m : ℕ). Rise 0 (handles_at g d) m) (sym same.answered) (subst (λ (hs : List Handle). Rise 0 hs (maps_answered_at h d.0)) (sym (same-handles s h g d same)) show.rising);
-      pins = show.pins ∙ ap (λ (ms : List (Handle × Held)). map (λ (m : Handle × Held). m.1) ms) (sym same.mappings);
+      rising = subst (λ (m : ℕ). SerialsRise 0 (handles_at g d) m) (sym same.answered) (subst (λ (hs : List Handle). SerialsRise 0 hs (maps_answered_at h d.0)) (sym (same-handles s h g d same)) show.rising);
+      pins = show.pins ∙ ap (λ (ms : List (Handle × HeldPin)). map (λ (m : Handle × HeldPin). m.1) ms) (sym same.mappings);
       labels = subst (λ (hs : List Handle). LabelsShow k.named d hs (labels_of a.mappings.items)) (sym (same-handles s h g d same)) show.labels;
       opens = subst (λ (c : Option Underway). ShowsOpen s g tasks (giving_course k choice) a.next giving c (Some (record { task = None; call = now; step = step })))
           (sym (open_call-own (began d q) h)) (
@@ -79,7 +79,7 @@ shows-giving s h tasks k a choice handle place now step show rest there serial i
               by_place = ap (λ (hs : List Handle). slice_get hs place.serial) (same-handles s h g d same) ∙ at;
               at = subst (λ (z : CallerKnowledge). IsAt z now []) (sym (same-by-place s h g d same)) is.at;
               follows = subst (λ (z : CallerKnowledge). path z d now.request [] ≡ Some (Makes step)) (sym (same-by-place s h g d same))
-                  (ap (λ (r : Asked). path (known_by_place s h d) d r []) is.asks ∙ is.follows);
+                  (ap (λ (r : OpenRequest). path (known_by_place s h d) d r []) is.asks ∙ is.follows);
             },
             refl,
             (

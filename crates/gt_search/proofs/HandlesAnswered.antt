@@ -16,21 +16,21 @@ use Rattle.gt_entry.specs.Bytes.{field, flags_of, is_set}
 use Rattle.gt_entry.specs.Entries.{IsEntry}
 use Rattle.gt_entry.specs.declared.entry.Entry.{Entry}
 use Rattle.gt_entry.specs.declared.entry.Entry.TheVariants.{Page, Sub, Via}
-use Rattle.gt_calls.specs.Asking.{FitsAsked, asked, domain_said, entry_said, is_readonly_said, said_in_v1, said_in_v2}
+use Rattle.gt_calls.specs.Asking.{FitsAsked, asked, domain_said, entry_spelled, is_readonly_said, said_in_v1, said_in_v2}
 use Rattle.gt_calls.specs.declared.request.Request.{Request}
 use Rattle.gt_core.specs.Alike.{IsGiven}
 use Rattle.gt_core.specs.History.{History}
 use Rattle.gt_core.specs.declared.trace.Answer.{Answer}
 use Rattle.gt_core.specs.declared.trace.Element.TheVariants.{Item as Did}
 use Rattle.gt_core.specs.declared.trace.Item.{Item}
-use Rattle.gt_host.specs.Runs.{Named, SaysRequest, bytes_said, request_of}
+use Rattle.gt_host.specs.Runs.{Named, SaysRequest, call_bytes, request_of}
 use Rattle.gt_host.proofs.AlikeLemmas.{AnswerGiven}
 use Rattle.gt_lines.specs.Hexadecimal.{hex_bytes}
 use Rattle.gt_lines.specs.declared.calls.ScriptCall.{ScriptCall}
 use Rattle.gt_lines.specs.declared.calls.ScriptCall.TheVariants as calls
 use Rattle.gt_replay.specs.Courses.{Course, back_after, course_after}
 use Rattle.gt_replay.proofs.Alike.{held_answered, held_grown, held_left, names_grown, names_more}
-use Rattle.gt_script.specs.Lists.{Task}
+use Rattle.gt_script.specs.Lists.{RunTask}
 use Rattle.gt_search.specs.Scenes.{WasAnsweredAll}
 use Rattle.gt_search.specs.Starting.{held_but}
 
@@ -60,7 +60,7 @@ pub but-answered : (h : History) (k : Course) (choice : ℕ) → WasAnsweredAll 
 but-answered h k choice was = record { named = was.named; held = held_left h k.dom.0 choice k.held was.held }
 
 -- before other tasks
-pub left-answered : (h : History) (k : Course) (ts : List Task) → WasAnsweredAll h k → WasAnsweredAll h (record k { tasks = ts })
+pub left-answered : (h : History) (k : Course) (ts : List RunTask) → WasAnsweredAll h k → WasAnsweredAll h (record k { tasks = ts })
 left-answered h k ts was = record { named = was.named; held = was.held }
 
 -- a domain keeps its number
@@ -98,7 +98,7 @@ sub_said bytes = Sub (domain_said bytes) (is_readonly_said bytes) (field bytes 8
 abbrev via_said : List ℕ → Entry
 via_said bytes = Via (domain_said bytes) (is_readonly_said bytes) (record { 0 = field bytes 4 2 }) (record { 0 = field bytes 8 4 })
 
-entry-fits : (bytes : List ℕ) → IsBytes bytes → IsEntry (entry_said bytes)
+entry-fits : (bytes : List ℕ) → IsBytes bytes → IsEntry (entry_spelled bytes)
 entry-fits bytes all =
     let dom : field bytes 2 2 < 65536 = small-field bytes 2 2 all in
     let low : field bytes 4 4 < 2 ^ 32 = small-field bytes 4 4 all in
@@ -133,7 +133,7 @@ pub names-other : (call : ScriptCall) → ((gref : GrantRef) (entry : Entry) →
 names-other (calls.Grant gref entry) other = absurd (other gref entry refl)
 names-other call other = tt
 
-said-so : (named : List Named) (dom : DomId) (bytes : Bor (List ℕ)) (call : ScriptCall) → NamesEntry call → bytes.now ≡ bytes_said call → FitsAsked (asked (request_of named dom bytes call))
+said-so : (named : List Named) (dom : DomId) (bytes : Bor (List ℕ)) (call : ScriptCall) → NamesEntry call → bytes.now ≡ call_bytes call → FitsAsked (asked (request_of named dom bytes call))
 unfolding request_of
 said-so named dom bytes (calls.Grant gref entry) fits e = fits
 said-so named dom bytes (calls.GrantBytes gref hex) fits e = entry-fits bytes.now (subst IsBytes (sym e) (hex-bytes hex))

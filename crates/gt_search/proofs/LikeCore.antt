@@ -2,8 +2,8 @@
 use Rattle.gt_core.proofs.Words.{◌≡◌, ◌≢◌, inl, inr, ◌++◌, ℕ, refl, Bool, List, [], ◌∷◌, Option, Some, None, cond, sym}
 use Rattle.gt_core.proofs.Words.{ap, ◌∙◌, arith, subst}
 use Rattle.gt_core.proofs.Words.{eq-eqb, none-some, same_Some, take, drop, reverse, option_map, DomId, GrantRef, Denial}
-use Rattle.gt_core.proofs.Words.{Header, header_word, Handle, Held, ByMapping}
-use Rattle.gt_core.proofs.Words.{Asked, Map, Load, Store, Peek, Seen, Word, Taken, Missed, Action, Makes, Done, Verdict}
+use Rattle.gt_core.proofs.Words.{Header, header_word, Handle, HeldPin, ByMapping}
+use Rattle.gt_core.proofs.Words.{OpenRequest, Map, Load, Store, Peek, Observation, Word, Taken, Missed, Action, Makes, Done, CallResult}
 use Rattle.gt_core.proofs.Words.{Granted, Given, KeptPin, Refused, Step}
 use Rattle.gt_core.proofs.Words.{LookHeader, LookControl, LookBody, PinStep, Unpin, Exchange, ReadBytes, Phase}
 use Rattle.gt_core.proofs.Words.{Exchanging, Changing, Walking}
@@ -13,7 +13,7 @@ use Rattle.gt_core.proofs.Words.{table_at, contents_at, maps_answered_at, path, 
 use Rattle.gt_core.proofs.Words.{StepsRight, AnsweredBy, GivesValue}
 use Rattle.gt_core.proofs.Words.{AreAlike, IsRun, bare_step, action_at, phase_after, last_first, refusal_in, verdict_in}
 use Rattle.gt_core.proofs.Words.{stood, CallerKnowledge, HasShown}
-use Rattle.gt_core.proofs.Words.{Change, IsQuiet, Poke, RestsOnRequest}
+use Rattle.gt_core.proofs.Words.{EntryChange, IsQuiet, Poke, RestsOnRequest}
 use Rattle.gt_core.proofs.{Phases.makes-same, Phases.by-leg, Phases.by-giving, Phases.IsHere, Phases.next_of}
 use Rattle.gt_core.proofs.{Phases.seen-fits, Steps.See.state-there, Steps.Observers.stepped}
 use Rattle.gt_core.proofs.{WithoutKeys.bare, WithoutKeys.bared, WithoutKeys.bare-same, WithoutKeys.bare_asked}
@@ -28,9 +28,9 @@ use Rattle.gt_core.specs.Prelude.{WriteBytes}
 use Rattle.gt_core.specs.declared.trace.Answer.{Answer}
 use Rattle.gt_core.specs.declared.trace.Answer.TheVariants as answers
 use Rattle.gt_core.specs.declared.trace.Bytes.{Bytes}
-use Rattle.gt_core.specs.declared.underway.Open.{Open}
+use Rattle.gt_core.specs.declared.underway.OpenCall.{OpenCall}
 use Rattle.gt_calls.proofs.Advancing.{continues}
-use Rattle.gt_calls.specs.declared.action.Value.{Value}
+use Rattle.gt_calls.specs.declared.action.CallValue.{CallValue}
 use Rattle.gt_calls.specs.Following.{FitsNext}
 use Rattle.gt_calls.specs.Path.{Continuation}
 use Rattle.gt_world.specs.Likeness.{IsLikeReached}
@@ -69,63 +69,63 @@ no-key : (y z : Step) → HasNoKey z → bare_step z ≡ bare_step y → y ≡ z
 no-key (Unpin p (ByMapping handle)) z n e = grind arith
 no-key y z n e = grind arith
 
-done-bare : (a : Action) (v : Verdict) → bare_action a ≡ Done v → a ≡ Done v
+done-bare : (a : Action) (v : CallResult) → bare_action a ≡ Done v → a ≡ Done v
 done-bare (Makes z) v e = absurd (let f : Makes (bare_step z) ≡ Done v = e in cc)
 done-bare (Done u) v e = e
 
-value-bare : (s : Setting) (h : History) (d : DomId) (r : Asked) (z : Step) (answer : Answer) → GivesValue s h d r (Some z) answer → GivesValue s h d (bare_asked r) (Some (bare_step z)) answer
+value-bare : (s : Setting) (h : History) (d : DomId) (r : OpenRequest) (z : Step) (answer : Answer) → GivesValue s h d r (Some z) answer → GivesValue s h d (bare_asked r) (Some (bare_step z)) answer
 value-bare s h d r z answer g = grind arith
 
-bare-value : (s : Setting) (h : History) (d : DomId) (r : Asked) (z : Step) (answer : Answer) → GivesValue s h d (bare_asked r) (Some (bare_step z)) answer → GivesValue s h d r (Some z) answer
+bare-value : (s : Setting) (h : History) (d : DomId) (r : OpenRequest) (z : Step) (answer : Answer) → GivesValue s h d (bare_asked r) (Some (bare_step z)) answer → GivesValue s h d r (Some z) answer
 bare-value s h d r z answer g = grind arith
 
 -- what a call asks that comes to an access of one range
 
 -- it loads or peeks
-abbrev IsReading : Asked → Type 0
+abbrev IsReading : OpenRequest → Type 0
 IsReading (Load handle off len) = Unit {0}
 IsReading (Peek frame off len) = Unit {0}
 IsReading r = ⊥
 
 -- it stores or pokes
-abbrev pub IsWriting : Asked → Type 0
+abbrev pub IsWriting : OpenRequest → Type 0
 IsWriting (Store handle off len) = Unit {0}
 IsWriting (Poke frame off len) = Unit {0}
 IsWriting r = ⊥
 
 -- it maps
-abbrev pub AsksMapping : Asked → Type 0
+abbrev pub AsksMapping : OpenRequest → Type 0
 AsksMapping (Map dom gref flags) = Unit {0}
 AsksMapping r = ⊥
 
-from-reading : (r : Asked) → IsReading (bare_asked r) → IsReading r
+from-reading : (r : OpenRequest) → IsReading (bare_asked r) → IsReading r
 from-reading r a = grind arith
 
-to-reading : (r : Asked) → IsReading r → IsReading (bare_asked r)
+to-reading : (r : OpenRequest) → IsReading r → IsReading (bare_asked r)
 to-reading r a = grind arith
 
-from-writing : (r : Asked) → IsWriting (bare_asked r) → IsWriting r
+from-writing : (r : OpenRequest) → IsWriting (bare_asked r) → IsWriting r
 from-writing r a = grind arith
 
-to-writing : (r : Asked) → IsWriting r → IsWriting (bare_asked r)
+to-writing : (r : OpenRequest) → IsWriting r → IsWriting (bare_asked r)
 to-writing r a = grind arith
 
-from-mapping : (r : Asked) → AsksMapping (bare_asked r) → AsksMapping r
+from-mapping : (r : OpenRequest) → AsksMapping (bare_asked r) → AsksMapping r
 from-mapping r a = grind arith
 
-to-mapping : (r : Asked) → AsksMapping r → AsksMapping (bare_asked r)
+to-mapping : (r : OpenRequest) → AsksMapping r → AsksMapping (bare_asked r)
 to-mapping r a = grind arith
 
 -- answers
 
 -- how a call of a run ends after its step: a map with a taken pin of the entry as it is, under the next serial; else as its
 -- verdict tells
-abbrev pub EndsAs : History → DomId → Asked → Step → Seen → Verdict → Answer → Type 0
+abbrev pub EndsAs : History → DomId → OpenRequest → Step → Observation → CallResult → Answer → Type 0
 EndsAs h d r z seen (KeptPin m) answer =
     (handle : Handle) × (answer ≡ answers.Mapped handle) × (handle.serial ≡ maps_answered_at h d.0) × (z ≡ PinStep m) × (seen ≡ Taken) × (entry_at h m.dom.0 m.gref.0 ≡ m.entry) × AsksMapping r
 EndsAs h d r z seen v answer = TellsEnd h z v answer
 
-tells-value : (h : History) (z : Step) (told : Value) (answer : Answer) → answer ≡ answer_with told → TellsEnd h z (Given told) answer
+tells-value : (h : History) (z : Step) (told : CallValue) (answer : Answer) → answer ≡ answer_with told → TellsEnd h z (Given told) answer
 tells-value h (ReadBytes dom frame off len) told answer e = e
 tells-value h z told answer e = e
 
@@ -137,14 +137,14 @@ tells-denial h z denial answer e = e
 refused-so : (answer : Answer) (denial : Denial) → refusal_of answer ≡ Some denial → answer ≡ answers.Denied denial
 refused-so answer denial e = grind arith
 
-done-so : (s : Setting) (h g : History) (d : DomId) (r : Asked) (z : Step) (answer : Answer) → GivesValue s g d r (Some z) answers.Done → GivesValue s h d r (Some z) answer → refusal_of answer ≡ None → answer ≡ answers.Done
+done-so : (s : Setting) (h g : History) (d : DomId) (r : OpenRequest) (z : Step) (answer : Answer) → GivesValue s g d r (Some z) answers.Done → GivesValue s h d r (Some z) answer → refusal_of answer ≡ None → answer ≡ answers.Done
 done-so s h g d r z answer one other none = grind arith
 
-value-so : (s : Setting) (h g : History) (d : DomId) (r : Asked) (z : Step) (value : Value) (answer : Answer) → ((t : DomId) → table_at s g t ≡ table_at s h t) → GivesValue s g d r (Some z) (answer_with value) → GivesValue s h d r (Some z) answer
+value-so : (s : Setting) (h g : History) (d : DomId) (r : OpenRequest) (z : Step) (value : CallValue) (answer : Answer) → ((t : DomId) → table_at s g t ≡ table_at s h t) → GivesValue s g d r (Some z) (answer_with value) → GivesValue s h d r (Some z) answer
     → refusal_of answer ≡ None → answer ≡ answer_with value
 value-so s h g d r z value answer tables one other none = grind (arith, tables)
 
-read-so : (s : Setting) (h : History) (d : DomId) (r : Asked) (dom : DomId) (frame off len : ℕ) (answer : Answer) → IsReading r → GivesValue s h d r (Some (ReadBytes dom frame off len)) answer → refusal_of answer ≡ None
+read-so : (s : Setting) (h : History) (d : DomId) (r : OpenRequest) (dom : DomId) (frame off len : ℕ) (answer : Answer) → IsReading r → GivesValue s h d r (Some (ReadBytes dom frame off len)) answer → refusal_of answer ≡ None
     → (b : Bytes) × (answer ≡ answers.Bytes b) × (b.bytes.items ≡ take len (drop off (contents_at h dom.0 frame)))
 read-so s h d (Load handle o n) dom frame off len (answers.Bytes b) is g none = (b, refl, g)
 read-so s h d (Peek f o n) dom frame off len (answers.Bytes b) is g none = (b, refl, g)
@@ -152,15 +152,15 @@ read-so s h d (Load handle o n) dom frame off len (answers.Denied denial) is g n
 read-so s h d (Peek f o n) dom frame off len (answers.Denied denial) is g none = absurd (none-some denial (sym none))
 read-so s h d r dom frame off len answer is g none = absurd (grind arith)
 
-mapped-so : (s : Setting) (h : History) (d : DomId) (r : Asked) (m : Held) (answer : Answer) → AsksMapping r → GivesValue s h d r (Some (PinStep m)) answer → refusal_of answer ≡ None
+mapped-so : (s : Setting) (h : History) (d : DomId) (r : OpenRequest) (m : HeldPin) (answer : Answer) → AsksMapping r → GivesValue s h d r (Some (PinStep m)) answer → refusal_of answer ≡ None
     → (handle : Handle) × (answer ≡ answers.Mapped handle) × (handle.serial ≡ maps_answered_at h d.0)
 mapped-so s h d (Map dom gref flags) m (answers.Mapped handle) is g none = (handle, refl, g)
 mapped-so s h d (Map dom gref flags) m (answers.Denied denial) is g none = absurd (none-some denial (sym none))
 mapped-so s h d r m answer is g none = absurd (grind arith)
 
 -- an exchange that was taken ends its call
-taken-ends : (k : CallerKnowledge) (way : Continuation) (d : DomId) (r : Asked) (shown : List Seen) (phase : Phase) (gref : GrantRef) (looked : ℕ) (change : Change) → HasShown k way d r shown phase
-    → action_at d phase ≡ Makes (Exchange gref looked change) → (v : Verdict) × (action_at d (phase_after k d phase Taken) ≡ Done v)
+taken-ends : (k : CallerKnowledge) (way : Continuation) (d : DomId) (r : OpenRequest) (shown : List Observation) (phase : Phase) (gref : GrantRef) (looked : ℕ) (change : EntryChange) → HasShown k way d r shown phase
+    → action_at d phase ≡ Makes (Exchange gref looked change) → (v : CallResult) × (action_at d (phase_after k d phase Taken) ≡ Done v)
 taken-ends k way d r shown (Exchanging g l c) gref looked change a e = (Granted, refl)
 taken-ends k way d r shown (Changing g c more l) gref looked change a e = (Granted, refl)
 taken-ends k way d r shown (Walking aim l at) gref looked change a e =
@@ -173,25 +173,25 @@ taken-ends k way d r shown phase gref looked change a e = absurd (let f = makes-
 -- a step
 
 -- what is so of a step of an open call
-pub record StepInRun (s : Setting) (h : History) (d : DomId) (c : Underway) (z : Step) (seen : Seen) (answer : Option Answer) : Type 0 where
+pub record StepInRun (s : Setting) (h : History) (d : DomId) (c : Underway) (z : Step) (seen : Observation) (answer : Option Answer) : Type 0 where
   -- if the call goes on, it is no last step, and no exchange that was taken
   pub going : (y : Step) → next_in s h d c seen ≡ Some (Makes y)
-      → (answer ≡ None) × (IsSingle z → ⊥) × ((gref : GrantRef) (looked : ℕ) (change : Change) → z ≡ Exchange gref looked change → seen ≡ Taken → ⊥)
+      → (answer ≡ None) × (IsSingle z → ⊥) × ((gref : GrantRef) (looked : ℕ) (change : EntryChange) → z ≡ Exchange gref looked change → seen ≡ Taken → ⊥)
   -- if it ends, its answer is that of its verdict
-  pub ending : (v : Verdict) → next_in s h d c seen ≡ Some (Done v) → (a : Answer) × (answer ≡ Some a) × EndsAs h d c.request z seen v a
+  pub ending : (v : CallResult) → next_in s h d c seen ≡ Some (Done v) → (a : Answer) × (answer ≡ Some a) × EndsAs h d c.request z seen v a
   -- only a store or a poke writes what its call was given
   pub writing : (dom : DomId) (frame off len : ℕ) → z ≡ WriteBytes dom frame off len → IsWriting c.request
 
-none-answered : (s : Setting) (h : History) (d : DomId) (r : Asked) (z : Step) (giving : Bool) (v : Option Verdict) (answer : Option Answer) (against : Option Denial) → v ≡ None → AnsweredBy s h d r (Some z) giving v answer against → answer ≡ None
+none-answered : (s : Setting) (h : History) (d : DomId) (r : OpenRequest) (z : Step) (giving : Bool) (v : Option CallResult) (answer : Option Answer) (against : Option Denial) → v ≡ None → AnsweredBy s h d r (Some z) giving v answer against → answer ≡ None
 none-answered s h d r z giving v answer against none by = grind arith
 
-some-answered : (s : Setting) (h : History) (d : DomId) (r : Asked) (z : Step) (giving : Bool) (v : Verdict) (answer : Option Answer) (against : Option Denial) → AnsweredBy s h d r (Some z) giving (Some v) answer against
+some-answered : (s : Setting) (h : History) (d : DomId) (r : OpenRequest) (z : Step) (giving : Bool) (v : CallResult) (answer : Option Answer) (against : Option Denial) → AnsweredBy s h d r (Some z) giving (Some v) answer against
     → (a : Answer) × (answer ≡ Some a) × (refusal_of a ≡ refusal_in (Some v)) × GivesValue s h d r (Some z) a
 some-answered s h d r z giving v None against by = absurd by
 some-answered s h d r z giving v (Some a) against by = (a, refl, by.0, by.2)
 
 module _ (s : Setting) (h g : History) (alike : AreAlike s h g) (reached : CanBeReached s g) (x : State) (here : state_of reached.0.domains x.id.0 ≡ Some x)
-    (c w : Underway) (o : Open) (call_h : open_call h x.id.0 ≡ Some c) (call_g : open_call g x.id.0 ≡ Some w) (b : OpenAgrees s g x.id o w) (z : Step) (seen : Seen) (answer : Option Answer) (right : StepsRight s h (stepped x.id z seen answer) z seen c) where
+    (c w : Underway) (o : OpenCall) (call_h : open_call h x.id.0 ≡ Some c) (call_g : open_call g x.id.0 ≡ Some w) (b : OpenAgrees s g x.id o w) (z : Step) (seen : Observation) (answer : Option Answer) (right : StepsRight s h (stepped x.id z seen answer) z seen c) where
   bares : bare h ≡ bare g
   bares = bare-same h g alike.same
 
@@ -228,16 +228,16 @@ module _ (s : Setting) (h g : History) (alike : AreAlike s h g) (reached : CanBe
   next-same : option_map bare_action (next_in s h x.id c seen) ≡ Some (bare_action there)
   next-same = sym (path-at s h x.id c.request (values c ++ seen ∷ []) alike.first (subst (CallKnown h x.id.0) call_h (open-known s h x.id.0 alike.first)))
       ∙ ap (λ (l : History). option_map bare_action (path (known_at s l x.id) x.id (bare_asked c.request) (values c ++ seen ∷ []))) bares
-      ∙ ap (λ (r : Asked). option_map bare_action (path (known_at s (bare g) x.id) x.id r (values c ++ seen ∷ []))) requests
-      ∙ ap (λ (vs : List Seen). option_map bare_action (path (known_at s (bare g) x.id) x.id (bare_asked w.request) (vs ++ seen ∷ []))) same-values
+      ∙ ap (λ (r : OpenRequest). option_map bare_action (path (known_at s (bare g) x.id) x.id r (values c ++ seen ∷ []))) requests
+      ∙ ap (λ (vs : List Observation). option_map bare_action (path (known_at s (bare g) x.id) x.id (bare_asked w.request) (vs ++ seen ∷ []))) same-values
       ∙ path-at s g x.id w.request (values w ++ seen ∷ []) alike.second (subst (CallKnown g x.id.0) call_g (open-known s g x.id.0 alike.second))
-      ∙ ap (λ (v : Seen). option_map bare_action (path (known_at s g x.id) x.id w.request (values w ++ v ∷ []))) (sym saw)
+      ∙ ap (λ (v : Observation). option_map bare_action (path (known_at s g x.id) x.id w.request (values w ++ v ∷ []))) (sym saw)
       ∙ ap (option_map bare_action) next-there
 
-  not-over : (y : Step) (v : Verdict) → next_in s h x.id c seen ≡ Some (Makes y) → there ≡ Done v → ⊥
+  not-over : (y : Step) (v : CallResult) → next_in s h x.id c seen ≡ Some (Makes y) → there ≡ Done v → ⊥
   not-over y v e f = let k : Makes (bare_step y) ≡ Done v = same_Some _ _ (sym (ap (option_map bare_action) e) ∙ next-same ∙ ap (λ (a : Action). Some (bare_action a)) f) in cc
 
-  over : (v : Verdict) → next_in s h x.id c seen ≡ Some (Done v) → there ≡ Done v
+  over : (v : CallResult) → next_in s h x.id c seen ≡ Some (Done v) → there ≡ Done v
   over v e = done-bare there v (same_Some _ _ (sym next-same ∙ ap (option_map bare_action) e))
 
   no-single : (y : Step) → next_in s h x.id c seen ≡ Some (Makes y) → IsSingle z → ⊥
@@ -245,11 +245,11 @@ module _ (s : Setting) (h g : History) (alike : AreAlike s h g) (reached : CanBe
       let r = single-ends s g x.id w.request (reverse w.steps) b.phase o.step b.acts b.place (from-single o.step (subst IsSingle same-step (to-single z single))) in
       not-over y r.0 e (ap (action_at x.id) r.1)
 
-  no-taken : (y : Step) → next_in s h x.id c seen ≡ Some (Makes y) → (gref : GrantRef) (looked : ℕ) (change : Change) → z ≡ Exchange gref looked change → seen ≡ Taken → ⊥
+  no-taken : (y : Step) → next_in s h x.id c seen ≡ Some (Makes y) → (gref : GrantRef) (looked : ℕ) (change : EntryChange) → z ≡ Exchange gref looked change → seen ≡ Taken → ⊥
   no-taken y e gref looked change is taken =
       let made : o.step ≡ Exchange gref looked change = no-key o.step (Exchange gref looked change) tt (ap bare_step (sym is) ∙ same-step) in
       let r = taken-ends (known_at s g x.id) (path (known_at s g x.id) x.id w.request) x.id w.request (values w) b.phase gref looked change b.at.has_shown (b.acts ∙ ap (λ (q : Step). Makes q) made) in
-      not-over y r.0 e (ap (λ (v : Seen). action_at x.id (phase_after (known_at s g x.id) x.id b.phase v)) (saw ∙ taken) ∙ r.1)
+      not-over y r.0 e (ap (λ (v : Observation). action_at x.id (phase_after (known_at s g x.id) x.id b.phase v)) (saw ∙ taken) ∙ r.1)
 
   same-table : (t : DomId) → table_at s g t ≡ table_at s h t
   same-table t = sym ((bared g).table s t) ∙ ap (λ (l : History). table_at s l t) (sym bares) ∙ (bared h).table s t
@@ -259,7 +259,7 @@ module _ (s : Setting) (h g : History) (alike : AreAlike s h g) (reached : CanBe
 
   -- the value there is one here
   value-here : (a : Answer) → GivesValue s g x.id w.request (Some o.step) a → GivesValue s g x.id c.request (Some z) a
-  value-here a v = bare-value s g x.id c.request z a (subst (λ (r : Asked). GivesValue s g x.id r (Some (bare_step z)) a) (sym requests)
+  value-here a v = bare-value s g x.id c.request z a (subst (λ (r : OpenRequest). GivesValue s g x.id r (Some (bare_step z)) a) (sym requests)
       (subst (λ (y : Step). GivesValue s g x.id (bare_asked w.request) (Some y) a) (sym same-step) (value-bare s g x.id w.request o.step a v)))
 
   reading : (dom : DomId) (frame off len : ℕ) → z ≡ ReadBytes dom frame off len → IsReading c.request
@@ -286,7 +286,7 @@ module _ (s : Setting) (h g : History) (alike : AreAlike s h g) (reached : CanBe
       (subst (λ (q : Step). GivesValue s g x.id c.request (Some q) answers.Done) is (value-here answers.Done (ends (λ dom frame off len e.
       let f : y ≡ ReadBytes dom frame off len = sym is ∙ no-key z (ReadBytes dom frame off len) tt (ap bare_step (sym e) ∙ sym same-step) in cc)))) value none
 
-  ended-here : (v : Verdict) (a : Answer) → EndsWith s g x.id w.request b.phase o.step v → refusal_of a ≡ refusal_in (Some v) → GivesValue s h x.id c.request (Some z) a → EndsAs h x.id c.request z seen v a
+  ended-here : (v : CallResult) (a : Answer) → EndsWith s g x.id w.request b.phase o.step v → refusal_of a ≡ refusal_in (Some v) → GivesValue s h x.id c.request (Some z) a → EndsAs h x.id c.request z seen v a
   ended-here Granted a ends refusal value = granted-here z a refl ends value refusal
   ended-here (Given told) a ends refusal value = tells-value h z told a (value-so s h g x.id c.request z told a same-table (value-here (answer_with told) ends) value refusal)
   ended-here (Refused denial) a ends refusal value = tells-denial h z denial a (refused-so a denial refusal)
@@ -300,7 +300,7 @@ module _ (s : Setting) (h g : History) (alike : AreAlike s h g) (reached : CanBe
         r.2,
         made,
         sym saw ∙ ap (seen_by s g x.id) ends.is ∙ ap (λ (q : Bool). cond q Taken (Missed (word_at s g m.dom.0 m.gref.0))) (eq-eqb (word_at s g m.dom.0 m.gref.0) m.word ends.taken),
-        same-entry m.dom.0 m.gref.0 ∙ ap (λ (p : Held). p.entry) pin.is,
+        same-entry m.dom.0 m.gref.0 ∙ ap (λ (p : HeldPin). p.entry) pin.is,
         map,
       )
 
@@ -308,21 +308,21 @@ module _ (s : Setting) (h g : History) (alike : AreAlike s h g) (reached : CanBe
   in-run = record {
     going = λ y e. (none-answered s h x.id c.request z _ (verdict_in (next_in s h x.id c seen)) answer _ (ap verdict_in e) right.answered, no-single y e, no-taken y e);
     ending = λ v e. let against = stood s (stepped x.id z seen answer ∷ h) x.id.0 in let giving = gives_back (next_in s h x.id c seen) in
-        let r = some-answered s h x.id c.request z giving v answer against (subst (λ (u : Option Verdict). AnsweredBy s h x.id c.request (Some z) giving u answer against) (ap verdict_in e) right.answered) in
+        let r = some-answered s h x.id c.request z giving v answer against (subst (λ (u : Option CallResult). AnsweredBy s h x.id c.request (Some z) giving u answer against) (ap verdict_in e) right.answered) in
         (r.0, r.1, ended-here v r.0 (call-ends s g reached.0.domains x.id w.request (values w) (reverse w.steps) b.phase o.step stands v (over v e)) r.2 r.3);
     writing = writing-here;
   }
 
 -- by whatever is open in the core
-home : (s : Setting) (h g : History) (x : State) (z : Step) (seen : Seen) (answer : Option Answer) → AreAlike s h g → (reached : CanBeReached s g) → state_of reached.0.domains x.id.0 ≡ Some x → (c : Underway) (w : Option Underway) → open_call h x.id.0 ≡ Some c → open_call g x.id.0 ≡ w
-    → (o : Option Open) → CallAgrees s g x.id o w → StepsRight s h (stepped x.id z seen answer) z seen c → StepInRun s h x.id c z seen answer
+home : (s : Setting) (h g : History) (x : State) (z : Step) (seen : Observation) (answer : Option Answer) → AreAlike s h g → (reached : CanBeReached s g) → state_of reached.0.domains x.id.0 ≡ Some x → (c : Underway) (w : Option Underway) → open_call h x.id.0 ≡ Some c → open_call g x.id.0 ≡ w
+    → (o : Option OpenCall) → CallAgrees s g x.id o w → StepsRight s h (stepped x.id z seen answer) z seen c → StepInRun s h x.id c z seen answer
 home s h g x z seen answer alike reached here c None hu gw o a right =
     absurd (none-some (bare_call c) (sym (sym ((bared h).open_calls x.id.0 ∙ ap (option_map bare_call) hu) ∙ ap (λ (l : History). open_call l x.id.0) (bare-same h g alike.same) ∙ (bared g).open_calls x.id.0 ∙ ap (option_map bare_call) gw)))
 home s h g x z seen answer alike reached here c (Some w) hu gw None a right = absurd a
 home s h g x z seen answer alike reached here c (Some w) hu gw (Some o) a right = in-run s h g alike reached x here c w o hu gw a z seen answer right
 
 -- a step that is right after a history which is like one that a core stands for
-pub step-in-run : (s : Setting) (h : History) (d : DomId) (c : Underway) (z : Step) (seen : Seen) (answer : Option Answer) → IsLikeReached s h → IsInRun s d → open_call h d.0 ≡ Some c → StepsRight s h (stepped d z seen answer) z seen c → StepInRun s h d c z seen answer
+pub step-in-run : (s : Setting) (h : History) (d : DomId) (c : Underway) (z : Step) (seen : Observation) (answer : Option Answer) → IsLikeReached s h → IsInRun s d → open_call h d.0 ≡ Some c → StepsRight s h (stepped d z seen answer) z seen c → StepInRun s h d c z seen answer
 step-in-run s h d c z seen answer (g, alike, reached) run call right =
     let st = reached.1.domains in let xs = reached.0.domains in
     let some : state_of xs d.0 ≢ None = λ e. run (subst (StateAgrees s g d) e (st.each d)) in

@@ -8,15 +8,15 @@ use Rattle.gt_types.specs.declared.DomId.{DomId}
 use Rattle.gt_handles.specs.Handles.{same_handle}
 use Rattle.gt_handles.specs.Listing.{listed}
 use Rattle.gt_handles.specs.declared.handles.Handle.{Handle}
-use Rattle.gt_calls.specs.declared.held.Held.{Held}
-use Rattle.gt_calls.specs.declared.request.Asked.TheVariants as asks
+use Rattle.gt_calls.specs.declared.held.HeldPin.{HeldPin}
+use Rattle.gt_calls.specs.declared.request.OpenRequest.TheVariants as asks
 use Rattle.gt_calls.specs.declared.request.Request.{Request}
 use Rattle.gt_calls.specs.Asking.{asked, bytes_of, plainly_asked}
 use Rattle.gt_core.specs.History.{mapping_of}
 use Rattle.gt_host.specs.Runs.{Named, SaysRequest, handle_named, handle_of, never_given, request_of}
 use Rattle.gt_lines.specs.declared.calls.ScriptCall.{ScriptCall}
 use Rattle.gt_lines.specs.declared.calls.ScriptCall.TheVariants as calls
-use Rattle.gt_search.specs.Calls.{Rise}
+use Rattle.gt_search.specs.Calls.{SerialsRise}
 use Rattle.gt_search.specs.Placing.{CountFrom}
 use Rattle.gt_search.specs.Renaming.{FindsSame, asked_under}
 use Rattle.gt_search.proofs.ByPlace.{NamesAlike, NamesNothing}
@@ -27,25 +27,25 @@ use Rattle.std.proofs.lemmas.Option.{slice_get_past}
 
 -- serials that rise
 
-pub rise-from : (low : ℕ) (handles : List Handle) (high at : ℕ) (handle : Handle) → Rise low handles high → slice_get handles at ≡ Some handle → low ≤ handle.serial
+pub rise-from : (low : ℕ) (handles : List Handle) (high at : ℕ) (handle : Handle) → SerialsRise low handles high → slice_get handles at ≡ Some handle → low ≤ handle.serial
 rise-from low [] high at handle r h = absurd (none-some handle h)
 rise-from low (first ∷ more) high zero handle r h = let e : first.serial ≡ handle.serial = ap (λ (z : Handle). z.serial) (same_Some first handle h) in let le : low ≤ first.serial = r.0 in omega arith
 rise-from low (first ∷ more) high (suc at) handle r h = let more-le = rise-from (suc first.serial) more high at handle r.1 h in let le : low ≤ first.serial = r.0 in omega arith
 
-pub rise-below : (low : ℕ) (handles : List Handle) (high at : ℕ) (handle : Handle) → Rise low handles high → slice_get handles at ≡ Some handle → handle.serial < high
+pub rise-below : (low : ℕ) (handles : List Handle) (high at : ℕ) (handle : Handle) → SerialsRise low handles high → slice_get handles at ≡ Some handle → handle.serial < high
 rise-below low [] high at handle r h = absurd (none-some handle h)
 rise-below low (first ∷ more) high zero handle r h = let e : first.serial ≡ handle.serial = ap (λ (z : Handle). z.serial) (same_Some first handle h) in let lt = end-after (suc first.serial) more high r.1 in omega arith where
-  end-after : (n : ℕ) (hs : List Handle) (m : ℕ) → Rise n hs m → n ≤ m
+  end-after : (n : ℕ) (hs : List Handle) (m : ℕ) → SerialsRise n hs m → n ≤ m
   end-after n [] m r = r
   end-after n (x ∷ xs) m r = let le = end-after (suc x.serial) xs m r.1 in let from : n ≤ x.serial = r.0 in omega arith
 rise-below low (first ∷ more) high (suc at) handle r h = rise-below (suc first.serial) more high at handle r.1 h
 
-pub count-rises : (n : ℕ) (handles : List Handle) → CountFrom n handles → Rise n handles (n + length handles)
+pub count-rises : (n : ℕ) (handles : List Handle) → CountFrom n handles → SerialsRise n handles (n + length handles)
 count-rises n [] c = omega arith
 count-rises n (first ∷ more) c = (
   let e : first.serial ≡ n = c.0 in omega arith,
-  subst (λ (m : ℕ). Rise (suc first.serial) more m) (let e : suc n + length more ≡ n + suc (length more) = omega arith in e)
-      (subst (λ (m : ℕ). Rise (suc m) more (suc n + length more)) (sym c.0) (count-rises (suc n) more c.1)),
+  subst (λ (m : ℕ). SerialsRise (suc first.serial) more m) (let e : suc n + length more ≡ n + suc (length more) = omega arith in e)
+      (subst (λ (m : ℕ). SerialsRise (suc m) more (suc n + length more)) (sym c.0) (count-rises (suc n) more c.1)),
 )
 
 -- the mapping under a handle
@@ -62,33 +62,33 @@ apart-serials a b lt = by (same_handle a b) refl where
   by true e = let f : a.serial ≡ b.serial = ap (λ (z : Handle). z.serial) (same-is a b e) in absurd (omega arith)
   by false e = e
 
-pub listed-at : (low : ℕ) (ms : List (Handle × Held)) (high at : ℕ) (handle : Handle) → Rise low (map (λ (m : Handle × Held). m.0) ms) high → slice_get (map (λ (m : Handle × Held). m.0) ms) at ≡ Some handle
-    → listed ms handle ≡ slice_get (map (λ (m : Handle × Held). m.1) ms) at
+pub listed-at : (low : ℕ) (ms : List (Handle × HeldPin)) (high at : ℕ) (handle : Handle) → SerialsRise low (map (λ (m : Handle × HeldPin). m.0) ms) high → slice_get (map (λ (m : Handle × HeldPin). m.0) ms) at ≡ Some handle
+    → listed ms handle ≡ slice_get (map (λ (m : Handle × HeldPin). m.1) ms) at
 listed-at low [] high at handle r h = refl
 listed-at low (m ∷ ms) high zero handle r h =
     ap (λ (b : Bool). cond b (Some m.1) (listed ms handle)) (ap (same_handle m.0) (sym (same_Some m.0 handle h)) ∙ same-self m.0)
 listed-at low (m ∷ ms) high (suc at) handle r h =
-    let le : suc m.0.serial ≤ handle.serial = rise-from (suc m.0.serial) (map (λ (m : Handle × Held). m.0) ms) high at handle r.1 h in
+    let le : suc m.0.serial ≤ handle.serial = rise-from (suc m.0.serial) (map (λ (m : Handle × HeldPin). m.0) ms) high at handle r.1 h in
     ap (λ (b : Bool). cond b (Some m.1) (listed ms handle)) (apart-serials m.0 handle (omega arith)) ∙ listed-at (suc m.0.serial) ms high at handle r.1 h
 
-pub listed-gone : (ms : List (Handle × Held)) (handle : Handle) → ((at : ℕ) → slice_get (map (λ (m : Handle × Held). m.0) ms) at ≡ Some handle → ⊥) → listed ms handle ≡ None
+pub listed-gone : (ms : List (Handle × HeldPin)) (handle : Handle) → ((at : ℕ) → slice_get (map (λ (m : Handle × HeldPin). m.0) ms) at ≡ Some handle → ⊥) → listed ms handle ≡ None
 listed-gone [] handle gone = refl
 listed-gone (m ∷ ms) handle gone = by (same_handle m.0 handle) refl (listed-gone ms handle (λ at h. gone (suc at) h)) where
   by : (b : Bool) → same_handle m.0 handle ≡ b → listed ms handle ≡ None → cond b (Some m.1) (listed ms handle) ≡ None
   by true e rest = absurd (gone 0 (ap (λ (z : Handle). Some z) (same-is m.0 handle e)))
   by false e rest = rest
 
-pub mapping-listed : (ms : List (Handle × Held)) (handle : Handle) → mapping_of ms handle ≡ listed ms handle
+pub mapping-listed : (ms : List (Handle × HeldPin)) (handle : Handle) → mapping_of ms handle ≡ listed ms handle
 mapping-listed [] handle = refl
-mapping-listed (m ∷ ms) handle = ap (λ (o : Option Held). cond (same_handle m.0 handle) (Some m.1) o) (mapping-listed ms handle)
+mapping-listed (m ∷ ms) handle = ap (λ (o : Option HeldPin). cond (same_handle m.0 handle) (Some m.1) o) (mapping-listed ms handle)
 
-pub never-listed : (low : ℕ) (ms : List (Handle × Held)) (high : ℕ) → Rise low (map (λ (m : Handle × Held). m.0) ms) high → high ≤ 2 ^ 64 - 1 → listed ms never_given ≡ None
+pub never-listed : (low : ℕ) (ms : List (Handle × HeldPin)) (high : ℕ) → SerialsRise low (map (λ (m : Handle × HeldPin). m.0) ms) high → high ≤ 2 ^ 64 - 1 → listed ms never_given ≡ None
 never-listed low ms high r le = listed-gone ms never_given (λ at h.
-    let lt = rise-below low (map (λ (m : Handle × Held). m.0) ms) high at never_given r h in absurd (omega arith))
+    let lt = rise-below low (map (λ (m : Handle × HeldPin). m.0) ms) high at never_given r h in absurd (omega arith))
 
 -- by what a label names
 
-pub same-found : (found mapping : Handle → Option Held) (named names : List Named) (d : DomId) (handles places : List Handle) (label : List ℕ)
+pub same-found : (found mapping : Handle → Option HeldPin) (named names : List Named) (d : DomId) (handles places : List Handle) (label : List ℕ)
     → ((at : ℕ) (handle place : Handle) → slice_get handles at ≡ Some handle → slice_get places at ≡ Some place → found place ≡ mapping handle)
     → ((handle : Handle) → ((at : ℕ) → slice_get handles at ≡ Some handle → ⊥) → mapping handle ≡ None) → found never_given ≡ None → mapping never_given ≡ None
     → NamesAlike named names d handles places label ⊎ NamesNothing named names d handles label → found (handle_of names d label) ≡ mapping (handle_of named d label)
@@ -129,7 +129,7 @@ request-renamed named names d call q p (one, e, is) (other, f, also) =
       ap plainly_asked also ∙ both.1 ∙ sym (ap (λ (r : Request). asked_under (handle_of names d (label_asked call)) (plainly_asked r)) is),
     )
 
-finds-by : (found mapping : Handle → Option Held) (named names : List Named) (d : DomId) (one : Bor (List ℕ)) (call : ScriptCall) → found (handle_of names d (label_asked call)) ≡ mapping (handle_of named d (label_asked call))
+finds-by : (found mapping : Handle → Option HeldPin) (named names : List Named) (d : DomId) (one : Bor (List ℕ)) (call : ScriptCall) → found (handle_of names d (label_asked call)) ≡ mapping (handle_of named d (label_asked call))
     → FindsSame found (handle_of names d (label_asked call)) mapping (asked (request_of named d one call))
 unfolding request_of
 finds-by found mapping named names d one (calls.Unmap label) e = e
@@ -137,7 +137,7 @@ finds-by found mapping named names d one (calls.Load label off len) e = e
 finds-by found mapping named names d one (calls.Store label off hex) e = e
 finds-by found mapping named names d one call e = tt
 
-pub finds-alike : (found mapping : Handle → Option Held) (named names : List Named) (d : DomId) (call : ScriptCall) (q : Request) → SaysRequest named d call q → found (handle_of names d (label_asked call)) ≡ mapping (handle_of named d (label_asked call))
+pub finds-alike : (found mapping : Handle → Option HeldPin) (named names : List Named) (d : DomId) (call : ScriptCall) (q : Request) → SaysRequest named d call q → found (handle_of names d (label_asked call)) ≡ mapping (handle_of named d (label_asked call))
     → FindsSame found (handle_of names d (label_asked call)) mapping (asked q)
 finds-alike found mapping named names d call q (one, e, is) same =
     subst (λ (r : Request). FindsSame found (handle_of names d (label_asked call)) mapping (asked r)) (sym is) (finds-by found mapping named names d one call same)

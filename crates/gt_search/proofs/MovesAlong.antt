@@ -22,38 +22,38 @@ use Rattle.gt_core.specs.declared.trace.Answer.{Answer}
 use Rattle.gt_core.specs.declared.trace.Element.{Element}
 use Rattle.gt_core.specs.declared.trace.Element.TheVariants.{Busy, Idle, Item as Did, NoDomain}
 use Rattle.gt_core.specs.declared.trace.Event.TheVariants.{Begin, Tick}
-use Rattle.gt_core.specs.declared.trace.Happened.{Happened}
-use Rattle.gt_core.specs.declared.trace.Happened.TheVariants.{Began, Stepped}
+use Rattle.gt_core.specs.declared.trace.ItemEvent.{ItemEvent}
+use Rattle.gt_core.specs.declared.trace.ItemEvent.TheVariants.{Began, Stepped}
 use Rattle.gt_core.specs.declared.trace.Item.{Item}
 use Rattle.gt_host.specs.Playing.{setting_of_script}
 use Rattle.gt_host.specs.Runs.{Named, SaysRequest, answer_in}
 use Rattle.gt_lines.specs.declared.calls.ScriptCall.{ScriptCall}
 use Rattle.gt_replay.specs.Abreast.{CanComeNext, history_in}
-use Rattle.gt_replay.specs.Courses.{Course, CourseLeads, DeedLeads, GivesAt, IsDoneIf, Opened, OpenLeads, RestLeads}
+use Rattle.gt_replay.specs.Courses.{Course, CourseLeads, ActionLeads, GivesAt, IsDoneIf, Opened, OpenLeads, RestLeads}
 use Rattle.gt_replay.specs.Courses.{back_after, calling, course_after, giving, resting}
 use Rattle.gt_replay.specs.Orders.{Happening, IsRaisedBefore, did, given_up, passed, raised}
 use Rattle.gt_replay.proofs.Alike.{asks_answered, held_here}
 use Rattle.gt_replay.proofs.Coming.{IsQuiet, tells, waits}
 use Rattle.gt_replay.proofs.Places.{drop_here}
 use Rattle.gt_script.specs.Contents.{type_names}
-use Rattle.gt_script.specs.Lists.{Deed, Task}
+use Rattle.gt_script.specs.Lists.{RunAction, RunTask}
 use Rattle.gt_script.specs.RunContents.{RunContents}
 use Rattle.gt_script.specs.Stuck.{IsBelow}
-use Rattle.gt_script.specs.declared.tasks.DeedBy.TheVariants.{Await, Do, Tell}
+use Rattle.gt_script.specs.declared.tasks.RunActionBy.TheVariants.{Await, Do, Tell}
 use Rattle.gt_search.specs.Calls.{KnowsTable, ShowsCalls, ShowsOpen}
 use Rattle.gt_search.specs.Ends.{tasks_at}
 use Rattle.gt_search.specs.Scenes.{IsSceneOf, MovesAlong, SceneShows, WasAnsweredAll}
 use Rattle.gt_search.specs.Starting.{Grows, IsNextCall, MovesAsRun, PassesTo, held_but}
 use Rattle.gt_search.specs.Ticking.{ShowsAt, TickLeads, TicksAsRun}
 use Rattle.gt_search.specs.declared.actor.Actor.{Actor}
-use Rattle.gt_search.specs.declared.actor.Open.{Open}
-use Rattle.gt_ways.specs.declared.spaces.Led.{Led}
-use Rattle.gt_ways.specs.declared.spaces.Led.TheVariants.{Nowhere, On}
-use Rattle.gt_search.specs.declared.scene.Scene.{Scene}
-use Rattle.gt_search.specs.declared.scene.World.{World}
+use Rattle.gt_search.specs.declared.actor.ActorCall.{ActorCall}
+use Rattle.gt_ways.specs.declared.spaces.TurnResult.{TurnResult}
+use Rattle.gt_ways.specs.declared.spaces.TurnResult.TheVariants.{Nowhere, On}
+use Rattle.gt_search.specs.declared.scene.SearchContext.{SearchContext}
+use Rattle.gt_search.specs.declared.scene.SearchState.{SearchState}
 use Rattle.gt_world.specs.Likeness.{AsksFit}
 use Rattle.gt_world.specs.Shows.{PagesShow, TablesShow}
-use Rattle.gt_world.specs.declared.table.Table.{Table}
+use Rattle.gt_world.specs.declared.table.SparseTable.{SparseTable}
 use Rattle.gt_world.proofs.Fitting.{beginnings-change-nothing}
 use Rattle.gt_search.proofs.HandlesAnswered.{after-dom, back-answered, back-dom, but-answered, left-answered}
 use Rattle.gt_search.proofs.HandlesAnswered.{line-answered}
@@ -64,7 +64,7 @@ use Rattle.gt_search.proofs.StateComesOn.{task-own}
 
 -- lists
 
-nothing-there : (xs : List Task) (n : ℕ) → slice_get xs n ≡ None → drop n xs ≡ []
+nothing-there : (xs : List RunTask) (n : ℕ) → slice_get xs n ≡ None → drop n xs ≡ []
 nothing-there [] zero none = refl
 nothing-there [] (suc n) none = refl
 nothing-there (x ∷ xs) zero none = absurd (none-some x (sym none))
@@ -95,9 +95,9 @@ set-keeps (b ∷ told) (suc at) (suc flag) is = set-keeps told at flag is
 -- items
 
 beginning-is : (d : DomId) (q : Request) (i : Item) → IsItemOf (Begin d q) i → i ≡ beginning d q i.answer
-beginning-is d q i m = ap (λ (z : DomId). record { actor = z; happened = i.happened; answer = i.answer }) m.0 ∙ ap (λ (z : Happened). record { actor = d; happened = z; answer = i.answer }) m.1
+beginning-is d q i m = ap (λ (z : DomId). record { actor = z; happened = i.happened; answer = i.answer }) m.0 ∙ ap (λ (z : ItemEvent). record { actor = d; happened = z; answer = i.answer }) m.1
 
-step-known : (h : History) (d actor : DomId) (x : Happened) (answer : Option Answer) → IsItemOf (Tick d) (record { actor = actor; happened = x; answer = answer })
+step-known : (h : History) (d actor : DomId) (x : ItemEvent) (answer : Option Answer) → IsItemOf (Tick d) (record { actor = actor; happened = x; answer = answer })
     → HappensKnown h (record { actor = actor; happened = x; answer = answer }) × AsksFit x
 step-known h d actor (Began q) answer m = absurd m.1
 step-known h d actor (Stepped z seen) answer m = (tt, tt)
@@ -108,43 +108,43 @@ step-known h d actor (Stepped z seen) answer m = (tt, tt)
 abbrev pub FitsSaid : ScriptCall → Type 0
 FitsSaid call = (named : List Named) (dom : DomId) (request : Request) → SaysRequest named dom call request → FitsAsked (asked request)
 
-abbrev pub BeginMeets : {E : Type 0} → Scene → ℕ → Task → ScriptCall → World → World → Result Led E → Type 0
+abbrev pub BeginMeets : {E : Type 0} → SearchContext → ℕ → RunTask → ScriptCall → SearchState → SearchState → Result TurnResult E → Type 0
 BeginMeets scene place task call old new res =
-    (s : Setting) (h : History) (k : Course) (ts : List Task) (a : Actor) (q : Request) (t : Table) (answer : Option Answer)
+    (s : Setting) (h : History) (k : Course) (ts : List RunTask) (a : Actor) (q : Request) (t : SparseTable) (answer : Option Answer)
     → slice_get old.actors.items place ≡ Some a → slice_get old.ground.tables.items place ≡ Some t
     → ShowsCalls s h (tasks_at scene place) k a → KnowsTable s h k.dom scene t → IsNextCall k task ts call → SaysRequest k.named k.dom call q
     → BeginsRight s h (beginning k.dom q answer) q
     → IfOk res (MovesAsRun s (beginning k.dom q answer ∷ h) (tasks_at scene place) a k (course_after scene.types.items task.line call (given_up q) (record k { tasks = ts }) answer) old new place)
 
-abbrev pub GiveMeets : {E : Type 0} → Scene → ℕ → ℕ → World → World → Result Led E → Type 0
+abbrev pub GiveMeets : {E : Type 0} → SearchContext → ℕ → ℕ → SearchState → SearchState → Result TurnResult E → Type 0
 GiveMeets scene place choice old new res =
-    (s : Setting) (h : History) (k : Course) (a : Actor) (domain : DomainConfig) (handle : Handle) (t : Table) (answer : Option Answer)
+    (s : Setting) (h : History) (k : Course) (a : Actor) (domain : DomainConfig) (handle : Handle) (t : SparseTable) (answer : Option Answer)
     → slice_get old.actors.items place ≡ Some a → slice_get old.ground.tables.items place ≡ Some t
     → slice_get scene.roster.domains.items place ≡ Some domain → domain.id ≡ k.dom
     → ShowsCalls s h (tasks_at scene place) k a → KnowsTable s h k.dom scene t → k.opened ≡ resting → slice_get k.held choice ≡ Some handle
     → BeginsRight s h (beginning k.dom (Unmap handle) answer) (Unmap handle) → IsDoneIf answer
     → IfOk res (MovesAsRun s (beginning k.dom (Unmap handle) answer ∷ h) (tasks_at scene place) a k (back_after (held_but k choice) answer) old new place)
 
-abbrev pub TickMeets : {E : Type 0} → Scene → ℕ → Open → World → World → Result Led E → Type 0
+abbrev pub TickMeets : {E : Type 0} → SearchContext → ℕ → ActorCall → SearchState → SearchState → Result TurnResult E → Type 0
 TickMeets scene place o old new res =
     (s : Setting) (h : History) (k j : Course) (a : Actor) (i : Item) → ShowsAt s h scene old place k a → a.«open» ≡ Some o → IsItemOf (Tick k.dom) i → IsRight s h i
     → TickLeads scene.types.items k k.opened i j → IfOk res (TicksAsRun s (i ∷ h) (tasks_at scene place) k j old new place)
 
-abbrev pub RaiseMeets : Scene → ℕ → ℕ → World → World → Led → Type 0
+abbrev pub RaiseMeets : SearchContext → ℕ → ℕ → SearchState → SearchState → TurnResult → Type 0
 RaiseMeets scene place flag old new led =
-    (s : Setting) (h : History) (k : Course) (t : Task) (ts : List Task) (a : Actor) → slice_get old.actors.items place ≡ Some a → ShowsCalls s h (tasks_at scene place) k a
+    (s : Setting) (h : History) (k : Course) (t : RunTask) (ts : List RunTask) (a : Actor) → slice_get old.actors.items place ≡ Some a → ShowsCalls s h (tasks_at scene place) k a
     → k.opened ≡ resting → k.tasks ≡ t ∷ ts → flag < length old.told.items
     → (led ≡ On) × (new.told.items ≡ slice_set old.told.items flag true) × PassesTo s h (tasks_at scene place) a (record k { tasks = ts }) old new place
 
-abbrev pub PassMeets : Scene → ℕ → ℕ → World → World → Led → Type 0
+abbrev pub PassMeets : SearchContext → ℕ → ℕ → SearchState → SearchState → TurnResult → Type 0
 PassMeets scene place flag old new led =
-    (s : Setting) (h : History) (k : Course) (t : Task) (ts : List Task) (a : Actor) → slice_get old.actors.items place ≡ Some a → ShowsCalls s h (tasks_at scene place) k a
+    (s : Setting) (h : History) (k : Course) (t : RunTask) (ts : List RunTask) (a : Actor) → slice_get old.actors.items place ≡ Some a → ShowsCalls s h (tasks_at scene place) k a
     → k.opened ≡ resting → k.tasks ≡ t ∷ ts → slice_get old.told.items flag ≡ Some true
     → (led ≡ On) × (new.told ≡ old.told) × PassesTo s h (tasks_at scene place) a (record k { tasks = ts }) old new place
 
 -- what a domain has open
 
-pub none-open : (s : Setting) (h : History) (tasks : List Task) (k : Course) (next : ℕ) (opened : Opened) (c : Option Underway) (o : Option Open) → o ≡ None → ShowsOpen s h tasks k next opened c o → (opened ≡ resting) × (c ≡ None)
+pub none-open : (s : Setting) (h : History) (tasks : List RunTask) (k : Course) (next : ℕ) (opened : Opened) (c : Option Underway) (o : Option ActorCall) → o ≡ None → ShowsOpen s h tasks k next opened c o → (opened ≡ resting) × (c ≡ None)
 none-open s h tasks k next resting None o none show = (refl, refl)
 none-open s h tasks k next resting (Some c) None none show = absurd show
 none-open s h tasks k next opened c (Some o) none show = absurd (none-some o (sym none))
@@ -153,7 +153,7 @@ none-open s h tasks k next (calling line call lost) (Some c) None none show = ab
 none-open s h tasks k next giving None None none show = absurd show
 none-open s h tasks k next giving (Some c) None none show = absurd show
 
-some-open : (s : Setting) (h : History) (tasks : List Task) (k : Course) (next : ℕ) (opened : Opened) (c : Option Underway) (o : Option Open) (x : Open) → o ≡ Some x → ShowsOpen s h tasks k next opened c o → (opened ≢ resting) × (c ≢ None)
+some-open : (s : Setting) (h : History) (tasks : List RunTask) (k : Course) (next : ℕ) (opened : Opened) (c : Option Underway) (o : Option ActorCall) (x : ActorCall) → o ≡ Some x → ShowsOpen s h tasks k next opened c o → (opened ≢ resting) × (c ≢ None)
 some-open s h tasks k next opened c None x some show = absurd (none-some x some)
 some-open s h tasks k next resting None (Some o) x some show = absurd show
 some-open s h tasks k next resting (Some c) (Some o) x some show = absurd show
@@ -164,7 +164,7 @@ some-open s h tasks k next giving (Some c) (Some o) x some show = ((λ e. let f 
 
 -- one domain
 
-module _ (c : RunContents) (scene : Scene) (hs : List Happening) (ks : List Course) (old : World) (place : ℕ) (k : Course) (a : Actor) (is : IsSceneOf c scene) (shows : SceneShows c scene hs ks old) (at : slice_get ks place ≡ Some k)
+module _ (c : RunContents) (scene : SearchContext) (hs : List Happening) (ks : List Course) (old : SearchState) (place : ℕ) (k : Course) (a : Actor) (is : IsSceneOf c scene) (shows : SceneShows c scene hs ks old) (at : slice_get ks place ≡ Some k)
     (there : slice_get old.actors.items place ≡ Some a) where
   abbrev s : Setting
   s = setting_of_script c.head
@@ -172,7 +172,7 @@ module _ (c : RunContents) (scene : Scene) (hs : List Happening) (ks : List Cour
   abbrev h : History
   h = history_in hs
 
-  abbrev tasks : List Task
+  abbrev tasks : List RunTask
   tasks = tasks_at scene place
 
   show : ShowsCalls s h tasks k a
@@ -185,11 +185,11 @@ module _ (c : RunContents) (scene : Scene) (hs : List Happening) (ks : List Cour
   run = of-run c scene hs ks old place k a is shows at there
 
   -- what the state then comes to
-  abbrev Comes : World → Led → Happening → Course → Type 0
+  abbrev Comes : SearchState → TurnResult → Happening → Course → Type 0
   Comes new led x j = Grows led k.text j.text × SceneShows c scene (hs ++ x ∷ []) (slice_set ks place j) new
 
   -- a call began
-  begun-to : (new : World) (led : Led) (q : Request) (answer : Option Answer) (j : Course) → BeginsRight s h (beginning k.dom q answer) q → HappensKnown h (beginning k.dom q answer) → FitsAsked (asked q) → j.dom ≡ k.dom → WasAnsweredAll (beginning k.dom q answer ∷ h) j
+  begun-to : (new : SearchState) (led : TurnResult) (q : Request) (answer : Option Answer) (j : Course) → BeginsRight s h (beginning k.dom q answer) q → HappensKnown h (beginning k.dom q answer) → FitsAsked (asked q) → j.dom ≡ k.dom → WasAnsweredAll (beginning k.dom q answer ∷ h) j
       → MovesAsRun s (beginning k.dom q answer ∷ h) tasks a k j old new place led → Comes new led (did (Begin k.dom q) (Did (beginning k.dom q answer))) j
   begun-to new led q answer j right asks fits dom answered moved = let i = beginning k.dom q answer in
       let same = beginnings-change-nothing s h i q old.ground.tables.items old.ground.pages.items is.setting.apart refl in (
@@ -205,19 +205,19 @@ module _ (c : RunContents) (scene : Scene) (hs : List Happening) (ks : List Cour
     rest : (k.opened ≡ resting) × (open_call h k.dom.0 ≡ None)
     rest = none-open s h tasks k a.next k.opened (open_call h k.dom.0) a.«open» none show.opens
 
-    rest-leads : (choice : ℕ) (x : Happening) (j : Course) (left : List Task) → drop a.next tasks ≡ left → CourseLeads (type_names c.head) k choice x j → RestLeads (type_names c.head) k left choice x j
+    rest-leads : (choice : ℕ) (x : Happening) (j : Course) (left : List RunTask) → drop a.next tasks ≡ left → CourseLeads (type_names c.head) k choice x j → RestLeads (type_names c.head) k left choice x j
     rest-leads choice x j left is-left leads =
-        subst (λ (l : List Task). RestLeads (type_names c.head) k l choice x j) (show.left ∙ is-left)
+        subst (λ (l : List RunTask). RestLeads (type_names c.head) k l choice x j) (show.left ∙ is-left)
         (subst (λ (o : Opened). OpenLeads (type_names c.head) k o choice x j) rest.0 leads)
 
     -- before this task
-    task-leads : (choice : ℕ) (x : Happening) (j : Course) (task : Task) (deed : Deed) → slice_get tasks a.next ≡ Some task → task.deed ≡ deed → CourseLeads (type_names c.head) k choice x j
-        → DeedLeads (type_names c.head) k task.line (drop (suc a.next) tasks) deed x j
+    task-leads : (choice : ℕ) (x : Happening) (j : Course) (task : RunTask) (deed : RunAction) → slice_get tasks a.next ≡ Some task → task.deed ≡ deed → CourseLeads (type_names c.head) k choice x j
+        → ActionLeads (type_names c.head) k task.line (drop (suc a.next) tasks) deed x j
     task-leads choice x j task deed here does leads =
-        subst (λ (d : Deed). DeedLeads (type_names c.head) k task.line (drop (suc a.next) tasks) d x j) does
+        subst (λ (d : RunAction). ActionLeads (type_names c.head) k task.line (drop (suc a.next) tasks) d x j) does
         (rest-leads choice x j (task ∷ drop (suc a.next) tasks) (drop_here tasks a.next task here) leads).1
 
-    task-next : (task : Task) → slice_get tasks a.next ≡ Some task → k.tasks ≡ task ∷ drop (suc a.next) tasks
+    task-next : (task : RunTask) → slice_get tasks a.next ≡ Some task → k.tasks ≡ task ∷ drop (suc a.next) tasks
     task-next task here = show.left ∙ drop_here tasks a.next task here
 
     -- a call can begin only so
@@ -228,7 +228,7 @@ module _ (c : RunContents) (scene : Scene) (hs : List Happening) (ks : List Cour
     begins q (Did i) may so = let same = beginning-is k.dom q i may.1 in so i refl same (subst (λ (z : Item). IsRight s h z) same may.2)
 
     -- the call of its next line begins
-    pub line-begins : (new : World) (led : Led) (choice : ℕ) (x : Happening) (j : Course) (task : Task) (call : ScriptCall) → slice_get tasks a.next ≡ Some task → task.deed ≡ Do call → FitsSaid call
+    pub line-begins : (new : SearchState) (led : TurnResult) (choice : ℕ) (x : Happening) (j : Course) (task : RunTask) (call : ScriptCall) → slice_get tasks a.next ≡ Some task → task.deed ≡ Do call → FitsSaid call
         → BeginMeets {E = Unit {0}} scene place task call old new (Ok led) → CourseLeads (type_names c.head) k choice x j → CanComeNext s hs x → Comes new led x j
     line-begins new led choice x j task call here does fits meets leads may =
         let left = drop (suc a.next) tasks in
@@ -249,7 +249,7 @@ module _ (c : RunContents) (scene : Scene) (hs : List Happening) (ks : List Cour
         subst (λ (z : Happening). Comes new led z j) (sym (deed.3 ∙ ap (λ (z : Element). did (Begin k.dom q) z) (e-is ∙ ap (λ (z : Item). Did z) same))) came)
 
     -- at the end of its list it begins to give a mapping back
-    pub back-begins : (new : World) (led : Led) (choice : ℕ) (x : Happening) (j : Course) → slice_get tasks a.next ≡ None
+    pub back-begins : (new : SearchState) (led : TurnResult) (choice : ℕ) (x : Happening) (j : Course) → slice_get tasks a.next ≡ None
         → GiveMeets {E = Unit {0}} scene place choice old new (Ok led) → CourseLeads (type_names c.head) k choice x j → CanComeNext s hs x → Comes new led x j
     back-begins new led choice x j end meets leads may =
         let gives : GivesAt k choice x j = rest-leads choice x j [] (nothing-there tasks a.next end) leads in
@@ -268,7 +268,7 @@ module _ (c : RunContents) (scene : Scene) (hs : List Happening) (ks : List Cour
         subst (λ (z : Happening). Comes new led z j) (sym (gives.3 ∙ ap (λ (z : Element). did (Begin k.dom q) z) (e-is ∙ ap (λ (z : Item). Did z) same))) came)
 
     -- it raises a flag
-    pub flag-raised : (new : World) (led : Led) (choice : ℕ) (x : Happening) (j : Course) (task : Task) (flag : ℕ) → slice_get tasks a.next ≡ Some task → task.deed ≡ Tell flag
+    pub flag-raised : (new : SearchState) (led : TurnResult) (choice : ℕ) (x : Happening) (j : Course) (task : RunTask) (flag : ℕ) → slice_get tasks a.next ≡ Some task → task.deed ≡ Tell flag
         → RaiseMeets scene place flag old new led → CourseLeads (type_names c.head) k choice x j → Comes new led x j
     flag-raised new led choice x j task flag here does meets leads =
         let left = drop (suc a.next) tasks in
@@ -276,7 +276,7 @@ module _ (c : RunContents) (scene : Scene) (hs : List Happening) (ks : List Cour
         let below : flag < c.flags = subst (IsBelow c.flags) does (task-below c scene hs ks old place k a is shows at there a.next task here) in
         let fits : flag < length old.told.items = subst (λ (n : ℕ). flag < n) (sym shows.flags) below in
         let moved = meets s h k task left a there show rest.0 (task-next task here) fits in (
-          subst (λ (z : Led). Grows z k.text j.text) (sym moved.0) (ap (λ (z : Course). z.text) deed.1),
+          subst (λ (z : TurnResult). Grows z k.text j.text) (sym moved.0) (ap (λ (z : Course). z.text) deed.1),
           comes-quiet c scene hs ks old place k a is shows at there new x j moved.2.actor (subst IsQuiet (sym deed.0) (tells k.dom flag)) moved.2.becomes (ap (λ (z : Course). z.dom) deed.1)
               (subst (λ (z : Course). ShowsCalls s h tasks z moved.2.actor) (sym deed.1) moved.2.shows)
               (subst (WasAnsweredAll h) (sym deed.1) (left-answered h k left known)) moved.2.ground
@@ -295,14 +295,14 @@ module _ (c : RunContents) (scene : Scene) (hs : List Happening) (ks : List Cour
         one-flag d e m n same = cc
 
     -- it goes past a flag
-    pub flag-passed : (new : World) (led : Led) (choice : ℕ) (x : Happening) (j : Course) (task : Task) (flag : ℕ) → slice_get tasks a.next ≡ Some task → task.deed ≡ Await flag
+    pub flag-passed : (new : SearchState) (led : TurnResult) (choice : ℕ) (x : Happening) (j : Course) (task : RunTask) (flag : ℕ) → slice_get tasks a.next ≡ Some task → task.deed ≡ Await flag
         → PassMeets scene place flag old new led → CourseLeads (type_names c.head) k choice x j → CanComeNext s hs x → Comes new led x j
     flag-passed new led choice x j task flag here does meets leads may =
         let left = drop (suc a.next) tasks in
         let deed : (x ≡ passed k.dom flag) × (j ≡ record k { tasks = left }) = task-leads choice x j task (Await flag) here does leads in
         let before : IsRaisedBefore (length hs) flag hs = subst (λ (z : Happening). CanComeNext s hs z) deed.0 may in
         let moved = meets s h k task left a there show rest.0 (task-next task here) (shows.told flag before) in (
-          subst (λ (z : Led). Grows z k.text j.text) (sym moved.0) (ap (λ (z : Course). z.text) deed.1),
+          subst (λ (z : TurnResult). Grows z k.text j.text) (sym moved.0) (ap (λ (z : Course). z.text) deed.1),
           comes-quiet c scene hs ks old place k a is shows at there new x j moved.2.actor (subst IsQuiet (sym deed.0) (waits k.dom flag)) moved.2.becomes (ap (λ (z : Course). z.dom) deed.1)
               (subst (λ (z : Course). ShowsCalls s h tasks z moved.2.actor) (sym deed.1) moved.2.shows)
               (subst (WasAnsweredAll h) (sym deed.1) (left-answered h k left known)) moved.2.ground
@@ -358,7 +358,7 @@ module _ (c : RunContents) (scene : Scene) (hs : List Happening) (ks : List Cour
   )
 
   -- what it has open makes its next step
-  pub open-steps : (new : World) (led : Led) (choice : ℕ) (x : Happening) (j : Course) (o : Open) → a.«open» ≡ Some o
+  pub open-steps : (new : SearchState) (led : TurnResult) (choice : ℕ) (x : Happening) (j : Course) (o : ActorCall) → a.«open» ≡ Some o
       → TickMeets {E = Unit {0}} scene place o old new (Ok led) → CourseLeads (type_names c.head) k choice x j → CanComeNext s hs x → Comes new led x j
   open-steps new led choice x j o some meets leads may =
       let busy = some-open s h tasks k a.next k.opened (open_call h k.dom.0) a.«open» o some show.opens in
@@ -393,35 +393,35 @@ pub actor-at : (items xs : List Actor) (place : ℕ) (a : Actor) → true ≡ na
 actor-at items xs place a below same items-are = let lt : place < length items = grind (arith, nat_tests) in
     ap (λ (l : List Actor). slice_get l place) (sym items-are) ∙ get-at items place a lt same
 
-pub begin-along : {E : Type 0} (scene : Scene) (place choice : ℕ) (old new : World) (a : Actor) (task : Task) (call : ScriptCall) (res : Result Led E) → slice_get old.actors.items place ≡ Some a → a.«open» ≡ None
+pub begin-along : {E : Type 0} (scene : SearchContext) (place choice : ℕ) (old new : SearchState) (a : Actor) (task : RunTask) (call : ScriptCall) (res : Result TurnResult E) → slice_get old.actors.items place ≡ Some a → a.«open» ≡ None
     → slice_get (tasks_at scene place) a.next ≡ Some task → task.deed ≡ Do call → FitsSaid call → BeginMeets scene place task call old new res → IfOk res (λ led. MovesAlong scene place choice old led new)
 begin-along scene place choice old new a task call (Err e) there none here does fits meets = tt
 begin-along scene place choice old new a task call (Ok led) there none here does fits meets = λ c hs ks k j x is shows at leads may.
     line-begins c scene hs ks old place k a is shows at there none new led choice x j task call here does fits meets leads may
 
-pub give-along : {E : Type 0} (scene : Scene) (place choice : ℕ) (old new : World) (a : Actor) (res : Result Led E) → slice_get old.actors.items place ≡ Some a → a.«open» ≡ None → slice_get (tasks_at scene place) a.next ≡ None
+pub give-along : {E : Type 0} (scene : SearchContext) (place choice : ℕ) (old new : SearchState) (a : Actor) (res : Result TurnResult E) → slice_get old.actors.items place ≡ Some a → a.«open» ≡ None → slice_get (tasks_at scene place) a.next ≡ None
     → GiveMeets scene place choice old new res → IfOk res (λ led. MovesAlong scene place choice old led new)
 give-along scene place choice old new a (Err e) there none end meets = tt
 give-along scene place choice old new a (Ok led) there none end meets = λ c hs ks k j x is shows at leads may.
     back-begins c scene hs ks old place k a is shows at there none new led choice x j end meets leads may
 
-pub tick-along : {E : Type 0} (scene : Scene) (place choice : ℕ) (old new : World) (a : Actor) (o : Open) (res : Result Led E) → slice_get old.actors.items place ≡ Some a → a.«open» ≡ Some o
+pub tick-along : {E : Type 0} (scene : SearchContext) (place choice : ℕ) (old new : SearchState) (a : Actor) (o : ActorCall) (res : Result TurnResult E) → slice_get old.actors.items place ≡ Some a → a.«open» ≡ Some o
     → TickMeets scene place o old new res → IfOk res (λ led. MovesAlong scene place choice old led new)
 tick-along scene place choice old new a o (Err e) there some meets = tt
 tick-along scene place choice old new a o (Ok led) there some meets = λ c hs ks k j x is shows at leads may.
     open-steps c scene hs ks old place k a is shows at there new led choice x j o some meets leads may
 
-pub raise-along : (scene : Scene) (place choice : ℕ) (old new : World) (a : Actor) (task : Task) (flag : ℕ) (led : Led) → slice_get old.actors.items place ≡ Some a → a.«open» ≡ None
+pub raise-along : (scene : SearchContext) (place choice : ℕ) (old new : SearchState) (a : Actor) (task : RunTask) (flag : ℕ) (led : TurnResult) → slice_get old.actors.items place ≡ Some a → a.«open» ≡ None
     → slice_get (tasks_at scene place) a.next ≡ Some task → task.deed ≡ Tell flag → RaiseMeets scene place flag old new led → MovesAlong scene place choice old led new
 raise-along scene place choice old new a task flag led there none here does meets = λ c hs ks k j x is shows at leads may.
     flag-raised c scene hs ks old place k a is shows at there none new led choice x j task flag here does meets leads
 
-pub pass-along : (scene : Scene) (place choice : ℕ) (old new : World) (a : Actor) (task : Task) (flag : ℕ) (led : Led) → slice_get old.actors.items place ≡ Some a → a.«open» ≡ None
+pub pass-along : (scene : SearchContext) (place choice : ℕ) (old new : SearchState) (a : Actor) (task : RunTask) (flag : ℕ) (led : TurnResult) → slice_get old.actors.items place ≡ Some a → a.«open» ≡ None
     → slice_get (tasks_at scene place) a.next ≡ Some task → task.deed ≡ Await flag → PassMeets scene place flag old new led → MovesAlong scene place choice old led new
 pass-along scene place choice old new a task flag led there none here does meets = λ c hs ks k j x is shows at leads may.
     flag-passed c scene hs ks old place k a is shows at there none new led choice x j task flag here does meets leads may
 
 -- there is no domain without an actor
-pub nowhere-along : (scene : Scene) (place choice : ℕ) (old new : World) → length old.actors.items ≤ place → MovesAlong scene place choice old Nowhere new
+pub nowhere-along : (scene : SearchContext) (place choice : ℕ) (old new : SearchState) → length old.actors.items ≤ place → MovesAlong scene place choice old Nowhere new
 nowhere-along scene place choice old new past = λ c hs ks k j x is shows at leads may.
     let within = slice_get_within ks place k at in let many = shows.many in absurd (omega arith)

@@ -8,38 +8,38 @@ use Rattle.std.proofs.lemmas.Option.{none-some, same_Some}
 use Rattle.gt_types.specs.declared.DomId.{DomId}
 use Rattle.gt_types.specs.declared.denial.Denial.{Denial}
 use Rattle.gt_handles.specs.declared.handles.Handle.{Handle}
-use Rattle.gt_calls.specs.declared.action.Seen.{Seen}
+use Rattle.gt_calls.specs.declared.action.Observation.{Observation}
 use Rattle.gt_calls.specs.declared.action.Step.{Step}
-use Rattle.gt_calls.specs.declared.action.Verdict.{Verdict}
-use Rattle.gt_calls.specs.declared.request.Asked.{Asked}
+use Rattle.gt_calls.specs.declared.action.CallResult.{CallResult}
+use Rattle.gt_calls.specs.declared.request.OpenRequest.{OpenRequest}
 use Rattle.gt_calls.specs.Asking.{asked}
 use Rattle.gt_core.specs.Alike.{IsGiven, IsRun}
 use Rattle.gt_core.specs.History.{History, Setting, Underway, maps_answered_at, one_if_mapped, open_call}
 use Rattle.gt_core.specs.Legal.{AnsweredBy, IsRight, StepsRightIn}
 use Rattle.gt_core.specs.declared.trace.Answer.{Answer}
 use Rattle.gt_core.specs.declared.trace.Answer.TheVariants.{Mapped}
-use Rattle.gt_core.specs.declared.trace.Happened.{Happened}
-use Rattle.gt_core.specs.declared.trace.Happened.TheVariants.{Began, Stepped}
+use Rattle.gt_core.specs.declared.trace.ItemEvent.{ItemEvent}
+use Rattle.gt_core.specs.declared.trace.ItemEvent.TheVariants.{Began, Stepped}
 use Rattle.gt_core.specs.declared.trace.Item.{Item}
 use Rattle.gt_host.specs.Runs.{Named, handle_named}
 use Rattle.gt_replay.specs.Abreast.{HaveAnswered}
 
-answered-next : (s : Setting) (h : History) (d : DomId) (r : Asked) (step : Step) (giving : Bool) (v : Option Verdict) (a : Option Answer) (against : Option Denial) (handle : Handle)
+answered-next : (s : Setting) (h : History) (d : DomId) (r : OpenRequest) (step : Step) (giving : Bool) (v : Option CallResult) (a : Option Answer) (against : Option Denial) (handle : Handle)
     → AnsweredBy s h d r (Some step) giving v a against → a ≡ Some (Mapped handle) → handle.serial ≡ maps_answered_at h d.0
 answered-next s h d r step giving v a against handle is e = grind arith
 
-never-begun : (s : Setting) (h : History) (d : DomId) (r : Asked) (giving : Bool) (v : Option Verdict) (a : Option Answer) (against : Option Denial) (handle : Handle)
+never-begun : (s : Setting) (h : History) (d : DomId) (r : OpenRequest) (giving : Bool) (v : Option CallResult) (a : Option Answer) (against : Option Denial) (handle : Handle)
     → AnsweredBy s h d r None giving v a against → a ≡ Some (Mapped handle) → ⊥
 never-begun s h d r giving v a against handle is e = grind arith
 
 -- a handle that is answered has the next serial of its domain
-step-next : (s : Setting) (h : History) (i : Item) (step : Step) (seen : Seen) (handle : Handle) (c : Option Underway) → StepsRightIn s h i step seen c → i.answer ≡ Some (Mapped handle) → handle.serial ≡ maps_answered_at h i.actor.0
+step-next : (s : Setting) (h : History) (i : Item) (step : Step) (seen : Observation) (handle : Handle) (c : Option Underway) → StepsRightIn s h i step seen c → i.answer ≡ Some (Mapped handle) → handle.serial ≡ maps_answered_at h i.actor.0
 step-next s h i step seen handle None right e = absurd right
 step-next s h i step seen handle (Some c) right e = answered-next s h i.actor c.request step _ _ i.answer _ handle right.answered e
 
 next : (s : Setting) (h : History) (i : Item) (handle : Handle) → IsRight s h i → i.answer ≡ Some (Mapped handle) → handle.serial ≡ maps_answered_at h i.actor.0
 next s h i handle = by i.happened where
-  by : (x : Happened) → IsRight s h (record i { happened = x }) → i.answer ≡ Some (Mapped handle) → handle.serial ≡ maps_answered_at h i.actor.0
+  by : (x : ItemEvent) → IsRight s h (record i { happened = x }) → i.answer ≡ Some (Mapped handle) → handle.serial ≡ maps_answered_at h i.actor.0
   by (Began request) right e = absurd (never-begun s h i.actor (asked request) _ _ i.answer _ handle right.1 e)
   by (Stepped step seen) right e = step-next s h (record i { happened = Stepped step seen }) step seen handle (open_call h i.actor.0) right e
 

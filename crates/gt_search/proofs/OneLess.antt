@@ -5,15 +5,15 @@ use Rattle.std.specs.Prelude.{slice_get}
 use Rattle.std.proofs.lemmas.Option.{none-some, same_Some}
 use Rattle.gt_types.specs.declared.DomId.{DomId}
 use Rattle.gt_handles.specs.declared.handles.Handle.{Handle}
-use Rattle.gt_calls.specs.declared.action.Seen.{Seen}
-use Rattle.gt_calls.specs.declared.held.Held.{Held}
-use Rattle.gt_calls.specs.declared.request.Holder.TheVariants.{Mapping as ByHandle}
+use Rattle.gt_calls.specs.declared.action.Observation.{Observation}
+use Rattle.gt_calls.specs.declared.held.HeldPin.{HeldPin}
+use Rattle.gt_calls.specs.declared.request.PinHolder.TheVariants.{Mapping as ByHandle}
 use Rattle.gt_core.specs.History.{History, Pin, gather, live, mapping_named, mappings_at, same_handle, without}
 use Rattle.gt_core.specs.declared.trace.Answer.{Answer}
 use Rattle.gt_core.proofs.Mappings.{less}
 use Rattle.gt_core.proofs.Steps.Observers.{unpinned-live, unpins}
 use Rattle.gt_host.specs.Runs.{Named}
-use Rattle.gt_search.specs.Calls.{LabelsShow, Rise}
+use Rattle.gt_search.specs.Calls.{LabelsShow, SerialsRise}
 use Rattle.gt_search.proofs.MappingFound.{apart-serials, rise-from, same-self}
 
 abbrev pub but : {A : Type 0} → ℕ → List A → List A
@@ -39,11 +39,11 @@ map-but f zero (x ∷ xs) = refl
 map-but f (suc n) [] = refl
 map-but f (suc n) (x ∷ xs) = ap (λ l. f x ∷ l) (map-but f n xs)
 
-rise-lower : (m low : ℕ) (hs : List Handle) (high : ℕ) → m ≤ low → Rise low hs high → Rise m hs high
+rise-lower : (m low : ℕ) (hs : List Handle) (high : ℕ) → m ≤ low → SerialsRise low hs high → SerialsRise m hs high
 rise-lower m low [] high le r = omega arith
 rise-lower m low (x ∷ hs) high le r = (let from : low ≤ x.serial = r.0 in omega arith, r.1)
 
-pub rise-but : (n low : ℕ) (hs : List Handle) (high : ℕ) → Rise low hs high → Rise low (but n hs) high
+pub rise-but : (n low : ℕ) (hs : List Handle) (high : ℕ) → SerialsRise low hs high → SerialsRise low (but n hs) high
 rise-but zero low [] high r = r
 rise-but zero low (x ∷ hs) high r = rise-lower low (suc x.serial) hs high (let from : low ≤ x.serial = r.0 in omega arith) r.1
 rise-but (suc n) low [] high r = r
@@ -54,13 +54,13 @@ labels-but named d n handles labels show at handle given label there has =
     show (skip n at) handle given label (sym (get-but n handles at) ∙ there) (sym (get-but n labels at) ∙ has)
 
 -- without the mapping under a handle, that is without the one at its place
-pub less-is : (n low : ℕ) (ms : List (Handle × Held)) (high : ℕ) (handle : Handle) → Rise low (map (λ (m : Handle × Held). m.0) ms) high → slice_get (map (λ (m : Handle × Held). m.0) ms) n ≡ Some handle → less handle ms ≡ but n ms
+pub less-is : (n low : ℕ) (ms : List (Handle × HeldPin)) (high : ℕ) (handle : Handle) → SerialsRise low (map (λ (m : Handle × HeldPin). m.0) ms) high → slice_get (map (λ (m : Handle × HeldPin). m.0) ms) n ≡ Some handle → less handle ms ≡ but n ms
 less-is n low [] high handle r there = absurd (none-some handle there)
 less-is zero low (m ∷ ms) high handle r there =
     ap (λ (b : Bool). cond b ms (m ∷ less handle ms)) (ap (same_handle m.0) (sym (same_Some m.0 handle there)) ∙ same-self m.0)
 less-is (suc n) low (m ∷ ms) high handle r there =
-    let le : suc m.0.serial ≤ handle.serial = rise-from (suc m.0.serial) (map (λ (m : Handle × Held). m.0) ms) high n handle r.1 there in
-    ap (λ (b : Bool). cond b ms (m ∷ less handle ms)) (apart-serials m.0 handle (omega arith)) ∙ ap (λ (l : List (Handle × Held)). m ∷ l) (less-is n (suc m.0.serial) ms high handle r.1 there)
+    let le : suc m.0.serial ≤ handle.serial = rise-from (suc m.0.serial) (map (λ (m : Handle × HeldPin). m.0) ms) high n handle r.1 there in
+    ap (λ (b : Bool). cond b ms (m ∷ less handle ms)) (apart-serials m.0 handle (omega arith)) ∙ ap (λ (l : List (Handle × HeldPin)). m ∷ l) (less-is n (suc m.0.serial) ms high handle r.1 there)
 
 gather-less : (d : ℕ) (handle : Handle) (ps : List Pin) → gather mapping_named d (without d (ByHandle handle) ps) ≡ less handle (gather mapping_named d ps)
 unfolding gather without
@@ -68,5 +68,5 @@ gather-less d handle [] = refl
 gather-less d handle (p ∷ ps) = grind (arith, gather-less d handle ps)
 
 -- the mappings of a domain that gives one up
-pub mappings-less : (h : History) (d : DomId) (p : Held) (handle : Handle) (seen : Seen) (answer : Option Answer) → mappings_at (unpins d p (ByHandle handle) seen answer ∷ h) d.0 ≡ less handle (mappings_at h d.0)
+pub mappings-less : (h : History) (d : DomId) (p : HeldPin) (handle : Handle) (seen : Observation) (answer : Option Answer) → mappings_at (unpins d p (ByHandle handle) seen answer ∷ h) d.0 ≡ less handle (mappings_at h d.0)
 mappings-less h d p handle seen answer = ap (gather mapping_named d.0) (unpinned-live h d p (ByHandle handle) seen answer) ∙ gather-less d.0 handle (live h)

@@ -10,7 +10,7 @@ use Rattle.gt_host.specs.Playing.{setting_of_script}
 use Rattle.gt_replay.specs.Abreast.{history_in}
 use Rattle.gt_replay.specs.Courses.{Course}
 use Rattle.gt_replay.specs.Orders.{Happening}
-use Rattle.gt_script.specs.Lists.{Task}
+use Rattle.gt_script.specs.Lists.{RunTask}
 use Rattle.gt_script.specs.RunContents.{RunContents}
 use Rattle.gt_search.specs.Calls.{LabelsShow, ShowsCalls, ShowsOpen, handles_at, tasks_open}
 use Rattle.gt_search.specs.Copies.{SameActor, SameActors, SameWorld}
@@ -18,9 +18,9 @@ use Rattle.gt_search.specs.Ends.{tasks_at}
 use Rattle.gt_search.specs.Scenes.{SceneShows}
 use Rattle.gt_search.specs.Spaces.{scene_ways}
 use Rattle.gt_search.specs.declared.actor.Actor.{Actor}
-use Rattle.gt_search.specs.declared.actor.Open.{Open}
-use Rattle.gt_search.specs.declared.scene.Scene.{Scene}
-use Rattle.gt_search.specs.declared.scene.World.{World}
+use Rattle.gt_search.specs.declared.actor.ActorCall.{ActorCall}
+use Rattle.gt_search.specs.declared.scene.SearchContext.{SearchContext}
+use Rattle.gt_search.specs.declared.scene.SearchState.{SearchState}
 use Rattle.gt_ways.specs.Ways.{IsShownSo}
 use Rattle.gt_world.proofs.Copying.{pages-shown-again, tables-shown-again}
 use Rattle.gt_search.proofs.Copying.{actors-step}
@@ -43,7 +43,7 @@ same-at [] (z ∷ ys) k y a e = absurd a
 same-at (x ∷ xs) [] k y a e = absurd a
 
 -- a domain
-shows-calls : (s : Setting) (h : History) (tasks : List Task) (k : Course) (a b : Actor) → SameActor a b → ShowsCalls s h tasks k a → ShowsCalls s h tasks k b
+shows-calls : (s : Setting) (h : History) (tasks : List RunTask) (k : Course) (a b : Actor) → SameActor a b → ShowsCalls s h tasks k a → ShowsCalls s h tasks k b
 shows-calls s h tasks k a b same show = record {
   left = show.left ∙ ap (λ (n : ℕ). drop n tasks) (sym same.next);
   begun = subst (λ (n : ℕ). n ≤ length tasks) (sym same.next) show.begun;
@@ -52,10 +52,10 @@ shows-calls s h tasks k a b same show = record {
   pins = same.pins ∙ show.pins;
   labels = subst (λ (ls : List (Option (List ℕ))). LabelsShow k.named k.dom (handles_at h k.dom) ls) (sym same.labels) show.labels;
   opens = subst (λ (n : ℕ). ShowsOpen s h tasks k n k.opened (open_call h k.dom.0) b.«open») (sym same.next)
-      (subst (λ (o : Option Open). ShowsOpen s h tasks k a.next k.opened (open_call h k.dom.0) o) (sym same.open_call) show.opens);
+      (subst (λ (o : Option ActorCall). ShowsOpen s h tasks k a.next k.opened (open_call h k.dom.0) o) (sym same.open_call) show.opens);
 }
 
-shows-again : (c : RunContents) (scene : Scene) (hs : List Happening) (ks : List Course) (w v : World) → SameWorld w v → SceneShows c scene hs ks w → SceneShows c scene hs ks v
+shows-again : (c : RunContents) (scene : SearchContext) (hs : List Happening) (ks : List Course) (w v : SearchState) → SameWorld w v → SceneShows c scene hs ks w → SceneShows c scene hs ks v
 shows-again c scene hs ks w v same show = record {
   domains = show.domains;
   many = same-many w.actors.items v.actors.items same.actors ∙ show.many;
@@ -70,5 +70,5 @@ shows-again c scene hs ks w v same show = record {
   heard = λ flag is. show.heard flag (ap (λ (l : List Bool). slice_get l flag) (sym same.told) ∙ is);
 }
 
-pub shown-so : (scene : Scene) (w v : World) → SameWorld w v → IsShownSo (scene_ways scene) w v
+pub shown-so : (scene : SearchContext) (w v : SearchState) → SameWorld w v → IsShownSo (scene_ways scene) w v
 shown-so scene w v same = λ p shows. (shows.0, shows-again p.script scene p.happened p.courses w v same shows.1)

@@ -17,12 +17,12 @@ use Rattle.gt_search.specs.Ends.{AreDone, turns_from}
 use Rattle.gt_search.specs.Scenes.{IsSceneOf, MovesAlong, SceneShows}
 use Rattle.gt_search.specs.Spaces.{Point, printed_by, scene_ways}
 use Rattle.gt_search.specs.Starting.{Grows}
-use Rattle.gt_search.specs.declared.scene.Scene.{Scene}
-use Rattle.gt_search.specs.declared.scene.World.{World}
+use Rattle.gt_search.specs.declared.scene.SearchContext.{SearchContext}
+use Rattle.gt_search.specs.declared.scene.SearchState.{SearchState}
 use Rattle.gt_search.proofs.CourseMoves.{ends-done, move-listed}
 use Rattle.gt_ways.specs.Ways.{HasEachTurn, LedFits, MayEnd, MovesTo, only_at}
-use Rattle.gt_ways.specs.declared.spaces.Led.{Led}
-use Rattle.gt_ways.specs.declared.spaces.Led.TheVariants.{Answered, Nowhere, On}
+use Rattle.gt_ways.specs.declared.spaces.TurnResult.{TurnResult}
+use Rattle.gt_ways.specs.declared.spaces.TurnResult.TheVariants.{Answered, Nowhere, On}
 
 -- what is printed
 
@@ -53,13 +53,13 @@ printed-on ks place k j there same at = printed-set ks place k j [] there (same 
   none true = refl
   none false = refl
 
-fits : (scene : Scene) (led : Led) (p : Point) (turn : Turn) (q : Point) (k j : Course) → slice_get p.courses turn.place ≡ Some k → q.courses ≡ slice_set p.courses turn.place j → Grows led k.text j.text → LedFits (scene_ways scene) led turn.place p q
+fits : (scene : SearchContext) (led : TurnResult) (p : Point) (turn : Turn) (q : Point) (k j : Course) → slice_get p.courses turn.place ≡ Some k → q.courses ≡ slice_set p.courses turn.place j → Grows led k.text j.text → LedFits (scene_ways scene) led turn.place p q
 fits scene Nowhere p turn q k j there courses grows = absurd grows
 fits scene On p turn q k j there courses grows = λ at. ap (λ (ks : List Course). printed_by ks at) courses ∙ printed-on p.courses turn.place k j there grows at
 fits scene (Answered line) p turn q k j there courses grows = λ at. ap (λ (ks : List Course). printed_by ks at) courses ∙ printed-set p.courses turn.place k j line.items there grows at
 
 -- a move
-pub moves-to : (scene : Scene) (turn : Turn) (old : World) (led : Led) (new : World) → MovesAlong scene turn.place turn.choice old led new → MovesTo (scene_ways scene) old turn led new
+pub moves-to : (scene : SearchContext) (turn : Turn) (old : SearchState) (led : TurnResult) (new : SearchState) → MovesAlong scene turn.place turn.choice old led new → MovesTo (scene_ways scene) old turn led new
 moves-to scene turn old led new along p q shows next =
     let made = along p.script p.happened p.courses next.k next.j next.x shows.0 shows.1 next.there next.leads next.next in (
       fits scene led p turn q next.k next.j next.there next.courses made.0,
@@ -72,7 +72,7 @@ moves-to scene turn old led new along p q shows next =
     )
 
 -- the turns
-pub each-turn : (scene : Scene) (w : World) (turns : List Turn) → turns ≡ turns_from scene 0 w.actors.items → HasEachTurn (scene_ways scene) w turns
+pub each-turn : (scene : SearchContext) (w : SearchState) (turns : List Turn) → turns ≡ turns_from scene 0 w.actors.items → HasEachTurn (scene_ways scene) w turns
 each-turn scene w turns are p turn q shows next =
     let lt : turn.place < length p.courses = slice_get_within p.courses turn.place next.k next.there in
     let many = shows.1.many in
@@ -88,7 +88,7 @@ one-ends [] at k all here = absurd (none-some k here)
 one-ends (j ∷ ks) zero k all here = subst CourseEnds (same_Some j k here) all.0
 one-ends (j ∷ ks) (suc at) k all here = one-ends ks at k all.1 here
 
-pub may-end : (scene : Scene) (w : World) → MayEnd (scene_ways scene) w → AreDone scene w.actors.items
+pub may-end : (scene : SearchContext) (w : SearchState) → MayEnd (scene_ways scene) w → AreDone scene w.actors.items
 may-end scene w (p, shows, over) at a there =
     let lt : at < length w.actors.items = slice_get_within w.actors.items at a there in
     let many = shows.1.many in

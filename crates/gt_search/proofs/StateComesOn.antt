@@ -28,7 +28,7 @@ use Rattle.gt_replay.proofs.Coming.{IsQuiet, apart_at, domain_known, less_or, ma
 use Rattle.gt_replay.proofs.Places.{get_end, get_left, get_set}
 use Rattle.std.proofs.lemmas.List.{length-append}
 use Rattle.gt_replay.proofs.Whole.{history_did, history_quiet, raised_or}
-use Rattle.gt_script.specs.Lists.{Task}
+use Rattle.gt_script.specs.Lists.{RunTask}
 use Rattle.gt_script.specs.RunContents.{RunContents}
 use Rattle.gt_script.specs.RunScripts.{list_of}
 use Rattle.gt_script.specs.Stuck.{IsBelow}
@@ -36,12 +36,12 @@ use Rattle.gt_search.specs.Calls.{KnowsTable, ShowsCalls}
 use Rattle.gt_search.specs.Ends.{tasks_at}
 use Rattle.gt_search.specs.Scenes.{IsSceneOf, SceneShows, WasAnsweredAll}
 use Rattle.gt_search.specs.declared.actor.Actor.{Actor}
-use Rattle.gt_search.specs.declared.scene.Scene.{Scene}
-use Rattle.gt_search.specs.declared.scene.World.{World}
+use Rattle.gt_search.specs.declared.scene.SearchContext.{SearchContext}
+use Rattle.gt_search.specs.declared.scene.SearchState.{SearchState}
 use Rattle.gt_search.proofs.OthersStay.{others-stay}
 use Rattle.gt_world.specs.Likeness.{AsksFit, IsLikeReached}
 use Rattle.gt_world.specs.Shows.{PagesShow, TableShows, TablesShow}
-use Rattle.gt_world.specs.declared.table.Table.{Table}
+use Rattle.gt_world.specs.declared.table.SparseTable.{SparseTable}
 use Rattle.gt_world.proofs.GoingAlike.{like-goes-on}
 
 -- what happened
@@ -65,17 +65,17 @@ there-in (x ∷ xs) zero within = (x, refl)
 there-in (x ∷ xs) (suc n) within = there-in xs n (omega arith)
 
 -- each task of a domain's list is one of the domain
-own-task : (tasks : List Task) (dom : DomId) (n : ℕ) (t : Task) → slice_get (list_of tasks dom) n ≡ Some t → t.dom.0 ≡ dom.0
+own-task : (tasks : List RunTask) (dom : DomId) (n : ℕ) (t : RunTask) → slice_get (list_of tasks dom) n ≡ Some t → t.dom.0 ≡ dom.0
 own-task [] dom n t at = absurd (none-some t at)
 own-task (u ∷ tasks) dom n t at = by (u.dom.0 == dom.0) refl n at (own-task tasks dom) where
-  by : (b : Bool) → (u.dom.0 == dom.0) ≡ b → (n : ℕ) → slice_get (cond b (u ∷ list_of tasks dom) (list_of tasks dom)) n ≡ Some t → ((m : ℕ) (v : Task) → slice_get (list_of tasks dom) m ≡ Some v → v.dom.0 ≡ dom.0) → t.dom.0 ≡ dom.0
-  by true e zero at more = ap (λ (z : Task). z.dom.0) (sym (same_Some u t at)) ∙ eqb-true u.dom.0 dom.0 e
+  by : (b : Bool) → (u.dom.0 == dom.0) ≡ b → (n : ℕ) → slice_get (cond b (u ∷ list_of tasks dom) (list_of tasks dom)) n ≡ Some t → ((m : ℕ) (v : RunTask) → slice_get (list_of tasks dom) m ≡ Some v → v.dom.0 ≡ dom.0) → t.dom.0 ≡ dom.0
+  by true e zero at more = ap (λ (z : RunTask). z.dom.0) (sym (same_Some u t at)) ∙ eqb-true u.dom.0 dom.0 e
   by true e (suc n) at more = more n t at
   by false e n at more = more n t at
 
 -- a domain of a state
 
-module _ (c : RunContents) (scene : Scene) (hs : List Happening) (ks : List Course) (old : World) (place : ℕ) (k : Course) (a : Actor) (is : IsSceneOf c scene) (shows : SceneShows c scene hs ks old) (at : slice_get ks place ≡ Some k)
+module _ (c : RunContents) (scene : SearchContext) (hs : List Happening) (ks : List Course) (old : SearchState) (place : ℕ) (k : Course) (a : Actor) (is : IsSceneOf c scene) (shows : SceneShows c scene hs ks old) (at : slice_get ks place ≡ Some k)
     (there : slice_get old.actors.items place ≡ Some a) where
   abbrev s : Setting
   s = setting_of_script c.head
@@ -108,7 +108,7 @@ module _ (c : RunContents) (scene : Scene) (hs : List Happening) (ks : List Cour
       ]
 
   -- what it knows of its table
-  pub table-at : (t : Table) × (slice_get old.ground.tables.items place ≡ Some t) × KnowsTable s h k.dom scene t
+  pub table-at : (t : SparseTable) × (slice_get old.ground.tables.items place ≡ Some t) × KnowsTable s h k.dom scene t
   table-at =
       let d = course-at place k at in let many = shows.tables.many in let within = slice_get_within c.head.domains place d.0 d.1 in
       let t = there-in old.ground.tables.items place (omega arith) in
@@ -128,27 +128,27 @@ module _ (c : RunContents) (scene : Scene) (hs : List Happening) (ks : List Cour
   tasks-are : tasks_at scene place ≡ list_of c.tasks k.dom
   tasks-are =
       let d = course-at place k at in let f = λ (e : DomainConfig). list_of c.tasks e.id in
-      ap (λ (l : List (List Task)). get_or l place []) is.lists
+      ap (λ (l : List (List RunTask)). get_or l place []) is.lists
       ∙ get_or_from_slice_get (map f c.head.domains) place (f d.0) [] (slice_get-map f c.head.domains place ∙ ap (option_map f) d.1)
       ∙ ap (λ (i : DomId). list_of c.tasks i) d.2
 
   -- each task of it is one of the domain
-  pub task-own : (n : ℕ) (t : Task) → slice_get (tasks_at scene place) n ≡ Some t → t.dom ≡ k.dom
-  task-own n t here = ap (λ (i : ℕ). record { 0 = i }) (own-task c.tasks k.dom n t (ap (λ (l : List Task). slice_get l n) (sym tasks-are) ∙ here))
+  pub task-own : (n : ℕ) (t : RunTask) → slice_get (tasks_at scene place) n ≡ Some t → t.dom ≡ k.dom
+  task-own n t here = ap (λ (i : ℕ). record { 0 = i }) (own-task c.tasks k.dom n t (ap (λ (l : List RunTask). slice_get l n) (sym tasks-are) ∙ here))
 
   -- a flag that it names is one of the script
-  pub task-below : (n : ℕ) (t : Task) → slice_get (tasks_at scene place) n ≡ Some t → IsBelow c.flags t.deed
+  pub task-below : (n : ℕ) (t : RunTask) → slice_get (tasks_at scene place) n ≡ Some t → IsBelow c.flags t.deed
   task-below n t here =
-      let list = list_of c.tasks k.dom in let there = ap (λ (l : List Task). slice_get l n) (sym tasks-are) ∙ here in
-      let all = All-filter (λ (u : Task). u.dom.0 == k.dom.0) (λ (u : Task). IsBelow c.flags u.deed) c.tasks is.numbered in
-      subst (λ (u : Task). IsBelow c.flags u.deed) (get_or_from_slice_get list n t t there) (all n t (slice_get_within list n t there))
+      let list = list_of c.tasks k.dom in let there = ap (λ (l : List RunTask). slice_get l n) (sym tasks-are) ∙ here in
+      let all = All-filter (λ (u : RunTask). u.dom.0 == k.dom.0) (λ (u : RunTask). IsBelow c.flags u.deed) c.tasks is.numbered in
+      subst (λ (u : RunTask). IsBelow c.flags u.deed) (get_or_from_slice_get list n t t there) (all n t (slice_get_within list n t there))
 
   -- all domains
 
   -- one domain came to the next point of its course, and the others stayed
-  comes-so : (new : World) (x : Happening) (j : Course) (b : Actor) (g : History)
+  comes-so : (new : SearchState) (x : Happening) (j : Course) (b : Actor) (g : History)
       → new.actors.items ≡ slice_set old.actors.items place b → history_in (hs ++ x ∷ []) ≡ g → j.dom ≡ k.dom → ShowsCalls s g (tasks_at scene place) j b → WasAnsweredAll g j
-      → ((tasks : List Task) (u : Course) (z : Actor) → u.dom.0 ≢ k.dom.0 → ShowsCalls s h tasks u z → ShowsCalls s g tasks u z)
+      → ((tasks : List RunTask) (u : Course) (z : Actor) → u.dom.0 ≢ k.dom.0 → ShowsCalls s h tasks u z → ShowsCalls s g tasks u z)
       → ((u : Course) → WasAnsweredAll h u → WasAnsweredAll g u)
       → TablesShow s g new.ground.tables.items → PagesShow g new.ground.pages.items → IsLikeReached s g → length new.told.items ≡ c.flags
       → ((flag : ℕ) → IsRaisedBefore (length (hs ++ x ∷ [])) flag (hs ++ x ∷ []) → slice_get new.told.items flag ≡ Some true)
@@ -183,7 +183,7 @@ module _ (c : RunContents) (scene : Scene) (hs : List Happening) (ks : List Cour
       known i u (inr (other, was)) = kept u (shows.answered i u was)
 
   -- by an event, which did this
-  pub comes-event : (new : World) (e : Event) (i : Item) (j : Course) (b : Actor)
+  pub comes-event : (new : SearchState) (e : Event) (i : Item) (j : Course) (b : Actor)
       → i.actor ≡ k.dom → IsRight s h i → HappensKnown h i → AsksFit i.happened
       → new.actors.items ≡ slice_set old.actors.items place b → j.dom ≡ k.dom → ShowsCalls s (i ∷ h) (tasks_at scene place) j b → WasAnsweredAll (i ∷ h) j
       → TablesShow s (i ∷ h) new.ground.tables.items → PagesShow (i ∷ h) new.ground.pages.items → new.told ≡ old.told
@@ -205,7 +205,7 @@ module _ (c : RunContents) (scene : Scene) (hs : List Happening) (ks : List Cour
       no-flag d flag same = cc
 
   -- by a flag
-  pub comes-quiet : (new : World) (x : Happening) (j : Course) (b : Actor)
+  pub comes-quiet : (new : SearchState) (x : Happening) (j : Course) (b : Actor)
       → IsQuiet x → new.actors.items ≡ slice_set old.actors.items place b → j.dom ≡ k.dom → ShowsCalls s h (tasks_at scene place) j b → WasAnsweredAll h j → new.ground ≡ old.ground
       → length new.told.items ≡ length old.told.items
       → ((flag : ℕ) → IsRaisedBefore (length (hs ++ x ∷ [])) flag (hs ++ x ∷ []) → slice_get new.told.items flag ≡ Some true)

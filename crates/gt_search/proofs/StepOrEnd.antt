@@ -8,20 +8,20 @@ use Rattle.std.proofs.lemmas.Result.{IfOk-weaker}
 use Rattle.gt_types.specs.declared.DomId.{DomId}
 use Rattle.gt_types.specs.declared.GrantRef.{GrantRef}
 use Rattle.gt_types.specs.declared.denial.Denial.{Denial}
-use Rattle.gt_entry.specs.declared.change.Change.{Change}
+use Rattle.gt_entry.specs.declared.change.EntryChange.{EntryChange}
 use Rattle.gt_handles.specs.declared.handles.Handle.{Handle}
 use Rattle.gt_calls.specs.declared.action.Action.TheVariants.{Step as Makes, Done}
-use Rattle.gt_calls.specs.declared.action.Seen.{Seen}
-use Rattle.gt_calls.specs.declared.action.Seen.TheVariants.{Taken}
+use Rattle.gt_calls.specs.declared.action.Observation.{Observation}
+use Rattle.gt_calls.specs.declared.action.Observation.TheVariants.{Taken}
 use Rattle.gt_calls.specs.declared.action.Step.{Step}
 use Rattle.gt_calls.specs.declared.action.Step.TheVariants.{Exchange, Pin as PinStep, Read as ReadBytes, Unpin}
-use Rattle.gt_calls.specs.declared.action.Verdict.{Verdict}
-use Rattle.gt_calls.specs.declared.action.Verdict.TheVariants.{Given, Granted, Mapped as KeptPin, Refused}
+use Rattle.gt_calls.specs.declared.action.CallResult.{CallResult}
+use Rattle.gt_calls.specs.declared.action.CallResult.TheVariants.{Given, Granted, Mapped as KeptPin, Refused}
 use Rattle.gt_calls.specs.declared.call.Call.{Call}
-use Rattle.gt_calls.specs.declared.held.Held.{Held}
-use Rattle.gt_calls.specs.declared.request.Asked.{Asked}
-use Rattle.gt_calls.specs.declared.request.Asked.TheVariants.{Unmap}
-use Rattle.gt_calls.specs.declared.request.Holder.TheVariants.{Leg as ByLeg, Mapping as ByHandle}
+use Rattle.gt_calls.specs.declared.held.HeldPin.{HeldPin}
+use Rattle.gt_calls.specs.declared.request.OpenRequest.{OpenRequest}
+use Rattle.gt_calls.specs.declared.request.OpenRequest.TheVariants.{Unmap}
+use Rattle.gt_calls.specs.declared.request.PinHolder.TheVariants.{Leg as ByLeg, LabelledMapping as ByHandle}
 use Rattle.gt_calls.specs.declared.request.Request.{Request}
 use Rattle.gt_calls.specs.declared.request.Request.TheVariants as requests
 use Rattle.gt_calls.specs.Asking.{asked}
@@ -44,10 +44,10 @@ use Rattle.gt_lines.specs.declared.calls.ScriptCall.{ScriptCall}
 use Rattle.gt_lines.specs.declared.calls.ScriptCall.TheVariants as calls
 use Rattle.gt_replay.specs.Courses.{Course, Opened, back_after, calling, course_after, course_answered, giving, resting}
 use Rattle.gt_replay.specs.Orders.{given_up, handles_without, held_after}
-use Rattle.gt_script.specs.Lists.{Task}
-use Rattle.gt_script.specs.declared.tasks.DeedBy.TheVariants.{Do}
+use Rattle.gt_script.specs.Lists.{RunTask}
+use Rattle.gt_script.specs.declared.tasks.RunActionBy.TheVariants.{Do}
 use Rattle.gt_world.specs.Shows.{PagesShow, TablesShow}
-use Rattle.gt_world.specs.declared.ground.Ground.{Ground}
+use Rattle.gt_world.specs.declared.ground.SparseState.{SparseState}
 use Rattle.gt_search.specs.Calls.{AsksByPlace, GoesAlong, IsOfLine, IsOfTask, LabelsShow, ShowsCalls, ShowsOpen}
 use Rattle.gt_search.specs.Calls.{handles_at, known_by_place, tasks_open}
 use Rattle.gt_search.specs.Continuing.{GoesOnAsRun, SameKnown, stepped_call}
@@ -59,13 +59,13 @@ use Rattle.gt_search.specs.Ticking.{Closes, ClosesBack, CallIsOver, HasStepped, 
 use Rattle.gt_search.specs.Ticking.{TicksAsRun}
 use Rattle.gt_search.specs.Ticking.{label_given_by, mappings_after}
 use Rattle.gt_search.specs.declared.actor.Actor.{Actor}
-use Rattle.gt_search.specs.declared.actor.Mapping.{Mapping}
-use Rattle.gt_search.specs.declared.actor.Open.{Open}
+use Rattle.gt_search.specs.declared.actor.LabelledMapping.{LabelledMapping}
+use Rattle.gt_search.specs.declared.actor.ActorCall.{ActorCall}
 use Rattle.gt_ways.specs.declared.fault.SearchFault.{SearchFault}
-use Rattle.gt_ways.specs.declared.spaces.Led.{Led}
-use Rattle.gt_ways.specs.declared.spaces.Led.TheVariants.{On}
-use Rattle.gt_search.specs.declared.scene.Scene.{Scene}
-use Rattle.gt_search.specs.declared.scene.World.{World}
+use Rattle.gt_ways.specs.declared.spaces.TurnResult.{TurnResult}
+use Rattle.gt_ways.specs.declared.spaces.TurnResult.TheVariants.{On}
+use Rattle.gt_search.specs.declared.scene.SearchContext.{SearchContext}
+use Rattle.gt_search.specs.declared.scene.SearchState.{SearchState}
 use Rattle.gt_search.proofs.SameStep.{TickIs, along, below, in-run, no-handle, rising, same-step, tick-is}
 use Rattle.gt_search.proofs.OpenAlong.{run-at}
 use Rattle.gt_search.proofs.GoingOn.{goes-known, shows-going, went_on}
@@ -76,14 +76,14 @@ use Rattle.gt_search.proofs.OneLess.{but}
 
 -- an actor is where another one is that is the same
 
-shows-same-actor : (s : Setting) (h : History) (tasks : List Task) (k : Course) (a b : Actor) → b.next ≡ a.next → b.mappings.items ≡ a.mappings.items → b.«open» ≡ a.«open» → ShowsCalls s h tasks k a → ShowsCalls s h tasks k b
+shows-same-actor : (s : Setting) (h : History) (tasks : List RunTask) (k : Course) (a b : Actor) → b.next ≡ a.next → b.mappings.items ≡ a.mappings.items → b.«open» ≡ a.«open» → ShowsCalls s h tasks k a → ShowsCalls s h tasks k b
 shows-same-actor s h tasks k a b next maps opened show = record {
   left = show.left ∙ ap (λ (n : ℕ). drop n tasks) (sym next);
   begun = subst (λ (n : ℕ). n ≤ length tasks) (sym next) show.begun;
   few = subst (λ (n : ℕ). maps_answered_at h k.dom.0 + tasks_open k.opened ≤ n) (sym next) show.few;
   rising = show.rising;
   pins = ap mapping_pins maps ∙ show.pins;
-  labels = subst (λ (ms : List Mapping). LabelsShow k.named k.dom (handles_at h k.dom) (labels_of ms)) (sym maps) show.labels;
+  labels = subst (λ (ms : List LabelledMapping). LabelsShow k.named k.dom (handles_at h k.dom) (labels_of ms)) (sym maps) show.labels;
   opens = subst (λ (n : ℕ). ShowsOpen s h tasks k n k.opened (open_call h k.dom.0) b.«open») (sym next)
       (subst (ShowsOpen s h tasks k a.next k.opened (open_call h k.dom.0)) (sym opened) show.opens);
 }
@@ -97,26 +97,26 @@ no-single z n = tt
 under-none : (b : Handle) (y z : Step) → GivesNone z → step_under b y ≡ step_under b z → GivesNone y
 under-none b y z n e = subst GivesNone (sym (no-handle b z y n (sym e))) n
 
-maps-left : (y : Step) (ms : List Mapping) → GivesNone y → mappings_after y ms ≡ ms
+maps-left : (y : Step) (ms : List LabelledMapping) → GivesNone y → mappings_after y ms ≡ ms
 maps-left (Unpin p (ByHandle a)) ms n = absurd n
 maps-left (Unpin p (ByLeg place)) ms n = refl
 maps-left y ms n = refl
 
 -- the path of an unmap
 
-unmap-step : (b : Option Verdict) (m : Option Held) (handle : Handle) (vs : List Seen) (z : Step) → after_beginning b (by_mapping m (λ q. Unpin q (ByHandle handle))) vs ≡ Some (Makes z) → (p : Held) × (z ≡ Unpin p (ByHandle handle))
+unmap-step : (b : Option CallResult) (m : Option HeldPin) (handle : Handle) (vs : List Observation) (z : Step) → after_beginning b (by_mapping m (λ q. Unpin q (ByHandle handle))) vs ≡ Some (Makes z) → (p : HeldPin) × (z ≡ Unpin p (ByHandle handle))
 unmap-step None (Some q) handle [] z e = (q, grind arith)
 unmap-step b m handle vs z e = absurd (grind arith)
 
-unmap-over : (b : Option Verdict) (m : Option Held) (handle : Handle) (vs : List Seen) (z : Step) (seen : Seen) (v : Verdict) → after_beginning b (by_mapping m (λ q. Unpin q (ByHandle handle))) vs ≡ Some (Makes z)
+unmap-over : (b : Option CallResult) (m : Option HeldPin) (handle : Handle) (vs : List Observation) (z : Step) (seen : Observation) (v : CallResult) → after_beginning b (by_mapping m (λ q. Unpin q (ByHandle handle))) vs ≡ Some (Makes z)
     → after_beginning b (by_mapping m (λ q. Unpin q (ByHandle handle))) (vs ++ seen ∷ []) ≡ Some (Done v) → v ≡ Granted
 unmap-over None (Some q) handle [] z seen v e f = grind arith
 unmap-over b m handle vs z seen v e f = absurd (grind arith)
 
-unmap-makes : (k : CallerKnowledge) (d : DomId) (handle : Handle) (vs : List Seen) (z : Step) → path k d (Unmap handle) vs ≡ Some (Makes z) → (p : Held) × (z ≡ Unpin p (ByHandle handle))
+unmap-makes : (k : CallerKnowledge) (d : DomId) (handle : Handle) (vs : List Observation) (z : Step) → path k d (Unmap handle) vs ≡ Some (Makes z) → (p : HeldPin) × (z ≡ Unpin p (ByHandle handle))
 unmap-makes k d handle vs z e = unmap-step (begun k d (Unmap handle)) (k.mapping handle) handle vs z e
 
-unmap-ends : (k : CallerKnowledge) (d : DomId) (handle : Handle) (vs : List Seen) (z : Step) (seen : Seen) (v : Verdict) → path k d (Unmap handle) vs ≡ Some (Makes z) → path k d (Unmap handle) (vs ++ seen ∷ []) ≡ Some (Done v) → v ≡ Granted
+unmap-ends : (k : CallerKnowledge) (d : DomId) (handle : Handle) (vs : List Observation) (z : Step) (seen : Observation) (v : CallResult) → path k d (Unmap handle) vs ≡ Some (Makes z) → path k d (Unmap handle) (vs ++ seen ∷ []) ≡ Some (Done v) → v ≡ Granted
 unmap-ends k d handle vs z seen v e f = unmap-over (begun k d (Unmap handle)) (k.mapping handle) handle vs z seen v e f
 
 -- what a call asks, and gives up
@@ -162,21 +162,21 @@ no-handle-given answer n = grind arith
 none-mapped : (answer : Answer) → GivesNoHandle answer → one_if_mapped (Some answer) ≡ 0
 none-mapped answer n = grind arith
 
-told-plain : (h : History) (z : Step) (v : Verdict) (answer : Answer) → TellsEnd h z v answer → GivesNoHandle answer
+told-plain : (h : History) (z : Step) (v : CallResult) (answer : Answer) → TellsEnd h z v answer → GivesNoHandle answer
 told-plain h z v answer is = grind arith
 
 -- so ends a call that gives no mapping
-abbrev IsNoMap : Verdict → Type 0
+abbrev IsNoMap : CallResult → Type 0
 IsNoMap (KeptPin m) = ⊥
 IsNoMap v = Unit {0}
 
-tells-as : (h : History) (d : DomId) (r : Asked) (z : Step) (seen : Seen) (v : Verdict) (answer : Answer) → IsNoMap v → EndsAs h d r z seen v answer → TellsEnd h z v answer
+tells-as : (h : History) (d : DomId) (r : OpenRequest) (z : Step) (seen : Observation) (v : CallResult) (answer : Answer) → IsNoMap v → EndsAs h d r z seen v answer → TellsEnd h z v answer
 tells-as h d r z seen (KeptPin m) answer n ends = absurd n
 tells-as h d r z seen Granted answer n ends = ends
 tells-as h d r z seen (Given value) answer n ends = ends
 tells-as h d r z seen (Refused denial) answer n ends = ends
 
-maps-none : (label : Option (List ℕ)) (v : Verdict) (old new : List Mapping) → IsNoMap v → MapsSo label v old new → new ≡ old
+maps-none : (label : Option (List ℕ)) (v : CallResult) (old new : List LabelledMapping) → IsNoMap v → MapsSo label v old new → new ≡ old
 maps-none label (KeptPin m) old new n maps = absurd n
 maps-none label Granted old new n maps = maps
 maps-none label (Given value) old new n maps = maps
@@ -184,20 +184,20 @@ maps-none label (Refused denial) old new n maps = maps
 
 -- lines
 
-tells-under : (h : History) (b : Handle) (y : Step) (v : Verdict) (answer : Answer) → TellsEnd h (step_under b y) v answer → TellsEnd h y v answer
+tells-under : (h : History) (b : Handle) (y : Step) (v : CallResult) (answer : Answer) → TellsEnd h (step_under b y) v answer → TellsEnd h y v answer
 tells-under h b (Unpin p (ByHandle a)) v answer is = is
 tells-under h b y v answer is = is
 
-to-under : (h : History) (b : Handle) (y : Step) (v : Verdict) (answer : Answer) → TellsEnd h y v answer → TellsEnd h (step_under b y) v answer
+to-under : (h : History) (b : Handle) (y : Step) (v : CallResult) (answer : Answer) → TellsEnd h y v answer → TellsEnd h (step_under b y) v answer
 to-under h b (Unpin p (ByHandle a)) v answer is = is
 to-under h b y v answer is = is
 
-read-same : (h : History) (d : DomId) (dom : DomId) (frame off len : ℕ) (seen : Seen) (answer : Option Answer) (t f : ℕ) → contents_at (stepped d (ReadBytes dom frame off len) seen answer ∷ h) t f ≡ contents_at h t f
+read-same : (h : History) (d : DomId) (dom : DomId) (frame off len : ℕ) (seen : Observation) (answer : Option Answer) (t f : ℕ) → contents_at (stepped d (ReadBytes dom frame off len) seen answer ∷ h) t f ≡ contents_at h t f
 unfolding patches_at
 read-same h d dom frame off len seen answer t f = ap written (append-nil (patches_at h t f))
 
 -- what is printed is what the run prints
-same-text : (types : List (List ℕ)) (h : History) (d : DomId) (r : Asked) (z : Step) (seen : Seen) (v : Verdict) (answer told : Answer) → EndsAs h d r z seen v answer → TellsEnd (stepped d z seen (Some answer) ∷ h) z v told → answer_text types told ≡ answer_text types answer
+same-text : (types : List (List ℕ)) (h : History) (d : DomId) (r : OpenRequest) (z : Step) (seen : Observation) (v : CallResult) (answer told : Answer) → EndsAs h d r z seen v answer → TellsEnd (stepped d z seen (Some answer) ∷ h) z v told → answer_text types told ≡ answer_text types answer
 same-text types h d r z seen (KeptPin m) answer told ends tells = ap (answer_text types) (plain z tells) ∙ sym (ap (answer_text types) ends.1) where
   plain : (y : Step) → TellsEnd (stepped d z seen (Some answer) ∷ h) y (KeptPin m) told → told ≡ answers.Done
   plain y t = grind arith
@@ -237,8 +237,8 @@ leads-on types k giving i j e leads none = leads.1 ∙ ap (back_after k) none �
 same-known : (s : Setting) (h : History) (d : DomId) → SameKnown s h h d
 same-known s h d = record { mappings = refl; answered = refl; known = refl }
 
-module _ (s : Setting) (h : History) (scene : Scene) (before : World) (at : ℕ) (k : Course) (a : Actor) (o : Open) (i : Item) (tick : IsTick s h scene before at k a o i) where
-  abbrev tasks : List Task
+module _ (s : Setting) (h : History) (scene : SearchContext) (before : SearchState) (at : ℕ) (k : Course) (a : Actor) (o : ActorCall) (i : Item) (tick : IsTick s h scene before at k a o i) where
+  abbrev tasks : List RunTask
   tasks = tasks_at scene at
 
   abbrev here : TickIs s h tasks k a o i
@@ -253,7 +253,7 @@ module _ (s : Setting) (h : History) (scene : Scene) (before : World) (at : ℕ)
   abbrev z : Step
   z = (tick-is s h scene before at k a o i tick).step
 
-  abbrev saw : Seen
+  abbrev saw : Observation
   saw = seen_by s h k.dom (tick-is s h scene before at k a o i tick).step
 
   show : ShowsCalls s h tasks k a
@@ -264,14 +264,14 @@ module _ (s : Setting) (h : History) (scene : Scene) (before : World) (at : ℕ)
 
   -- it goes on
   module _ (types : List (List ℕ)) (j : Course) (leads : TickLeads types k k.opened i j) (call : Call) (y : Step) (goes : GoesOnAsRun s h k.dom c z o.task call (Makes y)) where
-    abbrev now : Open
+    abbrev now : ActorCall
     now = record { task = o.task; call = call; step = y }
 
     on : (x : Step) × (next_in s h k.dom c saw ≡ Some (Makes x))
     on = let r = run-at s h k.dom (stepped_call s h k.dom c z) now (goes h (same-known s h k.dom)) (below s h scene before at k a o i tick) (maps_answered_at h k.dom.0) (rising s h scene before at k a o i tick) in
-        (r.0, ap (λ (vs : List Seen). path (known_at s h k.dom) k.dom c.request vs) (sym (map-append (λ (q : Step × Seen). q.1) c.steps ((z, saw) ∷ []))) ∙ r.1)
+        (r.0, ap (λ (vs : List Observation). path (known_at s h k.dom) k.dom c.request vs) (sym (map-append (λ (q : Step × Observation). q.1) c.steps ((z, saw) ∷ []))) ∙ r.1)
 
-    going : (i.answer ≡ None) × (IsSingle z → ⊥) × ((gref : GrantRef) (looked : ℕ) (change : Change) → z ≡ Exchange gref looked change → saw ≡ Taken → ⊥)
+    going : (i.answer ≡ None) × (IsSingle z → ⊥) × ((gref : GrantRef) (looked : ℕ) (change : EntryChange) → z ≡ Exchange gref looked change → saw ≡ Taken → ⊥)
     going = (in-run s h scene before at k a o i tick).going on.0 on.1
 
     known : SameKnown s h (went_on k.dom z saw ∷ h) k.dom
@@ -290,35 +290,35 @@ module _ (s : Setting) (h : History) (scene : Scene) (before : World) (at : ℕ)
         (shows-same-actor s (went_on k.dom z saw ∷ h) tasks k (record a { «open» = Some now }) b next (maps ∙ keeps-maps) opened
         (shows-going s h tasks k a c z o now show here.opened tick.has known (goes (went_on k.dom z saw ∷ h) known) refl)))
 
-    pub goes-on : (seen : Seen) (old new : World) (b : Actor) → HasStepped s h k i o seen old.ground.tables.items old.ground.pages.items → new.actors.items ≡ slice_set old.actors.items at b → new.ground ≡ old.ground → new.told ≡ old.told
+    pub goes-on : (seen : Observation) (old new : SearchState) (b : Actor) → HasStepped s h k i o seen old.ground.tables.items old.ground.pages.items → new.actors.items ≡ slice_set old.actors.items at b → new.ground ≡ old.ground → new.told ≡ old.told
         → b.next ≡ a.next → b.mappings.items ≡ mappings_after o.step a.mappings.items → b.«open» ≡ Some now → TicksAsRun s (i ∷ h) tasks k j old new at On
     goes-on seen old new b made becomes ground told next maps opened = record {
       grows = ap (λ (x : Course). x.text) (leads-on types k k.opened i j refl leads going.0);
       actor = b;
       becomes = becomes;
       shows = shows-on b next maps opened;
-      tables = subst (λ (g : Ground). TablesShow s (i ∷ h) g.tables.items) (sym ground) made.tables_show;
-      pages = subst (λ (g : Ground). PagesShow (i ∷ h) g.pages.items) (sym ground) made.pages_show;
+      tables = subst (λ (g : SparseState). TablesShow s (i ∷ h) g.tables.items) (sym ground) made.tables_show;
+      pages = subst (λ (g : SparseState). PagesShow (i ∷ h) g.pages.items) (sym ground) made.pages_show;
       told = told;
     }
 
   -- it ends
-  module _ (v : Verdict) (ends : next_in s h k.dom c saw ≡ Some (Done v)) (m : Actor) (next_m : m.next ≡ a.next) (maps_m : m.mappings.items ≡ mappings_after o.step a.mappings.items) where
-    asks-unmap : (p : Held) (x : Handle) → z ≡ Unpin p (ByHandle x) → c.request ≡ Unmap x
+  module _ (v : CallResult) (ends : next_in s h k.dom c saw ≡ Some (Done v)) (m : Actor) (next_m : m.next ≡ a.next) (maps_m : m.mappings.items ≡ mappings_after o.step a.mappings.items) where
+    asks-unmap : (p : HeldPin) (x : Handle) → z ≡ Unpin p (ByHandle x) → c.request ≡ Unmap x
     asks-unmap p x is = subst (λ (y : Step). Justified s h k.dom c.request y) is here.right.justified
 
-    is-granted : (p : Held) (x : Handle) → z ≡ Unpin p (ByHandle x) → v ≡ Granted
+    is-granted : (p : HeldPin) (x : Handle) → z ≡ Unpin p (ByHandle x) → v ≡ Granted
     is-granted p x is = unmap-ends (known_at s h k.dom) k.dom x (values c) z saw v
-        (subst (λ (q : Asked). path (known_at s h k.dom) k.dom q (values c) ≡ Some (Makes z)) (asks-unmap p x is) here.right.continues)
-        (subst (λ (q : Asked). path (known_at s h k.dom) k.dom q (values c ++ saw ∷ []) ≡ Some (Done v)) (asks-unmap p x is) ends)
+        (subst (λ (q : OpenRequest). path (known_at s h k.dom) k.dom q (values c) ≡ Some (Makes z)) (asks-unmap p x is) here.right.continues)
+        (subst (λ (q : OpenRequest). path (known_at s h k.dom) k.dom q (values c ++ saw ∷ []) ≡ Some (Done v)) (asks-unmap p x is) ends)
 
-    takes : (p : Held) (x : Handle) → z ≡ Unpin p (ByHandle x) → m.mappings.items ≡ but way.place.serial a.mappings.items
+    takes : (p : HeldPin) (x : Handle) → z ≡ Unpin p (ByHandle x) → m.mappings.items ≡ but way.place.serial a.mappings.items
     takes p x is =
         let made = unmap-makes (known_by_place s h k.dom) k.dom way.place (values c) o.step
-        (subst (λ (q : Asked). path (known_by_place s h k.dom) k.dom q (values c) ≡ Some (Makes o.step)) (way.asks ∙ ap (asked_under way.place) (asks-unmap p x is)) way.follows) in
+        (subst (λ (q : OpenRequest). path (known_by_place s h k.dom) k.dom q (values c) ≡ Some (Makes o.step)) (way.asks ∙ ap (asked_under way.place) (asks-unmap p x is)) way.follows) in
         maps_m ∙ ap (λ (y : Step). mappings_after y a.mappings.items) made.1
 
-    at-place : (p : Held) (x : Handle) → z ≡ Unpin p (ByHandle x) → slice_get (handles_at h k.dom) way.place.serial ≡ Some x
+    at-place : (p : HeldPin) (x : Handle) → z ≡ Unpin p (ByHandle x) → slice_get (handles_at h k.dom) way.place.serial ≡ Some x
     at-place p x is = subst (AsksByPlace (handles_at h k.dom) way.place) (asks-unmap p x is) way.by_place
 
     keeps : GivesNone z → m.mappings.items ≡ a.mappings.items
@@ -326,7 +326,7 @@ module _ (s : Setting) (h : History) (scene : Scene) (before : World) (at : ℕ)
 
     no-unmap : GivesNone z → (x : Handle) → c.request ≡ Unmap x → ⊥
     no-unmap n x r =
-        let made = unmap-makes (known_at s h k.dom) k.dom x (values c) z (subst (λ (q : Asked). path (known_at s h k.dom) k.dom q (values c) ≡ Some (Makes z)) r here.right.continues) in
+        let made = unmap-makes (known_at s h k.dom) k.dom x (values c) z (subst (λ (q : OpenRequest). path (known_at s h k.dom) k.dom q (values c) ≡ Some (Makes z)) r here.right.continues) in
         subst GivesNone made.1 n
 
     -- the call of a line
@@ -335,34 +335,34 @@ module _ (s : Setting) (h : History) (scene : Scene) (before : World) (at : ℕ)
       abbrev text : List ℕ
       text = k.text ++ answer_line types line k.dom answer
 
-      abbrev Goal : Step → Seen → Answer → Option (List ℕ) → Type 0
+      abbrev Goal : Step → Observation → Answer → Option (List ℕ) → Type 0
       Goal y seen x label = ShowsCalls s (stepped k.dom y seen (Some x) ∷ h) tasks
           (over_course k (with_name k.named k.dom label (handle_given x)) (held_after k.held lost x) (k.text ++ answer_line types line k.dom x)) b
 
       next_b : b.next ≡ a.next
       next_b = closed.next ∙ next_m
 
-      line-mapped : (p : Held) → v ≡ KeptPin p → Goal z saw answer (label_given call)
+      line-mapped : (p : HeldPin) → v ≡ KeptPin p → Goal z saw answer (label_given call)
       line-mapped p is =
-          let t = subst (λ (w : Verdict). EndsAs h k.dom c.request z saw w answer) is told in let handle : Handle = t.0 in
+          let t = subst (λ (w : CallResult). EndsAs h k.dom c.request z saw w answer) is told in let handle : Handle = t.0 in
           let label = map-labelled said.named k.dom call said.request said.says (subst AsksMapping said.asks t.6) in
           let kept : m.mappings.items ≡ a.mappings.items = keeps (subst GivesNone (sym t.3) tt) in
           let maps : MapsSo (Some label.0) (KeptPin p) m.mappings.items b.mappings.items = subst (λ (l : Option (List ℕ)). MapsSo l (KeptPin p) m.mappings.items b.mappings.items) label.1
-          (subst (λ (w : Verdict). MapsSo (label_given call) w m.mappings.items b.mappings.items) is closed.maps) in
+          (subst (λ (w : CallResult). MapsSo (label_given call) w m.mappings.items b.mappings.items) is closed.maps) in
           subst (λ (y : Step). Goal y saw answer (label_given call)) (sym t.3)
-          (subst (λ (seen : Seen). Goal (PinStep p) seen answer (label_given call)) (sym t.4)
+          (subst (λ (seen : Observation). Goal (PinStep p) seen answer (label_given call)) (sym t.4)
           (subst (λ (x : Answer). Goal (PinStep p) Taken x (label_given call)) (sym t.1)
           (subst (λ (l : Option (List ℕ)). Goal (PinStep p) Taken (answers.Mapped handle) l) (sym label.1)
           (subst (λ (hs : List Handle). ShowsCalls s (stepped k.dom (PinStep p) Taken (Some (answers.Mapped handle)) ∷ h) tasks
           (over_course k (with_name k.named k.dom (Some label.0) (Some handle)) hs (k.text ++ answer_line types line k.dom (answers.Mapped handle))) b) (sym (held-more k.held lost handle))
           (shows-more s h tasks k a b p handle label.0 (k.text ++ answer_line types line k.dom (answers.Mapped handle)) show all tick.shows.like.1.first tick.shows.named t.2 t.5 few next_b closed.none
-          (maps.0 ∙ ap (λ (ms : List Mapping). mapping_pins ms ++ p ∷ []) kept)
-          (maps.1 ∙ ap (λ (ms : List Mapping). apart_from (Some label.0) (labels_of ms) ++ Some label.0 ∷ []) kept))))))
+          (maps.0 ∙ ap (λ (ms : List LabelledMapping). mapping_pins ms ++ p ∷ []) kept)
+          (maps.1 ∙ ap (λ (ms : List LabelledMapping). apart_from (Some label.0) (labels_of ms) ++ Some label.0 ∷ []) kept))))))
 
-      line-unmapped : IsNoMap v → (p : Held) (x : Handle) → z ≡ Unpin p (ByHandle x) → Goal z saw answer (label_given call)
+      line-unmapped : IsNoMap v → (p : HeldPin) (x : Handle) → z ≡ Unpin p (ByHandle x) → Goal z saw answer (label_given call)
       line-unmapped n p x is =
           let tells : TellsEnd h z v answer = tells-as h k.dom c.request z saw v answer n told in
-          let done : answer ≡ answers.Done = subst (λ (w : Verdict). TellsEnd h (Unpin p (ByHandle x)) w answer) (is-granted p x is) (subst (λ (y : Step). TellsEnd h y v answer) is tells) in
+          let done : answer ≡ answers.Done = subst (λ (w : CallResult). TellsEnd h (Unpin p (ByHandle x)) w answer) (is-granted p x is) (subst (λ (y : Step). TellsEnd h y v answer) is tells) in
           let gone : lost ≡ Some x = said.lost_is ∙ gives-up said.request x (sym said.asks ∙ asks-unmap p x is) in
           subst (λ (y : Step). Goal y saw answer (label_given call)) (sym is)
           (subst (λ (w : Answer). Goal (Unpin p (ByHandle x)) saw w (label_given call)) (sym done)
@@ -392,7 +392,7 @@ module _ (s : Setting) (h : History) (scene : Scene) (before : World) (at : ℕ)
 
       line-shows : Goal z saw answer (label_given call)
       line-shows = by v refl where
-        by : (w : Verdict) → v ≡ w → Goal z saw answer (label_given call)
+        by : (w : CallResult) → v ≡ w → Goal z saw answer (label_given call)
         by (KeptPin p) is = line-mapped p is
         by Granted is = line-plain (subst IsNoMap (sym is) tt)
         by (Given value) is = line-plain (subst IsNoMap (sym is) tt)
@@ -402,10 +402,10 @@ module _ (s : Setting) (h : History) (scene : Scene) (before : World) (at : ℕ)
     back-shows : (x : Handle) (answer : Answer) (b : Actor) → c.request ≡ Unmap x → k.held ≡ handles_without x (handles_at h k.dom) → v ≡ Granted → EndsAs h k.dom c.request z saw v answer → CallIsOver None v m b
         → ShowsCalls s (stepped k.dom z saw (Some answer) ∷ h) tasks (record k { opened = resting }) b
     back-shows x answer b asks held granted told closed =
-        let made = unmap-makes (known_at s h k.dom) k.dom x (values c) z (subst (λ (q : Asked). path (known_at s h k.dom) k.dom q (values c) ≡ Some (Makes z)) asks here.right.continues) in
+        let made = unmap-makes (known_at s h k.dom) k.dom x (values c) z (subst (λ (q : OpenRequest). path (known_at s h k.dom) k.dom q (values c) ≡ Some (Makes z)) asks here.right.continues) in
         let n : IsNoMap v = subst IsNoMap (sym granted) tt in
         let tells : TellsEnd h z v answer = tells-as h k.dom c.request z saw v answer n told in
-        let done : answer ≡ answers.Done = subst (λ (w : Verdict). TellsEnd h (Unpin made.0 (ByHandle x)) w answer) granted (subst (λ (y : Step). TellsEnd h y v answer) made.1 tells) in
+        let done : answer ≡ answers.Done = subst (λ (w : CallResult). TellsEnd h (Unpin made.0 (ByHandle x)) w answer) granted (subst (λ (y : Step). TellsEnd h y v answer) made.1 tells) in
         subst (λ (y : Step). ShowsCalls s (stepped k.dom y saw (Some answer) ∷ h) tasks (record k { opened = resting }) b) (sym made.1)
         (subst (λ (w : Answer). ShowsCalls s (stepped k.dom (Unpin made.0 (ByHandle x)) saw (Some w) ∷ h) tasks (record k { opened = resting }) b) (sym done)
         (shows-less s h tasks k a b made.0 x way.place saw k.held k.text answers.Done show held (at-place made.0 x made.1) refl (closed.next ∙ next_m) closed.none
@@ -417,19 +417,19 @@ module _ (s : Setting) (h : History) (scene : Scene) (before : World) (at : ℕ)
     item-over : i ≡ stepped k.dom z saw (Some ended.0)
     item-over = here.item ∙ ap (stepped k.dom z saw) ended.1
 
-    module _ (types : List (List ℕ)) (j : Course) (seen : Seen) (old mid new : World) (led : Led) (made : HasStepped s h k i o seen old.ground.tables.items old.ground.pages.items)
+    module _ (types : List (List ℕ)) (j : Course) (seen : Observation) (old mid new : SearchState) (led : TurnResult) (made : HasStepped s h k i o seen old.ground.tables.items old.ground.pages.items)
         (set : mid.actors.items ≡ slice_set old.actors.items at m) (ground : mid.ground ≡ old.ground) (told : mid.told ≡ old.told) where
       tables-then : new.ground ≡ mid.ground → TablesShow s (i ∷ h) new.ground.tables.items
-      tables-then e = subst (λ (g : Ground). TablesShow s (i ∷ h) g.tables.items) (sym (e ∙ ground)) made.tables_show
+      tables-then e = subst (λ (g : SparseState). TablesShow s (i ∷ h) g.tables.items) (sym (e ∙ ground)) made.tables_show
 
       pages-then : new.ground ≡ mid.ground → PagesShow (i ∷ h) new.ground.pages.items
-      pages-then e = subst (λ (g : Ground). PagesShow (i ∷ h) g.pages.items) (sym (e ∙ ground)) made.pages_show
+      pages-then e = subst (λ (g : SparseState). PagesShow (i ∷ h) g.pages.items) (sym (e ∙ ground)) made.pages_show
 
       becomes-then : (b : Actor) → new.actors.items ≡ slice_set mid.actors.items at b → new.actors.items ≡ slice_set old.actors.items at b
       becomes-then b e = e ∙ ap (λ (xs : List Actor). slice_set xs at b) set ∙ set-again old.actors.items at m b
 
       line-ends : (line : ℕ) (call : ScriptCall) (lost : Option Handle) → IsOfTask tasks a.next k.dom line call o.task → IsOfLine k.dom call lost c → k.held ≡ handles_at h k.dom → maps_answered_at h k.dom.0 + 1 ≤ a.next
-          → j ≡ course_after types line call lost k i.answer → (t : Task) → t.dom ≡ k.dom → t.line ≡ line → t.deed ≡ Do call → Closes (i ∷ h) types t o.step v m mid new at led → TicksAsRun s (i ∷ h) tasks k j old new at led
+          → j ≡ course_after types line call lost k i.answer → (t : RunTask) → t.dom ≡ k.dom → t.line ≡ line → t.deed ≡ Do call → Closes (i ∷ h) types t o.step v m mid new at led → TicksAsRun s (i ∷ h) tasks k j old new at led
       line-ends line call lost task said all few leads t dom line-is deed x =
           let j-is : j ≡ course_answered types line call lost k ended.0 = leads ∙ ap (course_after types line call lost k) ended.1 in
           let tells : TellsEnd (stepped k.dom z saw (Some ended.0) ∷ h) z v x.answer = subst (λ (y : Item). TellsEnd (y ∷ h) z v x.answer) item-over
@@ -452,7 +452,7 @@ module _ (s : Setting) (h : History) (scene : Scene) (before : World) (at : ℕ)
       back-ends x asks held leads y =
           let j-is : j ≡ record k { opened = resting } = leads ∙ ap (back_after k) ended.1 in
           record {
-            grows = subst (λ (l : Led). Grows l k.text j.text) (sym y.on) (ap (λ (q : Course). q.text) j-is);
+            grows = subst (λ (l : TurnResult). Grows l k.text j.text) (sym y.on) (ap (λ (q : Course). q.text) j-is);
             actor = y.actor;
             becomes = becomes-then y.actor y.becomes;
             shows = subst (λ (q : Course). ShowsCalls s (i ∷ h) tasks q y.actor) (sym j-is) (subst (λ (q : Item). ShowsCalls s (q ∷ h) tasks (record k { opened = resting }) y.actor) (sym item-over)
@@ -463,9 +463,9 @@ module _ (s : Setting) (h : History) (scene : Scene) (before : World) (at : ℕ)
           }
 
   -- by whatever is open
-  pub call-over : (types : List (List ℕ)) (j : Course) (seen : Seen) (old mid new : World) (result : Result Led SearchFault) (v : Verdict) (m : Actor) → next_in s h k.dom c saw ≡ Some (Done v) → m.next ≡ a.next → m.mappings.items ≡ mappings_after o.step a.mappings.items
+  pub call-over : (types : List (List ℕ)) (j : Course) (seen : Observation) (old mid new : SearchState) (result : Result TurnResult SearchFault) (v : CallResult) (m : Actor) → next_in s h k.dom c saw ≡ Some (Done v) → m.next ≡ a.next → m.mappings.items ≡ mappings_after o.step a.mappings.items
       → HasStepped s h k i o seen old.ground.tables.items old.ground.pages.items → mid.actors.items ≡ slice_set old.actors.items at m → mid.ground ≡ old.ground → mid.told ≡ old.told → TickLeads types k k.opened i j
-      → ((place : ℕ) (t : Task) → o.task ≡ Some place → slice_get tasks place ≡ Some t → IfOk result (Closes (i ∷ h) types t o.step v m mid new at))
+      → ((place : ℕ) (t : RunTask) → o.task ≡ Some place → slice_get tasks place ≡ Some t → IfOk result (Closes (i ∷ h) types t o.step v m mid new at))
       → (o.task ≡ None → IfOk result (ClosesBack v m mid new at)) → IfOk result (TicksAsRun s (i ∷ h) tasks k j old new at)
   call-over types j seen old mid new result v m ends next_m maps_m made set ground told leads line back = by k.opened refl here.shows leads where
     by : (opened : Opened) → k.opened ≡ opened → ShowsOpen s h tasks k a.next opened (Some c) (Some o) → TickLeads types k opened i j → IfOk result (TicksAsRun s (i ∷ h) tasks k j old new at)

@@ -3,8 +3,8 @@ use Rattle.std.proofs.Common.{◌≡◌, ◌+◌, ◌<◌, ◌≤◌, ℕ, zero,
 use Rattle.std.proofs.Common.{sym, ap, ◌∙◌, arith, take, drop, ◌++◌}
 use Rattle.std.proofs.lemmas.List.{map-set, get_or-map, length-map, take_at}
 use Rattle.std.proofs.Math.Seq.{map-set_same}
-use Rattle.gt_calls.specs.declared.held.Held.{Held}
-use Rattle.gt_search.specs.declared.actor.Mapping.{Mapping}
+use Rattle.gt_calls.specs.declared.held.HeldPin.{HeldPin}
+use Rattle.gt_search.specs.declared.actor.LabelledMapping.{LabelledMapping}
 use Rattle.gt_search.specs.Mappings.{labels_of, mapping_pins, apart_from, label_bytes, unless_given}
 
 -- the labels, those at so many first places apart from the one given
@@ -33,25 +33,25 @@ unfolding apart_up_to
 none-yet given labels = refl
 
 -- one more mapping is apart
-pub labels-step : (given : Option (List ℕ)) (n : ℕ) (all orig : List Mapping) (d y : Mapping) → n < length all → label_bytes y.label ≡ unless_given given (label_bytes (get_or all n d).label)
+pub labels-step : (given : Option (List ℕ)) (n : ℕ) (all orig : List LabelledMapping) (d y : LabelledMapping) → n < length all → label_bytes y.label ≡ unless_given given (label_bytes (get_or all n d).label)
     → labels_of all ≡ apart_up_to n given (labels_of orig) → labels_of (set all n y) ≡ apart_up_to (n + 1) given (labels_of orig)
 labels-step given n all orig d y lt e h =
-    map-set (λ (m : Mapping). label_bytes m.label) all n y
-    ∙ ap (λ (v : Option (List ℕ)). set (labels_of all) n v) (e ∙ ap (unless_given given) (sym (get_or-map (λ (m : Mapping). label_bytes m.label) all n d (label_bytes d.label) lt)))
+    map-set (λ (m : LabelledMapping). label_bytes m.label) all n y
+    ∙ ap (λ (v : Option (List ℕ)). set (labels_of all) n v) (e ∙ ap (unless_given given) (sym (get_or-map (λ (m : LabelledMapping). label_bytes m.label) all n d (label_bytes d.label) lt)))
     ∙ ap (λ (ls : List (Option (List ℕ))). set ls n (unless_given given (get_or ls n (label_bytes d.label)))) h
     ∙ one-more n given (labels_of orig) (label_bytes d.label)
     ∙ ap (λ (k : ℕ). apart_up_to k given (labels_of orig)) (let e : suc n ≡ n + 1 = omega arith in e)
 
-pub pins-step : (n : ℕ) (all orig : List Mapping) (d y : Mapping) → y.held ≡ (get_or all n d).held → mapping_pins all ≡ mapping_pins orig → mapping_pins (set all n y) ≡ mapping_pins orig
-pins-step n all orig d y e h = map-set_same (λ (m : Mapping). m.held) all n y d e ∙ h
+pub pins-step : (n : ℕ) (all orig : List LabelledMapping) (d y : LabelledMapping) → y.held ≡ (get_or all n d).held → mapping_pins all ≡ mapping_pins orig → mapping_pins (set all n y) ≡ mapping_pins orig
+pins-step n all orig d y e h = map-set_same (λ (m : LabelledMapping). m.held) all n y d e ∙ h
 
-same-length : (all orig : List Mapping) → mapping_pins all ≡ mapping_pins orig → length all ≡ length orig
-same-length all orig h = sym (length-map all (λ (m : Mapping). m.held)) ∙ ap (λ (l : List Held). length l) h ∙ length-map orig (λ (m : Mapping). m.held)
+same-length : (all orig : List LabelledMapping) → mapping_pins all ≡ mapping_pins orig → length all ≡ length orig
+same-length all orig h = sym (length-map all (λ (m : LabelledMapping). m.held)) ∙ ap (λ (l : List HeldPin). length l) h ∙ length-map orig (λ (m : LabelledMapping). m.held)
 
 -- all of them are
-pub labels-all : (given : Option (List ℕ)) (n : ℕ) (all orig : List Mapping) → length all ≤ n → mapping_pins all ≡ mapping_pins orig → labels_of all ≡ apart_up_to n given (labels_of orig) → labels_of all ≡ apart_from given (labels_of orig)
+pub labels-all : (given : Option (List ℕ)) (n : ℕ) (all orig : List LabelledMapping) → length all ≤ n → mapping_pins all ≡ mapping_pins orig → labels_of all ≡ apart_up_to n given (labels_of orig) → labels_of all ≡ apart_from given (labels_of orig)
 labels-all given n all orig le pins h =
-    h ∙ all-of n given (labels_of orig) (let a = same-length all orig pins in let b = length-map orig (λ (m : Mapping). label_bytes m.label) in omega arith)
+    h ∙ all-of n given (labels_of orig) (let a = same-length all orig pins in let b = length-map orig (λ (m : LabelledMapping). label_bytes m.label) in omega arith)
 
 -- a list written back whole
 pub whole : {A : Type 0} (n : ℕ) (xs ys : List A) → length xs ≡ n → take n (xs ++ drop (length xs) ys) ≡ xs

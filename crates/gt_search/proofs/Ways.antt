@@ -20,11 +20,11 @@ use Rattle.gt_script.specs.Contents.{type_names}
 use Rattle.gt_script.specs.RunContents.{RunContents}
 use Rattle.gt_search.specs.Scenes.{IsSceneOf}
 use Rattle.gt_search.specs.Spaces.{FindsAll, Point, printed_by, scene_ways}
-use Rattle.gt_search.specs.declared.scene.Scene.{Scene}
+use Rattle.gt_search.specs.declared.scene.SearchContext.{SearchContext}
 use Rattle.gt_ways.specs.Exploring.{AllTextsFound}
 use Rattle.gt_ways.specs.Ways.{GoesTo, text_at}
-use Rattle.gt_ways.specs.declared.exploring.Found.{Found}
-use Rattle.gt_ways.specs.declared.exploring.Order.{Order}
+use Rattle.gt_ways.specs.declared.exploring.SearchResult.{SearchResult}
+use Rattle.gt_ways.specs.declared.exploring.FoundText.{FoundText}
 
 -- what may come next
 
@@ -47,7 +47,7 @@ may-follow c before (passed d flag) more text order =
 abbrev point : RunContents → List Happening → List Course → Point
 point c hs ks = record { script = c; happened = hs; courses = ks }
 
-goes : (scene : Scene) (c : RunContents) (text : List ℕ) (whole : List Happening) (before left : List Happening) (ks : List Course) (turns : List Turn) (ends : List Course)
+goes : (scene : SearchContext) (c : RunContents) (text : List ℕ) (whole : List Happening) (before left : List Happening) (ks : List Course) (turns : List Turn) (ends : List Course)
     → IsOrderOf c whole text → whole ≡ before ++ left → TurnsLead (type_names c.head) ks left turns ends → AllCoursesEnd ends → GoesTo (scene_ways scene) (point c before ks) turns (point c whole ends)
 goes scene c text whole before [] ks [] ends order parts leads over = (
   ap (λ (hs : List Happening). point c hs ks) (sym (parts ∙ append-nil before)) ∙ ap (point c whole) leads,
@@ -96,8 +96,8 @@ kept-length types ks (x ∷ hs) [] ls leads = absurd leads
 first-length : (c : RunContents) → length (first_courses c) ≡ length c.head.domains
 first-length c = length-map c.head.domains _
 
-finds-turned : (scene : Scene) (c : RunContents) (found : Found) → IsSceneOf c scene → AllTextsFound (scene_ways scene) found → (hs : List Happening) (turns : List Turn) (text : List ℕ) → IsTurnedBy c hs turns text
-    → (at : ℕ) × (o : Order) × (slice_get found.orders.items at ≡ Some o) × (o.text.items ≡ text)
+finds-turned : (scene : SearchContext) (c : RunContents) (found : SearchResult) → IsSceneOf c scene → AllTextsFound (scene_ways scene) found → (hs : List Happening) (turns : List Turn) (text : List ℕ) → IsTurnedBy c hs turns text
+    → (at : ℕ) × (o : FoundText) × (slice_get found.orders.items at ≡ Some o) × (o.text.items ≡ text)
 finds-turned scene c found is all hs turns text turned =
     let p = point c [] (first_courses c) in let q = point c hs turned.ends in
     let r = all p turns q (record { scene_is = is; happened = refl; courses = refl }) (goes scene c text hs [] hs (first_courses c) turns turned.ends turned.order refl turned.leads turned.over) in
@@ -107,6 +107,6 @@ finds-turned scene c found is all hs turns text turned =
     (r.0, r.1, r.2, r.3 ∙ same)
 
 -- the search finds them all
-pub finds-all : (scene : Scene) (c : RunContents) (found : Found) → IsSceneOf c scene → AllTextsFound (scene_ways scene) found → FindsAll c found
+pub finds-all : (scene : SearchContext) (c : RunContents) (found : SearchResult) → IsSceneOf c scene → AllTextsFound (scene_ways scene) found → FindsAll c found
 finds-all scene c found is all text (hs, order) =
     let turned = has-turns c hs text is.setting.apart order in finds-turned scene c found is all hs turned.0 text turned.1

@@ -5,13 +5,13 @@ use Rattle.gt_calls.specs.declared.action.Action.TheVariants.{Step as Makes}
 use Rattle.gt_calls.specs.declared.action.Step.{Step}
 use Rattle.gt_calls.specs.declared.call.Call.{Call}
 use Rattle.gt_calls.specs.declared.request.Request.{Request}
-use Rattle.gt_calls.specs.Asking.{asked, begun_of, IsSaid}
+use Rattle.gt_calls.specs.Asking.{asked, begun_of, SpellsItsEntry}
 use Rattle.gt_calls.specs.Path.{path}
 use Rattle.gt_calls.specs.Machine.{first_phase}
 use Rattle.gt_calls.specs.Rules.{CallerKnowledge, begun}
 use Rattle.gt_calls.specs.Standing.{IsAt}
-use Rattle.gt_search.specs.declared.calls.Opening.{Opening as Opened}
-use Rattle.gt_search.specs.declared.calls.Opening.TheVariants.{Open, Done}
+use Rattle.gt_search.specs.declared.calls.CallOpening.{CallOpening as Opened}
+use Rattle.gt_search.specs.declared.calls.CallOpening.TheVariants.{Open, Done}
 
 -- by what is known in either way a call begins the same
 pub record BeginsAlike (one other : CallerKnowledge) (dom : DomId) (request : Request) : Type 0 where
@@ -23,7 +23,7 @@ pub record BeginsAlike (one other : CallerKnowledge) (dom : DomId) (request : Re
 -- the call is open: no rule stood at its beginning, and this is its first step
 pub record OpensAsRun (k : CallerKnowledge) (dom : DomId) (request : Request) (call : Call) (step : Step) : Type 0 where
   pub unanswered : begun_of k dom request ≡ None
-  pub said : IsSaid k.header request
+  pub said : SpellsItsEntry k.header request
   pub caller : call.caller ≡ dom
   pub asks : call.request ≡ asked request
   pub at : IsAt k call []

@@ -13,8 +13,8 @@ use Rattle.gt_core.specs.History.{History, Setting, Underway, entry_at, generati
 use Rattle.gt_core.specs.History.{maps_answered_at, seen_by, values}
 use Rattle.gt_host.specs.Rights.{may_by}
 use Rattle.gt_search.specs.Calls.{GoesAlong}
-use Rattle.gt_search.specs.declared.scene.Scene.{Scene}
-use Rattle.gt_world.specs.declared.table.Table.{Table}
+use Rattle.gt_search.specs.declared.scene.SearchContext.{SearchContext}
+use Rattle.gt_world.specs.declared.table.SparseTable.{SparseTable}
 
 -- a domain knows the same by both histories
 pub record SameKnown (s : Setting) (h g : History) (d : DomId) : Type 0 where
@@ -30,7 +30,7 @@ IsGranting phase = ⊥
 
 -- as far as what is left to do of this call asks for it, the domain knows in the state what it knew by what happened: its
 -- own entries only while one is being granted
-pub record StillKnows (s : Setting) (h : History) (d : DomId) (scene : Scene) (t : Table) (call : Call) : Type 0 where
+pub record StillKnows (s : Setting) (h : History) (d : DomId) (scene : SearchContext) (t : SparseTable) (call : Call) : Type 0 where
   pub domains : scene.roster.domains.items ≡ s.domains
   pub may : may_by scene.rights ≡ s.may
   pub entries : (p : Phase) → call.phase ≡ Some p → IsGranting p → entry_in t.own.items ≡ (λ r. entry_at h d.0 r)

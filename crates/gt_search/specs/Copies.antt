@@ -2,7 +2,7 @@
 use Rattle.std.specs.Prelude.{◌≡◌, List, [], ◌∷◌, None}
 use Rattle.gt_search.specs.Mappings.{labels_of, mapping_pins}
 use Rattle.gt_search.specs.declared.actor.Actor.{Actor}
-use Rattle.gt_search.specs.declared.scene.World.{World}
+use Rattle.gt_search.specs.declared.scene.SearchState.{SearchState}
 use Rattle.gt_world.specs.Copies.{SamePages, SameTables}
 
 -- the domain is before the first task of its list, with no mapping and no call open
@@ -26,7 +26,7 @@ SameActors [] (b ∷ rest) = ⊥
 SameActors (a ∷ more) [] = ⊥
 
 -- the other state has the same domains, tables, pages and flags
-pub record SameWorld (one other : World) : Type 0 where
+pub record SameWorld (one other : SearchState) : Type 0 where
   pub actors : SameActors one.actors.items other.actors.items
   pub tables : SameTables one.ground.tables.items other.ground.tables.items
   pub pages : SamePages one.ground.pages.items other.ground.pages.items

@@ -2,21 +2,21 @@
 use Rattle.std.specs.Prelude.{◌++◌, bytes_eq, ℕ, suc, if◌then◌else◌, List, map, take, drop, Option, Some, None}
 use Rattle.std.specs.Borrow.{Bor}
 use Rattle.std.specs.Option.{option_map}
-use Rattle.gt_calls.specs.declared.held.Held.{Held}
-use Rattle.gt_calls.specs.declared.request.Holder.{Holder}
-use Rattle.gt_calls.specs.declared.request.Holder.TheVariants.{Mapping as ByHandle, Leg as ByLeg}
-use Rattle.gt_search.specs.declared.actor.Mapping.{Mapping}
+use Rattle.gt_calls.specs.declared.held.HeldPin.{HeldPin}
+use Rattle.gt_calls.specs.declared.request.PinHolder.{PinHolder}
+use Rattle.gt_calls.specs.declared.request.PinHolder.TheVariants.{LabelledMapping as ByHandle, Leg as ByLeg}
+use Rattle.gt_search.specs.declared.actor.LabelledMapping.{LabelledMapping}
 
 -- the bytes of a label, if there is one
 abbrev pub label_bytes : Option (Bor (List ℕ)) → Option (List ℕ)
 label_bytes label = option_map (λ l. l.now) label
 
 -- the labels of these mappings
-abbrev pub labels_of : List Mapping → List (Option (List ℕ))
+abbrev pub labels_of : List LabelledMapping → List (Option (List ℕ))
 labels_of ms = map (λ m. label_bytes m.label) ms
 
 -- their pins
-abbrev pub mapping_pins : List Mapping → List Held
+abbrev pub mapping_pins : List LabelledMapping → List HeldPin
 mapping_pins ms = map (λ m. m.held) ms
 
 -- a label, unless it is the one given to another mapping
@@ -30,6 +30,6 @@ abbrev pub apart_from : Option (List ℕ) → List (Option (List ℕ)) → List 
 apart_from given labels = map (unless_given given) labels
 
 -- the mappings without the one at the place that is the serial of this handle
-abbrev pub given_back : Holder → List Mapping → List Mapping
+abbrev pub given_back : PinHolder → List LabelledMapping → List LabelledMapping
 given_back (ByHandle handle) ms = take handle.serial ms ++ drop (suc handle.serial) ms
 given_back (ByLeg number) ms = ms

@@ -3,12 +3,12 @@ use Rattle.std.specs.Prelude.{◌≡◌, ℕ, suc, List, [], ◌∷◌, length, 
 use Rattle.gt_types.specs.declared.DomId.{DomId}
 use Rattle.gt_handles.specs.declared.handles.Handle.{Handle}
 use Rattle.gt_handles.specs.Listing.{HasJust}
-use Rattle.gt_calls.specs.declared.held.Held.{Held}
+use Rattle.gt_calls.specs.declared.held.HeldPin.{HeldPin}
 use Rattle.gt_host.specs.Naming.{AreNamed}
 use Rattle.gt_host.specs.Runs.{Named, with_name}
 use Rattle.gt_search.specs.Mappings.{labels_of, mapping_pins}
-use Rattle.gt_search.specs.declared.actor.Mapping.{Mapping}
-use Rattle.gt_search.specs.declared.names.Names.{Names}
+use Rattle.gt_search.specs.declared.actor.LabelledMapping.{LabelledMapping}
+use Rattle.gt_search.specs.declared.names.ActorHandles.{ActorHandles}
 
 -- the serials of the handles are the numbers from this one on
 abbrev pub CountFrom : ℕ → List Handle → Type 0
@@ -26,14 +26,14 @@ abbrev pub place_names : DomId → List Handle → List (Option (List ℕ)) → 
 place_names dom handles labels = place_names_after dom handles labels []
 
 -- each of these mappings has a handle whose serial is its place, by which its pin is found, and which its label names
-pub record ArePlaced (dom : DomId) (mappings : List Mapping) (n : Names) : Type 0 where
-  pub pairs : List (Handle × Held)
+pub record ArePlaced (dom : DomId) (mappings : List LabelledMapping) (n : ActorHandles) : Type 0 where
+  pub pairs : List (Handle × HeldPin)
   pub kept : HasJust n.mappings pairs (length mappings)
-  pub pins : map (λ (m : Handle × Held). m.1) pairs ≡ mapping_pins mappings
-  pub handles : map (λ (m : Handle × Held). m.0) pairs ≡ n.handles.items
+  pub pins : map (λ (m : Handle × HeldPin). m.1) pairs ≡ mapping_pins mappings
+  pub handles : map (λ (m : Handle × HeldPin). m.0) pairs ≡ n.handles.items
   pub places : CountFrom 0 n.handles.items
   pub labels : AreNamed n.labels (place_names dom n.handles.items (labels_of mappings))
 
 -- the pin of the mapping whose place is the serial of this handle
-abbrev pub pin_by_place : List Held → Handle → Option Held
+abbrev pub pin_by_place : List HeldPin → Handle → Option HeldPin
 pin_by_place pins handle = slice_get pins handle.serial

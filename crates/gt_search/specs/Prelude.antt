@@ -4,15 +4,15 @@ pub use Rattle.gt_calls.specs.Path.{path}
 pub use Rattle.gt_calls.specs.Rules.{CallerKnowledge, entry_in, knowledge_of, own_generation}
 pub use Rattle.gt_calls.specs.Standing.{IsAt}
 pub use Rattle.gt_calls.specs.declared.action.Action.TheVariants.{Step as Makes}
-pub use Rattle.gt_calls.specs.declared.action.Seen.{Seen}
+pub use Rattle.gt_calls.specs.declared.action.Observation.{Observation}
 pub use Rattle.gt_calls.specs.declared.action.Step.{Step}
 pub use Rattle.gt_calls.specs.declared.action.Step.TheVariants.{Read as ReadBytes, Unpin}
-pub use Rattle.gt_calls.specs.declared.action.Verdict.{Verdict}
-pub use Rattle.gt_calls.specs.declared.action.Verdict.TheVariants.{Granted, Mapped as KeptPin}
+pub use Rattle.gt_calls.specs.declared.action.CallResult.{CallResult}
+pub use Rattle.gt_calls.specs.declared.action.CallResult.TheVariants.{Granted, Mapped as KeptPin}
 pub use Rattle.gt_calls.specs.declared.call.Call.{Call}
-pub use Rattle.gt_calls.specs.declared.held.Held.{Held}
-pub use Rattle.gt_calls.specs.declared.request.Asked.{Asked}
-pub use Rattle.gt_calls.specs.declared.request.Asked.TheVariants.{Load, Store}
+pub use Rattle.gt_calls.specs.declared.held.HeldPin.{HeldPin}
+pub use Rattle.gt_calls.specs.declared.request.OpenRequest.{OpenRequest}
+pub use Rattle.gt_calls.specs.declared.request.OpenRequest.TheVariants.{Load, Store}
 pub use Rattle.gt_calls.specs.declared.request.Request.{Request}
 pub use Rattle.gt_core.specs.Acting.{answer_of}
 pub use Rattle.gt_core.specs.History.{History, Setting, Underway, contents_at, entry_at, generation_at, known_at}
@@ -28,25 +28,25 @@ pub use Rattle.gt_handles.specs.declared.handles.Handle.{Handle}
 pub use Rattle.gt_host.specs.Playing.{setting_of_script}
 pub use Rattle.gt_host.specs.Printing.{answer_line}
 pub use Rattle.gt_host.specs.Rights.{may_by, may_in}
-pub use Rattle.gt_host.specs.Runs.{Named, SaysRequest, bytes_said, handle_named, label_given}
+pub use Rattle.gt_host.specs.Runs.{Named, SaysRequest, call_bytes, handle_named, label_given}
 pub use Rattle.gt_lines.specs.declared.calls.ScriptCall.{ScriptCall}
 pub use Rattle.gt_replay.specs.Abreast.{CanComeNext, HaveAnswered, WereAnswered, history_in}
 pub use Rattle.gt_replay.specs.Courses.{Course, CourseLeads, IsDoneIf, back_after, calling, course_after, giving}
 pub use Rattle.gt_replay.specs.Courses.{resting}
 pub use Rattle.gt_replay.specs.Orders.{Happening, IsRaisedBefore, given_up, handles_without}
 pub use Rattle.gt_script.specs.Contents.{type_names}
-pub use Rattle.gt_script.specs.Lists.{Deed, Task}
+pub use Rattle.gt_script.specs.Lists.{RunAction, RunTask}
 pub use Rattle.gt_script.specs.RunContents.{RunContents}
 pub use Rattle.gt_script.specs.RunScripts.{list_of}
 pub use Rattle.gt_script.specs.Stuck.{AreNumbered}
-pub use Rattle.gt_script.specs.declared.tasks.DeedBy.TheVariants.{Do}
+pub use Rattle.gt_script.specs.declared.tasks.RunActionBy.TheVariants.{Do}
 pub use Rattle.gt_types.specs.Config.{IsWithinLimits}
 pub use Rattle.gt_types.specs.declared.DomId.{DomId}
 pub use Rattle.gt_types.specs.declared.config.DomainConfig.{DomainConfig}
 pub use Rattle.gt_types.specs.declared.limits.TheConstants.{FRAME_SIZE}
-pub use Rattle.gt_ways.specs.declared.spaces.Led.{Led}
-pub use Rattle.gt_ways.specs.declared.spaces.Led.TheVariants.{Answered, Nowhere, On}
+pub use Rattle.gt_ways.specs.declared.spaces.TurnResult.{TurnResult}
+pub use Rattle.gt_ways.specs.declared.spaces.TurnResult.TheVariants.{Answered, Nowhere, On}
 pub use Rattle.gt_world.specs.Likeness.{IsLikeReached}
 pub use Rattle.gt_world.specs.Shows.{IsSettingOf, PagesShow, TablesShow}
-pub use Rattle.gt_world.specs.declared.pages.Page.{Page}
-pub use Rattle.gt_world.specs.declared.table.Table.{Table}
+pub use Rattle.gt_world.specs.declared.pages.SparsePage.{SparsePage}
+pub use Rattle.gt_world.specs.declared.table.SparseTable.{SparseTable}

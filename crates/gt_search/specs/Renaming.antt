@@ -1,19 +1,19 @@
 -- What a domain asks and does, under other handles.
 use Rattle.std.specs.Prelude.{◌≡◌, ◌<◌, Option}
 use Rattle.gt_handles.specs.declared.handles.Handle.{Handle}
-use Rattle.gt_calls.specs.declared.held.Held.{Held}
-use Rattle.gt_calls.specs.declared.request.Asked.{Asked}
-use Rattle.gt_calls.specs.declared.request.Asked.TheVariants.{Unmap, Load, Store}
-use Rattle.gt_calls.specs.declared.request.Holder.TheVariants.{Mapping as ByHandle}
+use Rattle.gt_calls.specs.declared.held.HeldPin.{HeldPin}
+use Rattle.gt_calls.specs.declared.request.OpenRequest.{OpenRequest}
+use Rattle.gt_calls.specs.declared.request.OpenRequest.TheVariants.{Unmap, Load, Store}
+use Rattle.gt_calls.specs.declared.request.PinHolder.TheVariants.{Mapping as ByHandle}
 use Rattle.gt_calls.specs.declared.action.Step.{Step}
 use Rattle.gt_calls.specs.declared.action.Step.TheVariants.{Unpin}
 use Rattle.gt_calls.specs.declared.action.Action.{Action}
 use Rattle.gt_calls.specs.declared.action.Action.TheVariants.{Step as Makes, Done}
-use Rattle.gt_calls.specs.declared.judging.TheConstants.{END_OF_SERIALS}
+use Rattle.gt_calls.specs.declared.judging.TheConstants.{SERIAL_LIMIT}
 use Rattle.gt_calls.specs.Rules.{CallerKnowledge}
 
 -- what is asked, with this handle in the place of its own
-abbrev pub asked_under : Handle → Asked → Asked
+abbrev pub asked_under : Handle → OpenRequest → OpenRequest
 asked_under b (Unmap a) = Unmap b
 asked_under b (Load a off len) = Load b off len
 asked_under b (Store a off len) = Store b off len
@@ -29,7 +29,7 @@ action_under b (Makes step) = Makes (step_under b step)
 action_under b (Done verdict) = Done verdict
 
 -- this handle finds for the one caller what that of its request finds for the other
-abbrev pub FindsSame : (Handle → Option Held) → Handle → (Handle → Option Held) → Asked → Type 0
+abbrev pub FindsSame : (Handle → Option HeldPin) → Handle → (Handle → Option HeldPin) → OpenRequest → Type 0
 FindsSame found b mapping (Unmap a) = found b ≡ mapping a
 FindsSame found b mapping (Load a off len) = found b ≡ mapping a
 FindsSame found b mapping (Store a off len) = found b ≡ mapping a
@@ -43,5 +43,5 @@ pub record KnowAlike (k l : CallerKnowledge) : Type 0 where
   pub generation : l.generation ≡ k.generation
   pub header : l.header ≡ k.header
   pub in_use : l.in_use ≡ k.in_use
-  pub below : k.maps_answered < END_OF_SERIALS
-  pub also_below : l.maps_answered < END_OF_SERIALS
+  pub below : k.maps_answered < SERIAL_LIMIT
+  pub also_below : l.maps_answered < SERIAL_LIMIT

@@ -2,17 +2,17 @@
 use Rattle.std.specs.Prelude.{◌≡◌, ◌++◌, ℕ, true, List, [], ◌∷◌, length, map, Some, slice_get, slice_set}
 use Rattle.gt_search.specs.Prelude.{IsWithinLimits, History, setting_of_script, may_by, may_in, CanComeNext}
 use Rattle.gt_search.specs.Prelude.{HaveAnswered, WereAnswered, history_in, Course, CourseLeads, Happening}
-use Rattle.gt_search.specs.Prelude.{IsRaisedBefore, type_names, RunContents, list_of, AreNumbered, Led, IsLikeReached}
+use Rattle.gt_search.specs.Prelude.{IsRaisedBefore, type_names, RunContents, list_of, AreNumbered, TurnResult, IsLikeReached}
 use Rattle.gt_search.specs.Prelude.{IsSettingOf, PagesShow, TablesShow}
 use Rattle.gt_search.specs.Calls.{ShowsCalls}
 use Rattle.gt_search.specs.Ends.{tasks_at}
 use Rattle.gt_search.specs.Starting.{Grows}
 use Rattle.gt_search.specs.declared.actor.Actor.{Actor}
-use Rattle.gt_search.specs.declared.scene.Scene.{Scene}
-use Rattle.gt_search.specs.declared.scene.World.{World}
+use Rattle.gt_search.specs.declared.scene.SearchContext.{SearchContext}
+use Rattle.gt_search.specs.declared.scene.SearchState.{SearchState}
 
 -- what all states have in common is of this script
-pub record IsSceneOf (c : RunContents) (scene : Scene) : Type 0 where
+pub record IsSceneOf (c : RunContents) (scene : SearchContext) : Type 0 where
   pub setting : IsSettingOf scene.roster (setting_of_script c.head)
   pub limits : IsWithinLimits scene.roster
   pub may : may_by scene.rights ≡ may_in c.head
@@ -28,7 +28,7 @@ pub record WasAnsweredAll (h : History) (k : Course) : Type 0 where
   pub held : WereAnswered h k.dom.0 k.held
 
 -- the state shows a run of the script in which this happened, with its domains at these points of their courses
-pub record SceneShows (c : RunContents) (scene : Scene) (hs : List Happening) (ks : List Course) (w : World) : Type 0 where
+pub record SceneShows (c : RunContents) (scene : SearchContext) (hs : List Happening) (ks : List Course) (w : SearchState) : Type 0 where
   pub domains : map (λ k. k.dom) ks ≡ map (λ d. d.id) c.head.domains
   pub many : length w.actors.items ≡ length ks
   pub each : (at : ℕ) (k : Course) (a : Actor) → slice_get ks at ≡ Some k → slice_get w.actors.items at ≡ Some a
@@ -43,7 +43,7 @@ pub record SceneShows (c : RunContents) (scene : Scene) (hs : List Happening) (k
 
 -- if the domain at this place goes on with this choice in a run that the state shows, its move prints what its course's
 -- text grows by, and the new state shows the run that has come so far
-abbrev pub MovesAlong : Scene → ℕ → ℕ → World → Led → World → Type 0
+abbrev pub MovesAlong : SearchContext → ℕ → ℕ → SearchState → TurnResult → SearchState → Type 0
 MovesAlong scene place choice old led new =
     (c : RunContents) (hs : List Happening) (ks : List Course) (k j : Course) (x : Happening)
     → IsSceneOf c scene → SceneShows c scene hs ks old → slice_get ks place ≡ Some k

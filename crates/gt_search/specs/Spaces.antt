@@ -10,11 +10,11 @@ use Rattle.gt_replay.specs.declared.replay.Turn.{Turn}
 use Rattle.gt_script.specs.Contents.{type_names}
 use Rattle.gt_script.specs.RunContents.{RunContents}
 use Rattle.gt_search.specs.Scenes.{IsSceneOf, SceneShows}
-use Rattle.gt_search.specs.declared.scene.Scene.{Scene}
-use Rattle.gt_search.specs.declared.scene.World.{World}
+use Rattle.gt_search.specs.declared.scene.SearchContext.{SearchContext}
+use Rattle.gt_search.specs.declared.scene.SearchState.{SearchState}
 use Rattle.gt_ways.specs.Ways.{Ways}
-use Rattle.gt_ways.specs.declared.exploring.Found.{Found}
-use Rattle.gt_ways.specs.declared.exploring.Order.{Order}
+use Rattle.gt_ways.specs.declared.exploring.SearchResult.{SearchResult}
+use Rattle.gt_ways.specs.declared.exploring.FoundText.{FoundText}
 
 -- where a run of a script is: what has happened, and the points of its domains' courses
 pub record Point : Type 0 where
@@ -23,7 +23,7 @@ pub record Point : Type 0 where
   pub courses : List Course
 
 -- a run of the scene's script begins: nothing has happened, and the domains are before the first lines of their lists
-pub record BeginsAt (scene : Scene) (p : Point) : Type 0 where
+pub record BeginsAt (scene : SearchContext) (p : Point) : Type 0 where
   pub scene_is : IsSceneOf p.script scene
   pub happened : p.happened ≡ []
   pub courses : p.courses ≡ first_courses p.script
@@ -54,12 +54,12 @@ first_blank c make none [] at = refl
 first_blank c make none (d ∷ ds) zero = none d
 first_blank c make none (d ∷ ds) (suc at) = first_blank c make none ds at
 
-pub begins_blank : (scene : Scene) (p : Point) → BeginsAt scene p → (at : ℕ) → printed_by p.courses at ≡ []
+pub begins_blank : (scene : SearchContext) (p : Point) → BeginsAt scene p → (at : ℕ) → printed_by p.courses at ≡ []
 begins_blank scene p begins at =
     ap (λ ks. printed_by ks at) begins.courses ∙ first_blank p.script _ (λ d. refl) p.script.head.domains at
 
 -- the ways of a scene
-abbrev pub scene_ways : Scene → Ways World
+abbrev pub scene_ways : SearchContext → Ways SearchState
 scene_ways scene = record {
   Point = Point;
   domains = length scene.roster.domains.items;
@@ -72,7 +72,7 @@ scene_ways scene = record {
 }
 
 -- for each text that the script may give an order with this text was found
-abbrev pub FindsAll : RunContents → Found → Type 0
+abbrev pub FindsAll : RunContents → SearchResult → Type 0
 FindsAll c found =
     (text : List ℕ) → MayGive c text
-    → (at : ℕ) × (o : Order) × (slice_get found.orders.items at ≡ Some o) × (o.text.items ≡ text)
+    → (at : ℕ) × (o : FoundText) × (slice_get found.orders.items at ≡ Some o) × (o.text.items ≡ text)

@@ -1,15 +1,15 @@
 -- How the call of a line begins in a state: as in the run.
 use Rattle.std.specs.Prelude.{◌≡◌, ◌++◌, ◌+◌, ℕ, suc, take, drop, List, ◌∷◌, Option, Some, None, slice_set}
 use Rattle.gt_search.specs.Prelude.{DomId, Handle, Step, Call, Request, asked, begun_of, History, Setting, known_at}
-use Rattle.gt_search.specs.Prelude.{ScriptCall, Course, resting, Task, Do, Led, Answered, Nowhere, On}
+use Rattle.gt_search.specs.Prelude.{ScriptCall, Course, resting, RunTask, Do, TurnResult, Answered, Nowhere, On}
 use Rattle.gt_calls.specs.declared.request.Request.TheVariants.{Unmap}
 use Rattle.gt_search.specs.Beginnings.{OpensAsRun}
 use Rattle.gt_search.specs.Calls.{AsksByPlace, ShowsCalls, handles_at, known_by_place}
 use Rattle.gt_search.specs.Renaming.{asked_under}
 use Rattle.gt_search.specs.declared.actor.Actor.{Actor}
-use Rattle.gt_search.specs.declared.calls.Opening.{Opening as Opened}
-use Rattle.gt_search.specs.declared.calls.Opening.TheVariants.{Open, Done}
-use Rattle.gt_search.specs.declared.scene.World.{World}
+use Rattle.gt_search.specs.declared.calls.CallOpening.{CallOpening as Opened}
+use Rattle.gt_search.specs.declared.calls.CallOpening.TheVariants.{Open, Done}
+use Rattle.gt_search.specs.declared.scene.SearchState.{SearchState}
 
 -- a call began in a state as this request begins in the run: over, with the same verdict; or open, if it asks the same
 -- but for the handle, which has the place of the mapping as its serial
@@ -47,19 +47,19 @@ abbrev pub held_but : Course → ℕ → Course
 held_but k choice = record k { held = take choice k.held ++ drop (suc choice) k.held }
 
 -- a move prints just this line
-abbrev pub PrintsLine : Led → List ℕ → Type 0
+abbrev pub PrintsLine : TurnResult → List ℕ → Type 0
 PrintsLine Nowhere line = ⊥
 PrintsLine On line = ⊥
 PrintsLine (Answered text) line = text.items ≡ line
 
 -- what a move prints is what the text of a course grows by
-abbrev pub Grows : Led → List ℕ → List ℕ → Type 0
+abbrev pub Grows : TurnResult → List ℕ → List ℕ → Type 0
 Grows Nowhere old new = ⊥
 Grows On old new = new ≡ old
 Grows (Answered line) old new = new ≡ old ++ line.items
 
 -- a domain at rest is before this line, whose call is to begin
-pub record IsNextCall (k : Course) (t : Task) (ts : List Task) (call : ScriptCall) : Type 0 where
+pub record IsNextCall (k : Course) (t : RunTask) (ts : List RunTask) (call : ScriptCall) : Type 0 where
   pub rest : k.opened ≡ resting
   pub next : k.tasks ≡ t ∷ ts
   pub dom : t.dom ≡ k.dom
@@ -67,8 +67,8 @@ pub record IsNextCall (k : Course) (t : Task) (ts : List Task) (call : ScriptCal
 
 -- by a move of the domain at this place the state comes to where this history brings the domain on its course, and its
 -- table stays as it was
-pub record MovesAsRun (s : Setting) (h : History) (tasks : List Task) (a : Actor) (k j : Course) (old new : World)
-    (at : ℕ) (led : Led) : Type 0 where
+pub record MovesAsRun (s : Setting) (h : History) (tasks : List RunTask) (a : Actor) (k j : Course) (old new : SearchState)
+    (at : ℕ) (led : TurnResult) : Type 0 where
   pub grows : Grows led k.text j.text
   pub actor : Actor
   pub becomes : new.actors.items ≡ slice_set old.actors.items at actor
@@ -77,7 +77,7 @@ pub record MovesAsRun (s : Setting) (h : History) (tasks : List Task) (a : Actor
   pub told : new.told ≡ old.told
 
 -- the domain at this place goes past its next line, which begins no call, and its table stays as it was
-pub record PassesTo (s : Setting) (h : History) (tasks : List Task) (a : Actor) (j : Course) (old new : World) (at : ℕ)
+pub record PassesTo (s : Setting) (h : History) (tasks : List RunTask) (a : Actor) (j : Course) (old new : SearchState) (at : ℕ)
     : Type 0 where
   pub actor : Actor
   pub becomes : new.actors.items ≡ slice_set old.actors.items at actor

@@ -1,25 +1,25 @@
 -- How the open call of a domain makes its next step in a state: as in the run.
 use Rattle.std.specs.Prelude.{◌≡◌, ◌+◌, ◌≤◌, ◌++◌, ℕ, List, [], ◌∷◌, take, drop, Option, Some, None}
 use Rattle.std.specs.Prelude.{slice_get, slice_set}
-use Rattle.gt_search.specs.Prelude.{DomainConfig, FRAME_SIZE, Seen, Step, ReadBytes, Unpin, Verdict, Granted, KeptPin}
+use Rattle.gt_search.specs.Prelude.{DomainConfig, FRAME_SIZE, Observation, Step, ReadBytes, Unpin, CallResult, Granted, KeptPin}
 use Rattle.gt_search.specs.Prelude.{answer_of, History, Setting, contents_at, seen_by, IsItemOf, IsRight, Answer}
-use Rattle.gt_search.specs.Prelude.{BytesAnswer, Bytes, Tick, Item, answer_line, may_by, bytes_said, label_given}
+use Rattle.gt_search.specs.Prelude.{BytesAnswer, Bytes, Tick, Item, answer_line, may_by, call_bytes, label_given}
 use Rattle.gt_search.specs.Prelude.{HaveAnswered, Course, IsDoneIf, back_after, calling, course_after, giving, resting}
-use Rattle.gt_search.specs.Prelude.{Deed, Task, Do, Led, On, IsLikeReached, IsSettingOf, PagesShow, TablesShow, Page}
-use Rattle.gt_search.specs.Prelude.{Table}
+use Rattle.gt_search.specs.Prelude.{RunAction, RunTask, Do, TurnResult, On, IsLikeReached, IsSettingOf, PagesShow, TablesShow, SparsePage}
+use Rattle.gt_search.specs.Prelude.{SparseTable}
 use Rattle.gt_replay.specs.Courses.{Opened}
 use Rattle.gt_search.specs.Calls.{ShowsCalls}
 use Rattle.gt_search.specs.Ends.{tasks_at}
 use Rattle.gt_search.specs.Mappings.{apart_from, given_back, labels_of, mapping_pins}
 use Rattle.gt_search.specs.Starting.{Grows, PrintsLine}
 use Rattle.gt_search.specs.declared.actor.Actor.{Actor}
-use Rattle.gt_search.specs.declared.actor.Mapping.{Mapping}
-use Rattle.gt_search.specs.declared.actor.Open.{Open}
-use Rattle.gt_search.specs.declared.scene.Scene.{Scene}
-use Rattle.gt_search.specs.declared.scene.World.{World}
+use Rattle.gt_search.specs.declared.actor.LabelledMapping.{LabelledMapping}
+use Rattle.gt_search.specs.declared.actor.ActorCall.{ActorCall}
+use Rattle.gt_search.specs.declared.scene.SearchContext.{SearchContext}
+use Rattle.gt_search.specs.declared.scene.SearchState.{SearchState}
 
 -- the state shows this history, and the domain at this place is where the history has brought it on this course
-pub record ShowsAt (s : Setting) (h : History) (scene : Scene) (w : World) (at : ℕ) (k : Course) (a : Actor)
+pub record ShowsAt (s : Setting) (h : History) (scene : SearchContext) (w : SearchState) (at : ℕ) (k : Course) (a : Actor)
     : Type 0 where
   pub setting : IsSettingOf scene.roster s
   pub may : may_by scene.rights ≡ s.may
@@ -40,7 +40,7 @@ TickLeads types k (calling line call lost) i j = j ≡ course_after types line c
 TickLeads types k giving i j = IsDoneIf i.answer × (j ≡ back_after k i.answer)
 
 -- by a step of the domain at this place the state comes to where this history brings the domain on its course
-pub record TicksAsRun (s : Setting) (h : History) (tasks : List Task) (k j : Course) (old new : World) (at : ℕ) (led : Led)
+pub record TicksAsRun (s : Setting) (h : History) (tasks : List RunTask) (k j : Course) (old new : SearchState) (at : ℕ) (led : TurnResult)
     : Type 0 where
   pub grows : Grows led k.text j.text
   pub actor : Actor
@@ -53,42 +53,42 @@ pub record TicksAsRun (s : Setting) (h : History) (tasks : List Task) (k j : Cou
 -- what the task of an open call says
 
 -- the bytes that a call says, if that is what is to be done
-abbrev pub bytes_in : Deed → List ℕ
-bytes_in (Do call) = bytes_said call
+abbrev pub bytes_in : RunAction → List ℕ
+bytes_in (Do call) = call_bytes call
 bytes_in deed = []
 
-abbrev pub bytes_by : Option Task → List ℕ
+abbrev pub bytes_by : Option RunTask → List ℕ
 bytes_by None = []
 bytes_by (Some t) = bytes_in t.deed
 
 -- the task at a place of a list, if there is a place
-abbrev pub task_in : List Task → Option ℕ → Option Task
+abbrev pub task_in : List RunTask → Option ℕ → Option RunTask
 task_in tasks None = None
 task_in tasks (Some place) = slice_get tasks place
 
 -- the label to which a task gives its mapping
-abbrev pub label_given_by : Deed → Option (List ℕ)
+abbrev pub label_given_by : RunAction → Option (List ℕ)
 label_given_by (Do call) = label_given call
 label_given_by deed = None
 
 -- the step
 
 -- the mappings of a domain after its step: without the one that this gives up
-abbrev pub mappings_after : Step → List Mapping → List Mapping
+abbrev pub mappings_after : Step → List LabelledMapping → List LabelledMapping
 mappings_after (Unpin p holder) ms = given_back holder ms
 mappings_after step ms = ms
 
 -- the domain at this place is about to make the step of this item, by what it has open
-pub record IsTick (s : Setting) (h : History) (scene : Scene) (before : World) (at : ℕ) (k : Course) (a : Actor)
-    (o : Open) (i : Item) : Type 0 where
+pub record IsTick (s : Setting) (h : History) (scene : SearchContext) (before : SearchState) (at : ℕ) (k : Course) (a : Actor)
+    (o : ActorCall) (i : Item) : Type 0 where
   pub shows : ShowsAt s h scene before at k a
   pub has : a.«open» ≡ Some o
   pub event : IsItemOf (Tick k.dom) i
   pub right : IsRight s h i
 
 -- the step saw this, and these tables and pages show what has happened with it
-pub record HasStepped (s : Setting) (h : History) (k : Course) (i : Item) (o : Open) (seen : Seen) (tables : List Table)
-    (pages : List Page) : Type 0 where
+pub record HasStepped (s : Setting) (h : History) (k : Course) (i : Item) (o : ActorCall) (seen : Observation) (tables : List SparseTable)
+    (pages : List SparsePage) : Type 0 where
   pub saw : seen ≡ seen_by s h k.dom o.step
   pub tables_show : TablesShow s (i ∷ h) tables
   pub pages_show : PagesShow (i ∷ h) pages
@@ -101,26 +101,26 @@ ReadsInFrame (ReadBytes dom frame off len) = off + len ≤ FRAME_SIZE
 ReadsInFrame step = Unit {0}
 
 -- the answer of a call that ends so after this step, but for a handle: a read tells the bytes that the frame holds
-abbrev pub TellsEnd : History → Step → Verdict → Answer → Type 0
+abbrev pub TellsEnd : History → Step → CallResult → Answer → Type 0
 TellsEnd h (ReadBytes dom frame off len) Granted answer =
     (b : Bytes) × (answer ≡ BytesAnswer b) × (b.bytes.items ≡ take len (drop off (contents_at h dom.0 frame)))
 TellsEnd h step verdict answer = answer ≡ answer_of verdict
 
 -- with this verdict a domain has these mappings: one more after a map that is Ok, whose label names no other one
-abbrev pub MapsSo : Option (List ℕ) → Verdict → List Mapping → List Mapping → Type 0
+abbrev pub MapsSo : Option (List ℕ) → CallResult → List LabelledMapping → List LabelledMapping → Type 0
 MapsSo label (KeptPin held) old new =
     (mapping_pins new ≡ mapping_pins old ++ held ∷ []) × (labels_of new ≡ apart_from label (labels_of old) ++ label ∷ [])
 MapsSo label verdict old new = new ≡ old
 
 -- the call of a domain is over with this verdict
-pub record CallIsOver (label : Option (List ℕ)) (verdict : Verdict) (a b : Actor) : Type 0 where
+pub record CallIsOver (label : Option (List ℕ)) (verdict : CallResult) (a b : Actor) : Type 0 where
   pub next : b.next ≡ a.next
   pub none : b.«open» ≡ None
   pub maps : MapsSo label verdict a.mappings.items b.mappings.items
 
 -- the call of this task is over with this verdict, and printed its answer
-pub record Closes (h : History) (types : List (List ℕ)) (t : Task) (last : Step) (verdict : Verdict) (a : Actor)
-    (old new : World) (at : ℕ) (led : Led) : Type 0 where
+pub record Closes (h : History) (types : List (List ℕ)) (t : RunTask) (last : Step) (verdict : CallResult) (a : Actor)
+    (old new : SearchState) (at : ℕ) (led : TurnResult) : Type 0 where
   pub answer : Answer
   pub tells : TellsEnd h last verdict answer
   pub prints : PrintsLine led (answer_line types t.line t.dom answer)
@@ -131,7 +131,7 @@ pub record Closes (h : History) (types : List (List ℕ)) (t : Task) (last : Ste
   pub told : new.told ≡ old.told
 
 -- an unmap at the end of a list is over with this verdict, which is Ok
-pub record ClosesBack (verdict : Verdict) (a : Actor) (old new : World) (at : ℕ) (led : Led) : Type 0 where
+pub record ClosesBack (verdict : CallResult) (a : Actor) (old new : SearchState) (at : ℕ) (led : TurnResult) : Type 0 where
   pub on : led ≡ On
   pub granted : verdict ≡ Granted
   pub actor : Actor

@@ -2,20 +2,20 @@
 ghost use Rattle.std.specs.Prelude.{◌≡◌, ◌++◌, [], ◌∷◌, map};
 ghost use Rattle.gt_search.specs.Mappings.{labels_of, mapping_pins, apart_from, label_bytes, unless_given};
 
-use gt_calls::{Call, Held, Holder, Step, Verdict};
+use gt_calls::{Call, HeldPin, PinHolder, Step, CallResult};
 use std::alloc::{AllocError, Global};
 
 /// A mapping, and the label that names it.
 #[derive(Clone, Copy)]
-pub struct Mapping<'a> {
+pub struct LabelledMapping<'a> {
     pub label: Option<&'a [u8]>,
-    pub held: Held,
+    pub held: HeldPin,
 }
 
 /// A call under way, with its next step: that of the task at this place of the domain's list, or an unmap at the end of
 /// the list.
 #[derive(Clone, Copy)]
-pub struct Open {
+pub struct ActorCall {
     pub task: Option<usize>,
     pub call: Call,
     pub step: Step,
@@ -27,26 +27,26 @@ pub struct Actor<'a> {
     /// How many tasks of its list it has begun.
     pub next: usize,
     /// The oldest first.
-    pub mappings: Vec<Mapping<'a>>,
-    pub open: Option<Open>,
+    pub mappings: Vec<LabelledMapping<'a>>,
+    pub open: Option<ActorCall>,
 }
 
 // The mapping, without its label if that is the one given to another mapping.
-fn unless_given<'a>(mapping: Mapping<'a>, label: Option<&'a [u8]>) -> Mapping<'a>
+fn unless_given<'a>(mapping: LabelledMapping<'a>, label: Option<&'a [u8]>) -> LabelledMapping<'a>
     ensures pin { result.held ≡ mapping.entry.held }
     ensures label { label_bytes result.label
         ≡ unless_given (label_bytes label.entry) (label_bytes mapping.entry.label) }
 {
     if mapping.label == label {
         let held = mapping.held;
-        Mapping { label: None, held }
+        LabelledMapping { label: None, held }
     } else {
         mapping
     }
 }
 
 // None of these mappings has this label from now on.
-fn unlabel<'a>(mappings: &mut Vec<Mapping<'a>>, label: Option<&'a [u8]>)
+fn unlabel<'a>(mappings: &mut Vec<LabelledMapping<'a>>, label: Option<&'a [u8]>)
     ensures pins { mapping_pins mappings.new.items ≡ mapping_pins mappings.old.items }
     ensures labels { labels_of mappings.new.items
         ≡ apart_from (label_bytes label.entry) (labels_of mappings.old.items) }
@@ -91,7 +91,7 @@ impl<'a> Actor<'a> {
     {
         let task = Some(self.next);
         self.next = self.next.saturating_add(1);
-        self.open = Some(Open { task, call, step });
+        self.open = Some(ActorCall { task, call, step });
     }
 
     /// It goes past its next task.
@@ -106,11 +106,11 @@ impl<'a> Actor<'a> {
         ensures { self.new ≡ giving_actor self.old call step }
     {
         let task = None;
-        self.open = Some(Open { task, call, step });
+        self.open = Some(ActorCall { task, call, step });
     }
 
     /// It has a new mapping. Its label names no other one from now on.
-    pub fn map(&mut self, label: Option<&'a [u8]>, held: Held) -> Result<(), AllocError>
+    pub fn map(&mut self, label: Option<&'a [u8]>, held: HeldPin) -> Result<(), AllocError>
         ensures pins { OnOk result
             (mapping_pins self.new.mappings.items ≡ mapping_pins self.old.mappings.items ++ held ∷ []) }
         ensures labels { OnOk result (labels_of self.new.mappings.items ≡
@@ -118,16 +118,16 @@ impl<'a> Actor<'a> {
         ensures rest { OnOk result (self.new ≡ record self.old { mappings = self.new.mappings }) }
     {
         unlabel(&mut self.mappings, label);
-        self.mappings.push(Mapping { label, held })?;
+        self.mappings.push(LabelledMapping { label, held })?;
         Ok(())
     }
 
     /// It gives up the mapping under this handle, whose serial is the place of the mapping.
-    pub fn forget(&mut self, holder: Holder)
+    pub fn forget(&mut self, holder: PinHolder)
         ensures mappings { self.new.mappings.items ≡ given_back holder self.old.mappings.items }
         ensures rest { self.new ≡ record self.old { mappings = self.new.mappings } }
     {
-        if let Holder::Mapping(handle) = holder {
+        if let PinHolder::Mapping(handle) = holder {
             let at = handle.serial as usize;
             if at < self.mappings.len() {
                 self.mappings.remove(at);
@@ -146,12 +146,12 @@ impl<'a> Actor<'a> {
     }
 
     /// Its call is over with this verdict. A mapping that it gets so has this label.
-    pub fn close(&mut self, label: Option<&'a [u8]>, verdict: Verdict) -> Result<(), AllocError>
+    pub fn close(&mut self, label: Option<&'a [u8]>, verdict: CallResult) -> Result<(), AllocError>
         ensures { OnOk result (CallIsOver (label_bytes label.entry) verdict self.old self.new) }
     {
         self.open = None;
         match verdict {
-            Verdict::Mapped(held) => self.map(label, held),
+            CallResult::Mapped(held) => self.map(label, held),
             _ => Ok(()),
         }
     }

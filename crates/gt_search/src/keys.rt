@@ -1,21 +1,21 @@
 //! The bytes by which a state is found again.
-use crate::actor::{Actor, Mapping, Open};
+use crate::actor::{Actor, LabelledMapping, ActorCall};
 use crate::phases::{push, push_held, push_phase};
-use crate::scene::{Scene, World};
-use gt_calls::{Half, Holder};
+use crate::scene::{SearchContext, SearchState};
+use gt_calls::{BodyWord, PinHolder};
 use gt_types::GrantRef;
-use gt_world::{Page, Table};
+use gt_world::{SparsePage, SparseTable};
 use std::alloc::AllocError;
 
 // The entries that are not as they were at the start.
-fn push_entries(key: &mut Vec<u8>, first_gen: u32, table: &Table) -> Result<(), AllocError> {
+fn push_entries(key: &mut Vec<u8>, first_gen: u32, table: &SparseTable) -> Result<(), AllocError> {
     let untouched = table.word(first_gen, GrantRef(u32::MAX));
     let count = table.counts.len().max(table.own.len());
     for at in 0..count {
         let gref = GrantRef((at % 4_294_967_296) as u32);
         let word = table.word(first_gen, gref);
-        let first = table.body(gref, Half::First);
-        let second = table.body(gref, Half::Second);
+        let first = table.body(gref, BodyWord::First);
+        let second = table.body(gref, BodyWord::Second);
         if word != untouched || first != 0 || second != 0 {
             push(key, 1)?;
             push(key, at as u64)?;
@@ -27,13 +27,13 @@ fn push_entries(key: &mut Vec<u8>, first_gen: u32, table: &Table) -> Result<(), 
     push(key, 0)
 }
 
-fn push_table(key: &mut Vec<u8>, first_gen: u32, table: &Table) -> Result<(), AllocError> {
+fn push_table(key: &mut Vec<u8>, first_gen: u32, table: &SparseTable) -> Result<(), AllocError> {
     let header = table.header;
     key.extend_from_slice(&[header.version, header.frames])?;
     push_entries(key, first_gen, table)
 }
 
-fn push_mapping(key: &mut Vec<u8>, mapping: &Mapping) -> Result<(), AllocError> {
+fn push_mapping(key: &mut Vec<u8>, mapping: &LabelledMapping) -> Result<(), AllocError> {
     if let Some(label) = mapping.label {
         push(key, 1)?;
         push(key, label.len() as u64)?;
@@ -44,7 +44,7 @@ fn push_mapping(key: &mut Vec<u8>, mapping: &Mapping) -> Result<(), AllocError> 
     push_held(key, &mapping.held)
 }
 
-fn push_mappings(key: &mut Vec<u8>, mappings: &[Mapping]) -> Result<(), AllocError> {
+fn push_mappings(key: &mut Vec<u8>, mappings: &[LabelledMapping]) -> Result<(), AllocError> {
     push(key, mappings.len() as u64)?;
     for mapping in mappings {
         push_mapping(key, mapping)?;
@@ -53,17 +53,17 @@ fn push_mappings(key: &mut Vec<u8>, mappings: &[Mapping]) -> Result<(), AllocErr
 }
 
 // The place of the mapping that a call gives back.
-fn place_given(open: &Open) -> u64 {
+fn place_given(open: &ActorCall) -> u64 {
     match open.step {
         gt_calls::Step::Unpin {
-            holder: Holder::Mapping(handle),
+            holder: PinHolder::Mapping(handle),
             ..
         } => handle.serial,
         _ => 0,
     }
 }
 
-fn push_open(key: &mut Vec<u8>, open: Option<&Open>) -> Result<(), AllocError> {
+fn push_open(key: &mut Vec<u8>, open: Option<&ActorCall>) -> Result<(), AllocError> {
     let Some(open) = open else {
         return push(key, 0);
     };
@@ -85,7 +85,7 @@ fn push_actor(key: &mut Vec<u8>, actor: &Actor) -> Result<(), AllocError> {
 }
 
 // The bytes of a page that are not zero, with their places.
-fn push_page(key: &mut Vec<u8>, page: &Page) -> Result<(), AllocError> {
+fn push_page(key: &mut Vec<u8>, page: &SparsePage) -> Result<(), AllocError> {
     push(key, u64::from(page.owner.0))?;
     push(key, page.frame)?;
     for (at, byte) in page.bytes.as_slice().iter().enumerate() {
@@ -99,7 +99,7 @@ fn push_page(key: &mut Vec<u8>, page: &Page) -> Result<(), AllocError> {
 }
 
 // For each flag whether it was raised.
-fn push_told(key: &mut Vec<u8>, told: &[bool]) -> Result<(), AllocError> {
+fn push_flags(key: &mut Vec<u8>, told: &[bool]) -> Result<(), AllocError> {
     for flag in told {
         key.push(u8::from(*flag))?;
     }
@@ -115,11 +115,11 @@ fn digest(bytes: &[u8]) -> u64 {
     digest
 }
 
-impl<'s, 'a> Scene<'s, 'a> {
+impl<'s, 'a> SearchContext<'s, 'a> {
     /// Bytes that states which are the same have in common, and few others have.
-    pub fn key(&self, world: &World<'a>) -> Result<Vec<u8>, AllocError> {
+    pub fn key(&self, world: &SearchState<'a>) -> Result<Vec<u8>, AllocError> {
         let mut whole = Vec::new(self.alloc);
-        push_told(&mut whole, world.told.as_slice())?;
+        push_flags(&mut whole, world.told.as_slice())?;
         for actor in world.actors.as_slice() {
             push_actor(&mut whole, actor)?;
         }

@@ -24,5 +24,5 @@ mod scene;
 mod searching;
 mod space;
 
-pub use gt_ways::{Found, Order, SearchFault};
+pub use gt_ways::{SearchResult, FoundText, SearchFault};
 pub use searching::search;

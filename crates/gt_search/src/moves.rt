@@ -11,20 +11,20 @@ ghost use Rattle.gt_search.specs.Mappings.{label_bytes};
 ghost use Rattle.gt_search.specs.Ticking.{bytes_by, label_given_by};
 ghost use Rattle.gt_types.specs.declared.DomId.{DomId};
 
-use crate::actor::{Actor, Open};
-use crate::calls::{Opening, go_on, open_call};
+use crate::actor::{Actor, ActorCall};
+use crate::calls::{CallOpening, go_on, open_call};
 use crate::names::names_of;
-use crate::scene::{Scene, World};
-use gt_calls::{Action, Call, Handles, Held, Known, Request, Seen, Step, Verdict};
+use crate::scene::{SearchContext, SearchState};
+use gt_calls::{Action, Call, Handles, HeldPin, CallerState, Request, Observation, Step, CallResult};
 use gt_core::{Answer, Bytes, answer_of};
 use gt_entry::Entry;
-use gt_host::{Rights, bytes_said, label_given, push_answer_line, request_of};
+use gt_host::{ScriptPolicy, call_bytes, label_given, push_answer_line, request_of};
 use gt_lines::ScriptCall;
 use gt_replay::Turn;
-use gt_script::{Deed, Task};
+use gt_script::{RunAction, RunTask};
 use gt_types::DomId;
-use gt_ways::{Led, SearchFault};
-use gt_world::{Ground, Table};
+use gt_ways::{TurnResult, SearchFault};
+use gt_world::{SparseState, SparseTable};
 use std::alloc::{AllocError, Global};
 
 // A law: each number of an entry fits its type.
@@ -44,12 +44,12 @@ fn said_fits(call: &ScriptCall<'_>)
 }
 
 // The bytes that the call of a task says.
-fn said(alloc: Global, task: Option<&Task>) -> Result<Vec<u8>, SearchFault>
+fn bytes_of_task(alloc: Global, task: Option<&RunTask>) -> Result<Vec<u8>, SearchFault>
     ensures { IfOk result (λ bytes. bytes.items ≡ bytes_by (option_map (λ t. t.now) task.entry)) }
 {
     match task {
         Some(task) => match &task.deed {
-            Deed::Do(call) => Ok(bytes_said(alloc, call)?),
+            RunAction::Do(call) => Ok(call_bytes(alloc, call)?),
             _ => Ok(Vec::new(alloc)),
         },
         None => Ok(Vec::new(alloc)),
@@ -57,11 +57,11 @@ fn said(alloc: Global, task: Option<&Task>) -> Result<Vec<u8>, SearchFault>
 }
 
 // The label to which a task gives its mapping.
-fn label_of<'a>(task: &Task<'a>) -> Option<&'a [u8]>
+fn label_of<'a>(task: &RunTask<'a>) -> Option<&'a [u8]>
     ensures { label_bytes result ≡ label_given_by task.now.deed }
 {
     match &task.deed {
-        Deed::Do(call) => label_given(call),
+        RunAction::Do(call) => label_given(call),
         _ => None,
     }
 }
@@ -84,16 +84,16 @@ fn is_told(told: &[bool], flag: usize) -> bool
 }
 
 // Whether a task disturbs no other domain when it is next: it begins a call, raises a flag, or awaits a raised one.
-fn disturbs_none(told: &[bool], task: &Task) -> bool
+fn disturbs_none(told: &[bool], task: &RunTask) -> bool
     ensures { result ≡ disturbs_none told.now task.now.deed }
 {
     match &task.deed {
-        Deed::Await(flag) => is_told(told, *flag),
+        RunAction::Await(flag) => is_told(told, *flag),
         _ => true,
     }
 }
 
-impl<'s, 'a> Scene<'s, 'a> {
+impl<'s, 'a> SearchContext<'s, 'a> {
     ghost use Rattle.std.specs.Prelude.{◌≡◌, ◌<◌, ◌^◌, ℕ, List, ◌∷◌, Option, Some, None, true, length, slice_get};
     ghost use Rattle.std.specs.Prelude.{slice_set, IfOk, IsTrue};
     ghost use Rattle.gt_core.specs.GoingOn.{beginning};
@@ -104,7 +104,7 @@ impl<'s, 'a> Scene<'s, 'a> {
     ghost use Rattle.gt_search.specs.declared.actor.Actor.{Actor};
     ghost use Rattle.gt_calls.specs.declared.request.Request.{Request};
     ghost use Rattle.gt_calls.specs.Path.{path};
-    ghost use Rattle.gt_calls.specs.declared.judging.TheConstants.{END_OF_SERIALS};
+    ghost use Rattle.gt_calls.specs.declared.judging.TheConstants.{SERIAL_LIMIT};
     ghost use Rattle.gt_core.specs.History.{History, Setting, Underway, known_at, maps_answered_at, seen_by, values};
     ghost use Rattle.gt_search.specs.Continuing.{GoesOnAsRun, StillKnows};
     ghost use Rattle.gt_host.specs.Runs.{SaysRequest};
@@ -112,14 +112,14 @@ impl<'s, 'a> Scene<'s, 'a> {
     ghost use Rattle.gt_handles.specs.declared.handles.Handle.{Handle};
     ghost use Rattle.gt_types.specs.declared.config.DomainConfig.{DomainConfig};
     ghost use Rattle.gt_replay.specs.Courses.{Course, IsDoneIf, back_after, course_after, resting};
-    ghost use Rattle.gt_script.specs.Lists.{Task};
+    ghost use Rattle.gt_script.specs.Lists.{RunTask};
     ghost use Rattle.gt_search.specs.Starting.{BeginsAsRun, GivesAsRun, IsNextCall, MovesAsRun, PassesTo, PrintsLine};
     ghost use Rattle.gt_search.specs.Starting.{held_but};
     ghost use Rattle.gt_calls.specs.Following.{Goes, IsLeftAlike};
     ghost use Rattle.gt_calls.specs.Rules.{CallerKnowledge, knows};
     ghost use Rattle.gt_host.specs.Rights.{may_by};
     ghost use Rattle.gt_search.specs.Beginnings.{BeginsAlike, OpensSo};
-    ghost use Rattle.gt_search.specs.Calls.{GoesAlong, KnowsTable, Rise, ShowsCalls, handles_at, known_in, no_mappings};
+    ghost use Rattle.gt_search.specs.Calls.{GoesAlong, KnowsTable, SerialsRise, ShowsCalls, handles_at, known_in, no_mappings};
     ghost use Rattle.std.specs.Prelude.{IfSome};
     ghost use Rattle.gt_search.specs.Ends.{AreDone, AreToBeTried, choices_at, goes_at_once, is_done, is_ended, tasks_at};
     ghost use Rattle.gt_search.specs.Ends.{turns_from};
@@ -129,14 +129,14 @@ impl<'s, 'a> Scene<'s, 'a> {
     ghost use Rattle.gt_search.specs.Scenes.{MovesAlong};
     ghost use Rattle.gt_search.specs.Ticking.{Closes, ClosesBack, HasStepped, IsTick, ReadsInFrame, ShowsAt, TellsEnd};
     ghost use Rattle.gt_search.specs.Ticking.{TickLeads, TicksAsRun, bytes_by, task_in};
-    ghost use Rattle.gt_search.specs.declared.scene.World.{World};
+    ghost use Rattle.gt_search.specs.declared.scene.SearchState.{SearchState};
     ghost use Rattle.gt_world.specs.Shows.{PagesShow};
 
     // What a domain knows, if these are its mappings.
-    fn known<'k>(&'k self, table: &'k Table, mappings: &'k Handles<Held>) -> Known<'k, Rights>
+    fn known<'k>(&'k self, table: &'k SparseTable, mappings: &'k Handles<HeldPin>) -> CallerState<'k, ScriptPolicy>
         ensures { knows may_by result ≡ known_in self.now table.now mappings.now }
     {
-        Known {
+        CallerState {
             config: &self.roster,
             rights: &self.rights,
             own: table.own.as_slice(),
@@ -148,11 +148,11 @@ impl<'s, 'a> Scene<'s, 'a> {
     // How a call begins.
     fn opening(
         &self,
-        table: &Table,
-        mappings: &Handles<Held>,
+        table: &SparseTable,
+        mappings: &Handles<HeldPin>,
         dom: DomId,
         request: Request<'_>,
-    ) -> Opening
+    ) -> CallOpening
         ensures { (k : CallerKnowledge) →
             BeginsAlike k (known_in self.now table.now mappings.now) dom request.entry →
             OpensSo k dom request.entry result }
@@ -161,15 +161,15 @@ impl<'s, 'a> Scene<'s, 'a> {
     }
 
     // How a call goes on that saw this. It asks nothing of the mappings of its domain any more.
-    fn next(&self, table: &Table, last: Open, seen: Seen) -> (Call, Action)
+    fn next(&self, table: &SparseTable, last: ActorCall, seen: Observation) -> (Call, Action)
         ensures caller { result.0.caller ≡ last.call.caller }
         ensures request { result.0.request ≡ last.call.request }
         ensures goes { (k : CallerKnowledge) →
             IsLeftAlike k (known_in self.now table.now no_mappings) last.call seen →
             Goes k last.call seen result.0 result.1 }
         ensures along { (s : Setting) (h : History) (d : DomId) (c : Underway) (z : Step) →
-            GoesAlong s h d c last → maps_answered_at h d.0 < END_OF_SERIALS →
-            Rise 0 (handles_at h d) (maps_answered_at h d.0) →
+            GoesAlong s h d c last → maps_answered_at h d.0 < SERIAL_LIMIT →
+            SerialsRise 0 (handles_at h d) (maps_answered_at h d.0) →
             path (known_at s h d) d c.request (values c) ≡ Some (Action.Step z) → seen ≡ seen_by s h d z →
             StillKnows s h d self.now table.now last.call →
             GoesOnAsRun s h d c z last.task result.0 result.1 }
@@ -179,29 +179,29 @@ impl<'s, 'a> Scene<'s, 'a> {
     }
 
     // The line that the answer of a task prints.
-    fn line(&self, task: &Task<'a>, answer: &Answer) -> Result<Led, SearchFault>
+    fn line(&self, task: &RunTask<'a>, answer: &Answer) -> Result<TurnResult, SearchFault>
         ensures { IfOk result (λ led. PrintsLine led
             (answer_line self.now.types.items task.now.line task.now.dom answer.now)) }
     {
         let mut out = Vec::new(self.alloc);
         let types = self.types.as_slice();
         push_answer_line(self.alloc, &mut out, types, task.line, task.dom, answer)?;
-        Ok(Led::Answered(out))
+        Ok(TurnResult::Answered(out))
     }
 
     // How the call of a task begins.
     fn begun(
         &self,
         actor: &Actor<'a>,
-        table: &Table,
-        task: &Task<'a>,
+        table: &SparseTable,
+        task: &RunTask<'a>,
         call: &ScriptCall<'a>,
-    ) -> Result<Opening, SearchFault>
-        ensures { (s : Setting) (h : History) (tasks : List Task) (k : Course) (q : Request) →
+    ) -> Result<CallOpening, SearchFault>
+        ensures { (s : Setting) (h : History) (tasks : List RunTask) (k : Course) (q : Request) →
             ShowsCalls s h tasks k actor.now → length tasks < 2 ^ 63 → KnowsTable s h k.dom self.now table.now →
             task.now.dom ≡ k.dom → SaysRequest k.named k.dom call.now q → IfOk result (BeginsAsRun s h k.dom q) }
     {
-        let bytes = bytes_said(self.alloc, call)?;
+        let bytes = call_bytes(self.alloc, call)?;
         let names = names_of(self.alloc, task.dom, actor.mappings.as_slice())?;
         let request = request_of(&names.labels, task.dom, bytes.as_slice(), call);
         Ok(self.opening(table, &names.mappings, task.dom, request))
@@ -210,13 +210,13 @@ impl<'s, 'a> Scene<'s, 'a> {
     // The call of a task begins.
     fn begin(
         &self,
-        world: &mut World<'a>,
+        world: &mut SearchState<'a>,
         at: usize,
-        task: &'s Task<'a>,
+        task: &'s RunTask<'a>,
         call: &'s ScriptCall<'a>,
-    ) -> Result<Led, SearchFault>
-        ensures { (s : Setting) (h : History) (k : Course) (ts : List Task) (a : Actor) (q : Request)
-            (t : Table) (answer : Option Answer) → slice_get world.old.actors.items at ≡ Some a →
+    ) -> Result<TurnResult, SearchFault>
+        ensures { (s : Setting) (h : History) (k : Course) (ts : List RunTask) (a : Actor) (q : Request)
+            (t : SparseTable) (answer : Option Answer) → slice_get world.old.actors.items at ≡ Some a →
             slice_get world.old.ground.tables.items at ≡ Some t →
             ShowsCalls s h (tasks_at self.now at) k a → KnowsTable s h k.dom self.now t →
             IsNextCall k task.now ts call.now → SaysRequest k.named k.dom call.now q →
@@ -226,17 +226,17 @@ impl<'s, 'a> Scene<'s, 'a> {
             world.old world.new at) }
     {
         let Some(actor) = world.actors.get_mut(at) else {
-            return Ok(Led::Nowhere);
+            return Ok(TurnResult::Nowhere);
         };
         let Some(table) = world.ground.tables.get(at) else {
-            return Ok(Led::Nowhere);
+            return Ok(TurnResult::Nowhere);
         };
         match self.begun(actor, table, task, call)? {
-            Opening::Open(call, step) => {
+            CallOpening::Open(call, step) => {
                 actor.start(call, step);
-                Ok(Led::On)
+                Ok(TurnResult::On)
             }
-            Opening::Done(verdict) => {
+            CallOpening::Done(verdict) => {
                 actor.pass();
                 self.line(task, &answer_of(verdict))
             }
@@ -247,11 +247,11 @@ impl<'s, 'a> Scene<'s, 'a> {
     fn unmapping(
         &self,
         actor: &Actor<'a>,
-        table: &Table,
+        table: &SparseTable,
         dom: DomId,
         choice: usize,
-    ) -> Result<Option<Opening>, SearchFault>
-        ensures { (s : Setting) (h : History) (tasks : List Task) (k : Course) (handle : Handle) →
+    ) -> Result<Option<CallOpening>, SearchFault>
+        ensures { (s : Setting) (h : History) (tasks : List RunTask) (k : Course) (handle : Handle) →
             ShowsCalls s h tasks k actor.now → length tasks < 2 ^ 63 → KnowsTable s h k.dom self.now table.now →
             dom ≡ k.dom → k.opened ≡ resting → slice_get k.held choice ≡ Some handle →
             IfOk result (GivesAsRun s h k.dom handle choice) }
@@ -265,9 +265,9 @@ impl<'s, 'a> Scene<'s, 'a> {
     }
 
     // A domain at the end of its list begins to give a mapping back.
-    fn give_back(&self, world: &mut World<'a>, turn: Turn) -> Result<Led, SearchFault>
+    fn give_back(&self, world: &mut SearchState<'a>, turn: Turn) -> Result<TurnResult, SearchFault>
         ensures { (s : Setting) (h : History) (k : Course) (a : Actor) (domain : DomainConfig) (handle : Handle)
-            (t : Table) (answer : Option Answer) → slice_get world.old.actors.items turn.place ≡ Some a →
+            (t : SparseTable) (answer : Option Answer) → slice_get world.old.actors.items turn.place ≡ Some a →
             slice_get world.old.ground.tables.items turn.place ≡ Some t →
             slice_get self.now.roster.domains.items turn.place ≡ Some domain → domain.id ≡ k.dom →
             ShowsCalls s h (tasks_at self.now turn.place) k a → KnowsTable s h k.dom self.now t →
@@ -277,38 +277,38 @@ impl<'s, 'a> Scene<'s, 'a> {
             (back_after (held_but k turn.choice) answer) world.old world.new turn.place) }
     {
         let Some(domain) = self.roster.config().domains.get(turn.place) else {
-            return Ok(Led::Nowhere);
+            return Ok(TurnResult::Nowhere);
         };
         let Some(actor) = world.actors.get_mut(turn.place) else {
-            return Ok(Led::Nowhere);
+            return Ok(TurnResult::Nowhere);
         };
         let Some(table) = world.ground.tables.get(turn.place) else {
-            return Ok(Led::Nowhere);
+            return Ok(TurnResult::Nowhere);
         };
         match self.unmapping(actor, table, domain.id, turn.choice)? {
-            None => Ok(Led::Nowhere),
-            Some(Opening::Open(call, step)) => {
+            None => Ok(TurnResult::Nowhere),
+            Some(CallOpening::Open(call, step)) => {
                 actor.give(call, step);
-                Ok(Led::On)
+                Ok(TurnResult::On)
             }
-            Some(Opening::Done(_)) => Err(SearchFault::Keeps(domain.id)),
+            Some(CallOpening::Done(_)) => Err(SearchFault::Keeps(domain.id)),
         }
     }
 
     // The bytes that were given to an open call.
-    fn given(&self, at: usize, open: Open) -> Result<Vec<u8>, SearchFault>
+    fn given(&self, at: usize, open: ActorCall) -> Result<Vec<u8>, SearchFault>
         ensures { IfOk result (λ bytes. bytes.items ≡ bytes_by (task_in (tasks_at self.now at) «open».task)) }
     {
         let task = match open.task {
             Some(place) => self.task(at, place),
             None => None,
         };
-        said(self.alloc, task)
+        bytes_of_task(self.alloc, task)
     }
 
     // The open call of a domain makes its step, in tables and pages. This is what the step saw.
-    fn make(&self, ground: &mut Ground, at: usize, open: Open) -> Result<Seen, SearchFault>
-        ensures { (s : Setting) (h : History) (before : World) (k : Course) (a : Actor) (i : Item) →
+    fn make(&self, ground: &mut SparseState, at: usize, open: ActorCall) -> Result<Observation, SearchFault>
+        ensures { (s : Setting) (h : History) (before : SearchState) (k : Course) (a : Actor) (i : Item) →
             IsTick s h self.now before at k a «open» i → ground.old ≡ before.ground →
             IfOk result (λ seen. HasStepped s h k i «open» seen ground.new.tables.items ground.new.pages.items) }
     {
@@ -320,13 +320,13 @@ impl<'s, 'a> Scene<'s, 'a> {
     }
 
     // The answer of a call that ends so after this step.
-    fn answer(&self, ground: &Ground, last: Step, verdict: Verdict) -> Result<Answer, SearchFault>
+    fn answer(&self, ground: &SparseState, last: Step, verdict: CallResult) -> Result<Answer, SearchFault>
         ensures { (h : History) → PagesShow h ground.now.pages.items → ReadsInFrame last →
             IfOk result (TellsEnd h last verdict) }
     {
         match (verdict, last) {
             (
-                Verdict::Granted,
+                CallResult::Granted,
                 Step::Read {
                     dom,
                     frame,
@@ -344,19 +344,19 @@ impl<'s, 'a> Scene<'s, 'a> {
     // The open call of a task ends so.
     fn close_line(
         &self,
-        world: &mut World<'a>,
+        world: &mut SearchState<'a>,
         at: usize,
-        task: &'s Task<'a>,
+        task: &'s RunTask<'a>,
         last: Step,
-        verdict: Verdict,
-    ) -> Result<Led, SearchFault>
+        verdict: CallResult,
+    ) -> Result<TurnResult, SearchFault>
         ensures { (h : History) (a : Actor) → slice_get world.old.actors.items at ≡ Some a →
             PagesShow h world.old.ground.pages.items → ReadsInFrame last →
             IfOk result (Closes h self.now.types.items task.now last verdict a world.old world.new at) }
     {
         let answer = self.answer(&world.ground, last, verdict)?;
         let Some(actor) = world.actors.get_mut(at) else {
-            return Ok(Led::Nowhere);
+            return Ok(TurnResult::Nowhere);
         };
         actor.close(label_of(task), verdict)?;
         self.line(task, &answer)
@@ -365,21 +365,21 @@ impl<'s, 'a> Scene<'s, 'a> {
     // An unmap at the end of a domain's list ends so.
     fn close_back(
         &self,
-        world: &mut World<'a>,
+        world: &mut SearchState<'a>,
         at: usize,
         dom: DomId,
-        verdict: Verdict,
-    ) -> Result<Led, SearchFault>
+        verdict: CallResult,
+    ) -> Result<TurnResult, SearchFault>
         ensures { (a : Actor) → slice_get world.old.actors.items at ≡ Some a →
             IfOk result (ClosesBack verdict a world.old world.new at) }
     {
         let Some(actor) = world.actors.get_mut(at) else {
-            return Ok(Led::Nowhere);
+            return Ok(TurnResult::Nowhere);
         };
         match verdict {
-            Verdict::Granted => {
+            CallResult::Granted => {
                 actor.open = None;
-                Ok(Led::On)
+                Ok(TurnResult::On)
             }
             _ => Err(SearchFault::Keeps(dom)),
         }
@@ -388,12 +388,12 @@ impl<'s, 'a> Scene<'s, 'a> {
     // The open call of a domain ends so.
     fn close(
         &self,
-        world: &mut World<'a>,
+        world: &mut SearchState<'a>,
         at: usize,
-        open: Open,
-        verdict: Verdict,
-    ) -> Result<Led, SearchFault>
-        ensures line { (h : History) (a : Actor) (place : ℕ) (t : Task) →
+        open: ActorCall,
+        verdict: CallResult,
+    ) -> Result<TurnResult, SearchFault>
+        ensures line { (h : History) (a : Actor) (place : ℕ) (t : RunTask) →
             slice_get world.old.actors.items at ≡ Some a → PagesShow h world.old.ground.pages.items →
             ReadsInFrame «open».step → «open».task ≡ Some place → slice_get (tasks_at self.now at) place ≡ Some t →
             IfOk result (Closes h self.now.types.items t «open».step verdict a world.old world.new at) }
@@ -404,7 +404,7 @@ impl<'s, 'a> Scene<'s, 'a> {
             return self.close_back(world, at, open.call.caller, verdict);
         };
         let Some(task) = self.task(at, place) else {
-            return Ok(Led::Nowhere);
+            return Ok(TurnResult::Nowhere);
         };
         self.close_line(world, at, task, open.step, verdict)
     }
@@ -412,37 +412,37 @@ impl<'s, 'a> Scene<'s, 'a> {
     // The open call of a domain goes on after its step, which saw this, or ends.
     fn settle(
         &self,
-        world: &mut World<'a>,
+        world: &mut SearchState<'a>,
         at: usize,
-        open: Open,
-        seen: Seen,
-    ) -> Result<Led, SearchFault>
-        ensures { (s : Setting) (h : History) (before : World) (k j : Course) (a : Actor) (i : Item) →
+        open: ActorCall,
+        seen: Observation,
+    ) -> Result<TurnResult, SearchFault>
+        ensures { (s : Setting) (h : History) (before : SearchState) (k j : Course) (a : Actor) (i : Item) →
             IsTick s h self.now before at k a «open» i → TickLeads self.now.types.items k k.opened i j →
             world.old.actors ≡ before.actors →
             HasStepped s h k i «open» seen world.old.ground.tables.items world.old.ground.pages.items →
             IfOk result (TicksAsRun s (i ∷ h) (tasks_at self.now at) k j world.old world.new at) }
     {
         let Some(actor) = world.actors.get_mut(at) else {
-            return Ok(Led::Nowhere);
+            return Ok(TurnResult::Nowhere);
         };
         let Some(table) = world.ground.tables.get(at) else {
-            return Ok(Led::Nowhere);
+            return Ok(TurnResult::Nowhere);
         };
         actor.make(open.step);
         let (call, action) = self.next(table, open, seen);
         match action {
             Action::Step(step) => {
                 let task = open.task;
-                actor.open = Some(Open { task, call, step });
-                Ok(Led::On)
+                actor.open = Some(ActorCall { task, call, step });
+                Ok(TurnResult::On)
             }
             Action::Done(verdict) => self.close(world, at, open, verdict),
         }
     }
 
     // The open call of a domain makes its next step.
-    fn tick(&self, world: &mut World<'a>, at: usize, open: Open) -> Result<Led, SearchFault>
+    fn tick(&self, world: &mut SearchState<'a>, at: usize, open: ActorCall) -> Result<TurnResult, SearchFault>
         ensures { (s : Setting) (h : History) (k j : Course) (a : Actor) (i : Item) →
             ShowsAt s h self.now world.old at k a → a.«open» ≡ Some «open» → IsItemOf (Tick k.dom) i → IsRight s h i →
             TickLeads self.now.types.items k k.opened i j →
@@ -453,51 +453,51 @@ impl<'s, 'a> Scene<'s, 'a> {
     }
 
     // A domain raises a flag.
-    fn raise(&self, world: &mut World<'a>, at: usize, flag: usize) -> Led
-        ensures { (s : Setting) (h : History) (k : Course) (t : Task) (ts : List Task) (a : Actor) →
+    fn raise(&self, world: &mut SearchState<'a>, at: usize, flag: usize) -> TurnResult
+        ensures { (s : Setting) (h : History) (k : Course) (t : RunTask) (ts : List RunTask) (a : Actor) →
             slice_get world.old.actors.items at ≡ Some a → ShowsCalls s h (tasks_at self.now at) k a →
             k.opened ≡ resting → k.tasks ≡ t ∷ ts → flag < length world.old.told.items →
-            (result ≡ Led.On) × (world.new.told.items ≡ slice_set world.old.told.items flag true)
+            (result ≡ TurnResult.On) × (world.new.told.items ≡ slice_set world.old.told.items flag true)
             × PassesTo s h (tasks_at self.now at) a (record k { tasks = ts }) world.old world.new at }
     {
         let Some(actor) = world.actors.get_mut(at) else {
-            return Led::Nowhere;
+            return TurnResult::Nowhere;
         };
         let Some(told) = world.told.get_mut(flag) else {
-            return Led::Nowhere;
+            return TurnResult::Nowhere;
         };
         *told = true;
         actor.pass();
-        Led::On
+        TurnResult::On
     }
 
     // A domain goes past a flag, if that was raised.
-    fn go_past(&self, world: &mut World<'a>, at: usize, flag: usize) -> Led
-        ensures raised { (s : Setting) (h : History) (k : Course) (t : Task) (ts : List Task) (a : Actor) →
+    fn go_past(&self, world: &mut SearchState<'a>, at: usize, flag: usize) -> TurnResult
+        ensures raised { (s : Setting) (h : History) (k : Course) (t : RunTask) (ts : List RunTask) (a : Actor) →
             slice_get world.old.actors.items at ≡ Some a → ShowsCalls s h (tasks_at self.now at) k a →
             k.opened ≡ resting → k.tasks ≡ t ∷ ts → slice_get world.old.told.items flag ≡ Some true →
-            (result ≡ Led.On) × (world.new.told ≡ world.old.told)
+            (result ≡ TurnResult.On) × (world.new.told ≡ world.old.told)
             × PassesTo s h (tasks_at self.now at) a (record k { tasks = ts }) world.old world.new at }
     {
         let is_raised = is_told(world.told.as_slice(), flag);
         let Some(actor) = world.actors.get_mut(at) else {
-            return Led::Nowhere;
+            return TurnResult::Nowhere;
         };
         if is_raised {
             actor.pass();
-            Led::On
+            TurnResult::On
         } else {
-            Led::Nowhere
+            TurnResult::Nowhere
         }
     }
 
     /// The move of a domain.
-    pub fn advance(&self, world: &mut World<'a>, turn: Turn) -> Result<Led, SearchFault>
+    pub fn advance(&self, world: &mut SearchState<'a>, turn: Turn) -> Result<TurnResult, SearchFault>
         ensures { IfOk result (λ led. MovesAlong self.now turn.place turn.choice world.old led world.new) }
     {
         let at = turn.place;
         let Some(actor) = world.actors.get(at) else {
-            return Ok(Led::Nowhere);
+            return Ok(TurnResult::Nowhere);
         };
         if let Some(open) = actor.open {
             return self.tick(world, at, open);
@@ -506,12 +506,12 @@ impl<'s, 'a> Scene<'s, 'a> {
             return self.give_back(world, turn);
         };
         match &task.deed {
-            Deed::Do(call) => {
+            RunAction::Do(call) => {
                 said_fits(call);
                 self.begin(world, at, task, call)
             }
-            Deed::Tell(flag) => Ok(self.raise(world, at, *flag)),
-            Deed::Await(flag) => Ok(self.go_past(world, at, *flag)),
+            RunAction::Tell(flag) => Ok(self.raise(world, at, *flag)),
+            RunAction::Await(flag) => Ok(self.go_past(world, at, *flag)),
         }
     }
 
@@ -541,7 +541,7 @@ impl<'s, 'a> Scene<'s, 'a> {
     }
 
     // The moves of all domains.
-    fn all_turns(&self, world: &World<'a>) -> Result<Vec<Turn>, AllocError>
+    fn all_turns(&self, world: &SearchState<'a>) -> Result<Vec<Turn>, AllocError>
         ensures { IfOk result (λ turns. turns.items ≡ turns_from self.now 0 world.now.actors.items) }
     {
         let mut turns = Vec::new(self.alloc);
@@ -565,7 +565,7 @@ impl<'s, 'a> Scene<'s, 'a> {
     }
 
     // The place of the first such domain.
-    fn at_once(&self, world: &World<'a>) -> Option<usize>
+    fn at_once(&self, world: &SearchState<'a>) -> Option<usize>
         ensures { IfSome result (λ place. (a : Actor) × (slice_get world.now.actors.items place ≡ Some a)
             × (goes_at_once self.now world.now.told.items place a ≡ true)) }
     {
@@ -578,7 +578,7 @@ impl<'s, 'a> Scene<'s, 'a> {
     }
 
     /// The moves to try: that of a domain which disturbs no other, if there is one, or else all.
-    pub fn turns(&self, world: &World<'a>) -> Result<Vec<Turn>, AllocError>
+    pub fn turns(&self, world: &SearchState<'a>) -> Result<Vec<Turn>, AllocError>
         ensures { IfOk result (λ turns. AreToBeTried self.now world.now turns.items) }
     {
         match self.at_once(world) {
@@ -592,7 +592,7 @@ impl<'s, 'a> Scene<'s, 'a> {
     }
 
     /// Whether all domains are at the ends of their lists, with no call open and no mapping.
-    pub fn is_finished(&self, world: &World<'a>) -> bool
+    pub fn is_finished(&self, world: &SearchState<'a>) -> bool
         ensures finished { IsTrue result → AreDone self.now world.now.actors.items }
         ensures end { AreDone self.now world.now.actors.items → IsTrue result }
     {

@@ -2,8 +2,8 @@
 ghost use Rattle.std.specs.Prelude.{IfOk};
 ghost use Rattle.gt_search.specs.Placing.{ArePlaced};
 
-use crate::actor::Mapping;
-use gt_calls::{Handle, Handles, Held};
+use crate::actor::LabelledMapping;
+use gt_calls::{Handle, Handles, HeldPin};
 use gt_core::Answer;
 use gt_host::{Labels, name_mapping};
 use gt_types::DomId;
@@ -12,8 +12,8 @@ use std::alloc::Global;
 
 /// The mappings of a domain under handles, whose serials are their places, and its labels.
 #[derive(Drop)]
-pub struct Names<'a> {
-    pub mappings: Handles<Held>,
+pub struct ActorHandles<'a> {
+    pub mappings: Handles<HeldPin>,
     pub handles: Vec<Handle>,
     pub labels: Labels<'a>,
 }
@@ -22,12 +22,12 @@ pub struct Names<'a> {
 pub fn names_of<'a>(
     alloc: Global,
     dom: DomId,
-    held: &[Mapping<'a>],
-) -> Result<Names<'a>, SearchFault>
+    held: &[LabelledMapping<'a>],
+) -> Result<ActorHandles<'a>, SearchFault>
     ensures { IfOk result (λ names. ArePlaced dom held.now names) }
 {
-    Handles::<Held>::nothing_is_listed();
-    Handles::<Held>::inserted_is_listed();
+    Handles::<HeldPin>::nothing_is_listed();
+    Handles::<HeldPin>::inserted_is_listed();
     let mut mappings = Handles::new(alloc);
     let mut handles = Vec::new(alloc);
     let mut labels = Labels::new(alloc);
@@ -37,7 +37,7 @@ pub fn names_of<'a>(
         handles.push(handle)?;
         name_mapping(&mut labels, dom, mapping.label, &Answer::Mapped(handle))?;
     }
-    Ok(Names {
+    Ok(ActorHandles {
         mappings,
         handles,
         labels,

@@ -1,5 +1,5 @@
 //! The bytes that tell where an open call is.
-use gt_calls::{Aim, Held, Leg, LegPhase, Phase, Pins, Route, Verdict};
+use gt_calls::{PinPurpose, HeldPin, Leg, LegPhase, Phase, CallPins, AccessPath, CallResult};
 use gt_lines::Text;
 use gt_texts::push_denial;
 use gt_types::{Dir, Facts};
@@ -11,7 +11,7 @@ pub fn push(key: &mut Vec<u8>, number: u64) -> Result<(), AllocError> {
 }
 
 /// Appends a pin: what it is of, what it reaches, and the word that it was taken from.
-pub fn push_held(key: &mut Vec<u8>, held: &Held) -> Result<(), AllocError> {
+pub fn push_held(key: &mut Vec<u8>, held: &HeldPin) -> Result<(), AllocError> {
     let writes = matches!(held.dir, Dir::Write);
     push(key, u64::from(held.dom.0) * 2 + u64::from(writes))?;
     push(key, u64::from(held.gref.0))?;
@@ -20,7 +20,7 @@ pub fn push_held(key: &mut Vec<u8>, held: &Held) -> Result<(), AllocError> {
     push(key, held.word)
 }
 
-fn push_via(key: &mut Vec<u8>, via: Option<&Held>) -> Result<(), AllocError> {
+fn push_via(key: &mut Vec<u8>, via: Option<&HeldPin>) -> Result<(), AllocError> {
     match via {
         None => push(key, 0),
         Some(held) => {
@@ -30,14 +30,14 @@ fn push_via(key: &mut Vec<u8>, via: Option<&Held>) -> Result<(), AllocError> {
     }
 }
 
-fn push_route(key: &mut Vec<u8>, route: &Route) -> Result<(), AllocError> {
+fn push_route(key: &mut Vec<u8>, route: &AccessPath) -> Result<(), AllocError> {
     match route {
-        Route::Own => push(key, 0),
-        Route::Direct(held) => {
+        AccessPath::Own => push(key, 0),
+        AccessPath::Direct(held) => {
             push(key, 1)?;
             push_held(key, held)
         }
-        Route::Through { via, held } => {
+        AccessPath::Through { via, held } => {
             push(key, 2)?;
             push_held(key, via)?;
             push_held(key, held)
@@ -45,7 +45,7 @@ fn push_route(key: &mut Vec<u8>, route: &Route) -> Result<(), AllocError> {
     }
 }
 
-fn push_pins(key: &mut Vec<u8>, pins: &Pins) -> Result<(), AllocError> {
+fn push_pins(key: &mut Vec<u8>, pins: &CallPins) -> Result<(), AllocError> {
     push_route(key, &pins.source)?;
     push_route(key, &pins.dest)
 }
@@ -87,14 +87,14 @@ fn push_leg_phase(key: &mut Vec<u8>, at: &LegPhase) -> Result<(), AllocError> {
     }
 }
 
-fn push_aim(key: &mut Vec<u8>, aim: &Aim) -> Result<(), AllocError> {
+fn push_aim(key: &mut Vec<u8>, aim: &PinPurpose) -> Result<(), AllocError> {
     match aim {
-        Aim::Mapping => push(key, 0),
-        Aim::Source { via, .. } => {
+        PinPurpose::Mapping => push(key, 0),
+        PinPurpose::Source { via, .. } => {
             push(key, 1)?;
             push_via(key, via.as_ref())
         }
-        Aim::Dest { source, via, .. } => {
+        PinPurpose::Dest { source, via, .. } => {
             push(key, 2)?;
             push_route(key, source)?;
             push_via(key, via.as_ref())
@@ -120,10 +120,10 @@ fn push_types(key: &mut Vec<u8>, facts: Facts) -> Result<(), AllocError> {
 }
 
 // How a call will end: as its line tells, or with this refusal.
-fn push_verdict(key: &mut Vec<u8>, verdict: Verdict) -> Result<(), AllocError> {
+fn push_verdict(key: &mut Vec<u8>, verdict: CallResult) -> Result<(), AllocError> {
     let names: &[Text] = &[];
     match verdict {
-        Verdict::Refused(denial) => {
+        CallResult::Refused(denial) => {
             push(key, 1)?;
             push_types(key, denial.facts)?;
             push_denial(key, names, denial)?;

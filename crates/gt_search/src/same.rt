@@ -3,90 +3,90 @@ ghost use Rattle.std.specs.Prelude.{◌≡◌, IsTrue};
 ghost use Rattle.gt_search.specs.Copies.{SameActor, SameActors, SameWorld};
 ghost use Rattle.gt_search.specs.Mappings.{labels_of, mapping_pins, label_bytes};
 
-use crate::actor::{Actor, Mapping, Open};
-use crate::scene::World;
+use crate::actor::{Actor, LabelledMapping, ActorCall};
+use crate::scene::SearchState;
 use gt_calls::{
-    Aim, Asked, Call, Held, Leg, LegPhase, Phase, Pins, Question, Route, Step, Value, Verdict,
+    PinPurpose, OpenRequest, Call, HeldPin, Leg, LegPhase, Phase, CallPins, HeaderQuery, AccessPath, Step, CallValue, CallResult,
 };
 use gt_types::{Denial, Facts};
 
-fn same_asked(one: Asked, other: Asked) -> bool
+fn same_asked(one: OpenRequest, other: OpenRequest) -> bool
     ensures { IsTrue result → other ≡ one }
 {
     match (one, other) {
-        (Asked::Grant { gref, entry }, Asked::Grant { gref: g, entry: e }) => {
+        (OpenRequest::Grant { gref, entry }, OpenRequest::Grant { gref: g, entry: e }) => {
             gref == g && entry == e
         }
-        (Asked::Revoke { gref }, Asked::Revoke { gref: g })
-        | (Asked::Withdraw { gref }, Asked::Withdraw { gref: g })
-        | (Asked::Demote { gref }, Asked::Demote { gref: g })
-        | (Asked::Promote { gref }, Asked::Promote { gref: g }) => gref == g,
+        (OpenRequest::Revoke { gref }, OpenRequest::Revoke { gref: g })
+        | (OpenRequest::Withdraw { gref }, OpenRequest::Withdraw { gref: g })
+        | (OpenRequest::Demote { gref }, OpenRequest::Demote { gref: g })
+        | (OpenRequest::Promote { gref }, OpenRequest::Promote { gref: g }) => gref == g,
         (
-            Asked::Map { dom, gref, flags },
-            Asked::Map {
+            OpenRequest::Map { dom, gref, flags },
+            OpenRequest::Map {
                 dom: d,
                 gref: g,
                 flags: f,
             },
         ) => dom == d && gref == g && flags == f,
-        (Asked::Unmap { handle }, Asked::Unmap { handle: h }) => handle == h,
+        (OpenRequest::Unmap { handle }, OpenRequest::Unmap { handle: h }) => handle == h,
         (
-            Asked::Load { handle, off, len },
-            Asked::Load {
+            OpenRequest::Load { handle, off, len },
+            OpenRequest::Load {
                 handle: h,
                 off: o,
                 len: l,
             },
         ) => handle == h && off == o && len == l,
         (
-            Asked::Store { handle, off, len },
-            Asked::Store {
+            OpenRequest::Store { handle, off, len },
+            OpenRequest::Store {
                 handle: h,
                 off: o,
                 len: l,
             },
         ) => handle == h && off == o && len == l,
         (
-            Asked::Peek { frame, off, len },
-            Asked::Peek {
+            OpenRequest::Peek { frame, off, len },
+            OpenRequest::Peek {
                 frame: f,
                 off: o,
                 len: l,
             },
         ) => frame == f && off == o && len == l,
         (
-            Asked::Poke { frame, off, len },
-            Asked::Poke {
+            OpenRequest::Poke { frame, off, len },
+            OpenRequest::Poke {
                 frame: f,
                 off: o,
                 len: l,
             },
         ) => frame == f && off == o && len == l,
-        (Asked::Copy(args), Asked::Copy(a)) => args == a,
-        (Asked::SetVersion { version }, Asked::SetVersion { version: v }) => version == v,
-        (Asked::SetupTable { frames }, Asked::SetupTable { frames: f }) => frames == f,
-        (Asked::QuerySize { dom }, Asked::QuerySize { dom: d })
-        | (Asked::GetVersion { dom }, Asked::GetVersion { dom: d }) => dom == d,
+        (OpenRequest::Copy(args), OpenRequest::Copy(a)) => args == a,
+        (OpenRequest::SetVersion { version }, OpenRequest::SetVersion { version: v }) => version == v,
+        (OpenRequest::SetupTable { frames }, OpenRequest::SetupTable { frames: f }) => frames == f,
+        (OpenRequest::QuerySize { dom }, OpenRequest::QuerySize { dom: d })
+        | (OpenRequest::GetVersion { dom }, OpenRequest::GetVersion { dom: d }) => dom == d,
         _ => false,
     }
 }
 
-fn same_question(one: Question, other: Question) -> bool
+fn same_question(one: HeaderQuery, other: HeaderQuery) -> bool
     ensures { IsTrue result → other ≡ one }
 {
     match (one, other) {
-        (Question::Size, Question::Size) | (Question::Version, Question::Version) => true,
+        (HeaderQuery::Size, HeaderQuery::Size) | (HeaderQuery::Version, HeaderQuery::Version) => true,
         _ => false,
     }
 }
 
-fn same_held(one: Held, other: Held) -> bool
+fn same_held(one: HeldPin, other: HeldPin) -> bool
     ensures { IsTrue result → other ≡ one }
 {
     one == other
 }
 
-fn same_value(one: Value, other: Value) -> bool
+fn same_value(one: CallValue, other: CallValue) -> bool
     ensures { IsTrue result → other ≡ one }
 {
     one == other
@@ -104,14 +104,14 @@ fn same_denial(one: Denial, other: Denial) -> bool
     one.rule == other.rule && one.status == other.status && same_facts(one.facts, other.facts)
 }
 
-fn same_verdict(one: Verdict, other: Verdict) -> bool
+fn same_verdict(one: CallResult, other: CallResult) -> bool
     ensures { IsTrue result → other ≡ one }
 {
     match (one, other) {
-        (Verdict::Granted, Verdict::Granted) => true,
-        (Verdict::Given(value), Verdict::Given(v)) => same_value(value, v),
-        (Verdict::Mapped(held), Verdict::Mapped(h)) => same_held(held, h),
-        (Verdict::Refused(denial), Verdict::Refused(d)) => same_denial(denial, d),
+        (CallResult::Granted, CallResult::Granted) => true,
+        (CallResult::Given(value), CallResult::Given(v)) => same_value(value, v),
+        (CallResult::Mapped(held), CallResult::Mapped(h)) => same_held(held, h),
+        (CallResult::Refused(denial), CallResult::Refused(d)) => same_denial(denial, d),
         _ => false,
     }
 }
@@ -228,7 +228,7 @@ fn same_step(one: Step, other: Step) -> bool
     same_look(one, other) || same_change(one, other) || same_access(one, other)
 }
 
-fn same_via(one: Option<Held>, other: Option<Held>) -> bool
+fn same_via(one: Option<HeldPin>, other: Option<HeldPin>) -> bool
     ensures { IsTrue result → other ≡ one }
 {
     match (one, other) {
@@ -238,20 +238,20 @@ fn same_via(one: Option<Held>, other: Option<Held>) -> bool
     }
 }
 
-fn same_route(one: Route, other: Route) -> bool
+fn same_route(one: AccessPath, other: AccessPath) -> bool
     ensures { IsTrue result → other ≡ one }
 {
     match (one, other) {
-        (Route::Own, Route::Own) => true,
-        (Route::Direct(held), Route::Direct(h)) => same_held(held, h),
-        (Route::Through { via, held }, Route::Through { via: v, held: h }) => {
+        (AccessPath::Own, AccessPath::Own) => true,
+        (AccessPath::Direct(held), AccessPath::Direct(h)) => same_held(held, h),
+        (AccessPath::Through { via, held }, AccessPath::Through { via: v, held: h }) => {
             same_held(via, v) && same_held(held, h)
         }
         _ => false,
     }
 }
 
-fn same_pins(one: Pins, other: Pins) -> bool
+fn same_pins(one: CallPins, other: CallPins) -> bool
     ensures { IsTrue result → other ≡ one }
 {
     same_route(one.source, other.source) && same_route(one.dest, other.dest)
@@ -314,17 +314,17 @@ fn same_leg_phase(one: LegPhase, other: LegPhase) -> bool
     }
 }
 
-fn same_aim(one: Aim, other: Aim) -> bool
+fn same_aim(one: PinPurpose, other: PinPurpose) -> bool
     ensures { IsTrue result → other ≡ one }
 {
     match (one, other) {
-        (Aim::Mapping, Aim::Mapping) => true,
-        (Aim::Source { copy, via }, Aim::Source { copy: c, via: v }) => {
+        (PinPurpose::Mapping, PinPurpose::Mapping) => true,
+        (PinPurpose::Source { copy, via }, PinPurpose::Source { copy: c, via: v }) => {
             copy == c && same_via(via, v)
         }
         (
-            Aim::Dest { copy, source, via },
-            Aim::Dest {
+            PinPurpose::Dest { copy, source, via },
+            PinPurpose::Dest {
                 copy: c,
                 source: s,
                 via: v,
@@ -451,7 +451,7 @@ fn same_task(one: Option<usize>, other: Option<usize>) -> bool
     one == other
 }
 
-fn same_open(one: Option<Open>, other: Option<Open>) -> bool
+fn same_open(one: Option<ActorCall>, other: Option<ActorCall>) -> bool
     ensures { IsTrue result → other ≡ one }
 {
     match (one, other) {
@@ -475,7 +475,7 @@ fn same_label(one: Option<&[u8]>, other: Option<&[u8]>) -> bool
     }
 }
 
-fn same_mappings(one: &[Mapping], other: &[Mapping]) -> bool
+fn same_mappings(one: &[LabelledMapping], other: &[LabelledMapping]) -> bool
     ensures pins { IsTrue result → mapping_pins other.now ≡ mapping_pins one.now }
     ensures labels { IsTrue result → labels_of other.now ≡ labels_of one.now }
 {
@@ -512,7 +512,7 @@ fn same_actors(one: &[Actor], other: &[Actor]) -> bool
     true
 }
 
-fn same_told(one: &[bool], other: &[bool]) -> bool
+fn same_flags(one: &[bool], other: &[bool]) -> bool
     ensures { IsTrue result → other.now ≡ one.now }
 {
     if one.len() != other.len() {
@@ -527,10 +527,10 @@ fn same_told(one: &[bool], other: &[bool]) -> bool
 }
 
 /// Whether the states are the same.
-pub fn same_worlds(one: &World, other: &World) -> bool
+pub fn same_worlds(one: &SearchState, other: &SearchState) -> bool
     ensures { IsTrue result → SameWorld one.now other.now }
 {
-    same_told(one.told.as_slice(), other.told.as_slice())
+    same_flags(one.told.as_slice(), other.told.as_slice())
         && same_actors(one.actors.as_slice(), other.actors.as_slice())
         && one.ground.is_same(&other.ground)
 }

@@ -8,33 +8,33 @@ ghost use Rattle.gt_types.specs.Config.{IsWithinLimits};
 ghost use Rattle.gt_world.specs.Shows.{IsSettingOf};
 
 use crate::actor::Actor;
-use gt_host::Rights;
+use gt_host::ScriptPolicy;
 use gt_lines::Text;
 use gt_positions::Roster;
-use gt_script::{RunScript, Script, Task};
+use gt_script::{RunScript, Script, RunTask};
 use gt_types::{Config, DomainConfig, StartFault};
 use gt_ways::SearchFault;
-use gt_world::Ground;
+use gt_world::SparseState;
 use std::alloc::{AllocError, Global};
 
 /// What all states of a search have in common.
 #[derive(Drop)]
-pub struct Scene<'s, 'a> {
+pub struct SearchContext<'s, 'a> {
     pub alloc: Global,
     pub roster: Roster,
-    pub rights: Rights,
+    pub rights: ScriptPolicy,
     pub types: Vec<Text<'s>>,
     /// The list of each domain, in the order of the domains.
-    pub lists: Vec<Vec<&'s Task<'a>>>,
+    pub lists: Vec<Vec<&'s RunTask<'a>>>,
     /// How many flags there are.
     pub flags: usize,
 }
 
 /// A state: where the run has come to, but for what was answered.
 #[derive(Drop)]
-pub struct World<'a> {
+pub struct SearchState<'a> {
     pub actors: Vec<Actor<'a>>,
-    pub ground: Ground,
+    pub ground: SparseState,
     /// For each flag whether it was raised.
     pub told: Vec<bool>,
 }
@@ -50,18 +50,18 @@ fn copy_actors<'a>(alloc: Global, actors: &[Actor<'a>]) -> Result<Vec<Actor<'a>>
     Ok(copies)
 }
 
-impl<'a> World<'a> {
+impl<'a> SearchState<'a> {
     ghost use Rattle.std.specs.Prelude.{IfOk};
     ghost use Rattle.gt_search.specs.Copies.{SameWorld};
 
     /// The same state once more.
-    pub fn copy(&self, alloc: Global) -> Result<World<'a>, AllocError>
+    pub fn copy(&self, alloc: Global) -> Result<SearchState<'a>, AllocError>
         ensures { IfOk result (SameWorld self.now) }
     {
         let actors = copy_actors(alloc, self.actors.as_slice())?;
         let ground = self.ground.copy(alloc)?;
         let told = Vec::from_slice(alloc, self.told.as_slice())?;
-        Ok(World {
+        Ok(SearchState {
             actors,
             ground,
             told,
@@ -91,7 +91,7 @@ fn lists_of<'s, 'a>(
     alloc: Global,
     script: &'s RunScript<'a>,
     domains: &[DomainConfig],
-) -> Result<Vec<Vec<&'s Task<'a>>>, AllocError>
+) -> Result<Vec<Vec<&'s RunTask<'a>>>, AllocError>
     ensures { IfOk result (λ lists. map (λ list. map (λ t. t.now) list.items) lists.items
         ≡ map (λ d. list_of script.entry.now.tasks d.id) domains.now) }
 {
@@ -122,7 +122,7 @@ fn no_flags(alloc: Global, count: usize) -> Result<Vec<bool>, AllocError>
     vec![in alloc; false; count]
 }
 
-impl<'s, 'a> Scene<'s, 'a> {
+impl<'s, 'a> SearchContext<'s, 'a> {
     ghost use Rattle.std.specs.Prelude.{◌≡◌, slice_get, [], IfOk};
     ghost use Rattle.std.specs.Option.{option_map};
     ghost use Rattle.gt_replay.specs.Courses.{first_courses};
@@ -132,17 +132,17 @@ impl<'s, 'a> Scene<'s, 'a> {
     ghost use Rattle.gt_search.specs.Scenes.{IsSceneOf, SceneShows};
 
     /// The common part of the states of a script.
-    pub fn new(alloc: Global, script: &'s RunScript<'a>) -> Result<Scene<'s, 'a>, SearchFault>
+    pub fn new(alloc: Global, script: &'s RunScript<'a>) -> Result<SearchContext<'s, 'a>, SearchFault>
         requires { CanConfigure (contents_told script.now.head) }
         ensures { AreNumbered script.entry.now.flags script.entry.now.tasks →
             IfOk result (IsSceneOf (run_told script.entry.now)) }
     {
         let head = script.head();
         let lists = lists_of(alloc, script, head.domains())?;
-        Ok(Scene {
+        Ok(SearchContext {
             alloc,
             roster: roster_of(alloc, head)?,
-            rights: Rights::of(alloc, head)?,
+            rights: ScriptPolicy::of(alloc, head)?,
             types: head.type_names(alloc)?,
             lists,
             flags: script.flags(),
@@ -150,14 +150,14 @@ impl<'s, 'a> Scene<'s, 'a> {
     }
 
     /// The state in which nothing has happened.
-    pub fn start(&self) -> Result<World<'a>, AllocError>
+    pub fn start(&self) -> Result<SearchState<'a>, AllocError>
         ensures { (c : RunContents) → IsSceneOf c self.now → IfOk result (SceneShows c self.now [] (first_courses c)) }
     {
         let domains = self.roster.config().domains.as_slice();
         let actors = first_actors(self.alloc, domains.len())?;
-        let ground = Ground::new(self.alloc, domains)?;
+        let ground = SparseState::new(self.alloc, domains)?;
         let told = no_flags(self.alloc, self.flags)?;
-        Ok(World {
+        Ok(SearchState {
             actors,
             ground,
             told,
@@ -165,7 +165,7 @@ impl<'s, 'a> Scene<'s, 'a> {
     }
 
     /// The task at this place of a domain's list.
-    pub fn task(&self, at: usize, place: usize) -> Option<&'s Task<'a>>
+    pub fn task(&self, at: usize, place: usize) -> Option<&'s RunTask<'a>>
         ensures { option_map (λ t. t.now) result ≡ slice_get (tasks_at self.now at) place }
     {
         if at >= self.lists.len() {

@@ -6,9 +6,9 @@ ghost use Rattle.gt_script.specs.RunScripts.{CanConfigure};
 ghost use Rattle.gt_script.specs.Stuck.{AreNumbered};
 ghost use Rattle.gt_search.specs.Spaces.{FindsAll};
 
-use crate::scene::Scene;
+use crate::scene::SearchContext;
 use gt_script::RunScript;
-use gt_ways::{Found, SearchFault};
+use gt_ways::{SearchResult, SearchFault};
 use std::alloc::Global;
 
 /// Goes through the states of a script's run, at most `limit` of them. For each text that the script may give it
@@ -21,10 +21,10 @@ pub fn search<'s, 'a>(
     alloc: Global,
     script: &'s RunScript<'a>,
     limit: usize,
-) -> Result<Found, SearchFault>
+) -> Result<SearchResult, SearchFault>
     requires { CanConfigure (contents_told script.now.head) }
     ensures { AreNumbered script.now.flags script.now.tasks → IfOk result (FindsAll (run_told script.now)) }
 {
-    let scene: Scene<'s, 's> = Scene::new(alloc, script)?;
+    let scene: SearchContext<'s, 's> = SearchContext::new(alloc, script)?;
     gt_ways::search(alloc, &scene, limit)
 }

@@ -2,13 +2,13 @@
 ghost use Rattle.gt_search.specs.Spaces.{scene_ways};
 
 use crate::same::same_worlds;
-use crate::scene::{Scene, World};
+use crate::scene::{SearchContext, SearchState};
 use gt_replay::Turn;
-use gt_ways::{Led, SearchFault, Space};
+use gt_ways::{TurnResult, SearchFault, TransitionSystem};
 use std::alloc::AllocError;
 
-impl<'s> Space for Scene<'s, 's> {
-    type State = World<'s>;
+impl<'s> TransitionSystem for SearchContext<'s, 's> {
+    type State = SearchState<'s>;
 
     ghost ways = { scene_ways };
 
@@ -16,31 +16,31 @@ impl<'s> Space for Scene<'s, 's> {
         self.roster.config().domains.len()
     }
 
-    fn start(&self) -> Result<World<'s>, SearchFault> {
+    fn start(&self) -> Result<SearchState<'s>, SearchFault> {
         Ok(self.start()?)
     }
 
-    fn key(&self, state: &World<'s>) -> Result<Vec<u8>, AllocError> {
+    fn key(&self, state: &SearchState<'s>) -> Result<Vec<u8>, AllocError> {
         self.key(state)
     }
 
-    fn turns(&self, state: &World<'s>) -> Result<Vec<Turn>, SearchFault> {
+    fn turns(&self, state: &SearchState<'s>) -> Result<Vec<Turn>, SearchFault> {
         Ok(self.turns(state)?)
     }
 
-    fn advance(&self, state: &mut World<'s>, turn: Turn) -> Result<Led, SearchFault> {
+    fn advance(&self, state: &mut SearchState<'s>, turn: Turn) -> Result<TurnResult, SearchFault> {
         self.advance(state, turn)
     }
 
-    fn is_finished(&self, state: &World<'s>) -> bool {
+    fn is_finished(&self, state: &SearchState<'s>) -> bool {
         self.is_finished(state)
     }
 
-    fn is_same(&self, one: &World<'s>, other: &World<'s>) -> bool {
+    fn is_same(&self, one: &SearchState<'s>, other: &SearchState<'s>) -> bool {
         same_worlds(one, other)
     }
 
-    fn copy(&self, state: &World<'s>) -> Result<World<'s>, AllocError> {
+    fn copy(&self, state: &SearchState<'s>) -> Result<SearchState<'s>, AllocError> {
         state.copy(self.alloc)
     }
 }

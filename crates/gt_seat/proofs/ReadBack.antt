@@ -11,10 +11,10 @@ use Rattle.gt_types.specs.declared.denial.Facts.TheVariants as facts
 use Rattle.gt_types.specs.declared.denial.Field.{Field}
 use Rattle.gt_types.specs.declared.denial.Field.TheVariants as fields
 use Rattle.gt_types.specs.Denial.{rule_number, status_number}
-use Rattle.gt_seat.specs.declared.answer.Outcome.{Outcome}
-use Rattle.gt_seat.specs.declared.answer.Outcome.TheVariants.{Done, Mapped, Frames, Version, Size, Denied}
-use Rattle.gt_seat.specs.declared.answer.Outcome.TheVariants.{NoDomain, Busy, NoMemory, NoCopy, Absent, NullPointer}
-use Rattle.gt_seat.specs.declared.answer.Outcome.TheVariants.{Left, Taken as TakenRecords}
+use Rattle.gt_seat.specs.declared.answer.AttachedOutcome.{AttachedOutcome}
+use Rattle.gt_seat.specs.declared.answer.AttachedOutcome.TheVariants.{Done, Mapped, Frames, Version, Size, Denied}
+use Rattle.gt_seat.specs.declared.answer.AttachedOutcome.TheVariants.{NoDomain, Busy, NoMemory, NoCopy, Absent, NullPointer}
+use Rattle.gt_seat.specs.declared.answer.AttachedOutcome.TheVariants.{Left, Taken as TakenRecords}
 use Rattle.gt_seat.specs.Encoding.{encoded, field_number}
 use Rattle.gt_seat.specs.Decoding.{AnswersAreReadBack, decoded, field_named, rule_named, status_named}
 
@@ -44,7 +44,7 @@ same : (r : Rule) (s : Status) (f g : Facts) → f ≡ g
     ≡ Denied (record { rule = r; status = s; facts = g })
 same r s f g e = λ i. Denied (record { rule = r; status = named_status s i; facts = e i })
 
-denied : (r : Rule) (s : Status) (f g : Facts) (x : Outcome) → f ≡ g
+denied : (r : Rule) (s : Status) (f g : Facts) (x : AttachedOutcome) → f ≡ g
     → (if rule_number r == 256 then NoDomain else if rule_number r == 257 then Busy else
     if rule_number r == 258 then NoMemory else if rule_number r == 259 then NoCopy else
     if rule_number r == 260 then Absent else if rule_number r == 261 then NullPointer else

@@ -9,12 +9,12 @@ use Rattle.gt_types.specs.declared.denial.Facts.{Facts}
 use Rattle.gt_types.specs.declared.denial.Facts.TheVariants as facts
 use Rattle.gt_types.specs.declared.denial.Field.{Field}
 use Rattle.gt_types.specs.declared.denial.Field.TheVariants as fields
-use Rattle.gt_seat.specs.declared.answer.Answer.{Answer}
-use Rattle.gt_seat.specs.declared.answer.Name.{Name}
-use Rattle.gt_seat.specs.declared.answer.Outcome.{Outcome}
-use Rattle.gt_seat.specs.declared.answer.Outcome.TheVariants.{Done, Mapped, Frames, Version, Size as SizeOf, Denied}
-use Rattle.gt_seat.specs.declared.answer.Outcome.TheVariants.{NoDomain, Busy, NoMemory, NoCopy, Absent, NullPointer}
-use Rattle.gt_seat.specs.declared.answer.Outcome.TheVariants.{Left, Taken as TakenRecords}
+use Rattle.gt_seat.specs.declared.answer.EncodedAnswer.{EncodedAnswer}
+use Rattle.gt_seat.specs.declared.answer.MappingName.{MappingName}
+use Rattle.gt_seat.specs.declared.answer.AttachedOutcome.{AttachedOutcome}
+use Rattle.gt_seat.specs.declared.answer.AttachedOutcome.TheVariants.{Done, Mapped, Frames, Version, Size as SizeOf, Denied}
+use Rattle.gt_seat.specs.declared.answer.AttachedOutcome.TheVariants.{NoDomain, Busy, NoMemory, NoCopy, Absent, NullPointer}
+use Rattle.gt_seat.specs.declared.answer.AttachedOutcome.TheVariants.{Left, Taken as TakenRecords}
 use Rattle.gt_seat.specs.Encoding.{encoded}
 
 -- the rule of this number, the last one if there is none
@@ -78,7 +78,7 @@ field_named n =
     fields.Reserved
 
 -- what a refusal rests on
-abbrev pub facts_in : Answer → Facts
+abbrev pub facts_in : EncodedAnswer → Facts
 facts_in a =
     if a.kind == 5 then
     facts.Policy (record { 0 = a.source }) (record { 0 = a.target }) (record { 0 = a.detail }) else
@@ -88,7 +88,7 @@ facts_in a =
     facts.None
 
 -- the name of a mapping
-abbrev pub named : Answer → Name
+abbrev pub named : EncodedAnswer → MappingName
 named a =
     record {
       handle = record { serial = a.value; key = a.more };
@@ -97,7 +97,7 @@ named a =
     }
 
 -- what an answer that is Ok gives
-abbrev pub decoded_answer : Answer → Outcome
+abbrev pub decoded_answer : EncodedAnswer → AttachedOutcome
 decoded_answer a =
     if a.kind == 1 then Mapped (named a) else
     if a.kind == 2 then Frames a.value else
@@ -108,7 +108,7 @@ decoded_answer a =
     Done
 
 -- the outcome that an answer says
-abbrev pub decoded : Answer → Outcome
+abbrev pub decoded : EncodedAnswer → AttachedOutcome
 decoded a =
     if a.rule == 256 then NoDomain else
     if a.rule == 257 then Busy else
@@ -121,4 +121,4 @@ decoded a =
 
 -- each outcome is read back from its answer
 abbrev pub AnswersAreReadBack : Type 0
-AnswersAreReadBack = (o : Outcome) → decoded (encoded o) ≡ o
+AnswersAreReadBack = (o : AttachedOutcome) → decoded (encoded o) ≡ o

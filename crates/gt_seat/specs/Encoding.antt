@@ -11,12 +11,12 @@ use Rattle.gt_types.specs.declared.denial.Facts.TheVariants as facts
 use Rattle.gt_types.specs.declared.denial.Field.{Field}
 use Rattle.gt_types.specs.declared.denial.Field.TheVariants as fields
 use Rattle.gt_types.specs.Denial.{rule_number, status_number}
-use Rattle.gt_seat.specs.declared.answer.Answer.{Answer}
-use Rattle.gt_seat.specs.declared.answer.Name.{Name}
-use Rattle.gt_seat.specs.declared.answer.Outcome.{Outcome}
-use Rattle.gt_seat.specs.declared.answer.Outcome.TheVariants.{Done, Mapped, Frames, Version, Size as SizeOf, Denied}
-use Rattle.gt_seat.specs.declared.answer.Outcome.TheVariants.{NoDomain, Busy, NoMemory, NoCopy, Absent, NullPointer}
-use Rattle.gt_seat.specs.declared.answer.Outcome.TheVariants.{Left, Taken as TakenRecords}
+use Rattle.gt_seat.specs.declared.answer.EncodedAnswer.{EncodedAnswer}
+use Rattle.gt_seat.specs.declared.answer.MappingName.{MappingName}
+use Rattle.gt_seat.specs.declared.answer.AttachedOutcome.{AttachedOutcome}
+use Rattle.gt_seat.specs.declared.answer.AttachedOutcome.TheVariants.{Done, Mapped, Frames, Version, Size as SizeOf, Denied}
+use Rattle.gt_seat.specs.declared.answer.AttachedOutcome.TheVariants.{NoDomain, Busy, NoMemory, NoCopy, Absent, NullPointer}
+use Rattle.gt_seat.specs.declared.answer.AttachedOutcome.TheVariants.{Left, Taken as TakenRecords}
 
 -- the number of a field of an entry's bytes
 abbrev pub field_number : Field → ℕ
@@ -31,7 +31,7 @@ field_number fields.SubPage = 8
 field_number fields.Reserved = 9
 
 -- an answer that says nothing but its rule and status
-abbrev pub bare : ℕ → ℤ → Answer
+abbrev pub bare : ℕ → ℤ → EncodedAnswer
 bare rule status =
     record {
       rule = rule;
@@ -48,11 +48,11 @@ bare rule status =
     }
 
 -- Ok with a value: what it is, and its one or two numbers
-abbrev pub given : ℕ → ℕ → ℕ → Answer
+abbrev pub given : ℕ → ℕ → ℕ → EncodedAnswer
 given kind value more = record (bare 0 (pos 0)) { kind = kind; value = value; more = more }
 
 -- Ok with the name of a mapping
-abbrev pub mapped : Name → Answer
+abbrev pub mapped : MappingName → EncodedAnswer
 mapped name =
     record (given 1 name.handle.serial name.handle.key) {
       dom = name.dom.0;
@@ -60,7 +60,7 @@ mapped name =
     }
 
 -- an answer with what a refusal rests on
-abbrev pub with_facts : Facts → Answer → Answer
+abbrev pub with_facts : Facts → EncodedAnswer → EncodedAnswer
 with_facts facts.None a = a
 with_facts (facts.Policy source target perm) a =
     record a { kind = 5; source = source.0; target = target.0; detail = perm.0 }
@@ -69,11 +69,11 @@ with_facts (facts.Header dom word) a = record a { kind = 7; dom = dom.0; word = 
 with_facts (facts.Entry dom gref word) a = record a { kind = 8; dom = dom.0; gref = gref.0; word = word }
 
 -- a refusal
-abbrev pub refusal : Denial → Answer
+abbrev pub refusal : Denial → EncodedAnswer
 refusal d = with_facts d.facts (bare (rule_number d.rule) (status_number d.status))
 
 -- the answer that says this outcome
-abbrev pub encoded : Outcome → Answer
+abbrev pub encoded : AttachedOutcome → EncodedAnswer
 encoded Done = bare 0 (pos 0)
 encoded (Mapped name) = mapped name
 encoded (Frames frames) = given 2 frames 0

@@ -2,18 +2,18 @@
 use Rattle.std.specs.Prelude.{ℕ, Some, None}
 use Rattle.gt_audit.specs.declared.record.Hypercall.{Hypercall}
 use Rattle.gt_audit.specs.declared.record.Hypercall.TheVariants as calls
-use Rattle.gt_audit.specs.declared.record.Record.{Record as Kept}
+use Rattle.gt_audit.specs.declared.record.Record.{EncodedRecord as Kept}
 use Rattle.gt_audit.specs.declared.record.Reply.{Reply}
 use Rattle.gt_audit.specs.declared.record.Reply.TheVariants as replies
 use Rattle.gt_types.specs.declared.copies.End.{End}
 use Rattle.gt_seat.specs.Encoding.{encoded}
-use Rattle.gt_seat.specs.declared.answer.Outcome.{Outcome}
-use Rattle.gt_seat.specs.declared.answer.Outcome.TheVariants as outcomes
+use Rattle.gt_seat.specs.declared.answer.AttachedOutcome.{AttachedOutcome}
+use Rattle.gt_seat.specs.declared.answer.AttachedOutcome.TheVariants as outcomes
 use Rattle.gt_seat.specs.declared.record.CopyEnd.{CopyEnd}
-use Rattle.gt_seat.specs.declared.record.Record.{Record}
+use Rattle.gt_seat.specs.declared.record.EncodedRecord.{EncodedRecord}
 
 -- the outcome that a reply says
-abbrev pub outcome_of_reply : Reply → Outcome
+abbrev pub outcome_of_reply : Reply → AttachedOutcome
 outcome_of_reply replies.Done = outcomes.Done
 outcome_of_reply (replies.Frames frames) = outcomes.Frames frames
 outcome_of_reply (replies.Size size) = outcomes.Size size
@@ -29,7 +29,7 @@ abbrev pub no_end : CopyEnd
 no_end = record { ptr = 0; dom = 0; off = 0 }
 
 -- a record that says nothing but who called and what was answered
-abbrev pub plainly : Kept → Record
+abbrev pub plainly : Kept → EncodedRecord
 plainly r =
     record {
       call = 0;
@@ -44,7 +44,7 @@ plainly r =
     }
 
 -- a record with what was called
-abbrev pub with_call : Hypercall → Record → Record
+abbrev pub with_call : Hypercall → EncodedRecord → EncodedRecord
 with_call (calls.Map dom gref flags) r = record r { call = 1; dom = dom.0; gref = gref.0; flags = flags }
 with_call (calls.Unmap (Some (dom, gref))) r = record r { call = 2; dom = dom.0; gref = gref.0 }
 with_call (calls.Unmap None) r = record r { call = 3 }
@@ -56,5 +56,5 @@ with_call (calls.SetVersion version) r = record r { call = 7; flags = version }
 with_call (calls.SetupTable frames) r = record r { call = 8; flags = frames }
 
 -- the record, as C reads it
-abbrev pub record_kept : Kept → Record
+abbrev pub record_kept : Kept → EncodedRecord
 record_kept r = with_call r.call (plainly r)

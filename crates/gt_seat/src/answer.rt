@@ -9,7 +9,7 @@ use gt_types::{Denial, DomId, Facts, Field, Size};
 
 /// The name of a mapping: its handle, the domain that has it, and the number that its run was given.
 #[derive(Clone, Copy)]
-pub struct Name {
+pub struct MappingName {
     pub handle: Handle,
     pub dom: DomId,
     pub run: u32,
@@ -17,25 +17,25 @@ pub struct Name {
 
 /// What a domain leaves behind: how many of its records were lost, and how many of its entries are still in use.
 #[derive(Clone, Copy)]
-pub struct Remains {
+pub struct Departure {
     pub lost: u64,
     pub in_use: u64,
 }
 
 /// What was taken from a domain: how many records, and how many were lost before.
 #[derive(Clone, Copy)]
-pub struct Taken {
+pub struct TakenCounts {
     pub records: u64,
     pub lost: u64,
 }
 
 /// What a call answered.
 #[derive(Clone, Copy)]
-pub enum Outcome {
+pub enum AttachedOutcome {
     /// Ok, without a value.
     Done,
     /// Ok: the mapping has this name.
-    Mapped(Name),
+    Mapped(MappingName),
     /// Ok: the table has this many frames.
     Frames(u32),
     /// Ok: the table has this version.
@@ -57,15 +57,15 @@ pub enum Outcome {
     /// A pointer is null: the call was not made.
     NullPointer,
     /// Ok: the domain has left its place, and this remains.
-    Left(Remains),
+    Left(Departure),
     /// Ok: its records were taken.
-    Taken(Taken),
+    TakenCounts(TakenCounts),
 }
 
 /// What a call answered, in a layout that C reads. A field that says nothing is 0.
 #[repr(C)]
 #[derive(Clone, Copy)]
-pub struct Answer {
+pub struct EncodedAnswer {
     /// 0 if the call is Ok, the number of the rule from 1 to 26 if it is refused, or else one of [`NO_DOMAIN`],
     /// [`BUSY`], [`NO_MEMORY`], [`NO_COPY`], [`ABSENT`] and [`NULL_POINTER`].
     pub rule: u32,
@@ -111,7 +111,7 @@ pub const ABSENT: u32 = 260;
 /// The rule of an answer to a call that was not made, since a pointer is null.
 pub const NULL_POINTER: u32 = 261;
 
-const DONE: Answer = Answer {
+const DONE: EncodedAnswer = EncodedAnswer {
     rule: 0,
     status: 0,
     kind: 0,
@@ -143,17 +143,17 @@ fn field_number(field: Field) -> u32
 }
 
 // An answer that only has a rule.
-fn by_rule(rule: u32) -> Answer
+fn by_rule(rule: u32) -> EncodedAnswer
     ensures { result ≡ bare rule (pos 0) }
 {
-    Answer { rule, ..DONE }
+    EncodedAnswer { rule, ..DONE }
 }
 
 // A refusal.
-fn refusal(denial: Denial) -> Answer
+fn refusal(denial: Denial) -> EncodedAnswer
     ensures { result ≡ refusal denial }
 {
-    let bare = Answer {
+    let bare = EncodedAnswer {
         rule: u32::from(denial.rule.number()),
         status: i32::from(denial.status.number()),
         ..DONE
@@ -164,25 +164,25 @@ fn refusal(denial: Denial) -> Answer
             source,
             target,
             perm,
-        } => Answer {
+        } => EncodedAnswer {
             kind: 5,
             source: u32::from(source.0),
             target: u32::from(target.0),
             detail: u32::from(perm.bits()),
             ..bare
         },
-        Facts::Field(field) => Answer {
+        Facts::Field(field) => EncodedAnswer {
             kind: 6,
             detail: field_number(field),
             ..bare
         },
-        Facts::Header { dom, word } => Answer {
+        Facts::Header { dom, word } => EncodedAnswer {
             kind: 7,
             dom: u32::from(dom.0),
             word,
             ..bare
         },
-        Facts::Entry { dom, gref, word } => Answer {
+        Facts::Entry { dom, gref, word } => EncodedAnswer {
             kind: 8,
             dom: u32::from(dom.0),
             gref: gref.0,
@@ -193,10 +193,10 @@ fn refusal(denial: Denial) -> Answer
 }
 
 // Ok, with a value.
-fn given(kind: u32, value: u64, more: u64) -> Answer
+fn given(kind: u32, value: u64, more: u64) -> EncodedAnswer
     ensures { result ≡ given kind value more }
 {
-    Answer {
+    EncodedAnswer {
         kind,
         value,
         more,
@@ -206,10 +206,10 @@ fn given(kind: u32, value: u64, more: u64) -> Answer
 
 // Ok, with the name of a mapping.
 #[inline(always)]
-fn mapped(name: Name) -> Answer
+fn mapped(name: MappingName) -> EncodedAnswer
     ensures { result ≡ mapped name }
 {
-    Answer {
+    EncodedAnswer {
         kind: 1,
         dom: u32::from(name.dom.0),
         detail: name.run,
@@ -219,30 +219,30 @@ fn mapped(name: Name) -> Answer
     }
 }
 
-impl Answer {
+impl EncodedAnswer {
     ghost use Rattle.std.specs.Prelude.{◌≡◌};
     ghost use Rattle.gt_seat.specs.Encoding.{encoded};
 
     /// The outcome, as C reads it.
     #[inline(always)]
-    pub fn of(outcome: Outcome) -> Answer
+    pub fn of(outcome: AttachedOutcome) -> EncodedAnswer
         ensures { result ≡ encoded outcome }
     {
         match outcome {
-            Outcome::Done => DONE,
-            Outcome::Mapped(name) => mapped(name),
-            Outcome::Frames(frames) => given(2, u64::from(frames), 0),
-            Outcome::Version(version) => given(3, u64::from(version), 0),
-            Outcome::Size(size) => given(4, u64::from(size.frames), u64::from(size.max)),
-            Outcome::Denied(denial) => refusal(denial),
-            Outcome::NoDomain => by_rule(NO_DOMAIN),
-            Outcome::Busy => by_rule(BUSY),
-            Outcome::NoMemory => by_rule(NO_MEMORY),
-            Outcome::NoCopy => by_rule(NO_COPY),
-            Outcome::Absent => by_rule(ABSENT),
-            Outcome::NullPointer => by_rule(NULL_POINTER),
-            Outcome::Left(remains) => given(9, remains.lost, remains.in_use),
-            Outcome::Taken(taken) => given(10, taken.records, taken.lost),
+            AttachedOutcome::Done => DONE,
+            AttachedOutcome::Mapped(name) => mapped(name),
+            AttachedOutcome::Frames(frames) => given(2, u64::from(frames), 0),
+            AttachedOutcome::Version(version) => given(3, u64::from(version), 0),
+            AttachedOutcome::Size(size) => given(4, u64::from(size.frames), u64::from(size.max)),
+            AttachedOutcome::Denied(denial) => refusal(denial),
+            AttachedOutcome::NoDomain => by_rule(NO_DOMAIN),
+            AttachedOutcome::Busy => by_rule(BUSY),
+            AttachedOutcome::NoMemory => by_rule(NO_MEMORY),
+            AttachedOutcome::NoCopy => by_rule(NO_COPY),
+            AttachedOutcome::Absent => by_rule(ABSENT),
+            AttachedOutcome::NullPointer => by_rule(NULL_POINTER),
+            AttachedOutcome::Left(remains) => given(9, remains.lost, remains.in_use),
+            AttachedOutcome::Taken(taken) => given(10, taken.records, taken.lost),
         }
     }
 }

@@ -3,11 +3,11 @@ ghost use Rattle.std.specs.Prelude.{◌≡◌};
 ghost use Rattle.gt_live.specs.Domains.{BelongsTo};
 ghost use Rattle.gt_seat.specs.Seated.{Leaves, StandsBy};
 
-use crate::answer::{Remains, Taken};
+use crate::answer::{Departure, TakenCounts};
 use gt_audit::{Record, Trail};
-use gt_calls::{CopyArgs, Handle, Held, Spot};
+use gt_calls::{CopyArgs, Handle, HeldPin, Spot};
 use gt_entry::{Control, Entry};
-use gt_live::{Domain, Halfway, Monitor};
+use gt_live::{Domain, PendingCopy, Monitor};
 use gt_types::{Allows, Denial, DomId, GrantRef, Memory, Size};
 use std::alloc::Global;
 use std::marker::Model;
@@ -15,7 +15,7 @@ use std::sync::Arc;
 
 /// Where a copy at its access may read and write: so many bytes from the one place to the other.
 #[derive(Clone, Copy)]
-pub struct Places {
+pub struct CopyPlaces {
     pub from: Spot,
     pub to: Spot,
     pub len: u16,
@@ -23,14 +23,14 @@ pub struct Places {
 
 /// A domain beside an owner of its monitor, and the copy that it is in, if it is in one. It closes its table and leaves
 /// the run if it is let go. A contract sees these three.
-pub struct Guest<P: Allows + Drop> {
+pub struct AttachedDomain<P: Allows + Drop> {
     monitor: Arc<Monitor<P>, Global>,
     domain: Domain,
-    copying: Option<Halfway>,
+    copying: Option<PendingCopy>,
 }
 
 // Gives back the pins of the copy that the domain is in, if it is in one.
-fn settle<P: Allows>(monitor: &Monitor<P>, domain: &mut Domain, copying: Option<Halfway>)
+fn settle<P: Allows>(monitor: &Monitor<P>, domain: &mut Domain, copying: Option<PendingCopy>)
     requires { StandsBy P.may monitor.now domain.old copying }
     ensures { BelongsTo P.may monitor.now domain.new }
 {
@@ -40,17 +40,17 @@ fn settle<P: Allows>(monitor: &Monitor<P>, domain: &mut Domain, copying: Option<
 }
 
 // The domain gives up its mappings, closes its table and leaves its run.
-fn depart<P: Allows>(monitor: &Monitor<P>, domain: Domain) -> Remains
+fn depart<P: Allows>(monitor: &Monitor<P>, domain: Domain) -> Departure
     requires { BelongsTo P.may monitor.now domain }
     ensures { Leaves P.may monitor.now domain result }
 {
     let mut domain = domain;
     let in_use = domain.reset(monitor) as u64;
     let lost = domain.finish(monitor).lost();
-    Remains { lost, in_use }
+    Departure { lost, in_use }
 }
 
-impl<P: Allows + Drop> Model for Guest<P> {
+impl<P: Allows + Drop> Model for AttachedDomain<P> {
     ghost use Rattle.std.specs.Arc.{arc_value};
     ghost use Rattle.gt_seat.specs.Seated.{Seated, StandsBy};
 
@@ -61,9 +61,9 @@ impl<P: Allows + Drop> Model for Guest<P> {
     ghost invariant = { λ g. StandsBy P.may (arc_value g.monitor) g.domain g.copying };
 }
 
-impl<P: Allows + Drop> Drop for Guest<P> {
+impl<P: Allows + Drop> Drop for AttachedDomain<P> {
     fn drop(self) {
-        let Guest {
+        let AttachedDomain {
             monitor,
             mut domain,
             copying,
@@ -73,11 +73,11 @@ impl<P: Allows + Drop> Drop for Guest<P> {
     }
 }
 
-impl<P: Allows + Drop> Guest<P> {
+impl<P: Allows + Drop> AttachedDomain<P> {
     ghost use Rattle.std.specs.Prelude.{◌≡◌, ◌≤◌, IsSome, None, OnOk, OnErr, is_some};
     ghost use Rattle.gt_audit.specs.Telling.{HasNone, Tells};
     ghost use Rattle.gt_audit.specs.declared.record.Hypercall.TheVariants as Hypercall;
-    ghost use Rattle.gt_calls.specs.declared.held.Held.{Held as Mapping};
+    ghost use Rattle.gt_calls.specs.declared.held.HeldPin.{HeldPin as Mapping};
     ghost use Rattle.gt_calls.specs.declared.request.Request.TheVariants as Request;
     ghost use Rattle.gt_live.specs.Domains.{Answered, AnswersQuietly, AnswersTold};
     ghost use Rattle.gt_live.specs.Closing.{LooksAtOwn, Resets};
@@ -95,7 +95,7 @@ impl<P: Allows + Drop> Guest<P> {
         requires { BelongsTo P.may (arc_value monitor) domain }
         ensures { result ≡ record { monitor = arc_value monitor; domain = domain; copying = None } }
     {
-        Guest {
+        AttachedDomain {
             monitor,
             domain,
             copying: None,
@@ -272,7 +272,7 @@ impl<P: Allows + Drop> Guest<P> {
     }
 
     /// The mapping under a handle, None if the handle names none of its mappings.
-    pub fn mapping(&self, handle: Handle) -> Option<Held>
+    pub fn mapping(&self, handle: Handle) -> Option<HeldPin>
         requires idle { self.now.copying ≡ None }
         ensures { result ≡ value_of self.now.domain.mappings handle }
     {
@@ -331,14 +331,14 @@ impl<P: Allows + Drop> Guest<P> {
     ///
     /// # Errors
     /// The first rule that stands. Then no pin is kept.
-    pub fn copy_begin(&mut self, copy: &CopyArgs) -> Result<Places, Denial>
+    pub fn copy_begin(&mut self, copy: &CopyArgs) -> Result<CopyPlaces, Denial>
         requires idle { self.old.copying ≡ None }
         ensures begins { BeginsAccess P.may self.old copy.now result self.new }
     {
         match self.domain.copy_begin(&self.monitor, copy) {
             Ok(halfway) => {
                 self.copying = Some(halfway);
-                Ok(Places {
+                Ok(CopyPlaces {
                     from: halfway.from,
                     to: halfway.to,
                     len: halfway.len,
@@ -362,11 +362,11 @@ impl<P: Allows + Drop> Guest<P> {
 
     /// Leaves the run: each of its mappings is given up, and its pin back, and then each of its valid entries is
     /// withdrawn. Answers how many records were lost, and how many of its entries are still in use by others.
-    pub fn finish(self) -> Remains
+    pub fn finish(self) -> Departure
         requires idle { self.copying ≡ None }
         ensures leaves { Leaves P.may self.monitor self.domain result }
     {
-        let Guest {
+        let AttachedDomain {
             monitor,
             domain,
             copying: _,
@@ -376,7 +376,7 @@ impl<P: Allows + Drop> Guest<P> {
 
     /// Gives up each of its mappings, and closes its table, for the next guest in its place. Its records stay. Answers
     /// how many were lost, and how many of its entries are still in use.
-    pub fn reset(&mut self) -> Remains
+    pub fn reset(&mut self) -> Departure
         requires idle { self.old.copying ≡ None }
         ensures stays { StaysIdle self.old self.new }
         ensures resets { Resets P.may self.old.monitor self.old.domain result.in_use self.new.domain }
@@ -384,7 +384,7 @@ impl<P: Allows + Drop> Guest<P> {
     {
         let in_use = self.domain.reset(&self.monitor) as u64;
         let lost = self.domain.trail().lost();
-        Remains { lost, in_use }
+        Departure { lost, in_use }
     }
 
     /// One look at an entry of its own: its kind, its generation and its pins of each kind. None if its table has no
@@ -398,7 +398,7 @@ impl<P: Allows + Drop> Guest<P> {
     }
 
     /// Lets its records go, and keeps their room. Answers how many there were, and how many were lost before.
-    pub fn take_records(&mut self, alloc: Global) -> Taken
+    pub fn take_records(&mut self, alloc: Global) -> TakenCounts
         requires idle { self.old.copying ≡ None }
         ensures stays { StaysIdle self.old self.new }
         ensures taken { result ≡ taken_of self.old.domain.trail }
@@ -407,7 +407,7 @@ impl<P: Allows + Drop> Guest<P> {
         ensures kept { self.new.domain ≡ record self.old.domain { trail = self.new.domain.trail } }
     {
         let mut records = self.domain.take_records(Trail::new(alloc));
-        let taken = Taken {
+        let taken = TakenCounts {
             records: records.len() as u64,
             lost: records.lost(),
         };

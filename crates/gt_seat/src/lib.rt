@@ -1,11 +1,11 @@
 //! A domain beside its monitor, as a caller outside Rattle holds it.
 //!
-//! [`start`] makes a run and gives a [`Guest`] for each domain: the domain, beside an owner of the monitor that all of
+//! [`start`] makes a run and gives a [`AttachedDomain`] for each domain: the domain, beside an owner of the monitor that all of
 //! them share. A guest needs no monitor in its calls, leaves the run if it is let go, and the last one frees the
-//! monitor. [`Answer`] is what a call answered, in a layout that C reads.
+//! monitor. [`EncodedAnswer`] is what a call answered, in a layout that C reads.
 //!
 //! What holds: each call promises what the call of `gt_live` promises, on the guest's own monitor. A copy in two halves
-//! holds its pins from the one to the other. An [`Answer`] says all that the call answered, since it is read back as it
+//! holds its pins from the one to the other. An [`EncodedAnswer`] says all that the call answered, since it is read back as it
 //! was. None of these calls waits.
 //!
 //! It uses `gt_live`, `gt_calls` (handles), `gt_entry` (entries) and `gt_types`.
@@ -16,7 +16,7 @@ mod guest;
 mod record;
 mod starting;
 
-pub use answer::{Answer, Name, Outcome, Remains, Taken, answers_are_read_back};
-pub use guest::{Guest, Places};
-pub use record::{CopyEnd, Record};
+pub use answer::{EncodedAnswer, MappingName, AttachedOutcome, Departure, TakenCounts, answers_are_read_back};
+pub use guest::{AttachedDomain, CopyPlaces};
+pub use record::{CopyEnd, EncodedRecord};
 pub use starting::start;

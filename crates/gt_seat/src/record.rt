@@ -2,7 +2,7 @@
 ghost use Rattle.std.specs.Prelude.{◌≡◌};
 ghost use Rattle.gt_seat.specs.Recording.{end_recorded, record_kept, outcome_of_reply};
 
-use crate::answer::{Answer, Outcome};
+use crate::answer::{EncodedAnswer, AttachedOutcome};
 use gt_audit::{Hypercall, Reply};
 use gt_types::End;
 
@@ -18,7 +18,7 @@ pub struct CopyEnd {
 /// The record of a call, in a layout that C reads. A field that says nothing is 0.
 #[repr(C)]
 #[derive(Clone, Copy)]
-pub struct Record {
+pub struct EncodedRecord {
     /// What was called: 1 a map, 2 an unmap of a mapping, 3 an unmap of none, 4 a copy, 5 a size, 6 a version that is
     /// asked, 7 a version that is set, 8 a setup.
     pub call: u32,
@@ -35,7 +35,7 @@ pub struct Record {
     pub source: CopyEnd,
     pub dest: CopyEnd,
     /// What was answered; a map's handle is left out.
-    pub reply: Answer,
+    pub reply: EncodedAnswer,
 }
 
 const NO_END: CopyEnd = CopyEnd {
@@ -45,15 +45,15 @@ const NO_END: CopyEnd = CopyEnd {
 };
 
 // What a record keeps of an answer.
-fn replied(reply: Reply) -> Outcome
+fn replied(reply: Reply) -> AttachedOutcome
     ensures { result ≡ outcome_of_reply reply }
 {
     match reply {
-        Reply::Done => Outcome::Done,
-        Reply::Frames(frames) => Outcome::Frames(frames),
-        Reply::Size(size) => Outcome::Size(size),
-        Reply::Version(version) => Outcome::Version(version),
-        Reply::Denied(denial) => Outcome::Denied(denial),
+        Reply::Done => AttachedOutcome::Done,
+        Reply::Frames(frames) => AttachedOutcome::Frames(frames),
+        Reply::Size(size) => AttachedOutcome::Size(size),
+        Reply::Version(version) => AttachedOutcome::Version(version),
+        Reply::Denied(denial) => AttachedOutcome::Denied(denial),
     }
 }
 
@@ -67,15 +67,15 @@ fn end_recorded(end: End) -> CopyEnd
     }
 }
 
-impl Record {
+impl EncodedRecord {
     ghost use Rattle.std.specs.Prelude.{◌≡◌};
     ghost use Rattle.gt_seat.specs.Recording.{record_kept};
 
     /// The record, as C reads it.
-    pub fn of(told: gt_audit::Record) -> Record
+    pub fn of(told: gt_audit::Record) -> EncodedRecord
         ensures { result ≡ record_kept told }
     {
-        let bare = Record {
+        let bare = EncodedRecord {
             call: 0,
             caller: u32::from(told.dom.0),
             dom: 0,
@@ -84,10 +84,10 @@ impl Record {
             len: 0,
             source: NO_END,
             dest: NO_END,
-            reply: Answer::of(replied(told.reply)),
+            reply: EncodedAnswer::of(replied(told.reply)),
         };
         match told.call {
-            Hypercall::Map { dom, gref, flags } => Record {
+            Hypercall::Map { dom, gref, flags } => EncodedRecord {
                 call: 1,
                 dom: u32::from(dom.0),
                 gref: gref.0,
@@ -96,19 +96,19 @@ impl Record {
             },
             Hypercall::Unmap {
                 subject: Some((dom, gref)),
-            } => Record {
+            } => EncodedRecord {
                 call: 2,
                 dom: u32::from(dom.0),
                 gref: gref.0,
                 ..bare
             },
-            Hypercall::Unmap { subject: None } => Record { call: 3, ..bare },
+            Hypercall::Unmap { subject: None } => EncodedRecord { call: 3, ..bare },
             Hypercall::Copy {
                 source,
                 dest,
                 len,
                 flags,
-            } => Record {
+            } => EncodedRecord {
                 call: 4,
                 flags: u32::from(flags),
                 len: u32::from(len),
@@ -116,22 +116,22 @@ impl Record {
                 dest: end_recorded(dest),
                 ..bare
             },
-            Hypercall::QuerySize { dom } => Record {
+            Hypercall::QuerySize { dom } => EncodedRecord {
                 call: 5,
                 dom: u32::from(dom.0),
                 ..bare
             },
-            Hypercall::GetVersion { dom } => Record {
+            Hypercall::GetVersion { dom } => EncodedRecord {
                 call: 6,
                 dom: u32::from(dom.0),
                 ..bare
             },
-            Hypercall::SetVersion { version } => Record {
+            Hypercall::SetVersion { version } => EncodedRecord {
                 call: 7,
                 flags: version,
                 ..bare
             },
-            Hypercall::SetupTable { frames } => Record {
+            Hypercall::SetupTable { frames } => EncodedRecord {
                 call: 8,
                 flags: frames,
                 ..bare

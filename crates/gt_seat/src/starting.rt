@@ -6,7 +6,7 @@ ghost use Rattle.gt_live.specs.Domains.{BelongsTo};
 ghost use Rattle.gt_seat.specs.Starting.{AreNewGuests, beside};
 ghost use Rattle.std.specs.Arc.{arc_value};
 
-use crate::guest::Guest;
+use crate::guest::AttachedDomain;
 use gt_live::{Domain, Monitor};
 use gt_types::{Allows, Config, StartFault};
 use std::alloc::{AllocError, Global};
@@ -28,7 +28,7 @@ fn all_guests<P: Allows + Drop>(
     alloc: Global,
     monitor: &Arc<Monitor<P>, Global>,
     domains: Vec<Domain>,
-) -> Result<Vec<Guest<P>>, AllocError>
+) -> Result<Vec<AttachedDomain<P>>, AllocError>
     requires { All (λ d. BelongsTo P.may (arc_value monitor.now) d) domains.items }
     ensures { IfOk result (λ v. v.items ≡ map (beside (arc_value monitor.now)) domains.items) }
 {
@@ -37,11 +37,11 @@ fn all_guests<P: Allows + Drop>(
         finish_all(monitor, domains);
         return Err(AllocError);
     };
-    let mut all: Vec<Guest<P>> = room;
+    let mut all: Vec<AttachedDomain<P>> = room;
     let mut rest = domains.into_iter();
     'rest: while let Some(domain) = rest.next() {
         match Arc::try_clone(monitor) {
-            Ok(own) => all.push_reserved(Guest::new(own, domain)),
+            Ok(own) => all.push_reserved(AttachedDomain::new(own, domain)),
             Err(_) => {
                 let _ = domain.finish(monitor);
             }
@@ -64,7 +64,7 @@ pub fn start<P: Allows + Drop>(
     alloc: Global,
     config: Config,
     rights: P,
-) -> Result<Vec<Guest<P>>, StartFault>
+) -> Result<Vec<AttachedDomain<P>>, StartFault>
     ensures ok { OnOk result (IsWithinLimits config) }
     ensures guests { IfOk result (λ v. AreNewGuests P.may config rights v.items) }
     ensures count { IfOk result (λ v. length v.items ≡ length config.domains.items) }

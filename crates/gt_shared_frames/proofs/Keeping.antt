@@ -16,9 +16,9 @@ use Rattle.gt_words.specs.Views.{IsAmong}
 use Rattle.gt_words.specs.declared.view.FrameStep.{FrameStep}
 use Rattle.gt_words.specs.declared.view.SeatStep.{SeatStep}
 use Rattle.gt_words.specs.declared.view.SeatStep.TheVariants.{Entry, Frame, Header}
-use Rattle.gt_shared_frames.specs.declared.table.Holder.{Holder}
+use Rattle.gt_shared_frames.specs.declared.table.FrameHolder.{FrameHolder}
 use Rattle.gt_shared_frames.specs.Bytes.{IsOnWords, SaysBytes, journal_after, journal_by, journal_made}
-use Rattle.gt_shared_frames.specs.Rule.{AreOnce, Cell, FrameAt, Has, IsNamed, Kept, Places, lock_place, made}
+use Rattle.gt_shared_frames.specs.Rule.{AreOnce, Cell, FrameAt, Has, IsNamed, FramesAreKept, Places, lock_place, made}
 use Rattle.gt_shared_frames.specs.Telling.{AreLeft}
 
 pub has_of : (p : ℕ × FrameState) (ps : List (ℕ × FrameState)) → IsAmong p ps → Has p.0 ps
@@ -64,25 +64,25 @@ no_bytes k h (Frame d q m) is = absurd is
 one_lock : (b : Places) (a q : ℕ) → lock_place b a ≡ lock_place b q → a ≡ q
 one_lock b a q e = let t : ℕ = header_place b.layout.domains in let f : t + 8 * a ≡ t + 8 * q = e in omega arith
 
-module _ (s : State Cell Holder) (id : ℕ) (w : Holder) where
+module _ (s : State Cell FrameHolder) (id : ℕ) (w : FrameHolder) where
   -- what holds of each view after one was set
-  each_view : (P : ℕ → Holder → Type 0) → P id w → ((j : ℕ) (u : Holder) → j ≢ id → get_elem? s.views j ≡ some u → P j u) → (j : ℕ) (u : Holder) → get_elem? (set s.views id w) j ≡ some u → P j u
-  each_view P here else j u e = ⊎_elim (λ (t : (j ≡ id) × (w ≡ u)). subst (λ (z : ℕ × Holder). P z.0 z.1) (λ i. (sym t.0 i, t.1 i)) here)
+  each_view : (P : ℕ → FrameHolder → Type 0) → P id w → ((j : ℕ) (u : FrameHolder) → j ≢ id → get_elem? s.views j ≡ some u → P j u) → (j : ℕ) (u : FrameHolder) → get_elem? (set s.views id w) j ≡ some u → P j u
+  each_view P here else j u e = ⊎_elim (λ (t : (j ≡ id) × (w ≡ u)). subst (λ (z : ℕ × FrameHolder). P z.0 z.1) (λ i. (sym t.0 i, t.1 i)) here)
       (λ (t : (j ≢ id) × (get_elem? s.views j ≡ some u)). else j u t.0 t.1) (at_set s.views id j w u e)
 
-module _ (b : Places) (h : StepHistory) (s : State Cell Holder) (kept : Kept b h s) (id : ℕ) (v : Holder) (at : get_elem? s.views id ≡ some v) where
+module _ (b : Places) (h : StepHistory) (s : State Cell FrameHolder) (kept : FramesAreKept b h s) (id : ℕ) (v : FrameHolder) (at : get_elem? s.views id ≡ some v) where
   one_name : (q a : ℕ) (n c : FrameAt) → IsNamed b q n → IsNamed b a c → a ≡ q → n ≡ c
   one_name q a n c named nm e = some-injective n c (sym named ∙ (ap (get_elem? b.names) (sym e) ∙ nm))
 
   -- a step on words
-  module _ (x : SeatStep) (is : IsOnWords x) (w : Holder) (same : w.held ≡ v.held) (i n : ℕ) (before : i < header_place b.layout.domains) where
+  module _ (x : SeatStep) (is : IsOnWords x) (w : FrameHolder) (same : w.held ≡ v.held) (i n : ℕ) (before : i < header_place b.layout.domains) where
     abbrev next : StepHistory
     next = (id, x) ∷ h
 
     same_made : (c : FrameAt) → made b next c ≡ made b h c
     same_made c = ap (λ (rs : List WriteRecord). record (made b h c) { journal = rs }) (on_words x is c.0 c.1 (journal_made c.0 c.1 h))
 
-    pub words_keep : (carried : List (ℕ × Cell)) → Kept b next (stepped s i n id carried w keeps)
+    pub words_keep : (carried : List (ℕ × Cell)) → FramesAreKept b next (stepped s i n id carried w keeps)
     words_keep carried = record {
       truth = (no_bytes b.layout h x is, kept.truth);
       apart = kept.apart;
@@ -102,14 +102,14 @@ module _ (b : Places) (h : StepHistory) (s : State Cell Holder) (kept : Kept b h
     }
 
   -- a frame is taken
-  module _ (q : ℕ) (n : FrameAt) (named : IsNamed b q n) (y : Cell) (there : get_elem? s.homes q ≡ some (some y)) (lt : q < length b.names) (w : Holder) (more : w.held ≡ (q, made b h n) ∷ v.held) where
+  module _ (q : ℕ) (n : FrameAt) (named : IsNamed b q n) (y : Cell) (there : get_elem? s.homes q ≡ some (some y)) (lt : q < length b.names) (w : FrameHolder) (more : w.held ≡ (q, made b h n) ∷ v.held) where
     abbrev x : FrameState
     x = made b h n
 
     abbrev hs : List (Maybe Cell)
     hs = set s.homes q none
 
-    nobody : {T : Type 0} (j : ℕ) (u : Holder) → get_elem? s.views j ≡ some u → Has q u.held → T
+    nobody : {T : Type 0} (j : ℕ) (u : FrameHolder) → get_elem? s.views j ≡ some u → Has q u.held → T
     nobody j u found has = absurd (at_home y (sym there ∙ kept.out j u q found has))
 
     stays : (a : ℕ) → get_elem? s.homes a ≡ some none → get_elem? hs a ≡ some none
@@ -124,11 +124,11 @@ module _ (b : Places) (h : StepHistory) (s : State Cell Holder) (kept : Kept b h
     out_more a (inl e) = subst (λ (z : ℕ). get_elem? hs z ≡ some none) e (set_here s.homes q none (within s.homes q (some y) there))
     out_more a (inr has) = stays a (kept.out id v a at has)
 
-    one_more : (a j : ℕ) (u : Holder) → get_elem? s.views j ≡ some u → Has a ((q, x) ∷ v.held) → Has a u.held → id ≡ j
+    one_more : (a j : ℕ) (u : FrameHolder) → get_elem? s.views j ≡ some u → Has a ((q, x) ∷ v.held) → Has a u.held → id ≡ j
     one_more a j u found (inl e) has = nobody j u found (subst (λ (z : ℕ). Has z u.held) (sym e) has)
     one_more a j u found (inr mine) has = kept.one id j v u a at found mine has
 
-    pub takes_keep : (carried : List (ℕ × Cell)) → Kept b h (stepped s (lock_place b q) 1 id carried w (takes q y))
+    pub takes_keep : (carried : List (ℕ × Cell)) → FramesAreKept b h (stepped s (lock_place b q) 1 id carried w (takes q y))
     takes_keep carried = record {
       truth = kept.truth;
       apart = kept.apart;
@@ -153,7 +153,7 @@ module _ (b : Places) (h : StepHistory) (s : State Cell Holder) (kept : Kept b h
 
   -- a frame is given back, and an access is one more step
   module _ (q : ℕ) (n : FrameAt) (named : IsNamed b q n) (x : FrameState) (hs : List (ℕ × FrameState)) (has : AreLeft q x v.held hs) (m : FrameStep) (y : FrameState) (is : y ≡ record x { journal = journal_by m x.journal })
-      (says : SaysBytes b.layout h (Frame n.0 n.1 m)) (w : Holder) (left : w.held ≡ hs) where
+      (says : SaysBytes b.layout h (Frame n.0 n.1 m)) (w : FrameHolder) (left : w.held ≡ hs) where
     abbrev then : StepHistory
     then = (id, Frame n.0 n.1 m) ∷ h
 
@@ -189,13 +189,13 @@ module _ (b : Places) (h : StepHistory) (s : State Cell Holder) (kept : Kept b h
     not_mine : (a : ℕ) → Has a w.held → a ≢ q
     not_mine a it e = left_without q x v.held hs has was_once (subst (λ (z : ℕ). Has z hs) e (subst (Has a) left it))
 
-    not_theirs : (j : ℕ) (u : Holder) → j ≢ id → get_elem? s.views j ≡ some u → (a : ℕ) → Has a u.held → a ≢ q
+    not_theirs : (j : ℕ) (u : FrameHolder) → j ≢ id → get_elem? s.views j ≡ some u → (a : ℕ) → Has a u.held → a ≢ q
     not_theirs j u ne f a it e = ne (kept.one j id u v q f at (subst (λ (z : ℕ). Has z u.held) e it) mine)
 
-    old : (j : ℕ) (u : Holder) (p : ℕ × FrameState) (c : FrameAt) → get_elem? s.views j ≡ some u → IsAmong p u.held → IsNamed b p.0 c → p.0 ≢ q → p.1 ≡ made b then c
+    old : (j : ℕ) (u : FrameHolder) (p : ℕ × FrameState) (c : FrameAt) → get_elem? s.views j ≡ some u → IsAmong p u.held → IsNamed b p.0 c → p.0 ≢ q → p.1 ≡ made b then c
     old j u p c f among nm ne = kept.values j u p c f among nm ∙ sym (else_made c (other_name p.0 c nm ne))
 
-    pub gives_keep : (carried : List (ℕ × Cell)) → Kept b then (stepped s (lock_place b q) 0 id ((q, Some y) ∷ carried) w gives)
+    pub gives_keep : (carried : List (ℕ × Cell)) → FramesAreKept b then (stepped s (lock_place b q) 0 id ((q, Some y) ∷ carried) w gives)
     gives_keep carried = record {
       truth = (says, kept.truth);
       apart = kept.apart;
@@ -219,7 +219,7 @@ module _ (b : Places) (h : StepHistory) (s : State Cell Holder) (kept : Kept b h
     }
 
   -- a frame is given back as it was taken, and nothing is told
-  module _ (q : ℕ) (n : FrameAt) (named : IsNamed b q n) (x : FrameState) (hs : List (ℕ × FrameState)) (has : AreLeft q x v.held hs) (w : Holder) (left : w.held ≡ hs) where
+  module _ (q : ℕ) (n : FrameAt) (named : IsNamed b q n) (x : FrameState) (hs : List (ℕ × FrameState)) (has : AreLeft q x v.held hs) (w : FrameHolder) (left : w.held ≡ hs) where
     abbrev kept_back : List (Maybe Cell)
     kept_back = set s.homes q (some (Some x))
 
@@ -241,13 +241,13 @@ module _ (b : Places) (h : StepHistory) (s : State Cell Holder) (kept : Kept b h
     kept_else : (a : ℕ) → Has a w.held → a ≢ q
     kept_else a it e = left_without q x v.held hs has kept_once (subst (λ (z : ℕ). Has z hs) e (subst (Has a) left it))
 
-    kept_others : (j : ℕ) (u : Holder) → j ≢ id → get_elem? s.views j ≡ some u → (a : ℕ) → Has a u.held → a ≢ q
+    kept_others : (j : ℕ) (u : FrameHolder) → j ≢ id → get_elem? s.views j ≡ some u → (a : ℕ) → Has a u.held → a ≢ q
     kept_others j u ne f a it e = ne (kept.one j id u v q f at (subst (λ (z : ℕ). Has z u.held) e it) kept_mine)
 
-    kept_old : (j : ℕ) (u : Holder) (p : ℕ × FrameState) (c : FrameAt) → get_elem? s.views j ≡ some u → IsAmong p u.held → IsNamed b p.0 c → p.0 ≢ q → p.1 ≡ made b h c
+    kept_old : (j : ℕ) (u : FrameHolder) (p : ℕ × FrameState) (c : FrameAt) → get_elem? s.views j ≡ some u → IsAmong p u.held → IsNamed b p.0 c → p.0 ≢ q → p.1 ≡ made b h c
     kept_old j u p c f among nm ne = kept.values j u p c f among nm
 
-    pub returns_keep : (carried : List (ℕ × Cell)) → Kept b h (stepped s (lock_place b q) 0 id ((q, Some x) ∷ carried) w gives)
+    pub returns_keep : (carried : List (ℕ × Cell)) → FramesAreKept b h (stepped s (lock_place b q) 0 id ((q, Some x) ∷ carried) w gives)
     returns_keep carried = record {
       truth = kept.truth;
       apart = kept.apart;

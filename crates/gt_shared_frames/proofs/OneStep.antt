@@ -7,7 +7,7 @@ use Rattle.std.specs.Prelude.{slice_index}
 use Rattle.atomic_table.specs.Table.{State, keeps, stepped}
 use Rattle.atomic_table.proofs.Lists.{at_map, at_set, set_again}
 use Rattle.gt_words.specs.History.{HasLedTo, Layout, header_place, place}
-use Rattle.gt_words.specs.Joining.{HoldsSo, whole, whole_views}
+use Rattle.gt_words.specs.Joining.{TableHolds, whole, whole_views}
 use Rattle.gt_words.specs.Rule.{Shows, ShowsEntry, Stands, header_now}
 use Rattle.gt_words.specs.Views.{steps_on, steps_on_header, with_step}
 use Rattle.gt_words.specs.declared.view.EntryStep.{EntryStep}
@@ -81,7 +81,7 @@ module _ (k : Layout) (s : State (Unit {0}) View) (shown : Shows k s) (id : ℕ)
   }
 
 -- the same where seats may be taken in
-module _ (k : Layout) (z : State (Unit {0}) Outlook) (holds : HoldsSo k z) (id : ℕ) (o : Outlook) (at : get_elem? z.views id ≡ some o) (here : o.gone ≡ false) (t f : ℕ) (m : FrameStep) where
+module _ (k : Layout) (z : State (Unit {0}) Outlook) (holds : TableHolds k z) (id : ℕ) (o : Outlook) (at : get_elem? z.views id ≡ some o) (here : o.gone ≡ false) (t f : ℕ) (m : FrameStep) where
   abbrev pub y : Outlook
   y = outlook_after holds.shown.history (Frame t f m) o
 
@@ -91,8 +91,8 @@ module _ (k : Layout) (z : State (Unit {0}) Outlook) (holds : HoldsSo k z) (id :
   pub access_shown : Shows k (stepped (whole z) 0 (slice_index z.words 0) id [] y.own keeps)
   access_shown = shows_access k (whole z) holds.shown id o.own seen_there t f m
 
-  pub holds_access : HoldsSo k (record { words = z.words; homes = z.homes; views = set z.views id y })
-  holds_access = subst (λ (ws : List ℕ). HoldsSo k (record { words = ws; homes = z.homes; views = set z.views id y })) (word_again z.words 0)
+  pub holds_access : TableHolds k (record { words = z.words; homes = z.homes; views = set z.views id y })
+  holds_access = subst (λ (ws : List ℕ). TableHolds k (record { words = ws; homes = z.homes; views = set z.views id y })) (word_again z.words 0)
       (holds_after k z holds id o at here 0 (slice_index z.words 0) [] y keeps refl access_shown)
 
   pub history_goes_on : holds_access.shown.history ≡ (id, Frame t f m) ∷ holds.shown.history

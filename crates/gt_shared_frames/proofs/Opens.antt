@@ -10,9 +10,9 @@ use Rattle.gt_words.specs.Rule.{Stands}
 use Rattle.gt_words.specs.Views.{IsAmong}
 use Rattle.gt_words.specs.declared.view.Outlook.{Outlook}
 use Rattle.gt_words.specs.declared.view.View.{View}
-use Rattle.gt_shared_frames.specs.declared.table.Holder.{Holder}
+use Rattle.gt_shared_frames.specs.declared.table.FrameHolder.{FrameHolder}
 use Rattle.gt_shared_frames.specs.Laws.{FramesOpen}
-use Rattle.gt_shared_frames.specs.Rule.{AreOnce, Has, Kept, hidden, made, newcomer}
+use Rattle.gt_shared_frames.specs.Rule.{AreOnce, Has, FramesAreKept, hidden, made, newcomer}
 
 -- what words and views show says nothing of slots
 other_homes : (k : Layout) (h : StepHistory) (s : State (Unit {0}) View) (hs : List (Maybe (Unit {0}))) → Stands k h s → Stands k h (record { words = s.words; homes = hs; views = s.views })
@@ -25,8 +25,8 @@ other_homes k h s hs is = record {
   led_here = record { parts = is.led_here.parts; no_other = is.led_here.no_other; words = is.led_here.words; true_steps = is.led_here.true_steps };
 }
 
-no_frames : (o : Outlook) (j : ℕ) (v : Holder) → get_elem? (newcomer o ∷ []) j ≡ some v → v.held ≡ []
-no_frames o zero v e = ap (λ (z : Holder). z.held) (sym (some-injective (newcomer o) v e))
+no_frames : (o : Outlook) (j : ℕ) (v : FrameHolder) → get_elem? (newcomer o ∷ []) j ≡ some v → v.held ≡ []
+no_frames o zero v e = ap (λ (z : FrameHolder). z.held) (sym (some-injective (newcomer o) v e))
 no_frames o (suc j) v e = absurd (some-ne-none v (sym e))
 
 pub opens_all : FramesOpen
@@ -35,7 +35,7 @@ opens_all b ws xs o words nothing_yet apart frames many wide = record {
     shown = record { history = words.shown.history; now = other_homes b.layout words.shown.history _ (map hidden (map some xs)) words.shown.now; stood = words.shown.stood };
     taken = words.taken;
   };
-  frames = subst (λ h. Kept b h (opening ws xs (newcomer o))) (sym nothing_yet) (record {
+  frames = subst (λ h. FramesAreKept b h (opening ws xs (newcomer o))) (sym nothing_yet) (record {
     truth = tt;
     apart = apart;
     home = λ q n y named found. sym (some-injective _ y (some-injective (some (Some (made b [] n))) (some y) (sym (at_map some xs q (Some (made b [] n)) (frames q n named)) ∙ found)));

@@ -9,45 +9,45 @@ use Rattle.gt_words.proofs.Joining.{dealt_views, deals_so, first_id, join_any, s
 use Rattle.gt_words.proofs.Moments.{beyond, one_history, one_order}
 use Rattle.gt_words.proofs.Order.{nothing_yet}
 use Rattle.gt_words.specs.History.{Layout, StepHistory, part_of, up_to}
-use Rattle.gt_words.specs.Joining.{HoldsSo, took, whole, whole_views}
+use Rattle.gt_words.specs.Joining.{TableHolds, took, whole, whole_views}
 use Rattle.gt_words.specs.Places.{dealer_after, dealing, dealt_outlook, dealt_to}
 use Rattle.gt_words.specs.Rule.{Shows}
 use Rattle.gt_words.specs.Views.{IsAmong}
 use Rattle.gt_words.specs.declared.view.Outlook.{Outlook}
 use Rattle.gt_words.specs.declared.view.View.{View}
-use Rattle.gt_shared_frames.specs.declared.table.Holder.{Holder}
-use Rattle.gt_shared_frames.specs.Rule.{AreOnce, Cell, Has, HoldsAll, Kept, Places, inner, newcomer, own_of}
+use Rattle.gt_shared_frames.specs.declared.table.FrameHolder.{FrameHolder}
+use Rattle.gt_shared_frames.specs.Rule.{AreOnce, Cell, Has, HoldsAll, FramesAreKept, Places, inner, newcomer, own_of}
 use Rattle.gt_shared_frames.specs.Seats.{SeatsAreDealt, SeatsAreTakenIn, dealer}
 use Rattle.gt_shared_frames.proofs.Steps.{all_by}
 
 -- the view of a seat, as it was or without a frame
-abbrev IsSameHolding : List Holder → ℕ → Holder → Type 0
-IsSameHolding vs j w = ((v : Holder) × (get_elem? vs j ≡ some v) × (w.held ≡ v.held)) ⊎ (w.held ≡ [])
+abbrev IsSameHolding : List FrameHolder → ℕ → FrameHolder → Type 0
+IsSameHolding vs j w = ((v : FrameHolder) × (get_elem? vs j ≡ some v) × (w.held ≡ v.held)) ⊎ (w.held ≡ [])
 
 -- frames are kept while no seat takes or gives one
-views_keep : (b : Places) (h : StepHistory) (s : State Cell Holder) (vs : List Holder) → Kept b h s → ((j : ℕ) (w : Holder) → get_elem? vs j ≡ some w → IsSameHolding s.views j w)
-    → Kept b h (record { words = s.words; homes = s.homes; views = vs })
+views_keep : (b : Places) (h : StepHistory) (s : State Cell FrameHolder) (vs : List FrameHolder) → FramesAreKept b h s → ((j : ℕ) (w : FrameHolder) → get_elem? vs j ≡ some w → IsSameHolding s.views j w)
+    → FramesAreKept b h (record { words = s.words; homes = s.homes; views = vs })
 views_keep b h s vs kept same = record {
   truth = kept.truth;
   apart = kept.apart;
   home = kept.home;
   values = λ j w p n at among named. ⊎_elim
-      (λ (f : (v : Holder) × (get_elem? s.views j ≡ some v) × (w.held ≡ v.held)). kept.values j f.0 p n f.1 (subst (IsAmong p) f.2 among) named)
+      (λ (f : (v : FrameHolder) × (get_elem? s.views j ≡ some v) × (w.held ≡ v.held)). kept.values j f.0 p n f.1 (subst (IsAmong p) f.2 among) named)
       (λ (e : w.held ≡ []). absurd (subst (IsAmong p) e among))
       (same j w at);
   out = λ j w q at has. ⊎_elim
-      (λ (f : (v : Holder) × (get_elem? s.views j ≡ some v) × (w.held ≡ v.held)). kept.out j f.0 q f.1 (subst (Has q) f.2 has))
+      (λ (f : (v : FrameHolder) × (get_elem? s.views j ≡ some v) × (w.held ≡ v.held)). kept.out j f.0 q f.1 (subst (Has q) f.2 has))
       (λ (e : w.held ≡ []). absurd (subst (Has q) e has))
       (same j w at);
   one = λ i j v w q at also has too. ⊎_elim
-      (λ (f : (u : Holder) × (get_elem? s.views i ≡ some u) × (v.held ≡ u.held)). ⊎_elim
-      (λ (g : (u : Holder) × (get_elem? s.views j ≡ some u) × (w.held ≡ u.held)). kept.one i j f.0 g.0 q f.1 g.1 (subst (Has q) f.2 has) (subst (Has q) g.2 too))
+      (λ (f : (u : FrameHolder) × (get_elem? s.views i ≡ some u) × (v.held ≡ u.held)). ⊎_elim
+      (λ (g : (u : FrameHolder) × (get_elem? s.views j ≡ some u) × (w.held ≡ u.held)). kept.one i j f.0 g.0 q f.1 g.1 (subst (Has q) f.2 has) (subst (Has q) g.2 too))
       (λ (e : w.held ≡ []). absurd (subst (Has q) e too))
       (same j w also))
       (λ (e : v.held ≡ []). absurd (subst (Has q) e has))
       (same i v at);
   once = λ j w at. ⊎_elim
-      (λ (f : (v : Holder) × (get_elem? s.views j ≡ some v) × (w.held ≡ v.held)). subst AreOnce (sym f.2) (kept.once j f.0 f.1))
+      (λ (f : (v : FrameHolder) × (get_elem? s.views j ≡ some v) × (w.held ≡ v.held)). subst AreOnce (sym f.2) (kept.once j f.0 f.1))
       (λ (e : w.held ≡ []). subst AreOnce (sym e) tt)
       (same j w at);
   free = kept.free;
@@ -64,7 +64,7 @@ at_more [] c (suc j) v e = absurd (some-ne-none v (sym e))
 at_more (x ∷ xs) c zero v e = inl e
 at_more (x ∷ xs) c (suc j) v e = at_more xs c j v e
 
-map_more : (vs : List Holder) (c : Holder) → map own_of (vs ++ c ∷ []) ≡ map own_of vs ++ c.own ∷ []
+map_more : (vs : List FrameHolder) (c : FrameHolder) → map own_of (vs ++ c ∷ []) ≡ map own_of vs ++ c.own ∷ []
 map_more [] c = refl
 map_more (v ∷ vs) c = ap (λ (us : List Outlook). v.own ∷ us) (map_more vs c)
 
@@ -91,28 +91,28 @@ history_by k s z a c longer same = one_order 0 a.history c.history (λ j. (both 
         (same j u e)
 
 -- one seat more
-module _ (b : Places) (id : ℕ) (v : Holder) (here : v.own.gone ≡ false) (none_taken : v.own.taken ≡ []) (own : v.own.own.position ≡ 0) (room : v.own.own.dealt < b.layout.domains)
-    (s : State Cell Holder) (holds : HoldsAll b s) (at : get_elem? s.views id ≡ some v) where
+module _ (b : Places) (id : ℕ) (v : FrameHolder) (here : v.own.gone ≡ false) (none_taken : v.own.taken ≡ []) (own : v.own.own.position ≡ 0) (room : v.own.own.dealt < b.layout.domains)
+    (s : State Cell FrameHolder) (holds : HoldsAll b s) (at : get_elem? s.views id ≡ some v) where
   abbrev os : List Outlook
   os = map own_of s.views
 
   own_at : get_elem? os id ≡ some v.own
   own_at = at_map own_of s.views id v at
 
-  abbrev vs : List Holder
+  abbrev vs : List FrameHolder
   vs = set s.views id (dealer v) ++ newcomer (dealt_outlook v.own) ∷ []
 
-  abbrev after : State Cell Holder
+  abbrev after : State Cell FrameHolder
   after = record { words = s.words; homes = s.homes; views = vs }
 
   outs : map own_of vs ≡ set os id (dealing v.own) ++ dealt_outlook v.own ∷ []
   outs = map_more (set s.views id (dealer v)) (newcomer (dealt_outlook v.own)) ∙ ap (λ (us : List Outlook). us ++ dealt_outlook v.own ∷ []) (map-set own_of s.views id (dealer v))
 
-  words_then : HoldsSo b.layout (record { words = (inner b s).words; homes = (inner b s).homes; views = set os id (dealing v.own) ++ dealt_outlook v.own ∷ [] })
+  words_then : TableHolds b.layout (record { words = (inner b s).words; homes = (inner b s).homes; views = set os id (dealing v.own) ++ dealt_outlook v.own ∷ [] })
   words_then = deals_so b.layout id v.own here none_taken own room (inner b s) holds.words own_at
 
-  words_after : HoldsSo b.layout (inner b after)
-  words_after = subst (λ (us : List Outlook). HoldsSo b.layout (record { words = (inner b s).words; homes = (inner b s).homes; views = us })) (sym outs) words_then
+  words_after : TableHolds b.layout (inner b after)
+  words_after = subst (λ (us : List Outlook). TableHolds b.layout (record { words = (inner b s).words; homes = (inner b s).homes; views = us })) (sym outs) words_then
 
   seen : get_elem? (whole_views os) id ≡ some v.own.own
   seen = there b.layout (inner b s) holds.words id v.own own_at here
@@ -154,16 +154,16 @@ module _ (b : Places) (id : ℕ) (v : Holder) (here : v.own.gone ≡ false) (non
   same_order : words_after.shown.history ≡ holds.words.shown.history
   same_order = sym (history_by b.layout (whole (inner b s)) (whole (inner b after)) holds.words.shown words_after.shown longer same_view)
 
-  kept : Kept b holds.words.shown.history after
+  kept : FramesAreKept b holds.words.shown.history after
   kept = views_keep b holds.words.shown.history s vs holds.frames held_same
     where
-      held_same : (j : ℕ) (w : Holder) → get_elem? vs j ≡ some w → IsSameHolding s.views j w
+      held_same : (j : ℕ) (w : FrameHolder) → get_elem? vs j ≡ some w → IsSameHolding s.views j w
       held_same j w e = ⊎_elim
           (λ (f : get_elem? (set s.views id (dealer v)) j ≡ some w). ⊎_elim
-          (λ (g : (j ≡ id) × (dealer v ≡ w)). inl (v, ap (get_elem? s.views) g.0 ∙ at, ap (λ (x : Holder). x.held) (sym g.1)))
+          (λ (g : (j ≡ id) × (dealer v ≡ w)). inl (v, ap (get_elem? s.views) g.0 ∙ at, ap (λ (x : FrameHolder). x.held) (sym g.1)))
           (λ (g : (j ≢ id) × (get_elem? s.views j ≡ some w)). inl (w, g.1, refl))
           (at_set s.views id j (dealer v) w f))
-          (λ (f : (newcomer (dealt_outlook v.own) ≡ w) × (get_elem? (set s.views id (dealer v)) j ≡ none)). inr (ap (λ (x : Holder). x.held) (sym f.0)))
+          (λ (f : (newcomer (dealt_outlook v.own) ≡ w) × (get_elem? (set s.views id (dealer v)) j ≡ none)). inr (ap (λ (x : FrameHolder). x.held) (sym f.0)))
           (at_more (set s.views id (dealer v)) (newcomer (dealt_outlook v.own)) j w e)
 
   pub dealt_all : HoldsAll b after
@@ -174,27 +174,27 @@ dealt b id v here none_taken own room s holds at = dealt_all b id v here none_ta
 
 -- a seat that is taken in changes no view of the whole
 same_wholes : (k : Layout) (ws : List ℕ) (hs : List (Maybe (Unit {0}))) (v w gone : Outlook) → v.gone ≡ false → w.gone ≡ false → gone.gone ≡ true → (xs : List Outlook) (o : ℕ)
-    → HoldsSo k (record { words = ws; homes = hs; views = xs }) → get_elem? xs 0 ≡ some v → (o ≡ 0 → ⊥) → get_elem? (set xs 0 (took v w)) o ≡ some w
+    → TableHolds k (record { words = ws; homes = hs; views = xs }) → get_elem? xs 0 ≡ some v → (o ≡ 0 → ⊥) → get_elem? (set xs 0 (took v w)) o ≡ some w
     → whole_views (set (set xs 0 (took v w)) o gone) ≡ whole_views xs
 same_wholes k ws hs v w gone here live lost [] o holds at ne found = absurd (some-ne-none v (sym at))
 same_wholes k ws hs v w gone here live lost (x ∷ xs) zero holds at ne found = absurd (ne refl)
 same_wholes k ws hs v w gone here live lost (x ∷ xs) (suc j) holds at ne found =
     let x_is : x ≡ v = some-injective x v at in
-    same_views k ws hs v w gone xs j here live lost (subst (λ (y : Outlook). HoldsSo k (record { words = ws; homes = hs; views = y ∷ xs })) x_is holds) found
+    same_views k ws hs v w gone xs j here live lost (subst (λ (y : Outlook). TableHolds k (record { words = ws; homes = hs; views = y ∷ xs })) x_is holds) found
     ∙ ap (λ (y : Outlook). whole_views (y ∷ xs)) (sym x_is)
 
-module _ (b : Places) (id other : ℕ) (v w gone : Holder) (own : v.own.own.position ≡ 0) (here : v.own.gone ≡ false) (live : w.own.gone ≡ false) (empty : w.held ≡ []) (lost : gone.own.gone ≡ true) (spent : gone.held ≡ [])
-    (s : State Cell Holder) (holds : HoldsAll b s) (at : get_elem? s.views id ≡ some v) (ne : other ≡ id → ⊥) where
-  abbrev both : Holder
+module _ (b : Places) (id other : ℕ) (v w gone : FrameHolder) (own : v.own.own.position ≡ 0) (here : v.own.gone ≡ false) (live : w.own.gone ≡ false) (empty : w.held ≡ []) (lost : gone.own.gone ≡ true) (spent : gone.held ≡ [])
+    (s : State Cell FrameHolder) (holds : HoldsAll b s) (at : get_elem? s.views id ≡ some v) (ne : other ≡ id → ⊥) where
+  abbrev both : FrameHolder
   both = record v { own = took v.own w.own }
 
   abbrev views : List Outlook
   views = map own_of s.views
 
-  abbrev joined_views : List Holder
+  abbrev joined_views : List FrameHolder
   joined_views = set (set s.views id both) other gone
 
-  abbrev joined : State Cell Holder
+  abbrev joined : State Cell FrameHolder
   joined = record { words = s.words; homes = s.homes; views = joined_views }
 
   module _ (found : get_elem? (set s.views id both) other ≡ some w) where
@@ -207,8 +207,8 @@ module _ (b : Places) (id other : ℕ) (v w gone : Holder) (own : v.own.own.posi
     joined_outs : map own_of joined_views ≡ set (set views id (took v.own w.own)) other gone.own
     joined_outs = map-set own_of (set s.views id both) other gone ∙ ap (λ (us : List Outlook). set us other gone.own) (map-set own_of s.views id both)
 
-    words_joined : HoldsSo b.layout (inner b joined)
-    words_joined = subst (λ (us : List Outlook). HoldsSo b.layout (record { words = (inner b s).words; homes = (inner b s).homes; views = us })) (sym joined_outs)
+    words_joined : TableHolds b.layout (inner b joined)
+    words_joined = subst (λ (us : List Outlook). TableHolds b.layout (record { words = (inner b s).words; homes = (inner b s).homes; views = us })) (sym joined_outs)
         (join_any b.layout id other v.own w.own gone.own own here live lost (inner b s) holds.words v_at ne w_at)
 
     first_is : id ≡ 0
@@ -221,14 +221,14 @@ module _ (b : Places) (id other : ℕ) (v w gone : Holder) (own : v.own.own.posi
         (subst (λ (i : ℕ). get_elem? views i ≡ some v.own) first_is v_at) (λ e. ne (e ∙ sym first_is))
         (subst (λ (i : ℕ). get_elem? (set views i (took v.own w.own)) other ≡ some w.own) first_is w_at))
 
-    joined_kept : Kept b holds.words.shown.history joined
+    joined_kept : FramesAreKept b holds.words.shown.history joined
     joined_kept = views_keep b holds.words.shown.history s joined_views holds.frames held_same
       where
-        held_same : (j : ℕ) (u : Holder) → get_elem? joined_views j ≡ some u → IsSameHolding s.views j u
+        held_same : (j : ℕ) (u : FrameHolder) → get_elem? joined_views j ≡ some u → IsSameHolding s.views j u
         held_same j u e = ⊎_elim
-            (λ (f : (j ≡ other) × (gone ≡ u)). inr (ap (λ (x : Holder). x.held) (sym f.1) ∙ spent))
+            (λ (f : (j ≡ other) × (gone ≡ u)). inr (ap (λ (x : FrameHolder). x.held) (sym f.1) ∙ spent))
             (λ (f : (j ≢ other) × (get_elem? (set s.views id both) j ≡ some u)). ⊎_elim
-            (λ (g : (j ≡ id) × (both ≡ u)). inl (v, ap (get_elem? s.views) g.0 ∙ at, ap (λ (x : Holder). x.held) (sym g.1)))
+            (λ (g : (j ≡ id) × (both ≡ u)). inl (v, ap (get_elem? s.views) g.0 ∙ at, ap (λ (x : FrameHolder). x.held) (sym g.1)))
             (λ (g : (j ≢ id) × (get_elem? s.views j ≡ some u)). inl (u, g.1, refl))
             (at_set s.views id j both u f.1))
             (at_set (set s.views id both) other j gone u e)

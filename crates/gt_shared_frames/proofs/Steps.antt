@@ -14,7 +14,7 @@ use Rattle.gt_words.proofs.Joining.{there as there_own, views_after}
 use Rattle.gt_words.proofs.Order.{within}
 use Rattle.gt_words.proofs.Moments.{one_history, taken_then}
 use Rattle.gt_words.specs.History.{StepHistory, header_place}
-use Rattle.gt_words.specs.Joining.{HoldsSo, tells_own, whole, whole_views}
+use Rattle.gt_words.specs.Joining.{TableHolds, tells_own, whole, whole_views}
 use Rattle.gt_words.specs.Rule.{Shows, Stands}
 use Rattle.gt_words.specs.Views.{with_step}
 use Rattle.gt_words.specs.declared.view.FrameStep.{FrameStep}
@@ -23,9 +23,9 @@ use Rattle.gt_words.specs.declared.view.Outlook.{Outlook}
 use Rattle.gt_words.specs.declared.view.SeatStep.{SeatStep}
 use Rattle.gt_words.specs.declared.view.SeatStep.TheVariants.{Frame}
 use Rattle.gt_words.specs.declared.view.View.{View}
-use Rattle.gt_shared_frames.specs.declared.table.Holder.{Holder}
+use Rattle.gt_shared_frames.specs.declared.table.FrameHolder.{FrameHolder}
 use Rattle.gt_shared_frames.specs.Bytes.{IsOnWords, SaysBytes, journal_by}
-use Rattle.gt_shared_frames.specs.Rule.{Cell, FrameAt, HoldsAll, IsNamed, Kept, Places, hidden, inner, lock_place, made, own_of}
+use Rattle.gt_shared_frames.specs.Rule.{Cell, FrameAt, HoldsAll, IsNamed, FramesAreKept, Places, hidden, inner, lock_place, made, own_of}
 use Rattle.gt_shared_frames.specs.Telling.{Accesses, IsByHeld, TookAt, AreLeft, holder_after, holding, outlook_after}
 use Rattle.gt_shared_frames.specs.Laws.{FramesAreFreed, FramesAreLocked, FramesAreReturned, WordsAreStepped}
 use Rattle.gt_shared_frames.proofs.OneStep.{access_stands, history_goes_on, holds_access, own_place, seen_there, word_again}
@@ -56,10 +56,10 @@ nothing_moves hs (chain a b) is = let f = nothing_moves hs a is.0 in
     let g = nothing_moves hs b next in
     ((λ i. homes_after (f.0 i) (f.1 i) b) ∙ g.0, (λ i. carried_after (f.1 i) b) ∙ g.1)
 
-pub all_by : (b : Places) (s : State Cell Holder) (words : HoldsSo b.layout (inner b s)) (h : StepHistory) → words.shown.history ≡ h → Kept b h s → HoldsAll b s
-all_by b s words h e kept = record { words = words; frames = subst (λ (g : StepHistory). Kept b g s) (sym e) kept }
+pub all_by : (b : Places) (s : State Cell FrameHolder) (words : TableHolds b.layout (inner b s)) (h : StepHistory) → words.shown.history ≡ h → FramesAreKept b h s → HoldsAll b s
+all_by b s words h e kept = record { words = words; frames = subst (λ (g : StepHistory). FramesAreKept b g s) (sym e) kept }
 
-module _ (b : Places) (s : State Cell Holder) (holds : HoldsAll b s) (id : ℕ) (v : Holder) (at : get_elem? s.views id ≡ some v) where
+module _ (b : Places) (s : State Cell FrameHolder) (holds : HoldsAll b s) (id : ℕ) (v : FrameHolder) (at : get_elem? s.views id ≡ some v) where
   abbrev n_words : ℕ
   n_words = header_place b.layout.domains
 
@@ -77,7 +77,7 @@ module _ (b : Places) (s : State Cell Holder) (holds : HoldsAll b s) (id : ℕ) 
     pub there : get_elem? s.homes q ≡ some (some (Some x))
     there = let f = holds.frames.free q lt is_free in f.1 ∙ ap (λ (z : Cell). some (some z)) (holds.frames.home q n f.0 named f.1)
 
-    abbrev pub after : State Cell Holder
+    abbrev pub after : State Cell FrameHolder
     after = stepped s (lock_place b q) 1 id carried (holding q x v) (takes q (Some x))
 
     same_inner : inner b after ≡ inner b s
@@ -87,8 +87,8 @@ module _ (b : Places) (s : State Cell Holder) (holds : HoldsAll b s) (id : ℕ) 
       views = (map-set own_of s.views id (holding q x v) ∙ set_again (map own_of s.views) id v.own own_at) i;
     }
 
-    words_after : HoldsSo b.layout (inner b after)
-    words_after = subst (HoldsSo b.layout) (sym same_inner) holds.words
+    words_after : TableHolds b.layout (inner b after)
+    words_after = subst (TableHolds b.layout) (sym same_inner) holds.words
 
     pub locked : HoldsAll b after
     locked = all_by b after words_after h
@@ -112,13 +112,13 @@ module _ (b : Places) (s : State Cell Holder) (holds : HoldsAll b s) (id : ℕ) 
       subst (λ (z : FrameState). IsTrue (is_rightful z.owner z.number r)) x_is e.4,
     )
 
-    abbrev pub w : Holder
+    abbrev pub w : FrameHolder
     w = holder_after h a_step hs v
 
     w_held : w.held ≡ hs
     w_held = refl
 
-    abbrev pub freed : State Cell Holder
+    abbrev pub freed : State Cell FrameHolder
     freed = stepped s (lock_place b q) 0 id ((q, Some y) ∷ carried) w gives
 
     abbrev with_access : State (Unit {0}) Outlook
@@ -131,11 +131,11 @@ module _ (b : Places) (s : State Cell Holder) (holds : HoldsAll b s) (id : ℕ) 
       views = map-set own_of s.views id w i;
     }
 
-    went : HoldsSo b.layout with_access
+    went : TableHolds b.layout with_access
     went = holds_access b.layout (inner b s) holds.words id v.own own_at here n.0 n.1 m
 
-    words_freed : HoldsSo b.layout (inner b freed)
-    words_freed = subst (HoldsSo b.layout) (sym inner_is) went
+    words_freed : TableHolds b.layout (inner b freed)
+    words_freed = subst (TableHolds b.layout) (sym inner_is) went
 
     pub frees_all : HoldsAll b freed
     unfolding went
@@ -165,10 +165,10 @@ module _ (b : Places) (s : State Cell Holder) (holds : HoldsAll b s) (id : ℕ) 
 
   -- a frame is given back as it was taken
   module _ (q : ℕ) (n : FrameAt) (named : IsNamed b q n) (x : FrameState) (hs : List (ℕ × FrameState)) (has : AreLeft q x v.held hs) (carried : List (ℕ × Cell)) where
-    abbrev without : Holder
+    abbrev without : FrameHolder
     without = record v { held = hs }
 
-    abbrev pub returned : State Cell Holder
+    abbrev pub returned : State Cell FrameHolder
     returned = stepped s (lock_place b q) 0 id ((q, Some x) ∷ carried) without gives
 
     inner_same : inner b returned ≡ inner b s
@@ -178,8 +178,8 @@ module _ (b : Places) (s : State Cell Holder) (holds : HoldsAll b s) (id : ℕ) 
       views = (map-set own_of s.views id without ∙ set_again (map own_of s.views) id v.own own_at) i;
     }
 
-    words_returned : HoldsSo b.layout (inner b returned)
-    words_returned = subst (HoldsSo b.layout) (sym inner_same) holds.words
+    words_returned : TableHolds b.layout (inner b returned)
+    words_returned = subst (TableHolds b.layout) (sym inner_same) holds.words
 
     pub returns_all : HoldsAll b returned
     returns_all = all_by b returned words_returned h
@@ -191,11 +191,11 @@ module _ (b : Places) (s : State Cell Holder) (holds : HoldsAll b s) (id : ℕ) 
     abbrev pub z_words : State (Unit {0}) Outlook
     z_words = record { words = set (take n_words s.words) at_word left; homes = map hidden s.homes; views = set (map own_of s.views) id y }
 
-    module _ (stepped_words : HoldsSo b.layout z_words) where
-      abbrev next : Holder
+    module _ (stepped_words : TableHolds b.layout z_words) where
+      abbrev next : FrameHolder
       next = record v { own = y }
 
-      abbrev pub done : State Cell Holder
+      abbrev pub done : State Cell FrameHolder
       done = stepped s at_word left id carried next keeps
 
       seen_then : get_elem? (whole_views (map own_of s.views)) id ≡ some v.own.own
@@ -216,8 +216,8 @@ module _ (b : Places) (s : State Cell Holder) (holds : HoldsAll b s) (id : ℕ) 
       inner_done : inner b done ≡ z_words
       inner_done = λ i. record { words = take-set-lt n_words s.words at_word left before i; homes = map hidden s.homes; views = map-set own_of s.views id next i }
 
-      words_done : HoldsSo b.layout (inner b done)
-      words_done = subst (HoldsSo b.layout) (sym inner_done) stepped_words
+      words_done : TableHolds b.layout (inner b done)
+      words_done = subst (TableHolds b.layout) (sym inner_done) stepped_words
 
       pub steps_all : HoldsAll b done
       steps_all = all_by b done words_done ((id, x) ∷ h)
@@ -226,16 +226,16 @@ module _ (b : Places) (s : State Cell Holder) (holds : HoldsAll b s) (id : ℕ) 
 
 -- the three
 
-nothing_found : (b : Places) (s : State Cell Holder) → HoldsAll b s → (id : ℕ) (v : Holder) → get_elem? s.views id ≡ some v → (i n : ℕ) → slice_index s.words i ≡ n → (c : List (ℕ × Cell)) → HoldsAll b (stepped s i n id c v keeps)
+nothing_found : (b : Places) (s : State Cell FrameHolder) → HoldsAll b s → (id : ℕ) (v : FrameHolder) → get_elem? s.views id ≡ some v → (i n : ℕ) → slice_index s.words i ≡ n → (c : List (ℕ × Cell)) → HoldsAll b (stepped s i n id c v keeps)
 nothing_found b s holds id v at i n is c =
     subst (λ (ws : List ℕ). HoldsAll b (record { words = ws; homes = s.homes; views = set s.views id v })) (sym (ap (set s.words i) (sym is) ∙ word_again s.words i))
-    (subst (λ (vs : List Holder). HoldsAll b (record { words = s.words; homes = s.homes; views = vs })) (sym (set_again s.views id v at)) holds)
+    (subst (λ (vs : List FrameHolder). HoldsAll b (record { words = s.words; homes = s.homes; views = vs })) (sym (set_again s.views id v at)) holds)
 
-abbrev IsMe : Me Cell Holder → Me Cell Holder → Type 0
+abbrev IsMe : Me Cell FrameHolder → Me Cell FrameHolder → Type 0
 IsMe m n = m ≡ n
 
-locks_by : (b : Places) (s : State Cell Holder) → HoldsAll b s → (id : ℕ) (me : Me Cell Holder) → get_elem? s.views id ≡ some me.0 → (q : ℕ) (n : FrameAt) → IsNamed b q n → q < length b.names → (word : ℕ) → slice_index s.words (lock_place b q) ≡ word → (t : Bool) → (word == 0) ≡ t
-    → (w : Holder) × (a : Act Cell) × Valid s.homes me.1 a × HoldsAll b (stepped s (lock_place b q) (either t 1 word) id me.1 w a)
+locks_by : (b : Places) (s : State Cell FrameHolder) → HoldsAll b s → (id : ℕ) (me : Me Cell FrameHolder) → get_elem? s.views id ≡ some me.0 → (q : ℕ) (n : FrameAt) → IsNamed b q n → q < length b.names → (word : ℕ) → slice_index s.words (lock_place b q) ≡ word → (t : Bool) → (word == 0) ≡ t
+    → (w : FrameHolder) × (a : Act Cell) × Valid s.homes me.1 a × HoldsAll b (stepped s (lock_place b q) (either t 1 word) id me.1 w a)
     × MatchBool t (TookAt b.layout n q me (w, carried_after me.1 a)) (IsMe (w, carried_after me.1 a) me)
 locks_by b s holds id me at q n named lt word is true e = let none_has : slice_index s.words (lock_place b q) ≡ 0 = is ∙ (let z : word ≡ 0 = grind (arith, nat_tests) in z) in
     let y : FrameState = made b holds.words.shown.history n in
@@ -263,14 +263,14 @@ steps b slots id me at f d st here before on allows s holds many found bound =
     let still = nothing_moves s.homes r.1 r.2 in
     let y : Outlook = r.0 in
     let told = r.4 in
-    let at_end : HoldsSo b.layout (record { words = set ws at (f (slice_index ws at)); homes = map hidden s.homes; views = set (map own_of s.views) id y }) =
-    subst (λ (hs : List (Maybe (Unit {0}))). HoldsSo b.layout (record { words = set ws at (f (slice_index ws at)); homes = hs; views = set (map own_of s.views) id y })) still.0 r.3 in
+    let at_end : TableHolds b.layout (record { words = set ws at (f (slice_index ws at)); homes = map hidden s.homes; views = set (map own_of s.views) id y }) =
+    subst (λ (hs : List (Maybe (Unit {0}))). TableHolds b.layout (record { words = set ws at (f (slice_index ws at)); homes = hs; views = set (map own_of s.views) id y })) still.0 r.3 in
     let says : tells_own d st (me.0.own, []) (slice_index s.words at) (y, []) = subst (λ (n : ℕ). tells_own d st (me.0.own, []) n (y, [])) word_is ((refl, told.0.1), told.1, told.2) in (
       record me.0 { own = y },
       keeps,
       tt,
       steps_all b s holds id me.0 found here at (f (slice_index s.words at)) before says.0.1.0 (d.step (slice_index s.words at)) (on (slice_index s.words at)) y says.1 says.0.1.1 me.1
-          (subst (λ (n : ℕ). HoldsSo b.layout (record { words = set ws at (f n); homes = map hidden s.homes; views = set (map own_of s.views) id y })) word_is at_end),
+          (subst (λ (n : ℕ). TableHolds b.layout (record { words = set ws at (f n); homes = map hidden s.homes; views = set (map own_of s.views) id y })) word_is at_end),
       (says, refl, refl),
     )
 

@@ -7,14 +7,14 @@ use Rattle.atomic_table.specs.Table.{State}
 use Rattle.gt_frames.specs.Frames.{FrameState}
 use Rattle.gt_words.specs.declared.view.Outlook.{Outlook}
 use Rattle.gt_words.specs.History.{Layout, StepHistory, header_place}
-use Rattle.gt_words.specs.Joining.{HoldsSo}
+use Rattle.gt_words.specs.Joining.{TableHolds}
 use Rattle.gt_words.specs.Rule.{layout_of}
 use Rattle.gt_types.specs.declared.config.Config.{Config}
 use Rattle.gt_types.specs.declared.config.DomainConfig.{DomainConfig}
 use Rattle.std.specs.List.{range_with_len}
 use Rattle.gt_words.specs.Views.{IsAmong}
-use Rattle.gt_shared_frames.specs.declared.table.Holder.{Holder}
-use Rattle.gt_shared_frames.specs.declared.table.Slot.{Slot}
+use Rattle.gt_shared_frames.specs.declared.table.FrameHolder.{FrameHolder}
+use Rattle.gt_shared_frames.specs.declared.table.FrameSlot.{FrameSlot}
 use Rattle.atomic_table.specs.Seated.{TableId}
 use Rattle.gt_shared_frames.specs.Bytes.{AreTrueBytes, frame_made}
 
@@ -51,11 +51,11 @@ abbrev pub IsNamed : Places → ℕ → FrameAt → Type 0
 IsNamed b q n = get_elem? b.names q ≡ some n
 
 -- the frame of a slot
-abbrev pub name_of : Slot → FrameAt
+abbrev pub name_of : FrameSlot → FrameAt
 name_of s = (s.owner, s.number)
 
 -- a slot of the table: its lock is at its place, and it has the frame of this name
-abbrev pub IsSlotOf : Places → TableId → Slot → Type 0
+abbrev pub IsSlotOf : Places → TableId → FrameSlot → Type 0
 IsSlotOf b z s = (s.lock ≡ lock_place b s.index) × (s.lock < z.words) × IsNamed b s.index (name_of s)
 
 -- the frame that a history makes
@@ -63,18 +63,18 @@ abbrev pub made : Places → StepHistory → FrameAt → FrameState
 made b h n = frame_made b.layout n.0 n.1 h
 
 -- frames at home are what the one history makes; one that is out is in one seat's hand, with the value that it had
-pub record Kept (b : Places) (h : StepHistory) (s : State Cell Holder) : Type 0 where
+pub record FramesAreKept (b : Places) (h : StepHistory) (s : State Cell FrameHolder) : Type 0 where
   pub truth : AreTrueBytes b.layout h
   pub apart : (i j : ℕ) (n : FrameAt) → IsNamed b i n → IsNamed b j n → i ≡ j
   pub home : (q : ℕ) (n : FrameAt) (y : Cell) → IsNamed b q n → get_elem? s.homes q ≡ some (some y)
       → y ≡ Some (made b h n)
-  pub values : (j : ℕ) (v : Holder) (p : ℕ × FrameState) (n : FrameAt) → get_elem? s.views j ≡ some v → IsAmong p v.held
+  pub values : (j : ℕ) (v : FrameHolder) (p : ℕ × FrameState) (n : FrameAt) → get_elem? s.views j ≡ some v → IsAmong p v.held
       → IsNamed b p.0 n → p.1 ≡ made b h n
-  pub out : (j : ℕ) (v : Holder) (q : ℕ) → get_elem? s.views j ≡ some v → Has q v.held → get_elem? s.homes q ≡ some none
-  pub one : (i j : ℕ) (v w : Holder) (q : ℕ) → get_elem? s.views i ≡ some v → get_elem? s.views j ≡ some w
+  pub out : (j : ℕ) (v : FrameHolder) (q : ℕ) → get_elem? s.views j ≡ some v → Has q v.held → get_elem? s.homes q ≡ some none
+  pub one : (i j : ℕ) (v w : FrameHolder) (q : ℕ) → get_elem? s.views i ≡ some v → get_elem? s.views j ≡ some w
       → Has q v.held
       → Has q w.held → i ≡ j
-  pub once : (j : ℕ) (v : Holder) → get_elem? s.views j ≡ some v → AreOnce v.held
+  pub once : (j : ℕ) (v : FrameHolder) → get_elem? s.views j ≡ some v → AreOnce v.held
   pub free : (q : ℕ) → q < length b.names → slice_index s.words (lock_place b q) ≡ 0
       → (y : Cell) × (get_elem? s.homes q ≡ some (some y))
   pub wide : (q : ℕ) → q < length b.names → lock_place b q < length s.words
@@ -83,10 +83,10 @@ pub record Kept (b : Places) (h : StepHistory) (s : State Cell Holder) : Type 0 
 abbrev pub hidden : Maybe Cell → Maybe (Unit {0})
 hidden h = none
 
-abbrev pub own_of : Holder → Outlook
+abbrev pub own_of : FrameHolder → Outlook
 own_of v = v.own
 
-abbrev pub inner : Places → State Cell Holder → State (Unit {0}) Outlook
+abbrev pub inner : Places → State Cell FrameHolder → State (Unit {0}) Outlook
 inner b s =
     record {
       words = take (header_place b.layout.domains) s.words;
@@ -95,12 +95,12 @@ inner b s =
     }
 
 -- words and views show a state of the core, and the frames are those of its history
-pub record HoldsAll (b : Places) (s : State Cell Holder) : Type 0 where
-  pub words : HoldsSo b.layout (inner b s)
-  pub frames : Kept b words.shown.history s
+pub record HoldsAll (b : Places) (s : State Cell FrameHolder) : Type 0 where
+  pub words : TableHolds b.layout (inner b s)
+  pub frames : FramesAreKept b words.shown.history s
 
 -- the run, with the names of its frames
-abbrev pub newcomer : Outlook → Holder
+abbrev pub newcomer : Outlook → FrameHolder
 newcomer o = record { own = o; held = [] }
 
 -- the frames of these domains, the first of which is at this position

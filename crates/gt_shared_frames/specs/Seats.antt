@@ -3,22 +3,22 @@ use Rattle.std.specs.Prelude.{◌≡◌, ℕ, ◌<◌, [], true, false}
 use Rattle.atomic_table.specs.Table.{Joins, Splits}
 use Rattle.gt_words.specs.Joining.{took}
 use Rattle.gt_words.specs.Places.{dealing, dealt_outlook}
-use Rattle.gt_shared_frames.specs.declared.table.Holder.{Holder}
+use Rattle.gt_shared_frames.specs.declared.table.FrameHolder.{FrameHolder}
 use Rattle.gt_shared_frames.specs.Rule.{HoldsAll, Places, newcomer}
 
 -- the seat that deals, after it
-abbrev pub dealer : Holder → Holder
+abbrev pub dealer : FrameHolder → FrameHolder
 dealer v = record v { own = dealing v.own }
 
 -- the first seat may deal one more, while the run has a domain without a seat
 abbrev pub SeatsAreDealt : Type 0
 SeatsAreDealt =
-    (b : Places) (id : ℕ) (v : Holder) → v.own.gone ≡ false → v.own.taken ≡ [] → v.own.own.position ≡ 0
+    (b : Places) (id : ℕ) (v : FrameHolder) → v.own.gone ≡ false → v.own.taken ≡ [] → v.own.own.position ≡ 0
     → v.own.own.dealt < b.layout.domains → Splits (HoldsAll b) id v (dealer v) (newcomer (dealt_outlook v.own))
 
 -- the first seat may take in another that has no frame, which is spent
 abbrev pub SeatsAreTakenIn : Type 0
 SeatsAreTakenIn =
-    (b : Places) (id other : ℕ) (v w gone : Holder) → v.own.own.position ≡ 0 → v.own.gone ≡ false
+    (b : Places) (id other : ℕ) (v w gone : FrameHolder) → v.own.own.position ≡ 0 → v.own.gone ≡ false
     → w.own.gone ≡ false → w.held ≡ [] → gone.own.gone ≡ true → gone.held ≡ []
     → Joins (HoldsAll b) id v other w (record v { own = took v.own w.own }) gone

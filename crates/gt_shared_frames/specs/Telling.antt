@@ -15,28 +15,28 @@ use Rattle.gt_words.specs.declared.view.SeatStep.{SeatStep}
 use Rattle.gt_words.specs.declared.view.SeatStep.TheVariants.{Frame}
 use Rattle.gt_words.specs.declared.view.Outlook.{Outlook}
 use Rattle.gt_words.specs.declared.view.View.{View}
-use Rattle.gt_shared_frames.specs.declared.table.Holder.{Holder}
+use Rattle.gt_shared_frames.specs.declared.table.FrameHolder.{FrameHolder}
 use Rattle.gt_shared_frames.specs.Bytes.{AreTrueBytes, SaysBytes, frame_made}
 use Rattle.gt_shared_frames.specs.Rule.{Cell, FrameAt, IsNamed, Places, name_of}
-use Rattle.gt_shared_frames.specs.declared.table.Slot.{Slot}
+use Rattle.gt_shared_frames.specs.declared.table.FrameSlot.{FrameSlot}
 use Rattle.gt_frames.specs.declared.writ.Writ.{Writ}
 use Rattle.gt_types.specs.declared.Range.{Range}
 
 -- the seat has this frame besides, as it is
-abbrev pub holding : ℕ → FrameState → Holder → Holder
+abbrev pub holding : ℕ → FrameState → FrameHolder → FrameHolder
 holding q x v = record v { held = (q, x) ∷ v.held }
 
 -- the seat took the frame of this name out of this slot, as it is
-abbrev pub TookAt : Layout → FrameAt → ℕ → Me Cell Holder → Me Cell Holder → Type 0
+abbrev pub TookAt : Layout → FrameAt → ℕ → Me Cell FrameHolder → Me Cell FrameHolder → Type 0
 TookAt k a q m m' =
     (x : FrameState) × (m' ≡ (holding q x m.0, (q, Some x) ∷ m.1)) × (x.owner ≡ id_at k.ids a.0) × (x.number ≡ a.1)
 
 -- the same of a slot with its name
-abbrev pub Took : Layout → Slot → Me Cell Holder → Me Cell Holder → Type 0
+abbrev pub Took : Layout → FrameSlot → Me Cell FrameHolder → Me Cell FrameHolder → Type 0
 Took k s m m' = TookAt k (name_of s) s.index m m'
 
 -- the frame of the slot was taken, or another has it
-abbrev pub Locks : Layout → FrameAt → ℕ → Me Cell Holder → ℕ → Me Cell Holder → Type 0
+abbrev pub Locks : Layout → FrameAt → ℕ → Me Cell FrameHolder → ℕ → Me Cell FrameHolder → Type 0
 Locks k a q m n m' = MatchBool (n == 0) (TookAt k a q m m') (m' ≡ m)
 
 abbrev pub rest_held : List (ℕ × FrameState) → List (ℕ × FrameState)
@@ -54,7 +54,7 @@ abbrev pub outlook_after : StepHistory → SeatStep → Outlook → Outlook
 outlook_after past x o = record o { own = with_step past x o.own }
 
 -- what a seat knows after an access, with these frames left
-abbrev pub holder_after : StepHistory → SeatStep → List (ℕ × FrameState) → Holder → Holder
+abbrev pub holder_after : StepHistory → SeatStep → List (ℕ × FrameState) → FrameHolder → FrameHolder
 holder_after past x hs v = record { own = outlook_after past x v.own; held = hs }
 
 -- of the frames held these are left without the one of this slot, which was taken last or before that
@@ -73,7 +73,7 @@ pub record Accesses (k : Layout) (v : View) (past : StepHistory) (x : SeatStep) 
   pub truth : AreTrueBytes k past
 
 -- a frame was given back by this access, and these are left
-abbrev pub Frees : Places → FrameAt → FrameStep → List (ℕ × FrameState) → Me Cell Holder → Me Cell Holder → Type 0
+abbrev pub Frees : Places → FrameAt → FrameStep → List (ℕ × FrameState) → Me Cell FrameHolder → Me Cell FrameHolder → Type 0
 Frees b n m hs me me' =
     (past : StepHistory) × (me' ≡ (holder_after past (Frame n.0 n.1 m) hs me.0, rest me.1))
     × Accesses b.layout me.0.own.own past (Frame n.0 n.1 m)
@@ -81,12 +81,12 @@ Frees b n m hs me me' =
     → x ≡ frame_made b.layout a.0 a.1 past)
 
 -- a frame went back as it was taken, and these are left
-abbrev pub Returns : List (ℕ × FrameState) → Me Cell Holder → Me Cell Holder → Type 0
+abbrev pub Returns : List (ℕ × FrameState) → Me Cell FrameHolder → Me Cell FrameHolder → Type 0
 Returns hs me me' = me' ≡ (record me.0 { held = hs }, rest me.1)
 
 -- The seat has the frame of this slot out, first among the slots that it carries. It took it last, or just before
 -- the last
-pub record IsOut (k : Layout) (s : Slot) (last : Bool) (x : FrameState) (me : Me Cell Holder) : Type 0 where
+pub record IsOut (k : Layout) (s : FrameSlot) (last : Bool) (x : FrameState) (me : Me Cell FrameHolder) : Type 0 where
   pub carried : me.1 ≡ (s.index, Some x) ∷ rest me.1
   pub left : AreLeft s.index x me.0.held (left_by last me.0.held)
   pub owner : x.owner ≡ id_at k.ids s.owner
@@ -101,11 +101,11 @@ IsByHeld b held x (Copied d f off r) =
     × IsTrue (is_rightful x.owner x.number r)
 
 -- a seat of this table
-abbrev pub IsOf : TableId → Seat Cell Holder → Type 0
+abbrev pub IsOf : TableId → Seat Cell FrameHolder → Type 0
 IsOf z s = s.table_id ≡ z
 
 -- the seat made this access to the frame, and nothing else: it is the step of the history right after the steps past
-abbrev pub Accessed : Layout → FrameAt → FrameStep → Me Cell Holder → Me Cell Holder → Type 0
+abbrev pub Accessed : Layout → FrameAt → FrameStep → Me Cell FrameHolder → Me Cell FrameHolder → Type 0
 Accessed k n m me me' =
     (past : StepHistory)
     × (me' ≡ (record { own = outlook_after past (Frame n.0 n.1 m) me.0.own; held = me.0.held }, me.1))
@@ -113,18 +113,18 @@ Accessed k n m me me' =
 
 -- the seat copied a range of the first frame to the second, from an offset on, and did nothing else: it is one step,
 -- which says the bytes that the source had
-abbrev pub CopiedBy : Layout → FrameAt → FrameAt → Writ → Range → ℕ → Me Cell Holder → Me Cell Holder → Type 0
+abbrev pub CopiedBy : Layout → FrameAt → FrameAt → Writ → Range → ℕ → Me Cell FrameHolder → Me Cell FrameHolder → Type 0
 CopiedBy k a b w range to_off me me' =
     (bytes : List ℕ) × (length bytes ≡ range.len)
     × Accessed k b (Copied a.0 a.1 range.off (record { writ = w; off = to_off; bytes = bytes })) me me'
 
 -- two frames held, in the order in which they were taken, the last first
-abbrev pub both_held : Bool → Slot → FrameState → Slot → FrameState → List (ℕ × FrameState)
+abbrev pub both_held : Bool → FrameSlot → FrameState → FrameSlot → FrameState → List (ℕ × FrameState)
 both_held true source x dest y = (dest.index, y) ∷ (source.index, x) ∷ []
 both_held false source x dest y = (source.index, x) ∷ (dest.index, y) ∷ []
 
 -- the seat took both frames, the one of the lower slot first, and the source is out of its slot
-abbrev pub HasBoth : Layout → Slot → Slot → FrameState → Me Cell Holder → Me Cell Holder → Type 0
+abbrev pub HasBoth : Layout → FrameSlot → FrameSlot → FrameState → Me Cell FrameHolder → Me Cell FrameHolder → Type 0
 HasBoth k source dest x me me' =
     (y : FrameState)
     × (me' ≡ (

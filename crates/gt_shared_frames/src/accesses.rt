@@ -10,7 +10,7 @@ ghost use Rattle.gt_words.specs.declared.view.FrameStep.TheVariants as access;
 ghost use Rattle.gt_shared_frames.specs.Rule.{HoldsAll, IsNamed, IsSlotOf, name_of, places_of};
 ghost use Rattle.gt_shared_frames.specs.Telling.{Accessed, CopiedBy, Frees, HasBoth, IsOut, Returns, left_by};
 
-use crate::table::{Cells, FrameSeat, OfAccess, Slot, free_lock, lock, return_lock, try_lock};
+use crate::table::{FrameCells, FrameSeat, OfAccess, FrameSlot, free_lock, lock, return_lock, try_lock};
 use gt_frames::{Copied, Filled, Frame, Writ, Written};
 use gt_types::{Memory, Range};
 use std::marker::Brand;
@@ -18,9 +18,9 @@ use std::sync::Wait;
 
 // Frees a frame that was read. Only the proof reads what was read.
 fn free_read<J: OfAccess>(
-    cells: &Cells,
+    cells: &FrameCells,
     seat: &mut FrameSeat,
-    slot: Slot,
+    slot: FrameSlot,
     last: bool,
     off: u16,
     out: &[u8],
@@ -40,9 +40,9 @@ fn free_read<J: OfAccess>(
 
 // Frees a frame that was written. Only the proof reads what was written.
 fn free_written<J: OfAccess>(
-    cells: &Cells,
+    cells: &FrameCells,
     seat: &mut FrameSeat,
-    slot: Slot,
+    slot: FrameSlot,
     last: bool,
     writ: &Writ,
     off: u16,
@@ -64,11 +64,11 @@ fn free_written<J: OfAccess>(
 
 // Frees a frame that was copied to. Only the proof reads what was copied.
 fn free_copied<J: OfAccess>(
-    cells: &Cells,
+    cells: &FrameCells,
     seat: &mut FrameSeat,
-    slot: Slot,
+    slot: FrameSlot,
     last: bool,
-    source: Slot,
+    source: FrameSlot,
     from: &Frame,
     writ: &Writ,
     range: Range,
@@ -91,7 +91,7 @@ fn free_copied<J: OfAccess>(
 }
 
 // Frees a frame as it was taken: nothing is told.
-fn return_as_taken<J: OfAccess>(cells: &Cells, seat: &mut FrameSeat, slot: Slot, last: bool)
+fn return_as_taken<J: OfAccess>(cells: &FrameCells, seat: &mut FrameSeat, slot: FrameSlot, last: bool)
     requires fits { (seat.old.table_id ≡ cells.now.table_id)
         × IsSlotOf (places_of cells.now.key) cells.now.table_id slot }
     requires allowed { Allows (HoldsAll (places_of cells.now.key)) cells.now.table_id.slots seat.old.id seat.old.me
@@ -104,7 +104,7 @@ fn return_as_taken<J: OfAccess>(cells: &Cells, seat: &mut FrameSeat, slot: Slot,
 }
 
 // Moves a frame out of its slot.
-fn take_out(cells: &Cells, seat: &mut FrameSeat, slot: Slot, last: bool) -> Frame
+fn take_out(cells: &FrameCells, seat: &mut FrameSeat, slot: FrameSlot, last: bool) -> Frame
     requires mine { seat.old.table_id ≡ cells.now.table_id }
     requires out { (x : FrameState) × IsOut (layout_of cells.now.key) slot last x seat.old.me }
     ensures seat { (seat.new.table_id ≡ seat.old.table_id) × (seat.new.id ≡ seat.old.id) }
@@ -120,9 +120,9 @@ fn take_out(cells: &Cells, seat: &mut FrameSeat, slot: Slot, last: bool) -> Fram
 
 // Reads a frame that is out over all of `out`, and frees it.
 fn read_out(
-    cells: &Cells,
+    cells: &FrameCells,
     seat: &mut FrameSeat,
-    slot: Slot,
+    slot: FrameSlot,
     last: bool,
     off: u16,
     out: &mut [u8],
@@ -145,9 +145,9 @@ fn read_out(
 
 // Writes to a frame that is out, and frees it. If memory is refused, the frame goes back unchanged.
 fn write_out<'a>(
-    cells: &Cells,
+    cells: &FrameCells,
     seat: &mut FrameSeat,
-    slot: Slot,
+    slot: FrameSlot,
     last: bool,
     writ: &Writ,
     off: u16,
@@ -183,11 +183,11 @@ fn write_out<'a>(
 // Copies a range to a frame that is out, and frees that one. The source is held too, out of its slot. If memory is
 // refused, the destination goes back as it was taken.
 fn copy_out(
-    cells: &Cells,
+    cells: &FrameCells,
     seat: &mut FrameSeat,
-    source: Slot,
+    source: FrameSlot,
     from: &Frame,
-    slot: Slot,
+    slot: FrameSlot,
     last: bool,
     writ: &Writ,
     range: Range,
@@ -227,9 +227,9 @@ fn copy_out(
 /// Reads a frame from the offset `off` on over all of `out`, if no other seat has the frame. It is one step of the
 /// history, which says the bytes that the steps before it make. With `None` nothing changed.
 pub fn try_read(
-    cells: &Cells,
+    cells: &FrameCells,
     seat: &mut FrameSeat,
-    slot: Slot,
+    slot: FrameSlot,
     off: u16,
     out: &mut [u8],
 ) -> Option<Filled>
@@ -251,9 +251,9 @@ pub fn try_read(
 /// Reads a frame from the offset `off` on over all of `out`. Waits while another seat has the frame.
 pub fn read<R: Wait>(
     rt: &R,
-    cells: &Cells,
+    cells: &FrameCells,
     seat: &mut FrameSeat,
-    slot: Slot,
+    slot: FrameSlot,
     off: u16,
     out: &mut [u8],
 ) -> Filled
@@ -275,9 +275,9 @@ pub fn read<R: Wait>(
 /// # Errors
 /// `Memory`. The frame is as it was, and no step was made.
 pub fn try_write<'a>(
-    cells: &Cells,
+    cells: &FrameCells,
     seat: &mut FrameSeat,
-    slot: Slot,
+    slot: FrameSlot,
     writ: &Writ,
     off: u16,
     bytes: &'a [u8],
@@ -306,9 +306,9 @@ pub fn try_write<'a>(
 /// `Memory`. The frame is as it was, and no step was made.
 pub fn write<'a, R: Wait>(
     rt: &R,
-    cells: &Cells,
+    cells: &FrameCells,
     seat: &mut FrameSeat,
-    slot: Slot,
+    slot: FrameSlot,
     writ: &Writ,
     off: u16,
     bytes: &'a [u8],
@@ -330,10 +330,10 @@ pub fn write<'a, R: Wait>(
 // Takes two frames, the one of the lower slot first, and moves the source out.
 fn lock_both<R: Wait>(
     rt: &R,
-    cells: &Cells,
+    cells: &FrameCells,
     seat: &mut FrameSeat,
-    source: Slot,
-    dest: Slot,
+    source: FrameSlot,
+    dest: FrameSlot,
 ) -> Frame
     requires mine { seat.old.table_id ≡ cells.now.table_id }
     requires slots { IsSlotOf (places_of cells.now.key) cells.now.table_id source
@@ -357,7 +357,7 @@ fn lock_both<R: Wait>(
 }
 
 // Puts the source of a copy back as it was taken.
-fn return_source(cells: &Cells, seat: &mut FrameSeat, slot: Slot, frame: Frame)
+fn return_source(cells: &FrameCells, seat: &mut FrameSeat, slot: FrameSlot, frame: Frame)
     requires mine { (seat.old.table_id ≡ cells.now.table_id)
         × IsSlotOf (places_of cells.now.key) cells.now.table_id slot }
     requires held { (seat.old.me.1 ≡ (slot.index, None) ∷ []) × (seat.old.me.0.held ≡ (slot.index, frame) ∷ []) }
@@ -376,10 +376,10 @@ fn return_source(cells: &Cells, seat: &mut FrameSeat, slot: Slot, frame: Frame)
 /// `Memory`. Both frames are as they were, and no step was made.
 pub fn copy<R: Wait>(
     rt: &R,
-    cells: &Cells,
+    cells: &FrameCells,
     seat: &mut FrameSeat,
-    source: Slot,
-    dest: Slot,
+    source: FrameSlot,
+    dest: FrameSlot,
     writ: &Writ,
     range: Range,
     to_off: u16,
@@ -405,9 +405,9 @@ pub fn copy<R: Wait>(
 
 // Frees a frame in which a range was copied. Only the proof reads what was copied.
 fn free_copied_within<J: OfAccess>(
-    cells: &Cells,
+    cells: &FrameCells,
     seat: &mut FrameSeat,
-    slot: Slot,
+    slot: FrameSlot,
     writ: &Writ,
     range: Range,
     to_off: u16,
@@ -433,9 +433,9 @@ fn free_copied_within<J: OfAccess>(
 /// `Memory`. The frame is as it was, and no step was made.
 pub fn copy_within<R: Wait>(
     rt: &R,
-    cells: &Cells,
+    cells: &FrameCells,
     seat: &mut FrameSeat,
-    slot: Slot,
+    slot: FrameSlot,
     writ: &Writ,
     range: Range,
     to_off: u16,

@@ -21,29 +21,29 @@ use std::marker::{Brand, PhantomData};
 use std::sync::Wait;
 
 /// What a seat knows of words and views, and the frames that it took out. No value of it is made.
-pub struct Holder {
+pub struct FrameHolder {
     pub own: Outlook,
     pub held: LinkedList<(u64, Frame)>,
 }
 
 /// The rule of the table: words and views show a state of the core, and the frames are those of its history.
-pub struct Frames;
+pub struct FrameTableRule;
 
-impl TableRule<Option<Frame>, Holder, Config> for Frames {
+impl TableRule<Option<Frame>, FrameHolder, Config> for FrameTableRule {
     ghost holds = { λ c. HoldsAll (places_of c) };
 
     ghost first = { λ c. newcomer (outlook_of (new_view c.first_gen (layout_of c).headers (layout_of c).ids 0)) };
 }
 
 /// A seat of this table.
-pub type FrameSeat = Seat<Option<Frame>, Holder>;
+pub type FrameSeat = Seat<Option<Frame>, FrameHolder>;
 
 /// The words and slots that all seats share.
-pub type Cells = Shared<Option<Frame>, Holder, Config, Frames>;
+pub type FrameCells = Shared<Option<Frame>, FrameHolder, Config, FrameTableRule>;
 
 /// A frame's slot in the table, with the frame's name.
 #[derive(Clone, Copy)]
-pub struct Slot {
+pub struct FrameSlot {
     /// The place of its lock among the words.
     pub lock: usize,
     /// Its number among the slots.
@@ -96,7 +96,7 @@ struct LocksSlot<J> {
     kind: PhantomData<J>,
 }
 
-impl<J: OfSlot> Play<Option<Frame>, Holder> for LocksSlot<J> {
+impl<J: OfSlot> Play<Option<Frame>, FrameHolder> for LocksSlot<J> {
     ghost then = { λ _ m n m'. Locks J.layout J.name J.slot m n m' };
 }
 
@@ -104,7 +104,7 @@ struct FreesBy<J> {
     kind: PhantomData<J>,
 }
 
-impl<J: OfAccess> Play<Option<Frame>, Holder> for FreesBy<J> {
+impl<J: OfAccess> Play<Option<Frame>, FrameHolder> for FreesBy<J> {
     ghost then = { λ _ m _ m'. Frees J.places J.name J.access J.left m m' };
 }
 
@@ -112,12 +112,12 @@ struct ReturnsTo<J> {
     kind: PhantomData<J>,
 }
 
-impl<J: OfAccess> Play<Option<Frame>, Holder> for ReturnsTo<J> {
+impl<J: OfAccess> Play<Option<Frame>, FrameHolder> for ReturnsTo<J> {
     ghost then = { λ _ m _ m'. Returns J.left m m' };
 }
 
 // One exchange of a lock. Only the proof reads the slot but for its lock.
-fn lock_word<J: OfSlot>(cells: &Cells, seat: &mut FrameSeat, slot: Slot) -> u64
+fn lock_word<J: OfSlot>(cells: &FrameCells, seat: &mut FrameSeat, slot: FrameSlot) -> u64
     requires fits { (seat.old.table_id ≡ cells.now.table_id) × (slot.lock < cells.now.table_id.words) }
     requires allowed { Allows (HoldsAll (places_of cells.now.key)) cells.now.table_id.slots seat.old.id seat.old.me
         slot.lock (λ n. either (n == 0) 1 n) (λ n m. Locks J.layout J.name J.slot seat.old.me n m) }
@@ -128,7 +128,7 @@ fn lock_word<J: OfSlot>(cells: &Cells, seat: &mut FrameSeat, slot: Slot) -> u64
 }
 
 // One store of a lock, by which an access to its frame takes place.
-pub(crate) fn free_lock<J: OfAccess>(cells: &Cells, seat: &mut FrameSeat, slot: Slot)
+pub(crate) fn free_lock<J: OfAccess>(cells: &FrameCells, seat: &mut FrameSeat, slot: FrameSlot)
     requires fits { (seat.old.table_id ≡ cells.now.table_id) × (slot.lock < cells.now.table_id.words) }
     requires allowed { Allows (HoldsAll (places_of cells.now.key)) cells.now.table_id.slots seat.old.id seat.old.me
         slot.lock (λ _. 0) (λ _ m. Frees J.places J.name J.access J.left seat.old.me m) }
@@ -140,7 +140,7 @@ pub(crate) fn free_lock<J: OfAccess>(cells: &Cells, seat: &mut FrameSeat, slot: 
 }
 
 // One store of a lock whose frame comes back as it was taken.
-pub(crate) fn return_lock<J: OfAccess>(cells: &Cells, seat: &mut FrameSeat, slot: Slot)
+pub(crate) fn return_lock<J: OfAccess>(cells: &FrameCells, seat: &mut FrameSeat, slot: FrameSlot)
     requires fits { (seat.old.table_id ≡ cells.now.table_id) × (slot.lock < cells.now.table_id.words) }
     requires allowed { Allows (HoldsAll (places_of cells.now.key)) cells.now.table_id.slots seat.old.id seat.old.me
         slot.lock (λ _. 0) (λ _ m. Returns J.left seat.old.me m) }
@@ -152,7 +152,7 @@ pub(crate) fn return_lock<J: OfAccess>(cells: &Cells, seat: &mut FrameSeat, slot
 }
 
 /// Takes the frame of a slot, if no other seat has it. Otherwise nothing changes.
-pub fn try_lock(cells: &Cells, seat: &mut FrameSeat, slot: Slot) -> bool
+pub fn try_lock(cells: &FrameCells, seat: &mut FrameSeat, slot: FrameSlot) -> bool
     requires mine { seat.old.table_id ≡ cells.now.table_id }
     requires slot { IsSlotOf (places_of cells.now.key) cells.now.table_id slot }
     ensures seat { (seat.new.table_id ≡ seat.old.table_id) × (seat.new.id ≡ seat.old.id) }
@@ -163,7 +163,7 @@ pub fn try_lock(cells: &Cells, seat: &mut FrameSeat, slot: Slot) -> bool
 }
 
 /// Takes the frame of a slot. Waits while another seat has it.
-pub fn lock<R: Wait>(rt: &R, cells: &Cells, seat: &mut FrameSeat, slot: Slot)
+pub fn lock<R: Wait>(rt: &R, cells: &FrameCells, seat: &mut FrameSeat, slot: FrameSlot)
     requires mine { seat.old.table_id ≡ cells.now.table_id }
     requires slot { IsSlotOf (places_of cells.now.key) cells.now.table_id slot }
     ensures seat { (seat.new.table_id ≡ seat.old.table_id) × (seat.new.id ≡ seat.old.id) }

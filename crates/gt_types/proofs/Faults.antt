@@ -18,7 +18,7 @@ use Rattle.gt_types.specs.declared.config.ConfigFault.TheVariants.{NoDomains, To
 use Rattle.gt_types.specs.declared.config.ConfigFault.TheVariants.{TableFrames, Version, Generation}
 use Rattle.gt_types.specs.declared.limits.TheConstants.{DOMID_SELF, MAX_DOMAINS, MAX_FRAMES, MAX_TABLE_FRAMES}
 use Rattle.gt_types.specs.declared.limits.TheConstants.{LAST_VERSION, LAST_GENERATION}
-use Rattle.gt_types.specs.Config.{IsWithinLimits, fault_when, is_outside, is_taken, domain_fault, AreFaultless}
+use Rattle.gt_types.specs.Config.{IsWithinLimits, fault_when, is_out_of_range, is_taken, domain_fault, AreFaultless}
 use Rattle.gt_types.specs.Config.{IsFirstDomainFault, IsFirstFault}
 
 -- the domain keeps every limit behind those before it
@@ -55,17 +55,17 @@ chain-none false fa false fb false fc false fd false fe true ff is = absurd (non
 chain-none false fa false fb false fc false fd false fe false ff is =
     record { first = refl; second = refl; third = refl; fourth = refl; fifth = refl; sixth = refl }
 
-inside : (last n : ℕ) → is_outside last n ≡ false → (1 ≤ n) × (n ≤ last)
+inside : (last n : ℕ) → is_out_of_range last n ≡ false → (1 ≤ n) × (n ≤ last)
 inside last n e = (grind (arith, nat_tests), grind (arith, nat_tests))
 
-not-outside : (last n : ℕ) → 1 ≤ n → n ≤ last → is_outside last n ≡ false
+not-outside : (last n : ℕ) → 1 ≤ n → n ≤ last → is_out_of_range last n ≡ false
 not-outside last n a b = grind (arith, nat_tests)
 
 fits : (before : List DomainConfig) (d : DomainConfig) → domain_fault before d ≡ None → Fits before d
 unfolding domain_fault
 fits before d is =
     let t = chain-none (nat_le MAX_DOMAINS (length before)) (TooMany d.id) (nat_le DOMID_SELF d.id.0) (Id d.id) (is_taken before d.id) (Repeated d.id)
-    (is_outside MAX_FRAMES d.frames) (Frames d.id) (is_outside MAX_TABLE_FRAMES d.table_frames) (TableFrames d.id) (is_outside LAST_VERSION d.version) (Version d.id) is in
+    (is_out_of_range MAX_FRAMES d.frames) (Frames d.id) (is_out_of_range MAX_TABLE_FRAMES d.table_frames) (TableFrames d.id) (is_out_of_range LAST_VERSION d.version) (Version d.id) is in
     let few : nat_le MAX_DOMAINS (length before) ≡ false = t.first in
     let low : nat_le DOMID_SELF d.id.0 ≡ false = t.second in
     record {

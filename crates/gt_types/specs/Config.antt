@@ -30,8 +30,8 @@ fault_when true fault = Some fault
 fault_when false fault = None
 
 -- the number is outside 1 to the last
-abbrev pub is_outside : ℕ → ℕ → Bool
-is_outside last n = not (nat_le 1 n && nat_le n last)
+abbrev pub is_out_of_range : ℕ → ℕ → Bool
+is_out_of_range last n = not (nat_le 1 n && nat_le n last)
 
 -- one of the domains has this number
 abbrev pub is_taken : List DomainConfig → DomId → Bool
@@ -44,9 +44,9 @@ domain_fault before d =
     option_or (fault_when (nat_le MAX_DOMAINS (length before)) (TooMany d.id))
     (option_or (fault_when (nat_le DOMID_SELF d.id.0) (Id d.id))
     (option_or (fault_when (is_taken before d.id) (Repeated d.id))
-    (option_or (fault_when (is_outside MAX_FRAMES d.frames) (Frames d.id))
-    (option_or (fault_when (is_outside MAX_TABLE_FRAMES d.table_frames) (TableFrames d.id))
-    (fault_when (is_outside LAST_VERSION d.version) (Version d.id))))))
+    (option_or (fault_when (is_out_of_range MAX_FRAMES d.frames) (Frames d.id))
+    (option_or (fault_when (is_out_of_range MAX_TABLE_FRAMES d.table_frames) (TableFrames d.id))
+    (fault_when (is_out_of_range LAST_VERSION d.version) (Version d.id))))))
 
 -- no domain has a fault after those before it
 pub record AreFaultless (domains : List DomainConfig) : Type 0 where

@@ -7,12 +7,12 @@ use borrow.Author.Tests.{eqb-true}
 use Rattle.gt_ways.specs.Lists.{HasListAt, AreWhole, GrowsInto, IsEmptyList}
 use Rattle.gt_ways.specs.Ways.{Ways, GoesTo, HasEachTurn, HasEnoughTurns, PrintsSame}
 use Rattle.gt_ways.specs.Exploring.{HasEnd, IsAmongEnds, AllHaveLists, NodeHolds, SearchHolds, Grew, VisitHolds, Notes}
-use Rattle.gt_ways.specs.declared.exploring.End.{End}
+use Rattle.gt_ways.specs.declared.exploring.ReachedList.{ReachedList}
 use Rattle.gt_ways.specs.declared.exploring.Explorer.{Explorer}
 use Rattle.gt_ways.specs.declared.exploring.Node.{Node}
-use Rattle.gt_ways.specs.declared.exploring.Visit.{Visit}
+use Rattle.gt_ways.specs.declared.exploring.OpenNode.{OpenNode}
 use Rattle.gt_replay.specs.declared.replay.Turn.{Turn}
-use Rattle.gt_ways.specs.declared.suffixes.Suffixes.{Suffixes}
+use Rattle.gt_ways.specs.declared.suffixes.AnswerLists.{AnswerLists}
 use Rattle.std.specs.Global.{Vec}
 use Rattle.gt_ways.proofs.Growing.{get_kept, no_more, node_on}
 use Rattle.gt_ways.proofs.Listing.{grows_same}
@@ -33,11 +33,11 @@ pub at_last : {X : Type 0} (xs : List X) (e : X) → slice_get (xs ++ e ∷ []) 
 at_last [] e = refl
 at_last (x ∷ xs) e = at_last xs e
 
-map_last : (ends : List End) (e : End) → map (λ (i : End). i.list) (ends ++ e ∷ []) ≡ map (λ (i : End). i.list) ends ++ e.list ∷ []
+map_last : (ends : List ReachedList) (e : ReachedList) → map (λ (i : ReachedList). i.list) (ends ++ e ∷ []) ≡ map (λ (i : ReachedList). i.list) ends ++ e.list ∷ []
 map_last [] e = refl
 map_last (d ∷ ends) e = ap (λ (l : List ℕ). d.list ∷ l) (map_last ends e)
 
-end_back : (ends : List End) (at n : ℕ) → slice_get (map (λ (i : End). i.list) ends) at ≡ Some n → (e : End) × (slice_get ends at ≡ Some e) × (e.list ≡ n)
+end_back : (ends : List ReachedList) (at n : ℕ) → slice_get (map (λ (i : ReachedList). i.list) ends) at ≡ Some n → (e : ReachedList) × (slice_get ends at ≡ Some e) × (e.list ≡ n)
 end_back [] at n is = absurd (none-some n is)
 end_back (e ∷ ends) zero n is = (e, refl, same_Some e.list n is)
 end_back (e ∷ ends) (suc at) n is = end_back ends at n is
@@ -65,18 +65,18 @@ key_kept false r keys new k is so new_is = let same : false ≡ true = sym so �
 
 -- notes
 
-pub notes_new : (v : Visit) (e : End) (w : Visit) → w.state ≡ v.state → w.turns ≡ v.turns → w.next ≡ v.next → w.ends.items ≡ v.ends.items ++ e ∷ [] → w.lists.keys ≡ v.lists.keys ++ e.list ∷ []
+pub notes_new : (v : OpenNode) (e : ReachedList) (w : OpenNode) → w.state ≡ v.state → w.turns ≡ v.turns → w.next ≡ v.next → w.ends.items ≡ v.ends.items ++ e ∷ [] → w.lists.keys ≡ v.lists.keys ++ e.list ∷ []
     → Notes v e w
 notes_new v e w state turns next ends keys = record {
   state = state;
   turns = turns;
   next = next;
   ends = inr ends;
-  has = λ lists. (length v.ends.items, e, ap (λ (l : List End). slice_get l (length v.ends.items)) ends ∙ at_last v.ends.items e, refl);
-  numbers = λ lists. ap (map (λ (i : End). i.list)) ends ∙ map_last v.ends.items e ∙ ap (λ (l : List ℕ). l ++ e.list ∷ []) lists ∙ sym keys;
+  has = λ lists. (length v.ends.items, e, ap (λ (l : List ReachedList). slice_get l (length v.ends.items)) ends ∙ at_last v.ends.items e, refl);
+  numbers = λ lists. ap (map (λ (i : ReachedList). i.list)) ends ∙ map_last v.ends.items e ∙ ap (λ (l : List ℕ). l ++ e.list ∷ []) lists ∙ sym keys;
 }
 
-pub notes_old : (v : Visit) (e : End) (w : Visit) (at n : ℕ) → w.state ≡ v.state → w.turns ≡ v.turns → w.next ≡ v.next → w.ends.items ≡ v.ends.items → w.lists.keys ≡ v.lists.keys
+pub notes_old : (v : OpenNode) (e : ReachedList) (w : OpenNode) (at n : ℕ) → w.state ≡ v.state → w.turns ≡ v.turns → w.next ≡ v.next → w.ends.items ≡ v.ends.items → w.lists.keys ≡ v.lists.keys
     → slice_get w.lists.keys at ≡ Some n → nat_eq e.list n ≡ true → Notes v e w
 notes_old v e w at n state turns next ends keys there same = record {
   state = state;
@@ -85,19 +85,19 @@ notes_old v e w at n state turns next ends keys there same = record {
   ends = inl ends;
   has = λ lists.
       let back = end_back v.ends.items at n (ap (λ (l : List ℕ). slice_get l at) (lists ∙ sym keys) ∙ there) in
-      (at, back.0, ap (λ (l : List End). slice_get l at) ends ∙ back.1, back.2 ∙ sym (eqb-true e.list n same));
-  numbers = λ lists. ap (map (λ (i : End). i.list)) ends ∙ lists ∙ sym keys;
+      (at, back.0, ap (λ (l : List ReachedList). slice_get l at) ends ∙ back.1, back.2 ∙ sym (eqb-true e.list n same));
+  numbers = λ lists. ap (map (λ (i : ReachedList). i.list)) ends ∙ lists ∙ sym keys;
 }
 
-pub end_more : (v : Visit) (e : End) (w : Visit) (list : ℕ) → ((w.ends.items ≡ v.ends.items) ⊎ (w.ends.items ≡ v.ends.items ++ e ∷ [])) → HasEnd v.ends.items list → HasEnd w.ends.items list
-end_more v e w list (inl same) (at, d, there, is) = (at, d, ap (λ (l : List End). slice_get l at) same ∙ there, is)
-end_more v e w list (inr more) (at, d, there, is) = (at, d, ap (λ (l : List End). slice_get l at) more ∙ get_kept v.ends.items (e ∷ []) at d there, is)
+pub end_more : (v : OpenNode) (e : ReachedList) (w : OpenNode) (list : ℕ) → ((w.ends.items ≡ v.ends.items) ⊎ (w.ends.items ≡ v.ends.items ++ e ∷ [])) → HasEnd v.ends.items list → HasEnd w.ends.items list
+end_more v e w list (inl same) (at, d, there, is) = (at, d, ap (λ (l : List ReachedList). slice_get l at) same ∙ there, is)
+end_more v e w list (inr more) (at, d, there, is) = (at, d, ap (λ (l : List ReachedList). slice_get l at) more ∙ get_kept v.ends.items (e ∷ []) at d there, is)
 
-pub among_noted : {W : Type 0} (ways : Ways W) (s : Suffixes) (v : Visit) (e : End) (w : Visit) (p q : ways.Point) → Notes v e w → IsAmongEnds ways s v.ends.items p q → IsAmongEnds ways s w.ends.items p q
+pub among_noted : {W : Type 0} (ways : Ways W) (s : AnswerLists) (v : OpenNode) (e : ReachedList) (w : OpenNode) (p q : ways.Point) → Notes v e w → IsAmongEnds ways s v.ends.items p q → IsAmongEnds ways s w.ends.items p q
 among_noted ways s v e w p q notes (list, end, has, prints) = (list, end_more v e w list notes.ends end, has, prints)
 
 -- a list that there is was noted
-pub visit_noted : {W : Type 0} (ways : Ways W) (ex : Explorer W) (v : Visit) (e : End) (w : Visit) → Notes v e w → HasListAt ex.suffixes e.list → VisitHolds ways ex v → VisitHolds ways ex w
+pub visit_noted : {W : Type 0} (ways : Ways W) (ex : Explorer W) (v : OpenNode) (e : ReachedList) (w : OpenNode) → Notes v e w → HasListAt ex.suffixes e.list → VisitHolds ways ex v → VisitHolds ways ex w
 visit_noted ways ex v e w notes has holds = record {
   world = holds.world;
   there = ap (λ (n : ℕ). slice_get ex.states.worlds.items n) notes.state ∙ holds.there;
@@ -110,21 +110,21 @@ visit_noted ways ex v e w notes has holds = record {
   numbers = notes.numbers holds.numbers;
 }
   where
-    either : (at : ℕ) (d : End) → (slice_get v.ends.items at ≡ Some d) ⊎ ((d ≡ e) × (at ≡ length v.ends.items)) → HasListAt ex.suffixes d.list
+    either : (at : ℕ) (d : ReachedList) → (slice_get v.ends.items at ≡ Some d) ⊎ ((d ≡ e) × (at ≡ length v.ends.items)) → HasListAt ex.suffixes d.list
     either at d (inl was) = holds.lists at d was
-    either at d (inr (one, place)) = subst (λ (i : End). HasListAt ex.suffixes i.list) (sym one) has
+    either at d (inr (one, place)) = subst (λ (i : ReachedList). HasListAt ex.suffixes i.list) (sym one) has
 
     by : ((w.ends.items ≡ v.ends.items) ⊎ (w.ends.items ≡ v.ends.items ++ e ∷ [])) → AllHaveLists ex.suffixes w.ends.items
-    by (inl same) = λ at d there. holds.lists at d (ap (λ (l : List End). slice_get l at) (sym same) ∙ there)
-    by (inr more) = λ at d there. either at d (last_or v.ends.items e d at (ap (λ (l : List End). slice_get l at) (sym more) ∙ there))
+    by (inl same) = λ at d there. holds.lists at d (ap (λ (l : List ReachedList). slice_get l at) (sym same) ∙ there)
+    by (inr more) = λ at d there. either at d (last_or v.ends.items e d at (ap (λ (l : List ReachedList). slice_get l at) (sym more) ∙ there))
 
 -- done
 
 -- what leads to one end leads to another one at which the same was printed
-among_same : {W : Type 0} (ways : Ways W) (s : Suffixes) (ends : List End) (p r q : ways.Point) → PrintsSame ways q r → IsAmongEnds ways s ends p r → IsAmongEnds ways s ends p q
+among_same : {W : Type 0} (ways : Ways W) (s : AnswerLists) (ends : List ReachedList) (p r q : ways.Point) → PrintsSame ways q r → IsAmongEnds ways s ends p r → IsAmongEnds ways s ends p q
 among_same ways s ends p r q same (list, end, has, prints) = (list, end, has, λ at. sym (same at) ∙ prints at)
 
-all_found : {W : Type 0} (ways : Ways W) (ex : Explorer W) (v : Visit) (holds : VisitHolds ways ex v) → length v.turns.items ≤ v.next
+all_found : {W : Type 0} (ways : Ways W) (ex : Explorer W) (v : OpenNode) (holds : VisitHolds ways ex v) → length v.turns.items ≤ v.next
     → (p : ways.Point) (turns : List Turn) (q : ways.Point) → ways.shows holds.world p → GoesTo ways p turns q → IsAmongEnds ways ex.suffixes v.ends.items p q
 all_found ways ex v holds all p [] q shows goes = subst (λ (l : ways.Point). IsAmongEnds ways ex.suffixes v.ends.items p l) goes.0 (holds.over p shows goes.1)
 all_found ways ex v holds all p (turn ∷ turns) q shows goes =
@@ -133,24 +133,24 @@ all_found ways ex v holds all p (turn ∷ turns) q shows goes =
     among_same ways ex.suffixes v.ends.items p r q same (holds.tried at.0 first (omega (arith, within, all)) at.1 p n rest r shows next on)
 
 -- the node of a state that is done
-abbrev pub node_of : Visit → Node
+abbrev pub node_of : OpenNode → Node
 node_of v = record { state = v.state; ends = v.ends }
 
 grew_done : {W : Type 0} (old new : Explorer W) (n : Node) → new.states ≡ old.states → new.suffixes ≡ old.suffixes → new.nodes.items ≡ old.nodes.items ++ n ∷ [] → Grew old new
 grew_done old new n states suffixes nodes = record {
   worlds = no_more old.states.worlds.items new.states.worlds.items (ap (λ s. s.worlds.items) states);
   nodes = (n ∷ [], nodes);
-  suffixes = subst (λ (s : Suffixes). GrowsInto old.suffixes s) (sym suffixes) (grows_same old.suffixes);
+  suffixes = subst (λ (s : AnswerLists). GrowsInto old.suffixes s) (sym suffixes) (grows_same old.suffixes);
 }
 
-pub holds_done : {W : Type 0} (ways : Ways W) (old new : Explorer W) (v : Visit) → SearchHolds ways old → VisitHolds ways old v → length v.turns.items ≤ v.next → new.states ≡ old.states
+pub holds_done : {W : Type 0} (ways : Ways W) (old new : Explorer W) (v : OpenNode) → SearchHolds ways old → VisitHolds ways old v → length v.turns.items ≤ v.next → new.states ≡ old.states
     → new.suffixes ≡ old.suffixes → new.nodes.items ≡ old.nodes.items ++ node_of v ∷ []
     → ((state i : ℕ) → slice_get new.done.items state ≡ Some (Some i) → (slice_get old.done.items state ≡ Some (Some i)) ⊎ ((state ≡ v.state) × (i ≡ length old.nodes.items)))
     → SearchHolds ways new × Grew old new
 holds_done ways old new v holds visit all states suffixes nodes done = (
   record {
     whole = subst AreWhole (sym suffixes) holds.whole;
-    empty = subst (λ (s : Suffixes). IsEmptyList s 0) (sym suffixes) holds.empty;
+    empty = subst (λ (s : AnswerLists). IsEmptyList s 0) (sym suffixes) holds.empty;
     nodes = λ i n there. each i n (last_or old.nodes.items (node_of v) n i (ap (λ (l : List Node). slice_get l i) (sym nodes) ∙ there));
     done = λ state i is. numbered state i (done state i is);
   },

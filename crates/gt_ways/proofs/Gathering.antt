@@ -7,30 +7,30 @@ use Rattle.gt_ways.specs.Lists.{HasListAt, AreWhole, GrowsInto, HasItsLine, IsLo
 use Rattle.gt_ways.specs.Ways.{Ways, PrintsTo}
 use Rattle.gt_ways.specs.Exploring.{HasEnd, AllByTurn, NodeHolds, SearchHolds, Grew, VisitHolds, Notes, TurnLeads}
 use Rattle.gt_ways.specs.Exploring.{Gathered}
-use Rattle.gt_ways.specs.declared.exploring.End.{End}
+use Rattle.gt_ways.specs.declared.exploring.ReachedList.{ReachedList}
 use Rattle.gt_ways.specs.declared.exploring.Explorer.{Explorer}
 use Rattle.gt_ways.specs.declared.exploring.Node.{Node}
-use Rattle.gt_ways.specs.declared.exploring.Onward.{Onward}
-use Rattle.gt_ways.specs.declared.exploring.Visit.{Visit}
+use Rattle.gt_ways.specs.declared.exploring.FirstTurn.{FirstTurn}
+use Rattle.gt_ways.specs.declared.exploring.OpenNode.{OpenNode}
 use Rattle.gt_replay.specs.declared.replay.Turn.{Turn}
-use Rattle.gt_ways.specs.declared.suffixes.Line.{Line}
-use Rattle.gt_ways.specs.declared.suffixes.Suffixes.{Suffixes}
+use Rattle.gt_ways.specs.declared.suffixes.AnswerLine.{AnswerLine}
+use Rattle.gt_ways.specs.declared.suffixes.AnswerLists.{AnswerLists}
 use Rattle.gt_ways.proofs.Listing.{rest_kept, list_grown, line_kept}
 use Rattle.gt_ways.proofs.Growing.{get_grown, no_more, grew_same, grew_on, visit_on, holds_on}
 use Rattle.gt_ways.proofs.Finding.{end_more, visit_noted}
 
 -- the ways on to the first of the lists that the other state leads to are gathered
-pub record IsGathering {W : Type 0} (ways : Ways W) (old : Explorer W) (v : Visit) (turn : Turn) (line : Option Line) (done : Node) (ex : Explorer W) (w : Visit) (i : ℕ) : Type 0 where
+pub record IsGathering {W : Type 0} (ways : Ways W) (old : Explorer W) (v : OpenNode) (turn : Turn) (line : Option AnswerLine) (done : Node) (ex : Explorer W) (w : OpenNode) (i : ℕ) : Type 0 where
   pub holds : SearchHolds ways ex
   pub grew : Grew old ex
   pub visit : VisitHolds ways ex w
   pub next : w.next ≡ v.next
   pub turns : w.turns ≡ v.turns
   pub state : w.state ≡ v.state
-  pub found : (at : ℕ) (e : End) → at < i → slice_get done.ends.items at ≡ Some e
+  pub found : (at : ℕ) (e : ReachedList) → at < i → slice_get done.ends.items at ≡ Some e
       → (list : ℕ) × HasEnd w.ends.items list × HasListAt ex.suffixes list × IsLonger ex.suffixes line e.list list
 
-pub gathers_first : {W : Type 0} (ways : Ways W) (old : Explorer W) (v : Visit) (turn : Turn) (line : Option Line) (done : Node) → SearchHolds ways old → VisitHolds ways old v → IsGathering ways old v turn line done old v 0
+pub gathers_first : {W : Type 0} (ways : Ways W) (old : Explorer W) (v : OpenNode) (turn : Turn) (line : Option AnswerLine) (done : Node) → SearchHolds ways old → VisitHolds ways old v → IsGathering ways old v turn line done old v 0
 gathers_first ways old v turn line done holds visit = record {
   holds = holds;
   grew = grew_same old;
@@ -42,7 +42,7 @@ gathers_first ways old v turn line done holds visit = record {
 }
 
 -- what the turn leads to, when the search has come on
-leads_on : {W : Type 0} (ways : Ways W) (old : Explorer W) (v : Visit) (turn : Turn) (node : ℕ) (line : Option Line) (done : Node) (ex : Explorer W) → SearchHolds ways old → VisitHolds ways old v
+leads_on : {W : Type 0} (ways : Ways W) (old : Explorer W) (v : OpenNode) (turn : Turn) (node : ℕ) (line : Option AnswerLine) (done : Node) (ex : Explorer W) → SearchHolds ways old → VisitHolds ways old v
     → TurnLeads ways old v turn node line → slice_get old.nodes.items node ≡ Some done → Grew old ex → HasItsLine old.suffixes line
     → (w u : W) → slice_get ex.states.worlds.items v.state ≡ Some w → slice_get ex.states.worlds.items done.state ≡ Some u
     → (p m : ways.Point) → ways.shows w p → ways.next p turn m
@@ -58,7 +58,7 @@ leads_on ways old v turn node line done ex holds visit leads is grew has w u her
       λ at. led.1 at ∙ ap (λ (i : List ℕ). ways.printed p at ++ i) (sym (line_kept old.suffixes ex.suffixes line at grew.suffixes has)),
     )
 
-longer_on : (s t : Suffixes) (line : Option Line) (list n : ℕ) → AreWhole s → GrowsInto s t → HasItsLine s line → HasListAt s list → HasListAt s n → IsLonger s line list n → IsLonger t line list n
+longer_on : (s t : AnswerLists) (line : Option AnswerLine) (list n : ℕ) → AreWhole s → GrowsInto s t → HasItsLine s line → HasListAt s list → HasListAt s n → IsLonger s line list n → IsLonger t line list n
 longer_on s t line list n whole grows is has also longer = λ at.
     rest_kept s t n at whole grows also ∙ longer at
     ∙ ap (λ (i : List ℕ). i ++ rest_by s list at) (sym (line_kept s t line at grows is))
@@ -74,15 +74,15 @@ less_or (suc at) (suc i) lt = by (less_or at i (omega (arith, lt)))
     by (inl less) = inl (omega (arith, less))
     by (inr same) = inr (ap suc same)
 
-abbrev with_suffixes : {W : Type 0} → Explorer W → Suffixes → Explorer W
+abbrev with_suffixes : {W : Type 0} → Explorer W → AnswerLists → Explorer W
 with_suffixes ex t = record ex { suffixes = t }
 
-abbrev noted_of : ℕ → Option Onward → End
+abbrev noted_of : ℕ → Option FirstTurn → ReachedList
 noted_of list onward = record { list = list; onward = onward }
 
 -- the next list was gathered
-pub gathers_more : {W : Type 0} (ways : Ways W) (old : Explorer W) (v : Visit) (turn : Turn) (node : ℕ) (line : Option Line) (done : Node) (ex : Explorer W) (w : Visit) (i : ℕ) (e : End)
-    (t : Suffixes) (list : ℕ) (onward : Option Onward) (u : Visit)
+pub gathers_more : {W : Type 0} (ways : Ways W) (old : Explorer W) (v : OpenNode) (turn : Turn) (node : ℕ) (line : Option AnswerLine) (done : Node) (ex : Explorer W) (w : OpenNode) (i : ℕ) (e : ReachedList)
+    (t : AnswerLists) (list : ℕ) (onward : Option FirstTurn) (u : OpenNode)
     → slice_get old.nodes.items node ≡ Some done → HasItsLine ex.suffixes line → IsGathering ways old v turn line done ex w i → slice_get done.ends.items i ≡ Some e → GrowsInto ex.suffixes t → (HasListAt ex.suffixes e.list → HasListAt t list)
     → (AreWhole ex.suffixes → HasListAt ex.suffixes e.list → IsLonger t line e.list list)
     → Notes w (record { list = list; onward = onward }) u
@@ -128,7 +128,7 @@ gathers_more ways old v turn node line done ex w i e t list onward u is line_on 
     longer : IsLonger t line e.list list
     longer = longers gathers.holds.whole was
 
-    found : (at : ℕ) (d : End) → at < i + 1 → slice_get done.ends.items at ≡ Some d
+    found : (at : ℕ) (d : ReachedList) → at < i + 1 → slice_get done.ends.items at ≡ Some d
         → (n : ℕ) × HasEnd u.ends.items n × HasListAt t n × IsLonger t line d.list n
     found at d lt so = by (less_or at i lt)
       where
@@ -145,11 +145,11 @@ gathers_more ways old v turn node line done ex w i e t list onward u is line_on 
               list,
               notes.has gathers.visit.numbers,
               has,
-              subst (λ (b : End). IsLonger t line b.list list) (sym one) longer,
+              subst (λ (b : ReachedList). IsLonger t line b.list list) (sym one) longer,
             )
 
 -- all were gathered
-pub gathers_all : {W : Type 0} (ways : Ways W) (old : Explorer W) (v : Visit) (turn : Turn) (node : ℕ) (line : Option Line) (done : Node) (ex : Explorer W) (w : Visit) (i : ℕ)
+pub gathers_all : {W : Type 0} (ways : Ways W) (old : Explorer W) (v : OpenNode) (turn : Turn) (node : ℕ) (line : Option AnswerLine) (done : Node) (ex : Explorer W) (w : OpenNode) (i : ℕ)
     → SearchHolds ways old → VisitHolds ways old v → TurnLeads ways old v turn node line → slice_get old.nodes.items node ≡ Some done → HasItsLine old.suffixes line
     → length done.ends.items ≤ i → IsGathering ways old v turn line done ex w i → Gathered ways old v turn ex w
 gathers_all ways old v turn node line done ex w i first visit leads is line_is all gathers = record {

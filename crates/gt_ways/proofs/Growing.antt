@@ -6,11 +6,11 @@ use Rattle.std.proofs.lemmas.Option.{none-some}
 use Rattle.gt_ways.specs.Lists.{HasListAt, AreWhole, GrowsInto, rest_by}
 use Rattle.gt_ways.specs.Ways.{Ways, PrintsTo}
 use Rattle.gt_ways.specs.Exploring.{IsAmongEnds, AllHaveLists, NodeHolds, SearchHolds, Grew, VisitHolds}
-use Rattle.gt_ways.specs.declared.exploring.End.{End}
+use Rattle.gt_ways.specs.declared.exploring.ReachedList.{ReachedList}
 use Rattle.gt_ways.specs.declared.exploring.Explorer.{Explorer}
 use Rattle.gt_ways.specs.declared.exploring.Node.{Node}
-use Rattle.gt_ways.specs.declared.exploring.Visit.{Visit}
-use Rattle.gt_ways.specs.declared.suffixes.Suffixes.{Suffixes}
+use Rattle.gt_ways.specs.declared.exploring.OpenNode.{OpenNode}
+use Rattle.gt_ways.specs.declared.suffixes.AnswerLists.{AnswerLists}
 use Rattle.gt_ways.proofs.Listing.{rest_kept, list_grown, grows_same, grows_on}
 
 -- lists
@@ -31,13 +31,13 @@ both_more xs ys zs (a, first) (b, second) = (a ++ b, second ∙ ap (λ l. l ++ b
 
 -- lists of answers
 
-prints_grown : {W : Type 0} (ways : Ways W) (s t : Suffixes) (n : ℕ) (p q : ways.Point) → AreWhole s → GrowsInto s t → HasListAt s n → PrintsTo ways (rest_by s n) p q → PrintsTo ways (rest_by t n) p q
+prints_grown : {W : Type 0} (ways : Ways W) (s t : AnswerLists) (n : ℕ) (p q : ways.Point) → AreWhole s → GrowsInto s t → HasListAt s n → PrintsTo ways (rest_by s n) p q → PrintsTo ways (rest_by t n) p q
 prints_grown ways s t n p q whole grows has prints = λ at. prints at ∙ ap (λ w. ways.printed p at ++ w) (sym (rest_kept s t n at whole grows has))
 
-pub among_grown : {W : Type 0} (ways : Ways W) (s t : Suffixes) (ends : List End) (p q : ways.Point) → AreWhole s → GrowsInto s t → IsAmongEnds ways s ends p q → IsAmongEnds ways t ends p q
+pub among_grown : {W : Type 0} (ways : Ways W) (s t : AnswerLists) (ends : List ReachedList) (p q : ways.Point) → AreWhole s → GrowsInto s t → IsAmongEnds ways s ends p q → IsAmongEnds ways t ends p q
 among_grown ways s t ends p q whole grows (list, end, has, prints) = (list, end, list_grown s t list grows has, prints_grown ways s t list p q whole grows has prints)
 
-pub lists_grown : (s t : Suffixes) (ends : List End) → GrowsInto s t → AllHaveLists s ends → AllHaveLists t ends
+pub lists_grown : (s t : AnswerLists) (ends : List ReachedList) → GrowsInto s t → AllHaveLists s ends → AllHaveLists t ends
 lists_grown s t ends grows lists = λ at e there. list_grown s t e.list grows (lists at e there)
 
 -- searches
@@ -64,7 +64,7 @@ node_on ways old new n whole grew holds = record {
   lists = lists_grown old.suffixes new.suffixes n.ends.items grew.suffixes holds.lists;
 }
 
-pub visit_on : {W : Type 0} (ways : Ways W) (old new : Explorer W) (v : Visit) → AreWhole old.suffixes → Grew old new → VisitHolds ways old v → VisitHolds ways new v
+pub visit_on : {W : Type 0} (ways : Ways W) (old new : Explorer W) (v : OpenNode) → AreWhole old.suffixes → Grew old new → VisitHolds ways old v → VisitHolds ways new v
 visit_on ways old new v whole grew holds = record {
   world = holds.world;
   there = get_grown old.states.worlds.items new.states.worlds.items v.state holds.world grew.worlds holds.there;

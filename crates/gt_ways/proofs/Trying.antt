@@ -12,19 +12,19 @@ use Rattle.gt_ways.specs.Ways.{text_at, text_led}
 use Rattle.gt_ways.specs.Exploring.{AllHaveLists, AllByTurn, AllTextsFound, EachVisitHolds, IsNumbered, IsLineOf}
 use Rattle.gt_ways.specs.Exploring.{SearchHolds}
 use Rattle.gt_ways.specs.Exploring.{Grew, VisitHolds, Notes, TurnLeads, Gathered, Stepped, SearchStarts, SearchFinishes}
-use Rattle.gt_ways.specs.declared.exploring.End.{End}
+use Rattle.gt_ways.specs.declared.exploring.ReachedList.{ReachedList}
 use Rattle.gt_ways.specs.declared.exploring.Explorer.{Explorer}
-use Rattle.gt_ways.specs.declared.exploring.Found.{Found}
+use Rattle.gt_ways.specs.declared.exploring.SearchResult.{SearchResult}
 use Rattle.gt_ways.specs.declared.exploring.Node.{Node}
-use Rattle.gt_ways.specs.declared.exploring.Order.{Order}
-use Rattle.gt_ways.specs.declared.exploring.Visit.{Visit}
-use Rattle.gt_ways.specs.declared.exploring.Onward.{Onward}
-use Rattle.gt_ways.specs.declared.spaces.Led.{Led}
-use Rattle.gt_ways.specs.declared.spaces.Led.TheVariants as leds
+use Rattle.gt_ways.specs.declared.exploring.FoundText.{FoundText}
+use Rattle.gt_ways.specs.declared.exploring.OpenNode.{OpenNode}
+use Rattle.gt_ways.specs.declared.exploring.FirstTurn.{FirstTurn}
+use Rattle.gt_ways.specs.declared.spaces.TurnResult.{TurnResult}
+use Rattle.gt_ways.specs.declared.spaces.TurnResult.TheVariants as leds
 use Rattle.gt_replay.specs.declared.replay.Turn.{Turn}
-use Rattle.gt_ways.specs.declared.states.States.{States}
-use Rattle.gt_ways.specs.declared.suffixes.Line.{Line}
-use Rattle.gt_ways.specs.declared.suffixes.Suffixes.{Suffixes}
+use Rattle.gt_ways.specs.declared.states.StateIndex.{StateIndex}
+use Rattle.gt_ways.specs.declared.suffixes.AnswerLine.{AnswerLine}
+use Rattle.gt_ways.specs.declared.suffixes.AnswerLists.{AnswerLists}
 use Rattle.std.specs.Global.{Vec}
 use Rattle.gt_ways.proofs.Listing.{grows_same}
 use Rattle.gt_ways.proofs.Finding.{last_or, at_last}
@@ -33,24 +33,24 @@ use Rattle.gt_ways.proofs.Growing.{get_kept, get_grown, no_more, grew_same, grew
 
 -- stacks
 
-pub each_on : {W : Type 0} (ways : Ways W) (old new : Explorer W) (stack : List Visit) → AreWhole old.suffixes → Grew old new → EachVisitHolds ways old stack → EachVisitHolds ways new stack
+pub each_on : {W : Type 0} (ways : Ways W) (old new : Explorer W) (stack : List OpenNode) → AreWhole old.suffixes → Grew old new → EachVisitHolds ways old stack → EachVisitHolds ways new stack
 each_on ways old new stack whole grew each = λ i v there. visit_on ways old new v whole grew (each i v there)
 
-pub each_push : {W : Type 0} (ways : Ways W) (ex : Explorer W) (stack new : List Visit) (v : Visit) → new ≡ stack ++ v ∷ [] → EachVisitHolds ways ex stack → VisitHolds ways ex v → EachVisitHolds ways ex new
-each_push ways ex stack new v is each holds = λ i w there. by i w (last_or stack v w i (ap (λ (l : List Visit). slice_get l i) (sym is) ∙ there))
+pub each_push : {W : Type 0} (ways : Ways W) (ex : Explorer W) (stack new : List OpenNode) (v : OpenNode) → new ≡ stack ++ v ∷ [] → EachVisitHolds ways ex stack → VisitHolds ways ex v → EachVisitHolds ways ex new
+each_push ways ex stack new v is each holds = λ i w there. by i w (last_or stack v w i (ap (λ (l : List OpenNode). slice_get l i) (sym is) ∙ there))
   where
-    by : (i : ℕ) (w : Visit) → (slice_get stack i ≡ Some w) ⊎ ((w ≡ v) × (i ≡ length stack)) → VisitHolds ways ex w
+    by : (i : ℕ) (w : OpenNode) → (slice_get stack i ≡ Some w) ⊎ ((w ≡ v) × (i ≡ length stack)) → VisitHolds ways ex w
     by i w (inl was) = each i w was
-    by i w (inr (one, place)) = subst (λ (u : Visit). VisitHolds ways ex u) (sym one) holds
+    by i w (inr (one, place)) = subst (λ (u : OpenNode). VisitHolds ways ex u) (sym one) holds
 
-pub each_pop : {W : Type 0} (ways : Ways W) (ex : Explorer W) (old new : List Visit) (v : Visit) → old ≡ new ++ v ∷ [] → EachVisitHolds ways ex old → EachVisitHolds ways ex new × VisitHolds ways ex v
+pub each_pop : {W : Type 0} (ways : Ways W) (ex : Explorer W) (old new : List OpenNode) (v : OpenNode) → old ≡ new ++ v ∷ [] → EachVisitHolds ways ex old → EachVisitHolds ways ex new × VisitHolds ways ex v
 each_pop ways ex old new v is each = (
-  λ i w there. each i w (ap (λ (l : List Visit). slice_get l i) is ∙ get_kept new (v ∷ []) i w there),
-  each (length new) v (ap (λ (l : List Visit). slice_get l (length new)) is ∙ at_last new v),
+  λ i w there. each i w (ap (λ (l : List OpenNode). slice_get l i) is ∙ get_kept new (v ∷ []) i w there),
+  each (length new) v (ap (λ (l : List OpenNode). slice_get l (length new)) is ∙ at_last new v),
 )
 
 -- a turn more was tried
-pub tries_more : {W : Type 0} (ways : Ways W) (ex : Explorer W) (v : Visit) (turn : Turn) (next : ℕ) (holds : VisitHolds ways ex v) → next ≤ v.next + 1 → slice_get v.turns.items v.next ≡ Some turn
+pub tries_more : {W : Type 0} (ways : Ways W) (ex : Explorer W) (v : OpenNode) (turn : Turn) (next : ℕ) (holds : VisitHolds ways ex v) → next ≤ v.next + 1 → slice_get v.turns.items v.next ≡ Some turn
     → AllByTurn ways ex.suffixes holds.world v.ends.items turn → VisitHolds ways ex (record v { next = next })
 tries_more ways ex v turn next holds le there found = record {
   world = holds.world;
@@ -71,7 +71,7 @@ tries_more ways ex v turn next holds le there found = record {
 -- a move
 
 -- it leads nowhere, so the domain has no move
-pub steps_nowhere : {W : Type 0} (ways : Ways W) (ex : Explorer W) (v : Visit) (turn : Turn) (here copied moved : W) (led : Led) (next : ℕ) → SearchHolds ways ex → VisitHolds ways ex v
+pub steps_nowhere : {W : Type 0} (ways : Ways W) (ex : Explorer W) (v : OpenNode) (turn : Turn) (here copied moved : W) (led : TurnResult) (next : ℕ) → SearchHolds ways ex → VisitHolds ways ex v
     → slice_get v.turns.items v.next ≡ Some turn → slice_get ex.states.worlds.items v.state ≡ Some here → IsShownSo ways here copied → MovesTo ways copied turn led moved → led ≡ leds.Nowhere
     → next ≤ v.next + 1 → Stepped ways ex (record v { next = next }) None ex
 steps_nowhere ways ex v turn here copied moved led next holds visit at there copies moves nowhere le = record {
@@ -79,12 +79,12 @@ steps_nowhere ways ex v turn here copied moved led next holds visit at there cop
   grew = grew_same ex;
   visit = tries_more ways ex v turn next visit le at (λ p m turns q shows comes goes.
       let same : visit.world ≡ here = same_Some visit.world here (sym visit.there ∙ there) in
-      absurd (subst (λ (l : Led). LedFits ways l turn.place p m) nowhere (moves p m (copies p (subst (λ i. ways.shows i p) same shows)) comes).0));
+      absurd (subst (λ (l : TurnResult). LedFits ways l turn.place p m) nowhere (moves p m (copies p (subst (λ i. ways.shows i p) same shows)) comes).0));
   deeper = tt;
 }
 
 -- the search after the line of a move was numbered
-line_on : {W : Type 0} (ways : Ways W) (old new : Explorer W) (place : ℕ) (led : Led) (line : Option Line) → IsLineOf old place led line new → SearchHolds ways old → SearchHolds ways new × Grew old new
+line_on : {W : Type 0} (ways : Ways W) (old new : Explorer W) (place : ℕ) (led : TurnResult) (line : Option AnswerLine) → IsLineOf old place led line new → SearchHolds ways old → SearchHolds ways new × Grew old new
 line_on ways old new place led line is holds = (holds_on ways old new grew (ap (λ n. n.items) is.nodes) (λ state i so. ap (λ d. slice_get d.items state) (sym is.done) ∙ so) holds, grew)
   where
     grew : Grew old new
@@ -95,14 +95,14 @@ line_on ways old new place led line is holds = (holds_on ways old new grew (ap (
     }
 
 -- the search after a state was numbered
-abbrev pub with_states : {W : Type 0} → Explorer W → States W → Explorer W
+abbrev pub with_states : {W : Type 0} → Explorer W → StateIndex W → Explorer W
 with_states ex states = record ex { states = states }
 
 numbered_more : {W : Type 0} (ways : Ways W) (old : List W) (w : W) (n : ℕ) (new : List W) → IsNumbered ways old w n new → (more : List W) × (new ≡ old ++ more)
 numbered_more ways old w n new (inl was) = no_more old new was.0
 numbered_more ways old w n new (inr next) = (w ∷ [], next.1)
 
-numbered_on : {W : Type 0} (ways : Ways W) (old : Explorer W) (states : States W) (w : W) (n : ℕ) → IsNumbered ways old.states.worlds.items w n states.worlds.items → SearchHolds ways old
+numbered_on : {W : Type 0} (ways : Ways W) (old : Explorer W) (states : StateIndex W) (w : W) (n : ℕ) → IsNumbered ways old.states.worlds.items w n states.worlds.items → SearchHolds ways old
     → SearchHolds ways (with_states old states) × Grew old (with_states old states)
 numbered_on ways old states w n is holds = (holds_on ways old (with_states old states) grew refl (λ state i so. so) holds, grew)
   where
@@ -127,13 +127,13 @@ nothing_at place at = by (place == at)
     by true = refl
     by false = refl
 
-fits_prints : {W : Type 0} (ways : Ways W) (led : Led) (place : ℕ) (p q : ways.Point) → LedFits ways led place p q → PrintsTo ways (only_at place (text_led led)) p q
+fits_prints : {W : Type 0} (ways : Ways W) (led : TurnResult) (place : ℕ) (p q : ways.Point) → LedFits ways led place p q → PrintsTo ways (only_at place (text_led led)) p q
 fits_prints ways leds.Nowhere place p q fits = absurd fits
 fits_prints ways leds.On place p q fits = λ at. fits at ∙ ap (λ (l : List ℕ). ways.printed p at ++ l) (nothing_at place at)
 fits_prints ways (leds.Answered line) place p q fits = fits
 
 -- it leads to a state that is new
-pub steps_new : {W : Type 0} (ways : Ways W) (old mid : Explorer W) (states : States W) (v : Visit) (turn : Turn) (moved : W) (led : Led) (line : Option Line) (state : ℕ) (new : Explorer W) (deeper : Visit)
+pub steps_new : {W : Type 0} (ways : Ways W) (old mid : Explorer W) (states : StateIndex W) (v : OpenNode) (turn : Turn) (moved : W) (led : TurnResult) (line : Option AnswerLine) (state : ℕ) (new : Explorer W) (deeper : OpenNode)
     → SearchHolds ways old → VisitHolds ways old v → IsLineOf old turn.place led line mid → IsNumbered ways mid.states.worlds.items moved state states.worlds.items
     → (SearchHolds ways (with_states mid states) → SearchHolds ways new × Grew (with_states mid states) new × VisitHolds ways new deeper) → Stepped ways old v (Some deeper) new
 steps_new ways old mid states v turn moved led line state new deeper holds visit lines numbers visits =
@@ -144,8 +144,8 @@ steps_new ways old mid states v turn moved led line state new deeper holds visit
     record { holds = third.0; grew = grew; visit = visit_on ways old new v holds.whole grew visit; deeper = third.2 }
 
 -- it leads to a state that is done
-pub steps_on : {W : Type 0} (ways : Ways W) (old mid : Explorer W) (states : States W) (v : Visit) (turn : Turn) (here copied moved : W) (led : Led) (line : Option Line) (state node : ℕ) (new : Explorer W)
-    (w : Visit) (next : ℕ)
+pub steps_on : {W : Type 0} (ways : Ways W) (old mid : Explorer W) (states : StateIndex W) (v : OpenNode) (turn : Turn) (here copied moved : W) (led : TurnResult) (line : Option AnswerLine) (state node : ℕ) (new : Explorer W)
+    (w : OpenNode) (next : ℕ)
     → SearchHolds ways old → VisitHolds ways old v → slice_get v.turns.items v.next ≡ Some turn → slice_get old.states.worlds.items v.state ≡ Some here → IsShownSo ways here copied
     → MovesTo ways copied turn led moved → IsLineOf old turn.place led line mid → IsNumbered ways mid.states.worlds.items moved state states.worlds.items
     → slice_get mid.done.items state ≡ Some (Some node)
@@ -218,7 +218,7 @@ below_none : (at next : ℕ) → next ≡ 0 → at < next → ⊥
 below_none at next is lt = omega (arith, is, lt)
 
 -- no domain ends there
-pub visits_on : {W : Type 0} (ways : Ways W) (old : Explorer W) (done : Vec (Option ℕ)) (v : Visit) (world : W) → done.items ≡ old.done.items ++ None ∷ [] → slice_get old.states.worlds.items v.state ≡ Some world
+pub visits_on : {W : Type 0} (ways : Ways W) (old : Explorer W) (done : Vec (Option ℕ)) (v : OpenNode) (world : W) → done.items ≡ old.done.items ++ None ∷ [] → slice_get old.states.worlds.items v.state ≡ Some world
     → HasEnoughTurns ways world v.turns.items → v.next ≡ 0 → v.ends.items ≡ [] → v.lists.keys ≡ []
     → (MayEnd ways world → ⊥)
     → SearchHolds ways old → SearchHolds ways (with_done old done) × Grew old (with_done old done) × VisitHolds ways (with_done old done) v
@@ -233,7 +233,7 @@ visits_on ways old done v world more there turns none ends keys goes holds =
         tried = λ at turn lt is p m more q shows comes on. absurd (below_none at v.next none lt);
         over = λ p shows over. absurd (goes (p, shows, over));
         lists = λ at e is. absurd (none_there v.ends.items at e ends is);
-        numbers = ap (map (λ (e : End). e.list)) ends ∙ sym keys;
+        numbers = ap (map (λ (e : ReachedList). e.list)) ends ∙ sym keys;
       },
     )
 
@@ -241,7 +241,7 @@ prints_none : {W : Type 0} (ways : Ways W) (rest : ℕ → List ℕ) (p : ways.P
 prints_none ways rest p none = λ at. sym (append-nil (ways.printed p at)) ∙ ap (λ (i : List ℕ). ways.printed p at ++ i) (sym (none at))
 
 -- they may end there: the empty list was noted
-pub visits_end : {W : Type 0} (ways : Ways W) (old : Explorer W) (done : Vec (Option ℕ)) (v w : Visit) (onward : Option Onward) (world : W) → done.items ≡ old.done.items ++ None ∷ []
+pub visits_end : {W : Type 0} (ways : Ways W) (old : Explorer W) (done : Vec (Option ℕ)) (v w : OpenNode) (onward : Option FirstTurn) (world : W) → done.items ≡ old.done.items ++ None ∷ []
     → slice_get old.states.worlds.items v.state ≡ Some world → HasEnoughTurns ways world v.turns.items → v.next ≡ 0 → v.ends.items ≡ [] → v.lists.keys ≡ []
     → Notes v (record { list = 0; onward = onward }) w → SearchHolds ways old → SearchHolds ways (with_done old done) × Grew old (with_done old done) × VisitHolds ways (with_done old done) w
 visits_end ways old done v w onward world more there turns none ends keys notes holds =
@@ -259,16 +259,16 @@ visits_end ways old done v w onward world more there turns none ends keys notes 
       },
     )
   where
-    numbers : map (λ (e : End). e.list) v.ends.items ≡ v.lists.keys
-    numbers = ap (map (λ (e : End). e.list)) ends ∙ sym keys
+    numbers : map (λ (e : ReachedList). e.list) v.ends.items ≡ v.lists.keys
+    numbers = ap (map (λ (e : ReachedList). e.list)) ends ∙ sym keys
 
-    either : (at : ℕ) (e : End) → (slice_get v.ends.items at ≡ Some e) ⊎ ((e ≡ record { list = 0; onward = onward }) × (at ≡ length v.ends.items)) → HasListAt old.suffixes e.list
+    either : (at : ℕ) (e : ReachedList) → (slice_get v.ends.items at ≡ Some e) ⊎ ((e ≡ record { list = 0; onward = onward }) × (at ≡ length v.ends.items)) → HasListAt old.suffixes e.list
     either at e (inl was) = absurd (none_there v.ends.items at e ends was)
-    either at e (inr (one, place)) = subst (λ (i : End). HasListAt old.suffixes i.list) (sym one) holds.empty.0
+    either at e (inr (one, place)) = subst (λ (i : ReachedList). HasListAt old.suffixes i.list) (sym one) holds.empty.0
 
     by : ((w.ends.items ≡ v.ends.items) ⊎ (w.ends.items ≡ v.ends.items ++ record { list = 0; onward = onward } ∷ [])) → AllHaveLists old.suffixes w.ends.items
-    by (inl same) = λ at e is. absurd (none_there v.ends.items at e ends (ap (λ (l : List End). slice_get l at) (sym same) ∙ is))
-    by (inr one) = λ at e is. either at e (last_or v.ends.items (record { list = 0; onward = onward }) e at (ap (λ (l : List End). slice_get l at) (sym one) ∙ is))
+    by (inl same) = λ at e is. absurd (none_there v.ends.items at e ends (ap (λ (l : List ReachedList). slice_get l at) (sym same) ∙ is))
+    by (inr one) = λ at e is. either at e (last_or v.ends.items (record { list = 0; onward = onward }) e at (ap (λ (l : List ReachedList). slice_get l at) (sym one) ∙ is))
 
 pub not_both : (b : Bool) → b ≡ true → b ≡ false → ⊥
 not_both b is isnt = let same : true ≡ false = sym is ∙ isnt in absurd (cc)
@@ -277,7 +277,7 @@ pub on_ok : {A E P Q : Type 0} (r : Result A E) → (P → Q) → OnOk r P → O
 on_ok (Ok x) so holds = so holds
 on_ok (Err e) so holds = holds
 
-pub each_first : {W : Type 0} (ways : Ways W) (ex : Explorer W) (stack new : List Visit) (v : Visit) → stack ≡ [] → new ≡ stack ++ v ∷ [] → VisitHolds ways ex v → EachVisitHolds ways ex new
+pub each_first : {W : Type 0} (ways : Ways W) (ex : Explorer W) (stack new : List OpenNode) (v : OpenNode) → stack ≡ [] → new ≡ stack ++ v ∷ [] → VisitHolds ways ex v → EachVisitHolds ways ex new
 each_first ways ex stack new v none is holds = each_push ways ex stack new v is (λ i w there. absurd (none_there stack i w none there)) holds
 
 -- the beginning of the search
@@ -286,7 +286,7 @@ first_there : {W : Type 0} (ways : Ways W) (old : List W) (w : W) (n : ℕ) (new
 first_there ways old w n new none (inl (same, (v, at, shows))) = absurd (none_there old n v none at)
 first_there ways old w n new none (inr (next, more)) = ap (λ l. slice_get l 0) (more ∙ ap (λ l. l ++ w ∷ []) none)
 
-pub starts_on : {W : Type 0} (ways : Ways W) (old : Explorer W) (states : States W) (w : W) (n : ℕ) → SearchStarts ways old → IsNumbered ways old.states.worlds.items w n states.worlds.items
+pub starts_on : {W : Type 0} (ways : Ways W) (old : Explorer W) (states : StateIndex W) (w : W) (n : ℕ) → SearchStarts ways old → IsNumbered ways old.states.worlds.items w n states.worlds.items
     → SearchHolds ways (with_states old states) × (slice_get states.worlds.items 0 ≡ Some w)
 starts_on ways old states w n starts numbers =
     ((numbered_on ways old states w n numbers starts.holds).0, first_there ways old.states.worlds.items w n states.worlds.items starts.none numbers)
@@ -311,9 +311,9 @@ whole_text : {W : Type 0} (ways : Ways W) (rest : ℕ → List ℕ) (p q : ways.
 whole_text ways rest p q begins prints =
     same_texts (ways.printed q) rest 0 ways.domains (λ at. prints at ∙ ap (λ (i : List ℕ). i ++ rest at) (ways.blank p begins at))
 
-pub text_found : {W : Type 0} (ways : Ways W) (ex : Explorer W) (over : SearchFinishes ways ex) (node : ℕ) (found : Found) → slice_get ex.done.items 0 ≡ Some (Some node)
-    → ((n : Node) (at : ℕ) (e : End) → slice_get ex.nodes.items node ≡ Some n → slice_get n.ends.items at ≡ Some e → HasListAt ex.suffixes e.list
-    → (o : Order) × (slice_get found.orders.items at ≡ Some o) × (o.text.items ≡ flat_map (rest_by ex.suffixes e.list) (range_with_len 0 ways.domains)))
+pub text_found : {W : Type 0} (ways : Ways W) (ex : Explorer W) (over : SearchFinishes ways ex) (node : ℕ) (found : SearchResult) → slice_get ex.done.items 0 ≡ Some (Some node)
+    → ((n : Node) (at : ℕ) (e : ReachedList) → slice_get ex.nodes.items node ≡ Some n → slice_get n.ends.items at ≡ Some e → HasListAt ex.suffixes e.list
+    → (o : FoundText) × (slice_get found.orders.items at ≡ Some o) × (o.text.items ≡ flat_map (rest_by ex.suffixes e.list) (range_with_len 0 ways.domains)))
     → AllTextsFound ways found
 text_found ways ex over node found first orders = λ p turns q begins goes.
     let it = over.holds.done 0 node first in
@@ -331,26 +331,26 @@ text_found ways ex over node found first orders = λ p turns q begins goes.
 -- one order more
 
 -- each of the first ends has its text among these orders
-abbrev pub HaveTexts : Suffixes → ℕ → List End → List Order → ℕ → Type 0
+abbrev pub HaveTexts : AnswerLists → ℕ → List ReachedList → List FoundText → ℕ → Type 0
 HaveTexts s domains ends orders i =
-    (at : ℕ) (e : End) → at < i → slice_get ends at ≡ Some e → HasListAt s e.list
-    → (o : Order) × (slice_get orders at ≡ Some o) × (o.text.items ≡ flat_map (rest_by s e.list) (range_with_len 0 domains))
+    (at : ℕ) (e : ReachedList) → at < i → slice_get ends at ≡ Some e → HasListAt s e.list
+    → (o : FoundText) × (slice_get orders at ≡ Some o) × (o.text.items ≡ flat_map (rest_by s e.list) (range_with_len 0 domains))
 
-pub texts_more : (s : Suffixes) (domains i : ℕ) (ends : List End) (e : End) (old new : List Order) (o : Order) → length old ≡ i → slice_get ends i ≡ Some e → new ≡ old ++ o ∷ []
+pub texts_more : (s : AnswerLists) (domains i : ℕ) (ends : List ReachedList) (e : ReachedList) (old new : List FoundText) (o : FoundText) → length old ≡ i → slice_get ends i ≡ Some e → new ≡ old ++ o ∷ []
     → (HasListAt s e.list → o.text.items ≡ flat_map (rest_by s e.list) (range_with_len 0 domains)) → HaveTexts s domains ends old i → HaveTexts s domains ends new (i + 1)
 texts_more s domains i ends e old new o many there more text each = λ at d lt is has. by at d (less_or at i lt) is has
   where
-    by : (at : ℕ) (d : End) → (at < i) ⊎ (at ≡ i) → slice_get ends at ≡ Some d → HasListAt s d.list
-        → (p : Order) × (slice_get new at ≡ Some p) × (p.text.items ≡ flat_map (rest_by s d.list) (range_with_len 0 domains))
+    by : (at : ℕ) (d : ReachedList) → (at < i) ⊎ (at ≡ i) → slice_get ends at ≡ Some d → HasListAt s d.list
+        → (p : FoundText) × (slice_get new at ≡ Some p) × (p.text.items ≡ flat_map (rest_by s d.list) (range_with_len 0 domains))
     by at d (inl less) is has =
         let was = each at d less is has in
-        (was.0, ap (λ (l : List Order). slice_get l at) more ∙ get_kept old (o ∷ []) at was.0 was.1, was.2)
+        (was.0, ap (λ (l : List FoundText). slice_get l at) more ∙ get_kept old (o ∷ []) at was.0 was.1, was.2)
     by at d (inr same) is has =
         let one : d ≡ e = same_Some d e (sym is ∙ ap (λ (n : ℕ). slice_get ends n) same ∙ there) in (
           o,
-          ap (λ (l : List Order). slice_get l at) more ∙ ap (λ (n : ℕ). slice_get (old ++ o ∷ []) n) (same ∙ sym many) ∙ at_last old o,
-          text (subst (λ (f : End). HasListAt s f.list) one has) ∙ ap (λ (f : End). flat_map (rest_by s f.list) (range_with_len 0 domains)) (sym one),
+          ap (λ (l : List FoundText). slice_get l at) more ∙ ap (λ (n : ℕ). slice_get (old ++ o ∷ []) n) (same ∙ sym many) ∙ at_last old o,
+          text (subst (λ (f : ReachedList). HasListAt s f.list) one has) ∙ ap (λ (f : ReachedList). flat_map (rest_by s f.list) (range_with_len 0 domains)) (sym one),
         )
 
-pub length_more : (old new : List Order) (o : Order) (i : ℕ) → length old ≡ i → new ≡ old ++ o ∷ [] → length new ≡ i + 1
+pub length_more : (old new : List FoundText) (o : FoundText) (i : ℕ) → length old ≡ i → new ≡ old ++ o ∷ [] → length new ≡ i + 1
 length_more old new o i many more = let len : length new ≡ length old + 1 = ap length more ∙ length-append old (o ∷ []) in omega (arith, many, len)

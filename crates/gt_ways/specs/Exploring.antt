@@ -3,15 +3,15 @@ use Rattle.std.specs.Prelude.{◌≡◌, ◌⊎◌, ◌++◌, ◌<◌, ℕ, List
 use Rattle.gt_replay.specs.declared.replay.Turn.{Turn}
 use Rattle.gt_ways.specs.Lists.{HasListAt, AreWhole, GrowsInto, IsEmptyList, HasItsLine, line_by, rest_by}
 use Rattle.gt_ways.specs.Ways.{Ways, GoesTo, HasEnoughTurns, IsShownSo, PrintsTo, ShowsFirst, only_at, text_at, text_led}
-use Rattle.gt_ways.specs.declared.exploring.End.{End}
+use Rattle.gt_ways.specs.declared.exploring.ReachedList.{ReachedList}
 use Rattle.gt_ways.specs.declared.exploring.Explorer.{Explorer}
-use Rattle.gt_ways.specs.declared.exploring.Found.{Found}
+use Rattle.gt_ways.specs.declared.exploring.SearchResult.{SearchResult}
 use Rattle.gt_ways.specs.declared.exploring.Node.{Node}
-use Rattle.gt_ways.specs.declared.exploring.Order.{Order}
-use Rattle.gt_ways.specs.declared.exploring.Visit.{Visit}
-use Rattle.gt_ways.specs.declared.spaces.Led.{Led}
-use Rattle.gt_ways.specs.declared.suffixes.Line.{Line}
-use Rattle.gt_ways.specs.declared.suffixes.Suffixes.{Suffixes}
+use Rattle.gt_ways.specs.declared.exploring.FoundText.{FoundText}
+use Rattle.gt_ways.specs.declared.exploring.OpenNode.{OpenNode}
+use Rattle.gt_ways.specs.declared.spaces.TurnResult.{TurnResult}
+use Rattle.gt_ways.specs.declared.suffixes.AnswerLine.{AnswerLine}
+use Rattle.gt_ways.specs.declared.suffixes.AnswerLists.{AnswerLists}
 
 -- states
 
@@ -27,28 +27,28 @@ IsNumbered ways old w n new =
 -- ends
 
 -- there is an end with this list
-abbrev pub HasEnd : List End → ℕ → Type 0
-HasEnd ends list = (at : ℕ) × (e : End) × (slice_get ends at ≡ Some e) × (e.list ≡ list)
+abbrev pub HasEnd : List ReachedList → ℕ → Type 0
+HasEnd ends list = (at : ℕ) × (e : ReachedList) × (slice_get ends at ≡ Some e) × (e.list ≡ list)
 
 -- one of these ends has a list that says what is printed from here to there
-abbrev pub IsAmongEnds : {W : Type 0} → (ways : Ways W) → Suffixes → List End → ways.Point → ways.Point → Type 0
+abbrev pub IsAmongEnds : {W : Type 0} → (ways : Ways W) → AnswerLists → List ReachedList → ways.Point → ways.Point → Type 0
 IsAmongEnds ways s ends p q = (list : ℕ) × HasEnd ends list × HasListAt s list × PrintsTo ways (rest_by s list) p q
 
 -- each way on from what this state shows is among these ends
-abbrev pub AllAreFound : {W : Type 0} → Ways W → Suffixes → W → List End → Type 0
+abbrev pub AllAreFound : {W : Type 0} → Ways W → AnswerLists → W → List ReachedList → Type 0
 AllAreFound ways s w ends =
     (p : ways.Point) (turns : List Turn) (q : ways.Point) → ways.shows w p → GoesTo ways p turns q
     → IsAmongEnds ways s ends p q
 
 -- each way on by this turn is
-abbrev pub AllByTurn : {W : Type 0} → Ways W → Suffixes → W → List End → Turn → Type 0
+abbrev pub AllByTurn : {W : Type 0} → Ways W → AnswerLists → W → List ReachedList → Turn → Type 0
 AllByTurn ways s w ends turn =
     (p m : ways.Point) (turns : List Turn) (q : ways.Point) → ways.shows w p → ways.next p turn m
     → GoesTo ways m turns q → IsAmongEnds ways s ends p q
 
 -- each of the ends has a list that there is
-abbrev pub AllHaveLists : Suffixes → List End → Type 0
-AllHaveLists s ends = (at : ℕ) (e : End) → slice_get ends at ≡ Some e → HasListAt s e.list
+abbrev pub AllHaveLists : AnswerLists → List ReachedList → Type 0
+AllHaveLists s ends = (at : ℕ) (e : ReachedList) → slice_get ends at ≡ Some e → HasListAt s e.list
 
 -- searches
 
@@ -74,7 +74,7 @@ pub record Grew {W : Type 0} (old new : Explorer W) : Type 0 where
   pub suffixes : GrowsInto old.suffixes new.suffixes
 
 -- a state's moves are being tried: its ways on by the turns that were tried are found
-pub record VisitHolds {W : Type 0} (ways : Ways W) (ex : Explorer W) (v : Visit) : Type 0 where
+pub record VisitHolds {W : Type 0} (ways : Ways W) (ex : Explorer W) (v : OpenNode) : Type 0 where
   pub world : W
   pub there : slice_get ex.states.worlds.items v.state ≡ Some world
   pub turns : HasEnoughTurns ways world v.turns.items
@@ -85,11 +85,11 @@ pub record VisitHolds {W : Type 0} (ways : Ways W) (ex : Explorer W) (v : Visit)
   pub numbers : map (λ e. e.list) v.ends.items ≡ v.lists.keys
 
 -- the moves of each of these states are being tried
-abbrev pub EachVisitHolds : {W : Type 0} → Ways W → Explorer W → List Visit → Type 0
-EachVisitHolds ways ex stack = (i : ℕ) (v : Visit) → slice_get stack i ≡ Some v → VisitHolds ways ex v
+abbrev pub EachVisitHolds : {W : Type 0} → Ways W → Explorer W → List OpenNode → Type 0
+EachVisitHolds ways ex stack = (i : ℕ) (v : OpenNode) → slice_get stack i ≡ Some v → VisitHolds ways ex v
 
 -- the end was noted, if it is new
-pub record Notes (v : Visit) (e : End) (w : Visit) : Type 0 where
+pub record Notes (v : OpenNode) (e : ReachedList) (w : OpenNode) : Type 0 where
   pub state : w.state ≡ v.state
   pub turns : w.turns ≡ v.turns
   pub next : w.next ≡ v.next
@@ -98,7 +98,7 @@ pub record Notes (v : Visit) (e : End) (w : Visit) : Type 0 where
   pub numbers : map (λ e. e.list) v.ends.items ≡ v.lists.keys → map (λ e. e.list) w.ends.items ≡ w.lists.keys
 
 -- the line is that of the answer that a move of the domain at this place led to
-pub record IsLineOf {W : Type 0} (old : Explorer W) (place : ℕ) (led : Led) (made : Option Line) (new : Explorer W)
+pub record IsLineOf {W : Type 0} (old : Explorer W) (place : ℕ) (led : TurnResult) (made : Option AnswerLine) (new : Explorer W)
     : Type 0 where
   pub states : new.states ≡ old.states
   pub done : new.done ≡ old.done
@@ -108,8 +108,8 @@ pub record IsLineOf {W : Type 0} (old : Explorer W) (place : ℕ) (led : Led) (m
   pub printed : (at : ℕ) → line_by new.suffixes made at ≡ only_at place (text_led led) at
 
 -- by this turn, which prints this line, the state leads to that of this node
-pub record TurnLeads {W : Type 0} (ways : Ways W) (ex : Explorer W) (v : Visit) (turn : Turn) (node : ℕ)
-    (line : Option Line) : Type 0 where
+pub record TurnLeads {W : Type 0} (ways : Ways W) (ex : Explorer W) (v : OpenNode) (turn : Turn) (node : ℕ)
+    (line : Option AnswerLine) : Type 0 where
   pub done : Node
   pub there : slice_get ex.nodes.items node ≡ Some done
   pub leads : (w u : W) → slice_get ex.states.worlds.items v.state ≡ Some w
@@ -117,8 +117,8 @@ pub record TurnLeads {W : Type 0} (ways : Ways W) (ex : Explorer W) (v : Visit) 
       → ways.shows u m × PrintsTo ways (line_by ex.suffixes line) p m
 
 -- the ways on by this turn were gathered
-pub record Gathered {W : Type 0} (ways : Ways W) (old : Explorer W) (v : Visit) (turn : Turn) (new : Explorer W)
-    (w : Visit) : Type 0 where
+pub record Gathered {W : Type 0} (ways : Ways W) (old : Explorer W) (v : OpenNode) (turn : Turn) (new : Explorer W)
+    (w : OpenNode) : Type 0 where
   pub holds : SearchHolds ways new
   pub grew : Grew old new
   pub visit : VisitHolds ways new w
@@ -127,7 +127,7 @@ pub record Gathered {W : Type 0} (ways : Ways W) (old : Explorer W) (v : Visit) 
   pub found : AllByTurn ways new.suffixes visit.world w.ends.items turn
 
 -- a turn was tried, or leads to a state that is new
-pub record Stepped {W : Type 0} (ways : Ways W) (old : Explorer W) (v : Visit) (other : Option Visit) (new : Explorer W)
+pub record Stepped {W : Type 0} (ways : Ways W) (old : Explorer W) (v : OpenNode) (other : Option OpenNode) (new : Explorer W)
     : Type 0 where
   pub holds : SearchHolds ways new
   pub grew : Grew old new
@@ -149,7 +149,7 @@ pub record SearchFinishes {W : Type 0} (ways : Ways W) (ex : Explorer W) : Type 
   pub shows : ShowsFirst ways first
 
 -- for each way of a run from its beginning to its end an order with the same text was found
-abbrev pub AllTextsFound : {W : Type 0} → Ways W → Found → Type 0
+abbrev pub AllTextsFound : {W : Type 0} → Ways W → SearchResult → Type 0
 AllTextsFound ways found =
     (p : ways.Point) (turns : List Turn) (q : ways.Point) → ways.begins p → GoesTo ways p turns q
-    → (at : ℕ) × (o : Order) × (slice_get found.orders.items at ≡ Some o) × (o.text.items ≡ text_at ways q)
+    → (at : ℕ) × (o : FoundText) × (slice_get found.orders.items at ≡ Some o) × (o.text.items ≡ text_at ways q)

@@ -2,8 +2,8 @@
 use Rattle.std.specs.Prelude.{◌≡◌, ◌++◌, ◌==◌, ℕ, List, [], ◌∷◌, Some, slice_get, if◌then◌else◌}
 use Rattle.std.specs.List.{flat_map, range_with_len}
 use Rattle.gt_replay.specs.declared.replay.Turn.{Turn}
-use Rattle.gt_ways.specs.declared.spaces.Led.{Led}
-use Rattle.gt_ways.specs.declared.spaces.Led.TheVariants.{Nowhere, On, Answered}
+use Rattle.gt_ways.specs.declared.spaces.TurnResult.{TurnResult}
+use Rattle.gt_ways.specs.declared.spaces.TurnResult.TheVariants.{Nowhere, On, Answered}
 
 -- the ways of a space whose states are these
 pub record Ways (State : Type 0) : Type 1 where
@@ -38,7 +38,7 @@ abbrev pub PrintsTo : {W : Type 0} → (ways : Ways W) → (ℕ → List ℕ) �
 PrintsTo ways rest p q = (at : ℕ) → ways.printed q at ≡ ways.printed p at ++ rest at
 
 -- what a move prints
-abbrev pub text_led : Led → List ℕ
+abbrev pub text_led : TurnResult → List ℕ
 text_led Nowhere = []
 text_led On = []
 text_led (Answered line) = line.items
@@ -48,7 +48,7 @@ abbrev pub only_at : ℕ → List ℕ → ℕ → List ℕ
 only_at place text at = if place == at then text else []
 
 -- there was such a move of the domain at this place, and it printed what is printed from here to there
-abbrev pub LedFits : {W : Type 0} → (ways : Ways W) → Led → ℕ → ways.Point → ways.Point → Type 0
+abbrev pub LedFits : {W : Type 0} → (ways : Ways W) → TurnResult → ℕ → ways.Point → ways.Point → Type 0
 LedFits ways Nowhere place p q = ⊥
 LedFits ways On place p q = PrintsTo ways (λ at. []) p q
 LedFits ways (Answered line) place p q = PrintsTo ways (only_at place line.items) p q
@@ -84,7 +84,7 @@ HasEnoughTurns ways w turns =
     → ways.next p turn m → GoesTo ways m more q → EndsSoBy ways turns p q
 
 -- if a run goes on by this turn, the move was such, and the new state shows where the run comes to
-abbrev pub MovesTo : {W : Type 0} → Ways W → W → Turn → Led → W → Type 0
+abbrev pub MovesTo : {W : Type 0} → Ways W → W → Turn → TurnResult → W → Type 0
 MovesTo ways old turn led new =
     (p q : ways.Point) → ways.shows old p → ways.next p turn q → LedFits ways led turn.place p q × ways.shows new q
 

@@ -4,30 +4,30 @@ ghost use Rattle.std.specs.Option.{option_map};
 ghost use Rattle.gt_ways.specs.Exploring.{AllTextsFound, SearchStarts};
 
 use crate::fault::SearchFault;
-use crate::spaces::{Led, Space};
-use crate::states::States;
-use crate::suffixes::{Line, Suffixes};
+use crate::spaces::{TurnResult, TransitionSystem};
+use crate::states::StateIndex;
+use crate::suffixes::{AnswerLine, AnswerLists};
 use gt_replay::Turn;
 use indexmap::IndexSet;
 use std::alloc::{AllocError, Global};
 
 /// A text that a run may give, and turns that led the search to it.
 #[derive(Drop)]
-pub struct Order {
+pub struct FoundText {
     pub turns: Vec<Turn>,
     pub text: Vec<u8>,
 }
 
 /// What a search found: an order for each list of answers, and how many states it met.
 #[derive(Drop)]
-pub struct Found {
-    pub orders: Vec<Order>,
+pub struct SearchResult {
+    pub orders: Vec<FoundText>,
     pub states: usize,
 }
 
 /// The first turn towards an end. It leads to a state that is done, and goes on to the end of that state at this index.
 #[derive(Clone, Copy)]
-pub struct Onward {
+pub struct FirstTurn {
     pub turn: Turn,
     pub node: usize,
     pub end: usize,
@@ -36,26 +36,26 @@ pub struct Onward {
 /// A list of answers that a state leads to, by its number. There is no way on from a state in which all domains are at
 /// their ends.
 #[derive(Clone, Copy)]
-pub struct End {
+pub struct ReachedList {
     pub list: usize,
-    pub onward: Option<Onward>,
+    pub onward: Option<FirstTurn>,
 }
 
 /// A state whose moves have been tried, and the lists of answers that it leads to.
 #[derive(Drop)]
 pub struct Node {
     pub state: usize,
-    pub ends: Vec<End>,
+    pub ends: Vec<ReachedList>,
 }
 
 /// A state whose moves are being tried.
 #[derive(Drop)]
-pub struct Visit {
+pub struct OpenNode {
     pub state: usize,
     pub turns: Vec<Turn>,
     pub next: usize,
     pub lists: IndexSet<usize>,
-    pub ends: Vec<End>,
+    pub ends: Vec<ReachedList>,
 }
 
 /// A search under way. A state that is done has the number of its node.
@@ -63,13 +63,13 @@ pub struct Visit {
 pub struct Explorer<W> {
     pub alloc: Global,
     pub limit: usize,
-    pub states: States<W>,
+    pub states: StateIndex<W>,
     pub done: Vec<Option<usize>>,
     pub nodes: Vec<Node>,
-    pub suffixes: Suffixes,
+    pub suffixes: AnswerLists,
 }
 
-impl Visit {
+impl OpenNode {
     ghost use Rattle.std.specs.Prelude.{◌≡◌, ◌≤◌, Some, IfNone, IfSome, OnOk, length, slice_get};
     ghost use Rattle.gt_ways.specs.Exploring.{Notes};
 
@@ -85,12 +85,12 @@ impl Visit {
     }
 
     // Notes that the state leads to this list of answers, if that is new.
-    fn note(&mut self, list: usize, onward: Option<Onward>) -> Result<(), AllocError>
+    fn note(&mut self, list: usize, onward: Option<FirstTurn>) -> Result<(), AllocError>
         ensures { OnOk result (Notes self.old (record { list = list; onward = onward }) self.new) }
     {
         let (_, is_new) = self.lists.insert_full(list)?;
         if is_new {
-            self.ends.push(End { list, onward })?;
+            self.ends.push(ReachedList { list, onward })?;
         }
         Ok(())
     }
@@ -115,12 +115,12 @@ fn set_done(done: &mut Vec<Option<usize>>, state: usize, node: usize)
 }
 
 // The move led nowhere.
-fn leads_nowhere(led: &Led) -> bool
-    ensures { IsTrue result → led.now ≡ Led.Nowhere }
+fn leads_nowhere(led: &TurnResult) -> bool
+    ensures { IsTrue result → led.now ≡ TurnResult.Nowhere }
 {
     match led {
-        Led::Nowhere => true,
-        Led::On | Led::Answered(_) => false,
+        TurnResult::Nowhere => true,
+        TurnResult::On | TurnResult::Answered(_) => false,
     }
 }
 
@@ -142,7 +142,7 @@ impl<W: Drop> Explorer<W> {
     }
 
     // The state is met for the first time: its moves are to be tried.
-    fn visit<S: Space<State = W>>(&mut self, space: &S, state: usize) -> Result<Visit, SearchFault>
+    fn visit<S: TransitionSystem<State = W>>(&mut self, space: &S, state: usize) -> Result<OpenNode, SearchFault>
         ensures holds { SearchHolds (S.ways space.now) self.old → IfOk result (λ v.
             SearchHolds (S.ways space.now) self.new × Grew self.old self.new
             × VisitHolds (S.ways space.now) self.new v) }
@@ -155,7 +155,7 @@ impl<W: Drop> Explorer<W> {
         }
         let alloc = self.alloc;
         self.done.push(None)?;
-        let mut visit = Visit {
+        let mut visit = OpenNode {
             state,
             turns: space.turns(world)?,
             next: 0,
@@ -170,26 +170,26 @@ impl<W: Drop> Explorer<W> {
     }
 
     // The line of the answer that a move of the domain at this place led to.
-    fn line(&mut self, place: usize, led: Led) -> Result<Option<Line>, AllocError>
+    fn line(&mut self, place: usize, led: TurnResult) -> Result<Option<AnswerLine>, AllocError>
         ensures { IfOk result (λ line. IsLineOf self.old place led line self.new) }
     {
         match led {
-            Led::Answered(line) => {
+            TurnResult::Answered(line) => {
                 let number = self.suffixes.line(line)?;
-                Ok(Some(Line { place, number }))
+                Ok(Some(AnswerLine { place, number }))
             }
-            Led::On | Led::Nowhere => Ok(None),
+            TurnResult::On | TurnResult::Nowhere => Ok(None),
         }
     }
 
     // A turn of the state led to another one, which is done, and printed this line.
-    fn gather<S: Space<State = W>>(
+    fn gather<S: TransitionSystem<State = W>>(
         &mut self,
         _space: &S,
-        visit: &mut Visit,
+        visit: &mut OpenNode,
         turn: Turn,
         node: usize,
-        line: Option<Line>,
+        line: Option<AnswerLine>,
     ) -> Result<(), AllocError>
         requires { HasItsLine self.old.suffixes line }
         ensures { SearchHolds (S.ways _space.now) self.old → VisitHolds (S.ways _space.now) self.old visit.old →
@@ -203,7 +203,7 @@ impl<W: Drop> Explorer<W> {
         let mut at = 0_usize;
         'ends: for end in done.ends.as_slice() {
             let list = suffixes.longer(end.list, line)?;
-            let onward = Onward {
+            let onward = FirstTurn {
                 turn,
                 node,
                 end: at,
@@ -216,12 +216,12 @@ impl<W: Drop> Explorer<W> {
 
     // Tries the turn of the state that is next. Answers the state that it leads to, if that is new; the turn is tried
     // once more when that one is done.
-    fn step<S: Space<State = W>>(
+    fn step<S: TransitionSystem<State = W>>(
         &mut self,
         space: &S,
-        visit: &mut Visit,
+        visit: &mut OpenNode,
         turn: Turn,
-    ) -> Result<Option<Visit>, SearchFault>
+    ) -> Result<Option<OpenNode>, SearchFault>
         ensures { SearchHolds (S.ways space.now) self.old → VisitHolds (S.ways space.now) self.old visit.old →
             slice_get visit.old.turns.items visit.old.next ≡ Some turn →
             IfOk result (λ deeper. Stepped (S.ways space.now) self.old visit.new deeper self.new) }
@@ -251,7 +251,7 @@ impl<W: Drop> Explorer<W> {
     }
 
     // All moves of the state have been tried.
-    fn finish<S: Space<State = W>>(&mut self, _space: &S, visit: Visit) -> Result<(), AllocError>
+    fn finish<S: TransitionSystem<State = W>>(&mut self, _space: &S, visit: OpenNode) -> Result<(), AllocError>
         ensures { SearchHolds (S.ways _space.now) self.old → VisitHolds (S.ways _space.now) self.old visit →
             length visit.turns.items ≤ visit.next →
             OnOk result (SearchHolds (S.ways _space.now) self.new × Grew self.old self.new) }
@@ -265,10 +265,10 @@ impl<W: Drop> Explorer<W> {
     }
 
     // Goes on with the last of these states. Answers whether there is one.
-    fn try_next<S: Space<State = W>>(
+    fn try_next<S: TransitionSystem<State = W>>(
         &mut self,
         space: &S,
-        stack: &mut Vec<Visit>,
+        stack: &mut Vec<OpenNode>,
     ) -> Result<bool, SearchFault>
         ensures { SearchHolds (S.ways space.now) self.old → EachVisitHolds (S.ways space.now) self.old stack.old.items →
             OnOk result (SearchHolds (S.ways space.now) self.new × Grew self.old self.new
@@ -290,7 +290,7 @@ impl<W: Drop> Explorer<W> {
     }
 
     // Goes through all states from this one on.
-    fn walk<S: Space<State = W>>(&mut self, space: &S, first: Visit) -> Result<(), SearchFault>
+    fn walk<S: TransitionSystem<State = W>>(&mut self, space: &S, first: OpenNode) -> Result<(), SearchFault>
         ensures { SearchHolds (S.ways space.now) self.old → VisitHolds (S.ways space.now) self.old first →
             OnOk result (SearchHolds (S.ways space.now) self.new × Grew self.old self.new) }
     {
@@ -305,7 +305,7 @@ impl<W: Drop> Explorer<W> {
     }
 
     // The way on from a state that is done to the end at this index.
-    fn onward(&self, node: usize, end: usize) -> Option<Onward> {
+    fn onward(&self, node: usize, end: usize) -> Option<FirstTurn> {
         let done = self.nodes.get(node)?;
         done.ends.get(end)?.onward
     }
@@ -325,7 +325,7 @@ impl<W: Drop> Explorer<W> {
     }
 
     // Goes through all states of the space.
-    fn run<S: Space<State = W>>(&mut self, space: &S) -> Result<(), SearchFault>
+    fn run<S: TransitionSystem<State = W>>(&mut self, space: &S) -> Result<(), SearchFault>
         ensures { SearchStarts (S.ways space.now) self.old → OnOk result (SearchFinishes (S.ways space.now) self.new) }
     {
         let world = space.start()?;
@@ -336,7 +336,7 @@ impl<W: Drop> Explorer<W> {
     }
 
     // What was found: an order for each list of answers that the first state leads to.
-    fn found<S: Space<State = W>>(&self, space: &S) -> Result<Found, SearchFault>
+    fn found<S: TransitionSystem<State = W>>(&self, space: &S) -> Result<SearchResult, SearchFault>
         ensures { SearchFinishes (S.ways space.now) self.now → IfOk result (AllTextsFound (S.ways space.now)) }
     {
         let Some(first) = self.node_of(0) else {
@@ -350,15 +350,15 @@ impl<W: Drop> Explorer<W> {
         'ends: for end in done.ends.as_slice() {
             let turns = self.turns(first, orders.len())?;
             let text = self.suffixes.text(end.list, domains)?;
-            orders.push(Order { turns, text })?;
+            orders.push(FoundText { turns, text })?;
         }
         let states = self.states.len();
-        Ok(Found { orders, states })
+        Ok(SearchResult { orders, states })
     }
 }
 
 // A search that has met no state yet.
-fn new_explorer<S: Space>(
+fn new_explorer<S: TransitionSystem>(
     alloc: Global,
     space: &S,
     limit: usize,
@@ -368,15 +368,15 @@ fn new_explorer<S: Space>(
     Ok(Explorer {
         alloc,
         limit,
-        states: States::new(alloc),
+        states: StateIndex::new(alloc),
         done: Vec::new(alloc),
         nodes: Vec::new(alloc),
-        suffixes: Suffixes::new(alloc)?,
+        suffixes: AnswerLists::new(alloc)?,
     })
 }
 
 /// Goes through the states of a space, at most `limit` of them.
-pub fn search<S: Space>(alloc: Global, space: &S, limit: usize) -> Result<Found, SearchFault>
+pub fn search<S: TransitionSystem>(alloc: Global, space: &S, limit: usize) -> Result<SearchResult, SearchFault>
     ensures { IfOk result (AllTextsFound (S.ways space.now)) }
 {
     let mut explorer = new_explorer(alloc, space, limit)?;

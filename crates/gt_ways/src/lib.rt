@@ -1,10 +1,10 @@
 //! A search for the texts of all ways that runs can go.
 //!
-//! A [`Space`] has the states that runs can come to, and the turns that lead from one to another. `search` goes through
+//! A [`TransitionSystem`] has the states that runs can come to, and the turns that lead from one to another. `search` goes through
 //! the states, each once, and answers an order with its text for each list of answers that the first one leads to.
 //!
 //! What holds: each way of a run from its beginning to an end has its text among those that were found
-//! (`AllTextsFound`). It is proved for every space that keeps what `Space` promises.
+//! (`AllTextsFound`). It is proved for every space that keeps what `TransitionSystem` promises.
 //!
 //! It uses `gt_replay` (turns) and `gt_types`.
 #![tactic(auto)]
@@ -15,6 +15,6 @@ mod spaces;
 mod states;
 mod suffixes;
 
-pub use exploring::{Found, Order, search};
+pub use exploring::{SearchResult, FoundText, search};
 pub use fault::SearchFault;
-pub use spaces::{Led, Space};
+pub use spaces::{TurnResult, TransitionSystem};

@@ -8,7 +8,7 @@ use std::alloc::AllocError;
 
 /// What a turn leads to.
 #[derive(Drop)]
-pub enum Led {
+pub enum TurnResult {
     /// The domain has no such move.
     Nowhere,
     /// It has moved, and prints nothing.
@@ -19,7 +19,7 @@ pub enum Led {
 
 /// The states that runs can come to, and the turns that lead from one to another. A state is to show all that a run
 /// that has come to it can still do; it may show many runs.
-pub trait Space {
+pub trait TransitionSystem {
     type State: Drop;
 
     // The ways of the runs.
@@ -41,7 +41,7 @@ pub trait Space {
         ensures { IfOk result (λ turns. HasEnoughTurns (ways self.now) state.now turns.items) };
 
     /// Makes a move. After one that leads nowhere the state is not looked at.
-    fn advance(&self, state: &mut Self::State, turn: Turn) -> Result<Led, SearchFault>
+    fn advance(&self, state: &mut Self::State, turn: Turn) -> Result<TurnResult, SearchFault>
         ensures { IfOk result (λ led. MovesTo (ways self.now) state.old turn led state.new) };
 
     /// Whether a run may end here.

@@ -3,24 +3,24 @@ ghost use Rattle.std.specs.Prelude.{◌≡◌, [], length, slice_get, IfOk, IfSo
 ghost use Rattle.std.specs.Option.{option_map};
 ghost use Rattle.gt_ways.specs.Exploring.{IsNumbered, IsShownAt};
 
-use crate::spaces::Space;
+use crate::spaces::TransitionSystem;
 use std::alloc::{AllocError, Global};
 use std::collections::HashMap;
 
 /// The states that were met, each with a number. Those that have a key in common are compared.
 #[derive(Drop)]
-pub struct States<W> {
+pub struct StateIndex<W> {
     alloc: Global,
     keys: HashMap<Vec<u8>, Vec<usize>>,
     worlds: Vec<W>,
 }
 
-impl<W: Drop> States<W> {
+impl<W: Drop> StateIndex<W> {
     /// None yet.
-    pub fn new(alloc: Global) -> States<W>
+    pub fn new(alloc: Global) -> StateIndex<W>
         ensures { result.worlds.items ≡ [] }
     {
-        States {
+        StateIndex {
             alloc,
             keys: HashMap::new(alloc),
             worlds: Vec::new(alloc),
@@ -42,7 +42,7 @@ impl<W: Drop> States<W> {
     }
 
     // The state with this key that is the same.
-    fn find<S: Space<State = W>>(&self, space: &S, key: &Vec<u8>, world: &W) -> Option<usize>
+    fn find<S: TransitionSystem<State = W>>(&self, space: &S, key: &Vec<u8>, world: &W) -> Option<usize>
         ensures { IfSome result (λ n. IsShownAt (S.ways space.now) self.now.worlds.items n world.now) }
     {
         let numbers = self.keys.get(key)?;
@@ -66,7 +66,7 @@ impl<W: Drop> States<W> {
     }
 
     /// The number of a state with this key. It is the next one if the state is new.
-    pub fn number<S: Space<State = W>>(
+    pub fn number<S: TransitionSystem<State = W>>(
         &mut self,
         space: &S,
         key: Vec<u8>,

@@ -8,7 +8,7 @@ use std::alloc::{AllocError, Global};
 
 /// The line of an answer: the place of its domain, and the number of its bytes.
 #[derive(Clone, Copy, PartialEq, Eq, Hash)]
-pub struct Line {
+pub struct AnswerLine {
     pub place: usize,
     pub number: usize,
 }
@@ -16,14 +16,14 @@ pub struct Line {
 /// The lists of answers that were met, each with a number. The empty one has the number 0. A list has the lines of each
 /// domain in their order, those of the first domain first.
 #[derive(Drop)]
-pub struct Suffixes {
+pub struct AnswerLists {
     alloc: Global,
     lines: IndexSet<Vec<u8>>,
-    lists: IndexSet<Vec<Line>>,
+    lists: IndexSet<Vec<AnswerLine>>,
 }
 
 // Where the next line of a domain goes, before those that it prints later.
-fn place_in(list: &[Line], place: usize) -> usize
+fn place_in(list: &[AnswerLine], place: usize) -> usize
     ensures within { result ≤ length list.now }
     ensures before { IsBefore result place list.now }
 {
@@ -38,7 +38,7 @@ fn place_in(list: &[Line], place: usize) -> usize
 }
 
 // The list with this line before those that its domain prints later.
-fn with_line(alloc: Global, list: &[Line], line: Line) -> Result<Vec<Line>, AllocError>
+fn with_line(alloc: Global, list: &[AnswerLine], line: AnswerLine) -> Result<Vec<AnswerLine>, AllocError>
     ensures { IfOk result (λ longer. (at : ℕ) × IsBefore at line.place list.now
         × (at ≤ length list.now) × (longer.items ≡ insert list.now at line)) }
 {
@@ -48,20 +48,20 @@ fn with_line(alloc: Global, list: &[Line], line: Line) -> Result<Vec<Line>, Allo
     Ok(longer)
 }
 
-impl Suffixes {
+impl AnswerLists {
     ghost use Rattle.std.specs.Prelude.{◌≡◌, ◌++◌, ℕ, Some, IfOk, OnOk};
     ghost use Rattle.std.specs.List.{flat_map, range_with_len};
     ghost use Rattle.gt_ways.specs.Lists.{AreWhole, GrowsInto, HasLine, HasListAt, IsEmptyList, HasItsLine, IsLonger};
     ghost use Rattle.gt_ways.specs.Lists.{line_by, printed_of, rest_by};
 
     /// Only the empty list.
-    pub fn new(alloc: Global) -> Result<Suffixes, AllocError>
+    pub fn new(alloc: Global) -> Result<AnswerLists, AllocError>
         ensures whole { IfOk result AreWhole }
         ensures empty { IfOk result (λ s. IsEmptyList s 0) }
     {
         let mut lists = IndexSet::new(alloc);
         lists.insert(Vec::new(alloc))?;
-        Ok(Suffixes {
+        Ok(AnswerLists {
             alloc,
             lines: IndexSet::new(alloc),
             lists,
@@ -78,7 +78,7 @@ impl Suffixes {
     }
 
     /// The number of this list with an answer more, if there is one.
-    pub fn longer(&mut self, list: usize, line: Option<Line>) -> Result<usize, AllocError>
+    pub fn longer(&mut self, list: usize, line: Option<AnswerLine>) -> Result<usize, AllocError>
         requires { HasItsLine self.old line }
         ensures grows { OnOk result (GrowsInto self.old self.new) }
         ensures there { HasListAt self.old list → IfOk result (λ n. HasListAt self.new n) }
@@ -97,7 +97,7 @@ impl Suffixes {
     }
 
     // What the domain at this place prints of a line.
-    fn printed(&self, line: Line, place: usize) -> &[u8]
+    fn printed(&self, line: AnswerLine, place: usize) -> &[u8]
         ensures { result.now ≡ line_by self.now (Some line) place }
     {
         if line.place != place {
@@ -110,7 +110,7 @@ impl Suffixes {
     }
 
     // Appends what the domain at this place prints of these lines.
-    fn push_printed(&self, out: &mut Vec<u8>, list: &[Line], place: usize) -> Result<(), AllocError>
+    fn push_printed(&self, out: &mut Vec<u8>, list: &[AnswerLine], place: usize) -> Result<(), AllocError>
         ensures { OnOk result (out.new.items
             ≡ out.old.items ++ printed_of self.now.lines.keys list.now place) }
     {

@@ -6,7 +6,7 @@ use lib.Seq.{map-set}
 use Rattle.std.specs.Prelude.{slice_index}
 use Rattle.atomic_table.specs.Table.{State, Me, Act, Allows, Joins, Splits, Step as TableStep, keeps, opening, stepped, homes_after}
 use Rattle.atomic_table.proofs.Lists.{at_map, set_again, set_else, set_here}
-use Rattle.gt_words.specs.Joining.{AreIn, AreTaken, HoldersLearn, HoldsSo, IsGoneAt, Learns, SeatsJoin, StepsLift, learns_all, outlook_of, tells_own, tells_own_stored, owns, put, taken_by, took, whole, whole_views}
+use Rattle.gt_words.specs.Joining.{AreIn, AreTaken, HoldersLearn, TableHolds, IsGoneAt, Learns, SeatsJoin, StepsLift, learns_all, outlook_of, tells_own, tells_own_stored, owns, put, taken_by, took, whole, whole_views}
 use Rattle.gt_words.specs.Rule.{Layout, Shows}
 use Rattle.gt_words.specs.Places.{dealer_after, dealing, dealt_outlook, dealt_to}
 use Rattle.gt_words.specs.Steps.{StepKind, tells, tells_stored}
@@ -77,7 +77,7 @@ taken_stay xs us i y w (t ∷ ts) n a = (gone_set xs i t.position y n.0 a.0, set
 
 -- steps
 
-module _ (k : Layout) (s : State (Unit {0}) Outlook) (holds : HoldsSo k s) (i : ℕ) (x : Outlook) (at : get_elem? s.views i ≡ some x) (here : x.gone ≡ false) where
+module _ (k : Layout) (s : State (Unit {0}) Outlook) (holds : TableHolds k s) (i : ℕ) (x : Outlook) (at : get_elem? s.views i ≡ some x) (here : x.gone ≡ false) where
   abbrev pub ts : List View
   ts = taken_by s.views
 
@@ -91,7 +91,7 @@ module _ (k : Layout) (s : State (Unit {0}) Outlook) (holds : HoldsSo k s) (i : 
   pub views_after : (y : Outlook) → y.taken ≡ x.taken → whole_views (set s.views i y) ≡ set (whole_views s.views) i y.own
   views_after y same = (λ j. put (taken_set s.views i x y at same j) (owns_set s.views i y j)) ∙ put_set (owns s.views) i y.own ts nobody
 
-  pub holds_after : (at_word n : ℕ) (c : List (ℕ × (Unit {0}))) (y : Outlook) (a : Act (Unit {0})) → y.taken ≡ x.taken → Shows k (stepped (whole s) at_word n i c y.own a) → HoldsSo k (stepped s at_word n i c y a)
+  pub holds_after : (at_word n : ℕ) (c : List (ℕ × (Unit {0}))) (y : Outlook) (a : Act (Unit {0})) → y.taken ≡ x.taken → Shows k (stepped (whole s) at_word n i c y.own a) → TableHolds k (stepped s at_word n i c y a)
   holds_after at_word n c y a same shows = record {
     shown = subst (λ (us : List View). Shows k (record { words = set s.words at_word n; homes = homes_after s.homes c a; views = us })) (sym (views_after y same)) shows;
     taken = subst (λ (q : List View). AreTaken (set s.views i y) (whole_views (set s.views i y)) q) (sym (taken_set s.views i x y at same))
@@ -101,7 +101,7 @@ module _ (k : Layout) (s : State (Unit {0}) Outlook) (holds : HoldsSo k s) (i : 
 
 lift : (k : Layout) (slots id : ℕ) (me : Me (Unit {0}) Outlook) (at : ℕ) (f : ℕ → ℕ) (says : ℕ → Me (Unit {0}) View → Type 0) → me.0.gone ≡ false
     → Allows (Shows k) slots id (me.0.own, me.1) at f says
-    → Allows (HoldsSo k) slots id me at f (λ n m. says n (m.0.own, m.1) × (m.0.taken ≡ me.0.taken) × (m.0.gone ≡ false))
+    → Allows (TableHolds k) slots id me at f (λ n m. says n (m.0.own, m.1) × (m.0.taken ≡ me.0.taken) × (m.0.gone ≡ false))
 lift k slots id me at f says here allows s holds many found bound =
     let r = allows (whole s) holds.shown many (there k s holds id me.0 found here) bound in
     let y : Outlook = record me.0 { own = r.0 } in
@@ -113,7 +113,7 @@ steps_lift k slots id me at f d st here allows = lift k slots id me at f (tells 
 -- joins
 
 module _ (k : Layout) (words : List ℕ) (homes : List (Option (Unit {0}))) (v w gone : Outlook) (rest : List Outlook) (j : ℕ) (here : v.gone ≡ false) (live : w.gone ≡ false) (lost : gone.gone ≡ true)
-    (holds : HoldsSo k (record { words = words; homes = homes; views = v ∷ rest })) (at : get_elem? rest j ≡ some w) where
+    (holds : TableHolds k (record { words = words; homes = homes; views = v ∷ rest })) (at : get_elem? rest j ≡ some w) where
   abbrev before : State (Unit {0}) Outlook
   before = record { words = words; homes = homes; views = v ∷ rest }
 
@@ -135,7 +135,7 @@ module _ (k : Layout) (words : List ℕ) (homes : List (Option (Unit {0}))) (v w
       ∙ (set_twice (put v.taken (v.own ∷ owns rest)) (suc j) gone.own w.own
       ∙ set_again (put v.taken (v.own ∷ owns rest)) (suc j) w.own stands))
 
-  pub joined : HoldsSo k (record { words = words; homes = homes; views = took v w ∷ set rest j gone })
+  pub joined : TableHolds k (record { words = words; homes = homes; views = took v w ∷ set rest j gone })
   joined = record {
     shown = subst (λ (us : List View). Shows k (record { words = words; homes = homes; views = us })) (sym same_views) holds.shown;
     taken = subst (λ (us : List View). AreTaken (took v w ∷ set rest j gone) us (w.own ∷ v.taken)) (sym same_views) (
@@ -152,12 +152,12 @@ module _ (k : Layout) (words : List ℕ) (homes : List (Option (Unit {0}))) (v w
 pub seats_join : SeatsJoin
 seats_join k other v w gone here live lost s holds at ne found = by s.views s.words s.homes other holds at ne found
   where
-    by : (xs : List Outlook) (ws : List ℕ) (hs : List (Option (Unit {0}))) (o : ℕ) → HoldsSo k (record { words = ws; homes = hs; views = xs }) → get_elem? xs 0 ≡ some v → (o ≡ 0 → ⊥)
-        → get_elem? (set xs 0 (took v w)) o ≡ some w → HoldsSo k (record { words = ws; homes = hs; views = set (set xs 0 (took v w)) o gone })
+    by : (xs : List Outlook) (ws : List ℕ) (hs : List (Option (Unit {0}))) (o : ℕ) → TableHolds k (record { words = ws; homes = hs; views = xs }) → get_elem? xs 0 ≡ some v → (o ≡ 0 → ⊥)
+        → get_elem? (set xs 0 (took v w)) o ≡ some w → TableHolds k (record { words = ws; homes = hs; views = set (set xs 0 (took v w)) o gone })
     by [] ws hs o h e n f = absurd (some-ne-none v (sym e))
     by (x ∷ xs) ws hs zero h e n f = absurd (n refl)
     by (x ∷ xs) ws hs (suc o) h e n f = joined k ws hs v w gone xs o here live lost
-        (subst (λ (u : Outlook). HoldsSo k (record { words = ws; homes = hs; views = u ∷ xs })) (some-injective x v e) h) f
+        (subst (λ (u : Outlook). TableHolds k (record { words = ws; homes = hs; views = u ∷ xs })) (some-injective x v e) h) f
 
 known : (xs : List Outlook) (us : List View) (ts : List View) → AreTaken xs us ts → AreIn us ts
 known xs us [] a = tt
@@ -177,7 +177,7 @@ holders_learn k s v holds at here = (
 
 -- the start
 
-pub opens_so : (k : Layout) (ws : List ℕ) (v : View) → Shows {S = Unit {0}} k (opening ws [] v) → HoldsSo k (opening ws [] (outlook_of v))
+pub opens_so : (k : Layout) (ws : List ℕ) (v : View) → Shows {S = Unit {0}} k (opening ws [] v) → TableHolds k (opening ws [] (outlook_of v))
 opens_so k ws v shown = record { shown = shown; taken = tt }
 
 owns_more : (xs : List Outlook) (x : Outlook) → owns (xs ++ x ∷ []) ≡ owns xs ++ x.own ∷ []
@@ -199,7 +199,7 @@ dealt_taken : (xs : List Outlook) (x : Outlook) → get_elem? xs 0 ≡ some x �
 dealt_taken [] x at e = absurd (some-ne-none x (sym at))
 dealt_taken (z ∷ xs) x at e = e
 
-pub deals_so : (k : Layout) (id : ℕ) (x : Outlook) → x.gone ≡ false → x.taken ≡ [] → x.own.position ≡ 0 → x.own.dealt < k.domains → Splits (HoldsSo k) id x (dealing x) (dealt_outlook x)
+pub deals_so : (k : Layout) (id : ℕ) (x : Outlook) → x.gone ≡ false → x.taken ≡ [] → x.own.position ≡ 0 → x.own.dealt < k.domains → Splits (TableHolds k) id x (dealing x) (dealt_outlook x)
 deals_so k id x here none_taken own room s holds at =
     let stands = there k s holds id x at here in
     let zero_is : id ≡ 0 = sym (holds.shown.now.seats id x.own stands).0 ∙ own in
@@ -214,17 +214,17 @@ deals_so k id x here none_taken own room s holds at =
 
 -- at another number of the same place
 pub lifted : (k : Layout) (slots id : ℕ) (me : Me (Unit {0}) Outlook) (at here : ℕ) (f : ℕ → ℕ) (d : StepKind) (st st' : TableStep (Unit {0})) → me.0.gone ≡ false → at ≡ here → st ≡ st'
-    → Allows (Shows k) slots id (me.0.own, me.1) at f (tells d st (me.0.own, me.1)) → Allows (HoldsSo k) slots id me here f (tells_own d st' me)
+    → Allows (Shows k) slots id (me.0.own, me.1) at f (tells d st (me.0.own, me.1)) → Allows (TableHolds k) slots id me here f (tells_own d st' me)
 lifted k slots id me at here f d st st' live same also allows =
-    subst (λ (i : ℕ). Allows (HoldsSo k) slots id me i f (tells_own d st' me)) same
-    (subst (λ (z : TableStep (Unit {0})). Allows (HoldsSo k) slots id me at f (tells_own d z me)) also
+    subst (λ (i : ℕ). Allows (TableHolds k) slots id me i f (tells_own d st' me)) same
+    (subst (λ (z : TableStep (Unit {0})). Allows (TableHolds k) slots id me at f (tells_own d z me)) also
     (lift k slots id me at f (tells d st (me.0.own, me.1)) live allows))
 
 pub lifted_store : (k : Layout) (slots id : ℕ) (me : Me (Unit {0}) Outlook) (at here new : ℕ) (d : StepKind) (st st' : TableStep (Unit {0})) → me.0.gone ≡ false → at ≡ here → st ≡ st'
-    → Allows (Shows k) slots id (me.0.own, me.1) at (λ _. new) (λ _. tells_stored d st (me.0.own, me.1)) → Allows (HoldsSo k) slots id me here (λ _. new) (λ _. tells_own_stored d st' me)
+    → Allows (Shows k) slots id (me.0.own, me.1) at (λ _. new) (λ _. tells_stored d st (me.0.own, me.1)) → Allows (TableHolds k) slots id me here (λ _. new) (λ _. tells_own_stored d st' me)
 lifted_store k slots id me at here new d st st' live same also allows =
-    subst (λ (i : ℕ). Allows (HoldsSo k) slots id me i (λ _. new) (λ _. tells_own_stored d st' me)) same
-    (subst (λ (z : TableStep (Unit {0})). Allows (HoldsSo k) slots id me at (λ _. new) (λ _. tells_own_stored d z me)) also
+    subst (λ (i : ℕ). Allows (TableHolds k) slots id me i (λ _. new) (λ _. tells_own_stored d st' me)) same
+    (subst (λ (z : TableStep (Unit {0})). Allows (TableHolds k) slots id me at (λ _. new) (λ _. tells_own_stored d z me)) also
     (lift k slots id me at (λ _. new) (λ _. tells_stored d st (me.0.own, me.1)) live allows))
 
 -- a look that tells of all
@@ -234,25 +234,25 @@ word_again [] i = refl
 word_again (w ∷ ws) zero = refl
 word_again (w ∷ ws) (suc i) = ap (λ z. w ∷ z) (word_again ws i)
 
-pub learns_so : (k : Layout) (slots : ℕ) (me : Me (Unit {0}) Outlook) (at : ℕ) (d : StepKind) (st : TableStep (Unit {0})) → me.0.gone ≡ false → d.layout ≡ k → Allows (HoldsSo k) slots 0 me at (λ n. n) (learns_all d st me)
+pub learns_so : (k : Layout) (slots : ℕ) (me : Me (Unit {0}) Outlook) (at : ℕ) (d : StepKind) (st : TableStep (Unit {0})) → me.0.gone ≡ false → d.layout ≡ k → Allows (TableHolds k) slots 0 me at (λ n. n) (learns_all d st me)
 learns_so k slots me at d st here of_run s holds many found bound = (
   me.0,
   keeps,
   tt,
-  subst (λ (ws : List ℕ). HoldsSo k (record { words = ws; homes = s.homes; views = set s.views 0 me.0 })) (sym (word_again s.words at))
-      (subst (λ (xs : List Outlook). HoldsSo k (record { words = s.words; homes = s.homes; views = xs })) (sym (set_again s.views 0 me.0 found)) holds),
+  subst (λ (ws : List ℕ). TableHolds k (record { words = ws; homes = s.homes; views = set s.views 0 me.0 })) (sym (word_again s.words at))
+      (subst (λ (xs : List Outlook). TableHolds k (record { words = s.words; homes = s.homes; views = xs })) (sym (set_again s.views 0 me.0 found)) holds),
   (refl, subst (λ (l : Layout). Learns l me.0) (sym of_run) (holders_learn k s me.0 holds found here)),
 )
 
 -- the first seat is the one at position 0
 
-pub first_id : (k : Layout) (s : State (Unit {0}) Outlook) → HoldsSo k s → (id : ℕ) (v : Outlook) → get_elem? s.views id ≡ some v → v.gone ≡ false → v.own.position ≡ 0 → id ≡ 0
+pub first_id : (k : Layout) (s : State (Unit {0}) Outlook) → TableHolds k s → (id : ℕ) (v : Outlook) → get_elem? s.views id ≡ some v → v.gone ≡ false → v.own.position ≡ 0 → id ≡ 0
 first_id k s holds id v at here own = sym (holds.shown.now.seats id v.own (there k s holds id v at here)).0 ∙ own
 
-pub join_any : (k : Layout) (id other : ℕ) (v w gone : Outlook) → v.own.position ≡ 0 → v.gone ≡ false → w.gone ≡ false → gone.gone ≡ true → Joins (HoldsSo k) id v other w (took v w) gone
+pub join_any : (k : Layout) (id other : ℕ) (v w gone : Outlook) → v.own.position ≡ 0 → v.gone ≡ false → w.gone ≡ false → gone.gone ≡ true → Joins (TableHolds k) id v other w (took v w) gone
 join_any k id other v w gone own here live lost s holds at =
-    subst (λ (i : ℕ). Joins (HoldsSo k) i v other w (took v w) gone) (sym (first_id k s holds id v at here own)) (seats_join k other v w gone here live lost) s holds at
+    subst (λ (i : ℕ). Joins (TableHolds k) i v other w (took v w) gone) (sym (first_id k s holds id v at here own)) (seats_join k other v w gone here live lost) s holds at
 
-pub learns_any : (k : Layout) (slots id : ℕ) (me : Me (Unit {0}) Outlook) (at : ℕ) (d : StepKind) (st : TableStep (Unit {0})) → me.0.own.position ≡ 0 → me.0.gone ≡ false → d.layout ≡ k → Allows (HoldsSo k) slots id me at (λ n. n) (learns_all d st me)
+pub learns_any : (k : Layout) (slots id : ℕ) (me : Me (Unit {0}) Outlook) (at : ℕ) (d : StepKind) (st : TableStep (Unit {0})) → me.0.own.position ≡ 0 → me.0.gone ≡ false → d.layout ≡ k → Allows (TableHolds k) slots id me at (λ n. n) (learns_all d st me)
 learns_any k slots id me at d st own here of_run s holds many found =
-    subst (λ (i : ℕ). Allows (HoldsSo k) slots i me at (λ n. n) (learns_all d st me)) (sym (first_id k s holds id me.0 found here own)) (learns_so k slots me at d st here of_run) s holds many found
+    subst (λ (i : ℕ). Allows (TableHolds k) slots i me at (λ n. n) (learns_all d st me)) (sym (first_id k s holds id me.0 found here own)) (learns_so k slots me at d st here of_run) s holds many found

@@ -20,10 +20,10 @@ use Rattle.gt_words.specs.Views.{with_body}
 use Rattle.gt_words.specs.declared.view.EntryStep.{EntryStep}
 use Rattle.gt_words.specs.declared.view.EntryStep.TheVariants.{ChangeMissed, Changed, Looked, PinMissed, Pinned}
 use Rattle.gt_words.specs.declared.view.EntryStep.TheVariants.{ReadBody, StoredBody, Unpinned}
-use Rattle.gt_entry.specs.declared.change.Half.{Half}
-use Rattle.gt_entry.specs.declared.change.Half.TheVariants.{First, Second}
+use Rattle.gt_entry.specs.declared.change.BodyWord.{BodyWord}
+use Rattle.gt_entry.specs.declared.change.BodyWord.TheVariants.{First, Second}
 use Rattle.gt_words.specs.declared.view.EntryRecord.{EntryRecord}
-use Rattle.gt_entry.specs.declared.control.Kind.TheVariants as kind
+use Rattle.gt_entry.specs.declared.control.EntryKind.TheVariants as kind
 
 -- the word of the last record is a look at it
 pub looks_at : (x : EntryRecord) (xs : List EntryRecord) (r w : ℕ) (word : ℕ) → (r < 4096) × (w < 4096) → word ≡ word_of x.entry x.generation r w → SawRecord x xs (Some (record { word = word; first = None; second = None }))
@@ -48,7 +48,7 @@ saw_second (Sub d o f y n) a b p q s g = (g.0, s.1)
 saw_second (Via d o t r) a b p q s g = g
 
 -- a look at a body word
-pub saw_known : (x : EntryRecord) (xs : List EntryRecord) (a b : ℕ) (k : Half) (v : ℕ) (s : Option Seen) → IsSpelled x.entry a b → (k ≡ First → v ≡ a) → (k ≡ Second → v ≡ b) → SawRecord x xs s → SawRecord x xs (with_body k v s)
+pub saw_known : (x : EntryRecord) (xs : List EntryRecord) (a b : ℕ) (k : BodyWord) (v : ℕ) (s : Option Seen) → IsSpelled x.entry a b → (k ≡ First → v ≡ a) → (k ≡ Second → v ≡ b) → SawRecord x xs s → SawRecord x xs (with_body k v s)
 saw_known x xs a b k v None body f g n = tt
 saw_known x xs a b First v (Some s) body f g n = record {
   at = n.at;

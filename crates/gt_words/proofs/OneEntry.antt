@@ -24,14 +24,14 @@ use Rattle.gt_words.specs.Sight.{IsSeenOf}
 use Rattle.gt_words.specs.Views.{HasBody, IsAmong, LivePin, Seen, earlier_records, exchanged, last_record, pin_count}
 use Rattle.gt_words.specs.Views.{live_pins}
 use Rattle.gt_words.specs.Views.{pins_until, record_seen, stored_body, weight}
-use Rattle.gt_entry.specs.declared.change.Change.{Change}
+use Rattle.gt_entry.specs.declared.change.EntryChange.{EntryChange}
 use Rattle.gt_words.specs.declared.view.EntryStep.{EntryStep}
 use Rattle.gt_words.specs.declared.view.EntryStep.TheVariants.{ChangeMissed, Changed, Looked, PinMissed, Pinned}
 use Rattle.gt_words.specs.declared.view.EntryStep.TheVariants.{ReadBody, StoredBody, Unpinned}
-use Rattle.gt_entry.specs.declared.change.Half.{Half}
-use Rattle.gt_entry.specs.declared.change.Half.TheVariants.{First, Second}
+use Rattle.gt_entry.specs.declared.change.BodyWord.{BodyWord}
+use Rattle.gt_entry.specs.declared.change.BodyWord.TheVariants.{First, Second}
 use Rattle.gt_words.specs.declared.view.EntryRecord.{EntryRecord}
-use Rattle.gt_entry.specs.declared.change.Change.TheVariants as change
+use Rattle.gt_entry.specs.declared.change.EntryChange.TheVariants as change
 
 pub count_in : (d : Dir) (p : LivePin) (ps : List LivePin) → IsAmong p ps → p.0 ≡ d → 1 ≤ pin_count d ps
 count_in d p [] h e = absurd h
@@ -86,10 +86,10 @@ module _ (g t : ℕ) (hs : List (List EntryStep)) (i : ℕ) (h : List EntryStep)
     pub entry_misses_pin : (d : Dir) (expected desired : ℕ) → ShowsEntry g t word a b (set hs i (PinMissed d expected desired word ∷ h))
     entry_misses_pin d expected desired = plain word (PinMissed d expected desired word) refl refl refl refl refl none_taken (sees_shown x xs a b hs i h (PinMissed d expected desired word) word k.record_shown at refl)
 
-    pub entry_misses_change : (c : Change) (expected desired : ℕ) → ShowsEntry g t word a b (set hs i (ChangeMissed c expected desired word ∷ h))
+    pub entry_misses_change : (c : EntryChange) (expected desired : ℕ) → ShowsEntry g t word a b (set hs i (ChangeMissed c expected desired word ∷ h))
     entry_misses_change c expected desired = plain word (ChangeMissed c expected desired word) refl refl refl refl refl none_taken (sees_shown x xs a b hs i h (ChangeMissed c expected desired word) word k.record_shown at refl)
 
-    pub entry_reads : (p : Half) (v : ℕ) → ShowsEntry g t word a b (set hs i (ReadBody p v ∷ h))
+    pub entry_reads : (p : BodyWord) (v : ℕ) → ShowsEntry g t word a b (set hs i (ReadBody p v ∷ h))
     entry_reads p v = plain word (ReadBody p v) refl refl refl refl refl none_taken (sees_shown x xs a b hs i h (ReadBody p v) word k.record_shown at refl)
 
     pub entry_pins : (d : Dir) (expected : ℕ) (s : Seen) → IsSeenOf x xs s → s.word ≡ word → IsValid word → HasBody s → (d ≡ Write → is_read_only (record_seen s).entry ≡ false) → pins_in d word < MAX_PINS → ShowsEntry g t (word + unit_of d) a b (set hs i (Pinned d expected (record_seen s) ∷ h))
@@ -142,7 +142,7 @@ module _ (g t : ℕ) (hs : List (List EntryStep)) (h : List EntryStep) (at : get
     gone_on = subst (λ (z : List EntryStep). (e : ℕ) → IsAmong e (exchanged z) → HasGoneOn (last_record g z) (set hs t (m ∷ h)) e) here (λ e is. still_gone hs t h m at (last_record g h) e (gone e is) (λ d. omega arith));
   }
 
-  pub entry_changes : (word' expected stored : ℕ) (c : Change) (y : EntryRecord) → IsRecord y → MayFollow y (last_record g h) → IsSpelled y.entry a b → word' ≡ word_of y.entry y.generation (total_pins Read hs) (total_pins Write hs)
+  pub entry_changes : (word' expected stored : ℕ) (c : EntryChange) (y : EntryRecord) → IsRecord y → MayFollow y (last_record g h) → IsSpelled y.entry a b → word' ≡ word_of y.entry y.generation (total_pins Read hs) (total_pins Write hs)
       → (is_read_only y.entry ≡ true → total_pins Write hs ≡ 0) → word ≡ expected → ShowsEntry g t word' a b (set hs t (Changed c expected stored y ∷ h))
   entry_changes word' expected stored c y ok may body is unwritten from = let m : EntryStep = Changed c expected stored y in let here : (m ∷ h) ≡ owner_steps t (set hs t (m ∷ h)) = sym (whose_here hs t h (m ∷ h) at) in record {
     record_shown = subst (λ (z : List EntryStep). ShowsRecord (last_record g z) (earlier_records g z) word' a b (set hs t (m ∷ h))) here (changes_shown (last_record g h) (earlier_records g h) a b hs t h word word' expected stored c y mine at ok may body is unwritten);
@@ -228,7 +228,7 @@ turned_other false b h = sym (ap not h)
 
 module _ (g t : ℕ) (hs : List (List EntryStep)) (h : List EntryStep) (at : get_elem? hs t ≡ some h) (word a b : ℕ) (k : ShowsEntry g t word a b hs) where
   -- the entry becomes read-only or writable, with its pins
-  pub entry_turns : (o : Bool) (c : Change) (word' expected stored : ℕ) → word ≡ expected → (last_record g h).entry ≢ Invalid → is_read_only (last_record g h).entry ≡ not o → (last_record g h).generation < LAST_GENERATION → (o ≡ true → total_pins Write hs ≡ 0)
+  pub entry_turns : (o : Bool) (c : EntryChange) (word' expected stored : ℕ) → word ≡ expected → (last_record g h).entry ≢ Invalid → is_read_only (last_record g h).entry ≡ not o → (last_record g h).generation < LAST_GENERATION → (o ≡ true → total_pins Write hs ≡ 0)
       → word' ≡ word_of (with_ro o (last_record g h).entry) ((last_record g h).generation + 1) (total_pins Read hs) (total_pins Write hs)
       → ShowsEntry g t word' a b (set hs t (Changed c expected stored (record { generation = (last_record g h).generation + 1; entry = with_ro o (last_record g h).entry }) ∷ h))
   entry_turns o c word' expected stored from some_kind now room unwritten is = let x : EntryRecord = last_record g h in let m = mine g t hs h at word a b k in let rec = legal_record x (earlier_records g h) m.lawful in

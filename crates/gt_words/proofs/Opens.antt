@@ -26,7 +26,7 @@ use Rattle.gt_words.specs.Views.{IsAmong, earlier_records, exchanged, last_recor
 use Rattle.gt_words.specs.Views.{pins_until}
 use Rattle.gt_words.specs.Views.{steps_on, steps_on_header, stored_body, stored_header}
 use Rattle.gt_words.specs.declared.view.EntryStep.{EntryStep}
-use Rattle.gt_entry.specs.declared.change.Half.TheVariants.{First, Second}
+use Rattle.gt_entry.specs.declared.change.BodyWord.TheVariants.{First, Second}
 use Rattle.gt_words.specs.declared.view.HeaderStep.{HeaderStep}
 use Rattle.gt_words.specs.declared.view.EntryRecord.{EntryRecord}
 use Rattle.gt_words.specs.declared.view.View.{View}

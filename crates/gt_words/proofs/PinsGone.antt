@@ -9,7 +9,7 @@ use Rattle.atomic_table.specs.Table.{State}
 use Rattle.gt_types.specs.declared.Dir.{Dir}
 use Rattle.gt_types.specs.declared.Dir.TheVariants.{Read, Write}
 use Rattle.gt_types.specs.declared.limits.TheConstants.{TABLE_ENTRIES}
-use Rattle.gt_entry.specs.declared.change.Change.{Change}
+use Rattle.gt_entry.specs.declared.change.EntryChange.{EntryChange}
 use Rattle.gt_words.proofs.Lists.{whose_at}
 use Rattle.gt_words.proofs.Past.{pins_left}
 use Rattle.gt_words.proofs.Records.{legal_record, spelled_parts}
@@ -50,7 +50,7 @@ still_exchanged e t r (OnEntry d q m ∷ later) steps is = by ((d == t) && (q ==
 still_exchanged e t r (OnHeader d m ∷ later) steps is = still_exchanged e t r later steps is
 still_exchanged e t r (OnFrame d q m ∷ later) steps is = still_exchanged e t r later steps is
 
-module _ (k : Layout) (r word : ℕ) (c : Change) (v w : View) (z : Changes k r c word v w) (none : HasNoPins v.position r z.steps.past) (vn : v.position < k.domains) (rn : r < TABLE_ENTRIES) where
+module _ (k : Layout) (r word : ℕ) (c : EntryChange) (v w : View) (z : Changes k r c word v w) (none : HasNoPins v.position r z.steps.past) (vn : v.position < k.domains) (rn : r < TABLE_ENTRIES) where
   abbrev all : List (List EntryStep)
   all = map (steps_on v.position r) z.steps.step.stood.0.views
 

@@ -17,10 +17,10 @@ use Rattle.gt_types.specs.declared.Dir.TheVariants.{Read, Write}
 use Rattle.gt_words.specs.Laws.{bounded}
 use Rattle.gt_words.specs.Rule.{IsLawful, IsNextEntry, IsRecord, IsRevocation, MayFollow, ShowsRecord, total_pins}
 use Rattle.gt_words.specs.Views.{IsAmong, LivePin, is_same_dir, pin_count, live_pins, weight, without_pin}
-use Rattle.gt_entry.specs.declared.change.Change.{Change}
+use Rattle.gt_entry.specs.declared.change.EntryChange.{EntryChange}
 use Rattle.gt_words.specs.declared.view.EntryStep.{EntryStep}
 use Rattle.gt_words.specs.declared.view.EntryStep.TheVariants.{Changed, Pinned, StoredBody, Unpinned}
-use Rattle.gt_entry.specs.declared.change.Half.{Half}
+use Rattle.gt_entry.specs.declared.change.BodyWord.{BodyWord}
 use Rattle.gt_words.specs.declared.view.EntryRecord.{EntryRecord}
 
 pub total_pins-set : (d : Dir) (hs : List (List EntryStep)) (i : ℕ) (h h' : List EntryStep) → get_elem? hs i ≡ some h → total_pins d (set hs i h') + pin_count d (live_pins h) ≡ total_pins d hs + pin_count d (live_pins h')
@@ -174,7 +174,7 @@ module _ (x : EntryRecord) (xs : List EntryRecord) (a b : ℕ) (hs : List (List 
       }
 
   -- the owner stores a body word of an invalid entry
-  pub stores_shown : (word : ℕ) (k : Half) (v a' b' : ℕ) → ShowsRecord x xs word a b hs → get_elem? hs i ≡ some h → x.entry ≡ Invalid → ShowsRecord x xs word a' b' (set hs i (StoredBody k v ∷ h))
+  pub stores_shown : (word : ℕ) (k : BodyWord) (v a' b' : ℕ) → ShowsRecord x xs word a b hs → get_elem? hs i ≡ some h → x.entry ≡ Invalid → ShowsRecord x xs word a' b' (set hs i (StoredBody k v ∷ h))
   stores_shown word k v a' b' z e n = let s = sees_shown x xs a b hs i h (StoredBody k v) word z e refl in record {
     spelled = s.spelled;
     in_range = s.in_range;
@@ -185,7 +185,7 @@ module _ (x : EntryRecord) (xs : List EntryRecord) (a b : ℕ) (hs : List (List 
   }
 
   -- the owner exchanges the control word
-  pub changes_shown : (word word' expected stored : ℕ) (c : Change) (y : EntryRecord) → ShowsRecord x xs word a b hs → get_elem? hs i ≡ some h → IsRecord y → MayFollow y x → IsSpelled y.entry a b
+  pub changes_shown : (word word' expected stored : ℕ) (c : EntryChange) (y : EntryRecord) → ShowsRecord x xs word a b hs → get_elem? hs i ≡ some h → IsRecord y → MayFollow y x → IsSpelled y.entry a b
       → word' ≡ word_of y.entry y.generation (total_pins Read hs) (total_pins Write hs) → (is_read_only y.entry ≡ true → total_pins Write hs ≡ 0)
       → ShowsRecord y (x ∷ xs) word' a b (set hs i (Changed c expected stored y ∷ h))
   changes_shown word word' expected stored c y k e ok may body is unwritten = let m : EntryStep = Changed c expected stored y in let s = sees_shown x xs a b hs i h m word k e refl in

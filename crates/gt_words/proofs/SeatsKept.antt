@@ -5,8 +5,8 @@ use Rattle.std.proofs.lemmas.Bool.{and_parts, eqb-true}
 use Rattle.std.proofs.lemmas.List.Sums.{sum_by-cons}
 use mathlib.Core.Logic.{dite}
 use native.Mathlib.Decide.{ℕ_discrete}
-use Rattle.gt_entry.specs.declared.change.Half.{Half}
-use Rattle.gt_entry.specs.declared.change.Half.TheVariants.{First, Second}
+use Rattle.gt_entry.specs.declared.change.BodyWord.{BodyWord}
+use Rattle.gt_entry.specs.declared.change.BodyWord.TheVariants.{First, Second}
 use Rattle.gt_types.specs.declared.Dir.{Dir}
 use Rattle.gt_types.specs.declared.Dir.TheVariants.{Read, Write}
 use Rattle.gt_words.proofs.Records.{IsIn-without_pin}
@@ -28,7 +28,7 @@ use Rattle.gt_words.specs.declared.view.HeaderStep.TheVariants as header
 pub record IsQuiet (m : EntryStep) : Type 0 where
   pub lists : (g : ℕ) (ms : List EntryStep) → own g (m ∷ ms) ≡ own g ms
   pub last : (g : ℕ) (ms : List EntryStep) → last_record g (m ∷ ms) ≡ last_record g ms
-  pub bodies : (h : Half) (ms : List EntryStep) → stored_body h (m ∷ ms) ≡ stored_body h ms
+  pub bodies : (h : BodyWord) (ms : List EntryStep) → stored_body h (m ∷ ms) ≡ stored_body h ms
 
 module _ {past : StepHistory} (t r : ℕ) (m : EntryStep) (v w : View) (z : AddsToEntry past t r m v w) where
   -- what holds of the steps on each entry before and after a step on one
@@ -66,7 +66,7 @@ keeps_others r m v w z = record { lists = other own; last = other last_record; b
     other : {A : Type 0} (f : ℕ → List EntryStep → A) (q : ℕ) → r ≢ q → f w.first (steps_on w.position q w) ≡ f v.first (steps_on v.position q v)
     other f q n = ap (λ (u : View). f u.first (steps_on u.position q w)) z.view ∙ ap (f v.first) (z.others v.position q (λ _ e. n e))
 
-pub body_generation : (h : Half) (n : ℕ) (s : Option Seen) → generation_in (with_body h n s) ≡ generation_in s
+pub body_generation : (h : BodyWord) (n : ℕ) (s : Option Seen) → generation_in (with_body h n s) ≡ generation_in s
 body_generation h n None = refl
 body_generation First n (Some s) = refl
 body_generation Second n (Some s) = refl

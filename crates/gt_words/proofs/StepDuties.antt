@@ -40,16 +40,16 @@ use Rattle.gt_words.specs.Sight.{SawRecord}
 use Rattle.gt_words.specs.Views.{earlier_records, invalid_at, last_of, last_record, last_seen, live_pins, record_seen}
 use Rattle.gt_words.specs.Views.{seen}
 use Rattle.gt_words.specs.Views.{steps_on, stored_body, with_step}
-use Rattle.gt_entry.specs.declared.change.Change.{Change}
+use Rattle.gt_entry.specs.declared.change.EntryChange.{EntryChange}
 use Rattle.gt_words.specs.declared.view.EntryStep.{EntryStep}
 use Rattle.gt_words.specs.declared.view.EntryStep.TheVariants.{Changed, Looked, ReadBody, StoredBody, Unpinned}
-use Rattle.gt_entry.specs.declared.change.Half.{Half}
-use Rattle.gt_entry.specs.declared.change.Half.TheVariants.{First, Second}
+use Rattle.gt_entry.specs.declared.change.BodyWord.{BodyWord}
+use Rattle.gt_entry.specs.declared.change.BodyWord.TheVariants.{First, Second}
 use Rattle.gt_words.specs.declared.view.Purpose.{Purpose}
 use Rattle.gt_words.specs.declared.view.EntryRecord.{EntryRecord}
 use Rattle.gt_words.specs.declared.view.View.{View}
 use Rattle.gt_words.specs.declared.word_table.TheConstants.{DOMAIN_WORDS}
-use Rattle.gt_entry.specs.declared.change.Change.TheVariants as change
+use Rattle.gt_entry.specs.declared.change.EntryChange.TheVariants as change
 use Rattle.gt_words.specs.declared.view.Purpose.TheVariants as purpose
 use Rattle.gt_types.specs.declared.limits.TheConstants.{LAST_GENERATION, MAX_PINS, TABLE_ENTRIES}
 
@@ -188,10 +188,10 @@ module _ {S : Type 0} (k : Layout) (slots id : ℕ) (me : Me S View) (t r : ℕ)
   read_second_owes : Allows (Shows k) slots id me (place t r 2) (λ n. n) (tells (reading k t r Second) (step slots (place t r 2) 0 0 none) me)
   read_second_owes = second_owes k t r (λ n. ReadBody Second n) (λ n. n) slots id me (λ n. n) (step slots (place t r 2) 0 0 none) tn rn refl (λ n. refl) (λ n. (refl, refl, refl)) (λ w a b hs z. (entry_reads k.first t hs id _ z.1 w a b z.0 Second b, tt, tt))
 
-  pub read_owes : (h : Half) (i : ℕ) → i ≡ half_index h → Allows (Shows k) slots id me (place t r i) (λ n. n) (tells (reading k t r (half_of i)) (step slots (place t r i) 0 0 none) me)
+  pub read_owes : (h : BodyWord) (i : ℕ) → i ≡ half_index h → Allows (Shows k) slots id me (place t r i) (λ n. n) (tells (reading k t r (half_of i)) (step slots (place t r i) 0 0 none) me)
   read_owes h i e = subst (λ (u : ℕ). Allows (Shows k) slots id me (place t r u) (λ n. n) (tells (reading k t r (half_of u)) (step slots (place t r u) 0 0 none) me)) (sym e) (at_half h)
     where
-      at_half : (h : Half) → Allows (Shows k) slots id me (place t r (half_index h)) (λ n. n) (tells (reading k t r (half_of (half_index h))) (step slots (place t r (half_index h)) 0 0 none) me)
+      at_half : (h : BodyWord) → Allows (Shows k) slots id me (place t r (half_index h)) (λ n. n) (tells (reading k t r (half_of (half_index h))) (step slots (place t r (half_index h)) 0 0 none) me)
       at_half First = read_first_owes
       at_half Second = read_second_owes
 
@@ -263,15 +263,15 @@ module _ {S : Type 0} (k : Layout) (slots id : ℕ) (me : Me S View) (t r : ℕ)
     store_second_owes v none_yet = stored_owes (storing k t r Second v) (place t r 2) (λ _. v) (step slots (place t r 2) v 0 none) (second_owes k t r (λ n. StoredBody Second v) (λ n. v) slots id me (λ _. v) (step slots (place t r 2) v 0 none) tn rn refl (λ n. refl) (λ n. (refl, refl, tt))
         (λ w a b hs z. (to_seat w a v hs (StoredBody Second v) z.2 (entry_stores_second k.first t hs (steps_on t r me.0) (at_home hs z.1 z.2) w a b z.0 v (ap (λ (x : EntryRecord). x.entry) (sym (last_is z.3)) ∙ none_yet)), sym z.2 ∙ own, tt)))
 
-    pub store_owes : (h : Half) (i v : ℕ) → i ≡ half_index h → (last_of r me.0).entry ≡ Invalid → Allows (Shows k) slots id me (place t r i) (λ _. v) (λ _. tells_stored (storing k t r (half_of i) v) (step slots (place t r i) v 0 none) me)
+    pub store_owes : (h : BodyWord) (i v : ℕ) → i ≡ half_index h → (last_of r me.0).entry ≡ Invalid → Allows (Shows k) slots id me (place t r i) (λ _. v) (λ _. tells_stored (storing k t r (half_of i) v) (step slots (place t r i) v 0 none) me)
     store_owes h i v e none_yet = subst (λ (u : ℕ). Allows (Shows k) slots id me (place t r u) (λ _. v) (λ _. tells_stored (storing k t r (half_of u) v) (step slots (place t r u) v 0 none) me)) (sym e) (at_half h)
       where
-        at_half : (h : Half) → Allows (Shows k) slots id me (place t r (half_index h)) (λ _. v) (λ _. tells_stored (storing k t r (half_of (half_index h)) v) (step slots (place t r (half_index h)) v 0 none) me)
+        at_half : (h : BodyWord) → Allows (Shows k) slots id me (place t r (half_index h)) (λ _. v) (λ _. tells_stored (storing k t r (half_of (half_index h)) v) (step slots (place t r (half_index h)) v 0 none) me)
         at_half First = store_first_owes v none_yet
         at_half Second = store_second_owes v none_yet
 
     -- an exchange by the owner
-    change_owes : (c : Change) (old new : ℕ)
+    change_owes : (c : EntryChange) (old new : ℕ)
         → ((w a b : ℕ) (hs : List (List EntryStep)) → ShowsEntry k.first t w a b hs → get_elem? hs t ≡ some (steps_on t r me.0) → me.0.first ≡ k.first → w ≡ old → ShowsEntry k.first t new a b (set hs t (Changed c old new (changed c (last_of r me.0)) ∷ steps_on t r me.0)))
         → Allows (Shows k) slots id me (place t r 0) (λ n. either (n == old) new n) (tells (exchanging k t r me.0 (purpose.Change c) old new) (step slots (place t r 0) old new none) me)
     change_owes c old new hit = exchange_owes (purpose.Change c) old new tt
@@ -322,7 +322,7 @@ module _ {S : Type 0} (k : Layout) (slots id : ℕ) (me : Me S View) (t r : ℕ)
         let L : ℕ = low_bits (with_ro o x.entry) in let D : ℕ = named_domain (with_ro o x.entry) in let L0 : ℕ = low_bits x.entry in let D0 : ℕ = named_domain x.entry in
         let l' : L + flag (not o) ≡ L0 + flag o = l in let d' : D ≡ D0 = d in omega arith
 
-    turn_owes : (o : Bool) (c : Change) (old new : ℕ) → ((x : EntryRecord) → changed c x ≡ turned o x) → (last_of r me.0).entry ≢ Invalid → generation_of old < LAST_GENERATION → is_read_only (last_of r me.0).entry ≡ not o → (o ≡ true → pins_in Write old ≡ 0)
+    turn_owes : (o : Bool) (c : EntryChange) (old new : ℕ) → ((x : EntryRecord) → changed c x ≡ turned o x) → (last_of r me.0).entry ≢ Invalid → generation_of old < LAST_GENERATION → is_read_only (last_of r me.0).entry ≡ not o → (o ≡ true → pins_in Write old ≡ 0)
         → new + flag (not o) ≡ old + flag o + 17592186044416
         → Allows (Shows k) slots id me (place t r 0) (λ n. either (n == old) new n)
         (tells (exchanging k t r me.0 (purpose.Change c) old new) (step slots (place t r 0) old new none) me)

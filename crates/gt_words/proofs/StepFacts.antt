@@ -45,16 +45,16 @@ use Rattle.gt_words.specs.Steps.{taken}
 use Rattle.gt_words.specs.Views.{IsAmong, LivePin, Seen, earlier_records, entry_steps, is_half, last_of, last_record}
 use Rattle.gt_words.specs.Views.{last_seen, own, own_body, pin_count, live_pins, record_seen, seen, steps_on}
 use Rattle.gt_words.specs.Views.{steps_on_header, stored_body, with_step}
-use Rattle.gt_entry.specs.declared.change.Change.{Change}
+use Rattle.gt_entry.specs.declared.change.EntryChange.{EntryChange}
 use Rattle.gt_words.specs.declared.view.EntryStep.{EntryStep}
 use Rattle.gt_words.specs.declared.view.EntryStep.TheVariants.{ChangeMissed, Changed, Looked, PinMissed, Pinned}
 use Rattle.gt_words.specs.declared.view.EntryStep.TheVariants.{ReadBody, StoredBody, Unpinned}
-use Rattle.gt_entry.specs.declared.change.Half.{Half}
-use Rattle.gt_entry.specs.declared.change.Half.TheVariants.{First, Second}
+use Rattle.gt_entry.specs.declared.change.BodyWord.{BodyWord}
+use Rattle.gt_entry.specs.declared.change.BodyWord.TheVariants.{First, Second}
 use Rattle.gt_words.specs.declared.view.Purpose.{Purpose}
 use Rattle.gt_words.specs.declared.view.EntryRecord.{EntryRecord}
 use Rattle.gt_words.specs.declared.view.View.{View}
-use Rattle.gt_entry.specs.declared.change.Change.TheVariants.{Demote, Publish, Revoke}
+use Rattle.gt_entry.specs.declared.change.EntryChange.TheVariants.{Demote, Publish, Revoke}
 use Rattle.gt_types.specs.declared.limits.TheConstants.{TABLE_ENTRIES}
 
 -- one more step on an entry
@@ -186,7 +186,7 @@ own_steps past t r m v own_is = subst (λ (u : ℕ). steps_on u r (with_step pas
 pub keeps_last : (past : StepHistory) (t r : ℕ) (m : EntryStep) (v w : View) → v.position ≡ t → AddsToEntry past t r m v w → last_record v.first (m ∷ steps_on v.position r v) ≡ last_record v.first (steps_on v.position r v) → last_of r w ≡ last_of r v
 keeps_last past t r m v w own_is z same = ap (last_of r) z.view ∙ (ap (last_record v.first) (own_steps past t r m v own_is) ∙ same)
 
-module _ (k : Layout) (r : ℕ) (c : Change) (word : ℕ) (v w : View) (vn : v.position < k.domains) (rn : r < TABLE_ENTRIES) where
+module _ (k : Layout) (r : ℕ) (c : EntryChange) (word : ℕ) (v w : View) (vn : v.position < k.domains) (rn : r < TABLE_ENTRIES) where
   abbrev stored : ℕ
   stored = changed_word c (last_of r v) word
 
@@ -292,14 +292,14 @@ module _ (k : Layout) (t r : ℕ) (word : ℕ) (v : View) (w : View) (tn : t < k
   vn = subst (λ (u : ℕ). u < k.domains) (sym own_is) tn
 
   -- an owner's exchange was taken
-  pub takes_change : (c : Change) (new : ℕ) → new ≡ changed_word c (last_of r v) word → StepsOnControl k t r (Changed c word new (changed c (last_of r v))) word new v w → Changes k r c word v w
+  pub takes_change : (c : EntryChange) (new : ℕ) → new ≡ changed_word c (last_of r v) word → StepsOnControl k t r (Changed c word new (changed c (last_of r v))) word new v w → Changes k r c word v w
   takes_change c new is z = changes k r c word v w vn rn (subst (λ (u : ℕ × ℕ). StepsOnControl k u.0 r (Changed c word u.1 (changed c (last_of r v))) word u.1 v w) (λ i. (sym own_is i, is i)) z)
 
   -- an owner's exchange was missed
-  pub finds_another : (c : Change) (new found : ℕ) → new ≡ changed_word c (last_of r v) word → found ≢ word → StepsOnControl k t r (ChangeMissed c word new found) found found v w → MissesChange k r c word found v w
+  pub finds_another : (c : EntryChange) (new found : ℕ) → new ≡ changed_word c (last_of r v) word → found ≢ word → StepsOnControl k t r (ChangeMissed c word new found) found found v w → MissesChange k r c word found v w
   finds_another c new found is n z = misses_change k r c word v w vn rn found n (subst (λ (u : ℕ × ℕ). StepsOnControl k u.0 r (ChangeMissed c word u.1 found) found found v w) (λ i. (sym own_is i, is i)) z)
 
-  pub finds_pins : (c : Change) (new found : ℕ) → new ≡ changed_word c (last_of r v) word → IsIdleOf (last_of r v) word → found ≢ word → StepsOnControl k t r (ChangeMissed c word new found) found found v w → MissesBusy k r c word found v w
+  pub finds_pins : (c : EntryChange) (new found : ℕ) → new ≡ changed_word c (last_of r v) word → IsIdleOf (last_of r v) word → found ≢ word → StepsOnControl k t r (ChangeMissed c word new found) found found v w → MissesBusy k r c word found v w
   finds_pins c new found is idle n z = record { missed = finds_another c new found is n z; busy = busy k t r (ChangeMissed c word new found) found found v w tn rn z own_is word idle n }
 
   pub publishes : (e : Entry) (new : ℕ) → new ≡ changed_word (Publish e) (last_of r v) word → IsIdleOf (last_of r v) word
@@ -329,27 +329,27 @@ word_generation x word h = ap (λ (c : Control). c.generation) h.control ∙ of_
     of_entry (Sub d o f a n) = refl
     of_entry (Via d o t r) = refl
 
-half_is : (h : Half) → half_of (half_index h) ≡ h
+half_is : (h : BodyWord) → half_of (half_index h) ≡ h
 half_is First = refl
 half_is Second = refl
 
 -- a body word was read
-pub reads_body : (k : Layout) (t r i : ℕ) (h : Half) (n : ℕ) (v w : View) → i ≡ half_index h → (past : StepHistory) → w ≡ with_step past (on_entry t r (ReadBody (half_of i) n)) v
+pub reads_body : (k : Layout) (t r i : ℕ) (h : BodyWord) (n : ℕ) (v w : View) → i ≡ half_index h → (past : StepHistory) → w ≡ with_step past (on_entry t r (ReadBody (half_of i) n)) v
     → TakesStep (Unit {0}) k v past (on_entry t r (ReadBody (half_of i) n)) (place t r i) n n → LooksAtBody k t r h n v w
-reads_body k t r i h n v w e past view step = let f : half_of i ≡ h = ap half_of e ∙ half_is h in let a = adds_to_entry past t r (ReadBody h n) v w (view ∙ ap (λ (u : Half). with_step past (on_entry t r (ReadBody u n)) v) f) in
+reads_body k t r i h n v w e past view step = let f : half_of i ≡ h = ap half_of e ∙ half_is h in let a = adds_to_entry past t r (ReadBody h n) v w (view ∙ ap (λ (u : BodyWord). with_step past (on_entry t r (ReadBody u n)) v) f) in
     let same = body_generation h n (seen (steps_on t r v)) in record {
-      steps = record { past = past; adds = a; step = subst (λ (u : ℕ × Half). TakesStep (Unit {0}) k v past (on_entry t r (ReadBody u.1 n)) (place t r u.0) n n) (λ j. (e j, f j)) step };
+      steps = record { past = past; adds = a; step = subst (λ (u : ℕ × BodyWord). TakesStep (Unit {0}) k v past (on_entry t r (ReadBody u.1 n)) (place t r u.0) n n) (λ j. (e j, f j)) step };
       keeps = keeps t r (ReadBody h n) v w a (record { lists = λ g ms. refl; last = λ g ms. refl; bodies = λ i ms. refl }) refl (omega (arith, same));
     }
 
 -- the owner stored a body word
-pub stores_body : (k : Layout) (t r i : ℕ) (h : Half) (value found : ℕ) (v w : View) → v.position ≡ t → i ≡ half_index h → (past : StepHistory) → w ≡ with_step past (on_entry t r (StoredBody (half_of i) value)) v
+pub stores_body : (k : Layout) (t r i : ℕ) (h : BodyWord) (value found : ℕ) (v w : View) → v.position ≡ t → i ≡ half_index h → (past : StepHistory) → w ≡ with_step past (on_entry t r (StoredBody (half_of i) value)) v
     → TakesStep (Unit {0}) k v past (on_entry t r (StoredBody (half_of i) value)) (place t r i) found value → StoresBody k r h value v w
 stores_body k t r i h value found v w own_is e past view step = let m : EntryStep = StoredBody h value in let f : half_of i ≡ h = ap half_of e ∙ half_is h in
-    let a : AddsToEntry past v.position r m v w = subst (λ (u : ℕ × Half). AddsToEntry past u.0 r (StoredBody u.1 value) v w) (λ j. (sym own_is j, f j)) (adds_to_entry past t r (StoredBody (half_of i) value) v w view) in
+    let a : AddsToEntry past v.position r m v w = subst (λ (u : ℕ × BodyWord). AddsToEntry past u.0 r (StoredBody u.1 value) v w) (λ j. (sym own_is j, f j)) (adds_to_entry past t r (StoredBody (half_of i) value) v w view) in
     let here : steps_on w.position r w ≡ m ∷ steps_on v.position r v = ap (λ (u : View). steps_on u.position r w) view ∙ a.here in record {
       found = found;
-      steps = record { past = past; adds = a; step = subst (λ (u : ℕ × ℕ × Half). TakesStep (Unit {0}) k v past (on_entry u.0 r (StoredBody u.2 value)) (place u.0 r u.1) found value) (λ j. (sym own_is j, e j, f j)) step };
+      steps = record { past = past; adds = a; step = subst (λ (u : ℕ × ℕ × BodyWord). TakesStep (Unit {0}) k v past (on_entry u.0 r (StoredBody u.2 value)) (place u.0 r u.1) found value) (λ j. (sym own_is j, e j, f j)) step };
       stored = ap (stored_body h) here ∙ same h;
       other_half = λ i n. ap (stored_body i) here ∙ ap (λ (b : Bool). cond b value (stored_body i (steps_on v.position r v))) (not_same i h n);
       unchanged = ap (λ (u : View). own u.first (steps_on w.position r w)) view ∙ ap (own v.first) here;
@@ -360,12 +360,12 @@ stores_body k t r i h value found v w own_is e past view step = let m : EntrySte
       seen = sees_no_earlier v.position r m v w a (omega arith);
     }
   where
-    not_same : (i h : Half) → h ≢ i → is_half i h ≡ false
+    not_same : (i h : BodyWord) → h ≢ i → is_half i h ≡ false
     not_same First First n = absurd (n refl)
     not_same First Second n = refl
     not_same Second First n = refl
     not_same Second Second n = absurd (n refl)
 
-    same : (h : Half) → cond (is_half h h) value (stored_body h (steps_on v.position r v)) ≡ value
+    same : (h : BodyWord) → cond (is_half h h) value (stored_body h (steps_on v.position r v)) ≡ value
     same First = refl
     same Second = refl

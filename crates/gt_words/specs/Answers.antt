@@ -1,9 +1,9 @@
 -- What the answers of calls say: which step was made, what it saw and what it left.
 use Rattle.std.specs.Prelude.{◌≡◌, ◌≢◌, ℕ, ◌+◌, ◌-◌, ◌<◌, ◌≤◌, [], ◌∷◌}
 use Rattle.gt_words.specs.Prelude.{header_of, header_word, size_of, unit_of, Entry, Header, Dir}
-use Rattle.gt_words.specs.Prelude.{TABLE_ENTRIES, Change, EntryStep}
+use Rattle.gt_words.specs.Prelude.{TABLE_ENTRIES, EntryChange, EntryStep}
 use Rattle.gt_words.specs.Prelude.{ChangeMissed, Changed, Looked, PinMissed, Pinned, ReadBody, StoredBody, Unpinned}
-use Rattle.gt_words.specs.Prelude.{Half, HeaderStep, View, Pin, Demote, Publish, Revoke}
+use Rattle.gt_words.specs.Prelude.{BodyWord, HeaderStep, View, Pin, Demote, Publish, Revoke}
 use Rattle.gt_words.specs.Controls.{generation_of, pins_in}
 use Rattle.gt_words.specs.Keeping.{Holds, HoldsOneMore, Keeps, KeepsOtherRows, KeepsPins, KeepsRecords, KeepsRows}
 use Rattle.gt_words.specs.Keeping.{SeesNoEarlier}
@@ -40,7 +40,7 @@ pub record StepsOnControl (k : Layout) (t r : ℕ) (m : EntryStep) (found left :
   pub step : TakesStep (Unit {0}) k v past (on_entry t r m) (place t r 0) found left
 
 -- the step m was taken on the body word h of the entry r of the domain t, if it found and left these numbers
-pub record StepsOnBody (k : Layout) (t r : ℕ) (h : Half) (m : EntryStep) (found left : ℕ) (v w : View) : Type 0 where
+pub record StepsOnBody (k : Layout) (t r : ℕ) (h : BodyWord) (m : EntryStep) (found left : ℕ) (v w : View) : Type 0 where
   pub past : StepHistory
   pub adds : AddsToEntry past t r m v w
   pub step : TakesStep (Unit {0}) k v past (on_entry t r m) (place t r (half_index h)) found left
@@ -67,16 +67,16 @@ pub record LooksAtControl (k : Layout) (t r n : ℕ) (v w : View) : Type 0 where
   pub keeps : Keeps v w
 
 -- a look at the body word h of the entry r of the domain t found this value
-pub record LooksAtBody (k : Layout) (t r : ℕ) (h : Half) (n : ℕ) (v w : View) : Type 0 where
+pub record LooksAtBody (k : Layout) (t r : ℕ) (h : BodyWord) (n : ℕ) (v w : View) : Type 0 where
   pub steps : StepsOnBody k t r h (ReadBody h n) n n v w
   pub keeps : Keeps v w
 
 -- the owner stored this value in the body word h of its entry r, by one step
-pub record StoresBody (k : Layout) (r : ℕ) (h : Half) (value : ℕ) (v w : View) : Type 0 where
+pub record StoresBody (k : Layout) (r : ℕ) (h : BodyWord) (value : ℕ) (v w : View) : Type 0 where
   pub found : ℕ
   pub steps : StepsOnBody k v.position r h (StoredBody h value) found value v w
   pub stored : own_body r h w ≡ value
-  pub other_half : (i : Half) → h ≢ i → own_body r i w ≡ own_body r i v
+  pub other_half : (i : BodyWord) → h ≢ i → own_body r i w ≡ own_body r i v
   pub unchanged : own_list r w ≡ own_list r v
   pub last : last_of r w ≡ last_of r v
   pub rows : KeepsOtherRows r v w
@@ -130,19 +130,19 @@ pub record MissesPin (k : Layout) (t r : ℕ) (d : Dir) (word found : ℕ) (v w 
   pub keeps : Keeps v w
 
 -- the owner's exchange was taken, and its last record of the entry r is what the change makes of the one before
-pub record Changes (k : Layout) (r : ℕ) (c : Change) (word : ℕ) (v w : View) : Type 0 where
+pub record Changes (k : Layout) (r : ℕ) (c : EntryChange) (word : ℕ) (v w : View) : Type 0 where
   pub steps : StepsOnControl k v.position r
       (Changed c word (changed_word c (last_of r v) word) (changed c (last_of r v))) word
       (changed_word c (last_of r v) word) v w
   pub last : last_of r w ≡ changed c (last_of r v)
-  pub bodies : (h : Half) → own_body r h w ≡ own_body r h v
+  pub bodies : (h : BodyWord) → own_body r h w ≡ own_body r h v
   pub rows : KeepsOtherRows r v w
   pub header : own_header w ≡ own_header v
   pub pins : KeepsPins v w
   pub seen : SeesNoEarlier v w
 
 -- the owner's exchange was missed: the word found is another of the same record
-pub record MissesChange (k : Layout) (r : ℕ) (c : Change) (word found : ℕ) (v w : View) : Type 0 where
+pub record MissesChange (k : Layout) (r : ℕ) (c : EntryChange) (word found : ℕ) (v w : View) : Type 0 where
   pub another : found ≢ word
   pub same_record : IsWordOf (last_of r v) found
   pub steps : StepsOnControl k v.position r
@@ -151,7 +151,7 @@ pub record MissesChange (k : Layout) (r : ℕ) (c : Change) (word found : ℕ) (
   pub keeps : Keeps v w
 
 -- the owner's exchange was missed: the word found is one of the same record with pins
-pub record MissesBusy (k : Layout) (r : ℕ) (c : Change) (word found : ℕ) (v w : View) : Type 0 where
+pub record MissesBusy (k : Layout) (r : ℕ) (c : EntryChange) (word found : ℕ) (v w : View) : Type 0 where
   pub missed : MissesChange k r c word found v w
   pub busy : IsBusyOf (last_of r v) found
 

@@ -2,7 +2,7 @@
 use Rattle.std.specs.Prelude.{◌≡◌, ◌≢◌, ◌⊎◌, ℕ, ◌*◌, ◌<◌, ◌≤◌, Bool, true, false, [], length, Some, slice_index}
 use Rattle.gt_words.specs.Prelude.{some, get_elem?, State, TableId, is_read_only, IsSpelled, control_with, idle_word_of}
 use Rattle.gt_words.specs.Prelude.{word_of, control_of, Entry, Invalid, Header, Dir, Read, Write, DomId, GrantRef}
-use Rattle.gt_words.specs.Prelude.{LAST_GENERATION, MAX_DOMAINS, MAX_PINS, TABLE_ENTRIES, DOMAIN_WORDS, Change, First}
+use Rattle.gt_words.specs.Prelude.{LAST_GENERATION, MAX_DOMAINS, MAX_PINS, TABLE_ENTRIES, DOMAIN_WORDS, EntryChange, First}
 use Rattle.gt_words.specs.Prelude.{Second, EntryRecord, View, Demote, Promote, Publish, Revoke, Withdraw}
 use Rattle.gt_words.specs.Controls.{ForwardsPin, IsValid, LeadsTo, PermitsPin, generation_of, pins_in}
 pub use Rattle.gt_words.specs.Keeping.{Holds, HoldsOneMore, Keeps, KeepsOtherRows, KeepsPins, KeepsRecords, KeepsRows}
@@ -147,7 +147,7 @@ abbrev pub CanDemote : ℕ → ℕ → View → Type 0
 CanDemote r word v = CanTurn false r word v × (pins_in Write word ≡ 0)
 
 -- what the owner's exchange from this word asks
-abbrev pub CanChange : Change → ℕ → ℕ → View → Type 0
+abbrev pub CanChange : EntryChange → ℕ → ℕ → View → Type 0
 CanChange (Publish e) r word v = CanPublish e r word v
 CanChange Revoke r word v = CanRevoke r word v
 CanChange Withdraw r word v = CanWithdraw r word v

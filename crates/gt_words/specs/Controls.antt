@@ -4,7 +4,7 @@ use Rattle.gt_types.specs.declared.Dir.{Dir}
 use Rattle.gt_types.specs.declared.Dir.TheVariants.{Read, Write}
 use Rattle.gt_types.specs.declared.DomId.{DomId}
 use Rattle.gt_types.specs.declared.Use.{Use}
-use Rattle.gt_entry.specs.declared.control.Kind.TheVariants.{Invalid as KindInvalid}
+use Rattle.gt_entry.specs.declared.control.EntryKind.TheVariants.{Invalid as KindInvalid}
 use Rattle.gt_entry.specs.declared.entry.Entry.{Entry}
 use Rattle.gt_entry.specs.declared.entry.Entry.TheVariants.{Invalid, Page, Sub, Via}
 use Rattle.gt_entry.specs.Entries.{is_read_only}

@@ -2,7 +2,7 @@
 -- came last.
 use Rattle.std.specs.Prelude.{◌≡◌, ◌≢◌, ℕ, ◌+◌, ◌-◌, ◌*◌, ◌/◌, ◌%◌, ◌^◌, ◌<◌, ◌≤◌, cond, ◌==◌, List, [], ◌∷◌, length}
 use Rattle.std.specs.Prelude.{map, slice_index, slice_index_or, suc, zero}
-use Rattle.gt_words.specs.Prelude.{some, get_elem?, State, unit_of, Half, First, Second, DomId, EntryStep, Looked}
+use Rattle.gt_words.specs.Prelude.{some, get_elem?, State, unit_of, BodyWord, First, Second, DomId, EntryStep, Looked}
 use Rattle.gt_words.specs.Prelude.{ReadBody, Pinned, PinMissed, Unpinned, StoredBody, Changed, ChangeMissed, HeaderStep}
 use Rattle.gt_words.specs.Prelude.{SeatStep, View, EntryRecord, Invalid, DOMAIN_WORDS, ENTRY_WORDS}
 use Rattle.gt_words.specs.declared.view.HeaderStep.TheVariants as header
@@ -34,7 +34,7 @@ initial k i =
     (cond (i % DOMAIN_WORDS % ENTRY_WORDS == 0) (17592186044416 * k.first) 0)
 
 -- the index of a body word among the words of an entry
-abbrev pub half_index : Half → ℕ
+abbrev pub half_index : BodyWord → ℕ
 half_index First = 1
 half_index Second = 2
 

@@ -53,7 +53,7 @@ AreTaken xs us [] = Unit {0}
 AreTaken xs us (t ∷ ts) = IsGoneAt xs t.position × (get_elem? us t.position ≡ some t) × AreTaken xs us ts
 
 -- the rule of the table whose seats may be taken in
-pub record HoldsSo (k : Layout) (s : State (Unit {0}) Outlook) : Type 0 where
+pub record TableHolds (k : Layout) (s : State (Unit {0}) Outlook) : Type 0 where
   pub shown : Shows k (whole s)
   pub taken : AreTaken s.views (whole_views s.views) (taken_by s.views)
 
@@ -75,7 +75,7 @@ StepsLift =
     (k : Layout) (slots id : ℕ) (me : Me (Unit {0}) Outlook) (at : ℕ) (f : ℕ → ℕ) (d : StepKind)
     (st : TableStep (Unit {0}))
     → me.0.gone ≡ false → Allows (Shows k) slots id (own_part me) at f (tells d st (own_part me))
-    → Allows (HoldsSo k) slots id me at f
+    → Allows (TableHolds k) slots id me at f
     (λ n m. tells d st (own_part me) n (own_part m) × (m.0.taken ≡ me.0.taken) × (m.0.gone ≡ false))
 
 -- what a seat's step tells, and that it took none in by it
@@ -91,12 +91,12 @@ tells_own_stored d st m m' =
 abbrev pub SeatsJoin : Type 0
 SeatsJoin =
     (k : Layout) (other : ℕ) (v w gone : Outlook) → v.gone ≡ false → w.gone ≡ false → gone.gone ≡ true
-    → Joins (HoldsSo k) 0 v other w (took v w) gone
+    → Joins (TableHolds k) 0 v other w (took v w) gone
 
 -- and its holder learns then of one state with all these views
 abbrev pub HoldersLearn : Type 0
 HoldersLearn =
-    (k : Layout) (s : State (Unit {0}) Outlook) (v : Outlook) → HoldsSo k s → get_elem? s.views 0 ≡ some v
+    (k : Layout) (s : State (Unit {0}) Outlook) (v : Outlook) → TableHolds k s → get_elem? s.views 0 ≡ some v
     → v.gone ≡ false
     → Learns k v
 

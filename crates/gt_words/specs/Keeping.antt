@@ -1,6 +1,6 @@
 -- What a call leaves of what its seat knew.
 use Rattle.std.specs.Prelude.{◌≡◌, ◌≢◌, ℕ, ◌+◌, ◌≤◌, ◌<◌, cond, ◌==◌, ◌&&◌, Bool, Option, Some, None}
-use Rattle.gt_entry.specs.declared.change.Half.{Half}
+use Rattle.gt_entry.specs.declared.change.BodyWord.{BodyWord}
 use Rattle.gt_types.specs.declared.Dir.{Dir}
 use Rattle.gt_words.specs.Controls.{generation_of}
 use Rattle.gt_words.specs.Views.{IsAmong, LivePin, Seen, is_same_dir, last_of, own_body, own_header, own_list}
@@ -53,13 +53,13 @@ SeesNoEarlier v w = (t r : ℕ) → seen_generation t r v ≤ seen_generation t 
 pub record KeepsRows (v w : View) : Type 0 where
   pub lists : (q : ℕ) → own_list q w ≡ own_list q v
   pub last : (q : ℕ) → last_of q w ≡ last_of q v
-  pub bodies : (q : ℕ) (h : Half) → own_body q h w ≡ own_body q h v
+  pub bodies : (q : ℕ) (h : BodyWord) → own_body q h w ≡ own_body q h v
 
 -- the owner's entries but r are as they were
 pub record KeepsOtherRows (r : ℕ) (v w : View) : Type 0 where
   pub lists : (q : ℕ) → r ≢ q → own_list q w ≡ own_list q v
   pub last : (q : ℕ) → r ≢ q → last_of q w ≡ last_of q v
-  pub bodies : (q : ℕ) (h : Half) → r ≢ q → own_body q h w ≡ own_body q h v
+  pub bodies : (q : ℕ) (h : BodyWord) → r ≢ q → own_body q h w ≡ own_body q h v
 
 -- the seat knows of its own entries, its header and its pins what it knew, and has seen nothing earlier
 pub record Keeps (v w : View) : Type 0 where

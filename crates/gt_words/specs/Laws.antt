@@ -31,8 +31,8 @@ abbrev pub DomainsStandThere : Type 0
 DomainsStandThere = (k : Layout) (d : DomId) → HasDomain k d → id_at k.ids (position_in k.ids d) ≡ d
 
 -- a seat is at the position of its domain
-abbrev pub SeatsStandThere : Type 0
-SeatsStandThere =
+abbrev pub SeatPositionIsItsDomains : Type 0
+SeatPositionIsItsDomains =
     (c : Config) (b : Board) (s : SeatOf) → IsWithinLimits c → b.layout ≡ layout_of c → IsSeatOf b s
     → s.view.position ≡ position_at b s.dom
 
@@ -277,7 +277,7 @@ pub domain_of_run : DomainsAreOfRun
 domain_of_run c d = (λ e. unwrapped _ _ (among c.domains.items d e), λ lt. named c.domains.items d (wrapped _ _ lt))
 
 -- a seat is at the position of its domain
-pub seat_at : SeatsStandThere
+pub seat_at : SeatPositionIsItsDomains
 seat_at c b s limits layout is =
     own_position c b.layout b.layout.ids s.view.position s.dom (sym layout) limits
     (ap (λ (k : Layout). k.ids) layout) is.inside is.named

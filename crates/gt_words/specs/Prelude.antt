@@ -6,11 +6,11 @@ pub use Rattle.gt_entry.specs.Changes.{changed_entry, raise_of}
 pub use Rattle.gt_entry.specs.Entries.{IsEntry, is_read_only, with_ro}
 pub use Rattle.gt_entry.specs.Spelling.{IsSpelled, control_with, entry_of, idle_word_of, word_of}
 pub use Rattle.gt_entry.specs.Words.{control_of, header_of, header_word, kind_of, size_of, unit_of}
-pub use Rattle.gt_entry.specs.declared.change.Change.{Change}
-pub use Rattle.gt_entry.specs.declared.change.Change.TheVariants.{Demote, Promote, Publish, Revoke, Withdraw}
-pub use Rattle.gt_entry.specs.declared.change.Half.{Half}
-pub use Rattle.gt_entry.specs.declared.change.Half.TheVariants.{First, Second}
-pub use Rattle.gt_entry.specs.declared.control.Kind.TheVariants.{Sub as KindSub}
+pub use Rattle.gt_entry.specs.declared.change.EntryChange.{EntryChange}
+pub use Rattle.gt_entry.specs.declared.change.EntryChange.TheVariants.{Demote, Promote, Publish, Revoke, Withdraw}
+pub use Rattle.gt_entry.specs.declared.change.BodyWord.{BodyWord}
+pub use Rattle.gt_entry.specs.declared.change.BodyWord.TheVariants.{First, Second}
+pub use Rattle.gt_entry.specs.declared.control.EntryKind.TheVariants.{Sub as KindSub}
 pub use Rattle.gt_entry.specs.declared.entry.Entry.{Entry}
 pub use Rattle.gt_entry.specs.declared.entry.Entry.TheVariants.{Invalid, Page, Sub, Via}
 pub use Rattle.gt_entry.specs.declared.header.Header.{Header, Header as TableHeader}

@@ -1,8 +1,8 @@
 -- One atomic step: what it adds to its seat's view, and the state that it was taken in.
 use Rattle.std.specs.Prelude.{◌≡◌, ℕ, ◌+◌, ◌-◌, ◌%◌, ◌^◌, cond, ◌==◌, ◌∷◌}
 use Rattle.gt_words.specs.Prelude.{some, get_elem?, either, State, Me, TableStep, changed_entry, raise_of, idle_word_of}
-use Rattle.gt_words.specs.Prelude.{unit_of, Change, Dir, EntryStep, ChangeMissed, Changed, Looked, PinMissed, Pinned}
-use Rattle.gt_words.specs.Prelude.{ReadBody, StoredBody, Unpinned, Half, First, Second, HeaderStep, Purpose}
+use Rattle.gt_words.specs.Prelude.{unit_of, EntryChange, Dir, EntryStep, ChangeMissed, Changed, Looked, PinMissed, Pinned}
+use Rattle.gt_words.specs.Prelude.{ReadBody, StoredBody, Unpinned, BodyWord, First, Second, HeaderStep, Purpose}
 use Rattle.gt_words.specs.Prelude.{EntryRecord, SeatStep, View}
 use Rattle.gt_words.specs.Controls.{demoted_word, invalid_word, promoted_word, withdrawn_word}
 use Rattle.gt_words.specs.Events.{Happens}
@@ -10,7 +10,7 @@ use Rattle.gt_words.specs.History.{StepHistory, PinsLast, SaysWord, word_after}
 pub use Rattle.gt_words.specs.History.{half_index}
 use Rattle.gt_words.specs.Rule.{HasStood, Layout, Stands}
 use Rattle.gt_words.specs.Views.{last_of, last_seen, record_seen, with_step}
-use Rattle.gt_entry.specs.declared.change.Change.TheVariants as change
+use Rattle.gt_entry.specs.declared.change.EntryChange.TheVariants as change
 use Rattle.gt_words.specs.declared.view.Purpose.TheVariants as purpose
 use Rattle.gt_words.specs.declared.view.HeaderStep.TheVariants as header
 use Rattle.gt_words.specs.declared.view.SeatStep.TheVariants as step_of
@@ -69,11 +69,11 @@ abbrev pub looking : Layout → ℕ → ℕ → StepKind
 looking k t r = entry_kind k t r (λ n. Looked n) (λ n. n)
 
 -- a look at a body word: the word stays (C11 atomics: atomic_load)
-abbrev pub reading : Layout → ℕ → ℕ → Half → StepKind
+abbrev pub reading : Layout → ℕ → ℕ → BodyWord → StepKind
 reading k t r h = entry_kind k t r (λ n. ReadBody h n) (λ n. n)
 
 -- a store of a body word: the word is the one stored (C11 atomics: atomic_store)
-abbrev pub storing : Layout → ℕ → ℕ → Half → ℕ → StepKind
+abbrev pub storing : Layout → ℕ → ℕ → BodyWord → ℕ → StepKind
 storing k t r h v = entry_kind k t r (λ n. StoredBody h v) (λ n. v)
 
 -- a pin given back: one pin is taken from the word, modulo 2 to the 64th (C11 atomics: atomic_fetch_sub)
@@ -89,13 +89,13 @@ abbrev pub storing_header : Layout → ℕ → ℕ → StepKind
 storing_header k t w = record { layout = k; step = λ n. on_header t (header.Stored w); leaves = λ n. w }
 
 -- the record after an owner's change
-abbrev pub changed : Change → EntryRecord → EntryRecord
+abbrev pub changed : EntryChange → EntryRecord → EntryRecord
 changed c x = record { generation = x.generation + raise_of c; entry = changed_entry c x.entry }
 
 -- the word that an owner's exchange stores in place of this one, if the last record is x: the
 -- idle word of the entry published, at the next generation; the invalid one of the same
 -- generation, for a withdrawal with the same pins; or the same with the other readonly, at the next generation
-abbrev pub changed_word : Change → EntryRecord → ℕ → ℕ
+abbrev pub changed_word : EntryChange → EntryRecord → ℕ → ℕ
 changed_word (change.Publish e) x word = idle_word_of e (x.generation + 1)
 changed_word change.Revoke x word = invalid_word word
 changed_word change.Withdraw x word = withdrawn_word word
@@ -119,5 +119,5 @@ exchanging k t r v p old new =
     entry_kind k t r (λ n. cond (n == old) (taken t r v p old new) (missed p old new n)) (λ n. either (n == old) new n)
 
 -- the body word at an index: the first at 1, else the second
-abbrev pub half_of : ℕ → Half
+abbrev pub half_of : ℕ → BodyWord
 half_of i = cond (i == 1) First Second

@@ -1,7 +1,7 @@
 -- What follows from the steps of one seat. Lists begin with what came last.
 use Rattle.std.specs.Prelude.{◌≡◌, ◌⊎◌, ℕ, ◌+◌, Bool, true, false, cond, IsSome, ◌==◌, ◌&&◌, List, [], ◌∷◌, Option}
 use Rattle.std.specs.Prelude.{Some, None, slice_index, count_by, nat_le}
-use Rattle.gt_words.specs.Prelude.{Dir, Read, Write, Half, First, Second, EntryRecord, EntryStep, Looked, ReadBody}
+use Rattle.gt_words.specs.Prelude.{Dir, Read, Write, BodyWord, First, Second, EntryRecord, EntryStep, Looked, ReadBody}
 use Rattle.gt_words.specs.Prelude.{Pinned, PinMissed, Unpinned, StoredBody, Changed, ChangeMissed, HeaderStep, SeatStep}
 use Rattle.gt_words.specs.Prelude.{View, KindSub, entry_of, control_of, header_of, kind_of, TableHeader}
 use Rattle.gt_entry.specs.declared.entry.Entry.TheVariants as entries
@@ -113,13 +113,13 @@ exchanged (Changed _ e _ _ ∷ ms) = e ∷ exchanged ms
 exchanged (_ ∷ ms) = exchanged ms
 
 -- both are the first body word, or both the second
-abbrev pub is_half : Half → Half → Bool
+abbrev pub is_half : BodyWord → BodyWord → Bool
 is_half First First = true
 is_half Second Second = true
 is_half _ _ = false
 
 -- the body word that the owner stored last, 0 before
-abbrev pub stored_body : Half → List EntryStep → ℕ
+abbrev pub stored_body : BodyWord → List EntryStep → ℕ
 stored_body h [] = 0
 stored_body h (StoredBody k v ∷ ms) = cond (is_half h k) v (stored_body h ms)
 stored_body h (_ ∷ ms) = stored_body h ms
@@ -141,7 +141,7 @@ abbrev pub seen_word : ℕ → Option Seen
 seen_word w = Some (record { word = w; first = None; second = None })
 
 -- what was seen, with one more body value read; nothing, if no control word was seen
-abbrev pub with_body : Half → ℕ → Option Seen → Option Seen
+abbrev pub with_body : BodyWord → ℕ → Option Seen → Option Seen
 with_body h v None = None
 with_body First v (Some s) = Some (record s { first = Some v })
 with_body Second v (Some s) = Some (record s { second = Some v })
@@ -199,5 +199,5 @@ abbrev pub own_table : View → TableHeader
 own_table v = header_of (own_header v)
 
 -- the body word that the seat stored last of its own entry r
-abbrev pub own_body : ℕ → Half → View → ℕ
+abbrev pub own_body : ℕ → BodyWord → View → ℕ
 own_body r h v = stored_body h (steps_on v.position r v)

@@ -3,7 +3,7 @@ ghost use Rattle.gt_words.specs.Laws.{DomainsAreOfRun, DomainsStandThere, PastPi
 ghost use Rattle.gt_words.specs.Laws.{AllowedStepsSayWhatIsThere, EachStepHappened, HistoryIsOne};
 ghost use Rattle.gt_words.specs.Joining.{HoldersLearn, SeatsJoin, StepsLift};
 ghost use Rattle.gt_words.specs.Laws.{NoPinOutlivesItsRecord, PinsHaveOneRecord};
-ghost use Rattle.gt_words.specs.Laws.{PinsLeftAreCounted, SeatsStandThere};
+ghost use Rattle.gt_words.specs.Laws.{PinsLeftAreCounted, SeatPositionIsItsDomains};
 ghost use Rattle.gt_words.specs.Laws.{StepsAreTakenThen, WhatWasSeenIsListed, WordsFollowViews};
 
 /// A law: a domain is one of the run exactly if the configuration has it.
@@ -18,7 +18,7 @@ pub fn every_domain_has_its_position()
 
 /// A law: a seat is at the position of its domain.
 pub fn every_seat_has_its_position()
-    ensures { SeatsStandThere }
+    ensures { SeatPositionIsItsDomains }
 {}
 
 /// A law: in each state that words and views show, pins of one entry and generation have one record.

@@ -8,7 +8,7 @@ ghost use Rattle.gt_words.specs.Places.{IsNewPlace, dealing, dealt_outlook};
 
 use crate::view::Outlook;
 use crate::word_table::{DOMAIN_ROWS, DOMAIN_WORDS, ENTRY_WORDS, TableSeat, WordTable, idle_word};
-use crate::words::{Found, Seat};
+use crate::words::{DomainPosition, Seat};
 use atomic_table::Split;
 use gt_entry::{Entry, Header};
 use gt_types::{Config, DomId, DomainConfig};
@@ -73,7 +73,7 @@ fn new_seat(config: &Config, place: TableSeat, at: usize) -> Seat
         dom: domain.id,
         position: at,
         header: first_header(domain),
-        found: Found {
+        found: DomainPosition {
             dom: config.domains[0].id,
             position: 0,
         },

@@ -1,5 +1,5 @@
 //! What a seat knows, as plain data for contracts. No value of it is made when the program runs.
-use gt_entry::{Change, Entry, Half};
+use gt_entry::{EntryChange, Entry, BodyWord};
 use gt_frames::{FrameBytes, WriteRecord};
 use gt_types::{Dir, DomId};
 use std::collections::LinkedList;
@@ -17,7 +17,7 @@ pub enum EntryStep {
     /// A load of the control word, and the word seen.
     Looked(u64),
     /// A load of a body word, and the value seen.
-    ReadBody(Half, u64),
+    ReadBody(BodyWord, u64),
     /// A pin was taken: the word expected, and the entry as this record has it.
     Pinned {
         dir: Dir,
@@ -37,10 +37,10 @@ pub enum EntryStep {
         generation: u64,
     },
     /// The owner stored a body word.
-    StoredBody(Half, u64),
+    StoredBody(BodyWord, u64),
     /// The owner exchanged the control word: the word expected, the word stored and the record it spells.
     Changed {
-        change: Change,
+        change: EntryChange,
         expected: u64,
         stored: u64,
         record: EntryRecord,
@@ -48,7 +48,7 @@ pub enum EntryStep {
     /// The owner's exchange was missed: the word found is another than the one expected, and the
     /// one desired was not stored.
     ChangeMissed {
-        change: Change,
+        change: EntryChange,
         expected: u64,
         desired: u64,
         found: u64,
@@ -86,7 +86,7 @@ pub enum SeatStep {
 #[derive(Clone, Copy)]
 pub enum Purpose {
     Pin(Dir),
-    Change(Change),
+    EntryChange(EntryChange),
 }
 
 /// What a seat knows: which domain's it is, by its position among those of the run, and its own steps, the last first.

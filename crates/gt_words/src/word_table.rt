@@ -17,12 +17,12 @@ ghost use Rattle.gt_words.specs.Answers.{Demotes, LooksAtBody, LooksAtControl};
 ghost use Rattle.gt_words.specs.Answers.{LooksAtHeader, MissesBusy, MissesChange, MissesPin, Pins, Publishes};
 ghost use Rattle.gt_words.specs.Answers.{Revokes, StoresBody, StoresHeader, Unpins};
 ghost use Rattle.gt_words.specs.Places.{new_view, IsSamePlace};
-ghost use Rattle.gt_words.specs.Joining.{HoldsSo, Learns, gone_outlook, learns_all, outlook_of, tells_own};
+ghost use Rattle.gt_words.specs.Joining.{TableHolds, Learns, gone_outlook, learns_all, outlook_of, tells_own};
 ghost use Rattle.gt_words.specs.Joining.{own_part, tells_own_stored, took};
 
 use crate::view::{Outlook, Purpose};
 use atomic_table::{Join, Play, Seat, Shared, Table, TableRule};
-use gt_entry::{Change, Control, Entry, Half, Header, pin_unit};
+use gt_entry::{EntryChange, Control, Entry, BodyWord, Header, pin_unit};
 use gt_types::{Config, Dir, LAST_GENERATION, TABLE_ENTRIES};
 use std::alloc::Global;
 use std::marker::{Brand, PhantomData};
@@ -41,7 +41,7 @@ pub(crate) const DOMAIN_WORDS: usize = DOMAIN_ROWS * ENTRY_WORDS;
 pub struct Entries;
 
 impl TableRule<(), Outlook, Config> for Entries {
-    ghost holds = { λ c. HoldsSo (layout_of c) };
+    ghost holds = { λ c. TableHolds (layout_of c) };
 
     ghost first = { λ c. outlook_of (new_view c.first_gen (layout_of c).headers (layout_of c).ids 0) };
 }
@@ -93,7 +93,7 @@ impl<J: OfKind> Play<(), Outlook> for TellsAll<J> {
 /// A seat of the table, which holds no slot.
 pub type TableSeat = Seat<(), Outlook>;
 
-type Cells = Shared<(), Outlook, Config, Entries>;
+type WordCells = Shared<(), Outlook, Config, Entries>;
 
 /// The words of all entries and headers.
 #[derive(Drop)]
@@ -104,7 +104,7 @@ pub struct WordTable {
 
 // One load of a word of an entry.
 fn load_word<J: OfKind>(
-    cells: &Cells,
+    cells: &WordCells,
     seat: &mut TableSeat,
     at: usize,
     gref: usize,
@@ -128,7 +128,7 @@ fn load_word<J: OfKind>(
 
 // One store of a word of an entry.
 fn store_word<J: OfKind>(
-    cells: &Cells,
+    cells: &WordCells,
     seat: &mut TableSeat,
     at: usize,
     gref: usize,
@@ -158,7 +158,7 @@ fn store_word<J: OfKind>(
 
 // One exchange of the control word of an entry. Only the proof reads `purpose`.
 fn exchange_word<J: OfKind>(
-    cells: &Cells,
+    cells: &WordCells,
     seat: &mut TableSeat,
     at: usize,
     gref: usize,
@@ -190,7 +190,7 @@ fn exchange_word<J: OfKind>(
 
 // One subtraction from the control word of an entry. Only the proof reads `dir` and `generation`.
 fn subtract_from_word<J: OfKind>(
-    cells: &Cells,
+    cells: &WordCells,
     seat: &mut TableSeat,
     at: usize,
     gref: usize,
@@ -217,7 +217,7 @@ fn subtract_from_word<J: OfKind>(
 }
 
 // One load of a header word.
-fn load_header_word<J: OfKind>(cells: &Cells, seat: &mut TableSeat, at: usize) -> u64
+fn load_header_word<J: OfKind>(cells: &WordCells, seat: &mut TableSeat, at: usize) -> u64
     requires fits { (seat.old.table_id ≡ cells.now.table_id)
         × IsWide cells.now.table_id.words (layout_of cells.now.key) × (at < length cells.now.key.domains.items) }
     requires here { seat.old.me.0.gone ≡ false }
@@ -234,7 +234,7 @@ fn load_header_word<J: OfKind>(cells: &Cells, seat: &mut TableSeat, at: usize) -
 }
 
 // One load, which tells of one state with the views of all seats that were taken in.
-fn tell_all<J: OfKind>(cells: &Cells, seat: &mut TableSeat)
+fn tell_all<J: OfKind>(cells: &WordCells, seat: &mut TableSeat)
     requires fits { (seat.old.table_id ≡ cells.now.table_id) × (0 < cells.now.table_id.words)
         × (seat.old.me.0.own.position ≡ 0) }
     requires here { seat.old.me.0.gone ≡ false }
@@ -246,7 +246,7 @@ fn tell_all<J: OfKind>(cells: &Cells, seat: &mut TableSeat)
 }
 
 // One store of a header word.
-fn store_header_word<J: OfKind>(cells: &Cells, seat: &mut TableSeat, at: usize, new: u64)
+fn store_header_word<J: OfKind>(cells: &WordCells, seat: &mut TableSeat, at: usize, new: u64)
     requires fits { (seat.old.table_id ≡ cells.now.table_id)
         × IsWide cells.now.table_id.words (layout_of cells.now.key) × (at < length cells.now.key.domains.items) }
     requires here { seat.old.me.0.gone ≡ false }
@@ -263,13 +263,13 @@ fn store_header_word<J: OfKind>(cells: &Cells, seat: &mut TableSeat, at: usize, 
 }
 
 // The place of a body word among the words of its entry.
-fn index_of(half: Half) -> usize
+fn index_of(half: BodyWord) -> usize
     ensures index { result ≡ half_index half }
     ensures inside { result < 3 }
 {
     match half {
-        Half::First => 1,
-        Half::Second => 2,
+        BodyWord::First => 1,
+        BodyWord::Second => 2,
     }
 }
 
@@ -335,7 +335,7 @@ impl WordTable {
     }
 
     /// A look at a body word of an entry.
-    pub(crate) fn load_body(&self, seat: &mut TableSeat, at: usize, gref: usize, half: Half) -> u64
+    pub(crate) fn load_body(&self, seat: &mut TableSeat, at: usize, gref: usize, half: BodyWord) -> u64
         requires mine { seat.old.table_id ≡ self.now.table.shared.table_id }
         requires entry { (at < length self.now.table.shared.key.domains.items) × (gref < TABLE_ENTRIES) }
         requires here { seat.old.me.0.gone ≡ false }
@@ -407,7 +407,7 @@ impl WordTable {
         seat: &mut TableSeat,
         at: usize,
         gref: usize,
-        half: Half,
+        half: BodyWord,
         value: u64,
     )
         requires mine { (seat.old.table_id ≡ self.now.table.shared.table_id) × (seat.old.me.0.own.position ≡ at) }
@@ -439,11 +439,11 @@ impl WordTable {
         ensures seat { IsSamePlace seat.old seat.new }
         ensures step { MatchResult result
             (λ _. Publishes (layout_of self.now.table.shared.key) gref entry word seat.old.me.0.own seat.new.me.0.own)
-            (λ n. MissesBusy (layout_of self.now.table.shared.key) gref (Change.Publish entry) word n
+            (λ n. MissesBusy (layout_of self.now.table.shared.key) gref (EntryChange.Publish entry) word n
             seat.old.me.0.own seat.new.me.0.own) }
     {
         let new = idle_word(entry, Control::unpack(word).generation + 1);
-        let purpose = Purpose::Change(Change::Publish(entry));
+        let purpose = Purpose::Change(EntryChange::Publish(entry));
         let found = exchange_word::<Brand>(&self.table.shared, seat, at, gref, word, new, purpose);
         if found == word { Ok(()) } else { Err(found) }
     }
@@ -463,11 +463,11 @@ impl WordTable {
         ensures seat { IsSamePlace seat.old seat.new }
         ensures step { MatchResult result
             (λ _. Revokes (layout_of self.now.table.shared.key) gref word seat.old.me.0.own seat.new.me.0.own)
-            (λ n. MissesBusy (layout_of self.now.table.shared.key) gref Change.Revoke word n
+            (λ n. MissesBusy (layout_of self.now.table.shared.key) gref EntryChange.Revoke word n
             seat.old.me.0.own seat.new.me.0.own) }
     {
         let new = idle_word(Entry::Invalid, Control::unpack(word).generation);
-        let purpose = Purpose::Change(Change::Revoke);
+        let purpose = Purpose::Change(EntryChange::Revoke);
         let found = exchange_word::<Brand>(&self.table.shared, seat, at, gref, word, new, purpose);
         if found == word { Ok(()) } else { Err(found) }
     }
@@ -486,13 +486,13 @@ impl WordTable {
         requires here { seat.old.me.0.gone ≡ false }
         ensures seat { IsSamePlace seat.old seat.new }
         ensures step { MatchResult result
-            (λ _. Changes (layout_of self.now.table.shared.key) gref Change.Withdraw word
+            (λ _. Changes (layout_of self.now.table.shared.key) gref EntryChange.Withdraw word
             seat.old.me.0.own seat.new.me.0.own)
-            (λ n. MissesChange (layout_of self.now.table.shared.key) gref Change.Withdraw word n
+            (λ n. MissesChange (layout_of self.now.table.shared.key) gref EntryChange.Withdraw word n
             seat.old.me.0.own seat.new.me.0.own) }
     {
         let new = withdrawn(word);
-        let purpose = Purpose::Change(Change::Withdraw);
+        let purpose = Purpose::Change(EntryChange::Withdraw);
         let found = exchange_word::<Brand>(&self.table.shared, seat, at, gref, word, new, purpose);
         if found == word { Ok(()) } else { Err(found) }
     }
@@ -512,11 +512,11 @@ impl WordTable {
         ensures seat { IsSamePlace seat.old seat.new }
         ensures step { MatchResult result
             (λ _. Demotes (layout_of self.now.table.shared.key) gref word seat.old.me.0.own seat.new.me.0.own)
-            (λ n. MissesChange (layout_of self.now.table.shared.key) gref Change.Demote word n
+            (λ n. MissesChange (layout_of self.now.table.shared.key) gref EntryChange.Demote word n
             seat.old.me.0.own seat.new.me.0.own) }
     {
         let new = turned_over(word, true);
-        let purpose = Purpose::Change(Change::Demote);
+        let purpose = Purpose::Change(EntryChange::Demote);
         let found = exchange_word::<Brand>(&self.table.shared, seat, at, gref, word, new, purpose);
         if found == word { Ok(()) } else { Err(found) }
     }
@@ -535,13 +535,13 @@ impl WordTable {
         requires here { seat.old.me.0.gone ≡ false }
         ensures seat { IsSamePlace seat.old seat.new }
         ensures step { MatchResult result
-            (λ _. Changes (layout_of self.now.table.shared.key) gref Change.Promote word
+            (λ _. Changes (layout_of self.now.table.shared.key) gref EntryChange.Promote word
             seat.old.me.0.own seat.new.me.0.own)
-            (λ n. MissesChange (layout_of self.now.table.shared.key) gref Change.Promote word n
+            (λ n. MissesChange (layout_of self.now.table.shared.key) gref EntryChange.Promote word n
             seat.old.me.0.own seat.new.me.0.own) }
     {
         let new = turned_over(word, false);
-        let purpose = Purpose::Change(Change::Promote);
+        let purpose = Purpose::Change(EntryChange::Promote);
         let found = exchange_word::<Brand>(&self.table.shared, seat, at, gref, word, new, purpose);
         if found == word { Ok(()) } else { Err(found) }
     }

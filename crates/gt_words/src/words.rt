@@ -18,7 +18,7 @@ ghost use Rattle.gt_words.specs.Answers.{Demotes, Publishes};
 use crate::start::{deal_seats, first_words};
 use crate::word_table::{TableSeat, WordTable};
 use atomic_table::Table;
-use gt_entry::{Change, Control, Entry, Half, Header};
+use gt_entry::{EntryChange, Control, Entry, BodyWord, Header};
 use gt_positions::Positions;
 use gt_types::{Config, Dir, DomId, GrantRef, MAX_TABLE_FRAMES, StartFault, TABLE_ENTRIES};
 use std::alloc::{AllocError, Global};
@@ -26,7 +26,7 @@ use std::marker::Model;
 
 /// A domain, and its position among those of the run.
 #[derive(Clone, Copy)]
-pub(crate) struct Found {
+pub(crate) struct DomainPosition {
     pub dom: DomId,
     pub position: usize,
 }
@@ -39,7 +39,7 @@ pub struct Seat {
     pub(crate) position: usize,
     pub(crate) header: Header,
     /// The domain that was looked up last: the calls on one entry follow one another, and name one domain.
-    pub(crate) found: Found,
+    pub(crate) found: DomainPosition,
 }
 
 impl Model for Seat {
@@ -169,7 +169,7 @@ impl Words {
             return seat.found.position;
         }
         let position = position_of(&self.ids, dom);
-        seat.found = Found { dom, position };
+        seat.found = DomainPosition { dom, position };
         position
     }
 
@@ -246,7 +246,7 @@ impl Words {
     }
 
     /// A look at a body word of an entry.
-    pub fn load_body(&self, seat: &mut Seat, dom: DomId, gref: GrantRef, half: Half) -> u64
+    pub fn load_body(&self, seat: &mut Seat, dom: DomId, gref: GrantRef, half: BodyWord) -> u64
         requires seat { IsSeatOf self.now seat.old }
         requires entry { IsEntryOf self.now dom gref }
         ensures seat { IsSameSeat seat.old seat.new }
@@ -315,7 +315,7 @@ impl Words {
     }
 
     /// The owner stores a body word of its invalid entry.
-    pub fn store_body(&self, seat: &mut Seat, gref: GrantRef, half: Half, value: u64)
+    pub fn store_body(&self, seat: &mut Seat, gref: GrantRef, half: BodyWord, value: u64)
         requires seat { IsSeatOf self.now seat.old }
         requires entry { gref.0 < TABLE_ENTRIES }
         requires invalid { (last_of gref.0 seat.old.view).entry ≡ Entry.Invalid }
@@ -342,7 +342,7 @@ impl Words {
         ensures fits { IsSeatOf self.now seat.new }
         ensures step { MatchResult result
             (λ _. Publishes self.now.layout gref.0 entry word seat.old.view seat.new.view)
-            (λ n. MissesBusy self.now.layout gref.0 (Change.Publish entry) word n seat.old.view seat.new.view) }
+            (λ n. MissesBusy self.now.layout gref.0 (EntryChange.Publish entry) word n seat.old.view seat.new.view) }
     {
         let at = seat.position;
         self.words
@@ -361,7 +361,7 @@ impl Words {
         ensures fits { IsSeatOf self.now seat.new }
         ensures step { MatchResult result
             (λ _. Revokes self.now.layout gref.0 word seat.old.view seat.new.view)
-            (λ n. MissesBusy self.now.layout gref.0 Change.Revoke word n seat.old.view seat.new.view) }
+            (λ n. MissesBusy self.now.layout gref.0 EntryChange.Revoke word n seat.old.view seat.new.view) }
     {
         let at = seat.position;
         self.words
@@ -380,8 +380,8 @@ impl Words {
         ensures seat { IsSameSeat seat.old seat.new }
         ensures fits { IsSeatOf self.now seat.new }
         ensures step { MatchResult result
-            (λ _. Changes self.now.layout gref.0 Change.Withdraw word seat.old.view seat.new.view)
-            (λ n. MissesChange self.now.layout gref.0 Change.Withdraw word n seat.old.view seat.new.view) }
+            (λ _. Changes self.now.layout gref.0 EntryChange.Withdraw word seat.old.view seat.new.view)
+            (λ n. MissesChange self.now.layout gref.0 EntryChange.Withdraw word n seat.old.view seat.new.view) }
     {
         let at = seat.position;
         self.words
@@ -401,7 +401,7 @@ impl Words {
         ensures fits { IsSeatOf self.now seat.new }
         ensures step { MatchResult result
             (λ _. Demotes self.now.layout gref.0 word seat.old.view seat.new.view)
-            (λ n. MissesChange self.now.layout gref.0 Change.Demote word n seat.old.view seat.new.view) }
+            (λ n. MissesChange self.now.layout gref.0 EntryChange.Demote word n seat.old.view seat.new.view) }
     {
         let at = seat.position;
         self.words
@@ -419,8 +419,8 @@ impl Words {
         ensures seat { IsSameSeat seat.old seat.new }
         ensures fits { IsSeatOf self.now seat.new }
         ensures step { MatchResult result
-            (λ _. Changes self.now.layout gref.0 Change.Promote word seat.old.view seat.new.view)
-            (λ n. MissesChange self.now.layout gref.0 Change.Promote word n seat.old.view seat.new.view) }
+            (λ _. Changes self.now.layout gref.0 EntryChange.Promote word seat.old.view seat.new.view)
+            (λ n. MissesChange self.now.layout gref.0 EntryChange.Promote word n seat.old.view seat.new.view) }
     {
         let at = seat.position;
         self.words

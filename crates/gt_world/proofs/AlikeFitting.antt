@@ -2,10 +2,10 @@
 use Rattle.gt_core.proofs.Words.{◌≡◌, ◌≢◌, ◌<◌, ◌≤◌, ◌+◌, ℕ, refl, Bool, List, [], ◌∷◌, ◌++◌, length, Option, Some}
 use Rattle.gt_core.proofs.Words.{None, cond, sym}
 use Rattle.gt_core.proofs.Words.{ap, ◌∙◌, arith, subst, ◌==◌, eqb-true, eq-eqb, none-some, same_Some, cond_both}
-use Rattle.gt_core.proofs.Words.{count_by, sum_by-cons, option_map, DomId, Dir, Handle, Held, Holder, ByMapping, ByLeg}
-use Rattle.gt_core.proofs.Words.{Seen, Taken, Missed}
-use Rattle.gt_core.proofs.Words.{Makes, Verdict, Step, PinStep, Unpin, StoreHeader, Exchange, ReadBytes, State}
-use Rattle.gt_core.proofs.Words.{state_of, Asked, Unmap}
+use Rattle.gt_core.proofs.Words.{count_by, sum_by-cons, option_map, DomId, Dir, Handle, HeldPin, PinHolder, ByMapping, ByLeg}
+use Rattle.gt_core.proofs.Words.{Observation, Taken, Missed}
+use Rattle.gt_core.proofs.Words.{Makes, CallResult, Step, PinStep, Unpin, StoreHeader, Exchange, ReadBytes, State}
+use Rattle.gt_core.proofs.Words.{state_of, OpenRequest, Unmap}
 use Rattle.gt_core.proofs.Words.{History, Setting, Pin, Underway, live, open_call, values, word_at, seen_by, known_at}
 use Rattle.gt_core.proofs.Words.{legs_at, numbered, without}
 use Rattle.gt_core.proofs.Words.{generation_at, is_pin_on, mappings_at, mapping_of, gather, by_leg, path, begun}
@@ -23,8 +23,8 @@ use Rattle.gt_core.proofs.{Pins.live-bare, Pins.bare_pin, Pins.bare_pins, Handle
 use Rattle.gt_core.proofs.{HandlesGiven.CallKnown, AlikeRuns.bare_action}
 use Rattle.gt_core.specs.Prelude.{WriteBytes, CopyBytes}
 use Rattle.gt_core.specs.GoingOn.{CanBeReached}
-use Rattle.gt_core.specs.declared.underway.Open.{Open}
-use Rattle.gt_core.specs.declared.trace.Happened.TheVariants.{Stepped}
+use Rattle.gt_core.specs.declared.underway.OpenCall.{OpenCall}
+use Rattle.gt_core.specs.declared.trace.ItemEvent.TheVariants.{Stepped}
 use Rattle.gt_core.specs.declared.trace.Item.{Item}
 use Rattle.gt_calls.specs.Path.{by_mapping}
 use Rattle.gt_world.specs.Shows.{IsInRun, LooksInRun, StepFits}
@@ -34,20 +34,20 @@ use Rattle.gt_world.proofs.Fitting.{looks, fits, own-legs, copy-frames, from-loo
 
 -- paths without keys
 
-abbrev pub FindsSame : (Handle → Option Held) → (Handle → Option Held) → Asked → Type 0
+abbrev pub FindsSame : (Handle → Option HeldPin) → (Handle → Option HeldPin) → OpenRequest → Type 0
 FindsSame bared found (Unmap a) = bared (bare_handle a) ≡ found a
 FindsSame bared found (Load a off len) = bared (bare_handle a) ≡ found a
 FindsSame bared found (Store a off len) = bared (bare_handle a) ≡ found a
 FindsSame bared found r = Unit {0}
 
-path-bare : (k : CallerKnowledge) (found : Handle → Option Held) (d : DomId) (r : Asked) (vs : List Seen) → FindsSame found k.mapping r
+path-bare : (k : CallerKnowledge) (found : Handle → Option HeldPin) (d : DomId) (r : OpenRequest) (vs : List Observation) → FindsSame found k.mapping r
     → option_map bare_action (path (record k { mapping = found }) d (bare_asked r) vs) ≡ option_map bare_action (path k d r vs)
 path-bare k found d r vs same = grind arith
 
-pub finds-same : (s : Setting) (h : History) (d : DomId) (r : Asked) → IsRun s h → AsksKnown h d.0 r → FindsSame (mapping_of (mappings_at (bare h) d.0)) (mapping_of (mappings_at h d.0)) r
+pub finds-same : (s : Setting) (h : History) (d : DomId) (r : OpenRequest) → IsRun s h → AsksKnown h d.0 r → FindsSame (mapping_of (mappings_at (bare h) d.0)) (mapping_of (mappings_at h d.0)) r
 finds-same s h d r run k = grind (arith, mapping-bare)
 
-pub path-at : (s : Setting) (h : History) (d : DomId) (r : Asked) (vs : List Seen) → IsRun s h → AsksKnown h d.0 r
+pub path-at : (s : Setting) (h : History) (d : DomId) (r : OpenRequest) (vs : List Observation) → IsRun s h → AsksKnown h d.0 r
     → option_map bare_action (path (known_at s (bare h) d) d (bare_asked r) vs) ≡ option_map bare_action (path (known_at s h d) d r vs)
 path-at s h d r vs run k = ap (λ (z : CallerKnowledge). option_map bare_action (path z d (bare_asked r) vs)) (known-bare s h d run)
     ∙ path-bare (known_at s h d) (mapping_of (mappings_at (bare h) d.0)) d r vs (finds-same s h d r run k)
@@ -55,7 +55,7 @@ path-at s h d r vs run k = ap (λ (z : CallerKnowledge). option_map bare_action 
 -- the step of an open call, without keys
 pub step-bare : (s : Setting) (h : History) (d : DomId) (c : Underway) (z : Step) → IsRun s h → open_call h d.0 ≡ Some c → path (known_at s h d) d c.request (values c) ≡ Some (Makes z)
     → option_map bare_action (path (known_at s (bare h) d) d (bare_call c).request (values (bare_call c))) ≡ Some (Makes (bare_step z))
-step-bare s h d c z run call e = ap (λ (vs : List Seen). option_map bare_action (path (known_at s (bare h) d) d (bare_asked c.request) vs)) (values-bare c)
+step-bare s h d c z run call e = ap (λ (vs : List Observation). option_map bare_action (path (known_at s (bare h) d) d (bare_asked c.request) vs)) (values-bare c)
     ∙ path-at s h d c.request (values c) run (subst (CallKnown h d.0) call (open-known s h d.0 run)) ∙ ap (option_map bare_action) e
 
 -- alike runs are about to make the same step
@@ -110,7 +110,7 @@ WordFits s h d z = Unit {0}
 
 -- the step gives back a pin of its call, which is the call's last one
 abbrev LegFits : History → DomId → Step → Type 0
-LegFits h d (Unpin p (ByLeg n)) = (ps : List Held) × (n ≡ length ps) × (legs_at h d.0 ≡ numbered 0 (ps ++ p ∷ []))
+LegFits h d (Unpin p (ByLeg n)) = (ps : List HeldPin) × (n ≡ length ps) × (legs_at h d.0 ≡ numbered 0 (ps ++ p ∷ []))
 LegFits h d z = Unit {0}
 
 -- both, and it looks at words of the run
@@ -144,7 +144,7 @@ to-alike s h g alike d z f = record { words = words z f.words; legs = legs z f.l
 
 -- where a core stands
 
-module _ (s : Setting) (g : History) (reached : CanBeReached s g) (x : State) (here : state_of reached.0.domains x.id.0 ≡ Some x) (o : Open) (c : Underway) (a : OpenAgrees s g x.id o c) where
+module _ (s : Setting) (g : History) (reached : CanBeReached s g) (x : State) (here : state_of reached.0.domains x.id.0 ≡ Some x) (o : OpenCall) (c : Underway) (a : OpenAgrees s g x.id o c) where
   fit : (z : Step) → o.step ≡ z → Fits0 s g x.id z
   fit z e = record { words = words z e; legs = legs z e; looks = looks s g reached.0.domains x o c reached.1.legal reached.1.domains here a z e } where
     words : (z : Step) → o.step ≡ z → WordFits s g x.id z
@@ -162,10 +162,10 @@ module _ (s : Setting) (g : History) (reached : CanBeReached s g) (x : State) (h
 
 -- a mapping that is given up
 
-unmap-by : (b : Option Verdict) (m : Option Held) (handle : Handle) (vs : List Seen) (p : Held) (holder : Holder) → after_beginning b (by_mapping m (λ q. Unpin q (ByMapping handle))) vs ≡ Some (Makes (Unpin p holder)) → m ≡ Some p
+unmap-by : (b : Option CallResult) (m : Option HeldPin) (handle : Handle) (vs : List Observation) (p : HeldPin) (holder : PinHolder) → after_beginning b (by_mapping m (λ q. Unpin q (ByMapping handle))) vs ≡ Some (Makes (Unpin p holder)) → m ≡ Some p
 unmap-by b m handle vs p holder e = grind arith
 
-unmap-finds : (k : CallerKnowledge) (d : DomId) (handle : Handle) (vs : List Seen) (p : Held) (holder : Holder) → path k d (Unmap handle) vs ≡ Some (Makes (Unpin p holder)) → k.mapping handle ≡ Some p
+unmap-finds : (k : CallerKnowledge) (d : DomId) (handle : Handle) (vs : List Observation) (p : HeldPin) (holder : PinHolder) → path k d (Unmap handle) vs ≡ Some (Makes (Unpin p holder)) → k.mapping handle ≡ Some p
 unmap-finds k d handle vs p holder e = unmap-by (begun k d (Unmap handle)) (k.mapping handle) handle vs p holder e
 
 -- all of it
@@ -174,15 +174,15 @@ step-fits : (s : Setting) (h : History) (d : DomId) (c : Underway) (z : Step) �
 step-fits s h d c (PinStep p) f j e = let w = word_at s h p.dom.0 p.gref.0 in cond_both (w == p.word) Taken (Missed w) (StepFits s h d (PinStep p)) (λ is. f.words (eqb-true w p.word is)) (λ is. tt)
 step-fits s h d c (Exchange gref looked change) f j e = let w = word_at s h d.0 gref.0 in cond_both (w == looked) Taken (Missed w) (StepFits s h d (Exchange gref looked change)) (λ is. f.words (eqb-true w looked is)) (λ is. tt)
 step-fits s h d c (StoreHeader version frames) f j e = f.words
-step-fits s h d c (Unpin p (ByMapping handle)) f j e = loses-mapping h d handle p (unmap-finds (known_at s h d) d handle (values c) p (ByMapping handle) (subst (λ (r : Asked). path (known_at s h d) d r (values c) ≡ Some (Makes (Unpin p (ByMapping handle)))) j e))
+step-fits s h d c (Unpin p (ByMapping handle)) f j e = loses-mapping h d handle p (unmap-finds (known_at s h d) d handle (values c) p (ByMapping handle) (subst (λ (r : OpenRequest). path (known_at s h d) d r (values c) ≡ Some (Makes (Unpin p (ByMapping handle)))) j e))
 step-fits s h d c (Unpin p (ByLeg n)) f j e = subst (λ (k : ℕ). Loses p (live h) (without d.0 (ByLeg k) (live h))) (sym f.legs.1) (loses-leg h d f.legs.0 p f.legs.2)
 step-fits s h d c (ReadBytes dom frame off len) f j e = j.0.1
 step-fits s h d c (WriteBytes dom frame off len) f j e = j.0.1
 step-fits s h d c (CopyBytes from to len) f j e = copy-frames s h d c.request from to len j
 step-fits s h d c z f j e = tt
 
-same-run : (s : Setting) (h g : History) (x : State) (i : Item) (z : Step) (seen : Seen) → AreAlike s h g → (reached : CanBeReached s g) → state_of reached.0.domains x.id.0 ≡ Some x → (u w : Option Underway) → open_call h x.id.0 ≡ u → open_call g x.id.0 ≡ w
-    → (o : Option Open) → CallAgrees s g x.id o w → StepsRightIn s h (stepped x.id z seen i.answer) z seen u → LooksInRun s x.id z × StepFits s h x.id z seen
+same-run : (s : Setting) (h g : History) (x : State) (i : Item) (z : Step) (seen : Observation) → AreAlike s h g → (reached : CanBeReached s g) → state_of reached.0.domains x.id.0 ≡ Some x → (u w : Option Underway) → open_call h x.id.0 ≡ u → open_call g x.id.0 ≡ w
+    → (o : Option OpenCall) → CallAgrees s g x.id o w → StepsRightIn s h (stepped x.id z seen i.answer) z seen u → LooksInRun s x.id z × StepFits s h x.id z seen
 same-run s h g x i z seen alike reached here None w hu gw o a right = absurd right
 same-run s h g x i z seen alike reached here (Some c) None hu gw o a right = absurd (none-both (sym ((bared h).open_calls x.id.0 ∙ ap (option_map bare_call) hu) ∙ ap (λ (l : History). open_call l x.id.0) (bare-same h g alike.same) ∙ (bared g).open_calls x.id.0 ∙ ap (option_map bare_call) gw))
   where
@@ -194,7 +194,7 @@ same-run s h g x i z seen alike reached here (Some c) (Some w) hu gw (Some o) a 
     let f = from-bare s h x.id z (subst (Fits0 s h x.id) (sym same) (to-bare s h x.id o.step (to-alike s h g alike x.id o.step (fit s g reached x here o w a o.step refl)))) in
     (f.looks, subst (StepFits s h x.id z) (sym right.sees) (step-fits s h x.id c z f right.justified right.continues))
 
-like-fits : (s : Setting) (h g : History) (i : Item) (z : Step) (seen : Seen) → AreAlike s h g → CanBeReached s g → IsInRun s i.actor → IsRight s h i → i.happened ≡ Stepped z seen → LooksInRun s i.actor z × StepFits s h i.actor z seen
+like-fits : (s : Setting) (h g : History) (i : Item) (z : Step) (seen : Observation) → AreAlike s h g → CanBeReached s g → IsInRun s i.actor → IsRight s h i → i.happened ≡ Stepped z seen → LooksInRun s i.actor z × StepFits s h i.actor z seen
 like-fits s h g i z seen alike reached run right is =
     let st = reached.1.domains in let xs = reached.0.domains in
     let some : state_of xs i.actor.0 ≢ None = λ e. run (subst (StateAgrees s g i.actor) e (st.each i.actor)) in

@@ -23,24 +23,24 @@ use Rattle.gt_world.specs.Rows.{counts_in}
 use Rattle.gt_world.specs.Copies.{AreTablesOf, IsTableOf, SamePage, SamePages, SameTables}
 use Rattle.gt_world.specs.Shows.{CountsShow, IsSettingOf, PagesShow, TableShows, TablesShow}
 use Rattle.gt_world.specs.Tables.{SameTable}
-use Rattle.gt_world.specs.declared.pages.Page.{Page}
-use Rattle.gt_world.specs.declared.table.Table.{Table}
+use Rattle.gt_world.specs.declared.pages.SparsePage.{SparsePage}
+use Rattle.gt_world.specs.declared.table.SparseTable.{SparseTable}
 
 -- one more of each
 
-pub first-more : (ds : List DomainConfig) (ts : List Table) (d : DomainConfig) (t : Table) → AreTablesOf ds ts → IsTableOf d t → AreTablesOf (ds ++ d ∷ []) (ts ++ t ∷ [])
+pub first-more : (ds : List DomainConfig) (ts : List SparseTable) (d : DomainConfig) (t : SparseTable) → AreTablesOf ds ts → IsTableOf d t → AreTablesOf (ds ++ d ∷ []) (ts ++ t ∷ [])
 first-more [] [] d t a b = (b, tt)
 first-more (c ∷ ds) (u ∷ ts) d t a b = (a.0, first-more ds ts d t a.1 b)
 first-more [] (u ∷ ts) d t a b = absurd a
 first-more (c ∷ ds) [] d t a b = absurd a
 
-pub tables-more : (ts us : List Table) (t u : Table) → SameTables ts us → SameTable t u → SameTables (ts ++ t ∷ []) (us ++ u ∷ [])
+pub tables-more : (ts us : List SparseTable) (t u : SparseTable) → SameTables ts us → SameTable t u → SameTables (ts ++ t ∷ []) (us ++ u ∷ [])
 tables-more [] [] t u a b = (b, tt)
 tables-more (v ∷ ts) (w ∷ us) t u a b = (a.0, tables-more ts us t u a.1 b)
 tables-more [] (w ∷ us) t u a b = absurd a
 tables-more (v ∷ ts) [] t u a b = absurd a
 
-pub pages-more : (ps qs : List Page) (p q : Page) → SamePages ps qs → SamePage p q → SamePages (ps ++ p ∷ []) (qs ++ q ∷ [])
+pub pages-more : (ps qs : List SparsePage) (p q : SparsePage) → SamePages ps qs → SamePage p q → SamePages (ps ++ p ∷ []) (qs ++ q ∷ [])
 pages-more [] [] p q a b = (b, tt)
 pages-more (v ∷ ps) (w ∷ qs) p q a b = (a.0, pages-more ps qs p q a.1 b)
 pages-more [] (w ∷ qs) p q a b = absurd a
@@ -48,37 +48,37 @@ pages-more (v ∷ ps) [] p q a b = absurd a
 
 -- a loop's step
 
-pub first-step : (ds : List DomainConfig) (ts new : List Table) (i : ℕ) (d : DomainConfig) (t : Table) → i < length ds → AreTablesOf (take i ds) ts → IsTableOf (get_or ds i d) t → new ≡ ts ++ t ∷ [] → AreTablesOf (take (i + 1) ds) new
+pub first-step : (ds : List DomainConfig) (ts new : List SparseTable) (i : ℕ) (d : DomainConfig) (t : SparseTable) → i < length ds → AreTablesOf (take i ds) ts → IsTableOf (get_or ds i d) t → new ≡ ts ++ t ∷ [] → AreTablesOf (take (i + 1) ds) new
 first-step ds ts new i d t within a b e = subst (AreTablesOf (take (i + 1) ds)) (sym e) (subst (λ (l : List DomainConfig). AreTablesOf l (ts ++ t ∷ [])) (sym (take_more ds i d within)) (first-more (take i ds) ts (get_or ds i d) t a b))
 
-pub tables-step : (ts us new : List Table) (i : ℕ) (t u : Table) → i < length ts → SameTables (take i ts) us → t ≡ get_or ts i t → SameTable t u → new ≡ us ++ u ∷ [] → SameTables (take (i + 1) ts) new
-tables-step ts us new i t u within a is b e = subst (SameTables (take (i + 1) ts)) (sym e) (subst (λ (l : List Table). SameTables l (us ++ u ∷ [])) (sym (take_more ts i t within)) (tables-more (take i ts) us (get_or ts i t) u a (subst (λ (z : Table). SameTable z u) is b)))
+pub tables-step : (ts us new : List SparseTable) (i : ℕ) (t u : SparseTable) → i < length ts → SameTables (take i ts) us → t ≡ get_or ts i t → SameTable t u → new ≡ us ++ u ∷ [] → SameTables (take (i + 1) ts) new
+tables-step ts us new i t u within a is b e = subst (SameTables (take (i + 1) ts)) (sym e) (subst (λ (l : List SparseTable). SameTables l (us ++ u ∷ [])) (sym (take_more ts i t within)) (tables-more (take i ts) us (get_or ts i t) u a (subst (λ (z : SparseTable). SameTable z u) is b)))
 
-pub pages-step : (ps qs new : List Page) (i : ℕ) (p q : Page) → i < length ps → SamePages (take i ps) qs → p ≡ get_or ps i p → SamePage p q → new ≡ qs ++ q ∷ [] → SamePages (take (i + 1) ps) new
-pages-step ps qs new i p q within a is b e = subst (SamePages (take (i + 1) ps)) (sym e) (subst (λ (l : List Page). SamePages l (qs ++ q ∷ [])) (sym (take_more ps i p within)) (pages-more (take i ps) qs (get_or ps i p) q a (subst (λ (z : Page). SamePage z q) is b)))
+pub pages-step : (ps qs new : List SparsePage) (i : ℕ) (p q : SparsePage) → i < length ps → SamePages (take i ps) qs → p ≡ get_or ps i p → SamePage p q → new ≡ qs ++ q ∷ [] → SamePages (take (i + 1) ps) new
+pages-step ps qs new i p q within a is b e = subst (SamePages (take (i + 1) ps)) (sym e) (subst (λ (l : List SparsePage). SamePages l (qs ++ q ∷ [])) (sym (take_more ps i p within)) (pages-more (take i ps) qs (get_or ps i p) q a (subst (λ (z : SparsePage). SamePage z q) is b)))
 
-pub both-tables : (ts us : List Table) (i : ℕ) (t u : Table) → i < length ts → i < length us → SameTables (take i ts) (take i us) → t ≡ get_or ts i t → u ≡ get_or us i u → SameTable t u → SameTables (take (i + 1) ts) (take (i + 1) us)
-both-tables ts us i t u within also a is be b = tables-step ts (take i us) (take (i + 1) us) i t u within a is b (take_more us i u also ∙ ap (λ (z : Table). take i us ++ z ∷ []) (sym be))
+pub both-tables : (ts us : List SparseTable) (i : ℕ) (t u : SparseTable) → i < length ts → i < length us → SameTables (take i ts) (take i us) → t ≡ get_or ts i t → u ≡ get_or us i u → SameTable t u → SameTables (take (i + 1) ts) (take (i + 1) us)
+both-tables ts us i t u within also a is be b = tables-step ts (take i us) (take (i + 1) us) i t u within a is b (take_more us i u also ∙ ap (λ (z : SparseTable). take i us ++ z ∷ []) (sym be))
 
-pub both-pages : (ps qs : List Page) (i : ℕ) (p q : Page) → i < length ps → i < length qs → SamePages (take i ps) (take i qs) → p ≡ get_or ps i p → q ≡ get_or qs i q → SamePage p q → SamePages (take (i + 1) ps) (take (i + 1) qs)
-both-pages ps qs i p q within also a is be b = pages-step ps (take i qs) (take (i + 1) qs) i p q within a is b (take_more qs i q also ∙ ap (λ (z : Page). take i qs ++ z ∷ []) (sym be))
+pub both-pages : (ps qs : List SparsePage) (i : ℕ) (p q : SparsePage) → i < length ps → i < length qs → SamePages (take i ps) (take i qs) → p ≡ get_or ps i p → q ≡ get_or qs i q → SamePage p q → SamePages (take (i + 1) ps) (take (i + 1) qs)
+both-pages ps qs i p q within also a is be b = pages-step ps (take i qs) (take (i + 1) qs) i p q within a is b (take_more qs i q also ∙ ap (λ (z : SparsePage). take i qs ++ z ∷ []) (sym be))
 
 -- what copies show
 
-same-many : (ts us : List Table) → SameTables ts us → length us ≡ length ts
+same-many : (ts us : List SparseTable) → SameTables ts us → length us ≡ length ts
 same-many [] [] a = refl
 same-many (t ∷ ts) (u ∷ us) a = ap suc (same-many ts us a.1)
 same-many [] (u ∷ us) a = absurd a
 same-many (t ∷ ts) [] a = absurd a
 
-same-at : (ts us : List Table) (k : ℕ) (u : Table) → SameTables ts us → slice_get us k ≡ Some u → (t : Table) × (slice_get ts k ≡ Some t) × SameTable t u
+same-at : (ts us : List SparseTable) (k : ℕ) (u : SparseTable) → SameTables ts us → slice_get us k ≡ Some u → (t : SparseTable) × (slice_get ts k ≡ Some t) × SameTable t u
 same-at [] [] k u a e = absurd (none-some u e)
 same-at (t ∷ ts) (v ∷ us) zero u a e = (t, refl, subst (SameTable t) (same_Some v u e) a.0)
 same-at (t ∷ ts) (v ∷ us) (suc k) u a e = same-at ts us k u a.1 e
 same-at [] (v ∷ us) k u a e = absurd a
 same-at (t ∷ ts) [] k u a e = absurd a
 
-same-shows : (s : Setting) (h : History) (d : DomId) (t u : Table) → SameTable t u → TableShows s h d t → TableShows s h d u
+same-shows : (s : Setting) (h : History) (d : DomId) (t u : SparseTable) → SameTable t u → TableShows s h d t → TableShows s h d u
 same-shows s h d t u same a = record {
   header = same.header ∙ a.header;
   entries = λ r. ap (λ l. entry_in l r) same.own ∙ a.entries r;
@@ -86,13 +86,13 @@ same-shows s h d t u same a = record {
   counts = λ r. subst (CountsShow h d.0 r) (ap (λ l. counts_in l r) (sym same.counts)) (a.counts r);
 }
 
-pub tables-shown-again : (s : Setting) (h : History) (ts us : List Table) → SameTables ts us → TablesShow s h ts → TablesShow s h us
+pub tables-shown-again : (s : Setting) (h : History) (ts us : List SparseTable) → SameTables ts us → TablesShow s h ts → TablesShow s h us
 tables-shown-again s h ts us same shows = record {
   many = same-many ts us same ∙ shows.many;
   each = λ k d u at here. let t = same-at ts us k u same here in same-shows s h d.id t.0 u t.2 (shows.each k d t.0 at t.1);
 }
 
-same-kept : (ps qs : List Page) (t f : ℕ) → SamePages ps qs → kept_bytes qs t f ≡ kept_bytes ps t f
+same-kept : (ps qs : List SparsePage) (t f : ℕ) → SamePages ps qs → kept_bytes qs t f ≡ kept_bytes ps t f
 same-kept [] [] t f a = refl
 same-kept (p ∷ ps) (q ∷ qs) t f a =
     ap (λ (d : DomId). cond ((d.0 == t) && (q.frame == f)) q.bytes.items (kept_bytes qs t f)) a.0.owner
@@ -102,19 +102,19 @@ same-kept (p ∷ ps) (q ∷ qs) t f a =
 same-kept [] (q ∷ qs) t f a = absurd a
 same-kept (p ∷ ps) [] t f a = absurd a
 
-pub pages-shown-again : (h : History) (ps qs : List Page) → SamePages ps qs → PagesShow h ps → PagesShow h qs
+pub pages-shown-again : (h : History) (ps qs : List SparsePage) → SamePages ps qs → PagesShow h ps → PagesShow h qs
 pages-shown-again h ps qs same shows = λ t f. ap padded (same-kept ps qs t f same) ∙ shows t f
 
 -- before anything happened
 
-table-there : (ds : List DomainConfig) (ts : List Table) (k : ℕ) (d : DomainConfig) (t : Table) → AreTablesOf ds ts → slice_get ds k ≡ Some d → slice_get ts k ≡ Some t → IsTableOf d t
+table-there : (ds : List DomainConfig) (ts : List SparseTable) (k : ℕ) (d : DomainConfig) (t : SparseTable) → AreTablesOf ds ts → slice_get ds k ≡ Some d → slice_get ts k ≡ Some t → IsTableOf d t
 table-there [] [] k d t a e f = absurd (none-some d e)
 table-there (c ∷ ds) (u ∷ ts) zero d t a e f = subst (λ (x : DomainConfig). IsTableOf x t) (same_Some c d e) (subst (IsTableOf c) (same_Some u t f) a.0)
 table-there (c ∷ ds) (u ∷ ts) (suc k) d t a e f = table-there ds ts k d t a.1 e f
 table-there [] (u ∷ ts) k d t a e f = absurd a
 table-there (c ∷ ds) [] k d t a e f = absurd a
 
-first-many : (ds : List DomainConfig) (ts : List Table) → AreTablesOf ds ts → length ts ≡ length ds
+first-many : (ds : List DomainConfig) (ts : List SparseTable) → AreTablesOf ds ts → length ts ≡ length ds
 first-many [] [] a = refl
 first-many (d ∷ ds) (t ∷ ts) a = ap suc (first-many ds ts a.1)
 first-many [] (t ∷ ts) a = absurd a
@@ -149,12 +149,12 @@ first-counts t r = record { reads = refl; writes = refl; first = refl; second = 
 All-at : (P : DomainConfig → Type 0) (ds : List DomainConfig) (k : ℕ) (d : DomainConfig) → All P ds → slice_get ds k ≡ Some d → P d
 All-at P ds k d all e = subst P (get_or_from_slice_get ds k d d e) (all k d (slice_get_within ds k d e))
 
-pub first-shown : (c : Config) (s : Setting) (ds : List DomainConfig) (ts : List Table) → IsSettingOf c s → IsWithinLimits c → c.domains.items ≡ ds → AreTablesOf ds ts → TablesShow s [] ts
+pub first-shown : (c : Config) (s : Setting) (ds : List DomainConfig) (ts : List SparseTable) → IsSettingOf c s → IsWithinLimits c → c.domains.items ≡ ds → AreTablesOf ds ts → TablesShow s [] ts
 first-shown c s ds ts set limits same tables = record { many = first-many ds ts tables ∙ ap length (sym same ∙ set.domains); each = λ k d t at here. by k d t at (table-there ds ts k d t tables (ap (λ l. slice_get l k) (sym same ∙ set.domains) ∙ at) here) } where
   few : s.first_generation ≤ LAST_GENERATION
   few = subst (λ (n : ℕ). n ≤ LAST_GENERATION) set.first limits.generation
 
-  by : (k : ℕ) (d : DomainConfig) (t : Table) → slice_get s.domains k ≡ Some d → IsTableOf d t → TableShows s [] d.id t
+  by : (k : ℕ) (d : DomainConfig) (t : SparseTable) → slice_get s.domains k ≡ Some d → IsTableOf d t → TableShows s [] d.id t
   by k d t at is = record {
     header = is.header ∙ fits-word d (limit (λ (x : DomainConfig). (1 ≤ x.version) × (x.version ≤ LAST_VERSION)) limits.versions).1 (limit (λ (x : DomainConfig). (1 ≤ x.table_frames) × (x.table_frames ≤ MAX_TABLE_FRAMES)) limits.table_frames).1
         ∙ sym (first-header s d (own-config s.domains k d set.apart at));

@@ -3,7 +3,7 @@ use Rattle.gt_core.proofs.Words.{◌≡◌, ◌≢◌, ◌≤◌, ◌+◌, ℕ, 
 use Rattle.gt_core.proofs.Words.{None, cond, sym}
 use Rattle.gt_core.proofs.Words.{ap, ◌∙◌, arith, subst, ◌==◌, eqb-true, none-some, same_Some, cond_both, reverse}
 use Rattle.gt_core.proofs.Words.{length-reverse, reverse_onto, domain_of}
-use Rattle.gt_core.proofs.Words.{DomId, Held, ByMapping, ByLeg, Seen, Taken, Missed, Step, LookHeader, LookControl}
+use Rattle.gt_core.proofs.Words.{DomId, HeldPin, ByMapping, ByLeg, Observation, Taken, Missed, Step, LookHeader, LookControl}
 use Rattle.gt_core.proofs.Words.{LookBody}
 use Rattle.gt_core.proofs.Words.{PinStep, Unpin, StoreHeader, Exchange, ReadBytes, State, state_of}
 use Rattle.gt_core.proofs.Words.{History, Setting, Underway, live, open_call, values, word_at, seen_by, legs_at}
@@ -17,12 +17,12 @@ use Rattle.gt_core.proofs.{Steps.Unpin.Loses}
 use Rattle.gt_core.proofs.{Steps.Store.header-fits}
 use Rattle.gt_core.specs.Prelude.{WriteBytes, CopyBytes}
 use Rattle.gt_core.specs.GoingOn.{CanBeReached}
-use Rattle.gt_core.proofs.Words.{zero, suc, false, eq-eqb, false≢true, slice_get, DomainConfig, Asked, Copy, Spot}
+use Rattle.gt_core.proofs.Words.{zero, suc, false, eq-eqb, false≢true, slice_get, DomainConfig, OpenRequest, Copy, Spot}
 use Rattle.gt_core.proofs.Words.{FRAME_SIZE, CopyIsJustified, Justified}
 use Rattle.gt_core.proofs.Steps.Observers.{stepped}
-use Rattle.gt_core.specs.declared.underway.Open.{Open}
-use Rattle.gt_core.specs.declared.trace.Happened.{Happened}
-use Rattle.gt_core.specs.declared.trace.Happened.TheVariants.{Began, Stepped}
+use Rattle.gt_core.specs.declared.underway.OpenCall.{OpenCall}
+use Rattle.gt_core.specs.declared.trace.ItemEvent.{ItemEvent}
+use Rattle.gt_core.specs.declared.trace.ItemEvent.TheVariants.{Began, Stepped}
 use Rattle.gt_core.specs.declared.trace.Item.{Item}
 use Rattle.gt_world.specs.Shows.{IsInRun, LooksInRun, StepFits, PagesShow, TablesShow, unheld, RightStepsFit}
 use Rattle.gt_world.specs.Shows.{BeginningsChangeNothing}
@@ -36,11 +36,11 @@ of-state s h xs dom st some = by (state_of xs dom.0) refl (st.each dom) where
   by None e a = absurd (some e)
   by (Some x) e a = a.0
 
-pub copy-frames : (s : Setting) (h : History) (d : DomId) (r : Asked) (from to : Spot) (len : ℕ) → CopyIsJustified s h d r from to len → (from.off + len ≤ FRAME_SIZE) × (to.off + len ≤ FRAME_SIZE)
+pub copy-frames : (s : Setting) (h : History) (d : DomId) (r : OpenRequest) (from to : Spot) (len : ℕ) → CopyIsJustified s h d r from to len → (from.off + len ≤ FRAME_SIZE) × (to.off + len ≤ FRAME_SIZE)
 copy-frames s h d (Copy c) from to len j = (j.0.1, j.1.1)
 copy-frames s h d r from to len j = absurd j
 
-module _ (s : Setting) (h : History) (xs : List State) (x : State) (o : Open) (c : Underway) (legal : IsLegalHistory s h) (st : DomainsStand s h xs) (here : state_of xs x.id.0 ≡ Some x) (a : OpenAgrees s h x.id o c) where
+module _ (s : Setting) (h : History) (xs : List State) (x : State) (o : OpenCall) (c : Underway) (legal : IsLegalHistory s h) (st : DomainsStand s h xs) (here : state_of xs x.id.0 ≡ Some x) (a : OpenAgrees s h x.id o c) where
   stands : IsHere s h xs x.id c.request (values c) (reverse c.steps) a.phase o.step
   stands = record { legal = legal; st = st; own = λ e. none-some x (sym e ∙ here); at = a.at; acts = a.acts; place = a.place; held = a.held; rests = a.rests; fits = a.fits }
 
@@ -59,9 +59,9 @@ module _ (s : Setting) (h : History) (xs : List State) (x : State) (o : Open) (c
   looks z e = tt
 
   -- a pin that its call gives back is the call's last one
-  pub own-legs : (p : Held) (place : ℕ) → o.step ≡ Unpin p (ByLeg place) → (ps : List Held) × (place ≡ length ps) × (legs_at h x.id.0 ≡ numbered 0 (ps ++ p ∷ []))
+  pub own-legs : (p : HeldPin) (place : ℕ) → o.step ≡ Unpin p (ByLeg place) → (ps : List HeldPin) × (place ≡ length ps) × (legs_at h x.id.0 ≡ numbered 0 (ps ++ p ∷ []))
   own-legs p place e = let r = (of (Unpin p (ByLeg place)) e).rests.1 in
-      (reverse r.others, r.place_is ∙ sym (length-reverse r.others), a.held ∙ ap (λ (z : List Held). numbered 0 (reverse z)) r.held ∙ ap (numbered 0) (reverse_onto r.others p []))
+      (reverse r.others, r.place_is ∙ sym (length-reverse r.others), a.held ∙ ap (λ (z : List HeldPin). numbered 0 (reverse z)) r.held ∙ ap (numbered 0) (reverse_onto r.others p []))
 
   pub fits : (z : Step) → o.step ≡ z → Justified s h x.id c.request z → StepFits s h x.id z (seen_by s h x.id z)
   fits (PinStep p) e justified = let w = word_at s h p.dom.0 p.gref.0 in
@@ -71,7 +71,7 @@ module _ (s : Setting) (h : History) (xs : List State) (x : State) (o : Open) (c
       (λ is. (can-change s h xs x.id c.request (values c) (reverse c.steps) a.phase gref looked change (of (Exchange gref looked change) e) (eqb-true w looked is)).room) (λ is. tt)
   fits (Unpin p (ByMapping handle)) e justified = loses-mapping h x.id handle p (of (Unpin p (ByMapping handle)) e).rests.1.1
   fits (Unpin p (ByLeg place)) e justified = let r = (of (Unpin p (ByLeg place)) e).rests.1 in
-      let legs : legs_at h x.id.0 ≡ numbered 0 (reverse r.others ++ p ∷ []) = a.held ∙ ap (λ (z : List Held). numbered 0 (reverse z)) r.held ∙ ap (numbered 0) (reverse_onto r.others p []) in
+      let legs : legs_at h x.id.0 ≡ numbered 0 (reverse r.others ++ p ∷ []) = a.held ∙ ap (λ (z : List HeldPin). numbered 0 (reverse z)) r.held ∙ ap (numbered 0) (reverse_onto r.others p []) in
       subst (λ (n : ℕ). Loses p (live h) (without x.id.0 (ByLeg n) (live h))) (length-reverse r.others ∙ sym r.place_is) (loses-leg h x.id (reverse r.others) p legs)
   fits (StoreHeader version frames) e justified = let i = of (StoreHeader version frames) e in let f = header-fits s h xs x.id c.request version frames st i.rests.0 i.rests.1 in let v = f.version in let n = f.frames in (omega arith, omega arith)
   fits (ReadBytes dom frame off len) e justified = justified.0.1
@@ -80,8 +80,8 @@ module _ (s : Setting) (h : History) (xs : List State) (x : State) (o : Open) (c
   fits z e justified = tt
 
 -- a step that is right is the one at which its call stands
-same-step : (s : Setting) (h : History) (xs : List State) (x : State) (i : Item) (step : Step) (seen : Seen) → IsLegalHistory s h → DomainsStand s h xs → state_of xs x.id.0 ≡ Some x
-    → (o : Option Open) (u : Option Underway) → CallAgrees s h x.id o u → StepsRightIn s h (stepped x.id step seen i.answer) step seen u → LooksInRun s x.id step × StepFits s h x.id step seen
+same-step : (s : Setting) (h : History) (xs : List State) (x : State) (i : Item) (step : Step) (seen : Observation) → IsLegalHistory s h → DomainsStand s h xs → state_of xs x.id.0 ≡ Some x
+    → (o : Option OpenCall) (u : Option Underway) → CallAgrees s h x.id o u → StepsRightIn s h (stepped x.id step seen i.answer) step seen u → LooksInRun s x.id step × StepFits s h x.id step seen
 same-step s h xs x i step seen legal st here None None a right = absurd right
 same-step s h xs x i step seen legal st here None (Some c) a right = absurd a
 same-step s h xs x i step seen legal st here (Some o) None a right = absurd a
@@ -89,7 +89,7 @@ same-step s h xs x i step seen legal st here (Some o) (Some c) a right =
     let same : o.step ≡ step = makes-same o.step step (same_Some _ _ (sym a.follows ∙ right.continues)) in
     (looks s h xs x o c legal st here a step same, subst (StepFits s h x.id step) (sym right.sees) (fits s h xs x o c legal st here a step same right.justified))
 
-pub right-fits : (s : Setting) (h : History) (i : Item) (step : Step) (seen : Seen) → CanBeReached s h → IsInRun s i.actor → IsRight s h i → i.happened ≡ Stepped step seen → LooksInRun s i.actor step × StepFits s h i.actor step seen
+pub right-fits : (s : Setting) (h : History) (i : Item) (step : Step) (seen : Observation) → CanBeReached s h → IsInRun s i.actor → IsRight s h i → i.happened ≡ Stepped step seen → LooksInRun s i.actor step × StepFits s h i.actor step seen
 right-fits s h i step seen (core, stands) run right is =
     let st = stands.domains in let xs = core.domains in
     let some : state_of xs i.actor.0 ≢ None = λ e. run (subst (StateAgrees s h i.actor) e (st.each i.actor)) in
@@ -129,7 +129,7 @@ right-steps-fit s h i at d made step seen reached right is placed actor same =
 
 pub beginnings-change-nothing : BeginningsChangeNothing
 beginnings-change-nothing s h i request ts pages apart is =
-    let same : record { actor = i.actor; happened = Began request; answer = i.answer } ≡ i = ap (λ (x : Happened). record { actor = i.actor; happened = x; answer = i.answer }) (sym is) in (
+    let same : record { actor = i.actor; happened = Began request; answer = i.answer } ≡ i = ap (λ (x : ItemEvent). record { actor = i.actor; happened = x; answer = i.answer }) (sym is) in (
       (λ shows. subst (λ (x : Item). TablesShow s (x ∷ h) ts) same (tables-begun s h i.actor request i.answer ts apart shows)),
       (λ shows. subst (λ (x : Item). PagesShow (x ∷ h) pages) same (pages-begun h i.actor request i.answer pages shows)),
     )

@@ -3,11 +3,11 @@ use Rattle.gt_core.proofs.Words.{◌≡◌, ◌≢◌, ◌≤◌, ◌+◌, ◌-�
 use Rattle.gt_core.proofs.Words.{◌++◌, length, Option}
 use Rattle.gt_core.proofs.Words.{Some, None, cond, sym, ap, ◌∙◌, arith, subst, ◌==◌, ◌&&◌, none-some, same_Some}
 use Rattle.gt_core.proofs.Words.{reverse, option_map, sum_by_push}
-use Rattle.gt_core.proofs.Words.{is_some, take, drop, get_or, ltb, eqb-true, DomId, Handle, Held, HandleMap, Slot}
+use Rattle.gt_core.proofs.Words.{is_some, take, drop, get_or, ltb, eqb-true, DomId, Handle, HeldPin, HandleMap, HandleSlot}
 use Rattle.gt_core.proofs.Words.{value_of, same_handle}
-use Rattle.gt_core.proofs.Words.{Seen, Nothing, Action, Makes, Done, Verdict, Granted, KeptPin, Step, Unpin, ReadBytes}
+use Rattle.gt_core.proofs.Words.{Observation, Nothing, Action, Makes, Done, CallResult, Granted, KeptPin, Step, Unpin, ReadBytes}
 use Rattle.gt_core.proofs.Words.{ByMapping}
-use Rattle.gt_core.proofs.Words.{Denial, Asked, Load, Peek, Phase, Storing, StoringSecond, Exchanging, Looking}
+use Rattle.gt_core.proofs.Words.{Denial, OpenRequest, Load, Peek, Phase, Storing, StoringSecond, Exchanging, Looking}
 use Rattle.gt_core.proofs.Words.{Changing, Walking, Accessing, Asking, Last, Ending}
 use Rattle.gt_core.proofs.Words.{Call, State, state_of, History, Setting, Underway, open_call, values, known_at}
 use Rattle.gt_core.proofs.Words.{seen_by, path, sees, knowledge_of}
@@ -16,7 +16,7 @@ use Rattle.gt_core.proofs.Words.{BeginsRight, AnsweredBy}
 use Rattle.gt_core.proofs.Words.{AreAlike, IsRun, AsksKnown, IsKnown, IsGiven, told_items, told_item, bare_handle}
 use Rattle.gt_core.proofs.Words.{bare_step, bare_request}
 use Rattle.gt_core.proofs.Words.{Adds, MayDo, Goes, action_at, phase_after, next_to_give, last_first, PhaseStands}
-use Rattle.gt_core.proofs.Words.{begun_of, asked, IsSaid}
+use Rattle.gt_core.proofs.Words.{begun_of, asked, SpellsItsEntry}
 use Rattle.gt_core.proofs.Words.{table_at, gives_back, verdict_in, stood, position, domain_of, IsReadable, IsLoadOf}
 use Rattle.gt_core.proofs.Words.{contents_at, CallerKnowledge}
 use Rattle.gt_core.proofs.{Phases.makes-same, Phases.by-leg, Phases.by-giving, Steps.See.state-there}
@@ -35,7 +35,7 @@ use Rattle.gt_core.proofs.{Rows.found, Rows.not-found, Rows.has_id}
 use Rattle.gt_core.proofs.Words.{mapping_of, mappings_at}
 use Rattle.gt_core.specs.Alike.{HappensKnown}
 use Rattle.gt_core.specs.declared.core_state.Begun.TheVariants.{Done as BegunDone}
-use Rattle.gt_core.specs.declared.trace.Happened.{Happened}
+use Rattle.gt_core.specs.declared.trace.ItemEvent.{ItemEvent}
 use Rattle.gt_calls.proofs.Advancing.{continues}
 use Rattle.gt_calls.specs.Machine.{standing_after}
 use Rattle.gt_core.specs.Prelude.{WriteBytes, CopyBytes}
@@ -48,13 +48,13 @@ use Rattle.gt_calls.specs.Asking.{FitsAsked}
 use Rattle.gt_calls.specs.declared.request.Request.{Request}
 use Rattle.gt_calls.specs.declared.request.Request.TheVariants as requests
 use Rattle.gt_entry.specs.declared.header.Header.{Header}
-use Rattle.gt_core.specs.declared.underway.Open.{Open}
+use Rattle.gt_core.specs.declared.underway.OpenCall.{OpenCall}
 use Rattle.gt_core.specs.declared.trace.Answer.{Answer}
 use Rattle.gt_core.specs.declared.trace.Answer.TheVariants as answers
 use Rattle.gt_core.specs.declared.trace.Bytes.{Bytes}
 use Rattle.gt_core.specs.declared.trace.Element.TheVariants.{Item as Did}
 use Rattle.gt_core.specs.declared.trace.Event.TheVariants.{Begin, Tick}
-use Rattle.gt_core.specs.declared.trace.Happened.TheVariants.{Began, Stepped}
+use Rattle.gt_core.specs.declared.trace.ItemEvent.TheVariants.{Began, Stepped}
 use Rattle.gt_core.specs.declared.trace.Item.{Item}
 use Rattle.std.proofs.lemmas.List.{get_or_append_left, get_or_push, get_or_past, length_push}
 use Rattle.std.proofs.lemmas.Bool.Decides.{nat_tests}
@@ -65,51 +65,51 @@ use Rattle.gt_world.proofs.AlikeFitting.{same-bare, path-at, finds-same, FindsSa
 
 -- one more mapping
 
-abbrev added : HandleMap Held → Held → HandleMap Held
+abbrev added : HandleMap HeldPin → HeldPin → HandleMap HeldPin
 added old m = record { slots = old.slots ++ Some (record { serial = old.given; value = m }) ∷ []; given = old.given + 1; room = old.room }
 
 -- the value of a slot under this serial
-abbrev under : ℕ → Option (Slot Held) → Option Held
+abbrev under : ℕ → Option (HandleSlot HeldPin) → Option HeldPin
 under serial slot = value_of (record { slots = slot ∷ []; given = 0; room = 0 }) (record { serial = serial; key = 0 })
 
-abbrev added_handle : HandleMap Held → Handle
+abbrev added_handle : HandleMap HeldPin → Handle
 added_handle old = record { serial = old.given; key = length old.slots }
 
-under-new : (old : HandleMap Held) (m : Held) (other : Handle) → value_of (added old m) other ≡ cond (same_handle other (added_handle old)) (Some m) (value_of old other)
+under-new : (old : HandleMap HeldPin) (m : HeldPin) (other : Handle) → value_of (added old m) other ≡ cond (same_handle other (added_handle old)) (Some m) (value_of old other)
 under-new old m other = by (ltb other.key (length old.slots)) refl (other.key == length old.slots) refl where
-  s : Option (Slot Held)
+  s : Option (HandleSlot HeldPin)
   s = Some (record { serial = old.given; value = m })
 
-  at : ℕ → Option (Slot Held)
+  at : ℕ → Option (HandleSlot HeldPin)
   at k = get_or (old.slots ++ Some (record { serial = old.given; value = m }) ∷ []) k None
 
-  Goal : Option (Slot Held) → Option (Slot Held) → Type 0
+  Goal : Option (HandleSlot HeldPin) → Option (HandleSlot HeldPin) → Type 0
   Goal new was = under other.serial new ≡ cond ((other.serial == old.given) && (other.key == length old.slots)) (Some m) (under other.serial was)
 
   by : (a : Bool) → ltb other.key (length old.slots) ≡ a → (b : Bool) → (other.key == length old.slots) ≡ b → Goal (get_or (old.slots ++ Some (record { serial = old.given; value = m }) ∷ []) other.key None) (get_or old.slots other.key None)
-  by true e b f = subst (λ (x : Option (Slot Held)). Goal x (get_or old.slots other.key None)) (sym (get_or_append_left old.slots (Some (record { serial = old.given; value = m }) ∷ []) None other.key (grind (arith, nat_tests)))) (apart (grind (arith, nat_tests))) where
+  by true e b f = subst (λ (x : Option (HandleSlot HeldPin)). Goal x (get_or old.slots other.key None)) (sym (get_or_append_left old.slots (Some (record { serial = old.given; value = m }) ∷ []) None other.key (grind (arith, nat_tests)))) (apart (grind (arith, nat_tests))) where
     apart : (other.key == length old.slots) ≡ false → Goal (get_or old.slots other.key None) (get_or old.slots other.key None)
     apart n = grind arith
   by false e true f = let here : length old.slots ≡ other.key = sym (eqb-true other.key (length old.slots) f) in
-      subst (λ (x : Option (Slot Held)). Goal x (get_or old.slots other.key None)) (sym (get_or_push old.slots (Some (record { serial = old.given; value = m })) None other.key here))
-      (subst (λ (x : Option (Slot Held)). Goal (Some (record { serial = old.given; value = m })) x) (sym (get_or_past old.slots other.key None (omega arith))) (new f))
+      subst (λ (x : Option (HandleSlot HeldPin)). Goal x (get_or old.slots other.key None)) (sym (get_or_push old.slots (Some (record { serial = old.given; value = m })) None other.key here))
+      (subst (λ (x : Option (HandleSlot HeldPin)). Goal (Some (record { serial = old.given; value = m })) x) (sym (get_or_past old.slots other.key None (omega arith))) (new f))
     where
       new : (other.key == length old.slots) ≡ true → Goal (Some (record { serial = old.given; value = m })) None
       new g = grind (arith, nat_tests)
   by false e false f = let more = length_push old.slots (Some (record { serial = old.given; value = m })) in let past : length old.slots + 1 ≤ other.key = grind (arith, nat_tests) in
-      subst (λ (x : Option (Slot Held)). Goal x (get_or old.slots other.key None)) (sym (get_or_past (old.slots ++ Some (record { serial = old.given; value = m }) ∷ []) other.key None (omega arith)))
-      (subst (λ (x : Option (Slot Held)). Goal None x) (sym (get_or_past old.slots other.key None (omega arith))) (none f))
+      subst (λ (x : Option (HandleSlot HeldPin)). Goal x (get_or old.slots other.key None)) (sym (get_or_past (old.slots ++ Some (record { serial = old.given; value = m }) ∷ []) other.key None (omega arith)))
+      (subst (λ (x : Option (HandleSlot HeldPin)). Goal None x) (sym (get_or_past old.slots other.key None (omega arith))) (none f))
     where
       none : (other.key == length old.slots) ≡ false → Goal None None
       none g = grind arith
 
-can-add : (old : HandleMap Held) (m : Held) → Adds old (added old m) (added_handle old) m
+can-add : (old : HandleMap HeldPin) (m : HeldPin) → Adds old (added old m) (added_handle old) m
 can-add old m = record {
   serial = refl;
   fresh = ap (under old.given) (get_or_past old.slots (length old.slots) None (omega arith));
   given = refl;
   updates = under-new old m;
-  count = sum_by_push (λ (x : Option (Slot Held)). cond (is_some x) 1 0) old.slots (Some (record { serial = old.given; value = m }));
+  count = sum_by_push (λ (x : Option (HandleSlot HeldPin)). cond (is_some x) 1 0) old.slots (Some (record { serial = old.given; value = m }));
 }
 
 -- a step on words
@@ -133,18 +133,18 @@ saw-nothing s h d (WriteBytes dom frame off len) a = refl
 saw-nothing s h d (CopyBytes from to len) a = refl
 saw-nothing s h d z a = absurd a
 
-giving-granted : (ps : List Held) (v : Verdict) → next_to_give ps Granted ≡ Done v → v ≡ Granted
+giving-granted : (ps : List HeldPin) (v : CallResult) → next_to_give ps Granted ≡ Done v → v ≡ Granted
 giving-granted [] v e = cc
 giving-granted (p ∷ ps) v e = cc
 
-last-granted : (r : Asked) (last : Step) (verdict : Verdict) → IsAccess last → Rattle.gt_core.specs.Phases.EndsAfter r last verdict → verdict ≡ Granted
+last-granted : (r : OpenRequest) (last : Step) (verdict : CallResult) → IsAccess last → Rattle.gt_core.specs.Phases.EndsAfter r last verdict → verdict ≡ Granted
 last-granted r (ReadBytes dom frame off len) verdict a e = e
 last-granted r (WriteBytes dom frame off len) verdict a e = e
 last-granted r (CopyBytes from to len) verdict a e = e
 last-granted r last verdict a e = absurd a
 
 -- a call that is over with its access ends with Ok
-access-granted : (s : Setting) (h : History) (d : DomId) (r : Asked) (so_far : List (Step × Seen)) (phase : Phase) (z : Step) (v : Verdict) → IsAccess z → action_at d phase ≡ Makes z
+access-granted : (s : Setting) (h : History) (d : DomId) (r : OpenRequest) (so_far : List (Step × Observation)) (phase : Phase) (z : Step) (v : CallResult) → IsAccess z → action_at d phase ≡ Makes z
     → PhaseStands s h d r so_far phase → action_at d (phase_after (known_at s h d) d phase Nothing) ≡ Done v → v ≡ Granted
 access-granted s h d r so_far (Accessing c source dest) z v a p place e = giving-granted (last_first (record { source = source; dest = dest })) v e
 access-granted s h d r so_far (Last last verdict) z v a p place e = let same : last ≡ z = makes-same last z p in
@@ -170,18 +170,18 @@ only-granted None e = absurd (none-some _ e)
 only-granted (Some (Makes z)) e = absurd (let f = same_Some _ _ e in let k : Makes (bare_step z) ≡ Done Granted = f in cc)
 only-granted (Some (Done v)) e = e
 
-bare-load : (r : Asked) (n : ℕ) → IsLoadOf (bare_asked r) n → IsLoadOf r n
+bare-load : (r : OpenRequest) (n : ℕ) → IsLoadOf (bare_asked r) n → IsLoadOf r n
 bare-load (Load handle off len) n a = a
 bare-load (Peek frame off len) n a = a
 bare-load r n a = grind arith
 
-load-bare : (r : Asked) (n : ℕ) → IsLoadOf r n → IsLoadOf (bare_asked r) n
+load-bare : (r : OpenRequest) (n : ℕ) → IsLoadOf r n → IsLoadOf (bare_asked r) n
 load-bare (Load handle off len) n a = a
 load-bare (Peek frame off len) n a = a
 load-bare r n a = grind arith
 
 -- a read that ends its call with Ok is told the bytes that its range held
-told : (s : Setting) (h : History) (d : DomId) (r : Asked) (dom : DomId) (frame off len : ℕ) (giving : Bool) (answer : Option Answer) (against : Option Denial) → IsLoadOf r len → AnsweredBy s h d r (Some (ReadBytes dom frame off len)) giving (Some Granted) answer against
+told : (s : Setting) (h : History) (d : DomId) (r : OpenRequest) (dom : DomId) (frame off len : ℕ) (giving : Bool) (answer : Option Answer) (against : Option Denial) → IsLoadOf r len → AnsweredBy s h d r (Some (ReadBytes dom frame off len)) giving (Some Granted) answer against
     → (b : Bytes) × (b.bytes.items ≡ take len (drop off (contents_at h dom.0 frame)))
 told s h d r dom frame off len giving None against is a = absurd a
 told s h d (Load handle o n) dom frame off len giving (Some (answers.Bytes b)) against is a = (b, a.2)
@@ -191,16 +191,16 @@ told s h d r dom frame off len giving (Some answer) against is a = absurd (grind
 -- a tick
 
 -- where the call is after its step, and the call there
-abbrev moved : Setting → List State → State → Open → Phase
+abbrev moved : Setting → List State → State → OpenCall → Phase
 moved s xs x o = standing_after (knowledge_of s.domains s.first_generation s.may x.own x.header x.mappings) o.call.caller o.call.request o.call.phase (sees xs x.id o.step)
 
-abbrev call_then : Setting → List State → State → Open → Call
+abbrev call_then : Setting → List State → State → OpenCall → Call
 call_then s xs x o = record { caller = o.call.caller; request = o.call.request; phase = Some (moved s xs x o) }
 
-abbrev action_then : Setting → List State → State → Open → Action
+abbrev action_then : Setting → List State → State → OpenCall → Action
 action_then s xs x o = action_at o.call.caller (moved s xs x o)
 
-goes-then : (s : Setting) (xs : List State) (x : State) (o : Open)
+goes-then : (s : Setting) (xs : List State) (x : State) (o : OpenCall)
     → Goes (knowledge_of s.domains s.first_generation s.may x.own x.header x.mappings) o.call (sees xs x.id o.step) (call_then s xs x o) (action_then s xs x o)
 goes-then s xs x o = continues (knowledge_of s.domains s.first_generation s.may x.own x.header x.mappings) o.call.caller o.call.request o.call.phase (sees xs x.id o.step) (Some (moved s xs x o)) (action_then s xs x o) refl refl
 
@@ -209,7 +209,7 @@ abbrev GoesOnLike : Setting → History → History → Item → Type 0
 GoesOnLike s h g i = (j : Item) × AreAlike s (i ∷ h) (j ∷ g) × CanBeReached s (j ∷ g)
 
 module _ (s : Setting) (h g : History) (alike : AreAlike s h g) (reached : CanBeReached s g) (x : State) (here : state_of reached.0.domains x.id.0 ≡ Some x) (a : StateStands s g x) (named : domain_of s.domains x.id ≢ None)
-    (c w : Underway) (o : Open) (call_h : open_call h x.id.0 ≡ Some c) (call_g : open_call g x.id.0 ≡ Some w) (b : OpenAgrees s g x.id o w) (z : Step) (seen : Seen) (answer : Option Answer) (right : StepsRight s h (stepped x.id z seen answer) z seen c) where
+    (c w : Underway) (o : OpenCall) (call_h : open_call h x.id.0 ≡ Some c) (call_g : open_call g x.id.0 ≡ Some w) (b : OpenAgrees s g x.id o w) (z : Step) (seen : Observation) (answer : Option Answer) (right : StepsRight s h (stepped x.id z seen answer) z seen c) where
   i : Item
   i = stepped x.id z seen answer
 
@@ -240,12 +240,12 @@ module _ (s : Setting) (h g : History) (alike : AreAlike s h g) (reached : CanBe
   calls = same_Some (bare_call c) (bare_call w) (sym ((bared h).open_calls x.id.0 ∙ ap (option_map bare_call) call_h) ∙ ap (λ (l : History). open_call l x.id.0) (bare-same h g alike.same) ∙ (bared g).open_calls x.id.0 ∙ ap (option_map bare_call) call_g)
 
   -- the path of the one goes on as that of the other
-  path-like : (v : Seen) → option_map bare_action (path (known_at s h x.id) x.id c.request (values c ++ v ∷ [])) ≡ option_map bare_action (path (known_at s g x.id) x.id w.request (values w ++ v ∷ []))
+  path-like : (v : Observation) → option_map bare_action (path (known_at s h x.id) x.id c.request (values c ++ v ∷ [])) ≡ option_map bare_action (path (known_at s g x.id) x.id w.request (values w ++ v ∷ []))
   path-like v = sym (path-at s h x.id c.request (values c ++ v ∷ []) alike.first (subst (CallKnown h x.id.0) call_h (open-known s h x.id.0 alike.first)))
-      ∙ ap (λ (vs : List Seen). option_map bare_action (path (known_at s (bare h) x.id) x.id (bare_asked c.request) (vs ++ v ∷ []))) (sym (values-bare c))
+      ∙ ap (λ (vs : List Observation). option_map bare_action (path (known_at s (bare h) x.id) x.id (bare_asked c.request) (vs ++ v ∷ []))) (sym (values-bare c))
       ∙ ap (λ (l : History). option_map bare_action (path (known_at s l x.id) x.id (bare_call c).request (values (bare_call c) ++ v ∷ []))) (bare-same h g alike.same)
       ∙ ap (λ (u : Underway). option_map bare_action (path (known_at s (bare g) x.id) x.id u.request (values u ++ v ∷ []))) calls
-      ∙ ap (λ (vs : List Seen). option_map bare_action (path (known_at s (bare g) x.id) x.id (bare_asked w.request) (vs ++ v ∷ []))) (values-bare w)
+      ∙ ap (λ (vs : List Observation). option_map bare_action (path (known_at s (bare g) x.id) x.id (bare_asked w.request) (vs ++ v ∷ []))) (values-bare w)
       ∙ path-at s g x.id w.request (values w ++ v ∷ []) alike.second (subst (CallKnown g x.id.0) call_g (open-known s g x.id.0 alike.second))
 
   same-contents : (t f : ℕ) → contents_at h t f ≡ contents_at g t f
@@ -256,9 +256,9 @@ module _ (s : Setting) (h g : History) (alike : AreAlike s h g) (reached : CanBe
       → (y : Answer) × TellsAccess g (ReadBytes dom frame off len) y
   read-told dom frame off len is ends = let read : z ≡ ReadBytes dom frame off len = unbare-read z dom frame off len (same ∙ ap bare_step is) in
       let nothing : seen ≡ Nothing = right.sees ∙ ap (λ (y : Step). seen_by s h x.id y) read in
-      let over : next_in s h x.id c seen ≡ Some (Done Granted) = ap (λ (v : Seen). path (known_at s h x.id) x.id c.request (values c ++ v ∷ [])) nothing ∙ only-granted _ (path-like Nothing ∙ ap (option_map bare_action) ends) in
+      let over : next_in s h x.id c seen ≡ Some (Done Granted) = ap (λ (v : Observation). path (known_at s h x.id) x.id c.request (values c ++ v ∷ [])) nothing ∙ only-granted _ (path-like Nothing ∙ ap (option_map bare_action) ends) in
       let readable : IsReadable reached.0.frames o.call (ReadBytes dom frame off len) = subst (IsReadable reached.0.frames o.call) is (open-readable s g reached.0.domains reached.0.frames x o w reached.1.domains reached.1.frames b) in
-      let load : IsLoadOf c.request len = bare-load c.request len (subst (λ (u : Underway). IsLoadOf u.request len) (sym calls) (load-bare w.request len (subst (λ (q : Asked). IsLoadOf q len) b.asks readable.1))) in
+      let load : IsLoadOf c.request len = bare-load c.request len (subst (λ (u : Underway). IsLoadOf u.request len) (sym calls) (load-bare w.request len (subst (λ (q : OpenRequest). IsLoadOf q len) b.asks readable.1))) in
       let answered = subst (λ (y : Step). AnsweredBy s h x.id c.request (Some y) (gives_back (next_in s h x.id c seen)) (verdict_in (next_in s h x.id c seen)) answer (stood s (stepped x.id z seen answer ∷ h) x.id.0)) read right.answered in
       let t = told s h x.id c.request dom frame off len false answer (stood s (stepped x.id z seen answer ∷ h) x.id.0) load (subst (λ (p : Option Action). AnsweredBy s h x.id c.request (Some (ReadBytes dom frame off len)) (gives_back p) (verdict_in p) answer (stood s (stepped x.id z seen answer ∷ h) x.id.0)) over answered) in
       let size : off + len - off ≡ len = omega arith in
@@ -270,16 +270,16 @@ module _ (s : Setting) (h g : History) (alike : AreAlike s h g) (reached : CanBe
   access-told (CopyBytes from to len) is access ends = (answers.Done, refl)
   access-told y is access ends = absurd access
 
-  access-so : (p : Action) → IsAccess o.step → path (known_at s g x.id) x.id w.request (values w ++ Nothing ∷ []) ≡ Some p → ((v : Verdict) → p ≡ Done v → v ≡ Granted) → (ans : Option Answer) × AccessAnsweredSo g o.step p ans
+  access-so : (p : Action) → IsAccess o.step → path (known_at s g x.id) x.id w.request (values w ++ Nothing ∷ []) ≡ Some p → ((v : CallResult) → p ≡ Done v → v ≡ Granted) → (ans : Option Answer) × AccessAnsweredSo g o.step p ans
   access-so (Makes next) access ends only = (None, refl)
   access-so (Done Granted) access ends only = let t = access-told o.step refl access ends in (Some t.0, (t.0, refl, t.1))
   access-so (Done v) access ends only = absurd (let e = only v refl in cc)
 
   on-access : IsAccess o.step → GoesOnLike s h g (stepped x.id z seen answer)
   on-access access = let nothing = saw-nothing s g x.id o.step access in
-      let ends : path (known_at s g x.id) x.id w.request (values w ++ Nothing ∷ []) ≡ Some (action_then s reached.0.domains x o) = ap (λ (v : Seen). path (known_at s g x.id) x.id w.request (values w ++ v ∷ [])) (sym nothing) ∙ next in
-      let only : (v : Verdict) → action_then s reached.0.domains x o ≡ Done v → v ≡ Granted = λ v e. access-granted s g x.id w.request (reverse w.steps) ticked.1.stands.phase o.step v access ticked.1.stands.acts ticked.1.stands.place
-      (ap (λ (u : Seen). action_at x.id (phase_after (known_at s g x.id) x.id ticked.1.stands.phase u)) (sym nothing) ∙ sym ticked.1.acts ∙ e) in
+      let ends : path (known_at s g x.id) x.id w.request (values w ++ Nothing ∷ []) ≡ Some (action_then s reached.0.domains x o) = ap (λ (v : Observation). path (known_at s g x.id) x.id w.request (values w ++ v ∷ [])) (sym nothing) ∙ next in
+      let only : (v : CallResult) → action_then s reached.0.domains x o ≡ Done v → v ≡ Granted = λ v e. access-granted s g x.id w.request (reverse w.steps) ticked.1.stands.phase o.step v access ticked.1.stands.acts ticked.1.stands.place
+      (ap (λ (u : Observation). action_at x.id (phase_after (known_at s g x.id) x.id ticked.1.stands.phase u)) (sym nothing) ∙ sym ticked.1.acts ∙ e) in
       let so = access-so (action_then s reached.0.domains x o) access ends only in
       joined so.0 (open-calls-can-access s g x.id w o.step (action_then s reached.0.domains x o) so.0 reached named call_g b.follows access ends so.1)
 
@@ -289,15 +289,15 @@ module _ (s : Setting) (h g : History) (alike : AreAlike s h g) (reached : CanBe
     by (inl quiet) = on-words quiet
     by (inr access) = on-access access
 
-tick-home : (s : Setting) (h g : History) (x : State) (i : Item) (z : Step) (seen : Seen) (alike : AreAlike s h g) (reached : CanBeReached s g) → state_of reached.0.domains x.id.0 ≡ Some x → StateStands s g x → domain_of s.domains x.id ≢ None
-    → (u w : Option Underway) → open_call h x.id.0 ≡ u → open_call g x.id.0 ≡ w → (o : Option Open) → CallAgrees s g x.id o w → StepsRightIn s h (stepped x.id z seen i.answer) z seen u → GoesOnLike s h g (stepped x.id z seen i.answer)
+tick-home : (s : Setting) (h g : History) (x : State) (i : Item) (z : Step) (seen : Observation) (alike : AreAlike s h g) (reached : CanBeReached s g) → state_of reached.0.domains x.id.0 ≡ Some x → StateStands s g x → domain_of s.domains x.id ≢ None
+    → (u w : Option Underway) → open_call h x.id.0 ≡ u → open_call g x.id.0 ≡ w → (o : Option OpenCall) → CallAgrees s g x.id o w → StepsRightIn s h (stepped x.id z seen i.answer) z seen u → GoesOnLike s h g (stepped x.id z seen i.answer)
 tick-home s h g x i z seen alike reached here a named None w hu gw o b right = absurd right
 tick-home s h g x i z seen alike reached here a named (Some c) None hu gw o b right =
     absurd (none-some (bare_call c) (sym (sym ((bared h).open_calls x.id.0 ∙ ap (option_map bare_call) hu) ∙ ap (λ (l : History). open_call l x.id.0) (bare-same h g alike.same) ∙ (bared g).open_calls x.id.0 ∙ ap (option_map bare_call) gw)))
 tick-home s h g x i z seen alike reached here a named (Some c) (Some w) hu gw None b right = absurd b
 tick-home s h g x i z seen alike reached here a named (Some c) (Some w) hu gw (Some o) b right = goes-on s h g alike reached x here a named c w o hu gw b z seen i.answer right
 
-pub tick-like : (s : Setting) (h g : History) (i : Item) (z : Step) (seen : Seen) → AreAlike s h g → CanBeReached s g → IsInRun s i.actor → IsRight s h i → i.happened ≡ Stepped z seen → GoesOnLike s h g i
+pub tick-like : (s : Setting) (h g : History) (i : Item) (z : Step) (seen : Observation) → AreAlike s h g → CanBeReached s g → IsInRun s i.actor → IsRight s h i → i.happened ≡ Stepped z seen → GoesOnLike s h g i
 tick-like s h g i z seen alike reached run right is =
     let st = reached.1.domains in let xs = reached.0.domains in
     let some : state_of xs i.actor.0 ≢ None = λ e. run (subst (StateAgrees s g i.actor) e (st.each i.actor)) in
@@ -344,7 +344,7 @@ record Renamed (g : History) (d : DomId) (request : Request) : Type 0 where
   pub same : bare_request request' ≡ bare_request request
   pub known : AsksKnown g d.0 (asked request')
   pub fits : FitsAsked (asked request) → FitsAsked (asked request')
-  pub said : (header : Header) → IsSaid header request → IsSaid header request'
+  pub said : (header : Header) → SpellsItsEntry header request → SpellsItsEntry header request'
 
 renamed : (s : Setting) (h g : History) (d : DomId) (request : Request) → AreAlike s h g → AsksKnown h d.0 (asked request) → Renamed g d request
 renamed s h g d (requests.Unmap handle) alike known = let r = known-like s h g d.0 handle alike known in
@@ -355,7 +355,7 @@ renamed s h g d (requests.Store handle off bytes) alike known = let r = known-li
     record { request' = requests.Store r.0 off bytes; same = ap (λ (a : Handle). requests.Store a off (bare_bytes bytes)) r.1; known = r.2; fits = λ f. tt; said = λ x f. f }
 renamed s h g d request alike known = record { request' = request; same = refl; known = tt; fits = λ f. f; said = λ x f. f }
 
-begun-bare : (k : CallerKnowledge) (found : Handle → Option Held) (d : DomId) (q : Request) → FindsSame found k.mapping (asked q) → begun_of (record k { mapping = found }) d (bare_request q) ≡ begun_of k d q
+begun-bare : (k : CallerKnowledge) (found : Handle → Option HeldPin) (d : DomId) (q : Request) → FindsSame found k.mapping (asked q) → begun_of (record k { mapping = found }) d (bare_request q) ≡ begun_of k d q
 begun-bare k found d q same = grind arith
 
 begun-at : (s : Setting) (h : History) (d : DomId) (q : Request) → IsRun s h → AsksKnown h d.0 (asked q) → begun_of (known_at s (bare h) d) d (bare_request q) ≡ begun_of (known_at s h d) d q
@@ -363,7 +363,7 @@ begun-at s h d q run k = ap (λ (z : CallerKnowledge). begun_of z d (bare_reques
     ∙ begun-bare (known_at s h d) (mapping_of (mappings_at (bare h) d.0)) d q (finds-same s h d (asked q) run k)
 
 began-is : (i : Item) (d : DomId) (request : Request) → i.actor ≡ d → i.happened ≡ Began request → i ≡ began d request i.answer
-began-is i d request a b = ap (λ (x : DomId). record { actor = x; happened = i.happened; answer = i.answer }) a ∙ ap (λ (x : Happened). record { actor = d; happened = x; answer = i.answer }) b
+began-is i d request a b = ap (λ (x : DomId). record { actor = x; happened = i.happened; answer = i.answer }) a ∙ ap (λ (x : ItemEvent). record { actor = d; happened = x; answer = i.answer }) b
 
 place-of : (xs : List State) (d : ℕ) (x : State) → state_of xs d ≡ Some x → (at : ℕ) × (position (has_id d) xs ≡ Some at) × (x ≡ get_or xs at x)
 place-of xs d x is = by (position (has_id d) xs) refl where
@@ -371,7 +371,7 @@ place-of xs d x is = by (position (has_id d) xs) refl where
   by None e = absurd (none-some x (sym (not-found xs d e) ∙ is))
   by (Some at) e = (at, e, same_Some x (get_or xs at x) (sym is ∙ found xs d at x e))
 
-at-rest : (s : Setting) (g : History) (d : DomId) (o : Option Open) (w : Option Underway) → CallAgrees s g d o w → w ≡ None → is_some o ≡ false
+at-rest : (s : Setting) (g : History) (d : DomId) (o : Option OpenCall) (w : Option Underway) → CallAgrees s g d o w → w ≡ None → is_some o ≡ false
 at-rest s g d None w a e = refl
 at-rest s g d (Some o) None a e = absurd a
 at-rest s g d (Some o) (Some w) a e = absurd (none-some w (sym e))
@@ -406,12 +406,12 @@ module _ (s : Setting) (h g : History) (alike : AreAlike s h g) (reached : CanBe
   -- no rule answers it
   begin-opens : begun_of (known_at s g d) d (renamed s h g d request alike known).request' ≡ None → (a : Option Answer) → answer ≡ a → GoesOnLike s h g (began d request answer)
   begin-opens none None e = begin-joined _ (calls-can-begin s g d (renamed s h g d request alike known).request' reached run closed ((renamed s h g d request alike known).fits fits)
-      ((renamed s h g d request alike known).said (table_at s g d) (subst (λ (x : Header). IsSaid x request) same-table (right.2 e))))
-  begin-opens none (Some y) e = absurd (subst (λ (v : Option Verdict). AnsweredBy s h d (asked request) None false v (Some y) (stood s (began d request answer ∷ h) d.0)) (sym begun-same ∙ none)
+      ((renamed s h g d request alike known).said (table_at s g d) (subst (λ (x : Header). SpellsItsEntry x request) same-table (right.2 e))))
+  begin-opens none (Some y) e = absurd (subst (λ (v : Option CallResult). AnsweredBy s h d (asked request) None false v (Some y) (stood s (began d request answer ∷ h) d.0)) (sym begun-same ∙ none)
       (subst (λ (a : Option Answer). AnsweredBy s h d (asked request) None false (begun_of (known_at s h d) d request) a (stood s (began d request answer ∷ h) d.0)) e right.1))
 
   -- a rule answers it
-  begin-ends : (v : Verdict) → begun_of (known_at s g d) d (renamed s h g d request alike known).request' ≡ Some v → GoesOnLike s h g (began d request answer)
+  begin-ends : (v : CallResult) → begun_of (known_at s g d) d (renamed s h g d request alike known).request' ≡ Some v → GoesOnLike s h g (began d request answer)
   begin-ends v is = let q = (renamed s h g d request alike known).request' in let core = reached.0 in let st = reached.1 in
       let some : state_of core.domains d.0 ≢ None = λ e. run (subst (StateAgrees s g d) e (st.domains.each d)) in
       let t = state-there s g core.domains d st.domains some in let x = t.0 in let p = place-of core.domains d.0 x t.1 in
@@ -432,7 +432,7 @@ module _ (s : Setting) (h g : History) (alike : AreAlike s h g) (reached : CanBe
 
   begin-home : GoesOnLike s h g (began d request answer)
   begin-home = by (begun_of (known_at s g d) d (renamed s h g d request alike known).request') refl where
-    by : (v : Option Verdict) → begun_of (known_at s g d) d (renamed s h g d request alike known).request' ≡ v → GoesOnLike s h g (began d request answer)
+    by : (v : Option CallResult) → begun_of (known_at s g d) d (renamed s h g d request alike known).request' ≡ v → GoesOnLike s h g (began d request answer)
     by None e = begin-opens e answer refl
     by (Some v) e = begin-ends v e
 
@@ -442,7 +442,7 @@ begin-like s h g i request alike reached run right is known fits = let same = be
 
 -- each item
 
-item-like : (s : Setting) (h g : History) (i : Item) (x : Happened) → i.happened ≡ x → AreAlike s h g → CanBeReached s g → IsInRun s i.actor → IsRight s h i → HappensKnown h i → AsksFit x → GoesOnLike s h g i
+item-like : (s : Setting) (h g : History) (i : Item) (x : ItemEvent) → i.happened ≡ x → AreAlike s h g → CanBeReached s g → IsInRun s i.actor → IsRight s h i → HappensKnown h i → AsksFit x → GoesOnLike s h g i
 item-like s h g i (Stepped z seen) is alike reached run right known fits = tick-like s h g i z seen alike reached run right is
 item-like s h g i (Began request) is alike reached run right known fits = begin-like s h g i request alike reached run right is
     (let same = began-is i i.actor request refl is in subst (HappensKnown h) same known) fits

@@ -4,35 +4,35 @@ use Rattle.std.proofs.Common.{ap}
 use Rattle.std.proofs.Common.{◌∙◌, min}
 use Rattle.gt_types.specs.declared.limits.TheConstants.{LAST_GENERATION}
 use Rattle.gt_entry.specs.declared.entry.Entry.TheVariants.{Invalid}
-use Rattle.gt_entry.specs.declared.change.Change.{Change}
+use Rattle.gt_entry.specs.declared.change.EntryChange.{EntryChange}
 use Rattle.gt_entry.specs.Changes.{changed_entry, raise_of}
-use Rattle.gt_calls.specs.declared.known.Own.{Own}
+use Rattle.gt_calls.specs.declared.known.OwnerEntry.{OwnerEntry}
 use Rattle.gt_calls.specs.Changes.{own_after}
 use Rattle.gt_calls.specs.Rules.{entry_in, own_generation}
 use Rattle.gt_world.specs.Rows.{OwnBecomes}
 use Rattle.std.proofs.lemmas.Bool.{eqb-true}
 
 -- the row of an untouched entry
-pub record IsUntouched (first : ℕ) (u : Own) : Type 0 where
+pub record IsUntouched (first : ℕ) (u : OwnerEntry) : Type 0 where
   pub entry : u.entry ≡ Invalid
   pub generation : u.generation ≡ min first LAST_GENERATION
 
-entry-row : (own : List Own) (r first : ℕ) (u : Own) → IsUntouched first u → entry_in own r ≡ (get_or own r u).entry
+entry-row : (own : List OwnerEntry) (r first : ℕ) (u : OwnerEntry) → IsUntouched first u → entry_in own r ≡ (get_or own r u).entry
 entry-row [] r first u a = sym a.entry
 entry-row (o ∷ os) zero first u a = refl
 entry-row (o ∷ os) (suc r) first u a = entry-row os r first u a
 
-generation-row : (own : List Own) (r first : ℕ) (u : Own) → IsUntouched first u → own_generation first own r ≡ (get_or own r u).generation
+generation-row : (own : List OwnerEntry) (r first : ℕ) (u : OwnerEntry) → IsUntouched first u → own_generation first own r ≡ (get_or own r u).generation
 generation-row [] r first u a = sym a.generation
 generation-row (o ∷ os) zero first u a = refl
 generation-row (o ∷ os) (suc r) first u a = generation-row os r first u a
 
 -- a row is written over
-pub own-becomes : (first at : ℕ) (old new : List Own) (change : Change) (u was : Own) → IsUntouched first u → was.entry ≡ entry_in old at → was.generation ≡ own_generation first old at
+pub own-becomes : (first at : ℕ) (old new : List OwnerEntry) (change : EntryChange) (u was : OwnerEntry) → IsUntouched first u → was.entry ≡ entry_in old at → was.generation ≡ own_generation first old at
     → ((k : ℕ) → get_or new k u ≡ cond (at == k) (own_after change was) (get_or old k u)) → OwnBecomes first old new at change
 own-becomes first at old new change u was a e g each = record {
-  entries = λ r. entry-row new r first u a ∙ ap (λ (o : Own). o.entry) (each r) ∙ entries (at == r) r refl;
-  generations = λ r. generation-row new r first u a ∙ ap (λ (o : Own). o.generation) (each r) ∙ generations (at == r) r refl;
+  entries = λ r. entry-row new r first u a ∙ ap (λ (o : OwnerEntry). o.entry) (each r) ∙ entries (at == r) r refl;
+  generations = λ r. generation-row new r first u a ∙ ap (λ (o : OwnerEntry). o.generation) (each r) ∙ generations (at == r) r refl;
 } where
   entries : (b : Bool) (r : ℕ) → (at == r) ≡ b → (cond b (own_after change was) (get_or old r u)).entry ≡ cond b (changed_entry change (entry_in old r)) (entry_in old r)
   entries true r k = ap (changed_entry change) (e ∙ ap (entry_in old) (eqb-true at r k))

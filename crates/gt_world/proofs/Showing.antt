@@ -3,17 +3,17 @@ use Rattle.gt_core.proofs.Words.{◌≡◌, ◌≢◌, ◌<◌, ◌≤◌, ◌+�
 use Rattle.gt_core.proofs.Words.{◌%◌}
 use Rattle.gt_core.proofs.Words.{cond, sym, ap, ◌∙◌, arith, subst, ◌==◌, ◌&&◌, slice_get, eqb-true, eq-eqb, min, DomId}
 use Rattle.gt_core.proofs.Words.{Dir}
-use Rattle.gt_core.proofs.Words.{Read, Write, MAX_PINS, LAST_GENERATION, Half, FirstHalf, SecondHalf, Held, Holder}
+use Rattle.gt_core.proofs.Words.{Read, Write, MAX_PINS, LAST_GENERATION, BodyWord, FirstHalf, SecondHalf, HeldPin, PinHolder}
 use Rattle.gt_core.proofs.Words.{Header, GrantRef}
-use Rattle.gt_core.proofs.Words.{Seen, Taken, Step, PinStep, Unpin, StoreBody, StoreHeader, Exchange}
-use Rattle.gt_core.proofs.Words.{Change, History, Setting, live, entry_at}
+use Rattle.gt_core.proofs.Words.{Observation, Taken, Step, PinStep, Unpin, StoreBody, StoreHeader, Exchange}
+use Rattle.gt_core.proofs.Words.{EntryChange, History, Setting, live, entry_at}
 use Rattle.gt_core.proofs.Words.{raises_at, generation_at, body_at, table_at, is_pin_on, same_dir, without, count_by}
 use Rattle.gt_core.proofs.Words.{raise_of, raise_after, changed_entry_of, header_stored, header_or, stored_at}
 use Rattle.gt_core.proofs.Words.{DomainConfig, false≢true, Pin, pinned_by, unpinned_by, append-nil, ◌++◌, Config}
 use Rattle.gt_core.specs.Prelude.{Request}
 use Rattle.gt_core.specs.declared.trace.Answer.{Answer}
-use Rattle.gt_core.specs.declared.trace.Happened.{Happened}
-use Rattle.gt_core.specs.declared.trace.Happened.TheVariants.{Began, Stepped}
+use Rattle.gt_core.specs.declared.trace.ItemEvent.{ItemEvent}
+use Rattle.gt_core.specs.declared.trace.ItemEvent.TheVariants.{Began, Stepped}
 use Rattle.gt_core.specs.declared.trace.Item.{Item}
 use Rattle.gt_core.proofs.{Steps.Observers.kept-entry, Steps.Observers.kept-raises, Steps.Observers.kept-table}
 use Rattle.gt_core.proofs.{Steps.Observers.unstored}
@@ -33,7 +33,7 @@ use Rattle.gt_world.specs.Tables.{CountsChangeOf, HeaderStored, OneBecomes, OwnC
 use Rattle.gt_core.specs.declared.pin_counts.PinCounts.{PinCounts}
 use Rattle.gt_core.specs.declared.pin_counts.CountsChange.{CountsChange}
 use Rattle.gt_core.specs.declared.pin_counts.CountsChange.TheVariants.{Pinned, Unpinned, Stored}
-use Rattle.gt_world.specs.declared.table.Table.{Table}
+use Rattle.gt_world.specs.declared.table.SparseTable.{SparseTable}
 use Rattle.gt_world.proofs.Becoming.{placed, numbered}
 use Rattle.std.specs.Prelude.{AllPairs}
 
@@ -43,16 +43,16 @@ use Rattle.std.specs.Prelude.{AllPairs}
 abbrev Moves : History → History → ℕ → ℕ → CountsChange → Type 0
 Moves h new t r change = (u q : ℕ) (c : PinCounts) → CountsShow h u q c → CountsShow new u q (cond ((t == u) && (r == q)) (slot_after change c) c)
 
-counted-up : (h new : History) (u q : ℕ) (dir : Dir) (b : Bool) (c : PinCounts) → CountsShow h u q c → ((which : Half) → body_at new u q which ≡ body_at h u q which)
+counted-up : (h new : History) (u q : ℕ) (dir : Dir) (b : Bool) (c : PinCounts) → CountsShow h u q c → ((which : BodyWord) → body_at new u q which ≡ body_at h u q which)
     → ((k : Dir) → pins_at new u q k ≡ pins_at h u q k + cond (b && same_dir dir k) 1 0) → ((k : Dir) → (b && same_dir dir k) ≡ true → pins_at h u q k < MAX_PINS)
     → CountsShow new u q (cond b (slot_after (Pinned dir) c) c)
 counted-up h new u q dir b c a body now few = grind (arith, now Read, now Write, few Read, few Write, body FirstHalf, body SecondHalf)
 
-counted-down : (h new : History) (u q : ℕ) (dir : Dir) (b : Bool) (c : PinCounts) → CountsShow h u q c → ((which : Half) → body_at new u q which ≡ body_at h u q which)
+counted-down : (h new : History) (u q : ℕ) (dir : Dir) (b : Bool) (c : PinCounts) → CountsShow h u q c → ((which : BodyWord) → body_at new u q which ≡ body_at h u q which)
     → ((k : Dir) → pins_at h u q k ≡ cond (b && same_dir dir k) 1 0 + pins_at new u q k) → CountsShow new u q (cond b (slot_after (Unpinned dir) c) c)
 counted-down h new u q dir b c a body now = grind (arith, now Read, now Write, body FirstHalf, body SecondHalf)
 
-counts-kept : (h new : History) (u q : ℕ) (c : PinCounts) → ((which : Half) → body_at new u q which ≡ body_at h u q which) → live new ≡ live h → CountsShow h u q c → CountsShow new u q c
+counts-kept : (h new : History) (u q : ℕ) (c : PinCounts) → ((which : BodyWord) → body_at new u q which ≡ body_at h u q which) → live new ≡ live h → CountsShow h u q c → CountsShow new u q c
 counts-kept h new u q c body same a = record {
   reads = a.reads ∙ ap (λ ps. count_by (is_pin_on u q Read) ps) (sym same);
   writes = a.writes ∙ ap (λ ps. count_by (is_pin_on u q Write) ps) (sym same);
@@ -67,22 +67,22 @@ full h t r u q Write Write few e = grind (arith, eqb-true)
 full h t r u q Read Write few e = grind arith
 full h t r u q Write Read few e = grind arith
 
-moves-up : (s : Setting) (h : History) (d : DomId) (p : Held) (answer : Option Answer) → pins_at h p.dom.0 p.gref.0 p.dir < MAX_PINS → Moves h (stepped d (PinStep p) Taken answer ∷ h) p.dom.0 p.gref.0 (Pinned p.dir)
+moves-up : (s : Setting) (h : History) (d : DomId) (p : HeldPin) (answer : Option Answer) → pins_at h p.dom.0 p.gref.0 p.dir < MAX_PINS → Moves h (stepped d (PinStep p) Taken answer ∷ h) p.dom.0 p.gref.0 (Pinned p.dir)
 moves-up s h d p answer few = λ u q c a. let i = stepped d (PinStep p) Taken answer in
     counted-up h (i ∷ h) u q p.dir ((p.dom.0 == u) && (p.gref.0 == q)) c a (λ which. unstored i h u q which refl)
     (λ k. grown-count h i (new_pin h d p answer) u q k (pinned-live h d p answer)) (λ k e. full h p.dom.0 p.gref.0 u q p.dir k few e)
 
-moves-down : (s : Setting) (h : History) (d : DomId) (p : Held) (holder : Holder) (seen : Seen) (answer : Option Answer) → LosesOne p (live h) (without d.0 holder (live h))
+moves-down : (s : Setting) (h : History) (d : DomId) (p : HeldPin) (holder : PinHolder) (seen : Observation) (answer : Option Answer) → LosesOne p (live h) (without d.0 holder (live h))
     → Moves h (stepped d (Unpin p holder) seen answer ∷ h) p.dom.0 p.gref.0 (Unpinned p.dir)
 moves-down s h d p holder seen answer loses = λ u q c a. let i = stepped d (Unpin p holder) seen answer in
     counted-down h (i ∷ h) u q p.dir ((p.dom.0 == u) && (p.gref.0 == q)) c a (λ which. unstored i h u q which refl)
     (λ k. loses u q k ∙ ap (λ ps. cond (((p.dom.0 == u) && (p.gref.0 == q)) && same_dir p.dir k) 1 0 + count_by (is_pin_on u q k) ps) (sym (unpinned-live h d p holder seen answer)))
 
-stores-known : (d : DomId) (gref : GrantRef) (half : Half) (word : ℕ) (seen : Seen) (answer : Option Answer) (h : History) → live (stepped d (StoreBody gref half word) seen answer ∷ h) ≡ live h
+stores-known : (d : DomId) (gref : GrantRef) (half : BodyWord) (word : ℕ) (seen : Observation) (answer : Option Answer) (h : History) → live (stepped d (StoreBody gref half word) seen answer ∷ h) ≡ live h
 unfolding live
 stores-known d gref half word seen answer h = append-nil (live h)
 
-moves-stored : (d : DomId) (gref : GrantRef) (half : Half) (word : ℕ) (seen : Seen) (answer : Option Answer) (h : History) → Moves h (stepped d (StoreBody gref half word) seen answer ∷ h) d.0 gref.0 (Stored half word)
+moves-stored : (d : DomId) (gref : GrantRef) (half : BodyWord) (word : ℕ) (seen : Observation) (answer : Option Answer) (h : History) → Moves h (stepped d (StoreBody gref half word) seen answer ∷ h) d.0 gref.0 (Stored half word)
 unfolding body_at
 moves-stored d gref half word seen answer h = λ u q c a. grind (arith, stores-known d gref half word seen answer h)
 
@@ -93,11 +93,11 @@ record KeepsTables (i : Item) : Type 0 where
   pub changes : KeepsAll i
   pub header : header_stored i.happened ≡ None
 
-module _ (s : Setting) (c-apart : AllPairs (λ d e. d.id.0 ≢ e.id.0) s.domains) (h : History) (old new : List Table) (shows : TablesShow s h old) where
+module _ (s : Setting) (c-apart : AllPairs (λ d e. d.id.0 ≢ e.id.0) s.domains) (h : History) (old new : List SparseTable) (shows : TablesShow s h old) where
   -- the counts of one entry change
   counts-shown : (i : Item) (place : Option ℕ) (t r : ℕ) (change : CountsChange) → place ≡ place_of_domain s.domains t → KeepsTables i → Moves h (i ∷ h) t r change → OneBecomes place (CountsChangeOf r change) old new → TablesShow s (i ∷ h) new
   counts-shown i place t r change is keeps moves becomes = record { many = becomes.many ∙ shows.many; each = λ k d x at here. by k d x at (becomes.each k x here) } where
-    shown : (d : DomainConfig) (y x : Table) → TableShows s h d.id y → x.header ≡ y.header → x.own.items ≡ y.own.items
+    shown : (d : DomainConfig) (y x : SparseTable) → TableShows s h d.id y → x.header ≡ y.header → x.own.items ≡ y.own.items
         → ((q : ℕ) → counts_in x.counts.items q ≡ cond ((t == d.id.0) && (r == q)) (slot_after change (counts_in y.counts.items q)) (counts_in y.counts.items q)) → TableShows s (i ∷ h) d.id x
     shown d y x a header own counts = record {
       header = header ∙ a.header ∙ sym (kept-table s i h d.id keeps.header);
@@ -106,7 +106,7 @@ module _ (s : Setting) (c-apart : AllPairs (λ d e. d.id.0 ≢ e.id.0) s.domains
       counts = λ q. subst (CountsShow (i ∷ h) d.id.0 q) (sym (counts q)) (moves d.id.0 q (counts_in y.counts.items q) (a.counts q));
     }
 
-    by : (k : ℕ) (d : DomainConfig) (x : Table) → slice_get s.domains k ≡ Some d → (y : Table) × (slice_get old k ≡ Some y) × (place ≡ Some k → CountsChangeOf r change y x) × (place ≢ Some k → x ≡ y) → TableShows s (i ∷ h) d.id x
+    by : (k : ℕ) (d : DomainConfig) (x : SparseTable) → slice_get s.domains k ≡ Some d → (y : SparseTable) × (slice_get old k ≡ Some y) × (place ≡ Some k → CountsChangeOf r change y x) × (place ≢ Some k → x ≡ y) → TableShows s (i ∷ h) d.id x
     by k d x at (y, was, here, there) = cases (t == d.id.0) refl where
       counts : (b : Bool) → (q : ℕ) → CountsChangeOf r change y x → (r == q) ≡ b
           → cond b (slot_after change (counts_in y.counts.items r)) (counts_in y.counts.items q) ≡ cond b (slot_after change (counts_in y.counts.items q)) (counts_in y.counts.items q)
@@ -118,13 +118,13 @@ module _ (s : Setting) (c-apart : AllPairs (λ d e. d.id.0 ≢ e.id.0) s.domains
           shown d y x (shows.each k d y at was) z.header z.own
           (λ q. z.counts q ∙ counts (r == q) q z refl ∙ ap (λ (b : Bool). cond (b && (r == q)) (slot_after change (counts_in y.counts.items q)) (counts_in y.counts.items q)) (sym e))
       cases false e = let same = there (λ f. false≢true (sym e ∙ eq-eqb t d.id.0 (sym (numbered s.domains t k d (sym is ∙ f) at)))) in
-          shown d y x (shows.each k d y at was) (ap (λ (z : Table). z.header) same) (ap (λ (z : Table). z.own.items) same)
-          (λ q. ap (λ (z : Table). counts_in z.counts.items q) same ∙ ap (λ (b : Bool). cond (b && (r == q)) (slot_after change (counts_in y.counts.items q)) (counts_in y.counts.items q)) (sym e))
+          shown d y x (shows.each k d y at was) (ap (λ (z : SparseTable). z.header) same) (ap (λ (z : SparseTable). z.own.items) same)
+          (λ q. ap (λ (z : SparseTable). counts_in z.counts.items q) same ∙ ap (λ (b : Bool). cond (b && (r == q)) (slot_after change (counts_in y.counts.items q)) (counts_in y.counts.items q)) (sym e))
 
   -- nothing of the tables changes
-  kept-shown : (i : Item) → KeepsTables i → live (i ∷ h) ≡ live h → ((u q : ℕ) (which : Half) → body_at (i ∷ h) u q which ≡ body_at h u q which) → new ≡ old → TablesShow s (i ∷ h) new
+  kept-shown : (i : Item) → KeepsTables i → live (i ∷ h) ≡ live h → ((u q : ℕ) (which : BodyWord) → body_at (i ∷ h) u q which ≡ body_at h u q which) → new ≡ old → TablesShow s (i ∷ h) new
   kept-shown i keeps same body is = subst (TablesShow s (i ∷ h)) (sym is) (record { many = shows.many; each = λ k d x at here. by d x (shows.each k d x at here) }) where
-    by : (d : DomainConfig) (x : Table) → TableShows s h d.id x → TableShows s (i ∷ h) d.id x
+    by : (d : DomainConfig) (x : SparseTable) → TableShows s h d.id x → TableShows s (i ∷ h) d.id x
     by d x a = record {
       header = a.header ∙ sym (kept-table s i h d.id keeps.header);
       entries = λ q. a.entries q ∙ sym (kept-entry i h d.id.0 q keeps.changes);
@@ -133,11 +133,11 @@ module _ (s : Setting) (c-apart : AllPairs (λ d e. d.id.0 ≢ e.id.0) s.domains
     }
 
   -- what the table of the actor becomes, and that of each other domain
-  one-shown : (i : Item) (at : ℕ) (actor : DomainConfig) (P : Table → Table → Type 0) → slice_get s.domains at ≡ Some actor → OneBecomes (Some at) P old new
-      → ((d : DomainConfig) (y x : Table) → (actor.id.0 == d.id.0) ≡ true → P y x → TableShows s h d.id y → TableShows s (i ∷ h) d.id x)
-      → ((d : DomainConfig) (x : Table) → (actor.id.0 == d.id.0) ≡ false → TableShows s h d.id x → TableShows s (i ∷ h) d.id x) → TablesShow s (i ∷ h) new
+  one-shown : (i : Item) (at : ℕ) (actor : DomainConfig) (P : SparseTable → SparseTable → Type 0) → slice_get s.domains at ≡ Some actor → OneBecomes (Some at) P old new
+      → ((d : DomainConfig) (y x : SparseTable) → (actor.id.0 == d.id.0) ≡ true → P y x → TableShows s h d.id y → TableShows s (i ∷ h) d.id x)
+      → ((d : DomainConfig) (x : SparseTable) → (actor.id.0 == d.id.0) ≡ false → TableShows s h d.id x → TableShows s (i ∷ h) d.id x) → TablesShow s (i ∷ h) new
   one-shown i at actor P is becomes own other = record { many = becomes.many ∙ shows.many; each = λ k d x there here. by k d x there (becomes.each k x here) } where
-    by : (k : ℕ) (d : DomainConfig) (x : Table) → slice_get s.domains k ≡ Some d → (y : Table) × (slice_get old k ≡ Some y) × (Some at ≡ Some k → P y x) × (Some at ≢ Some k → x ≡ y) → TableShows s (i ∷ h) d.id x
+    by : (k : ℕ) (d : DomainConfig) (x : SparseTable) → slice_get s.domains k ≡ Some d → (y : SparseTable) × (slice_get old k ≡ Some y) × (Some at ≡ Some k → P y x) × (Some at ≢ Some k → x ≡ y) → TableShows s (i ∷ h) d.id x
     by k d x there (y, was, mine, others) = cases (actor.id.0 == d.id.0) refl where
       place : place_of_domain s.domains actor.id.0 ≡ Some at
       place = placed s.domains c-apart at actor is
@@ -148,20 +148,20 @@ module _ (s : Setting) (c-apart : AllPairs (λ d e. d.id.0 ≢ e.id.0) s.domains
 
 -- a header that is stored
 
-header-now : (s : Setting) (h : History) (d : DomId) (version frames : ℕ) (seen : Seen) (answer : Option Answer) (t : DomId) (b : Bool) → (d.0 == t.0) ≡ b
+header-now : (s : Setting) (h : History) (d : DomId) (version frames : ℕ) (seen : Observation) (answer : Option Answer) (t : DomId) (b : Bool) → (d.0 == t.0) ≡ b
     → table_at s (stepped d (StoreHeader version frames) seen answer ∷ h) t ≡ cond b (record { version = version; frames = frames }) (table_at s h t)
 unfolding table_at
 header-now s h d version frames seen answer t true e = ap (λ (b : Bool). header_or (cond b (Some (record { version = version; frames = frames })) None) (table_at s h t)) e
 header-now s h d version frames seen answer t false e = ap (λ (b : Bool). header_or (cond b (Some (record { version = version; frames = frames })) None) (table_at s h t)) e
 
-header-live : (h : History) (d : DomId) (version frames : ℕ) (seen : Seen) (answer : Option Answer) → live (stepped d (StoreHeader version frames) seen answer ∷ h) ≡ live h
+header-live : (h : History) (d : DomId) (version frames : ℕ) (seen : Observation) (answer : Option Answer) → live (stepped d (StoreHeader version frames) seen answer ∷ h) ≡ live h
 unfolding live
 header-live h d version frames seen answer = append-nil (live h)
 
 fits-header : (version frames : ℕ) → version < 4 → frames < 256 → ◌≡◌ {A = Header} (record { version = version % 4; frames = frames % 256 }) (record { version = version; frames = frames })
 fits-header version frames v f = let a : version % 4 ≡ version = omega arith in let b : frames % 256 ≡ frames = omega arith in cc
 
-header-shows : (s : Setting) (h : History) (d : DomId) (version frames : ℕ) (seen : Seen) (answer : Option Answer) (t : DomId) (y x : Table) → TableShows s h t y → x.header ≡ table_at s (stepped d (StoreHeader version frames) seen answer ∷ h) t
+header-shows : (s : Setting) (h : History) (d : DomId) (version frames : ℕ) (seen : Observation) (answer : Option Answer) (t : DomId) (y x : SparseTable) → TableShows s h t y → x.header ≡ table_at s (stepped d (StoreHeader version frames) seen answer ∷ h) t
     → x.own.items ≡ y.own.items → x.counts.items ≡ y.counts.items → TableShows s (stepped d (StoreHeader version frames) seen answer ∷ h) t x
 header-shows s h d version frames seen answer t y x a header own counts = let i = stepped d (StoreHeader version frames) seen answer in record {
   header = header;
@@ -172,7 +172,7 @@ header-shows s h d version frames seen answer t y x a header own counts = let i 
 
 -- an entry that its owner changes
 
-change-shows : (s : Setting) (h : History) (d : DomId) (gref : GrantRef) (looked : ℕ) (change : Change) (answer : Option Answer) (t : DomId) (y x : Table) (b : Bool) → (d.0 == t.0) ≡ b → TableShows s h t y → x.header ≡ y.header
+change-shows : (s : Setting) (h : History) (d : DomId) (gref : GrantRef) (looked : ℕ) (change : EntryChange) (answer : Option Answer) (t : DomId) (y x : SparseTable) (b : Bool) → (d.0 == t.0) ≡ b → TableShows s h t y → x.header ≡ y.header
     → ((q : ℕ) → entry_in x.own.items q ≡ changed_entry_of (cond b (cond (gref.0 == q) (Some change) None) None) (entry_in y.own.items q))
     → ((q : ℕ) → own_generation s.first_generation x.own.items q ≡ own_generation s.first_generation y.own.items q + raise_after (cond b (cond (gref.0 == q) (Some change) None) None))
     → x.counts.items ≡ y.counts.items → TableShows s (stepped d (Exchange gref looked change) Taken answer ∷ h) t x
@@ -194,7 +194,7 @@ room-there : (b : Bool) (n m : ℕ) → (b ≡ true → n + m ≤ LAST_GENERATIO
 room-there true n m few = let le = few refl in omega arith
 room-there false n m few = omega arith
 
-change-own-shows : (s : Setting) (h : History) (d : DomId) (gref : GrantRef) (looked : ℕ) (change : Change) (answer : Option Answer) (t : DomId) (y x : Table) → (d.0 == t.0) ≡ true → generation_at s h d.0 gref.0 + raise_of change ≤ LAST_GENERATION
+change-own-shows : (s : Setting) (h : History) (d : DomId) (gref : GrantRef) (looked : ℕ) (change : EntryChange) (answer : Option Answer) (t : DomId) (y x : SparseTable) → (d.0 == t.0) ≡ true → generation_at s h d.0 gref.0 + raise_of change ≤ LAST_GENERATION
     → OwnChangeOf s.first_generation gref.0 change y x → TableShows s h t y → TableShows s (stepped d (Exchange gref looked change) Taken answer ∷ h) t x
 change-own-shows s h d gref looked change answer t y x is few c a = change-shows s h d gref looked change answer t y x true is a c.header
     (λ q. c.own.entries q ∙ entry (gref.0 == q) q) (λ q. c.own.generations q ∙ generation (gref.0 == q) q refl) c.counts
@@ -213,7 +213,7 @@ change-own-shows s h d gref looked change answer t y x is few c a = change-shows
         (λ f. subst (λ (n : ℕ). n + raise_of change ≤ LAST_GENERATION) (ap (λ (n : ℕ). generation_at s h n gref.0) (eqb-true d.0 t.0 is) ∙ ap (generation_at s h t.0) (eqb-true gref.0 q (e ∙ f)) ∙ sym (a.generations q)) few)
         ∙ ap (λ (n : ℕ). own_generation s.first_generation y.own.items q + n) (sym (raised b))
 
-change-other-shows : (s : Setting) (h : History) (d : DomId) (gref : GrantRef) (looked : ℕ) (change : Change) (answer : Option Answer) (t : DomId) (x : Table) → (d.0 == t.0) ≡ false → TableShows s h t x
+change-other-shows : (s : Setting) (h : History) (d : DomId) (gref : GrantRef) (looked : ℕ) (change : EntryChange) (answer : Option Answer) (t : DomId) (x : SparseTable) → (d.0 == t.0) ≡ false → TableShows s h t x
     → TableShows s (stepped d (Exchange gref looked change) Taken answer ∷ h) t x
 change-other-shows s h d gref looked change answer t x apart a = change-shows s h d gref looked change answer t x x false apart a refl (λ q. refl) (λ q. zero-more (own_generation s.first_generation x.own.items q)) refl
   where
@@ -226,7 +226,7 @@ change-other-shows s h d gref looked change answer t x apart a = change-shows s 
 record Quiet (i : Item) : Type 0 where
   pub changes : KeepsAll i
   pub header : header_stored i.happened ≡ None
-  pub stores : (r : ℕ) (which : Half) → stored_at i.happened r which ≡ None
+  pub stores : (r : ℕ) (which : BodyWord) → stored_at i.happened r which ≡ None
   pub pins : (before : History) (ps : List Pin) → pinned_by i.actor i.happened i.answer before ps ≡ []
   pub unpins : (ps : List Pin) → unpinned_by i.actor i.happened ps ≡ ps
 
@@ -234,11 +234,11 @@ quiet-live : (i : Item) (h : History) → Quiet i → live (i ∷ h) ≡ live h
 unfolding live
 quiet-live i h q = ap (λ (ps : List Pin). unpinned_by i.actor i.happened (live h) ++ ps) (q.pins h (live h)) ∙ append-nil (unpinned_by i.actor i.happened (live h)) ∙ q.unpins (live h)
 
-module _ (s : Setting) (apart : AllPairs (λ d e. d.id.0 ≢ e.id.0) s.domains) (h : History) (old new : List Table) (shows : TablesShow s h old) where
+module _ (s : Setting) (apart : AllPairs (λ d e. d.id.0 ≢ e.id.0) s.domains) (h : History) (old new : List SparseTable) (shows : TablesShow s h old) where
   quiet-shown : (i : Item) → Quiet i → new ≡ old → TablesShow s (i ∷ h) new
   quiet-shown i q is = kept-shown s apart h old new shows i (record { changes = q.changes; header = q.header }) (quiet-live i h q) (λ u r which. unstored i h u r which (q.stores r which)) is
 
-  step-shown : (at : ℕ) (actor : DomainConfig) (answer : Option Answer) → slice_get s.domains at ≡ Some actor → (z : Step) (seen : Seen) → StepFits s h actor.id z seen
+  step-shown : (at : ℕ) (actor : DomainConfig) (answer : Option Answer) → slice_get s.domains at ≡ Some actor → (z : Step) (seen : Observation) → StepFits s h actor.id z seen
       → TablesAfter s.domains s.first_generation at z seen old new → TablesShow s (stepped actor.id z seen answer ∷ h) new
   step-shown at actor answer is (PinStep p) Taken fits t = counts-shown s apart h old new shows (stepped actor.id (PinStep p) Taken answer) (place_of_domain s.domains p.dom.0) p.dom.0 p.gref.0 (Pinned p.dir) refl
       (record { changes = λ r. refl; header = refl }) (moves-up s h actor.id p answer fits) t
@@ -256,20 +256,20 @@ module _ (s : Setting) (apart : AllPairs (λ d e. d.id.0 ≢ e.id.0) s.domains) 
 
 -- what holds a pin makes no difference to tables
 
-to-unheld : (ds : List DomainConfig) (first at : ℕ) (old new : List Table) (z : Step) (seen : Seen) → TablesAfter ds first at z seen old new → TablesAfter ds first at (unheld z) seen old new
+to-unheld : (ds : List DomainConfig) (first at : ℕ) (old new : List SparseTable) (z : Step) (seen : Observation) → TablesAfter ds first at z seen old new → TablesAfter ds first at (unheld z) seen old new
 to-unheld ds first at old new (Unpin p holder) seen t = t
 to-unheld ds first at old new z seen t = t
 
-from-unheld : (ds : List DomainConfig) (first at : ℕ) (old new : List Table) (z : Step) (seen : Seen) → TablesAfter ds first at (unheld z) seen old new → TablesAfter ds first at z seen old new
+from-unheld : (ds : List DomainConfig) (first at : ℕ) (old new : List SparseTable) (z : Step) (seen : Observation) → TablesAfter ds first at (unheld z) seen old new → TablesAfter ds first at z seen old new
 from-unheld ds first at old new (Unpin p holder) seen t = t
 from-unheld ds first at old new z seen t = t
 
 -- the item by its parts
-pub item-is : (i : Item) (d : DomId) (z : Step) (seen : Seen) → i.actor ≡ d → i.happened ≡ Stepped z seen → i ≡ stepped d z seen i.answer
-item-is i d z seen a b = ap (λ (x : DomId). record { actor = x; happened = i.happened; answer = i.answer }) a ∙ ap (λ (x : Happened). record { actor = d; happened = x; answer = i.answer }) b
+pub item-is : (i : Item) (d : DomId) (z : Step) (seen : Observation) → i.actor ≡ d → i.happened ≡ Stepped z seen → i ≡ stepped d z seen i.answer
+item-is i d z seen a b = ap (λ (x : DomId). record { actor = x; happened = i.happened; answer = i.answer }) a ∙ ap (λ (x : ItemEvent). record { actor = d; happened = x; answer = i.answer }) b
 
 -- the tables after a step show what happened with its item
-pub tables-shown : (c : Config) (s : Setting) (h : History) (i : Item) (at : ℕ) (step : Step) (seen : Seen) (old new : List Table) → IsSettingOf c s → TablesShow s h old → IsItemOfStep s h i at step seen
+pub tables-shown : (c : Config) (s : Setting) (h : History) (i : Item) (at : ℕ) (step : Step) (seen : Observation) (old new : List SparseTable) → IsSettingOf c s → TablesShow s h old → IsItemOfStep s h i at step seen
     → TablesAfter c.domains.items c.first_gen at step seen old new → TablesShow s (i ∷ h) new
 tables-shown c s h i at step seen old new set shows item t =
     let made = subst (λ (ds : List DomainConfig). TablesAfter ds s.first_generation at step seen old new) set.domains (subst (λ (n : ℕ). TablesAfter c.domains.items n at step seen old new) set.first t) in
@@ -279,7 +279,7 @@ tables-shown c s h i at step seen old new set shows item t =
     (step-shown s set.apart h old new shows at item.domain i.answer item.placed item.made seen (subst (λ (d : DomId). StepFits s h d item.made seen) item.actor item.fits) same)
 
 -- a call that begins changes no table
-pub tables-begun : (s : Setting) (h : History) (d : DomId) (request : Request) (answer : Option Answer) (ts : List Table) → AllPairs (λ c e. c.id.0 ≢ e.id.0) s.domains → TablesShow s h ts
+pub tables-begun : (s : Setting) (h : History) (d : DomId) (request : Request) (answer : Option Answer) (ts : List SparseTable) → AllPairs (λ c e. c.id.0 ≢ e.id.0) s.domains → TablesShow s h ts
     → TablesShow s (record { actor = d; happened = Began request; answer = answer } ∷ h) ts
 tables-begun s h d request answer ts apart shows = quiet-shown s apart h ts ts shows (record { actor = d; happened = Began request; answer = answer })
     (record { changes = λ r. refl; header = refl; stores = λ r which. refl; pins = λ before ps. refl; unpins = λ ps. refl }) refl

@@ -1,14 +1,14 @@
 -- The rows of a domain's entries, of which there are only as many as were touched.
 use Rattle.std.specs.Prelude.{◌≡◌, ◌==◌, ◌+◌, ℕ, List, Some, slice_index_or, if◌then◌else◌, min}
 use Rattle.gt_types.specs.declared.limits.TheConstants.{LAST_GENERATION}
-use Rattle.gt_entry.specs.declared.change.Change.{Change}
+use Rattle.gt_entry.specs.declared.change.EntryChange.{EntryChange}
 use Rattle.gt_entry.specs.Changes.{changed_entry, raise_of}
 use Rattle.gt_entry.specs.Words.{control_word}
 use Rattle.gt_entry.specs.Spelling.{control_with}
-use Rattle.gt_calls.specs.declared.known.Own.{Own}
+use Rattle.gt_calls.specs.declared.known.OwnerEntry.{OwnerEntry}
 use Rattle.gt_calls.specs.Rules.{entry_in, own_generation}
 use Rattle.gt_core.specs.Sight.{slot_body}
-use Rattle.gt_entry.specs.declared.change.Half.{Half}
+use Rattle.gt_entry.specs.declared.change.BodyWord.{BodyWord}
 use Rattle.gt_core.specs.declared.pin_counts.PinCounts.{PinCounts}
 
 -- no pins, and body words of zero
@@ -20,7 +20,7 @@ abbrev pub counts_in : List PinCounts → ℕ → PinCounts
 counts_in counts r = slice_index_or counts r no_counts
 
 -- the control word of entry r
-abbrev pub word_in : ℕ → List Own → List PinCounts → ℕ → ℕ
+abbrev pub word_in : ℕ → List OwnerEntry → List PinCounts → ℕ → ℕ
 word_in first own counts r =
     control_word
     (control_with (entry_in own r) (own_generation first own r) (counts_in counts r).reads (counts_in counts r).writes)
@@ -30,12 +30,12 @@ abbrev pub CountsBecome : List PinCounts → List PinCounts → ℕ → PinCount
 CountsBecome old new at c = (r : ℕ) → counts_in new r ≡ (if at == r then c else counts_in old r)
 
 -- what the owner knows of each entry after it changes entry at
-pub record OwnBecomes (first : ℕ) (old new : List Own) (at : ℕ) (change : Change) : Type 0 where
+pub record OwnBecomes (first : ℕ) (old new : List OwnerEntry) (at : ℕ) (change : EntryChange) : Type 0 where
   pub entries : (r : ℕ) → entry_in new r ≡ (if at == r then changed_entry change (entry_in old r) else entry_in old r)
   pub generations : (r : ℕ) → own_generation first new r
       ≡ (if at == r then min (own_generation first old r + raise_of change) LAST_GENERATION
       else own_generation first old r)
 
 -- a body word of entry r
-abbrev pub body_in_rows : List PinCounts → ℕ → Half → ℕ
+abbrev pub body_in_rows : List PinCounts → ℕ → BodyWord → ℕ
 body_in_rows counts r half = slot_body (Some (counts_in counts r)) half

@@ -2,25 +2,25 @@
 ghost use Rattle.std.specs.Prelude.{IfOk};
 ghost use Rattle.gt_world.specs.Copies.{AreTablesOf, IsTableOf, SamePages, SameTables};
 
-use crate::pages::Page;
-use crate::table::Table;
+use crate::pages::SparsePage;
+use crate::table::SparseTable;
 use gt_entry::Header;
 use gt_types::DomainConfig;
 use std::alloc::{AllocError, Global};
 
 // The table of a domain at the start.
-fn first_table(alloc: Global, domain: &DomainConfig) -> Table
+fn first_table(alloc: Global, domain: &DomainConfig) -> SparseTable
     ensures { IsTableOf domain.now result }
 {
     let header = Header {
         version: (domain.version % 4) as u8,
         frames: (domain.table_frames % 256) as u8,
     };
-    Table::new(alloc, header)
+    SparseTable::new(alloc, header)
 }
 
 /// The tables of these domains, in their order, at the start.
-pub fn first_tables(alloc: Global, domains: &[DomainConfig]) -> Result<Vec<Table>, AllocError>
+pub fn first_tables(alloc: Global, domains: &[DomainConfig]) -> Result<Vec<SparseTable>, AllocError>
     ensures { IfOk result (λ v. AreTablesOf domains.now v.items) }
 {
     let mut tables = Vec::new(alloc);
@@ -31,7 +31,7 @@ pub fn first_tables(alloc: Global, domains: &[DomainConfig]) -> Result<Vec<Table
 }
 
 /// The same tables once more.
-pub fn copy_tables(alloc: Global, tables: &[Table]) -> Result<Vec<Table>, AllocError>
+pub fn copy_tables(alloc: Global, tables: &[SparseTable]) -> Result<Vec<SparseTable>, AllocError>
     ensures { IfOk result (λ v. SameTables tables.now v.items) }
 {
     let mut copies = Vec::new(alloc);
@@ -42,7 +42,7 @@ pub fn copy_tables(alloc: Global, tables: &[Table]) -> Result<Vec<Table>, AllocE
 }
 
 /// The same pages once more.
-pub fn copy_pages(alloc: Global, pages: &[Page]) -> Result<Vec<Page>, AllocError>
+pub fn copy_pages(alloc: Global, pages: &[SparsePage]) -> Result<Vec<SparsePage>, AllocError>
     ensures { IfOk result (λ v. SamePages pages.now v.items) }
 {
     let mut copies = Vec::new(alloc);

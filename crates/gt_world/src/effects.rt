@@ -2,15 +2,15 @@
 ghost use Rattle.std.specs.Prelude.{◌≡◌, OnOk, length};
 ghost use Rattle.gt_world.specs.Tables.{among, CountsChangeOf, HeaderStored, OneBecomes, OwnChangeOf, TablesAfter};
 
-use crate::table::Table;
-use gt_calls::{Change, Seen, Step};
+use crate::table::SparseTable;
+use gt_calls::{EntryChange, Observation, Step};
 use gt_core::CountsChange;
 use gt_positions::Roster;
 use gt_types::GrantRef;
 use std::alloc::AllocError;
 
 // The place, if there is a table at it.
-fn place_among(tables: &[Table], place: Option<usize>) -> Option<usize>
+fn place_among(tables: &[SparseTable], place: Option<usize>) -> Option<usize>
     ensures { result ≡ among place (length tables.now) }
 {
     match place {
@@ -20,7 +20,7 @@ fn place_among(tables: &[Table], place: Option<usize>) -> Option<usize>
 }
 
 fn change_counts(
-    tables: &mut [Table],
+    tables: &mut [SparseTable],
     place: Option<usize>,
     gref: GrantRef,
     change: CountsChange,
@@ -34,11 +34,11 @@ fn change_counts(
 }
 
 fn change_own(
-    tables: &mut [Table],
+    tables: &mut [SparseTable],
     place: Option<usize>,
     first_gen: u32,
     gref: GrantRef,
-    change: Change,
+    change: EntryChange,
 ) -> Result<(), AllocError>
     ensures { OnOk result (OneBecomes place (OwnChangeOf first_gen gref.0 change) tables.old tables.new) }
 {
@@ -48,7 +48,7 @@ fn change_own(
     }
 }
 
-fn store_header(tables: &mut [Table], place: Option<usize>, version: u32, frames: u32)
+fn store_header(tables: &mut [SparseTable], place: Option<usize>, version: u32, frames: u32)
     ensures { OneBecomes place (HeaderStored version frames) tables.old tables.new }
 {
     match place_among(tables, place) {
@@ -60,16 +60,16 @@ fn store_header(tables: &mut [Table], place: Option<usize>, version: u32, frames
 /// What a step that saw this does to tables, if it is one of the domain at this place.
 pub fn apply_to(
     config: &Roster,
-    tables: &mut [Table],
+    tables: &mut [SparseTable],
     at: usize,
     step: Step,
-    seen: Seen,
+    seen: Observation,
 ) -> Result<(), AllocError>
     ensures { OnOk result
         (TablesAfter config.now.domains.items config.now.first_gen at step seen tables.old tables.new) }
 {
     match (step, seen) {
-        (Step::Pin { held }, Seen::Taken) => {
+        (Step::Pin { held }, Observation::Taken) => {
             let place = config.position(held.dom);
             change_counts(tables, place, held.gref, CountsChange::Pinned(held.dir))
         }
@@ -84,7 +84,7 @@ pub fn apply_to(
             store_header(tables, Some(at), version, frames);
             Ok(())
         }
-        (Step::Exchange { gref, change, .. }, Seen::Taken) => {
+        (Step::Exchange { gref, change, .. }, Observation::Taken) => {
             change_own(tables, Some(at), config.config().first_gen, gref, change)
         }
         _ => Ok(()),

@@ -1,24 +1,24 @@
 //! The tables and pages of a state.
 use crate::copies::{copy_pages, copy_tables, first_tables};
 use crate::effects::apply_to;
-use crate::pages::{Page, read};
+use crate::pages::{SparsePage, read};
 use crate::same::{same_pages, same_tables};
 use crate::sight::see_in;
-use crate::table::Table;
+use crate::table::SparseTable;
 use crate::writing::write_to;
-use gt_calls::{Seen, Step};
+use gt_calls::{Observation, Step};
 use gt_positions::Roster;
 use gt_types::{DomId, DomainConfig};
 use std::alloc::{AllocError, Global};
 
 /// The tables of the domains of a run, in their order, and the bytes of its frames.
 #[derive(Drop)]
-pub struct Ground {
-    pub tables: Vec<Table>,
-    pub pages: Vec<Page>,
+pub struct SparseState {
+    pub tables: Vec<SparseTable>,
+    pub pages: Vec<SparsePage>,
 }
 
-impl Ground {
+impl SparseState {
     ghost use Rattle.std.specs.Prelude.{◌≡◌, ◌+◌, ◌≤◌, ◌∷◌, [], ℕ, IfOk, OnOk, IsTrue, take, drop};
     ghost use Rattle.gt_types.specs.Config.{IsWithinLimits};
     ghost use Rattle.gt_types.specs.declared.config.Config.{Config};
@@ -26,28 +26,28 @@ impl Ground {
     ghost use Rattle.gt_types.specs.declared.limits.TheConstants.{FRAME_SIZE};
     ghost use Rattle.gt_core.specs.declared.trace.Item.{Item};
     ghost use Rattle.gt_core.specs.History.{History, Setting, contents_at, seen_by};
-    ghost use Rattle.gt_calls.specs.declared.action.Seen.{Seen};
+    ghost use Rattle.gt_calls.specs.declared.action.Observation.{Observation};
     ghost use Rattle.gt_world.specs.Shows.{IsGivenTo, IsItemOfStep, IsSettingOf, LooksInRun, PagesShow, TablesShow};
 
     /// The tables of these domains and the frames of a run, before anything happened.
     ///
     /// # Errors
     /// `AllocError` if memory was refused.
-    pub fn new(alloc: Global, domains: &[DomainConfig]) -> Result<Ground, AllocError>
+    pub fn new(alloc: Global, domains: &[DomainConfig]) -> Result<SparseState, AllocError>
         ensures tables { (c : Config) (s : Setting) → IsSettingOf c s → IsWithinLimits c →
             c.domains.items ≡ domains.now → IfOk result (λ g. TablesShow s [] g.tables.items) }
         ensures pages { IfOk result (λ g. PagesShow [] g.pages.items) }
     {
         let tables = first_tables(alloc, domains)?;
         let pages = Vec::new(alloc);
-        Ok(Ground { tables, pages })
+        Ok(SparseState { tables, pages })
     }
 
     /// The same tables and pages once more.
     ///
     /// # Errors
     /// `AllocError` if memory was refused.
-    pub fn copy(&self, alloc: Global) -> Result<Ground, AllocError>
+    pub fn copy(&self, alloc: Global) -> Result<SparseState, AllocError>
         ensures tables { IfOk result (λ g. SameTables self.now.tables.items g.tables.items) }
         ensures pages { IfOk result (λ g. SamePages self.now.pages.items g.pages.items) }
         ensures tables_show { (s : Setting) (h : History) → TablesShow s h self.now.tables.items →
@@ -57,11 +57,11 @@ impl Ground {
     {
         let tables = copy_tables(alloc, self.tables.as_slice())?;
         let pages = copy_pages(alloc, self.pages.as_slice())?;
-        Ok(Ground { tables, pages })
+        Ok(SparseState { tables, pages })
     }
 
     /// Whether the tables and pages are the same.
-    pub fn is_same(&self, other: &Ground) -> bool
+    pub fn is_same(&self, other: &SparseState) -> bool
         ensures tables { IsTrue result → SameTables self.now.tables.items other.now.tables.items }
         ensures pages { IsTrue result → SamePages self.now.pages.items other.now.pages.items }
         ensures tables_show { (s : Setting) (h : History) → IsTrue result → TablesShow s h self.now.tables.items →
@@ -74,7 +74,7 @@ impl Ground {
     }
 
     /// What a step of the domain sees.
-    pub fn see(&self, config: &Roster, actor: DomId, step: Step) -> Seen
+    pub fn see(&self, config: &Roster, actor: DomId, step: Step) -> Observation
         ensures { (s : Setting) (h : History) → IsSettingOf config.now s → TablesShow s h self.now.tables.items →
             LooksInRun s actor step → result ≡ seen_by s h actor step }
     {
@@ -90,7 +90,7 @@ impl Ground {
         config: &Roster,
         at: usize,
         step: Step,
-        seen: Seen,
+        seen: Observation,
     ) -> Result<(), AllocError>
         ensures shows { (s : Setting) (h : History) (i : Item) → IsSettingOf config.now s →
             TablesShow s h self.old.tables.items → IsItemOfStep s h i at step seen →
@@ -105,7 +105,7 @@ impl Ground {
     /// # Errors
     /// `AllocError` if memory was refused: the pages may then be of no use.
     pub fn write(&mut self, alloc: Global, step: Step, given: &[u8]) -> Result<(), AllocError>
-        ensures shows { (s : Setting) (h : History) (i : Item) (at : ℕ) (seen : Seen) →
+        ensures shows { (s : Setting) (h : History) (i : Item) (at : ℕ) (seen : Observation) →
             PagesShow h self.old.pages.items → IsItemOfStep s h i at step seen → IsGivenTo h i.actor step given.now →
             OnOk result (PagesShow (i ∷ h) self.new.pages.items) }
         ensures tables { self.new.tables ≡ self.old.tables }

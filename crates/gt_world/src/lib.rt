@@ -18,11 +18,11 @@ mod sight;
 mod table;
 mod writing;
 
-pub use ground::Ground;
+pub use ground::SparseState;
 pub use laws::{
     every_beginning_changes_nothing, every_like_run_goes_on, every_like_run_starts,
     every_like_step_fits, every_right_step_fits,
 };
-pub use pages::Page;
+pub use pages::SparsePage;
 pub use rows::counts_at;
-pub use table::Table;
+pub use table::SparseTable;

@@ -10,23 +10,23 @@ use std::alloc::{AllocError, Global};
 
 /// The bytes of a frame up to the last one that was written. All others are zero.
 #[derive(Drop)]
-pub struct Page {
+pub struct SparsePage {
     pub owner: DomId,
     pub frame: u64,
     pub bytes: Vec<u8>,
 }
 
-impl Page {
+impl SparsePage {
     ghost use Rattle.std.specs.Prelude.{◌≡◌, ◌==◌, ◌&&◌, IfOk};
     ghost use Rattle.gt_world.specs.Pages.{is_page_of};
 
     /// The same page once more.
-    pub fn copy(&self, alloc: Global) -> Result<Page, AllocError>
+    pub fn copy(&self, alloc: Global) -> Result<SparsePage, AllocError>
         ensures owner { IfOk result (λ p. p.owner ≡ self.now.owner) }
         ensures frame { IfOk result (λ p. p.frame ≡ self.now.frame) }
         ensures bytes { IfOk result (λ p. p.bytes.items ≡ self.now.bytes.items) }
     {
-        Ok(Page {
+        Ok(SparsePage {
             owner: self.owner,
             frame: self.frame,
             bytes: Vec::from_slice(alloc, self.bytes.as_slice())?,
@@ -47,14 +47,14 @@ impl Page {
 }
 
 // The place of the first page of a frame.
-fn place_in(pages: &[Page], owner: DomId, frame: u64) -> Option<usize>
+fn place_in(pages: &[SparsePage], owner: DomId, frame: u64) -> Option<usize>
     ensures { result ≡ position (is_page_of owner.0 frame) pages.now }
 {
     pages.iter().position(|page| page.is_of(owner, frame))
 }
 
 // The bytes that the page of a frame keeps.
-fn kept(pages: &[Page], owner: DomId, frame: u64) -> &[u8]
+fn kept(pages: &[SparsePage], owner: DomId, frame: u64) -> &[u8]
     ensures { result.now ≡ kept_bytes pages.now owner.0 frame }
 {
     match place_in(pages, owner, frame) {
@@ -66,7 +66,7 @@ fn kept(pages: &[Page], owner: DomId, frame: u64) -> &[u8]
 /// `len` bytes of a frame from `off` on.
 pub fn read(
     alloc: Global,
-    pages: &[Page],
+    pages: &[SparsePage],
     owner: DomId,
     frame: u64,
     off: u16,
@@ -84,7 +84,7 @@ pub fn read(
 }
 
 // The place for a page of a frame that has none. Pages are in the order of their frames.
-fn place_for(pages: &[Page], owner: DomId, frame: u64) -> usize
+fn place_for(pages: &[SparsePage], owner: DomId, frame: u64) -> usize
     ensures { result ≤ length pages.now }
 {
     match pages.iter().position(|page| page.is_past(owner, frame)) {
@@ -96,7 +96,7 @@ fn place_for(pages: &[Page], owner: DomId, frame: u64) -> usize
 // The place of the page of a frame, which is made if there is none.
 fn place_of(
     alloc: Global,
-    pages: &mut Vec<Page>,
+    pages: &mut Vec<SparsePage>,
     owner: DomId,
     frame: u64,
 ) -> Result<usize, AllocError>
@@ -107,7 +107,7 @@ fn place_of(
         return Ok(at);
     }
     let at = place_for(pages.as_slice(), owner, frame);
-    let page = Page {
+    let page = SparsePage {
         owner,
         frame,
         bytes: Vec::new(alloc),
@@ -137,7 +137,7 @@ fn lay(held: &mut Vec<u8>, off: u16, bytes: &[u8]) -> Result<(), AllocError>
 /// Writes the bytes to a frame, from `off` on.
 pub fn write(
     alloc: Global,
-    pages: &mut Vec<Page>,
+    pages: &mut Vec<SparsePage>,
     owner: DomId,
     frame: u64,
     off: u16,

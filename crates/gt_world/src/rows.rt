@@ -3,7 +3,7 @@ ghost use Rattle.std.specs.Prelude.{◌≡◌, OnOk};
 ghost use Rattle.gt_world.specs.Rows.{counts_in, word_in, CountsBecome, OwnBecomes};
 
 use crate::lists::put;
-use gt_calls::{Change, Own, own_at};
+use gt_calls::{EntryChange, OwnerEntry, own_at};
 use gt_core::PinCounts;
 use gt_entry::Control;
 use gt_types::GrantRef;
@@ -22,7 +22,7 @@ pub fn counts_at(counts: &[PinCounts], gref: GrantRef) -> PinCounts
 }
 
 /// The control word of an entry.
-pub fn word_at(own: &[Own], counts: &[PinCounts], first_gen: u32, gref: GrantRef) -> u64
+pub fn word_at(own: &[OwnerEntry], counts: &[PinCounts], first_gen: u32, gref: GrantRef) -> u64
     ensures { result ≡ word_in first_gen own.now counts.now gref.0 }
 {
     let row = own_at(own, first_gen, gref);
@@ -43,10 +43,10 @@ pub fn set_counts(
 
 /// Its owner changes an entry.
 pub fn change_own(
-    own: &mut Vec<Own>,
+    own: &mut Vec<OwnerEntry>,
     first_gen: u32,
     gref: GrantRef,
-    change: Change,
+    change: EntryChange,
 ) -> Result<(), AllocError>
     ensures { OnOk result (OwnBecomes first_gen own.old.items own.new.items gref.0 change) }
 {

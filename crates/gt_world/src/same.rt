@@ -3,18 +3,18 @@ ghost use Rattle.std.specs.Prelude.{◌≡◌, IsTrue};
 ghost use Rattle.gt_world.specs.Copies.{SamePage, SamePages, SameTables};
 ghost use Rattle.gt_world.specs.Tables.{SameTable};
 
-use crate::pages::Page;
-use crate::table::Table;
-use gt_calls::{Half, Own};
+use crate::pages::SparsePage;
+use crate::table::SparseTable;
+use gt_calls::{BodyWord, OwnerEntry};
 use gt_core::PinCounts;
 
-fn same_row(one: Own, other: Own) -> bool
+fn same_row(one: OwnerEntry, other: OwnerEntry) -> bool
     ensures { IsTrue result → other ≡ one }
 {
     one.entry() == other.entry() && one.generation() == other.generation()
 }
 
-fn same_own(one: &[Own], other: &[Own]) -> bool
+fn same_own(one: &[OwnerEntry], other: &[OwnerEntry]) -> bool
     ensures { IsTrue result → other.now ≡ one.now }
 {
     if one.len() != other.len() {
@@ -33,8 +33,8 @@ fn same_pins(one: PinCounts, other: PinCounts) -> bool
 {
     one.reads() == other.reads()
         && one.writes() == other.writes()
-        && one.body(Half::First) == other.body(Half::First)
-        && one.body(Half::Second) == other.body(Half::Second)
+        && one.body(BodyWord::First) == other.body(BodyWord::First)
+        && one.body(BodyWord::Second) == other.body(BodyWord::Second)
 }
 
 fn same_counts(one: &[PinCounts], other: &[PinCounts]) -> bool
@@ -51,7 +51,7 @@ fn same_counts(one: &[PinCounts], other: &[PinCounts]) -> bool
     true
 }
 
-fn same_table(one: &Table, other: &Table) -> bool
+fn same_table(one: &SparseTable, other: &SparseTable) -> bool
     ensures { IsTrue result → SameTable one.now other.now }
 {
     one.header == other.header
@@ -59,7 +59,7 @@ fn same_table(one: &Table, other: &Table) -> bool
         && same_counts(one.counts.as_slice(), other.counts.as_slice())
 }
 
-fn same_page(one: &Page, other: &Page) -> bool
+fn same_page(one: &SparsePage, other: &SparsePage) -> bool
     ensures { IsTrue result → SamePage one.now other.now }
 {
     one.owner == other.owner
@@ -68,7 +68,7 @@ fn same_page(one: &Page, other: &Page) -> bool
 }
 
 /// Whether the tables are the same, each at its place.
-pub fn same_tables(one: &[Table], other: &[Table]) -> bool
+pub fn same_tables(one: &[SparseTable], other: &[SparseTable]) -> bool
     ensures { IsTrue result → SameTables one.now other.now }
 {
     if one.len() != other.len() {
@@ -83,7 +83,7 @@ pub fn same_tables(one: &[Table], other: &[Table]) -> bool
 }
 
 /// Whether the pages are the same, each at its place.
-pub fn same_pages(one: &[Page], other: &[Page]) -> bool
+pub fn same_pages(one: &[SparsePage], other: &[SparsePage]) -> bool
     ensures { IsTrue result → SamePages one.now other.now }
 {
     if one.len() != other.len() {

@@ -3,7 +3,7 @@ ghost use Rattle.std.specs.Prelude.{◌≡◌};
 ghost use Rattle.gt_entry.specs.Words.{header_word};
 
 use crate::rows::{change_own, counts_at, set_counts, word_at};
-use gt_calls::{Change, Half, Own};
+use gt_calls::{EntryChange, BodyWord, OwnerEntry};
 use gt_core::{CountsChange, PinCounts};
 use gt_entry::Header;
 use gt_types::GrantRef;
@@ -11,9 +11,9 @@ use std::alloc::{AllocError, Global};
 
 /// A grant table: its header, and the rows of its entries up to the last one that was touched.
 #[derive(Drop)]
-pub struct Table {
+pub struct SparseTable {
     pub header: Header,
-    pub own: Vec<Own>,
+    pub own: Vec<OwnerEntry>,
     pub counts: Vec<PinCounts>,
 }
 
@@ -24,19 +24,19 @@ fn header_word(header: Header) -> u64
     u64::from(header.version) + u64::from(header.frames) * 4
 }
 
-impl Table {
+impl SparseTable {
     ghost use Rattle.std.specs.Prelude.{◌≡◌, ◌%◌, [], IfOk, OnOk};
     ghost use Rattle.gt_entry.specs.Words.{header_word};
     ghost use Rattle.gt_world.specs.Rows.{body_in_rows, word_in};
     ghost use Rattle.gt_world.specs.Tables.{CountsChangeOf, OwnChangeOf, HeaderStored, SameTable};
 
     /// A table whose entries are all untouched.
-    pub fn new(alloc: Global, header: Header) -> Table
+    pub fn new(alloc: Global, header: Header) -> SparseTable
         ensures header { result.header ≡ header }
         ensures own { result.own.items ≡ [] }
         ensures counts { result.counts.items ≡ [] }
     {
-        Table {
+        SparseTable {
             header,
             own: Vec::new(alloc),
             counts: Vec::new(alloc),
@@ -44,10 +44,10 @@ impl Table {
     }
 
     /// The same table once more.
-    pub fn copy(&self, alloc: Global) -> Result<Table, AllocError>
+    pub fn copy(&self, alloc: Global) -> Result<SparseTable, AllocError>
         ensures { IfOk result (SameTable self.now) }
     {
-        Ok(Table {
+        Ok(SparseTable {
             header: self.header,
             own: Vec::from_slice(alloc, self.own.as_slice())?,
             counts: Vec::from_slice(alloc, self.counts.as_slice())?,
@@ -69,7 +69,7 @@ impl Table {
     }
 
     /// A body word of an entry.
-    pub fn body(&self, gref: GrantRef, half: Half) -> u64
+    pub fn body(&self, gref: GrantRef, half: BodyWord) -> u64
         ensures { result ≡ body_in_rows self.now.counts.items gref.0 half }
     {
         counts_at(self.counts.as_slice(), gref).body(half)
@@ -88,7 +88,7 @@ impl Table {
         &mut self,
         first_gen: u32,
         gref: GrantRef,
-        change: Change,
+        change: EntryChange,
     ) -> Result<(), AllocError>
         ensures { OnOk result (OwnChangeOf first_gen gref.0 change self.old self.new) }
     {

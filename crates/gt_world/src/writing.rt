@@ -3,14 +3,14 @@ ghost use Rattle.std.specs.Prelude.{◌≡◌, ◌+◌, ◌≤◌, OnOk};
 ghost use Rattle.gt_types.specs.declared.limits.TheConstants.{FRAME_SIZE};
 ghost use Rattle.gt_world.specs.Writing.{CopiesPage, IsInFrames, PagesAfter};
 
-use crate::pages::{Page, read, write};
+use crate::pages::{SparsePage, read, write};
 use gt_calls::{Spot, Step};
 use std::alloc::{AllocError, Global};
 
 // Copies bytes from a place to another.
 fn copy(
     alloc: Global,
-    pages: &mut Vec<Page>,
+    pages: &mut Vec<SparsePage>,
     from: Spot,
     to: Spot,
     len: u16,
@@ -40,7 +40,7 @@ fn copy(
 /// What a step of a call that was given these bytes does to pages.
 pub fn write_to(
     alloc: Global,
-    pages: &mut Vec<Page>,
+    pages: &mut Vec<SparsePage>,
     step: Step,
     given: &[u8],
 ) -> Result<(), AllocError>

@@ -1,5 +1,5 @@
 //! Trails, and a log that threads share.
-use gt_audit::{Hypercall, MOST_RESERVED, Record, Reply, SharedLog, Told, Trail};
+use gt_audit::{Hypercall, MOST_RESERVED, Record, Reply, SharedLog, DomainLog, Trail};
 use gt_types::DomId;
 use std::sync::Wait;
 use std::test::Fail;
@@ -130,7 +130,7 @@ fn two_threads_push(rt: HostRuntime) -> Result<(), Fail> {
 #[test]
 fn a_domain_tells_its_records(rt: HostRuntime) -> Result<(), Fail> {
     let log = SharedLog::new(rt.alloc())?;
-    let mut told = Told::new(rt.alloc(), &log, DomId(2));
+    let mut told = DomainLog::new(rt.alloc(), &log, DomId(2));
     let mut wanted = Vec::new(rt.alloc());
     for number in 0..RECORDS {
         told.tell(&rt, number, record(2, number));

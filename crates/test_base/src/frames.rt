@@ -1,6 +1,6 @@
 //! Frames: what is written is read, and a refused call can be made again.
 use gt_entry::Entry;
-use gt_frames::{Copied, Frame, Ground, Read, Writ, WriteRecord, Written};
+use gt_frames::{Copied, Frame, WriteBasis, Read, Writ, WriteRecord, Written};
 use gt_types::{DomId, GrantRef, Memory, Range};
 use std::alloc::Global;
 use std::process::Abort;
@@ -14,12 +14,12 @@ const MIDDLE: DomId = DomId(3);
 
 const BY_OWNER: Writ = Writ {
     writer: OWNER,
-    basis: Ground::Owned,
+    basis: WriteBasis::Owned,
 };
 
 const BY_A_PAGE: Writ = Writ {
     writer: STRANGER,
-    basis: Ground::Granted(Entry::Page {
+    basis: WriteBasis::Granted(Entry::Page {
         dom: STRANGER,
         ro: false,
         frame: 5,
@@ -28,7 +28,7 @@ const BY_A_PAGE: Writ = Writ {
 
 const BY_A_VIA: Writ = Writ {
     writer: OWNER,
-    basis: Ground::Forwarded {
+    basis: WriteBasis::Forwarded {
         via: Entry::Via {
             dom: OWNER,
             ro: false,

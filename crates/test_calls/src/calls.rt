@@ -2,7 +2,7 @@
 use crate::copies::{COPIES, PAIRS, TO_MIDDLE};
 use crate::owners::{BY_HANDLE, HANDLE, MAPPING, MAPS, OLDER, OWNERS, PAGE};
 use crate::script::{CALLER, MIDDLE, OWNER, Part, Row, Script, goes, known, rights, three_domains};
-use gt_calls::{Change, Handles, Held, Own};
+use gt_calls::{EntryChange, Handles, HeldPin, OwnerEntry};
 use gt_types::{DomId, Memory, Perms};
 use std::alloc::Global;
 use std::process::Abort;
@@ -22,7 +22,7 @@ const GROUPS: [(&[Perms], &[(DomId, DomId)], &[Row]); 5] = [
 ];
 
 // The mappings of the caller: one was taken, and the next has its key.
-fn mappings(rt: &impl Abort, alloc: Global) -> Result<Handles<Held>, Memory> {
+fn mappings(rt: &impl Abort, alloc: Global) -> Result<Handles<HeldPin>, Memory> {
     let mut mappings = Handles::new(alloc);
     mappings.reserve()?;
     let older = mappings.insert(MAPPING);
@@ -37,7 +37,7 @@ fn calls_go_by_their_scripts(rt: HostRuntime) -> Result<(), Fail> {
     let alloc = rt.alloc();
     let config = three_domains(alloc)?;
     let mappings = mappings(&rt, alloc)?;
-    let own = [Own::new(0), Own::new(0).after(Change::Publish(PAGE))];
+    let own = [OwnerEntry::new(0), OwnerEntry::new(0).after(EntryChange::Publish(PAGE))];
     for (perms, pairs, rows) in GROUPS {
         let rights = rights(alloc, perms, pairs)?;
         let known = known(&config, &rights, &own, &mappings);

@@ -2,7 +2,7 @@
 use crate::script::Part::{Body, Control, Header, Leg, LongLeg, Refused, RefusedAt, Try, Unpin};
 use crate::script::{CALLER, GRANTED, HEADER, MIDDLE, OWNER, Part, Row, pin, unseen};
 use gt_calls::Request::Copy;
-use gt_calls::{CopyArgs, End, Held, Request, Seen, Spot, Step as CallStep};
+use gt_calls::{CopyArgs, End, HeldPin, Request, Observation, Spot, Step as CallStep};
 use gt_entry::Entry;
 use gt_rows::{copy, end, page, spot, sub, via};
 use gt_types::{Dir, DomId, Facts, FrameName, GrantRef, Perms, Rule, TypeId};
@@ -43,55 +43,55 @@ const VIA_4: Entry = via!(CALLER, false, OWNER, GrantRef(4));
 const VIA_5: Entry = via!(CALLER, false, OWNER, GrantRef(5));
 
 // Read pins of the owner's page: also as a read-only page, with as many read pins as there can be, and as a part.
-const PAGE: Held = pin!(OWNER, 0, Read, FOR_CALLER, 0x1000_3000_0001);
+const PAGE: HeldPin = pin!(OWNER, 0, Read, FOR_CALLER, 0x1000_3000_0001);
 
-const READ_ONLY_PAGE: Held = pin!(OWNER, 0, Read, READ_ONLY, 0x1000_3000_0005);
+const READ_ONLY_PAGE: HeldPin = pin!(OWNER, 0, Read, READ_ONLY, 0x1000_3000_0005);
 
-const FULL_PAGE: Held = pin!(OWNER, 0, Read, FOR_CALLER, 0x1000_3000_fff1);
+const FULL_PAGE: HeldPin = pin!(OWNER, 0, Read, FOR_CALLER, 0x1000_3000_fff1);
 
-const SUB_PAGE: Held = pin!(OWNER, 0, Read, SUB_FOR_CALLER, 0x1000_3000_0009);
+const SUB_PAGE: HeldPin = pin!(OWNER, 0, Read, SUB_FOR_CALLER, 0x1000_3000_0009);
 
 // The pins of a source through the middle domain: the Via's, and of what it leads to.
-const SOURCE_VIA: Held = pin!(MIDDLE, 0, Read, VIA_4, 0x1000_3000_0003);
+const SOURCE_VIA: HeldPin = pin!(MIDDLE, 0, Read, VIA_4, 0x1000_3000_0003);
 
-const BEHIND_SOURCE: Held = pin!(OWNER, 4, Read, page!(MIDDLE, false, 6), 0x1000_2000_0001);
+const BEHIND_SOURCE: HeldPin = pin!(OWNER, 4, Read, page!(MIDDLE, false, 6), 0x1000_2000_0001);
 
 // Those of a destination.
-const DEST_VIA: Held = pin!(MIDDLE, 1, Write, VIA_5, 0x1000_3000_0003);
+const DEST_VIA: HeldPin = pin!(MIDDLE, 1, Write, VIA_5, 0x1000_3000_0003);
 
-const BEHIND_DEST: Held = pin!(OWNER, 5, Write, page!(MIDDLE, false, 7), 0x1000_2000_0001);
+const BEHIND_DEST: HeldPin = pin!(OWNER, 5, Write, page!(MIDDLE, false, 7), 0x1000_2000_0001);
 
 // In an entry the number of the caller's own domain is no domain, and not the caller.
-const VIA_TO_SELF: Held = Held {
+const VIA_TO_SELF: HeldPin = HeldPin {
     entry: via!(CALLER, false, SELF, GrantRef(4)),
     ..SOURCE_VIA
 };
 
-const VIA_TO_CALLER: Held = Held {
+const VIA_TO_CALLER: HeldPin = HeldPin {
     entry: via!(CALLER, false, CALLER, GrantRef(4)),
     ..SOURCE_VIA
 };
 
-const PAGE_OF_CALLER: Held = pin!(CALLER, 4, Read, page!(MIDDLE, false, 6), 0x1000_2000_0001);
+const PAGE_OF_CALLER: HeldPin = pin!(CALLER, 4, Read, page!(MIDDLE, false, 6), 0x1000_2000_0001);
 
 // Other entries after a Via, and parts of pages in the place of each entry.
-const VIA_BEHIND_SOURCE: Held = Held {
+const VIA_BEHIND_SOURCE: HeldPin = HeldPin {
     entry: via!(MIDDLE, false, CALLER, GrantRef(0)),
     word: 0x1000_2000_0003,
     ..BEHIND_SOURCE
 };
 
-const PAGE_FOR_CALLER: Held = pin!(OWNER, 4, Read, page!(CALLER, false, 6), 0x1000_3000_0001);
+const PAGE_FOR_CALLER: HeldPin = pin!(OWNER, 4, Read, page!(CALLER, false, 6), 0x1000_3000_0001);
 
-const READ_ONLY_BEHIND_DEST: Held = pin!(OWNER, 5, Write, page!(MIDDLE, true, 7), 0x1000_2000_0005);
+const READ_ONLY_BEHIND_DEST: HeldPin = pin!(OWNER, 5, Write, page!(MIDDLE, true, 7), 0x1000_2000_0005);
 
-const SUB_AT_SOURCE: Held = pin!(MIDDLE, 0, Read, SUB_FOR_CALLER, 0x1000_3000_0009);
+const SUB_AT_SOURCE: HeldPin = pin!(MIDDLE, 0, Read, SUB_FOR_CALLER, 0x1000_3000_0009);
 
-const SUB_BEHIND_SOURCE: Held = pin!(OWNER, 4, Read, SUB_FOR_MIDDLE, 0x1000_2000_0009);
+const SUB_BEHIND_SOURCE: HeldPin = pin!(OWNER, 4, Read, SUB_FOR_MIDDLE, 0x1000_2000_0009);
 
-const SUB_AT_DEST: Held = pin!(MIDDLE, 1, Write, SUB_FOR_CALLER, 0x1000_3000_0009);
+const SUB_AT_DEST: HeldPin = pin!(MIDDLE, 1, Write, SUB_FOR_CALLER, 0x1000_3000_0009);
 
-const SUB_BEHIND_DEST: Held = pin!(OWNER, 5, Write, SUB_FOR_MIDDLE, 0x1000_2000_0009);
+const SUB_BEHIND_DEST: HeldPin = pin!(OWNER, 5, Write, SUB_FOR_MIDDLE, 0x1000_2000_0009);
 
 // The places that are copied from and to: in frames of the caller and of the owner.
 const CALLERS_3: Spot = spot!(CALLER, 3, 0);
@@ -196,8 +196,8 @@ pub const COPIES: [Row; 15] = [
         11,
         &[
             Header(OWNER),
-            Try(PAGE, Seen::Missed(0x1000_3000_0009)),
-            Try(SUB_PAGE, Seen::Taken),
+            Try(PAGE, Observation::Missed(0x1000_3000_0009)),
+            Try(SUB_PAGE, Observation::Taken),
             access!(OWNERS_6, CALLERS_3, 4),
             Unpin(&[SUB_PAGE]),
             GRANTED,

@@ -1,7 +1,7 @@
 //! Maps, owners' calls and calls by a handle: what is asked, and the parts of each call.
 use crate::script::Part::{self, Ends, Header, Leg, Refused, RefusedAt, Step, Try};
 use crate::script::{CALLER, GRANTED, OWNER, Row, pin, unseen};
-use gt_calls::{Change, Half, Handle, Held, Holder, Request, Seen, Step as CallStep, Verdict};
+use gt_calls::{EntryChange, BodyWord, Handle, HeldPin, PinHolder, Request, Observation, Step as CallStep, CallResult};
 use gt_entry::Entry;
 use gt_rows::page;
 use gt_types::{Dir, Facts, GrantRef, Rule};
@@ -15,10 +15,10 @@ const IDLE: u64 = 0x1000_3000_0001;
 const PINNED: u64 = 0x1000_3000_0011;
 
 /// The pin of a map of it.
-pub const MAPPING: Held = pin!(OWNER, 0, Write, PAGE, IDLE);
+pub const MAPPING: HeldPin = pin!(OWNER, 0, Write, PAGE, IDLE);
 
 // A map looked at the page, and misses it.
-const MISSES_MAPPING: Part = Try(MAPPING, Seen::Missed(PINNED));
+const MISSES_MAPPING: Part = Try(MAPPING, Observation::Missed(PINNED));
 
 const MAP: Request = Request::Map {
     dom: OWNER,
@@ -32,7 +32,7 @@ pub const MAPS: [Row; 2] = [
         CALLER,
         MAP,
         5,
-        &[Leg(MAPPING), Ends(Verdict::Mapped(MAPPING))],
+        &[Leg(MAPPING), Ends(CallResult::Mapped(MAPPING))],
     ),
     (
         CALLER,
@@ -76,7 +76,7 @@ macro_rules! exchange {
 // A grant stores the body of the page.
 const STORES_BODY: Part = unseen!(CallStep::StoreBody {
     gref: GrantRef(0),
-    half: Half::First,
+    half: BodyWord::First,
     word: 5,
 });
 
@@ -86,10 +86,10 @@ const WITHDRAWAL_LOOKS: Part = Step(
         dom: OWNER,
         gref: GrantRef(1),
     },
-    Seen::Word(PINNED),
+    Observation::Word(PINNED),
 );
 
-const WITHDRAWAL_MISSES: Part = exchange!(1, PINNED, Change::Withdraw, Seen::Missed(IDLE));
+const WITHDRAWAL_MISSES: Part = exchange!(1, PINNED, EntryChange::Withdraw, Observation::Missed(IDLE));
 
 /// An owner that grants or revokes looks at nothing: its entry 0 was never granted, and its entry 1 is of the page.
 pub const OWNERS: [Row; 5] = [
@@ -99,7 +99,7 @@ pub const OWNERS: [Row; 5] = [
         3,
         &[
             STORES_BODY,
-            exchange!(0, 0, Change::Publish(PAGE), Seen::Missed(0x10)),
+            exchange!(0, 0, EntryChange::Publish(PAGE), Observation::Missed(0x10)),
             RefusedAt(Rule::N19, pin!(OWNER, 0, Write, PAGE, 0x10)),
         ],
     ),
@@ -111,7 +111,7 @@ pub const OWNERS: [Row; 5] = [
             WITHDRAWAL_LOOKS,
             WITHDRAWAL_MISSES,
             WITHDRAWAL_LOOKS,
-            exchange!(1, PINNED, Change::Withdraw, Seen::Taken),
+            exchange!(1, PINNED, EntryChange::Withdraw, Observation::Taken),
             GRANTED,
         ],
     ),
@@ -137,7 +137,7 @@ pub const OWNERS: [Row; 5] = [
         3,
         &[
             STORES_BODY,
-            exchange!(0, 0, Change::Publish(PAGE), Seen::Taken),
+            exchange!(0, 0, EntryChange::Publish(PAGE), Observation::Taken),
             GRANTED,
         ],
     ),
@@ -146,7 +146,7 @@ pub const OWNERS: [Row; 5] = [
         REVOKE,
         2,
         &[
-            exchange!(1, IDLE, Change::Revoke, Seen::Missed(PINNED)),
+            exchange!(1, IDLE, EntryChange::Revoke, Observation::Missed(PINNED)),
             RefusedAt(Rule::N19, pin!(OWNER, 1, Write, PAGE, PINNED)),
         ],
     ),
@@ -184,7 +184,7 @@ pub const BY_HANDLE: [Row; 3] = [
         &[
             unseen!(CallStep::Unpin {
                 held: MAPPING,
-                holder: Holder::Mapping(HANDLE),
+                holder: PinHolder::Mapping(HANDLE),
             }),
             GRANTED,
         ],

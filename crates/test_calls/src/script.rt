@@ -1,6 +1,6 @@
 //! A call driven by a script of what its steps see.
 use gt_calls::{
-    Action, Call, Half, Handles, Held, Holder, Known, Own, Request, Seen, Start, Step, Verdict,
+    Action, Call, BodyWord, Handles, HeldPin, PinHolder, CallerState, OwnerEntry, Request, Observation, CallStart, Step, CallResult,
 };
 use gt_entry::{Entry, Header};
 use gt_positions::Roster;
@@ -26,41 +26,41 @@ pub type Row = (DomId, Request<'static>, usize, &'static [Part]);
 #[derive(Clone, Copy)]
 pub enum Part {
     /// This step, which sees this.
-    Step(Step, Seen),
+    Step(Step, Observation),
     /// A look at the header of a domain.
     Header(DomId),
     /// A look at the control word of the entry of this pin, which is the word that the pin is taken from.
-    Control(Held),
+    Control(HeldPin),
     /// The looks at the body words of the entry of this pin.
-    Body(Held),
+    Body(HeldPin),
     /// A try of this pin: the looks at its entry, and the pin, which sees this.
-    Try(Held, Seen),
+    Try(HeldPin, Observation),
     /// A leg whose first try takes this pin.
-    Leg(Held),
+    Leg(HeldPin),
     /// A leg that misses the first pin three times, since there is a read pin more, before it takes the other.
-    LongLeg(Held, Held),
+    LongLeg(HeldPin, HeldPin),
     /// These pins are given back, the last one first.
-    Unpin(&'static [Held]),
-    Ends(Verdict),
+    Unpin(&'static [HeldPin]),
+    Ends(CallResult),
     Refused(Rule, Facts),
     /// A refusal by the word found in the entry of this pin.
-    RefusedAt(Rule, Held),
+    RefusedAt(Rule, HeldPin),
 }
 
 /// The call ends, and does what was asked.
-pub const GRANTED: Part = Part::Ends(Verdict::Granted);
+pub const GRANTED: Part = Part::Ends(CallResult::Granted);
 
 // A step that sees nothing.
 macro_rules! unseen {
     ($step:expr) => {
-        Part::Step($step, Seen::Nothing)
+        Part::Step($step, Observation::Nothing)
     };
 }
 
 // A pin: domain, reference, direction, entry, and the word that it is taken from.
 macro_rules! pin {
     ($dom:expr, $gref:expr, $dir:ident, $entry:expr, $word:expr) => {
-        Held {
+        HeldPin {
             dom: $dom,
             gref: GrantRef($gref),
             dir: Dir::$dir,
@@ -76,8 +76,8 @@ pub(crate) use unseen;
 /// A driver's part of a call: what each step sees, and the action that the call then gives.
 #[derive(Drop)]
 pub struct Script {
-    pub lines: Vec<(Seen, Action)>,
-    seen: Seen,
+    pub lines: Vec<(Observation, Action)>,
+    seen: Observation,
 }
 
 impl Script {
@@ -85,7 +85,7 @@ impl Script {
     pub fn new(alloc: Global, parts: &[Part]) -> Result<Script, Memory> {
         let mut script = Script {
             lines: Vec::new(alloc),
-            seen: Seen::Nothing,
+            seen: Observation::Nothing,
         };
         for part in parts {
             script.add(*part)?;
@@ -104,90 +104,90 @@ impl Script {
             Part::LongLeg(missed, held) => self.long_leg(missed, held),
             Part::Unpin(pins) => self.unpin(pins),
             Part::Ends(verdict) => self.ends(verdict),
-            Part::Refused(rule, facts) => self.ends(Verdict::Refused(Denial::new(rule, facts))),
+            Part::Refused(rule, facts) => self.ends(CallResult::Refused(Denial::new(rule, facts))),
             Part::RefusedAt(rule, held) => {
-                let Held {
+                let HeldPin {
                     dom,
                     gref,
                     word,
                     ..
                 } = held;
                 let facts = Facts::Entry { dom, gref, word };
-                self.ends(Verdict::Refused(Denial::new(rule, facts)))
+                self.ends(CallResult::Refused(Denial::new(rule, facts)))
             }
         }
     }
 
-    fn step(&mut self, step: Step, seen: Seen) -> Result<(), Memory> {
+    fn step(&mut self, step: Step, seen: Observation) -> Result<(), Memory> {
         self.lines.push((self.seen, Action::Step(step)))?;
         self.seen = seen;
         Ok(())
     }
 
-    fn ends(&mut self, verdict: Verdict) -> Result<(), Memory> {
+    fn ends(&mut self, verdict: CallResult) -> Result<(), Memory> {
         self.lines.push((self.seen, Action::Done(verdict)))?;
         Ok(())
     }
 
     fn header(&mut self, dom: DomId) -> Result<(), Memory> {
-        self.step(Step::LookHeader { dom }, Seen::Word(HEADER))
+        self.step(Step::LookHeader { dom }, Observation::Word(HEADER))
     }
 
-    fn control(&mut self, held: Held) -> Result<(), Memory> {
+    fn control(&mut self, held: HeldPin) -> Result<(), Memory> {
         let step = Step::LookControl {
             dom: held.dom,
             gref: held.gref,
         };
-        self.step(step, Seen::Word(held.word))
+        self.step(step, Observation::Word(held.word))
     }
 
-    fn body(&mut self, held: Held) -> Result<(), Memory> {
-        self.half(held, Half::First, first_body(held.entry))?;
+    fn body(&mut self, held: HeldPin) -> Result<(), Memory> {
+        self.half(held, BodyWord::First, first_body(held.entry))?;
         match held.entry {
             Entry::Sub { off, len, .. } => {
-                self.half(held, Half::Second, u64::from(off) + u64::from(len) * 65_536)
+                self.half(held, BodyWord::Second, u64::from(off) + u64::from(len) * 65_536)
             }
             _ => Ok(()),
         }
     }
 
-    fn half(&mut self, held: Held, half: Half, word: u64) -> Result<(), Memory> {
+    fn half(&mut self, held: HeldPin, half: BodyWord, word: u64) -> Result<(), Memory> {
         let step = Step::LookBody {
             dom: held.dom,
             gref: held.gref,
             half,
         };
-        self.step(step, Seen::Word(word))
+        self.step(step, Observation::Word(word))
     }
 
-    fn try_pin(&mut self, held: Held, seen: Seen) -> Result<(), Memory> {
+    fn try_pin(&mut self, held: HeldPin, seen: Observation) -> Result<(), Memory> {
         self.control(held)?;
         self.body(held)?;
         self.step(Step::Pin { held }, seen)
     }
 
-    fn leg(&mut self, held: Held) -> Result<(), Memory> {
+    fn leg(&mut self, held: HeldPin) -> Result<(), Memory> {
         self.header(held.dom)?;
-        self.try_pin(held, Seen::Taken)
+        self.try_pin(held, Observation::Taken)
     }
 
-    fn long_leg(&mut self, missed: Held, held: Held) -> Result<(), Memory> {
+    fn long_leg(&mut self, missed: HeldPin, held: HeldPin) -> Result<(), Memory> {
         self.header(held.dom)?;
         for _ in 0..3 {
-            self.try_pin(missed, Seen::Missed(missed.word ^ 16))?;
+            self.try_pin(missed, Observation::Missed(missed.word ^ 16))?;
         }
-        self.try_pin(held, Seen::Taken)
+        self.try_pin(held, Observation::Taken)
     }
 
-    fn unpin(&mut self, pins: &[Held]) -> Result<(), Memory> {
+    fn unpin(&mut self, pins: &[HeldPin]) -> Result<(), Memory> {
         let mut number = u8::try_from(pins.len()).unwrap_or(0);
         for held in pins {
             number = number.wrapping_sub(1);
             let step = Step::Unpin {
                 held: *held,
-                holder: Holder::Leg(number),
+                holder: PinHolder::Leg(number),
             };
-            self.step(step, Seen::Nothing)?;
+            self.step(step, Observation::Nothing)?;
         }
         Ok(())
     }
@@ -254,10 +254,10 @@ pub fn rights(alloc: Global, perms: &[Perms], pairs: &[(DomId, DomId)]) -> Resul
 pub fn known<'a>(
     config: &'a Roster,
     rights: &'a Triples,
-    own: &'a [Own],
-    mappings: &'a Handles<Held>,
-) -> Known<'a, Triples> {
-    Known {
+    own: &'a [OwnerEntry],
+    mappings: &'a Handles<HeldPin>,
+) -> CallerState<'a, Triples> {
+    CallerState {
         config,
         rights,
         own,
@@ -271,14 +271,14 @@ pub fn known<'a>(
 
 /// Whether the caller's request goes by the script.
 pub fn goes(
-    known: &Known<'_, Triples>,
+    known: &CallerState<'_, Triples>,
     caller: DomId,
     request: Request<'_>,
     script: &Script,
 ) -> bool {
     let mut call = match Call::begin(caller, request, known) {
-        Start::Open(call) => call,
-        Start::Done(verdict) => {
+        CallStart::Open(call) => call,
+        CallStart::Done(verdict) => {
             return script.lines.len() == 1 && script.lines[0].1 == Action::Done(verdict);
         }
     };

@@ -1,6 +1,6 @@
 //! What is done to a machine in a test, and what comes of it, in words.
 use gt_core::{
-    Answer, Begun, Core, Element, Event, Handle, Happened, Item, Request, Seen, Shown, Spot, Step,
+    Answer, Begun, Core, Element, Event, Handle, ItemEvent, Item, Request, Observation, EntryView, Spot, Step,
     Ticked,
 };
 use gt_entry::{Control, status_word};
@@ -209,21 +209,21 @@ pub fn answer_said(alloc: Global, answer: &Answer) -> Result<String, AllocError>
 }
 
 /// What a step saw: a word in hexadecimal digits, `taken` or `missed` with the word found; `-` for nothing.
-fn seen_said(alloc: Global, seen: Seen) -> Result<String, AllocError> {
+fn seen_said(alloc: Global, seen: Observation) -> Result<String, AllocError> {
     match seen {
-        Seen::Nothing => String::from_str(alloc, " -"),
-        Seen::Word(word) => word_said(alloc, word),
-        Seen::Taken => String::from_str(alloc, " taken"),
-        Seen::Missed(word) => format!(in alloc; " missed {word:x}"),
+        Observation::Nothing => String::from_str(alloc, " -"),
+        Observation::Word(word) => word_said(alloc, word),
+        Observation::Taken => String::from_str(alloc, " taken"),
+        Observation::Missed(word) => format!(in alloc; " missed {word:x}"),
     }
 }
 
 // What an entry shows, with its status word.
-fn shown_said(alloc: Global, shown: Option<Shown>) -> Result<String, AllocError> {
+fn shown_said(alloc: Global, shown: Option<EntryView>) -> Result<String, AllocError> {
     let Some(shown) = shown else {
         return String::from_str(alloc, "none");
     };
-    let Shown {
+    let EntryView {
         entry,
         generation,
         reads,
@@ -351,8 +351,8 @@ pub fn trace_said(alloc: Global, trace: &[Element]) -> Result<String, AllocError
             continue;
         };
         let saw = match happened {
-            Happened::Began(_) => String::from_str(alloc, " begins")?,
-            Happened::Stepped(_, seen) => seen_said(alloc, *seen)?,
+            ItemEvent::Began(_) => String::from_str(alloc, " begins")?,
+            ItemEvent::Stepped(_, seen) => seen_said(alloc, *seen)?,
         };
         out.push_str(format!(in alloc; "{}{saw}", actor.0)?.as_str())?;
         if let Some(answer) = answer {

@@ -3,9 +3,9 @@ ghost use Rattle.std.specs.Prelude.{◌≡◌, IfOk};
 ghost use Rattle.gt_words.specs.Conditions.{IsSeatOf};
 
 use crate::places::{BYTES, config, text};
-use gt_access::{Run, copy_by, read_by, write_by};
-use gt_calls::{Pins, Route};
-use gt_frames::{FrameName, Pool, Read, Spot, Visits};
+use gt_access::{AccessContext, copy_by, read_by, write_by};
+use gt_calls::{CallPins, AccessPath};
+use gt_frames::{FrameName, Pool, Read, Spot, FrameAccesses};
 use gt_positions::Roster;
 use gt_types::{Allows, Config, Perms, Range, StartFault, TypeId};
 use gt_words::{Seat, Words};
@@ -42,9 +42,9 @@ fn start(rt: &impl Abort, alloc: Global, config: &Config) -> Result<(Words, Seat
 // Writes four bytes to a frame of its own.
 fn wrote<R: Wait>(
     rt: &R,
-    run: &Run<'_, Everything>,
+    run: &AccessContext<'_, Everything>,
     seat: &Seat,
-    visits: &mut Visits,
+    visits: &mut FrameAccesses,
     number: u64,
 ) -> bool
     requires { IsSeatOf run.now.words.now seat.now }
@@ -53,7 +53,7 @@ fn wrote<R: Wait>(
         owner: seat.dom(),
         number,
     };
-    write_by(rt, run, seat, visits, &Route::Own, name, 0, &BYTES).is_ok()
+    write_by(rt, run, seat, visits, &AccessPath::Own, name, 0, &BYTES).is_ok()
 }
 
 // The place with this number and offset in a frame of its own.
@@ -72,18 +72,18 @@ fn own(seat: &Seat, place: (u64, u16)) -> Spot
 // Copies four bytes between two frames of its own.
 fn copied<R: Wait>(
     rt: &R,
-    run: &Run<'_, Everything>,
+    run: &AccessContext<'_, Everything>,
     seat: &Seat,
-    visits: &mut Visits,
+    visits: &mut FrameAccesses,
     from: (u64, u16),
     to: (u64, u16),
 ) -> bool
     requires { IsSeatOf run.now.words.now seat.now }
 {
     let (source, dest) = (own(seat, from), own(seat, to));
-    let routes = Pins {
-        source: Route::Own,
-        dest: Route::Own,
+    let routes = CallPins {
+        source: AccessPath::Own,
+        dest: AccessPath::Own,
     };
     source.off <= 4092
         && dest.off <= 4092
@@ -94,9 +94,9 @@ fn copied<R: Wait>(
 fn first_bytes<R: Wait>(
     rt: &R,
     alloc: Global,
-    run: &Run<'_, Everything>,
+    run: &AccessContext<'_, Everything>,
     seat: &Seat,
-    visits: &mut Visits,
+    visits: &mut FrameAccesses,
     number: u64,
 ) -> Result<Option<Read>, AllocError>
     requires { IsSeatOf run.now.words.now seat.now }
@@ -107,7 +107,7 @@ fn first_bytes<R: Wait>(
         number,
     };
     let range = Range { off: 0, len: 6 };
-    let route = Route::Own;
+    let route = AccessPath::Own;
     Ok(read_by(rt, run, seat, visits, &route, name, range, room))
 }
 
@@ -131,7 +131,7 @@ fn own_frames_are_written_copied_and_read(rt: HostRuntime) -> Result<(), Fail> {
         panic!(rt; "no domains");
     };
     let roster = Roster::new(alloc, config)?;
-    let run = Run {
+    let run = AccessContext {
         words: &words,
         config: &roster,
         rights: &Everything,

@@ -1,6 +1,6 @@
 //! The frames of a run, found by owner and number.
 use crate::places::{BYTES, at, config, text};
-use gt_frames::{FrameName, Frames, Ground, Read, Spot, Writ};
+use gt_frames::{FrameName, Frames, WriteBasis, Read, Spot, Writ};
 use gt_rows::spot;
 use gt_types::{DomId, Range};
 use std::alloc::{AllocError, Global};
@@ -9,7 +9,7 @@ use std::test::Fail;
 fn writ(of: Spot) -> Writ {
     Writ {
         writer: of.frame.owner,
-        basis: Ground::Owned,
+        basis: WriteBasis::Owned,
     }
 }
 

@@ -1,6 +1,6 @@
 //! Frames under locks, in threads.
 use crate::places::{BYTES, at, config, text};
-use gt_frames::{FrameName, Ground, Pool, Read, Spot, Visits, Writ};
+use gt_frames::{FrameName, WriteBasis, Pool, Read, Spot, FrameAccesses, Writ};
 use gt_rows::spot;
 use gt_types::{DomId, Range};
 use std::alloc::{AllocError, Global};
@@ -15,7 +15,7 @@ fn first_bytes<R: Wait>(
     rt: &R,
     alloc: Global,
     pool: &Pool,
-    visits: &mut Visits,
+    visits: &mut FrameAccesses,
     frame: FrameName,
 ) -> Result<Option<Read>, AllocError> {
     let room = Vec::with_capacity(alloc, 6)?;
@@ -30,10 +30,10 @@ fn first_bytes<R: Wait>(
 }
 
 // Writes these bytes as the owner, if there is such a frame.
-fn wrote<R: Wait>(rt: &R, pool: &Pool, visits: &mut Visits, to: FrameName, bytes: &[u8]) -> bool {
+fn wrote<R: Wait>(rt: &R, pool: &Pool, visits: &mut FrameAccesses, to: FrameName, bytes: &[u8]) -> bool {
     let writ = Writ {
         writer: to.owner,
-        basis: Ground::Owned,
+        basis: WriteBasis::Owned,
     };
     match pool.lock(rt, to) {
         Some(mut frame) => {
@@ -48,10 +48,10 @@ fn wrote<R: Wait>(rt: &R, pool: &Pool, visits: &mut Visits, to: FrameName, bytes
 }
 
 // Copies four bytes as the owner of the second frame, if there are such frames.
-fn copied<R: Wait>(rt: &R, pool: &Pool, visits: &mut Visits, from: Spot, to: Spot) -> bool {
+fn copied<R: Wait>(rt: &R, pool: &Pool, visits: &mut FrameAccesses, from: Spot, to: Spot) -> bool {
     let writ = Writ {
         writer: to.frame.owner,
-        basis: Ground::Owned,
+        basis: WriteBasis::Owned,
     };
     match pool.lock_both(rt, from.frame, to.frame) {
         Some(mut ends) => {
@@ -81,7 +81,7 @@ const COPIES: [(Spot, Spot, bool, &str); 7] = [
 ];
 
 // The visits of the two domains.
-fn two_of(rt: &impl Abort, mut all_visits: Vec<Visits>) -> (Visits, Visits) {
+fn two_of(rt: &impl Abort, mut all_visits: Vec<FrameAccesses>) -> (FrameAccesses, FrameAccesses) {
     match (all_visits.pop(), all_visits.pop()) {
         (Some(one), Some(other)) => (one, other),
         _ => panic!(rt; "no domains"),
@@ -110,7 +110,7 @@ const HERE: Spot = at!(1, 0, 0);
 const THERE: Spot = at!(2, 1, 0);
 
 // Copies a thousand times, and counts the copies that were made.
-fn copies<R: Wait>(rt: &R, pool: &Pool, visits: &mut Visits, from: Spot, to: Spot) -> usize {
+fn copies<R: Wait>(rt: &R, pool: &Pool, visits: &mut FrameAccesses, from: Spot, to: Spot) -> usize {
     let mut done: usize = 0;
     for _ in 0..1000u32 {
         if copied(rt, pool, visits, from, to) {
@@ -123,8 +123,8 @@ fn copies<R: Wait>(rt: &R, pool: &Pool, visits: &mut Visits, from: Spot, to: Spo
 fn forth_and_back<R: Threads + Wait + Sync>(
     rt: &R,
     pool: &Pool,
-    one: &mut Visits,
-    other: &mut Visits,
+    one: &mut FrameAccesses,
+    other: &mut FrameAccesses,
 ) -> (usize, usize) {
     thread::join(
         rt,

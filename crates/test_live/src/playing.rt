@@ -1,6 +1,6 @@
 //! Runs of a table: lines that domains are asked, with what they must answer, and then threads.
 use crate::working::{Behind, Part, work_at_once};
-use gt_running::{Asks, READ_ONLY, Running, Said, all_running, rights, start, text};
+use gt_running::{TestCall, READ_ONLY, TestDomain, TestReply, all_running, rights, start, text};
 use gt_types::{Allows, Memory, Rule, StartFault};
 use std::alloc::Global;
 use std::process::Abort;
@@ -8,7 +8,7 @@ use std::sync::Wait;
 use std::thread::Threads;
 
 /// Who asks, counted from 0, what, and the answer.
-pub type Line<'a> = (usize, Asks<'a>, &'a str);
+pub type Line<'a> = (usize, TestCall<'a>, &'a str);
 
 /// The places of the domains 1, 2 and 3.
 pub const ONE: usize = 0;
@@ -54,19 +54,19 @@ pub struct Row<'a> {
 // What the domain at this place answers.
 fn said<R: Wait + Abort, P: Allows>(
     rt: &R,
-    domains: &mut [Running<'_, P>],
+    domains: &mut [TestDomain<'_, P>],
     by: usize,
-    asks: Asks<'_>,
-) -> Said {
+    asks: TestCall<'_>,
+) -> TestReply {
     match domains.get_mut(by) {
         Some(domain) => domain.ask(rt, asks),
         None => panic!(rt; "no such domain"),
     }
 }
 
-fn is_of_memory(said: &Said) -> bool {
+fn is_of_memory(said: &TestReply) -> bool {
     match said {
-        Said::Denied(denial) => denial.rule == Rule::N26,
+        TestReply::Denied(denial) => denial.rule == Rule::N26,
         _ => false,
     }
 }
@@ -75,7 +75,7 @@ fn is_of_memory(said: &Said) -> bool {
 fn play<R: Wait + Abort, P: Allows>(
     rt: &R,
     alloc: Global,
-    domains: &mut [Running<'_, P>],
+    domains: &mut [TestDomain<'_, P>],
     lines: &[Line<'_>],
     insists: bool,
 ) -> Result<(), Memory> {
@@ -93,7 +93,7 @@ fn play<R: Wait + Abort, P: Allows>(
 // Whether the domain reads these bytes over a buffer, through its last mapping or in a frame of its own.
 fn fills<R: Wait, P: Allows>(
     rt: &R,
-    domain: Option<&mut Running<'_, P>>,
+    domain: Option<&mut TestDomain<'_, P>>,
     frame: Option<u64>,
     off: u16,
     wanted: [u8; 5],
@@ -110,7 +110,7 @@ fn fills<R: Wait, P: Allows>(
 }
 
 // Maps the first entry of domain 1 for reading so often. Answers how often that was Ok.
-fn map_often<P: Allows>(domain: Option<&mut Running<'_, P>>, times: u32) -> u32 {
+fn map_often<P: Allows>(domain: Option<&mut TestDomain<'_, P>>, times: u32) -> u32 {
     let Some(domain) = domain else {
         return 0;
     };
@@ -125,7 +125,7 @@ fn map_often<P: Allows>(domain: Option<&mut Running<'_, P>>, times: u32) -> u32 
 
 // The domain makes room for so many records, and keeps no more.
 fn keep_at_most<P: Allows>(
-    domain: Option<&mut Running<'_, P>>,
+    domain: Option<&mut TestDomain<'_, P>>,
     records: usize,
 ) -> Result<(), Memory> {
     let Some(domain) = domain else {
@@ -137,7 +137,7 @@ fn keep_at_most<P: Allows>(
 }
 
 // What a domain leaves, as a text: its records and how many were lost.
-fn left<P: Allows>(alloc: Global, domain: Option<Running<'_, P>>) -> Result<String, Memory> {
+fn left<P: Allows>(alloc: Global, domain: Option<TestDomain<'_, P>>) -> Result<String, Memory> {
     let Some(domain) = domain else {
         return Ok(String::new(alloc));
     };
@@ -146,7 +146,7 @@ fn left<P: Allows>(alloc: Global, domain: Option<Running<'_, P>>) -> Result<Stri
 }
 
 // How many records a domain leaves.
-fn count_left<P: Allows>(domain: Option<Running<'_, P>>) -> Result<usize, Memory> {
+fn count_left<P: Allows>(domain: Option<TestDomain<'_, P>>) -> Result<usize, Memory> {
     match domain {
         Some(domain) => Ok(domain.finish().records()?.len()),
         None => Ok(0),
@@ -157,7 +157,7 @@ fn count_left<P: Allows>(domain: Option<Running<'_, P>>) -> Result<usize, Memory
 fn make<R: Wait + Abort, P: Allows>(
     rt: &R,
     alloc: Global,
-    domains: &mut Vec<Running<'_, P>>,
+    domains: &mut Vec<TestDomain<'_, P>>,
     stage: Stage<'_>,
 ) -> Result<(), Memory> {
     match stage {

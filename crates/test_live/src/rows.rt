@@ -4,7 +4,7 @@ use crate::playing::{Line, ONE, Row, Stage, THREE, TWO, play_row};
 use gt_calls::{CopyArgs, End};
 use gt_entry::Entry;
 use gt_rows::{copy, end, page, sub, via};
-use gt_running::Asks::{
+use gt_running::TestCall::{
     self, Bytes, Copy, Demote, GetVersion, Grant, Load, Map, Peek, Poke, Promote, Revoke, Setup,
     Size, Store, Unmap, Version, Withdraw,
 };

@@ -4,7 +4,7 @@ use crate::working::{Access, LEN, Part, UNUSED};
 use gt_calls::{CopyArgs, End};
 use gt_entry::Entry;
 use gt_rows::{copy, end, page};
-use gt_running::Asks::{
+use gt_running::TestCall::{
     self, Demote, GetVersion, Grant, Load, Map, Peek, Poke, Revoke, Store, Unmap,
 };
 use gt_running::{READ_ONLY, WRITABLE};

@@ -1,8 +1,8 @@
 //! What domains do at once, each in a thread of its own.
 use gt_calls::{CopyArgs, End};
-use gt_entry::{Control, Entry, Kind};
+use gt_entry::{Control, Entry, EntryKind};
 use gt_rows::{copy, end};
-use gt_running::{Asks, READ_ONLY, Running, Said, WRITABLE};
+use gt_running::{TestCall, READ_ONLY, TestDomain, TestReply, WRITABLE};
 use gt_types::{Allows, DOMID_SELF, Denial, DomId, Facts, GrantRef, Memory, Rule};
 use std::alloc::{AllocError, Global};
 use std::sync::Wait;
@@ -15,10 +15,10 @@ pub const LEN: u16 = 64;
 pub const PAGE_LEN: u16 = 4096;
 
 // A copy of the whole page of entry 0 of domain 1.
-const TAKE: Asks<'static> = fetch!(1, 0, 0, 3, 0, PAGE_LEN);
+const TAKE: TestCall<'static> = fetch!(1, 0, 0, 3, 0, PAGE_LEN);
 
 // Copies of the page behind the entries 0 and 1 of domain 2, which are transitive.
-const FOLLOWS: [Asks<'static>; 2] = [fetch!(2, 0, 0, 3, 0, LEN), fetch!(2, 1, 0, 3, 0, LEN)];
+const FOLLOWS: [TestCall<'static>; 2] = [fetch!(2, 0, 0, 3, 0, LEN), fetch!(2, 1, 0, 3, 0, LEN)];
 
 /// What an owner knows of its entry from its own calls.
 #[derive(Clone, Copy)]
@@ -38,8 +38,8 @@ pub const UNUSED: Kept = Kept {
 /// A call that writes bytes which are all alike, and one that reads as many, which must be alike.
 #[derive(Clone, Copy)]
 pub struct Access {
-    pub write: Asks<'static>,
-    pub read: Asks<'static>,
+    pub write: TestCall<'static>,
+    pub read: TestCall<'static>,
 }
 
 /// What a domain does, round by round.
@@ -74,7 +74,7 @@ pub enum Part {
 /// A domain in a thread, and whether all its calls so far were answered as the rules allow.
 #[derive(Drop)]
 struct Worker<'m, P: Allows> {
-    domain: Running<'m, P>,
+    domain: TestDomain<'m, P>,
     part: Part,
     rounds: u32,
     fair: bool,
@@ -121,9 +121,9 @@ fn stands(denial: Denial) -> bool {
         return false;
     };
     match denial.rule {
-        Rule::N10 => control.kind == Kind::Invalid && control.reads == 0 && control.writes == 0,
-        Rule::N13 => control.kind == Kind::Page && control.ro,
-        Rule::N19 => control.kind != Kind::Invalid && (control.reads > 0 || control.writes > 0),
+        Rule::N10 => control.kind == EntryKind::Invalid && control.reads == 0 && control.writes == 0,
+        Rule::N13 => control.kind == EntryKind::Page && control.ro,
+        Rule::N19 => control.kind != EntryKind::Invalid && (control.reads > 0 || control.writes > 0),
         Rule::N18 => true,
         _ => false,
     }
@@ -142,7 +142,7 @@ fn is_fair(answer: Result<(), Denial>, one: Rule, other: Rule) -> bool {
     }
 }
 
-fn lend<P: Allows>(domain: &mut Running<'_, P>) -> bool {
+fn lend<P: Allows>(domain: &mut TestDomain<'_, P>) -> bool {
     if domain.grant(0, &page(2, true)).is_err() {
         return false;
     }
@@ -154,7 +154,7 @@ fn lend<P: Allows>(domain: &mut Running<'_, P>) -> bool {
     false
 }
 
-fn borrow<P: Allows>(domain: &mut Running<'_, P>) -> bool {
+fn borrow<P: Allows>(domain: &mut TestDomain<'_, P>) -> bool {
     match domain.map(1, 0, READ_ONLY) {
         Ok(()) => domain.unmap().is_ok(),
         Err(denial) => denial.rule == Rule::N10 || denial.rule == Rule::N18,
@@ -163,7 +163,7 @@ fn borrow<P: Allows>(domain: &mut Running<'_, P>) -> bool {
 
 // Grants an entry if it is not granted, and keeps what the owner then knows.
 fn grant_once<P: Allows>(
-    domain: &mut Running<'_, P>,
+    domain: &mut TestDomain<'_, P>,
     gref: u32,
     entry: &Entry,
     kept: &mut Kept,
@@ -181,7 +181,7 @@ fn grant_once<P: Allows>(
 }
 
 // Revokes an entry, and keeps what the owner then knows.
-fn revoke_once<P: Allows>(domain: &mut Running<'_, P>, gref: u32, kept: &mut Kept) -> bool {
+fn revoke_once<P: Allows>(domain: &mut TestDomain<'_, P>, gref: u32, kept: &mut Kept) -> bool {
     let revoked = domain.revoke(gref);
     if revoked.is_ok() {
         kept.valid = false;
@@ -190,7 +190,7 @@ fn revoke_once<P: Allows>(domain: &mut Running<'_, P>, gref: u32, kept: &mut Kep
 }
 
 // Makes an entry read-only and writable again.
-fn turn_once<P: Allows>(domain: &mut Running<'_, P>, gref: u32, kept: &mut Kept) -> bool {
+fn turn_once<P: Allows>(domain: &mut TestDomain<'_, P>, gref: u32, kept: &mut Kept) -> bool {
     let demoted = domain.demote(gref);
     if demoted.is_ok() && !kept.ro {
         kept.ro = true;
@@ -206,7 +206,7 @@ fn turn_once<P: Allows>(domain: &mut Running<'_, P>, gref: u32, kept: &mut Kept)
 
 // One round of an owner: its entry is granted if it is not, made read-only and writable again, and revoked.
 fn own_once<P: Allows>(
-    domain: &mut Running<'_, P>,
+    domain: &mut TestDomain<'_, P>,
     gref: u32,
     named: u16,
     kept: &mut Kept,
@@ -218,7 +218,7 @@ fn own_once<P: Allows>(
 }
 
 // One round of a mapper.
-fn map_once<P: Allows>(domain: &mut Running<'_, P>, owner: u16, gref: u32, flags: u32) -> bool {
+fn map_once<P: Allows>(domain: &mut TestDomain<'_, P>, owner: u16, gref: u32, flags: u32) -> bool {
     match domain.map(owner, gref, flags) {
         Ok(()) => domain.unmap().is_ok(),
         Err(denial) => match denial.rule {
@@ -232,13 +232,13 @@ fn map_once<P: Allows>(domain: &mut Running<'_, P>, owner: u16, gref: u32, flags
 // Whether the refusal carries the word of a withdrawn entry that still has read pins.
 fn finds_old_pins(denial: Denial) -> bool {
     match control_of(denial) {
-        Some(control) => control.kind == Kind::Invalid && control.reads > 0,
+        Some(control) => control.kind == EntryKind::Invalid && control.reads > 0,
         None => false,
     }
 }
 
 // Grants the frame if the entry is not granted. It is refused over the pins that a withdrawal left.
-fn grant_frame<P: Allows>(domain: &mut Running<'_, P>, frame: u64, kept: &mut Kept) -> bool {
+fn grant_frame<P: Allows>(domain: &mut TestDomain<'_, P>, frame: u64, kept: &mut Kept) -> bool {
     match domain.grant(0, &page_of(frame)) {
         Ok(()) => {
             let fair = !kept.valid;
@@ -258,7 +258,7 @@ fn grant_frame<P: Allows>(domain: &mut Running<'_, P>, frame: u64, kept: &mut Ke
 }
 
 // Withdraws the entry. It is refused if it is not granted, or if four tries met other pins each.
-fn withdraw_once<P: Allows>(domain: &mut Running<'_, P>, kept: &mut Kept) -> bool {
+fn withdraw_once<P: Allows>(domain: &mut TestDomain<'_, P>, kept: &mut Kept) -> bool {
     match domain.withdraw(0) {
         Ok(()) => {
             let fair = kept.valid;
@@ -274,8 +274,8 @@ fn withdraw_once<P: Allows>(domain: &mut Running<'_, P>, kept: &mut Kept) -> boo
 }
 
 // The byte that all of so many are that were read, if they are alike: so no write came in between.
-fn byte_of(said: &Said, len: u16) -> Option<u8> {
-    let Said::Bytes(bytes) = said else {
+fn byte_of(said: &TestReply, len: u16) -> Option<u8> {
+    let TestReply::Bytes(bytes) = said else {
         return None;
     };
     let Some(first) = bytes.first() else {
@@ -294,22 +294,22 @@ fn byte_of(said: &Said, len: u16) -> Option<u8> {
 }
 
 // Whether these are the bytes of a whole page as its owner wrote it: no page is torn.
-fn is_whole(said: &Said) -> bool {
+fn is_whole(said: &TestReply) -> bool {
     matches!(byte_of(said, PAGE_LEN), Some(0x55 | 0x66))
 }
 
 // One round of a domain that copies a page which its owner may withdraw.
-fn take_once<R: Wait, P: Allows>(rt: &R, domain: &mut Running<'_, P>) -> bool {
+fn take_once<R: Wait, P: Allows>(rt: &R, domain: &mut TestDomain<'_, P>) -> bool {
     match domain.ask(rt, TAKE) {
-        Said::Done => is_whole(&domain.ask(rt, Asks::Peek(3, 0, PAGE_LEN))),
-        Said::Denied(denial) => stands_by(denial, Rule::N10, Rule::N18),
+        TestReply::Done => is_whole(&domain.ask(rt, TestCall::Peek(3, 0, PAGE_LEN))),
+        TestReply::Denied(denial) => stands_by(denial, Rule::N10, Rule::N18),
         _ => false,
     }
 }
 
 // One round of a domain whose entries lead on: one of them is granted if it is not, and revoked.
 fn forward_once<P: Allows>(
-    domain: &mut Running<'_, P>,
+    domain: &mut TestDomain<'_, P>,
     gref: u32,
     named: u16,
     kept: &mut Kept,
@@ -320,23 +320,23 @@ fn forward_once<P: Allows>(
 
 // One round of a domain that copies through an entry which leads on. Either of the two entries may be invalid then, or
 // change its pins in each try.
-fn follow_once<R: Wait, P: Allows>(rt: &R, domain: &mut Running<'_, P>, asks: Asks<'_>) -> bool {
+fn follow_once<R: Wait, P: Allows>(rt: &R, domain: &mut TestDomain<'_, P>, asks: TestCall<'_>) -> bool {
     match domain.ask(rt, asks) {
-        Said::Done => true,
-        Said::Denied(denial) => stands_by(denial, Rule::N10, Rule::N18),
+        TestReply::Done => true,
+        TestReply::Denied(denial) => stands_by(denial, Rule::N10, Rule::N18),
         _ => false,
     }
 }
 
-fn access_once<R: Wait, P: Allows>(rt: &R, domain: &mut Running<'_, P>, access: Access) -> bool {
-    let wrote = matches!(domain.ask(rt, access.write), Said::Done);
+fn access_once<R: Wait, P: Allows>(rt: &R, domain: &mut TestDomain<'_, P>, access: Access) -> bool {
+    let wrote = matches!(domain.ask(rt, access.write), TestReply::Done);
     byte_of(&domain.ask(rt, access.read), LEN).is_some() && wrote
 }
 
 // One round of a domain, and whether it was answered as the rules allow.
 fn round_of<R: Wait, P: Allows>(
     rt: &R,
-    domain: &mut Running<'_, P>,
+    domain: &mut TestDomain<'_, P>,
     part: &mut Part,
     round: u32,
 ) -> bool {
@@ -410,13 +410,13 @@ fn kept_of(part: Part, gref: u32) -> Kept {
 
 // Whether a map is refused by the word of an entry that is invalid and has no pins, at this generation.
 fn finds_idle<P: Allows>(
-    mapper: &mut Running<'_, P>,
+    mapper: &mut TestDomain<'_, P>,
     dom: u16,
     gref: u32,
     generation: u32,
 ) -> bool {
     let idle = Control {
-        kind: Kind::Invalid,
+        kind: EntryKind::Invalid,
         ro: false,
         reads: 0,
         writes: 0,
@@ -463,7 +463,7 @@ fn is_idle<P: Allows>(workers: &mut [Worker<'_, P>], behind: Behind) -> bool {
 pub fn work_at_once<P: Allows + Sync, R: Threads + Wait + Sync>(
     rt: &R,
     alloc: Global,
-    domains: Vec<Running<'_, P>>,
+    domains: Vec<TestDomain<'_, P>>,
     parts: &[(Part, u32)],
     behind: &[Behind],
 ) -> Result<bool, Memory> {

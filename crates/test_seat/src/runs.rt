@@ -2,8 +2,8 @@
 use gt_allow::AllowTable;
 use gt_begin::{DomainSettings, begin, type_of};
 use gt_calls::Handle;
-use gt_entry::{Entry, Kind};
-use gt_seat::Guest;
+use gt_entry::{Entry, EntryKind};
+use gt_seat::AttachedDomain;
 use gt_types::{DomId, GrantRef, Rule};
 use std::alloc::{AllocError, Global};
 
@@ -28,7 +28,7 @@ fn settings(alloc: Global, count: u16, label: u16) -> Result<Vec<DomainSettings>
 }
 
 // Grants a page to a domain.
-fn grants(guest: &mut Guest<AllowTable>, to: u16) -> bool {
+fn grants(guest: &mut AttachedDomain<AllowTable>, to: u16) -> bool {
     let page = Entry::Page {
         dom: DomId(to),
         ro: false,
@@ -38,7 +38,7 @@ fn grants(guest: &mut Guest<AllowTable>, to: u16) -> bool {
 }
 
 // Maps the page of a domain.
-fn maps(guest: &mut Guest<AllowTable>, owner: u16) -> Option<Handle> {
+fn maps(guest: &mut AttachedDomain<AllowTable>, owner: u16) -> Option<Handle> {
     if guest.is_copying() {
         return None;
     }
@@ -46,12 +46,12 @@ fn maps(guest: &mut Guest<AllowTable>, owner: u16) -> Option<Handle> {
 }
 
 // Gives a mapping up.
-fn unmaps(guest: &mut Guest<AllowTable>, handle: Handle) -> bool {
+fn unmaps(guest: &mut AttachedDomain<AllowTable>, handle: Handle) -> bool {
     !guest.is_copying() && guest.unmap(handle).is_ok()
 }
 
 // The rule by which the page is not revoked.
-fn kept_by(guest: &mut Guest<AllowTable>) -> Option<Rule> {
+fn kept_by(guest: &mut AttachedDomain<AllowTable>) -> Option<Rule> {
     if guest.is_copying() {
         return None;
     }
@@ -59,7 +59,7 @@ fn kept_by(guest: &mut Guest<AllowTable>) -> Option<Rule> {
 }
 
 // The kind of the page's entry, and its pins for writing.
-fn status(guest: &mut Guest<AllowTable>) -> Option<(Kind, u16)> {
+fn status(guest: &mut AttachedDomain<AllowTable>) -> Option<(EntryKind, u16)> {
     if guest.is_copying() {
         return None;
     }
@@ -68,7 +68,7 @@ fn status(guest: &mut Guest<AllowTable>) -> Option<(Kind, u16)> {
 }
 
 // Makes a guest ready for the next one in its place; how many entries are in use.
-fn resets(guest: &mut Guest<AllowTable>) -> Option<u64> {
+fn resets(guest: &mut AttachedDomain<AllowTable>) -> Option<u64> {
     if guest.is_copying() {
         return None;
     }
@@ -76,7 +76,7 @@ fn resets(guest: &mut Guest<AllowTable>) -> Option<u64> {
 }
 
 // The guest leaves; how many of its entries are in use.
-fn leaves(guest: Guest<AllowTable>) -> Option<u64> {
+fn leaves(guest: AttachedDomain<AllowTable>) -> Option<u64> {
     if guest.is_copying() {
         return None;
     }
@@ -94,7 +94,7 @@ fn next(place: u16, count: u16) -> u16 {
 }
 
 // Each guest grants its page to the next one.
-fn grant_all(guests: &mut [Guest<AllowTable>], count: u16) -> u16 {
+fn grant_all(guests: &mut [AttachedDomain<AllowTable>], count: u16) -> u16 {
     let mut done = 0u16;
     let mut place = 0u16;
     for guest in guests.iter_mut() {
@@ -107,7 +107,7 @@ fn grant_all(guests: &mut [Guest<AllowTable>], count: u16) -> u16 {
 }
 
 // Each guest maps the page of the one before it.
-fn map_all(guests: &mut [Guest<AllowTable>], count: u16) -> u16 {
+fn map_all(guests: &mut [AttachedDomain<AllowTable>], count: u16) -> u16 {
     let mut done = 0u16;
     let mut owner = count;
     for guest in guests.iter_mut() {
@@ -120,7 +120,7 @@ fn map_all(guests: &mut [Guest<AllowTable>], count: u16) -> u16 {
 }
 
 // How many guests can't revoke their page, since it is in use.
-fn count_busy(guests: &mut [Guest<AllowTable>]) -> u16 {
+fn count_busy(guests: &mut [AttachedDomain<AllowTable>]) -> u16 {
     let mut busy = 0u16;
     for guest in guests.iter_mut() {
         if kept_by(guest) == Some(Rule::N19) {
@@ -131,7 +131,7 @@ fn count_busy(guests: &mut [Guest<AllowTable>]) -> u16 {
 }
 
 // Each guest leaves, the first one first. How many left an entry in use.
-fn leave_all(guests: Vec<Guest<AllowTable>>) -> u16 {
+fn leave_all(guests: Vec<AttachedDomain<AllowTable>>) -> u16 {
     let mut left = 0u16;
     for guest in guests {
         if leaves(guest) == Some(1) {
@@ -180,12 +180,12 @@ fn a_place_is_made_ready_for_the_next_guest(rt: HostRuntime) -> Result<(), Alloc
     let Some(handle) = maps(&mut mapper, 1) else {
         return Err(AllocError);
     };
-    assert_eq!(rt; status(&mut owner), Some((Kind::Page, 1)));
+    assert_eq!(rt; status(&mut owner), Some((EntryKind::Page, 1)));
     assert_eq!(rt; resets(&mut owner), Some(1));
-    assert_eq!(rt; status(&mut owner), Some((Kind::Invalid, 1)));
+    assert_eq!(rt; status(&mut owner), Some((EntryKind::Invalid, 1)));
     assert!(rt; maps(&mut mapper, 1).is_none());
     assert!(rt; unmaps(&mut mapper, handle));
-    assert_eq!(rt; status(&mut owner), Some((Kind::Invalid, 0)));
+    assert_eq!(rt; status(&mut owner), Some((EntryKind::Invalid, 0)));
     assert!(rt; grants(&mut owner, 2));
     assert!(rt; maps(&mut mapper, 1).is_some());
     assert_eq!(rt; resets(&mut mapper), Some(0));

@@ -2,7 +2,7 @@
 ghost use Rattle.test_ways.specs.Apart.{apart_ways};
 
 use gt_replay::Turn;
-use gt_ways::{Led, SearchFault, Space};
+use gt_ways::{TurnResult, SearchFault, TransitionSystem};
 use std::alloc::{AllocError, Global};
 
 /// Two counters that count up to a limit, and print how far they have come.
@@ -19,7 +19,7 @@ pub struct Place {
     pub second: u8,
 }
 
-impl Space for Apart {
+impl TransitionSystem for Apart {
     type State = Place;
 
     ghost ways = { apart_ways };
@@ -57,20 +57,20 @@ impl Space for Apart {
         Ok(turns)
     }
 
-    fn advance(&self, state: &mut Place, turn: Turn) -> Result<Led, SearchFault> {
+    fn advance(&self, state: &mut Place, turn: Turn) -> Result<TurnResult, SearchFault> {
         if turn.place == 0 && state.first < self.limit {
             let mut line = Vec::new(self.alloc);
             line.push(state.first)?;
             state.first += 1;
-            return Ok(Led::Answered(line));
+            return Ok(TurnResult::Answered(line));
         }
         if turn.place == 1 && state.second < self.limit {
             let mut line = Vec::new(self.alloc);
             line.push(state.second)?;
             state.second += 1;
-            return Ok(Led::Answered(line));
+            return Ok(TurnResult::Answered(line));
         }
-        Ok(Led::Nowhere)
+        Ok(TurnResult::Nowhere)
     }
 
     fn is_finished(&self, state: &Place) -> bool {

@@ -2,7 +2,7 @@
 ghost use Rattle.test_ways.specs.Counters.{counters_ways};
 
 use gt_replay::Turn;
-use gt_ways::{Led, SearchFault, Space};
+use gt_ways::{TurnResult, SearchFault, TransitionSystem};
 use std::alloc::{AllocError, Global};
 
 /// Two counters that count up to a limit.
@@ -19,7 +19,7 @@ pub struct Tally {
     pub second: u8,
 }
 
-impl Space for Counters {
+impl TransitionSystem for Counters {
     type State = Tally;
 
     ghost ways = { counters_ways };
@@ -54,18 +54,18 @@ impl Space for Counters {
         Ok(turns)
     }
 
-    fn advance(&self, state: &mut Tally, turn: Turn) -> Result<Led, SearchFault> {
+    fn advance(&self, state: &mut Tally, turn: Turn) -> Result<TurnResult, SearchFault> {
         if turn.place == 0 && state.first < self.limit {
             let mut line = Vec::new(self.alloc);
             line.push(state.second)?;
             state.first += 1;
-            return Ok(Led::Answered(line));
+            return Ok(TurnResult::Answered(line));
         }
         if turn.place == 1 && state.second < self.limit {
             state.second += 1;
-            return Ok(Led::On);
+            return Ok(TurnResult::On);
         }
-        Ok(Led::Nowhere)
+        Ok(TurnResult::Nowhere)
     }
 
     fn is_finished(&self, state: &Tally) -> bool {

@@ -1,10 +1,10 @@
 //! The texts of two counters.
 use crate::counters::Counters;
-use gt_ways::{Found, search};
+use gt_ways::{SearchResult, search};
 use std::test::Fail;
 
 // Whether an order has this text.
-fn has(found: &Found, text: &[u8]) -> bool {
+fn has(found: &SearchResult, text: &[u8]) -> bool {
     for order in found.orders.as_slice() {
         if order.text.as_slice() == text {
             return true;

@@ -7,7 +7,7 @@ ghost use Rattle.test_words.specs.Rows.{HasRow, HasRowStill, IsRowOf};
 ghost use Rattle.gt_words.specs.Conditions.{KeepsPins, IsSeatOf, IsSameSeat, HasLooked, HasDomain, IsEntryOf};
 ghost use Rattle.gt_words.specs.Conditions.{position_at};
 
-use gt_entry::{Control, Entry, Half, Kind};
+use gt_entry::{Control, Entry, BodyWord, EntryKind};
 use gt_types::{
     Config, Dir, DomId, DomainConfig, GrantRef, LAST_GENERATION, MAX_PINS, Range, StartFault,
     TABLE_ENTRIES, TypeId, Use,
@@ -49,8 +49,8 @@ pub(crate) fn look(words: &Words, seat: &mut Seat, dom: DomId, gref: GrantRef) -
     ensures pins { KeepsPins seat.old.view seat.new.view }
 {
     let word = words.load_control(seat, dom, gref);
-    let first = words.load_body(seat, dom, gref, Half::First);
-    let second = words.load_body(seat, dom, gref, Half::Second);
+    let first = words.load_body(seat, dom, gref, BodyWord::First);
+    let second = words.load_body(seat, dom, gref, BodyWord::Second);
     let entry = Entry::spelled(Control::unpack(word), first, second);
     Sight { word, entry }
 }
@@ -76,7 +76,7 @@ pub(crate) fn try_pin(
     let control = Control::unpack(sight.word);
     let range = Range { off: 0, len: 0 };
     let mine = seat.dom();
-    if control.kind == Kind::Invalid || control.pins(dir) >= MAX_PINS {
+    if control.kind == EntryKind::Invalid || control.pins(dir) >= MAX_PINS {
         return None;
     }
     if sight.entry.permits(mine, dir, Use::Copy, range) {
@@ -102,8 +102,8 @@ pub(crate) fn publish(
     if !row.entry.is_invalid() || row.generation >= LAST_GENERATION {
         return Err(0);
     }
-    words.store_body(seat, ENTRY, Half::First, entry.first_body());
-    words.store_body(seat, ENTRY, Half::Second, entry.second_body());
+    words.store_body(seat, ENTRY, BodyWord::First, entry.first_body());
+    words.store_body(seat, ENTRY, BodyWord::Second, entry.second_body());
     let word = Control::of_entry(Entry::Invalid, row.generation, 0, 0).pack();
     words.grant(seat, ENTRY, word, entry)?;
     row.entry = entry;

@@ -3,7 +3,7 @@
 use Rattle.gt_core.proofs.Words.{◌≡◌, ◌≢◌, ◌<◌, ◌≤◌, ◌+◌, ℕ, refl, Bool, true, List, ◌∷◌, length, Option, Some, None}
 use Rattle.gt_core.proofs.Words.{cond, sym, ap, ◌∙◌, arith, subst, get_or, eqb-true, none-some, slice_get-get_or}
 use Rattle.gt_core.proofs.Words.{option_map, ◌==◌, All, slice_get, fun_ext, DomId, GrantRef, TABLE_ENTRIES}
-use Rattle.gt_core.proofs.Words.{LAST_GENERATION, Entry, Invalid, Change, Publish, IsEntry, Own, Open, Item, Answer}
+use Rattle.gt_core.proofs.Words.{LAST_GENERATION, Entry, Invalid, EntryChange, Publish, IsEntry, OwnerEntry, OpenCall, Item, Answer}
 use Rattle.gt_core.proofs.Words.{entry_in, own_generation, row_entry, row_generation, changed_at, State, state_of}
 use Rattle.gt_core.proofs.Words.{changed_in, with_own, own_after, History, Setting, Pin, live, entry_at, raises_at}
 use Rattle.gt_core.proofs.Words.{raise_of, generation_at, open_call, change_of, changed_entry_of, raise_after}
@@ -16,9 +16,9 @@ use Rattle.gt_core.proofs.Words.{lt-leb, lt-ltb, ltb-false, ltb-true, nat_le, na
 use Rattle.gt_core.proofs.Words.{is_invalid, control_of, control_word, ToReadOnly, ToWritable, ToInvalid, ToWithdrawn}
 use Rattle.gt_core.proofs.Words.{FirstHalf, SecondHalf, last_first, no_pins, action_at, phase_after, refused_as, opens}
 use Rattle.gt_core.proofs.Words.{Continuation, idle_word, path, RestsOnWord, CallerKnowledge, begun, control_with}
-use Rattle.gt_core.proofs.Words.{size_of, stands, HasShown, IsQuiet, IsTurn, Makes, Seen, Missed, Taken, Step, Exchange}
+use Rattle.gt_core.proofs.Words.{size_of, stands, HasShown, IsQuiet, IsTurn, Makes, Observation, Missed, Taken, Step, Exchange}
 use Rattle.gt_core.proofs.Words.{Granted, Phase, Changing, Ending, Exchanging, Last, Looking, Walking, MORE_TRIES}
-use Rattle.gt_core.proofs.Words.{Asked, Demote, Grant, Promote, Revoke, Withdraw, known_at, reads_at, seen_by, word_at}
+use Rattle.gt_core.proofs.Words.{OpenRequest, Demote, Grant, Promote, Revoke, Withdraw, known_at, reads_at, seen_by, word_at}
 use Rattle.gt_core.proofs.Words.{writes_at, IsSpelled, StepsSoFar, at_entry, first_at, FitsAsked, PhaseStands}
 use Rattle.gt_core.proofs.Words.{phase_refusal, body_at, table_at, misses}
 use Rattle.gt_core.proofs.{Steps.Observers.unstored, Steps.Observers.answered-stays, Steps.Observers.kept-table}
@@ -34,25 +34,25 @@ use Rattle.gt_core.proofs.{Phases.Leads, Legs.late-last, Legs.late-more, Legs.co
 use Rattle.gt_core.proofs.{Steps.See.table-fits, Steps.Look.writes-shown}
 
 -- each number of the entry that is published fits its type
-abbrev pub FitsChange : Change → Type 0
+abbrev pub FitsChange : EntryChange → Type 0
 FitsChange (Publish entry) = IsEntry entry
 FitsChange change = Unit {0}
 
 -- the owner's rows
 
-row-changed : (b : Bool) (o : Option Own) (change : Change) (first raises : ℕ) → (b ≡ true → (o ≢ None) × (first + raises + raise_of change ≤ LAST_GENERATION)) → row_generation first o ≡ first + raises
+row-changed : (b : Bool) (o : Option OwnerEntry) (change : EntryChange) (first raises : ℕ) → (b ≡ true → (o ≢ None) × (first + raises + raise_of change ≤ LAST_GENERATION)) → row_generation first o ≡ first + raises
     → (row_entry (cond b (option_map (own_after change) o) o) ≡ changed_entry_of (cond b (Some change) None) (row_entry o))
     × (row_generation first (cond b (option_map (own_after change) o) o) ≡ first + (raises + raise_after (cond b (Some change) None)))
 row-changed b o change first raises room e = grind arith
 
-row-some : (xs : List Own) (r q : ℕ) (own : Own) → r < length xs → (r == q) ≡ true → slice_get xs q ≢ None
+row-some : (xs : List OwnerEntry) (r q : ℕ) (own : OwnerEntry) → r < length xs → (r == q) ≡ true → slice_get xs q ≢ None
 row-some xs r q own within e none =
     none-some (get_or xs r own) (sym none ∙ ap (slice_get xs) (sym (eqb-true r q e)) ∙ slice_get-get_or xs r own within)
 
-abbrev no_row : Own
+abbrev no_row : OwnerEntry
 no_row = record { entry = Invalid; generation = 0 }
 
-own-changed-at : (s : Setting) (h : History) (x : State) (gref : GrantRef) (looked : ℕ) (change : Change) (answer : Option Answer) (r : ℕ) → gref.0 < TABLE_ENTRIES → generation_at s h x.id.0 gref.0 + raise_of change ≤ LAST_GENERATION → StateStands s h x
+own-changed-at : (s : Setting) (h : History) (x : State) (gref : GrantRef) (looked : ℕ) (change : EntryChange) (answer : Option Answer) (r : ℕ) → gref.0 < TABLE_ENTRIES → generation_at s h x.id.0 gref.0 + raise_of change ≤ LAST_GENERATION → StateStands s h x
     → (entry_in (changed_at gref.0 (own_after change) x.own) r ≡ entry_at (exchanged x.id gref looked change answer ∷ h) x.id.0 r)
     × (own_generation s.first_generation (changed_at gref.0 (own_after change) x.own) r ≡ generation_at s (exchanged x.id gref looked change answer ∷ h) x.id.0 r)
 own-changed-at s h x gref looked change answer r within room a = let rows = a.rows in let inside : gref.0 < length x.own = omega arith in
@@ -62,19 +62,19 @@ own-changed-at s h x gref looked change answer r within room a = let rows = a.ro
 -- the entries: the one that the exchange changes, and the others
 
 -- the facts of an entry after a change
-abbrev facts_after : Setting → History → ℕ → ℕ → Option Change → Facts
+abbrev facts_after : Setting → History → ℕ → ℕ → Option EntryChange → Facts
 facts_after s h t r c = record (facts_at s h t r) { entry = changed_entry_of c (entry_at h t r); generation = s.first_generation + (raises_at h t r + raise_after c) }
 
-exchanged-facts : (s : Setting) (h : History) (d : DomId) (gref : GrantRef) (looked : ℕ) (change : Change) (answer : Option Answer) (t r : ℕ)
+exchanged-facts : (s : Setting) (h : History) (d : DomId) (gref : GrantRef) (looked : ℕ) (change : EntryChange) (answer : Option Answer) (t r : ℕ)
     → facts_at s (exchanged d gref looked change answer ∷ h) t r ≡ facts_after s h t r (change_of (exchanged d gref looked change answer) t r)
 exchanged-facts s h d gref looked change answer t r = grind (arith, exchanged-entry, exchanged-raises, exchanged-live, unstored)
 
-facts-fit-after : (s : Setting) (h : History) (xs : List State) (d t g r : ℕ) (change : Change) → DomainsStand s h xs → g < TABLE_ENTRIES → IsSafeChange h d g change → FitsChange change → generation_at s h d g + raise_of change ≤ LAST_GENERATION
+facts-fit-after : (s : Setting) (h : History) (xs : List State) (d t g r : ℕ) (change : EntryChange) → DomainsStand s h xs → g < TABLE_ENTRIES → IsSafeChange h d g change → FitsChange change → generation_at s h d g + raise_of change ≤ LAST_GENERATION
     → Fits r (facts_after s h t r (cond (d == t) (cond (g == r) (Some change) None) None))
 facts-fit-after s h xs d t g r change st within safe fits room = grind (arith, facts-fit, eqb-true, counts-fit)
 
 -- an owner's change that is safe, and has room, keeps what the core stands for
-pub exchange-stands : (s : Setting) (h : History) (xs ys : List State) (x : State) (gref : GrantRef) (looked : ℕ) (change : Change) (answer : Option Answer) (o : Option Open) → DomainsStand s h xs
+pub exchange-stands : (s : Setting) (h : History) (xs ys : List State) (x : State) (gref : GrantRef) (looked : ℕ) (change : EntryChange) (answer : Option Answer) (o : Option OpenCall) → DomainsStand s h xs
     → state_of xs x.id.0 ≡ Some x → StateStands s h x → ((q : ℕ) → state_of ys q ≡ cond (x.id.0 == q) (Some (record x { underway = o })) (state_of xs q))
     → gref.0 < TABLE_ENTRIES → IsSafeChange h x.id.0 gref.0 change → FitsChange change → generation_at s h x.id.0 gref.0 + raise_of change ≤ LAST_GENERATION → one_if_mapped answer ≡ 0
     → CallAgrees s (exchanged x.id gref looked change answer ∷ h) x.id o (open_call (exchanged x.id gref looked change answer ∷ h) x.id.0) → GivenAgrees (exchanged x.id gref looked change answer ∷ h) x.id.0 x.given
@@ -131,32 +131,32 @@ grant-invalid s h d gref entry none = invalid-is (entry_at h d.0 gref.0) (opens 
 table-below : (s : Setting) (h : History) (xs : List State) (d : DomId) (gref : GrantRef) → DomainsStand s h xs → gref.0 < size_of (table_at s h d) → gref.0 < TABLE_ENTRIES
 table-below s h xs d gref st lt = let le : size_of (table_at s h d) ≤ TABLE_ENTRIES = (table-fits _ (st.tables d)).0 in omega arith
 
-pub word-below : (s : Setting) (h : History) (xs : List State) (d : DomId) (r : Asked) (way : Continuation) (shown : List Seen) (gref : GrantRef) (word : ℕ) (change : Change) → DomainsStand s h xs → begun (known_at s h d) d r ≡ None
+pub word-below : (s : Setting) (h : History) (xs : List State) (d : DomId) (r : OpenRequest) (way : Continuation) (shown : List Observation) (gref : GrantRef) (word : ℕ) (change : EntryChange) → DomainsStand s h xs → begun (known_at s h d) d r ≡ None
     → RestsOnWord (known_at s h d) way d r shown gref word change → gref.0 < TABLE_ENTRIES
 word-below s h xs d r way shown gref word (Publish entry) st none rests = table-below s h xs d gref st (opens (known_at s h d) d (Grant gref entry) (none-of (known_at s h d) d r (Grant gref entry) rests.0 none)).in_table
-word-below s h xs d r way shown gref word ToInvalid st none rests = table-below s h xs d gref st (opens (known_at s h d) d (Revoke gref) (subst (λ (z : Asked). begun (known_at s h d) d z ≡ None) rests.0 none)).in_table
-word-below s h xs d r way shown gref word ToWithdrawn st none rests = table-below s h xs d gref st (opens (known_at s h d) d (Withdraw gref) (subst (λ (z : Asked). begun (known_at s h d) d z ≡ None) rests.0 none)).in_table
-word-below s h xs d r way shown gref word ToReadOnly st none rests = table-below s h xs d gref st (opens (known_at s h d) d (Demote gref) (subst (λ (z : Asked). begun (known_at s h d) d z ≡ None) rests.0 none)).in_table
-word-below s h xs d r way shown gref word ToWritable st none rests = table-below s h xs d gref st (opens (known_at s h d) d (Promote gref) (subst (λ (z : Asked). begun (known_at s h d) d z ≡ None) rests.0 none)).in_table
+word-below s h xs d r way shown gref word ToInvalid st none rests = table-below s h xs d gref st (opens (known_at s h d) d (Revoke gref) (subst (λ (z : OpenRequest). begun (known_at s h d) d z ≡ None) rests.0 none)).in_table
+word-below s h xs d r way shown gref word ToWithdrawn st none rests = table-below s h xs d gref st (opens (known_at s h d) d (Withdraw gref) (subst (λ (z : OpenRequest). begun (known_at s h d) d z ≡ None) rests.0 none)).in_table
+word-below s h xs d r way shown gref word ToReadOnly st none rests = table-below s h xs d gref st (opens (known_at s h d) d (Demote gref) (subst (λ (z : OpenRequest). begun (known_at s h d) d z ≡ None) rests.0 none)).in_table
+word-below s h xs d r way shown gref word ToWritable st none rests = table-below s h xs d gref st (opens (known_at s h d) d (Promote gref) (subst (λ (z : OpenRequest). begun (known_at s h d) d z ≡ None) rests.0 none)).in_table
 
-pub turn-below : (s : Setting) (h : History) (xs : List State) (d : DomId) (r : Asked) (gref : GrantRef) (change : Change) → DomainsStand s h xs → begun (known_at s h d) d r ≡ None
+pub turn-below : (s : Setting) (h : History) (xs : List State) (d : DomId) (r : OpenRequest) (gref : GrantRef) (change : EntryChange) → DomainsStand s h xs → begun (known_at s h d) d r ≡ None
     → IsTurn r gref change → gref.0 < TABLE_ENTRIES
-turn-below s h xs d r gref ToWithdrawn st none is = table-below s h xs d gref st (opens (known_at s h d) d (Withdraw gref) (subst (λ (z : Asked). begun (known_at s h d) d z ≡ None) is none)).in_table
-turn-below s h xs d r gref ToReadOnly st none is = table-below s h xs d gref st (opens (known_at s h d) d (Demote gref) (subst (λ (z : Asked). begun (known_at s h d) d z ≡ None) is none)).in_table
-turn-below s h xs d r gref ToWritable st none is = table-below s h xs d gref st (opens (known_at s h d) d (Promote gref) (subst (λ (z : Asked). begun (known_at s h d) d z ≡ None) is none)).in_table
+turn-below s h xs d r gref ToWithdrawn st none is = table-below s h xs d gref st (opens (known_at s h d) d (Withdraw gref) (subst (λ (z : OpenRequest). begun (known_at s h d) d z ≡ None) is none)).in_table
+turn-below s h xs d r gref ToReadOnly st none is = table-below s h xs d gref st (opens (known_at s h d) d (Demote gref) (subst (λ (z : OpenRequest). begun (known_at s h d) d z ≡ None) is none)).in_table
+turn-below s h xs d r gref ToWritable st none is = table-below s h xs d gref st (opens (known_at s h d) d (Promote gref) (subst (λ (z : OpenRequest). begun (known_at s h d) d z ≡ None) is none)).in_table
 turn-below s h xs d r gref change st none is = absurd is
 
 -- what an exchange that is taken rests on
 
 -- the change is one that the entry allows and has room for
-pub record CanChange (s : Setting) (h : History) (d : DomId) (gref : GrantRef) (change : Change) : Type 0 where
+pub record CanChange (s : Setting) (h : History) (d : DomId) (gref : GrantRef) (change : EntryChange) : Type 0 where
   pub within : gref.0 < TABLE_ENTRIES
   pub safe : IsSafeChange h d.0 gref.0 change
   pub fits : FitsChange change
   pub room : generation_at s h d.0 gref.0 + raise_of change ≤ LAST_GENERATION
 
 -- a publication follows the stores that spell its entry
-publish-spelled : (s : Setting) (h : History) (d : DomId) (r : Asked) (way : Continuation) (shown : List Seen) (so_far : StepsSoFar) (p : Phase) (gref : GrantRef) (looked : ℕ) (entry : Entry) → HasShown (known_at s h d) way d r shown p → PhaseStands s h d r so_far p
+publish-spelled : (s : Setting) (h : History) (d : DomId) (r : OpenRequest) (way : Continuation) (shown : List Observation) (so_far : StepsSoFar) (p : Phase) (gref : GrantRef) (looked : ℕ) (entry : Entry) → HasShown (known_at s h d) way d r shown p → PhaseStands s h d r so_far p
     → action_at d p ≡ Makes (Exchange gref looked (Publish entry)) → IsSpelled entry (body_at h d.0 gref.0 FirstHalf) (body_at h d.0 gref.0 SecondHalf)
 publish-spelled s h d r way shown so_far (Exchanging g w (Publish e)) gref looked entry a b acts = let same : e ≡ entry = cc in let at : g ≡ gref = cc in rw (← same, ← at) b
 publish-spelled s h d r way shown so_far (Changing g (Publish e) more w) gref looked entry a b acts = absurd a.1
@@ -175,7 +175,7 @@ generation-fits s h xs t r st within = let f = (st.words t r within).in_range.ge
 not-last : (g : ℕ) → g ≤ LAST_GENERATION → g ≢ LAST_GENERATION → g + 1 ≤ LAST_GENERATION
 not-last g le apart = omega arith
 
-pub can-change : (s : Setting) (h : History) (xs : List State) (d : DomId) (r : Asked) (shown : List Seen) (so_far : StepsSoFar) (phase : Phase) (gref : GrantRef) (looked : ℕ) (change : Change) → IsHere s h xs d r shown so_far phase (Exchange gref looked change)
+pub can-change : (s : Setting) (h : History) (xs : List State) (d : DomId) (r : OpenRequest) (shown : List Observation) (so_far : StepsSoFar) (phase : Phase) (gref : GrantRef) (looked : ℕ) (change : EntryChange) → IsHere s h xs d r shown so_far phase (Exchange gref looked change)
     → word_at s h d.0 gref.0 ≡ looked → CanChange s h d gref change
 can-change s h xs d r shown so_far phase gref looked change i same = by change i.rests.1 i.acts where
   k : CallerKnowledge
@@ -187,7 +187,7 @@ can-change s h xs d r shown so_far phase gref looked change i same = by change i
   fits-now : generation_at s h d.0 gref.0 ≤ LAST_GENERATION
   fits-now = generation-fits s h xs d.0 gref.0 i.st below
 
-  by : (z : Change) → RestsOnWord k (path k d r) d r shown gref looked z → action_at d phase ≡ Makes (Exchange gref looked z) → CanChange s h d gref z
+  by : (z : EntryChange) → RestsOnWord k (path k d r) d r shown gref looked z → action_at d phase ≡ Makes (Exchange gref looked z) → CanChange s h d gref z
   by (Publish entry) rests acts = let none = none-of k d r (Grant gref entry) rests.0 i.rests.0 in
       let free : reads_at h d.0 gref.0 + writes_at h d.0 gref.0 ≡ 0 = idle-pins (entry_at h d.0 gref.0) (generation_at s h d.0 gref.0) (reads_at h d.0 gref.0) (writes_at h d.0 gref.0) (same ∙ rests.1) in record {
         within = below;
@@ -209,27 +209,27 @@ can-change s h xs d r shown so_far phase gref looked change i same = by change i
 
 -- the rule at an exchange, and where it leads
 
-busy-refusal : (k : CallerKnowledge) (d : DomId) (gref : GrantRef) (looked w : ℕ) (change : Change) (pins : ℕ) (b : Bool) → (b ≡ true → pins ≡ 0) → (b ≡ false → pins ≡ 0 → ⊥)
+busy-refusal : (k : CallerKnowledge) (d : DomId) (gref : GrantRef) (looked w : ℕ) (change : EntryChange) (pins : ℕ) (b : Bool) → (b ≡ true → pins ≡ 0) → (b ≡ false → pins ≡ 0 → ⊥)
     → at_entry d gref w (stands (nat_lt 0 pins) N19) ≡ phase_refusal (phase_after k d (Exchanging gref looked change) (cond b Taken (Missed w)))
 busy-refusal k d gref looked w change pins true free held = ap (λ (n : ℕ). at_entry d gref w (stands (nat_lt 0 n) N19)) (free refl)
 busy-refusal k d gref looked w change zero false free held = absurd (held refl refl)
 busy-refusal k d gref looked w change (suc pins) false free held = ap (λ (b : Bool). at_entry d gref w (stands b N19)) (lt-ltb 0 (suc pins) (omega arith))
 
 -- an exchange from the owner's word without pins is refused exactly where its entry has pins
-idle-judged : (s : Setting) (h : History) (d : DomId) (gref : GrantRef) (looked : ℕ) (change : Change) → looked ≡ idle_word (known_at s h d) gref → let w = word_at s h d.0 gref.0 in
+idle-judged : (s : Setting) (h : History) (d : DomId) (gref : GrantRef) (looked : ℕ) (change : EntryChange) → looked ≡ idle_word (known_at s h d) gref → let w = word_at s h d.0 gref.0 in
     at_entry d gref w (stands (nat_lt 0 (reads_at h d.0 gref.0 + writes_at h d.0 gref.0)) N19) ≡ phase_refusal (phase_after (known_at s h d) d (Exchanging gref looked change) (cond (w == looked) Taken (Missed w)))
 idle-judged s h d gref looked change is = let w = word_at s h d.0 gref.0 in
     busy-refusal (known_at s h d) d gref looked w change (reads_at h d.0 gref.0 + writes_at h d.0 gref.0) (w == looked)
     (λ b. idle-pins (entry_at h d.0 gref.0) (generation_at s h d.0 gref.0) (reads_at h d.0 gref.0) (writes_at h d.0 gref.0) (eqb-true w looked b ∙ is))
     (λ b none. false≢true (sym b ∙ eq-eqb w looked (idle-here s h d gref none ∙ sym is)))
 
-pub once-judged : (s : Setting) (h : History) (d : DomId) (r : Asked) (way : Continuation) (shown : List Seen) (so_far : StepsSoFar) (gref : GrantRef) (looked : ℕ) (change : Change)
+pub once-judged : (s : Setting) (h : History) (d : DomId) (r : OpenRequest) (way : Continuation) (shown : List Observation) (so_far : StepsSoFar) (gref : GrantRef) (looked : ℕ) (change : EntryChange)
     → RestsOnWord (known_at s h d) way d r shown gref looked change → PhaseStands s h d r so_far (Exchanging gref looked change) → Judged s h d r so_far (Exchanging gref looked change) (Exchange gref looked change)
 once-judged s h d r way shown so_far gref looked (Publish entry) rests place = idle-judged s h d gref looked (Publish entry) rests.1
 once-judged s h d r way shown so_far gref looked ToInvalid rests place = idle-judged s h d gref looked ToInvalid rests.1
 once-judged s h d r way shown so_far gref looked change rests place = absurd place
 
-change-leads : (s : Setting) (h : History) (d : DomId) (r : Asked) (gref : GrantRef) (change : Change) (more looked w : ℕ) (so_far : StepsSoFar) (b : Bool) → misses so_far + more ≡ MORE_TRIES
+change-leads : (s : Setting) (h : History) (d : DomId) (r : OpenRequest) (gref : GrantRef) (change : EntryChange) (more looked w : ℕ) (so_far : StepsSoFar) (b : Bool) → misses so_far + more ≡ MORE_TRIES
     → Leads s h d r ((Exchange gref looked change, cond b Taken (Missed w)) ∷ so_far) (at_entry d gref w (stands (nat_le MAX_TRIES (misses ((Exchange gref looked change, cond b Taken (Missed w)) ∷ so_far))) N18))
     (phase_after (known_at s h d) d (Changing gref change more looked) (cond b Taken (Missed w)))
 unfolding misses
@@ -240,14 +240,14 @@ change-leads s h d r gref change more looked w so_far false turn = let now : Ste
     (λ f. (ap (λ (x : Bool). at_entry d gref w (stands x N18)) (late-last (misses so_far) more turn (ltb-false 0 more f)), inl refl))
 
 -- an exchange that ends a turn
-pub turn-leads : (s : Setting) (h : History) (d : DomId) (r : Asked) (so_far : StepsSoFar) (gref : GrantRef) (change : Change) (more looked : ℕ) → IsTurn r gref change → misses so_far + more ≡ MORE_TRIES → let v = seen_by s h d (Exchange gref looked change) in
+pub turn-leads : (s : Setting) (h : History) (d : DomId) (r : OpenRequest) (so_far : StepsSoFar) (gref : GrantRef) (change : EntryChange) (more looked : ℕ) → IsTurn r gref change → misses so_far + more ≡ MORE_TRIES → let v = seen_by s h d (Exchange gref looked change) in
     Leads s h d r ((Exchange gref looked change, v) ∷ so_far) (first_at s h d r so_far (Exchange gref looked change)) (phase_after (known_at s h d) d (Changing gref change more looked) v)
 turn-leads s h d r so_far gref (Publish entry) more looked is turn = absurd is
 turn-leads s h d r so_far gref ToInvalid more looked is turn = absurd is
 turn-leads s h d r so_far gref change more looked is turn = change-leads s h d r gref change more looked (word_at s h d.0 gref.0) so_far (word_at s h d.0 gref.0 == looked) turn
 
 -- it ends its call
-pub taken-ends : (k : CallerKnowledge) (way : Continuation) (d : DomId) (r : Asked) (shown : List Seen) (phase : Phase) (gref : GrantRef) (looked : ℕ) (change : Change) → HasShown k way d r shown phase → action_at d phase ≡ Makes (Exchange gref looked change)
+pub taken-ends : (k : CallerKnowledge) (way : Continuation) (d : DomId) (r : OpenRequest) (shown : List Observation) (phase : Phase) (gref : GrantRef) (looked : ℕ) (change : EntryChange) → HasShown k way d r shown phase → action_at d phase ≡ Makes (Exchange gref looked change)
     → phase_after k d phase Taken ≡ Ending no_pins Granted
 taken-ends k way d r shown (Exchanging g w c) gref looked change a e = refl
 taken-ends k way d r shown (Changing g c more w) gref looked change a e = refl

@@ -4,13 +4,13 @@ use Rattle.gt_core.proofs.Words.{ℕ, Bool, List, None, Option, Some, [], ap, ar
 use Rattle.gt_core.proofs.Words.{true, ◌+◌, ◌<◌, ◌∙◌, ◌∷◌, ◌≡◌, ◌≢◌, ◌≤◌, eqb-true, ltb-true, true≢false, nat_le}
 use Rattle.gt_core.proofs.Words.{nat_lt, not, ◌&&◌, ◌==◌, denial_of, domain_of, DomId, GrantRef, Denial, HeaderFacts}
 use Rattle.gt_core.proofs.Words.{Rule, N18, N19, N9, MAX_TRIES, TABLE_ENTRIES, IsEntry, entry-read, entry_of}
-use Rattle.gt_core.proofs.Words.{first_body, control_of, header_of, header_word, Change, ToReadOnly, ToWritable}
-use Rattle.gt_core.proofs.Words.{ToWithdrawn, Half, FirstHalf, SecondHalf, Control, KindSub, Entry, Invalid, Sub}
-use Rattle.gt_core.proofs.Words.{Header, after_look, after_miss, after_words, leg_after, leg_step, refused_as, opens}
+use Rattle.gt_core.proofs.Words.{first_body, control_of, header_of, header_word, EntryChange, ToReadOnly, ToWritable}
+use Rattle.gt_core.proofs.Words.{ToWithdrawn, BodyWord, FirstHalf, SecondHalf, Control, KindSub, Entry, Invalid, Sub}
+use Rattle.gt_core.proofs.Words.{Header, on_control_word, after_miss, after_words, leg_after, leg_step, refused_as, opens}
 use Rattle.gt_core.proofs.Words.{entry_refusal, rule_of_try, begun, control_with, first, first_look, is_kind, size_of}
-use Rattle.gt_core.proofs.Words.{stands, IsTurn, Seen, Word, LookBody, LookControl, LookHeader, Asking, Changing}
-use Rattle.gt_core.proofs.Words.{Looking, Question, AsksSize, AsksVersion, Leg, Going, LegRefused, LegPhase, Body}
-use Rattle.gt_core.proofs.Words.{AtHeader, Look, Pinning, Relook, Second, MORE_TRIES, Asked, GetVersion, QuerySize}
+use Rattle.gt_core.proofs.Words.{stands, IsTurn, Observation, Word, LookBody, LookControl, LookHeader, Asking, Changing}
+use Rattle.gt_core.proofs.Words.{Looking, HeaderQuery, AsksSize, AsksVersion, Leg, Going, LegRefused, LegPhase, Body}
+use Rattle.gt_core.proofs.Words.{AtHeader, Look, Pinning, Relook, Second, MORE_TRIES, OpenRequest, GetVersion, QuerySize}
 use Rattle.gt_core.proofs.Words.{History, Setting, control_at, generation_at, known_at, reads_at, seen_by, word_at}
 use Rattle.gt_core.proofs.Words.{writes_at, IsSpelled, LegNow, StepsSoFar, at_entry, first_at, is_demote, is_in_body}
 use Rattle.gt_core.proofs.Words.{is_other, leg_at, rule_at_header, rule_at_look, rule_before_pin, AsksTable}
@@ -57,14 +57,14 @@ read-entry c e first second shown is a = ap (λ (z : Control). entry_of z first 
 
 -- a leg's words in the history
 module _ (s : Setting) (h : History) (l : Leg) (ws : Words s h l) where
-  header-comes : (v : Seen) (so_far : StepsSoFar) (rule : Option Denial) (b : Bool) (denial : Denial) → (b ≡ true → l.gref.0 < TABLE_ENTRIES) → cond b None (Some denial) ≡ rule
+  header-comes : (v : Observation) (so_far : StepsSoFar) (rule : Option Denial) (b : Bool) (denial : Denial) → (b ≡ true → l.gref.0 < TABLE_ENTRIES) → cond b None (Some denial) ≡ rule
       → ComesTo s h l ((LookHeader l.dom, v) ∷ so_far) rule (cond b (Going (Look MORE_TRIES)) (LegRefused denial))
   unfolding misses
   header-comes v so_far rule true denial within e = (e, (within refl, refl, refl))
   header-comes v so_far rule false denial within e = e
 
   look-comes : (more : ℕ) (so_far : StepsSoFar) (rule : Option Denial) (o : Option Rule) → LegStands s h l so_far (Look more) → first_look l (control_of (word_at s h l.dom.0 l.gref.0)) ≡ o → at_entry l.dom l.gref (word_at s h l.dom.0 l.gref.0) o ≡ rule
-      → ComesTo s h l ((LookControl l.dom l.gref, Word (word_at s h l.dom.0 l.gref.0)) ∷ so_far) rule (after_look l more (word_at s h l.dom.0 l.gref.0) o)
+      → ComesTo s h l ((LookControl l.dom l.gref, Word (word_at s h l.dom.0 l.gref.0)) ∷ so_far) rule (on_control_word l more (word_at s h l.dom.0 l.gref.0) o)
   unfolding looked_at
   look-comes more so_far rule (Some r) a e f = f
   look-comes more so_far rule None a e f = let t = l.dom.0 in let r = l.gref.0 in let w = word_at s h t r in let now : control_of w ≡ control_at s h t r = ws.round a.0 in
@@ -82,11 +82,11 @@ module _ (s : Setting) (h : History) (l : Leg) (ws : Words s h l) where
 
   -- at body words
 
-  body-looked : (more word : ℕ) (so_far : StepsSoFar) (half : Half) (v : Seen) → LegHasLooked s h l so_far more word → LegHasLooked s h l ((LookBody l.dom l.gref half, v) ∷ so_far) more word
+  body-looked : (more word : ℕ) (so_far : StepsSoFar) (half : BodyWord) (v : Observation) → LegHasLooked s h l so_far more word → LegHasLooked s h l ((LookBody l.dom l.gref half, v) ∷ so_far) more word
   unfolding misses looked_at
   body-looked more word so_far half v a = let t = a.turn in record { within = a.within; turn = (omega arith); looked = a.looked; passed = a.passed; reached = a.reached; shown = a.shown }
 
-  words-come : (more word body second : ℕ) (half : Half) (v : Seen) (so_far : StepsSoFar) (o : Option Rule) → rule_of_try l word body second ≡ o → LegHasLooked s h l so_far more word
+  words-come : (more word body second : ℕ) (half : BodyWord) (v : Observation) (so_far : StepsSoFar) (o : Option Rule) → rule_of_try l word body second ≡ o → LegHasLooked s h l so_far more word
       → WhileSame s h l word (λ (e : Entry). entry_of (control_of word) body second ≡ e) → ComesTo s h l ((LookBody l.dom l.gref half, v) ∷ so_far) None (after_words more word body second o)
   words-come more word body second half v so_far None e a same = (refl, (body-looked more word so_far half v a, record { in_body = refl; judged = e; spelled = same }))
   words-come more word body second half v so_far (Some rule) e a same = (refl, (body-looked more word so_far half v a, (body, second, record { in_body = refl; judged = e; spelled = same })))
@@ -109,7 +109,7 @@ module _ (s : Setting) (h : History) (l : Leg) (ws : Words s h l) where
       (ap (at_entry l.dom l.gref w) (alone (stands (nat_le MAX_TRIES (1 + misses so_far)) N18)) ∙ f)
 
   -- the leg of an open call
-  module _ (d : DomId) (r : Asked) (pair : DomId → DomId × DomId) (is : IsLegOf s h d r l pair) (plain : is_demote r ≡ false) where
+  module _ (d : DomId) (r : OpenRequest) (pair : DomId → DomId × DomId) (is : IsLegOf s h d r l pair) (plain : is_demote r ≡ false) where
     -- the rule at a look of the leg, by whether it is a second one
     looked-rule : (so_far : StepsSoFar) (inside : Bool) → is_in_body so_far ≡ inside → rule_at_look s h (leg_at s h d r) l.dom l.gref so_far
         ≡ cond inside (cond (is_other (word_at s h l.dom.0 l.gref.0) (looked_at so_far)) None (rule_before_pin s h l l.dom l.gref)) (first_look l (control_at s h l.dom.0 l.gref.0))
@@ -160,26 +160,26 @@ pub writes-shown : (s : Setting) (h : History) (t r : ℕ) → control_of (word_
 writes-shown s h t r round =
     ap (λ (c : Control). c.writes) round ∙ (control-parts (entry_at h t r) (generation_at s h t r) (reads_at h t r) (writes_at h t r)).2
 
-look-refusal : (d : DomId) (gref : GrantRef) (change : Change) (more w : ℕ) (b late : Bool) → late ≡ false
+look-refusal : (d : DomId) (gref : GrantRef) (change : EntryChange) (more w : ℕ) (b late : Bool) → late ≡ false
     → at_entry d gref w (first (stands b N19 ∷ None ∷ stands late N18 ∷ [])) ≡ phase_refusal (cond b (refused_as d gref N19 w) (Changing gref change more w))
 look-refusal d gref change more w false true e = absurd (true≢false e)
 look-refusal d gref change more w b late e = refl
 
-pub look-judged : (s : Setting) (h : History) (d : DomId) (r : Asked) (so_far : StepsSoFar) (gref : GrantRef) (change : Change) (more : ℕ) → control_of (word_at s h d.0 gref.0) ≡ control_at s h d.0 gref.0
+pub look-judged : (s : Setting) (h : History) (d : DomId) (r : OpenRequest) (so_far : StepsSoFar) (gref : GrantRef) (change : EntryChange) (more : ℕ) → control_of (word_at s h d.0 gref.0) ≡ control_at s h d.0 gref.0
     → IsTurn r gref change → PhaseStands s h d r so_far (Looking gref change more) → Judged s h d r so_far (Looking gref change more) (LookControl d gref)
 look-judged s h d r so_far gref ToReadOnly more round is place = let w = word_at s h d.0 gref.0 in
-    subst (λ (z : Asked). Judged s h d z so_far (Looking gref ToReadOnly more) (LookControl d gref)) (sym is)
+    subst (λ (z : OpenRequest). Judged s h d z so_far (Looking gref ToReadOnly more) (LookControl d gref)) (sym is)
     (look-refusal d gref ToReadOnly more w (nat_lt 0 (writes_at h d.0 gref.0)) _ (ap (nat_le MAX_TRIES) (misses-look d gref w so_far place.1) ∙ few (misses so_far) more place.0)
     ∙ ap (λ (n : ℕ). phase_refusal (cond (nat_lt 0 n) (refused_as d gref N19 w) (Changing gref ToReadOnly more w))) (sym (writes-shown s h d.0 gref.0 round)))
 look-judged s h d r so_far gref ToWritable more round is place = let w = word_at s h d.0 gref.0 in
-    subst (λ (z : Asked). Judged s h d z so_far (Looking gref ToWritable more) (LookControl d gref)) (sym is)
+    subst (λ (z : OpenRequest). Judged s h d z so_far (Looking gref ToWritable more) (LookControl d gref)) (sym is)
     (look-refusal d gref ToWritable more w false _ (ap (nat_le MAX_TRIES) (misses-look d gref w so_far place.1) ∙ few (misses so_far) more place.0))
 look-judged s h d r so_far gref ToWithdrawn more round is place = let w = word_at s h d.0 gref.0 in
-    subst (λ (z : Asked). Judged s h d z so_far (Looking gref ToWithdrawn more) (LookControl d gref)) (sym is)
+    subst (λ (z : OpenRequest). Judged s h d z so_far (Looking gref ToWithdrawn more) (LookControl d gref)) (sym is)
     (look-refusal d gref ToWithdrawn more w false _ (ap (nat_le MAX_TRIES) (misses-look d gref w so_far place.1) ∙ few (misses so_far) more place.0))
 look-judged s h d r so_far gref change more round is place = absurd is
 
-pub look-placed : (s : Setting) (h : History) (d : DomId) (r : Asked) (gref : GrantRef) (change : Change) (more w : ℕ) (so_far : StepsSoFar) (b : Bool) → (misses so_far + more ≡ MORE_TRIES) × (is_in_body so_far ≡ false)
+pub look-placed : (s : Setting) (h : History) (d : DomId) (r : OpenRequest) (gref : GrantRef) (change : EntryChange) (more w : ℕ) (so_far : StepsSoFar) (b : Bool) → (misses so_far + more ≡ MORE_TRIES) × (is_in_body so_far ≡ false)
     → PhaseStands s h d r ((LookControl d gref, Word w) ∷ so_far) (cond b (refused_as d gref N19 w) (Changing gref change more w))
 unfolding looked_at
 look-placed s h d r gref change more w so_far true a = inl refl
@@ -187,13 +187,13 @@ look-placed s h d r gref change more w so_far false a = (ap (λ (n : ℕ). n + m
 
 -- a question
 
-pub asks-run : (s : Setting) (h : History) (d : DomId) (r : Asked) (dom : DomId) (question : Question) → begun (known_at s h d) d r ≡ None → AsksTable d r dom question → domain_of s.domains dom ≢ None
+pub asks-run : (s : Setting) (h : History) (d : DomId) (r : OpenRequest) (dom : DomId) (question : HeaderQuery) → begun (known_at s h d) d r ≡ None → AsksTable d r dom question → domain_of s.domains dom ≢ None
 asks-run s h d r dom AsksSize none a = rw a.2 (of-run _ (opens (known_at s h d) d (QuerySize a.0) (none-of (known_at s h d) d r (QuerySize a.0) a.1 none)).of_run)
 asks-run s h d r dom AsksVersion none a = rw a.2 (of-run _ (opens (known_at s h d) d (GetVersion a.0) (none-of (known_at s h d) d r (GetVersion a.0) a.1 none)).of_run)
 
-pub asked-judged : (s : Setting) (h : History) (d : DomId) (r : Asked) (so_far : StepsSoFar) (dom : DomId) (question : Question) → AsksTable d r dom question → Judged s h d r so_far (Asking dom question) (LookHeader dom)
-asked-judged s h d r so_far dom AsksSize a = subst (λ (z : Asked). Judged s h d z so_far (Asking dom AsksSize) (LookHeader dom)) (sym a.1) refl
-asked-judged s h d r so_far dom AsksVersion a = subst (λ (z : Asked). Judged s h d z so_far (Asking dom AsksVersion) (LookHeader dom)) (sym a.1) refl
+pub asked-judged : (s : Setting) (h : History) (d : DomId) (r : OpenRequest) (so_far : StepsSoFar) (dom : DomId) (question : HeaderQuery) → AsksTable d r dom question → Judged s h d r so_far (Asking dom question) (LookHeader dom)
+asked-judged s h d r so_far dom AsksSize a = subst (λ (z : OpenRequest). Judged s h d z so_far (Asking dom AsksSize) (LookHeader dom)) (sym a.1) refl
+asked-judged s h d r so_far dom AsksVersion a = subst (λ (z : OpenRequest). Judged s h d z so_far (Asking dom AsksVersion) (LookHeader dom)) (sym a.1) refl
 
 -- each look is on words that there are
 

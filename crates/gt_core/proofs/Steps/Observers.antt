@@ -1,12 +1,12 @@
 -- What an item leaves of the entries, words, pins and mappings, and of the other domains.
 use Rattle.gt_core.proofs.Words.{◌≡◌, ◌+◌, ℕ, refl, Bool, true, false, List, [], ◌∷◌, ◌++◌, Option, None, cond, ap, ◌∙◌}
-use Rattle.gt_core.proofs.Words.{arith, ◌==◌, DomId, Header, Change, Item, History, Setting, entry_at, changed_entry_of}
+use Rattle.gt_core.proofs.Words.{arith, ◌==◌, DomId, Header, EntryChange, Item, History, Setting, entry_at, changed_entry_of}
 use Rattle.gt_core.proofs.Words.{raises_at, raise_after, live, Pin, pinned_by, unpinned_by, change_at, change_of}
 use Rattle.gt_core.proofs.Words.{maps_answered_at, one_if_mapped, known_at, mappings_at, gather, mapping_named, legs_at}
-use Rattle.gt_core.proofs.Words.{by_leg, header_stored, header_or, table_at, append-nil, Half, or_else, stored_at}
-use Rattle.gt_core.proofs.Words.{body_at, ◌&&◌, Holder, Held, without, is_holder, cond_both, Some, Handle, ByMapping}
+use Rattle.gt_core.proofs.Words.{by_leg, header_stored, header_or, table_at, append-nil, BodyWord, or_else, stored_at}
+use Rattle.gt_core.proofs.Words.{body_at, ◌&&◌, PinHolder, HeldPin, without, is_holder, cond_both, Some, Handle, ByMapping}
 use Rattle.gt_core.proofs.Words.{ByLeg, append_assoc, All-cons, All-head, All-tail, All, length, sum_by_push, count_by}
-use Rattle.gt_core.proofs.Words.{Dir, GrantRef, Seen, Taken, Step, Exchange, PinStep, Unpin, holder_after, is_pin_on}
+use Rattle.gt_core.proofs.Words.{Dir, GrantRef, Observation, Taken, Step, Exchange, PinStep, Unpin, holder_after, is_pin_on}
 use Rattle.gt_core.proofs.Words.{Answer, Stepped}
 
 -- the item changes no entry, pin or mapping
@@ -27,17 +27,17 @@ abbrev pub KeepsAll : Item → Type 0
 KeepsAll i = (r : ℕ) → change_at i.happened r ≡ None
 
 no-change : (i : Item) (t r : ℕ) → KeepsAll i → change_of i t r ≡ None
-no-change i t r q = ap (λ (c : Option Change). cond (i.actor.0 == t) c None) (q r) ∙ cond-same (i.actor.0 == t) None
+no-change i t r q = ap (λ (c : Option EntryChange). cond (i.actor.0 == t) c None) (q r) ∙ cond-same (i.actor.0 == t) None
 
 pub kept-entry : (i : Item) (h : History) (t r : ℕ) → KeepsAll i → entry_at (i ∷ h) t r ≡ entry_at h t r
 unfolding entry_at
-kept-entry i h t r q = ap (λ (c : Option Change). changed_entry_of c (entry_at h t r)) (no-change i t r q)
+kept-entry i h t r q = ap (λ (c : Option EntryChange). changed_entry_of c (entry_at h t r)) (no-change i t r q)
 
 pub kept-raises : (i : Item) (h : History) (t r : ℕ) → KeepsAll i → raises_at (i ∷ h) t r ≡ raises_at h t r
 unfolding raises_at
-kept-raises i h t r q = ap (λ (c : Option Change). raises_at h t r + raise_after c) (no-change i t r q) ∙ omega arith
+kept-raises i h t r q = ap (λ (c : Option EntryChange). raises_at h t r + raise_after c) (no-change i t r q) ∙ omega arith
 
-pub unstored : (i : Item) (h : History) (t r : ℕ) (which : Half) → stored_at i.happened r which ≡ None → body_at (i ∷ h) t r which ≡ body_at h t r which
+pub unstored : (i : Item) (h : History) (t r : ℕ) (which : BodyWord) → stored_at i.happened r which ≡ None → body_at (i ∷ h) t r which ≡ body_at h t r which
 unfolding body_at
 unstored i h t r which e = ap (λ (o : Option ℕ). or_else o (body_at h t r which)) (ap (λ (o : Option ℕ). cond (i.actor.0 == t) o None) e ∙ cond-same (i.actor.0 == t) None)
 
@@ -73,7 +73,7 @@ pub other-raises : (i : Item) (h : History) (t r : ℕ) → (i.actor.0 == t) ≡
 unfolding raises_at
 other-raises i h t r apart = ap (λ (b : Bool). raises_at h t r + raise_after (cond b (change_at i.happened r) None)) apart ∙ omega arith
 
-pub other-body : (i : Item) (h : History) (t r : ℕ) (which : Half) → (i.actor.0 == t) ≡ false → body_at (i ∷ h) t r which ≡ body_at h t r which
+pub other-body : (i : Item) (h : History) (t r : ℕ) (which : BodyWord) → (i.actor.0 == t) ≡ false → body_at (i ∷ h) t r which ≡ body_at h t r which
 unfolding body_at
 other-body i h t r which apart = ap (λ (b : Bool). or_else (cond b (stored_at i.happened r which) None) (body_at h t r which)) apart
 
@@ -85,27 +85,27 @@ pub other-table : (s : Setting) (i : Item) (h : History) (d : DomId) → (i.acto
 unfolding table_at
 other-table s i h d apart = ap (λ (b : Bool). header_or (cond b (header_stored i.happened) None) (table_at s h d)) apart
 
-pub gather-append : {A : Type 0} (give : Holder → Held → List A) (d : ℕ) (ps qs : List Pin) → gather give d (ps ++ qs) ≡ gather give d ps ++ gather give d qs
+pub gather-append : {A : Type 0} (give : PinHolder → HeldPin → List A) (d : ℕ) (ps qs : List Pin) → gather give d (ps ++ qs) ≡ gather give d ps ++ gather give d qs
 unfolding gather
 gather-append give d [] qs = refl
 gather-append give d (p ∷ ps) qs = grind (arith, gather-append give d ps qs, append_assoc)
 
 -- a pin that is given back, where it gave nothing to this domain
-pub without-kept : {A : Type 0} (give : Holder → Held → List A) (d actor : ℕ) (holder : Holder) (ps : List Pin)
+pub without-kept : {A : Type 0} (give : PinHolder → HeldPin → List A) (d actor : ℕ) (holder : PinHolder) (ps : List Pin)
     → ((p : Pin) → p.actor ≡ actor → is_holder p.holder holder ≡ true → cond (p.actor == d) (give p.holder p.held) [] ≡ []) → gather give d (without actor holder ps) ≡ gather give d ps
 unfolding gather without
 without-kept give d actor holder [] none = refl
 without-kept {A} give d actor holder (p ∷ ps) none = grind (arith, without-kept give d actor holder ps none)
 
 -- what held of all pins holds of those that are left
-pub all-without : (P : Pin → Type 0) (d : ℕ) (holder : Holder) (ps : List Pin) → All P ps → All P (without d holder ps)
+pub all-without : (P : Pin → Type 0) (d : ℕ) (holder : PinHolder) (ps : List Pin) → All P ps → All P (without d holder ps)
 unfolding without
 all-without P d holder [] a = a
 all-without P d holder (p ∷ ps) a = cond_both ((p.actor == d) && is_holder p.holder holder) ps (p ∷ without d holder ps) (All P) (λ e. All-tail P p ps a)
     (λ e. All-cons P p (without d holder ps) (All-head P p ps a) (all-without P d holder ps (All-tail P p ps a)))
 
 -- no domain but the actor holds other pins than before
-pub other-pins : {A : Type 0} (give : Holder → Held → List A) (i : Item) (h : History) (d : ℕ) → (i.actor.0 == d) ≡ false → gather give d (live (i ∷ h)) ≡ gather give d (live h)
+pub other-pins : {A : Type 0} (give : PinHolder → HeldPin → List A) (i : Item) (h : History) (d : ℕ) → (i.actor.0 == d) ≡ false → gather give d (live (i ∷ h)) ≡ gather give d (live h)
 unfolding gather live
 other-pins give i h d apart = grind (arith, gather-append, append-nil, without-kept)
 
@@ -118,49 +118,49 @@ pub pulled : {A B : Type 0} (f : A → B) (b : Bool) (x y : A) → f (cond b x y
 pulled f b x y = grind arith
 
 -- a way to give pins by keys: each holder gives under one key, or nothing
-abbrev pub listed : {K : Type 0} → Option K → Held → List (K × Held)
+abbrev pub listed : {K : Type 0} → Option K → HeldPin → List (K × HeldPin)
 listed None p = []
 listed (Some k) p = (k, p) ∷ []
 
-pub record IsKeyed {K : Type 0} (give : Holder → Held → List (K × Held)) : Type 0 where
-  pub key : Holder → Option K
-  pub gives : (x : Holder) (p : Held) → give x p ≡ listed (key x) p
+pub record IsKeyed {K : Type 0} (give : PinHolder → HeldPin → List (K × HeldPin)) : Type 0 where
+  pub key : PinHolder → Option K
+  pub gives : (x : PinHolder) (p : HeldPin) → give x p ≡ listed (key x) p
 
 abbrev pub mapping-keyed : IsKeyed mapping_named
 mapping-keyed = record { key = key; gives = gives } where
-  key : Holder → Option Handle
+  key : PinHolder → Option Handle
   key (ByMapping k) = Some k
   key (ByLeg n) = None
 
-  gives : (x : Holder) (p : Held) → mapping_named x p ≡ listed (key x) p
+  gives : (x : PinHolder) (p : HeldPin) → mapping_named x p ≡ listed (key x) p
   gives (ByMapping k) p = refl
   gives (ByLeg n) p = refl
 
 abbrev pub leg-keyed : IsKeyed by_leg
 leg-keyed = record { key = key; gives = gives } where
-  key : Holder → Option ℕ
+  key : PinHolder → Option ℕ
   key (ByMapping k) = None
   key (ByLeg n) = Some n
 
-  gives : (x : Holder) (p : Held) → by_leg x p ≡ listed (key x) p
+  gives : (x : PinHolder) (p : HeldPin) → by_leg x p ≡ listed (key x) p
   gives (ByMapping k) p = refl
   gives (ByLeg n) p = refl
 
 -- the items of steps
 
 -- the item of a step
-abbrev pub stepped : DomId → Step → Seen → Option Answer → Item
+abbrev pub stepped : DomId → Step → Observation → Option Answer → Item
 stepped d step seen answer = record { actor = d; happened = Stepped step seen; answer = answer }
 
 -- the pin that is held after a step that took it
-abbrev pub new_pin : History → DomId → Held → Option Answer → Pin
+abbrev pub new_pin : History → DomId → HeldPin → Option Answer → Pin
 new_pin h d p answer = record { actor = d.0; holder = holder_after answer (length (gather by_leg d.0 (live h))); held = record p { entry = entry_at h p.dom.0 p.gref.0 } }
 
 -- the item of a pin that was taken
-abbrev pub pins : DomId → Held → Option Answer → Item
+abbrev pub pins : DomId → HeldPin → Option Answer → Item
 pins d p answer = stepped d (PinStep p) Taken answer
 
-pub pinned-live : (h : History) (d : DomId) (p : Held) (answer : Option Answer) → live (pins d p answer ∷ h) ≡ live h ++ new_pin h d p answer ∷ []
+pub pinned-live : (h : History) (d : DomId) (p : HeldPin) (answer : Option Answer) → live (pins d p answer ∷ h) ≡ live h ++ new_pin h d p answer ∷ []
 unfolding live
 pinned-live h d p answer = refl
 
@@ -168,15 +168,15 @@ abbrev pub pins_at : History → ℕ → ℕ → Dir → ℕ
 pins_at h t r dir = count_by (is_pin_on t r dir) (live h)
 
 -- the item of an unpin
-abbrev pub unpins : DomId → Held → Holder → Seen → Option Answer → Item
+abbrev pub unpins : DomId → HeldPin → PinHolder → Observation → Option Answer → Item
 unpins d p holder seen answer = stepped d (Unpin p holder) seen answer
 
-pub unpinned-live : (h : History) (d : DomId) (p : Held) (holder : Holder) (seen : Seen) (answer : Option Answer) → live (unpins d p holder seen answer ∷ h) ≡ without d.0 holder (live h)
+pub unpinned-live : (h : History) (d : DomId) (p : HeldPin) (holder : PinHolder) (seen : Observation) (answer : Option Answer) → live (unpins d p holder seen answer ∷ h) ≡ without d.0 holder (live h)
 unfolding live
 unpinned-live h d p holder seen answer = append-nil (without d.0 holder (live h))
 
 -- the item of an exchange that was taken
-abbrev pub exchanged : DomId → GrantRef → ℕ → Change → Option Answer → Item
+abbrev pub exchanged : DomId → GrantRef → ℕ → EntryChange → Option Answer → Item
 exchanged d gref looked change answer = stepped d (Exchange gref looked change) Taken answer
 
 pub exchanged-entry : (h : History) (i : Item) (t r : ℕ) → entry_at (i ∷ h) t r ≡ changed_entry_of (change_of i t r) (entry_at h t r)
@@ -187,7 +187,7 @@ pub exchanged-raises : (h : History) (i : Item) (t r : ℕ) → raises_at (i ∷
 unfolding raises_at
 exchanged-raises h i t r = refl
 
-pub exchanged-live : (h : History) (d : DomId) (gref : GrantRef) (looked : ℕ) (change : Change) (answer : Option Answer) → live (exchanged d gref looked change answer ∷ h) ≡ live h
+pub exchanged-live : (h : History) (d : DomId) (gref : GrantRef) (looked : ℕ) (change : EntryChange) (answer : Option Answer) → live (exchanged d gref looked change answer ∷ h) ≡ live h
 unfolding live
 exchanged-live h d gref looked change answer = append-nil (live h)
 

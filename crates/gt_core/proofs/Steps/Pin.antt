@@ -1,8 +1,8 @@
 -- A pin: it keeps what a core stands for. What a pin that is taken rests on, and where a pin leads its call.
 use Rattle.gt_core.proofs.Words.{◌≡◌, ◌<◌, ◌+◌, ℕ, refl, Bool, true, List, [], ◌∷◌, ◌++◌, length, Option, Some, cond}
 use Rattle.gt_core.proofs.Words.{sym, ap, ◌∙◌, arith, subst, ◌==◌, ◌&&◌, All, All-push, append-nil, DomId, Dir, Read}
-use Rattle.gt_core.proofs.Words.{Write, MAX_PINS, Half, FirstHalf, SecondHalf, HandleMap, Handle, Held, Holder, ByLeg}
-use Rattle.gt_core.proofs.Words.{PinCounts, Open, Item, Answer, Mapped, State, state_of, changed_in, with_slot}
+use Rattle.gt_core.proofs.Words.{Write, MAX_PINS, BodyWord, FirstHalf, SecondHalf, HandleMap, Handle, HeldPin, PinHolder, ByLeg}
+use Rattle.gt_core.proofs.Words.{PinCounts, OpenCall, Item, Answer, Mapped, State, state_of, changed_in, with_slot}
 use Rattle.gt_core.proofs.Words.{slot_after, Adds, History, Setting, Pin, live, entry_at, body_at, mappings_at}
 use Rattle.gt_core.proofs.Words.{maps_answered_at, legs_at, open_call, is_pin_on, same_dir, FitsWord, control_at}
 use Rattle.gt_core.proofs.Words.{gather, mapping_named, by_leg, holder_after, one_if_mapped, IsLawfulPin, SlotAgrees}
@@ -17,9 +17,9 @@ use Rattle.gt_core.proofs.Words.{phase_after, where_via, holds-first, opens, des
 use Rattle.gt_core.proofs.Words.{second_leg, source_pair, IsLegFor, IsOnFrom, Lets, RestsOnTry, CallerKnowledge, begun}
 use Rattle.gt_core.proofs.Words.{control_with, copy_denied, denied, first, first_look, frame_count_of, is_dest_granted}
 use Rattle.gt_core.proofs.Words.{is_outside_sub, is_past_owner, map_dir, pins_of, refused_when, rights_to_copy, stands}
-use Rattle.gt_core.proofs.Words.{via_judged, HasShown, IsQuiet, Makes, Seen, Missed, Taken, Step, PinStep, Verdict}
-use Rattle.gt_core.proofs.Words.{Refused, Phase, Accessing, Ending, Last, Walking, Aim, Dest, Mapping, Source, Pins}
-use Rattle.gt_core.proofs.Words.{Route, Direct, Through, Leg, AtHeader, Pinning, Asked, Copy, Map, CopyArgs}
+use Rattle.gt_core.proofs.Words.{via_judged, HasShown, IsQuiet, Makes, Observation, Missed, Taken, Step, PinStep, CallResult}
+use Rattle.gt_core.proofs.Words.{Refused, Phase, Accessing, Ending, Last, Walking, PinPurpose, Dest, Mapping, Source, CallPins}
+use Rattle.gt_core.proofs.Words.{AccessPath, Direct, Through, Leg, AtHeader, Pinning, OpenRequest, Copy, Map, CopyArgs}
 use Rattle.gt_core.proofs.Words.{generation_at, known_at, reads_at, word_at, writes_at, LegNow, MayUse, NoneStands}
 use Rattle.gt_core.proofs.Words.{StepsSoFar, leg_at, refusal_in, rule_at_pin, rule_at_via, rule_before_pin, EndsCopy}
 use Rattle.gt_core.proofs.Words.{LegHasLooked, PhaseStands, numbered, misses, IsLegalHistory}
@@ -34,14 +34,14 @@ use Rattle.gt_core.proofs.{Phases.makes-same, Phases.by-giving, Phases.of-run, P
 use Rattle.gt_core.proofs.{Legs.alone, Legs.control-parts, Legs.IsAsTried, Legs.as-tried, Legs.still-judged}
 use Rattle.gt_core.proofs.{Legs.IsLegOf, Legs.ComesTo, Legs.miss-comes, Aims.pair_of, Aims.leg-here}
 use Rattle.gt_core.specs.declared.pin_counts.CountsChange.TheVariants.{Pinned}
-use Rattle.gt_calls.specs.declared.held.Route.TheVariants.{Own}
+use Rattle.gt_calls.specs.declared.held.AccessPath.TheVariants.{Own}
 
 -- the pin may be counted
 abbrev pub IsFew : History → Pin → Type 0
 IsFew h p = pins_at h p.held.dom.0 p.held.gref.0 p.held.dir < MAX_PINS
 
 -- the slot that the pin counts up
-counted-up : (h new : History) (q r : ℕ) (dir : Dir) (b : Bool) (old : PinCounts) → SlotAgrees h q r old → ((which : Half) → body_at new q r which ≡ body_at h q r which)
+counted-up : (h new : History) (q r : ℕ) (dir : Dir) (b : Bool) (old : PinCounts) → SlotAgrees h q r old → ((which : BodyWord) → body_at new q r which ≡ body_at h q r which)
     → ((k : Dir) → pins_at new q r k ≡ pins_at h q r k + cond (b && same_dir dir k) 1 0) → ((k : Dir) → (b && same_dir dir k) ≡ true → pins_at h q r k < MAX_PINS)
     → SlotAgrees new q r (cond b (slot_after (Pinned dir) old) old)
 counted-up h new q r dir b old a body now few = grind (arith, now Read, now Write, few Read, few Write, body FirstHalf, body SecondHalf)
@@ -55,29 +55,29 @@ now-fits : (b : Bool) (now was : ℕ) → was < MAX_PINS + 1 → (b ≡ true →
 now-fits b now was a few e = grind arith
 
 -- what the pin gives to its domain
-gathered : {A : Type 0} (give : Holder → Held → List A) (h : History) (d : DomId) (p : Held) (answer : Option Answer)
+gathered : {A : Type 0} (give : PinHolder → HeldPin → List A) (h : History) (d : DomId) (p : HeldPin) (answer : Option Answer)
     → gather give d.0 (live (pins d p answer ∷ h)) ≡ gather give d.0 (live h) ++ give (holder_after answer (length (gather by_leg d.0 (live h)))) (record p { entry = entry_at h p.dom.0 p.gref.0 })
 unfolding gather
 gathered give h d p answer = grind (arith, pinned-live, gather-append, same-number, append-nil)
 
 -- a pin of a leg is its domain's last one, and no mapping
-pub leg-grows : (h : History) (d : DomId) (p : Held) (answer : Option Answer) → holder_after answer (length (legs_at h d.0)) ≡ ByLeg (length (legs_at h d.0))
+pub leg-grows : (h : History) (d : DomId) (p : HeldPin) (answer : Option Answer) → holder_after answer (length (legs_at h d.0)) ≡ ByLeg (length (legs_at h d.0))
     → legs_at (pins d p answer ∷ h) d.0 ≡ legs_at h d.0 ++ (length (legs_at h d.0), record p { entry = entry_at h p.dom.0 p.gref.0 }) ∷ []
-leg-grows h d p answer leg = gathered by_leg h d p answer ∙ ap (λ (x : Holder). legs_at h d.0 ++ by_leg x (record p { entry = entry_at h p.dom.0 p.gref.0 })) leg
+leg-grows h d p answer leg = gathered by_leg h d p answer ∙ ap (λ (x : PinHolder). legs_at h d.0 ++ by_leg x (record p { entry = entry_at h p.dom.0 p.gref.0 })) leg
 
-pub leg-maps : (h : History) (d : DomId) (p : Held) (answer : Option Answer) → holder_after answer (length (legs_at h d.0)) ≡ ByLeg (length (legs_at h d.0)) → mappings_at (pins d p answer ∷ h) d.0 ≡ mappings_at h d.0
+pub leg-maps : (h : History) (d : DomId) (p : HeldPin) (answer : Option Answer) → holder_after answer (length (legs_at h d.0)) ≡ ByLeg (length (legs_at h d.0)) → mappings_at (pins d p answer ∷ h) d.0 ≡ mappings_at h d.0
 leg-maps h d p answer leg = grind (arith, gathered, append-nil)
 
-pub map-legs : (h : History) (d : DomId) (p : Held) (handle : Handle) → legs_at (pins d p (Some (Mapped handle)) ∷ h) d.0 ≡ legs_at h d.0
+pub map-legs : (h : History) (d : DomId) (p : HeldPin) (handle : Handle) → legs_at (pins d p (Some (Mapped handle)) ∷ h) d.0 ≡ legs_at h d.0
 map-legs h d p handle = gathered by_leg h d p (Some (Mapped handle)) ∙ append-nil (legs_at h d.0)
 
-answered-up : (h : History) (d : DomId) (p : Held) (handle : Handle) → maps_answered_at h d.0 + 1 ≡ maps_answered_at (pins d p (Some (Mapped handle)) ∷ h) d.0
+answered-up : (h : History) (d : DomId) (p : HeldPin) (handle : Handle) → maps_answered_at h d.0 + 1 ≡ maps_answered_at (pins d p (Some (Mapped handle)) ∷ h) d.0
 unfolding maps_answered_at
 answered-up h d p handle = rw (same-number d.0) (omega arith)
 
 -- a lawful pin keeps what the core stands for, where the domain's mappings are those that it
 -- then has
-pub pin-stands : (s : Setting) (h : History) (xs ys : List State) (x : State) (p : Held) (answer : Option Answer) (kept : HandleMap Held) (o : Option Open) → DomainsStand s h xs → state_of xs x.id.0 ≡ Some x → StateStands s h x
+pub pin-stands : (s : Setting) (h : History) (xs ys : List State) (x : State) (p : HeldPin) (answer : Option Answer) (kept : HandleMap HeldPin) (o : Option OpenCall) → DomainsStand s h xs → state_of xs x.id.0 ≡ Some x → StateStands s h x
     → ((q : ℕ) → state_of ys q ≡ cond (x.id.0 == q) (Some (record x { mappings = kept; underway = o })) (state_of xs q))
     → IsFew h (new_pin h x.id p answer) → IsLawfulPin s (new_pin h x.id p answer)
     → MappingsAgree kept (mappings_at (pins x.id p answer ∷ h) x.id.0) (maps_answered_at (pins x.id p answer ∷ h) x.id.0)
@@ -94,21 +94,21 @@ pin-stands s h xs ys x p answer kept o st here a becomes few lawful maps call gi
     (λ u r k within. now-fits (is_pin_on u r k q) (pins_at (i ∷ h) u r k) (pins_at h u r k) (pins-fit s h u r k (st.words u r within)) (there u r k) (grown-count h i q u r k grows))
 
 -- the mappings after the pin of a map
-pub map-agrees : (h : History) (d : DomId) (p : Held) (handle : Handle) (old kept : HandleMap Held) → Adds old kept handle (record p { entry = entry_at h p.dom.0 p.gref.0 }) → MappingsAgree old (mappings_at h d.0) (maps_answered_at h d.0)
+pub map-agrees : (h : History) (d : DomId) (p : HeldPin) (handle : Handle) (old kept : HandleMap HeldPin) → Adds old kept handle (record p { entry = entry_at h p.dom.0 p.gref.0 }) → MappingsAgree old (mappings_at h d.0) (maps_answered_at h d.0)
     → MappingsAgree kept (mappings_at (pins d p (Some (Mapped handle)) ∷ h) d.0) (maps_answered_at (pins d p (Some (Mapped handle)) ∷ h) d.0)
 map-agrees h d p handle old kept adds a =
     mappings-same kept _ _ _ _ (sym (gathered mapping_named h d p (Some (Mapped handle)))) (answered-up h d p handle)
     (mappings-added old kept handle (record p { entry = entry_at h p.dom.0 p.gref.0 }) (mappings_at h d.0) (maps_answered_at h d.0) adds a)
 
 -- and after the pin of a leg
-pub leg-agrees : (h : History) (d : DomId) (p : Held) (answer : Option Answer) (kept : HandleMap Held) → holder_after answer (length (legs_at h d.0)) ≡ ByLeg (length (legs_at h d.0)) → one_if_mapped answer ≡ 0
+pub leg-agrees : (h : History) (d : DomId) (p : HeldPin) (answer : Option Answer) (kept : HandleMap HeldPin) → holder_after answer (length (legs_at h d.0)) ≡ ByLeg (length (legs_at h d.0)) → one_if_mapped answer ≡ 0
     → MappingsAgree kept (mappings_at h d.0) (maps_answered_at h d.0) → MappingsAgree kept (mappings_at (pins d p answer ∷ h) d.0) (maps_answered_at (pins d p answer ∷ h) d.0)
 leg-agrees h d p answer kept leg m a = mappings-same kept _ _ _ _ (sym (leg-maps h d p answer leg)) (sym (answered-stays h (pins d p answer) d.0 m)) a
 
 -- what a pin that is taken rests on
 
 -- the pin that is taken is of the entry as it is, on which no rule of its leg stands, and it may be counted
-pub record CanPin (s : Setting) (h : History) (d : DomId) (r : Asked) (p : Held) : Type 0 where
+pub record CanPin (s : Setting) (h : History) (d : DomId) (r : OpenRequest) (p : HeldPin) : Type 0 where
   pub is : record p { entry = entry_at h p.dom.0 p.gref.0 } ≡ p
   pub valid : entry_at h p.dom.0 p.gref.0 ≢ Invalid
   pub few : pins_at h p.dom.0 p.gref.0 p.dir < MAX_PINS
@@ -123,12 +123,12 @@ pins-now : (s : Setting) (h : History) (t r : ℕ) (dir : Dir) → (reads_at h t
 pins-now s h t r Read a = ((control-parts (entry_at h t r) (generation_at s h t r) (reads_at h t r) (writes_at h t r)).1, a.0)
 pins-now s h t r Write a = ((control-parts (entry_at h t r) (generation_at s h t r) (reads_at h t r) (writes_at h t r)).2, a.1)
 
-taken-pin : (s : Setting) (h : History) (xs : List State) (d : DomId) (r : Asked) (so_far : StepsSoFar) (aim : Aim) (l : Leg) (more word body second : ℕ) → IsLegalHistory s h → DomainsStand s h xs → IsLegFor (known_at s h d) d r aim l
+taken-pin : (s : Setting) (h : History) (xs : List State) (d : DomId) (r : OpenRequest) (so_far : StepsSoFar) (aim : PinPurpose) (l : Leg) (more word body second : ℕ) → IsLegalHistory s h → DomainsStand s h xs → IsLegFor (known_at s h d) d r aim l
     → legs_at h d.0 ≡ numbered 0 (reverse (last_first (pins_so_far aim))) → PhaseStands s h d r so_far (Walking aim l (Pinning more word body second)) → word_at s h l.dom.0 l.gref.0 ≡ word
     → CanPin s h d r (held_of l word body second)
 taken-pin s h xs d r so_far aim l more word body second legal st is held place same =
     let a : IsAsTried s h l word body second = as-tried s h l so_far more word body second None place.1.0 place.1.1 (words-of s h xs l legal st) same in
-    let p : Held = held_of l word body second in
+    let p : HeldPin = held_of l word body second in
     let judged : rule_before_pin s h l l.dom l.gref ≡ None = still-judged s h l word body second a ∙ place.1.1.judged in
     let q = pins-now s h l.dom.0 l.gref.0 l.dir (counts-fit s h l.dom.0 l.gref.0 (st.words l.dom.0 l.gref.0 place.1.0.within)) in
     let full : pins_of l.dir (control_at s h l.dom.0 l.gref.0) ≢ MAX_PINS = eqb-false _ MAX_PINS (pins-left (is_outside_sub l (entry_at h l.dom.0 l.gref.0)) (is_past_owner l (entry_at h l.dom.0 l.gref.0)) _ judged) in
@@ -139,13 +139,13 @@ taken-pin s h xs d r so_far aim l more word body second legal st is held place s
       sound = subst (NoneStands s h l.dom l.gref) (sym (leg-here s h d r aim l is held)) (ap (first_look l) (sym a.control) ∙ place.1.0.passed, judged);
     }
 
-pub can-pin : (s : Setting) (h : History) (xs : List State) (d : DomId) (r : Asked) (shown : List Seen) (so_far : StepsSoFar) (phase : Phase) (p : Held) → IsHere s h xs d r shown so_far phase (PinStep p)
+pub can-pin : (s : Setting) (h : History) (xs : List State) (d : DomId) (r : OpenRequest) (shown : List Observation) (so_far : StepsSoFar) (phase : Phase) (p : HeldPin) → IsHere s h xs d r shown so_far phase (PinStep p)
     → word_at s h p.dom.0 p.gref.0 ≡ p.word → CanPin s h d r p
 can-pin s h xs d r shown so_far phase p i same = by phase i.at.has_shown i.place i.acts i.held where
   by : (z : Phase) → HasShown (known_at s h d) (path (known_at s h d) d r) d r shown z → PhaseStands s h d r so_far z → action_at d z ≡ Makes (PinStep p)
       → legs_at h d.0 ≡ numbered 0 (reverse (last_first (Rattle.gt_calls.specs.Standing.pins_at z))) → CanPin s h d r p
   by (Walking aim l (Pinning more word body second)) a b e held = let q : held_of l word body second ≡ p = cc in
-      subst (CanPin s h d r) q (taken-pin s h xs d r so_far aim l more word body second i.legal i.st a.1 held b (subst (λ (z : Held). word_at s h z.dom.0 z.gref.0 ≡ z.word) (sym q) same))
+      subst (CanPin s h d r) q (taken-pin s h xs d r so_far aim l more word body second i.legal i.st a.1 held b (subst (λ (z : HeldPin). word_at s h z.dom.0 z.gref.0 ≡ z.word) (sym q) same))
   by (Walking aim l at) a b e held = cc
   by (Last last verdict) a b e held = absurd (subst IsQuiet (makes-same _ _ e) a.0)
   by (Ending pins verdict) a b e held = absurd (by-giving (λ (z : Step). z ≡ PinStep p → ⊥) (λ q n f. cc) (last_first pins) verdict _ e refl)
@@ -160,17 +160,17 @@ map-lets k d dom gref flags (Page to ro frame) a = (a.0, leb-false (frame_count_
 map-lets k d dom gref flags (Sub to ro frame off len) a = (a.0, leb-false (frame_count_of k.domains (resolved d dom)) frame a.1)
 map-lets k d dom gref flags (Via to ro dom2 r) a = absurd (false≢true a.1)
 
-pub map-lawful : (s : Setting) (h : History) (d : DomId) (r : Asked) (p : Held) (shown : List Seen) (pins : Pins) → begun (known_at s h d) d r ≡ None → RestsOnTry (known_at s h d) d r pins (path (known_at s h d) d r) shown p
+pub map-lawful : (s : Setting) (h : History) (d : DomId) (r : OpenRequest) (p : HeldPin) (shown : List Observation) (pins : CallPins) → begun (known_at s h d) d r ≡ None → RestsOnTry (known_at s h d) d r pins (path (known_at s h d) d r) shown p
     → (dom : DomId) (gref : GrantRef) (flags : ℕ) → r ≡ Map dom gref flags
     → (permits p.entry d p.dir ForMap 0 0 ≡ true) × MayUse s d p.dom p.dir × (frame_of p.entry < frame_count_of s.domains p.dom) × (domain_of s.domains p.dom ≢ None)
 map-lawful s h d r p shown pins none t dom gref flags is = by t.aim t.aimed where
   k : CallerKnowledge
   k = known_at s h d
 
-  Lawful : Held → Type 0
+  Lawful : HeldPin → Type 0
   Lawful q = (permits p.entry d q.dir ForMap 0 0 ≡ true) × MayUse s d q.dom q.dir × (frame_of p.entry < frame_count_of s.domains q.dom) × (domain_of s.domains q.dom ≢ None)
 
-  by : (aim : Aim) → IsLegFor k d r aim t.leg → Lawful p
+  by : (aim : PinPurpose) → IsLegFor k d r aim t.leg → Lawful p
   by Mapping a = let l = map_leg k d a.dom a.gref a.flags in let lets = map-lets k d a.dom a.gref a.flags p.entry (subst (λ (l : Leg). Lets l p.entry) a.leg_is t.lets) in
       let o = opens k d (Map a.dom a.gref a.flags) (none-of k d r (Map a.dom a.gref a.flags) a.of_map none) in
       let q : held_of l p.word t.body t.second ≡ p = sym (t.pin_is ∙ ap (λ (l : Leg). held_of l p.word t.body t.second) a.leg_is) in
@@ -181,7 +181,7 @@ map-lawful s h d r p shown pins none t dom gref flags is = by t.aim t.aimed wher
 -- where a pin leads, missed or taken
 
 -- a try whose exchange found another word
-pub missed-comes : (s : Setting) (h : History) (l : Leg) (d : DomId) (r : Asked) (more word body second : ℕ) (so_far : StepsSoFar) (b : Bool) → b ≡ false → LegHasLooked s h l so_far more word → let p = held_of l word body second in let v = cond b Taken (Missed (word_at s h l.dom.0 l.gref.0)) in
+pub missed-comes : (s : Setting) (h : History) (l : Leg) (d : DomId) (r : OpenRequest) (more word body second : ℕ) (so_far : StepsSoFar) (b : Bool) → b ≡ false → LegHasLooked s h l so_far more word → let p = held_of l word body second in let v = cond b Taken (Missed (word_at s h l.dom.0 l.gref.0)) in
     ComesTo s h l ((PinStep p, v) ∷ so_far) (rule_at_pin s h d r so_far p v) (leg_after l (Pinning more word body second) v)
 unfolding misses
 missed-comes s h l d r more word body second so_far true e a = absurd (true≢false e)
@@ -189,7 +189,7 @@ missed-comes s h l d r more word body second so_far false e a = let w = word_at 
     miss-comes s h l more w (misses so_far) ((PinStep (held_of l word body second), Missed w) ∷ so_far) _ a.within a.turn refl refl refl
 
 -- a leg that may meet a Via: the first one to an end of a copy
-abbrev pub IsFirstLeg : Aim → Type 0
+abbrev pub IsFirstLeg : PinPurpose → Type 0
 IsFirstLeg (Source c None) = Unit {0}
 IsFirstLeg (Dest c source None) = Unit {0}
 IsFirstLeg aim = ⊥
@@ -215,53 +215,53 @@ second-beyond : (k : CallerKnowledge) (n : Leg) (e : Entry) (l : Leg) → IsOnFr
 second-beyond k n (Via dom ro dom2 gref) l is = ap (λ (z : Leg). z.beyond_via) is
 second-beyond k n e l is = absurd is
 
-first-leg-of : (k : CallerKnowledge) (d : DomId) (r : Asked) (aim : Aim) (l : Leg) → IsLegFor k d r aim l → is_copying l.purpose ≡ true → l.beyond_via ≡ false → IsFirstLeg aim
+first-leg-of : (k : CallerKnowledge) (d : DomId) (r : OpenRequest) (aim : PinPurpose) (l : Leg) → IsLegFor k d r aim l → is_copying l.purpose ≡ true → l.beyond_via ≡ false → IsFirstLeg aim
 first-leg-of k d r Mapping l is copying beyond = false≢true (ap (λ (z : Leg). is_copying z.purpose) (sym is.leg_is) ∙ copying)
 first-leg-of k d r (Source c (Some via)) l is copying beyond = true≢false (sym (second-beyond k (end_leg k d c.source Read c.len) via.entry l is.1.2) ∙ beyond)
 first-leg-of k d r (Dest c source (Some via)) l is copying beyond = true≢false (sym (second-beyond k (end_leg k d c.dest Write c.len) via.entry l is.2.2) ∙ beyond)
 first-leg-of k d r aim l is copying beyond = tt
 
-pub met-first : (k : CallerKnowledge) (d : DomId) (r : Asked) (aim : Aim) (l : Leg) (e : Entry) (g n m : ℕ) → IsLegFor k d r aim l → first_look l (control_with e g n m) ≡ None → IsVia e → IsFirstLeg aim
+pub met-first : (k : CallerKnowledge) (d : DomId) (r : OpenRequest) (aim : PinPurpose) (l : Leg) (e : Entry) (g n m : ℕ) → IsLegFor k d r aim l → first_look l (control_with e g n m) ≡ None → IsVia e → IsFirstLeg aim
 met-first k d r aim l (Via dom ro dom2 gref) g n m is passed v = let f = via-passed l dom ro dom2 gref g n m passed in first-leg-of k d r aim l is f.0 f.1
 met-first k d r aim l e g n m is passed v = absurd v
 
 -- what stands at a Via ends the copy with a refusal
-denied-ends : (may : TypeId → TypeId → Perms → Bool) (ts : List Triple) (v : Verdict) → denied may ts ≡ Some v → EndsCopy v
+denied-ends : (may : TypeId → TypeId → Perms → Bool) (ts : List Triple) (v : CallResult) → denied may ts ≡ Some v → EndsCopy v
 denied-ends may [] v e = cc
 denied-ends may (t ∷ ts) v e =
     cond_both (may t.source t.target t.perm) (denied may ts) (Some (Refused (denial_of N5 (Policy t.source t.target t.perm)))) (λ o. o ≡ Some v → EndsCopy v) (λ is f. denied-ends may ts v f) (λ is f. subst EndsCopy (same_Some _ _ f) tt) e
 
-via-ends : (k : CallerKnowledge) (pair : DomId × DomId) (dom : DomId) (v : Verdict) → via_judged k pair dom ≡ Some v → EndsCopy v
+via-ends : (k : CallerKnowledge) (pair : DomId × DomId) (dom : DomId) (v : CallResult) → via_judged k pair dom ≡ Some v → EndsCopy v
 via-ends k pair dom v e = by (is_none (domain_of k.domains dom)) e where
   by : (b : Bool) → first (refused_when b N1 ∷ copy_denied k pair.0 pair.1 ∷ []) ≡ Some v → EndsCopy v
   by true f = subst EndsCopy (same_Some _ _ f) tt
   by false f = denied-ends k.may (rights_to_copy k pair.0 pair.1) v (alone (copy_denied k pair.0 pair.1) ∙ f)
 
 -- on to the next leg, to the access, or to the end
-module _ (s : Setting) (h : History) (d : DomId) (r : Asked) where
-  where-leads : (c : CopyArgs) (now : StepsSoFar) (aim : Aim) (l : Leg) (pair : DomId × DomId) (o : Option Verdict) → r ≡ Copy c → via_judged (known_at s h d) pair l.dom ≡ o
+module _ (s : Setting) (h : History) (d : DomId) (r : OpenRequest) where
+  where-leads : (c : CopyArgs) (now : StepsSoFar) (aim : PinPurpose) (l : Leg) (pair : DomId × DomId) (o : Option CallResult) → r ≡ Copy c → via_judged (known_at s h d) pair l.dom ≡ o
       → Leads s h d r now (refusal_in o) (where_via o aim l)
   where-leads c now aim l pair None is e = (refl, (of-run (domain_of s.domains l.dom) (holds-first (is_none (domain_of s.domains l.dom)) N1 (copy_denied (known_at s h d) pair.0 pair.1 ∷ []) e), tt))
   where-leads c now aim l pair (Some v) is e = (refl, inr (c, is, via-ends (known_at s h d) pair l.dom v e))
 
-  pub dest-leads : (c : CopyArgs) (source : Route) (now : StepsSoFar) → r ≡ Copy c → begun (known_at s h d) d r ≡ None → Leads s h d r now None (at_dest (known_at s h d) d c source)
+  pub dest-leads : (c : CopyArgs) (source : AccessPath) (now : StepsSoFar) → r ≡ Copy c → begun (known_at s h d) d r ≡ None → Leads s h d r now None (at_dest (known_at s h d) d c source)
   dest-leads c source now is none =
       cond_both (is_dest_granted c) (Walking (Dest c source None) (end_leg (known_at s h d) d c.dest Write c.len) AtHeader) (Accessing c source Own) (Leads s h d r now None)
-      (λ a. (refl, (of-run (domain_of s.domains (resolved d c.dest.domid)) (opens (known_at s h d) d (Copy c) (subst (λ (z : Asked). begun (known_at s h d) d z ≡ None) is none)).dest_of_run, tt))) (λ a. (refl, tt))
+      (λ a. (refl, (of-run (domain_of s.domains (resolved d c.dest.domid)) (opens (known_at s h d) d (Copy c) (subst (λ (z : OpenRequest). begun (known_at s h d) d z ≡ None) is none)).dest_of_run, tt))) (λ a. (refl, tt))
 
-  source-pin-leads : (c : CopyArgs) (l : Leg) (p : Held) (e : Entry) (now : StepsSoFar) → r ≡ Copy c → begun (known_at s h d) d r ≡ None
+  source-pin-leads : (c : CopyArgs) (l : Leg) (p : HeldPin) (e : Entry) (now : StepsSoFar) → r ≡ Copy c → begun (known_at s h d) d r ≡ None
       → Leads s h d r now (rule_at_via (known_at s h d) (Some (record { leg = l; pair = source_pair d c })) e) (after_source_pin (known_at s h d) d c l p e)
   source-pin-leads c l p (Via dom ro dom2 gref) now is none =
       where-leads c now (Source c (Some p)) (second_leg (known_at s h d) l dom2 gref) (source_pair d c dom2) _ is refl
   source-pin-leads c l p e now is none = dest-leads c (Direct p) now is none
 
-  dest-pin-leads : (c : CopyArgs) (source : Route) (l : Leg) (p : Held) (e : Entry) (now : StepsSoFar) → r ≡ Copy c
+  dest-pin-leads : (c : CopyArgs) (source : AccessPath) (l : Leg) (p : HeldPin) (e : Entry) (now : StepsSoFar) → r ≡ Copy c
       → Leads s h d r now (rule_at_via (known_at s h d) (Some (record { leg = l; pair = dest_pair d source })) e) (after_dest_pin (known_at s h d) d c source l p e)
   dest-pin-leads c source l p (Via dom ro dom2 gref) now is =
       where-leads c now (Dest c source (Some p)) (second_leg (known_at s h d) l dom2 gref) (dest_pair d source dom2) _ is refl
   dest-pin-leads c source l p e now is = (refl, tt)
 
-  pin-leads : (aim : Aim) (l : Leg) (p : Held) (e : Entry) (now : StepsSoFar) → p.entry ≡ e → (IsVia e → IsFirstLeg aim) → IsLegFor (known_at s h d) d r aim l → begun (known_at s h d) d r ≡ None
+  pin-leads : (aim : PinPurpose) (l : Leg) (p : HeldPin) (e : Entry) (now : StepsSoFar) → p.entry ≡ e → (IsVia e → IsFirstLeg aim) → IsLegFor (known_at s h d) d r aim l → begun (known_at s h d) d r ≡ None
       → Leads s h d r now (rule_at_via (known_at s h d) (Some (record { leg = l; pair = pair_of d aim })) e) (after_pin_of (known_at s h d) d aim l p)
   pin-leads Mapping l p e now same first is none = (no-via (known_at s h d) l (pair_of d Mapping) e (λ v. first v), inl refl)
   pin-leads (Source c None) l p e now same first is none = let k = known_at s h d in
@@ -272,7 +272,7 @@ module _ (s : Setting) (h : History) (d : DomId) (r : Asked) where
       subst (λ (z : Entry). Leads s h d r now (rule_at_via k (Some (record { leg = l; pair = dest_pair d source })) e) (after_dest_pin k d c source l p z)) (sym same) (dest-pin-leads c source l p e now is.0)
   pin-leads (Dest c source (Some via)) l p e now same first is none = (no-via (known_at s h d) l (pair_of d (Dest c source (Some via))) e (λ v. first v), tt)
 
-  pub taken-leads : (so_far now : StepsSoFar) (aim : Aim) (l : Leg) (more word body second : ℕ) (b : Bool) → b ≡ true → IsLegFor (known_at s h d) d r aim l → IsLegOf s h d r l (pair_of d aim) → begun (known_at s h d) d r ≡ None
+  pub taken-leads : (so_far now : StepsSoFar) (aim : PinPurpose) (l : Leg) (more word body second : ℕ) (b : Bool) → b ≡ true → IsLegFor (known_at s h d) d r aim l → IsLegOf s h d r l (pair_of d aim) → begun (known_at s h d) d r ≡ None
       → first_look l (control_of word) ≡ None → IsAsTried s h l word body second
       → Leads s h d r now (rule_at_pin s h d r so_far (held_of l word body second) (cond b Taken (Missed (word_at s h l.dom.0 l.gref.0))))
       (phase_after (known_at s h d) d (Walking aim l (Pinning more word body second)) (cond b Taken (Missed (word_at s h l.dom.0 l.gref.0))))

@@ -3,9 +3,9 @@ use Rattle.gt_core.proofs.Words.{◌≡◌, ◌<◌, ◌≤◌, ◌+◌, ◌%◌
 use Rattle.gt_core.proofs.Words.{TABLE_ENTRIES, control_of, header_word, header_of, Header, State, History, Setting}
 use Rattle.gt_core.proofs.Words.{word_at, control_at, DomainsStand, FitsTable, ◌*◌, ◌/◌, control-round}
 use Rattle.gt_core.proofs.Words.{MAX_TABLE_FRAMES, ENTRIES_V1, ENTRIES_V2, ◌≢◌, zero, suc, refl, [], ◌∷◌, length}
-use Rattle.gt_core.proofs.Words.{Option, Some, None, same_Some, slice_get, DomId, Entry, control_word, PinCounts, Own}
+use Rattle.gt_core.proofs.Words.{Option, Some, None, same_Some, slice_get, DomId, Entry, control_word, PinCounts, OwnerEntry}
 use Rattle.gt_core.proofs.Words.{Step, LookHeader, LookControl, LookBody, Exchange, Word, control_with, own_generation}
-use Rattle.gt_core.proofs.Words.{Half, FirstHalf, SecondHalf, entry_at, generation_at, reads_at, body_at, table_at}
+use Rattle.gt_core.proofs.Words.{BodyWord, FirstHalf, SecondHalf, entry_at, generation_at, reads_at, body_at, table_at}
 use Rattle.gt_core.proofs.Words.{seen_by, exchange_sees, StateStands, StateAgrees, control_seen, header_seen, body_seen}
 use Rattle.gt_core.proofs.Words.{sees, reads_in, writes_in, body_in, slot_reads, slot_writes, slot_body, control_in}
 use Rattle.gt_core.proofs.Words.{size_of, state_of, PinStep}
@@ -38,7 +38,7 @@ some-at (x ∷ xs) zero within = (x, refl)
 some-at (x ∷ xs) (suc r) within = some-at xs r (omega arith)
 
 -- where there is a row, its generation is the entry's
-generation-there : (a b : ℕ) (own : List Own) (r : ℕ) → r < length own → own_generation a own r ≡ own_generation b own r
+generation-there : (a b : ℕ) (own : List OwnerEntry) (r : ℕ) → r < length own → own_generation a own r ≡ own_generation b own r
 generation-there a b [] r within = absurd (omega arith)
 generation-there a b (x ∷ xs) zero within = refl
 generation-there a b (x ∷ xs) (suc r) within = generation-there a b xs r (omega arith)
@@ -51,7 +51,7 @@ word-agrees s h x r a within = let here = some-at x.slots r (let room : length x
     ∙ ap (λ (n : ℕ). control_word (control_with (entry_at h x.id.0 r) (generation_at s h x.id.0 r) n (writes_in x.slots r))) (ap slot_reads here.1 ∙ b.reads)
     ∙ ap (λ (n : ℕ). control_word (control_with (entry_at h x.id.0 r) (generation_at s h x.id.0 r) (reads_at h x.id.0 r) n)) (ap slot_writes here.1 ∙ b.writes)
 
-body-agrees : (s : Setting) (h : History) (x : State) (r : ℕ) (which : Half) → StateStands s h x → r < TABLE_ENTRIES → body_in x.slots r which ≡ body_at h x.id.0 r which
+body-agrees : (s : Setting) (h : History) (x : State) (r : ℕ) (which : BodyWord) → StateStands s h x → r < TABLE_ENTRIES → body_in x.slots r which ≡ body_at h x.id.0 r which
 body-agrees s h x r SecondHalf a within = let here = some-at x.slots r (let room : length x.slots ≡ TABLE_ENTRIES = a.room in omega arith) in ap (λ (o : Option PinCounts). slot_body o SecondHalf) here.1 ∙ (a.slots r here.0 here.1).second
 body-agrees s h x r FirstHalf a within = let here = some-at x.slots r (let room : length x.slots ≡ TABLE_ENTRIES = a.room in omega arith) in ap (λ (o : Option PinCounts). slot_body o FirstHalf) here.1 ∙ (a.slots r here.0 here.1).first
 

@@ -1,15 +1,15 @@
 -- A header, or a body word of an invalid entry, that its owner stores: it keeps what a core stands for. What it rests
 -- on, and where it leads its call.
 use Rattle.gt_core.proofs.Words.{◌≡◌, ◌%◌, ℕ, refl, Bool, true, List, ◌∷◌, Option, Some, None, cond, sym, ap, ◌∙◌}
-use Rattle.gt_core.proofs.Words.{arith, subst, ◌==◌, DomId, Header, StoreHeader, Nothing, Open, Item, Answer, State}
+use Rattle.gt_core.proofs.Words.{arith, subst, ◌==◌, DomId, Header, StoreHeader, Nothing, OpenCall, Item, Answer, State}
 use Rattle.gt_core.proofs.Words.{state_of, changed_in, with_header, History, Setting, header_or, table_at}
 use Rattle.gt_core.proofs.Words.{one_if_mapped, open_call, FitsTable, StateStands, DomainsStand, CallAgrees}
 use Rattle.gt_core.proofs.Words.{GivenAgrees}
-use Rattle.gt_core.proofs.Words.{GrantRef, Half, FirstHalf, SecondHalf, StoreBody, Stored, with_slot, body_at, inl, inr}
+use Rattle.gt_core.proofs.Words.{GrantRef, BodyWord, FirstHalf, SecondHalf, StoreBody, Stored, with_slot, body_at, inl, inr}
 use Rattle.gt_core.proofs.Words.{◌≤◌, ◌⊎◌, LAST_VERSION, MAX_TABLE_FRAMES, first_body, Entry, Invalid, Sub, last_first}
 use Rattle.gt_core.proofs.Words.{action_at, after_store, phase_after, opens, Continuation, path, RestsOnGrant}
-use Rattle.gt_core.proofs.Words.{RestsOnRequest, CallerKnowledge, begun, first, second_body, HasShown, Makes, Seen}
-use Rattle.gt_core.proofs.Words.{Step, Phase, Ending, Last, Storing, StoringSecond, Walking, Asked, Grant, SetVersion}
+use Rattle.gt_core.proofs.Words.{RestsOnRequest, CallerKnowledge, begun, first, second_body, HasShown, Makes, Observation}
+use Rattle.gt_core.proofs.Words.{Step, Phase, Ending, Last, Storing, StoringSecond, Walking, OpenRequest, Grant, SetVersion}
 use Rattle.gt_core.proofs.Words.{SetupTable, known_at, StepsSoFar, PhaseStands, phase_refusal, entry_at}
 use Rattle.gt_core.proofs.{Steps.Observers.unstored, Steps.Observers.KeepsKnown, Steps.Observers.kept-live}
 use Rattle.gt_core.proofs.{Steps.Observers.other-table, Steps.Observers.kept-table, Steps.Observers.stepped}
@@ -42,7 +42,7 @@ pub room-there : (version frames : ℕ) → FitsTable (record { version = versio
 room-there version frames f = grind arith
 
 -- a header within the limits that its owner stores keeps what the core stands for
-pub header-stands : (s : Setting) (h : History) (xs ys : List State) (x : State) (version frames : ℕ) (answer : Option Answer) (o : Option Open) → DomainsStand s h xs → state_of xs x.id.0 ≡ Some x → StateStands s h x
+pub header-stands : (s : Setting) (h : History) (xs ys : List State) (x : State) (version frames : ℕ) (answer : Option Answer) (o : Option OpenCall) → DomainsStand s h xs → state_of xs x.id.0 ≡ Some x → StateStands s h x
     → ((q : ℕ) → state_of ys q ≡ cond (x.id.0 == q) (Some (record x { underway = o })) (state_of xs q)) → one_if_mapped answer ≡ 0 → FitsTable (record { version = version; frames = frames })
     → CallAgrees s (headed x.id version frames answer ∷ h) x.id o (open_call (headed x.id version frames answer ∷ h) x.id.0) → GivenAgrees (headed x.id version frames answer ∷ h) x.id.0 x.given
     → DomainsStand s (headed x.id version frames answer ∷ h) (changed_in x.id.0 (with_header version frames) ys)
@@ -57,14 +57,14 @@ header-stands s h xs ys x version frames answer o st here a becomes m fits call 
     (λ dom. headed-fits s h x.id version frames answer dom (x.id.0 == dom.0) refl fits (st.tables dom))
 
 -- the item of a store
-abbrev pub stores : DomId → GrantRef → Half → ℕ → Item
+abbrev pub stores : DomId → GrantRef → BodyWord → ℕ → Item
 stores d gref half word = stepped d (StoreBody gref half word) Nothing None
 
-pub store-keeps : (d : DomId) (gref : GrantRef) (half : Half) (word : ℕ) → KeepsKnown (stores d gref half word)
+pub store-keeps : (d : DomId) (gref : GrantRef) (half : BodyWord) (word : ℕ) → KeepsKnown (stores d gref half word)
 store-keeps d gref half word = record { changes = λ r. refl; pins = λ before ps. refl; unpins = λ pins. refl; maps = refl }
 
 -- the half that is stored is the word, and the first one stays where it is the second
-pub half-stored : (d : DomId) (gref : GrantRef) (half : Half) (word : ℕ) (h : History) → body_at (stores d gref half word ∷ h) d.0 gref.0 half ≡ word
+pub half-stored : (d : DomId) (gref : GrantRef) (half : BodyWord) (word : ℕ) (h : History) → body_at (stores d gref half word ∷ h) d.0 gref.0 half ≡ word
 unfolding body_at
 half-stored d gref half word h = grind arith
 
@@ -73,12 +73,12 @@ unfolding body_at
 first-stays d gref word r h = grind arith
 
 -- each slot agrees, with the word stored
-moves-stored : (d : DomId) (gref : GrantRef) (half : Half) (word : ℕ) (h : History) → Moves h (stores d gref half word ∷ h) d.0 gref.0 (Stored half word)
+moves-stored : (d : DomId) (gref : GrantRef) (half : BodyWord) (word : ℕ) (h : History) → Moves h (stores d gref half word ∷ h) d.0 gref.0 (Stored half word)
 unfolding body_at
 moves-stored d gref half word h q r old a = grind (arith, kept-live, store-keeps)
 
 -- a body word that is stored keeps what the core stands for
-pub store-stands : (s : Setting) (h : History) (xs ys : List State) (x : State) (gref : GrantRef) (half : Half) (word : ℕ) (o : Option Open) → DomainsStand s h xs
+pub store-stands : (s : Setting) (h : History) (xs ys : List State) (x : State) (gref : GrantRef) (half : BodyWord) (word : ℕ) (o : Option OpenCall) → DomainsStand s h xs
     → state_of xs x.id.0 ≡ Some x → StateStands s h x → ((q : ℕ) → state_of ys q ≡ cond (x.id.0 == q) (Some (record x { underway = o })) (state_of xs q))
     → CallAgrees s (stores x.id gref half word ∷ h) x.id o (open_call (stores x.id gref half word ∷ h) x.id.0) → GivenAgrees (stores x.id gref half word ∷ h) x.id.0 x.given
     → DomainsStand s (stores x.id gref half word ∷ h) (changed_in x.id.0 (with_slot gref.0 (Stored half word)) ys)
@@ -91,12 +91,12 @@ store-stands s h xs ys x gref half word o st here a becomes call given = let i =
 -- what a store rests on
 
 -- a body word is stored on an invalid entry
-pub store-invalid : (s : Setting) (h : History) (d : DomId) (r : Asked) (gref : GrantRef) (half : Half) (word : ℕ) → begun (known_at s h d) d r ≡ None → RestsOnGrant r gref half word → entry_at h d.0 gref.0 ≡ Invalid
+pub store-invalid : (s : Setting) (h : History) (d : DomId) (r : OpenRequest) (gref : GrantRef) (half : BodyWord) (word : ℕ) → begun (known_at s h d) d r ≡ None → RestsOnGrant r gref half word → entry_at h d.0 gref.0 ≡ Invalid
 store-invalid s h d r gref FirstHalf word none a = grant-invalid s h d gref a.0 (none-of (known_at s h d) d r (Grant gref a.0) a.1 none)
 store-invalid s h d r gref SecondHalf word none a = grant-invalid s h d gref a.0 (none-of (known_at s h d) d r (Grant gref a.0) a.1 none)
 
 -- a header that is stored is within the limits
-pub header-fits : (s : Setting) (h : History) (xs : List State) (d : DomId) (r : Asked) (version frames : ℕ) → DomainsStand s h xs → begun (known_at s h d) d r ≡ None → RestsOnRequest (known_at s h d) d r (StoreHeader version frames)
+pub header-fits : (s : Setting) (h : History) (xs : List State) (d : DomId) (r : OpenRequest) (version frames : ℕ) → DomainsStand s h xs → begun (known_at s h d) d r ≡ None → RestsOnRequest (known_at s h d) d r (StoreHeader version frames)
     → FitsTable (record { version = version; frames = frames })
 header-fits s h xs d r version frames st none (inl a) =
     record { version = by (opens (known_at s h d) d (SetVersion version) (none-of (known_at s h d) d r (SetVersion version) a.0 none)).version_known; frames = subst (λ (n : ℕ). n ≤ MAX_TABLE_FRAMES) (sym a.1) (st.tables d).frames }
@@ -119,7 +119,7 @@ stored-refusal k gref Invalid = refl
 stored-refusal k gref entry = refl
 
 -- what holds of each call that is about to store a body word
-pub by-storing : (s : Setting) (h : History) (d : DomId) (r : Asked) (way : Continuation) (shown : List Seen) (P : Phase → Step → Type 0) → ((g : GrantRef) (entry : Entry) → P (Storing g entry) (StoreBody g FirstHalf (first_body entry)))
+pub by-storing : (s : Setting) (h : History) (d : DomId) (r : OpenRequest) (way : Continuation) (shown : List Observation) (P : Phase → Step → Type 0) → ((g : GrantRef) (entry : Entry) → P (Storing g entry) (StoreBody g FirstHalf (first_body entry)))
     → ((g : GrantRef) (entry : Entry) → P (StoringSecond g entry) (StoreBody g SecondHalf (second_body entry))) → (phase : Phase) (step : Step) → HasShown (known_at s h d) way d r shown phase → action_at d phase ≡ Makes step → IsStore step → P phase step
 by-storing s h d r way shown P first second (Storing g entry) step a e n = subst (P (Storing g entry)) (makes-same _ _ e) (first g entry)
 by-storing s h d r way shown P first second (StoringSecond g entry) step a e n = subst (P (StoringSecond g entry)) (makes-same _ _ e) (second g entry)
@@ -133,14 +133,14 @@ by-storing s h d r way shown P first second (Last last verdict) step a e n =
 by-storing s h d r way shown P first second (Ending held verdict) step a e n = absurd (by-giving (λ (z : Step). IsStore z → ⊥) (λ p m f. f) (last_first held) verdict step e n)
 by-storing s h d r way shown P first second phase step a e n = absurd (subst IsStore (sym (makes-same _ _ e)) n)
 
-abbrev pub StoreLeads : Setting → History → DomId → Asked → List Seen → StepsSoFar → StepsSoFar → Phase → Step → Type 0
+abbrev pub StoreLeads : Setting → History → DomId → OpenRequest → List Observation → StepsSoFar → StepsSoFar → Phase → Step → Type 0
 StoreLeads s h d r shown so_far now phase step = HasShown (known_at s h d) (path (known_at s h d) d r) d r shown phase → PhaseStands s h d r so_far phase → PhaseStands s (stepped d step Nothing None ∷ h) d r now (phase_after (known_at s h d) d phase Nothing)
 
-pub first-leads : (s : Setting) (h : History) (d : DomId) (r : Asked) (shown : List Seen) (so_far now : StepsSoFar) (g : GrantRef) (entry : Entry) → StoreLeads s h d r shown so_far now (Storing g entry) (StoreBody g FirstHalf (first_body entry))
+pub first-leads : (s : Setting) (h : History) (d : DomId) (r : OpenRequest) (shown : List Observation) (so_far now : StepsSoFar) (g : GrantRef) (entry : Entry) → StoreLeads s h d r shown so_far now (Storing g entry) (StoreBody g FirstHalf (first_body entry))
 first-leads s h d r shown so_far now g (Sub dom ro frame off len) a b = half-stored d g FirstHalf (first_body (Sub dom ro frame off len)) h
 first-leads s h d r shown so_far now g Invalid a b = tt
 first-leads s h d r shown so_far now g y a b = half-stored d g FirstHalf (first_body y) h
 
-pub second-leads : (s : Setting) (h : History) (d : DomId) (r : Asked) (shown : List Seen) (so_far now : StepsSoFar) (g : GrantRef) (entry : Entry) → StoreLeads s h d r shown so_far now (StoringSecond g entry) (StoreBody g SecondHalf (second_body entry))
+pub second-leads : (s : Setting) (h : History) (d : DomId) (r : OpenRequest) (shown : List Observation) (so_far now : StepsSoFar) (g : GrantRef) (entry : Entry) → StoreLeads s h d r shown so_far now (StoringSecond g entry) (StoreBody g SecondHalf (second_body entry))
 second-leads s h d r shown so_far now g (Sub dom ro frame off len) a b = let w = second_body (Sub dom ro frame off len) in (first-stays d g w g.0 h ∙ b, half-stored d g SecondHalf w h)
 second-leads s h d r shown so_far now g y a b = absurd a.3

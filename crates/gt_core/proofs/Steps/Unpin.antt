@@ -1,8 +1,8 @@
 -- An unpin: it keeps what a core stands for, and where it leads its call.
 use Rattle.gt_core.proofs.Words.{◌≡◌, ◌+◌, ℕ, refl, Bool, false, List, [], ◌∷◌, ◌++◌, length, Option, Some, None, cond}
 use Rattle.gt_core.proofs.Words.{sym, ap, ◌∙◌, arith, subst, ◌==◌, ◌&&◌, All, count_by, none-some, sum_by-cons, DomId}
-use Rattle.gt_core.proofs.Words.{Dir, Read, Write, Half, FirstHalf, SecondHalf, Handle, HandleMap, Held, Holder}
-use Rattle.gt_core.proofs.Words.{ByMapping, ByLeg, Seen, PinCounts, Open, Unpinned, Item, Answer, State, state_of}
+use Rattle.gt_core.proofs.Words.{Dir, Read, Write, BodyWord, FirstHalf, SecondHalf, Handle, HandleMap, HeldPin, PinHolder}
+use Rattle.gt_core.proofs.Words.{ByMapping, ByLeg, Observation, PinCounts, OpenCall, Unpinned, Item, Answer, State, state_of}
 use Rattle.gt_core.proofs.Words.{changed_in, with_slot, without_holder, slot_after, handle_taken, History, Setting, Pin}
 use Rattle.gt_core.proofs.Words.{live}
 use Rattle.gt_core.proofs.Words.{body_at, mappings_at, maps_answered_at, legs_at, open_call, is_pin_on, without}
@@ -10,7 +10,7 @@ use Rattle.gt_core.proofs.Words.{is_holder, same_handle, same_dir, gather, mappi
 use Rattle.gt_core.proofs.Words.{one_if_mapped, IsLawfulPin, SlotAgrees, StateStands, DomainsStand, CallAgrees}
 use Rattle.gt_core.proofs.Words.{GivenAgrees}
 use Rattle.gt_core.proofs.Words.{MappingsAgree, numbered, inl, inr, ◌⊎◌, option_or, Denial, last_first, next_to_give}
-use Rattle.gt_core.proofs.Words.{Done, Makes, Step, Verdict, Ending, Pins, Asked, Copy, CopyArgs, StepsSoFar, EndsCopy}
+use Rattle.gt_core.proofs.Words.{Done, Makes, Step, CallResult, Ending, CallPins, OpenRequest, Copy, CopyArgs, StepsSoFar, EndsCopy}
 use Rattle.gt_core.proofs.{Steps.Observers.answered-stays, Steps.Observers.cond-same, Steps.Observers.without-kept}
 use Rattle.gt_core.proofs.{Steps.Observers.IsKeyed, Steps.Observers.mapping-keyed, Steps.Observers.leg-keyed}
 use Rattle.gt_core.proofs.{AgreementKept.KeepsEntries, AgreementKept.same-body, AgreementKept.Becomes}
@@ -22,15 +22,15 @@ use Rattle.gt_core.proofs.{Steps.Observers.unpins, Phases.by-giving, Phases.Plac
 
 -- what an unpin takes from the live pins
 
-abbrev hits : Held → ℕ → ℕ → Dir → Bool
+abbrev hits : HeldPin → ℕ → ℕ → Dir → Bool
 hits m t r k = (m.dom.0 == t) && (m.gref.0 == r) && same_dir m.dir k
 
 -- the count of one kind on one entry falls by one, where the pin is of that
-abbrev pub Loses : Held → List Pin → List Pin → Type 0
+abbrev pub Loses : HeldPin → List Pin → List Pin → Type 0
 Loses m whole less = (t r : ℕ) (k : Dir) → count_by (is_pin_on t r k) whole ≡ cond (hits m t r k) 1 0 + count_by (is_pin_on t r k) less
 
 -- the one under a key, by a test of keys
-abbrev one_of : {K : Type 0} → (K → Bool) → List (K × Held) → Option Held
+abbrev one_of : {K : Type 0} → (K → Bool) → List (K × HeldPin) → Option HeldPin
 one_of test [] = None
 one_of test (m ∷ ms) = cond (test m.0) (Some m.1) (one_of test ms)
 
@@ -39,13 +39,13 @@ passes test None = false
 passes test (Some k) = test k
 
 -- the holder is the one whose key passes the test
-record Tells {K : Type 0} (give : Holder → Held → List (K × Held)) (test : K → Bool) (holder : Holder) : Type 0 where
+record Tells {K : Type 0} (give : PinHolder → HeldPin → List (K × HeldPin)) (test : K → Bool) (holder : PinHolder) : Type 0 where
   pub keyed : IsKeyed give
-  pub tells : (x : Holder) → is_holder x holder ≡ passes test (keyed.key x)
+  pub tells : (x : PinHolder) → is_holder x holder ≡ passes test (keyed.key x)
 
 -- what the others give stays, and the first of these pins that is held so is gone, if there is one
-without-one : {K : Type 0} (give : Holder → Held → List (K × Held)) (test : K → Bool) (holder : Holder) (d : ℕ) (ps : List Pin) → Tells give test holder
-    → (gather give d (without d holder ps) ≡ less_of test (gather give d ps)) × ((m : Held) → one_of test (gather give d ps) ≡ Some m → Loses m ps (without d holder ps))
+without-one : {K : Type 0} (give : PinHolder → HeldPin → List (K × HeldPin)) (test : K → Bool) (holder : PinHolder) (d : ℕ) (ps : List Pin) → Tells give test holder
+    → (gather give d (without d holder ps) ≡ less_of test (gather give d ps)) × ((m : HeldPin) → one_of test (gather give d ps) ≡ Some m → Loses m ps (without d holder ps))
 unfolding without gather
 without-one give test holder d [] t = (refl, λ m e. absurd (none-some m e))
 without-one {K} give test holder d (p ∷ ps) t = let was = without-one give test holder d ps t in (
@@ -57,35 +57,35 @@ without-one {K} give test holder d (p ∷ ps) t = let was = without-one give tes
 
 mapping-tells : (handle : Handle) → Tells mapping_named (λ (k : Handle). same_handle k handle) (ByMapping handle)
 mapping-tells handle = record { keyed = mapping-keyed; tells = by } where
-  by : (x : Holder) → is_holder x (ByMapping handle) ≡ passes (λ (k : Handle). same_handle k handle) (mapping-keyed.key x)
+  by : (x : PinHolder) → is_holder x (ByMapping handle) ≡ passes (λ (k : Handle). same_handle k handle) (mapping-keyed.key x)
   by (ByMapping k) = refl
   by (ByLeg n) = refl
 
 leg-tells : (number : ℕ) → Tells by_leg (λ (k : ℕ). k == number) (ByLeg number)
 leg-tells number = record { keyed = leg-keyed; tells = by } where
-  by : (x : Holder) → is_holder x (ByLeg number) ≡ passes (λ (k : ℕ). k == number) (leg-keyed.key x)
+  by : (x : PinHolder) → is_holder x (ByLeg number) ≡ passes (λ (k : ℕ). k == number) (leg-keyed.key x)
   by (ByMapping k) = refl
   by (ByLeg n) = refl
 
 -- by a mapping's handle
 
-one-mapping : (ms : List (Handle × Held)) (handle : Handle) → one_of (λ (k : Handle). same_handle k handle) ms ≡ mapping_of ms handle
+one-mapping : (ms : List (Handle × HeldPin)) (handle : Handle) → one_of (λ (k : Handle). same_handle k handle) ms ≡ mapping_of ms handle
 one-mapping [] handle = refl
-one-mapping (m ∷ ms) handle = ap (λ (o : Option Held). cond (same_handle m.0 handle) (Some m.1) o) (one-mapping ms handle)
+one-mapping (m ∷ ms) handle = ap (λ (o : Option HeldPin). cond (same_handle m.0 handle) (Some m.1) o) (one-mapping ms handle)
 
-pub loses-mapping : (h : History) (d : DomId) (handle : Handle) (p : Held) → mapping_of (mappings_at h d.0) handle ≡ Some p → Loses p (live h) (without d.0 (ByMapping handle) (live h))
+pub loses-mapping : (h : History) (d : DomId) (handle : Handle) (p : HeldPin) → mapping_of (mappings_at h d.0) handle ≡ Some p → Loses p (live h) (without d.0 (ByMapping handle) (live h))
 loses-mapping h d handle p found =
     (without-one mapping_named (λ (k : Handle). same_handle k handle) (ByMapping handle) d.0 (live h) (mapping-tells handle)).1 p (one-mapping (mappings_at h d.0) handle ∙ found)
 
 -- the domain's mappings lose the one of the handle, and its call no pin
-mapping-left : (h : History) (d : DomId) (p : Held) (handle : Handle) (seen : Seen) (answer : Option Answer) → mappings_at (unpins d p (ByMapping handle) seen answer ∷ h) d.0 ≡ less handle (mappings_at h d.0)
+mapping-left : (h : History) (d : DomId) (p : HeldPin) (handle : Handle) (seen : Observation) (answer : Option Answer) → mappings_at (unpins d p (ByMapping handle) seen answer ∷ h) d.0 ≡ less handle (mappings_at h d.0)
 mapping-left h d p handle seen answer = ap (gather mapping_named d.0) (unpinned-live h d p (ByMapping handle) seen answer)
     ∙ (without-one mapping_named (λ (k : Handle). same_handle k handle) (ByMapping handle) d.0 (live h) (mapping-tells handle)).0
 
-pub mapping-legs : (h : History) (d : DomId) (p : Held) (handle : Handle) (seen : Seen) (answer : Option Answer) → legs_at (unpins d p (ByMapping handle) seen answer ∷ h) d.0 ≡ legs_at h d.0
+pub mapping-legs : (h : History) (d : DomId) (p : HeldPin) (handle : Handle) (seen : Observation) (answer : Option Answer) → legs_at (unpins d p (ByMapping handle) seen answer ∷ h) d.0 ≡ legs_at h d.0
 mapping-legs h d p handle seen answer = grind (arith, unpinned-live, without-kept, cond-same)
 
-pub mapping-agrees : (h : History) (d : DomId) (p : Held) (handle : Handle) (seen : Seen) (answer : Option Answer) (kept : HandleMap Held) → one_if_mapped answer ≡ 0 → mapping_of (mappings_at h d.0) handle ≡ Some p
+pub mapping-agrees : (h : History) (d : DomId) (p : HeldPin) (handle : Handle) (seen : Observation) (answer : Option Answer) (kept : HandleMap HeldPin) → one_if_mapped answer ≡ 0 → mapping_of (mappings_at h d.0) handle ≡ Some p
     → MappingsAgree kept (mappings_at h d.0) (maps_answered_at h d.0)
     → MappingsAgree (handle_taken handle kept) (mappings_at (unpins d p (ByMapping handle) seen answer ∷ h) d.0) (maps_answered_at (unpins d p (ByMapping handle) seen answer ∷ h) d.0)
 mapping-agrees h d p handle seen answer kept m found a =
@@ -94,7 +94,7 @@ mapping-agrees h d p handle seen answer kept m found a =
 
 -- by the place of a call's own pin, the last one
 
-last-leg : (m n : ℕ) (ps : List Held) (p : Held) → n ≡ m + length ps
+last-leg : (m n : ℕ) (ps : List HeldPin) (p : HeldPin) → n ≡ m + length ps
     → (one_of (λ (k : ℕ). k == n) (numbered m (ps ++ p ∷ [])) ≡ Some p) × (less_of (λ (k : ℕ). k == n) (numbered m (ps ++ p ∷ [])) ≡ numbered m ps)
 last-leg m n [] p e = grind arith
 last-leg m n (q ∷ ps) p e = grind (arith, last-leg (m + 1) n ps p (omega arith))
@@ -102,30 +102,30 @@ last-leg m n (q ∷ ps) p e = grind (arith, last-leg (m + 1) n ps p (omega arith
 pub from-zero : (n : ℕ) → 0 + n ≡ n
 from-zero n = omega arith
 
-pub loses-leg : (h : History) (d : DomId) (ps : List Held) (p : Held) → legs_at h d.0 ≡ numbered 0 (ps ++ p ∷ []) → Loses p (live h) (without d.0 (ByLeg (length ps)) (live h))
+pub loses-leg : (h : History) (d : DomId) (ps : List HeldPin) (p : HeldPin) → legs_at h d.0 ≡ numbered 0 (ps ++ p ∷ []) → Loses p (live h) (without d.0 (ByLeg (length ps)) (live h))
 loses-leg h d ps p held = (without-one by_leg (λ (k : ℕ). k == length ps) (ByLeg (length ps)) d.0 (live h) (leg-tells (length ps))).1 p
     (ap (one_of (λ (k : ℕ). k == length ps)) held ∙ (last-leg 0 (length ps) ps p (omega arith)).0)
 
-pub leg-left : (h : History) (d : DomId) (ps : List Held) (p : Held) (seen : Seen) (answer : Option Answer) → legs_at h d.0 ≡ numbered 0 (ps ++ p ∷ [])
+pub leg-left : (h : History) (d : DomId) (ps : List HeldPin) (p : HeldPin) (seen : Observation) (answer : Option Answer) → legs_at h d.0 ≡ numbered 0 (ps ++ p ∷ [])
     → legs_at (unpins d p (ByLeg (length ps)) seen answer ∷ h) d.0 ≡ numbered 0 ps
 leg-left h d ps p seen answer held = ap (gather by_leg d.0) (unpinned-live h d p (ByLeg (length ps)) seen answer)
     ∙ (without-one by_leg (λ (k : ℕ). k == length ps) (ByLeg (length ps)) d.0 (live h) (leg-tells (length ps))).0
     ∙ ap (less_of (λ (k : ℕ). k == length ps)) held ∙ (last-leg 0 (length ps) ps p (omega arith)).1
 
-pub leg-mappings : (h : History) (d : DomId) (p : Held) (number : ℕ) (seen : Seen) (answer : Option Answer) → mappings_at (unpins d p (ByLeg number) seen answer ∷ h) d.0 ≡ mappings_at h d.0
+pub leg-mappings : (h : History) (d : DomId) (p : HeldPin) (number : ℕ) (seen : Observation) (answer : Option Answer) → mappings_at (unpins d p (ByLeg number) seen answer ∷ h) d.0 ≡ mappings_at h d.0
 leg-mappings h d p number seen answer = grind (arith, unpinned-live, without-kept, cond-same)
 
-pub leg-agrees : (h : History) (d : DomId) (p : Held) (number : ℕ) (seen : Seen) (answer : Option Answer) (kept : HandleMap Held) → one_if_mapped answer ≡ 0
+pub leg-agrees : (h : History) (d : DomId) (p : HeldPin) (number : ℕ) (seen : Observation) (answer : Option Answer) (kept : HandleMap HeldPin) → one_if_mapped answer ≡ 0
     → MappingsAgree kept (mappings_at h d.0) (maps_answered_at h d.0) → MappingsAgree kept (mappings_at (unpins d p (ByLeg number) seen answer ∷ h) d.0) (maps_answered_at (unpins d p (ByLeg number) seen answer ∷ h) d.0)
 leg-agrees h d p number seen answer kept m a = mappings-same kept _ _ _ _ (sym (leg-mappings h d p number seen answer)) (sym (answered-stays h (unpins d p (ByLeg number) seen answer) d.0 m)) a
 
 -- the slot that the unpin counts down
-counted-down : (h new : History) (q r : ℕ) (dir : Dir) (b : Bool) (old : PinCounts) → SlotAgrees h q r old → ((which : Half) → body_at new q r which ≡ body_at h q r which)
+counted-down : (h new : History) (q r : ℕ) (dir : Dir) (b : Bool) (old : PinCounts) → SlotAgrees h q r old → ((which : BodyWord) → body_at new q r which ≡ body_at h q r which)
     → ((k : Dir) → pins_at h q r k ≡ cond (b && same_dir dir k) 1 0 + pins_at new q r k) → SlotAgrees new q r (cond b (slot_after (Unpinned dir) old) old)
 counted-down h new q r dir b old a body now = grind (arith, now Read, now Write, body FirstHalf, body SecondHalf)
 
 -- a live pin that is given back keeps what the core stands for, where the domain's mappings are those that it then has
-pub unpin-stands : (s : Setting) (h : History) (xs zs : List State) (x : State) (p : Held) (holder : Holder) (seen : Seen) (answer : Option Answer) (kept : HandleMap Held) (o : Option Open) → DomainsStand s h xs
+pub unpin-stands : (s : Setting) (h : History) (xs zs : List State) (x : State) (p : HeldPin) (holder : PinHolder) (seen : Observation) (answer : Option Answer) (kept : HandleMap HeldPin) (o : Option OpenCall) → DomainsStand s h xs
     → state_of xs x.id.0 ≡ Some x → StateStands s h x → Becomes xs zs x (record x { mappings = kept; underway = o }) p.dom.0 (with_slot p.gref.0 (Unpinned p.dir)) → Loses p (live h) (without x.id.0 holder (live h))
     → MappingsAgree kept (mappings_at (unpins x.id p holder seen answer ∷ h) x.id.0) (maps_answered_at (unpins x.id p holder seen answer ∷ h) x.id.0)
     → CallAgrees s (unpins x.id p holder seen answer ∷ h) x.id o (open_call (unpins x.id p holder seen answer ∷ h) x.id.0) → GivenAgrees (unpins x.id p holder seen answer ∷ h) x.id.0 x.given
@@ -150,7 +150,7 @@ unpin-stands s h xs zs x p holder seen answer kept o st here a becomes loses map
     shrinks t r k = loses t r k ∙ ap (λ (ps : List Pin). cond (hits p t r k) 1 0 + count_by (is_pin_on t r k) ps) (sym now)
 
 -- the states after an unpin: the mapping goes too, where it is of one
-pub becomes-unpinned : (xs ys : List State) (x : State) (p : Held) (holder : Holder) (o : Option Open) → ((q : ℕ) → state_of ys q ≡ cond (x.id.0 == q) (Some (record x { underway = o })) (state_of xs q))
+pub becomes-unpinned : (xs ys : List State) (x : State) (p : HeldPin) (holder : PinHolder) (o : Option OpenCall) → ((q : ℕ) → state_of ys q ≡ cond (x.id.0 == q) (Some (record x { underway = o })) (state_of xs q))
     → Becomes xs (changed_in x.id.0 (without_holder holder) (changed_in p.dom.0 (with_slot p.gref.0 (Unpinned p.dir)) ys)) x (without_holder holder (record x { underway = o })) p.dom.0 (with_slot p.gref.0 (Unpinned p.dir))
 becomes-unpinned xs ys x p holder o was = grind (arith, state-changed, becomes-changed)
 
@@ -160,7 +160,7 @@ pub then-none : (o : Option Denial) → option_or o None ≡ o
 then-none None = refl
 then-none (Some d) = refl
 
-pub give-placed : (s : Setting) (h : History) (d : DomId) (r : Asked) (so_far : StepsSoFar) (pins : Pins) (verdict : Verdict) (step : Step) → next_to_give (last_first pins) verdict ≡ Makes step
+pub give-placed : (s : Setting) (h : History) (d : DomId) (r : OpenRequest) (so_far : StepsSoFar) (pins : CallPins) (verdict : CallResult) (step : Step) → next_to_give (last_first pins) verdict ≡ Makes step
     → (last_first pins ≡ []) ⊎ ((copy : CopyArgs) × (r ≡ Copy copy) × EndsCopy verdict) → Placed s h d r so_far (Ending pins verdict) step
-give-placed s h d r so_far pins verdict step e (inl none) = let f : Done verdict ≡ Makes step = sym (ap (λ (l : List Held). next_to_give l verdict) none) ∙ e in cc
+give-placed s h d r so_far pins verdict step e (inl none) = let f : Done verdict ≡ Makes step = sym (ap (λ (l : List HeldPin). next_to_give l verdict) none) ∙ e in cc
 give-placed s h d r so_far pins verdict step e (inr copy) = by-giving (Placed s h d r so_far (Ending pins verdict)) (λ p n. inr copy) (last_first pins) verdict step e

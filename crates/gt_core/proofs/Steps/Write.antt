@@ -4,11 +4,11 @@ use Rattle.gt_core.proofs.Words.{replicate, length, take, drop, Option, Some, No
 use Rattle.gt_core.proofs.Words.{eqb-true, eq-eqb, and_parts, and_from, append-nil, map-append, length-append}
 use Rattle.gt_core.proofs.Words.{length-drop, length-take-le, length-replicate, ◌==◌, ◌&&◌, nat_lt, is_some, IsTrue}
 use Rattle.gt_core.proofs.Words.{DomId, Write, ForMap, DomainConfig, FRAME_SIZE, Entry, frame_of, permits, Handle}
-use Rattle.gt_core.proofs.Words.{value_of, Held, Route, Direct, End, Request, Asked, Store, Poke, Spot, Seen, Step}
+use Rattle.gt_core.proofs.Words.{value_of, HeldPin, AccessPath, Direct, End, Request, OpenRequest, Store, Poke, Spot, Observation, Step}
 use Rattle.gt_core.proofs.Words.{ReadBytes, WriteBytes, CopyBytes, Makes, Call, CallerKnowledge, begun, frame_count_of}
 use Rattle.gt_core.proofs.Words.{is_dest_granted, dest_pair, opens, Rests, RestsOnRequest, RestsOnWays, IsReached}
 use Rattle.gt_core.proofs.Words.{pins_at, Patch, written, bytes_at, frame_counts, FrameSet, frame_at, has_range}
-use Rattle.gt_core.proofs.Words.{all_zeros, AreKept, Open, Item, Answer, Begun, State, IsLoadOf, IsReadable, IsAdmitted}
+use Rattle.gt_core.proofs.Words.{all_zeros, AreKept, OpenCall, Item, Answer, Begun, State, IsLoadOf, IsReadable, IsAdmitted}
 use Rattle.gt_core.proofs.Words.{AccessedBy, History, Setting, patches_at, patches_by, contents_at, written_by}
 use Rattle.gt_core.proofs.Words.{WriteMade}
 use Rattle.gt_core.proofs.Words.{given_in, open_call, Underway, values, known_at, IsInFrame, CopyIsJustified, grown}
@@ -20,7 +20,7 @@ use Rattle.gt_core.proofs.Words.{Writ, WriteRecord, BegunBusy, BegunNoDomain, co
 use Rattle.gt_core.proofs.{Starting.get-replicate, Steps.Observers.stepped, Phases.call-is, Phases.none-of}
 use Rattle.gt_core.proofs.{Steps.Access.permits-as, Steps.Access.mapping-pin, Steps.Access.same-held}
 use Rattle.gt_core.proofs.{Steps.Access.read-justified, Steps.Access.copy-justified}
-use Rattle.gt_calls.specs.{declared.held.Route.TheVariants.Own, Path.place_of}
+use Rattle.gt_calls.specs.{declared.held.AccessPath.TheVariants.Own, Path.place_of}
 use Rattle.std.specs.Cmp.{both_ways}
 
 -- what a frame holds, and which frames there are
@@ -49,23 +49,23 @@ map-writes : (e : Entry) (d : DomId) (frame off len : ℕ) → frame ≡ frame_o
 map-writes e d frame off len is a = grind arith
 
 -- the entries of a copy's pins let it write
-way-covers : (k : CallerKnowledge) (d : DomId) (granted : Bool) (end : End) (len : ℕ) (pair : DomId → DomId × DomId) (route : Route) → IsReached k d granted end Write len pair route
+way-covers : (k : CallerKnowledge) (d : DomId) (granted : Bool) (end : End) (len : ℕ) (pair : DomId → DomId × DomId) (route : AccessPath) → IsReached k d granted end Write len pair route
     → suffices (ground_of route) d (place_of d end route).frame.owner (place_of d end route).frame.number end.offset len ≡ true
 way-covers k d granted end len pair route a = grind arith
 
 -- the route of a call, which suffices, is that of its writ
-admitted-by : (fs : FrameSet) (x : State) (call : Call) (name : FrameName) (off len : ℕ) (route : Route) → has_frame fs name ≡ true → off + len ≤ FRAME_SIZE → route_of x.mappings call ≡ route
+admitted-by : (fs : FrameSet) (x : State) (call : Call) (name : FrameName) (off len : ℕ) (route : AccessPath) → has_frame fs name ≡ true → off + len ≤ FRAME_SIZE → route_of x.mappings call ≡ route
     → suffices (ground_of route) call.caller name.owner name.number off len ≡ true → (w : Writ) → IsWritOf x call w → IsTrue (admits fs name w off len)
 admitted-by fs x call name off len route there within is right w of_call = grind arith
 
 -- what the next step of an open call writes is by right
-pub open-admitted : (s : Setting) (h : History) (xs : List State) (fs : FrameSet) (x : State) (o : Open) (c : Underway) → DomainsStand s h xs → FramesStand s h fs → StateStands s h x → open_call h x.id.0 ≡ Some c → OpenAgrees s h x.id o c
+pub open-admitted : (s : Setting) (h : History) (xs : List State) (fs : FrameSet) (x : State) (o : OpenCall) (c : Underway) → DomainsStand s h xs → FramesStand s h fs → StateStands s h x → open_call h x.id.0 ≡ Some c → OpenAgrees s h x.id o c
     → IsAdmitted fs x o.call o.step
 open-admitted s h xs fs x o c st fr a call here = subst (λ (z : Call). IsAdmitted fs x z o.step) (sym (call-is o.call x.id c.request here.phase here.caller here.asks here.here)) (by o.step here.rests) where
   k : CallerKnowledge
   k = known_at s h x.id
 
-  asked_so : Asked → Call
+  asked_so : OpenRequest → Call
   asked_so r = record { caller = x.id; request = r; phase = Some here.phase }
 
   now : Call
@@ -78,31 +78,31 @@ open-admitted s h xs fs x o c st fr a call here = subst (λ (z : Call). IsAdmitt
   writes : (dom : DomId) (frame off len : ℕ) → begun k x.id c.request ≡ None → RestsOnRequest k x.id c.request (WriteBytes dom frame off len) → IsAdmitted fs x now (WriteBytes dom frame off len)
   writes dom frame off len none (inl (handle, is, mapped)) = let m = mapped.mapping in let o = opens k x.id (Store handle off len) (none-of k x.id c.request (Store handle off len) is none) in
       let same : o.mapping ≡ m = same-held k handle o.mapping m o.found mapped.found in
-      let writable : m.dir ≡ Write = ap (λ (q : Held). q.dir) (sym same) ∙ o.writable in
+      let writable : m.dir ≡ Write = ap (λ (q : HeldPin). q.dir) (sym same) ∙ o.writable in
       let one = (mapping-pin s h xs x.id handle m st mapped.found).4 in
-      let held : value_of x.mappings handle ≡ Some m = ap (λ (f : Handle → Option Held). f handle) a.mappings.named ∙ mapped.found in
-      let fits : FitsGiven (Store handle off len) x.given = subst (λ (q : Asked). FitsGiven q x.given) is given in
+      let held : value_of x.mappings handle ≡ Some m = ap (λ (f : Handle → Option HeldPin). f handle) a.mappings.named ∙ mapped.found in
+      let fits : FitsGiven (Store handle off len) x.given = subst (λ (q : OpenRequest). FitsGiven q x.given) is given in
       let within : off + length x.given ≤ FRAME_SIZE = let e = fits.0 in let room = fits.1 in omega arith in
       let below : frame < frame_count_of s.domains dom = subst (λ (n : ℕ). n < frame_count_of s.domains dom) (sym mapped.of_frame) (subst (λ (z : DomId). frame_of m.entry < frame_count_of s.domains z) (sym mapped.of_dom) one.lets.2) in
       admitted-by fs x now (record { owner = dom; number = frame }) off (length x.given) (Direct m)
-      (frame-there s h fs (record { owner = dom; number = frame }) fr below) within (ap (λ (q : Asked). route_of x.mappings (asked_so q)) is ∙ ap begun_route held)
+      (frame-there s h fs (record { owner = dom; number = frame }) fr below) within (ap (λ (q : OpenRequest). route_of x.mappings (asked_so q)) is ∙ ap begun_route held)
       (map-writes m.entry x.id frame off (length x.given) mapped.of_frame (permits-as m.entry x.id m.dir Write off (length x.given) (λ w. writable) one.lets.0))
   writes dom frame off len none (inr (is, own)) = let o = opens k x.id (Poke frame off len) (none-of k x.id c.request (Poke frame off len) is none) in
-      let fits : FitsGiven (Poke frame off len) x.given = subst (λ (q : Asked). FitsGiven q x.given) is given in
+      let fits : FitsGiven (Poke frame off len) x.given = subst (λ (q : OpenRequest). FitsGiven q x.given) is given in
       let within : off + length x.given ≤ FRAME_SIZE = let e = fits.0 in let room = fits.1 in omega arith in
       admitted-by fs x now (record { owner = dom; number = frame }) off (length x.given) Own
-      (frame-there s h fs (record { owner = dom; number = frame }) fr (subst (λ (z : DomId). frame < frame_count_of s.domains z) (sym own) o.framed)) within (ap (λ (q : Asked). route_of x.mappings (asked_so q)) is)
+      (frame-there s h fs (record { owner = dom; number = frame }) fr (subst (λ (z : DomId). frame < frame_count_of s.domains z) (sym own) o.framed)) within (ap (λ (q : OpenRequest). route_of x.mappings (asked_so q)) is)
       (eq-eqb x.id.0 dom.0 (ap (λ (z : DomId). z.0) (sym own)))
 
   -- a copy writes by the pins of its destination
   copies : (from to : Spot) (len : ℕ) → begun k x.id c.request ≡ None → RestsOnWays k x.id c.request (pins_at here.phase) from to len → IsAdmitted fs x now (CopyBytes from to len)
   copies from to len none w = let c' = w.copy in let pins = pins_at here.phase in
-      let inside = subst (λ (q : Asked). CopyIsJustified s h x.id q from to len) w.of_copy (copy-justified s h x.id c.request pins from to len none here.held w) in
+      let inside = subst (λ (q : OpenRequest). CopyIsJustified s h x.id q from to len) w.of_copy (copy-justified s h x.id c.request pins from to len none here.held w) in
       let t = place_of x.id c'.dest pins.dest in
       let right : suffices (ground_of pins.dest) x.id t.frame.owner t.frame.number t.off c'.len ≡ true = way-covers k x.id (is_dest_granted c') c'.dest c'.len (dest_pair x.id pins.source) pins.dest w.dest_reached in
       let right_to : suffices (ground_of pins.dest) x.id to.frame.owner to.frame.number to.off len ≡ true = subst (λ (z : Spot). suffices (ground_of pins.dest) x.id z.frame.owner z.frame.number z.off len ≡ true) (sym w.to_is)
       (subst (λ (n : ℕ). suffices (ground_of pins.dest) x.id t.frame.owner t.frame.number t.off n ≡ true) (sym w.len_is) right) in
-      (range-there s h fs from len fr inside.0, admitted-by fs x now to.frame to.off len pins.dest (frame-there s h fs to.frame fr inside.1.0) inside.1.1 (ap (λ (q : Asked). route_of x.mappings (asked_so q)) w.of_copy) right_to)
+      (range-there s h fs from len fr inside.0, admitted-by fs x now to.frame to.off len pins.dest (frame-there s h fs to.frame fr inside.1.0) inside.1.1 (ap (λ (q : OpenRequest). route_of x.mappings (asked_so q)) w.of_copy) right_to)
 
   by : (step : Step) → Rests k x.id c.request (pins_at here.phase) (values c) (Makes step) → IsAdmitted fs x now step
   by (WriteBytes dom frame off len) r = writes dom frame off len r.0 r.1
@@ -110,11 +110,11 @@ open-admitted s h xs fs x o c st fr a call here = subst (λ (z : Call). IsAdmitt
   by step r = tt
 
 -- what it reads is there
-pub open-readable : (s : Setting) (h : History) (xs : List State) (fs : FrameSet) (x : State) (o : Open) (c : Underway) → DomainsStand s h xs → FramesStand s h fs → OpenAgrees s h x.id o c → IsReadable fs o.call o.step
+pub open-readable : (s : Setting) (h : History) (xs : List State) (fs : FrameSet) (x : State) (o : OpenCall) (c : Underway) → DomainsStand s h xs → FramesStand s h fs → OpenAgrees s h x.id o c → IsReadable fs o.call o.step
 open-readable s h xs fs x o c st fr here = by o.step here.rests where
   long : (dom : DomId) (frame off len : ℕ) → RestsOnRequest (known_at s h x.id) x.id c.request (ReadBytes dom frame off len) → IsLoadOf o.call.request len
-  long dom frame off len (inl (handle, is, mapped)) = subst (λ (q : Asked). IsLoadOf q len) (sym (here.asks ∙ is)) refl
-  long dom frame off len (inr (is, own)) = subst (λ (q : Asked). IsLoadOf q len) (sym (here.asks ∙ is)) refl
+  long dom frame off len (inl (handle, is, mapped)) = subst (λ (q : OpenRequest). IsLoadOf q len) (sym (here.asks ∙ is)) refl
+  long dom frame off len (inr (is, own)) = subst (λ (q : OpenRequest). IsLoadOf q len) (sym (here.asks ∙ is)) refl
 
   by : (step : Step) → Rests (known_at s h x.id) x.id c.request (pins_at here.phase) (values c) (Makes step) → IsReadable fs o.call step
   by (ReadBytes dom frame off len) r = let just = read-justified s h xs x.id c.request dom frame off len st r.0 r.1 in
@@ -184,7 +184,7 @@ written-once s h fs gs i at w bytes wrote fr to kept = record { counts = to.doma
         ∙ ap (λ (z : Option WriteMade). was ++ patches_by z name.owner.0 name.number) (sym wrote) ∙ sym (patches-more i h name.owner.0 name.number)
 
 -- the frames after a step, which wrote what its call was given or what its source held
-pub frames-stepped : (s : Setting) (h : History) (fs gs : FrameSet) (x : State) (call : Call) (step : Step) (seen : Seen) (answer : Option Answer) (c : Underway) → open_call h x.id.0 ≡ Some c → x.given ≡ c.given → FramesStand s h fs → AccessedBy x call step fs gs
+pub frames-stepped : (s : Setting) (h : History) (fs gs : FrameSet) (x : State) (call : Call) (step : Step) (seen : Observation) (answer : Option Answer) (c : Underway) → open_call h x.id.0 ≡ Some c → x.given ≡ c.given → FramesStand s h fs → AccessedBy x call step fs gs
     → FramesStand s (stepped x.id step seen answer ∷ h) gs
 frames-stepped s h fs gs x call step seen answer c under given fr = by step where
   by : (z : Step) → AccessedBy x call z fs gs → FramesStand s (stepped x.id z seen answer ∷ h) gs

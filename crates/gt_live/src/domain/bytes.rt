@@ -12,32 +12,32 @@ ghost use Rattle.gt_live.specs.Visiting.{HasVisited, WasRead, WasWritten};
 
 use super::{Domain, refusal_of};
 use crate::monitor::Monitor;
-use gt_access::{Refused, Run, fill_by, read_by, write_by};
-use gt_calls::{Handle, Route, judge_load, judge_own_access, judge_store};
-use gt_frames::{Filled, FrameName, Read, Visits, Written};
+use gt_access::{AccessFault, AccessContext, fill_by, read_by, write_by};
+use gt_calls::{Handle, AccessPath, judge_load, judge_own_access, judge_store};
+use gt_frames::{Filled, FrameName, Read, FrameAccesses, Written};
 use gt_types::{Allows, Denial, FRAME_SIZE, Facts, Range, Rule};
 use gt_words::Seat;
 use std::alloc::Global;
 use std::sync::Wait;
 
 // How an access that was not made is refused.
-pub(super) fn not_made(refused: Refused) -> Denial
+pub(super) fn not_made(refused: AccessFault) -> Denial
     ensures { result ≡ not_made refused }
 {
     match refused {
-        Refused::Gone => Denial::new(Rule::N16, Facts::None),
-        Refused::Memory => Denial::new(Rule::N26, Facts::None),
+        AccessFault::Gone => Denial::new(Rule::N16, Facts::None),
+        AccessFault::Memory => Denial::new(Rule::N26, Facts::None),
     }
 }
 
 // The run that the accesses of a monitor's domains belong to.
-pub(super) fn run_of<P: Allows>(monitor: &Monitor<P>) -> Run<'_, P>
+pub(super) fn run_of<P: Allows>(monitor: &Monitor<P>) -> AccessContext<'_, P>
     ensures words { result.words.now ≡ monitor.now.words }
     ensures config { result.config.now ≡ monitor.now.config }
     ensures rights { result.rights.now ≡ monitor.now.rights }
     ensures pool { result.pool.now ≡ monitor.now.pool }
 {
-    Run {
+    AccessContext {
         words: &monitor.words,
         config: &monitor.config,
         rights: &monitor.rights,
@@ -52,8 +52,8 @@ fn read_through<R: Wait, P: Allows>(
     monitor: &Monitor<P>,
     alloc: Global,
     seat: &Seat,
-    visits: &mut Visits,
-    route: &Route,
+    visits: &mut FrameAccesses,
+    route: &AccessPath,
     name: FrameName,
     off: u16,
     len: u16,
@@ -67,7 +67,7 @@ fn read_through<R: Wait, P: Allows>(
     ensures visited { HasVisited WasRead result visits.old visits.new }
 {
     let Ok(room) = Vec::with_capacity(alloc, usize::from(len)) else {
-        return Err(not_made(Refused::Memory));
+        return Err(not_made(AccessFault::Memory));
     };
     let run = run_of(monitor);
     match read_by(
@@ -81,7 +81,7 @@ fn read_through<R: Wait, P: Allows>(
         room,
     ) {
         Some(read) => Ok(read),
-        None => Err(not_made(Refused::Gone)),
+        None => Err(not_made(AccessFault::Gone)),
     }
 }
 
@@ -91,8 +91,8 @@ fn fill_through<R: Wait, P: Allows>(
     rt: &R,
     monitor: &Monitor<P>,
     seat: &Seat,
-    visits: &mut Visits,
-    route: &Route,
+    visits: &mut FrameAccesses,
+    route: &AccessPath,
     name: FrameName,
     off: u16,
     out: &mut [u8],
@@ -110,7 +110,7 @@ fn fill_through<R: Wait, P: Allows>(
     let run = run_of(monitor);
     match fill_by(rt, &run, seat, visits, route, name, off, out) {
         Some(filled) => Ok(filled),
-        None => Err(not_made(Refused::Gone)),
+        None => Err(not_made(AccessFault::Gone)),
     }
 }
 
@@ -120,8 +120,8 @@ fn write_through<'a, R: Wait, P: Allows>(
     rt: &R,
     monitor: &Monitor<P>,
     seat: &Seat,
-    visits: &mut Visits,
-    route: &Route,
+    visits: &mut FrameAccesses,
+    route: &AccessPath,
     name: FrameName,
     off: u16,
     bytes: &'a [u8],
@@ -168,7 +168,7 @@ impl Domain {
             owner: held.dom,
             number: held.entry.frame(),
         };
-        let way = Route::Direct(held);
+        let way = AccessPath::Direct(held);
         let (seat, visits) = (&self.seat, &mut self.visits);
         read_through(rt, monitor, self.alloc, seat, visits, &way, name, off, len)
     }
@@ -199,7 +199,7 @@ impl Domain {
             owner: held.dom,
             number: held.entry.frame(),
         };
-        let route = Route::Direct(held);
+        let route = AccessPath::Direct(held);
         let (seat, visits) = (&self.seat, &mut self.visits);
         fill_through(rt, monitor, seat, visits, &route, name, off, buffer)
     }
@@ -237,7 +237,7 @@ impl Domain {
             self.alloc,
             seat,
             visits,
-            &Route::Own,
+            &AccessPath::Own,
             name,
             off,
             len,
@@ -272,7 +272,7 @@ impl Domain {
             number: frame,
         };
         let (seat, visits) = (&self.seat, &mut self.visits);
-        fill_through(rt, monitor, seat, visits, &Route::Own, name, off, buffer)
+        fill_through(rt, monitor, seat, visits, &AccessPath::Own, name, off, buffer)
     }
 
     /// Writes `bytes` from the offset `off` on through a mapping.
@@ -301,7 +301,7 @@ impl Domain {
             owner: held.dom,
             number: held.entry.frame(),
         };
-        let route = Route::Direct(held);
+        let route = AccessPath::Direct(held);
         let (seat, visits) = (&self.seat, &mut self.visits);
         write_through(rt, monitor, seat, visits, &route, name, off, bytes)
     }
@@ -334,6 +334,6 @@ impl Domain {
             number: frame,
         };
         let (seat, visits) = (&self.seat, &mut self.visits);
-        write_through(rt, monitor, seat, visits, &Route::Own, name, off, bytes)
+        write_through(rt, monitor, seat, visits, &AccessPath::Own, name, off, bytes)
     }
 }

@@ -6,8 +6,8 @@ ghost use Rattle.gt_live.specs.Closing.{is_in_use};
 
 use super::{Domain, change_row, done};
 use crate::monitor::Monitor;
-use gt_calls::Own;
-use gt_entry::{Change, Control, Entry, Kind};
+use gt_calls::OwnerEntry;
+use gt_entry::{EntryChange, Control, Entry, EntryKind};
 use gt_types::{Allows, Denial, GrantRef};
 
 // How often the withdrawal of an entry is asked. Each time makes up to four tries.
@@ -18,11 +18,11 @@ fn is_in_use(word: u64) -> bool
     ensures { result ≡ is_in_use word }
 {
     let control = Control::unpack(word);
-    !matches!(control.kind, Kind::Invalid) || control.reads > 0 || control.writes > 0
+    !matches!(control.kind, EntryKind::Invalid) || control.reads > 0 || control.writes > 0
 }
 
 // Whether an owner's row of an entry says that it is Invalid.
-fn is_shut(own: &[Own], gref: GrantRef) -> bool
+fn is_shut(own: &[OwnerEntry], gref: GrantRef) -> bool
     ensures { result ≡ true → entry_in own.now gref.0 ≡ Invalid }
 {
     match own.get(gref.0 as usize).copied() {
@@ -34,7 +34,7 @@ fn is_shut(own: &[Own], gref: GrantRef) -> bool
 impl Domain {
     ghost use Rattle.std.specs.Prelude.{◌≡◌, ℕ, ◌<◌, OnOk, OnErr, slice_get};
     ghost use Rattle.gt_calls.specs.declared.request.Request.TheVariants as Request;
-    ghost use Rattle.gt_entry.specs.declared.change.Change.TheVariants.{Withdraw};
+    ghost use Rattle.gt_entry.specs.declared.change.EntryChange.TheVariants.{Withdraw};
     ghost use Rattle.gt_types.specs.declared.limits.TheConstants.{TABLE_ENTRIES};
     ghost use Rattle.gt_live.specs.Domains.{Answered, BelongsTo, StaysIn, verdict_of};
     ghost use Rattle.gt_live.specs.Closing.{Closes, ClosesRow, IsShut, LooksAtOwn, Resets, StaysQuiet};
@@ -43,7 +43,7 @@ impl Domain {
     ghost use Rattle.gt_live.specs.Walks.{Made};
     ghost use Rattle.gt_words.specs.Conditions.{IsWordOf};
     ghost use Rattle.gt_words.specs.Views.{last_of};
-    ghost use Rattle.gt_calls.specs.declared.action.Seen.TheVariants.{Word};
+    ghost use Rattle.gt_calls.specs.declared.action.Observation.TheVariants.{Word};
     ghost use Rattle.gt_calls.specs.declared.action.Step.TheVariants.{LookControl};
 
     // Withdraws an entry of its own, in at most four tries.
@@ -60,12 +60,12 @@ impl Domain {
         ensures same { OnErr result (self.new.own.items ≡ self.old.own.items) }
     {
         let own = self.own_entry(monitor, gref);
-        if let Some(verdict) = self.judge_own(monitor, own, gref, Change::Withdraw) {
+        if let Some(verdict) = self.judge_own(monitor, own, gref, EntryChange::Withdraw) {
             return done(verdict);
         }
-        match self.drive_change(monitor, gref, own.idle_word(), Change::Withdraw) {
+        match self.drive_change(monitor, gref, own.idle_word(), EntryChange::Withdraw) {
             Ok(()) => {
-                change_row(&mut self.own, gref, Change::Withdraw);
+                change_row(&mut self.own, gref, EntryChange::Withdraw);
                 Ok(())
             }
             Err(denial) => Err(denial),

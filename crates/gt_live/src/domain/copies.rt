@@ -7,15 +7,15 @@ ghost use Rattle.gt_words.specs.declared.view.View.{View};
 ghost use Rattle.gt_access.specs.Accesses.{copying_at};
 ghost use Rattle.gt_access.specs.Routes.{MayCopyBy, ReachesBy};
 ghost use Rattle.gt_audit.specs.Telling.{Tells};
-ghost use Rattle.gt_calls.specs.declared.action.Verdict.TheVariants.{Refused};
+ghost use Rattle.gt_calls.specs.declared.action.CallResult.TheVariants.{Refused};
 ghost use Rattle.gt_calls.specs.declared.request.Request.TheVariants as requests;
 ghost use Rattle.gt_calls.specs.Holding.{last_first, no_pins};
 ghost use Rattle.gt_calls.specs.Rules.{copy_begun};
 ghost use Rattle.gt_live.specs.Accesses.{IsCopiedBy, IsOfAccess};
 ghost use Rattle.gt_live.specs.Domains.{Accesses, Answered, BelongsTo, IsUnsettled, KeepsPinned, known_on};
 ghost use Rattle.gt_live.specs.Domains.{told_copy};
-ghost use Rattle.gt_live.specs.Halves.{copy_told};
-ghost use Rattle.gt_live.specs.Copies.{StopsSo, filled, halfway_with};
+ghost use Rattle.gt_live.specs.Halves.{copy_hypercall};
+ghost use Rattle.gt_live.specs.Copies.{CopyStopsWith, filled, halfway_with};
 ghost use Rattle.gt_live.specs.Halves.{ComesHalfway, EndsHalfway, IsHalfway, done_copy};
 ghost use Rattle.gt_live.specs.Underway.{AreOfRun, GivesBack, HasTaken};
 ghost use Rattle.gt_live.specs.Visiting.{HasVisited, WasCopied};
@@ -26,8 +26,8 @@ use crate::monitor::Monitor;
 use crate::routes::{drive_copy, give_back};
 use gt_access::copy_by;
 use gt_audit::{Hypercall, Record, Reply};
-use gt_calls::{Asked, Call, CopyArgs, Phase, Pins, Route, Spot, Verdict, judge_copy, place_of};
-use gt_frames::{Copied, Visits};
+use gt_calls::{OpenRequest, Call, CopyArgs, Phase, CallPins, AccessPath, Spot, CallResult, judge_copy, place_of};
+use gt_frames::{Copied, FrameAccesses};
 use gt_types::{Allows, Denial, DomId, FRAME_SIZE};
 use gt_words::Seat;
 use std::sync::Wait;
@@ -37,8 +37,8 @@ fn copy_through<R: Wait, P: Allows>(
     rt: &R,
     monitor: &Monitor<P>,
     seat: &Seat,
-    visits: &mut Visits,
-    routes: &Pins,
+    visits: &mut FrameAccesses,
+    routes: &CallPins,
     from: Spot,
     to: Spot,
     len: u16,
@@ -65,7 +65,7 @@ fn copy_through<R: Wait, P: Allows>(
 /// A copy that has come to its access, and holds its pins: so many bytes may now be read at the one place and written
 /// at the other. [`Domain::copy_end`] gives the pins back; until then the domain makes no other call.
 #[derive(Clone, Copy)]
-pub struct Halfway {
+pub struct PendingCopy {
     call: Call,
     copy: CopyArgs,
     pub from: Spot,
@@ -75,17 +75,17 @@ pub struct Halfway {
 
 // No pins, in the place of those that a copy is going to take.
 #[inline(always)]
-fn no_pins() -> Pins
+fn no_pins() -> CallPins
     ensures { result ≡ no_pins }
 {
-    Pins {
-        source: Route::Own,
-        dest: Route::Own,
+    CallPins {
+        source: AccessPath::Own,
+        dest: AccessPath::Own,
     }
 }
 
 // A copy at its access, with the pins that it holds.
-fn at_access(caller: DomId, copy: CopyArgs, pins: Pins) -> Halfway
+fn at_access(caller: DomId, copy: CopyArgs, pins: CallPins) -> PendingCopy
     ensures { result ≡ halfway_with caller copy pins }
 {
     let phase = Phase::Accessing {
@@ -93,10 +93,10 @@ fn at_access(caller: DomId, copy: CopyArgs, pins: Pins) -> Halfway
         source: pins.source,
         dest: pins.dest,
     };
-    Halfway {
+    PendingCopy {
         call: Call {
             caller,
-            request: Asked::Copy(copy),
+            request: OpenRequest::Copy(copy),
             phase: Some(phase),
         },
         copy,
@@ -107,8 +107,8 @@ fn at_access(caller: DomId, copy: CopyArgs, pins: Pins) -> Halfway
 }
 
 // What a record keeps of a copy.
-fn copy_told(copy: CopyArgs) -> Hypercall
-    ensures { result ≡ copy_told copy }
+fn copy_hypercall(copy: CopyArgs) -> Hypercall
+    ensures { result ≡ copy_hypercall copy }
 {
     Hypercall::Copy {
         source: copy.source,
@@ -120,7 +120,7 @@ fn copy_told(copy: CopyArgs) -> Hypercall
 
 impl Domain {
     // The verdict at the beginning of a copy, if one is given there.
-    fn judge_copy<P: Allows>(&self, monitor: &Monitor<P>, copy: &CopyArgs) -> Option<Verdict>
+    fn judge_copy<P: Allows>(&self, monitor: &Monitor<P>, copy: &CopyArgs) -> Option<CallResult>
         ensures { result ≡ copy_begun (known_on P.may monitor.now self.now) self.now.seat.dom copy.now }
     {
         judge_copy(&self.known(monitor), self.seat.dom(), copy)
@@ -131,13 +131,13 @@ impl Domain {
         &mut self,
         monitor: &Monitor<P>,
         copy: &CopyArgs,
-        pins: &mut Pins,
+        pins: &mut CallPins,
     ) -> Result<(), Denial>
         requires mine { BelongsTo P.may monitor.now self.old }
         requires none { pins.old ≡ no_pins }
         requires unanswered { copy_begun (known_on P.may monitor.now self.old) self.old.seat.dom copy.now ≡ None }
         ensures kept { IsUnsettled self.old self.new }
-        ensures stops { StopsSo (known_on P.may monitor.now self.old) monitor.now.words.layout
+        ensures stops { CopyStopsWith (known_on P.may monitor.now self.old) monitor.now.words.layout
             self.old.seat.dom copy.now (filled result pins.new) self.old.seat.view self.new.seat.view }
     {
         let known = known_with(monitor, &self.seat, &self.own, &self.mappings);
@@ -146,7 +146,7 @@ impl Domain {
     }
 
     // Gives back the pins that a copy held at its access.
-    fn give_back<P: Allows>(&mut self, monitor: &Monitor<P>, pins: &Pins)
+    fn give_back<P: Allows>(&mut self, monitor: &Monitor<P>, pins: &CallPins)
         requires seat { IsSeatOf monitor.now.words self.old.seat }
         requires taken { (base : View)
             × HasTaken monitor.now.words.layout (last_first pins.now) base self.old.seat.view }
@@ -214,11 +214,11 @@ impl Domain {
         let caller = self.seat.dom();
         match self.make_copy(rt, monitor, copy) {
             Ok(copied) => {
-                tell_done(&mut self.trail, caller, copy_told(*copy));
+                tell_done(&mut self.trail, caller, copy_hypercall(*copy));
                 Ok(copied)
             }
             Err(denial) => {
-                tell_refusal(&mut self.trail, caller, copy_told(*copy), denial);
+                tell_refusal(&mut self.trail, caller, copy_hypercall(*copy), denial);
                 Err(denial)
             }
         }
@@ -229,7 +229,7 @@ impl Domain {
         &mut self,
         monitor: &Monitor<P>,
         copy: &CopyArgs,
-    ) -> Result<Halfway, Denial>
+    ) -> Result<PendingCopy, Denial>
         requires mine { BelongsTo P.may monitor.now self.old }
         ensures comes { IfOk result (λ h. ComesHalfway P.may monitor.now self.old copy.now h self.new) }
         ensures mine { OnErr result (BelongsTo P.may monitor.now self.new) }
@@ -261,7 +261,7 @@ impl Domain {
         &mut self,
         monitor: &Monitor<P>,
         copy: &CopyArgs,
-    ) -> Result<Halfway, Denial>
+    ) -> Result<PendingCopy, Denial>
         requires mine { BelongsTo P.may monitor.now self.old }
         ensures comes { IfOk result (λ h. ComesHalfway P.may monitor.now self.old copy.now h self.new) }
         ensures mine { OnErr result (BelongsTo P.may monitor.now self.new) }
@@ -279,7 +279,7 @@ impl Domain {
                 let dom = self.seat.dom();
                 self.trail.push(Record {
                     dom,
-                    call: copy_told(*copy),
+                    call: copy_hypercall(*copy),
                     reply: Reply::Denied(denial),
                 });
                 Err(denial)
@@ -288,7 +288,7 @@ impl Domain {
     }
 
     // Gives back the pins of a copy at its access, without a record.
-    fn end_halfway<P: Allows>(&mut self, monitor: &Monitor<P>, halfway: Halfway)
+    fn end_halfway<P: Allows>(&mut self, monitor: &Monitor<P>, halfway: PendingCopy)
         requires halfway { IsHalfway P.may monitor.now halfway self.old }
         ensures mine { BelongsTo P.may monitor.now self.new }
         ensures ends { EndsHalfway monitor.now.words.layout halfway self.old self.new }
@@ -300,7 +300,7 @@ impl Domain {
     }
 
     /// The second half of a copy: its pins are given back, the last one first, and its record is kept.
-    pub fn copy_end<P: Allows>(&mut self, monitor: &Monitor<P>, halfway: Halfway)
+    pub fn copy_end<P: Allows>(&mut self, monitor: &Monitor<P>, halfway: PendingCopy)
         requires halfway { IsHalfway P.may monitor.now halfway self.old }
         ensures mine { BelongsTo P.may monitor.now self.new }
         ensures ends { EndsHalfway monitor.now.words.layout halfway self.old self.new }
@@ -312,7 +312,7 @@ impl Domain {
         let dom = self.seat.dom();
         self.trail.push(Record {
             dom,
-            call: copy_told(copy),
+            call: copy_hypercall(copy),
             reply: Reply::Done,
         });
     }

@@ -4,7 +4,7 @@ use Rattle.gt_script.specs.RunScripts.{RunTells}
 use Rattle.gt_host.specs.declared.fault.PlayFault.TheVariants as plays
 use Rattle.gt_run.specs.declared.fault.RunFault.TheVariants as runs
 use Rattle.gt_run.specs.Runs.{Ran}
-use Rattle.gt_json.specs.declared.places.Printed.TheVariants.{Run}
+use Rattle.gt_json.specs.declared.places.PrintedText.TheVariants.{Run}
 use Rattle.gt_as_json.proofs.JsonLemmas.{passed}
 use Rattle.gt_as_json.proofs.commands.run_json.Goals as goal
 

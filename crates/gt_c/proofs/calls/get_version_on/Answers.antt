@@ -15,7 +15,7 @@ returns c =
     made c.of-answer.result (SaysTold outcome_version verdict_of_version (requests.GetVersion (dom_of c.args.dom)) (hypercalls.GetVersion (dom_of c.args.dom)) c.of-answer.result) c.deref_mut.ensures.value c.in-Ok.ensures.ok.0 c.put.ensures.1 c.in-Ok.ensures.ok.2
     (record {
       result = c.get_version.result;
-      encodes = c.of-answer.ensures ∙ ap encoded c.version_said.ensures;
+      encodes = c.of-answer.ensures ∙ ap encoded c.version_outcome.ensures;
       stays = c.get_version.ensures.stays;
       holds = c.get_version.ensures.answers;
     })

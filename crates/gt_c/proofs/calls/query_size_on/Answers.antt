@@ -15,7 +15,7 @@ returns c =
     made c.of-answer.result (SaysTold outcome_size verdict_of_size (requests.QuerySize (dom_of c.args.dom)) (hypercalls.QuerySize (dom_of c.args.dom)) c.of-answer.result) c.deref_mut.ensures.value c.in-Ok.ensures.ok.0 c.put.ensures.1 c.in-Ok.ensures.ok.2
     (record {
       result = c.query_size.result;
-      encodes = c.of-answer.ensures ∙ ap encoded c.size_said.ensures;
+      encodes = c.of-answer.ensures ∙ ap encoded c.size_outcome.ensures;
       stays = c.query_size.ensures.stays;
       holds = c.query_size.ensures.answers;
     })

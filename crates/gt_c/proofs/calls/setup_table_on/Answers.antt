@@ -15,7 +15,7 @@ returns c =
     made c.of-answer.result (SaysTold outcome_frames verdict_of_frames (requests.SetupTable c.args.frames) (hypercalls.SetupTable c.args.frames) c.of-answer.result) c.deref_mut.ensures.value c.in-Ok.ensures.ok.0 c.put.ensures.1 c.in-Ok.ensures.ok.2
     (record {
       result = c.setup_table.result;
-      encodes = c.of-answer.ensures ∙ ap encoded c.frames_said.ensures;
+      encodes = c.of-answer.ensures ∙ ap encoded c.frames_outcome.ensures;
       stays = c.setup_table.ensures.stays;
       holds = c.setup_table.ensures.answers;
     })

@@ -9,10 +9,10 @@ use Rattle.gt_c.proofs.copies.copy_begin_on.Goals as goal
 
 pub returns : goal.returns
 returns c =
-    made-telling c.of-answer.result (c.places_told-places.result ≡ no_places) (SaysBegun (copy_asked c.args.copy) c.places_told-places.result c.of-answer.result) c.deref_mut.ensures.value c.in-Ok.ensures.ok.0 c.put.ensures.1 c.in-Ok.ensures.ok.2
+    made-telling c.of-answer.result (c.places_report-places.result ≡ no_places) (SaysBegun (copy_asked c.args.copy) c.places_report-places.result c.of-answer.result) c.deref_mut.ensures.value c.in-Ok.ensures.ok.0 c.put.ensures.1 c.in-Ok.ensures.ok.2
     (record {
       result = c.copy_begin-result.result;
       encodes = c.of-answer.ensures ∙ ap encoded c.begun.ensures;
-      told = c.places_told-places.ensures;
+      told = c.places_report-places.ensures;
       begins = subst (λ (a : CopyArgs). BeginsAccess may c.deref_mut.result.now.guest a c.copy_begin-result.result c.copy_begin-result.new.self) c.copy_asked.ensures c.copy_begin-result.ensures.begins;
     })

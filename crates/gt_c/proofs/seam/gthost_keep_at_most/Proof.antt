@@ -16,10 +16,10 @@ use Rattle.gt_c.proofs.Steps.{says, stay_dropped, Goes-dropped, ends_at}
 use denote.Struct.Laws as laws
 use Rattle.std.specs.contracts.alloc.Global as Heap
 use Rattle.std.proofs.alloc.Global.TheLaws as heap
-use Rattle.gt_seat.specs.contracts.answer.Answer
-use Rattle.gt_seat.proofs.answer.Answer.TheLaws as Answer_laws
-use Rattle.gt_c.specs.contracts.handle.Handle as H
-use Rattle.gt_c.specs.declared.handle.Handle.{Handle}
+use Rattle.gt_seat.specs.contracts.answer.EncodedAnswer
+use Rattle.gt_seat.proofs.answer.EncodedAnswer.TheLaws as Answer_laws
+use Rattle.gt_c.specs.contracts.handle.DomainHandle as H
+use Rattle.gt_c.specs.declared.handle.DomainHandle.{DomainHandle}
 use Rattle.gt_c.specs.Pointing.{PointsTo, pointed_at}
 use Rattle.gt_c.specs.Pointing.{nowhere}
 use Rattle.gt_c.specs.Promises.{Bounds}
@@ -48,26 +48,26 @@ module _ {M : Type 1} {𝓤 : Ura M} (𝓛 : Logic 𝓤) (𝓜 : Model 𝓤 𝓛
   abbrev 𝓣 : MachineTables 𝓤 𝓛.H 𝓜
   𝓣 = tables 𝓤 𝓛.H 𝓜 𝓡 𝓡.env
 
-  abbrev y : Ptr → Option Handle → W.Ghost
+  abbrev y : Ptr → Option DomainHandle → W.Ghost
   y p g = ((tt, tt, tt, (al, (p, (records, tt))), (global al, (rawptr_vals p, (uint_vals w64 records, tt)))), g)
 
   abbrev Entry : Ptr → SProp 𝓤
   Entry p = on_entry 𝓛 f.signature tt tt (al, (p, (records, tt))) (global al, (rawptr_vals p, (uint_vals w64 records, tt)))
 
-  abbrev Runs : Ptr → Option Handle → SProp 𝓤
+  abbrev Runs : Ptr → Option DomainHandle → SProp 𝓤
   Runs p g = WpFn 𝓤 𝓛.H 𝓣.C 𝓣.Λ code.function (laws.val Heap.the_type heap.the_laws al ∷ ptr_val p ∷ vint w64 records ∷ []) (W.post (y p g))
 
-  abbrev Holds : Answer.the_row.Denot → Option Handle → Option Handle → Type 0
+  abbrev Holds : Answer.the_row.Denot → Option DomainHandle → Option DomainHandle → Type 0
   Holds r was is = PointsTo was is r nowhere (Bounds records r)
 
-  abbrev Ensured : Ptr → Option Handle → Answer.the_row.Denot → SProp 𝓤
-  Ensured p g r = ex 𝓤 (λ (is : Option Handle). sep 𝓤 (sem 𝓛 (pointed_at H.the_row p is)) (fact 𝓤 (Holds r g is)))
+  abbrev Ensured : Ptr → Option DomainHandle → Answer.the_row.Denot → SProp 𝓤
+  Ensured p g r = ex 𝓤 (λ (is : Option DomainHandle). sep 𝓤 (sem 𝓛 (pointed_at H.the_row p is)) (fact 𝓤 (Holds r g is)))
 
-  ensured : (p : Ptr) (g is : Option Handle) (r : Answer.the_row.Denot) → Holds r g is → ent 𝓤 (sem 𝓛 (pointed_at H.the_row p is)) (Ensured p g r)
+  ensured : (p : Ptr) (g is : Option DomainHandle) (r : Answer.the_row.Denot) → Holds r g is → ent 𝓤 (sem 𝓛 (pointed_at H.the_row p is)) (Ensured p g r)
   ensured p g is r s = qed 𝓛 (‵ (pointed_at H.the_row p is) ∷ []) ∵
-      show ! (λ (a : Option Handle). sep 𝓤 (sem 𝓛 (pointed_at H.the_row p a)) (fact 𝓤 (Holds r g a))) is $ says ! s $ done !
+      show ! (λ (a : Option DomainHandle). sep 𝓤 (sem 𝓛 (pointed_at H.the_row p a)) (fact 𝓤 (Holds r g a))) is $ says ! s $ done !
 
-  out : (p : Ptr) (g is : Option Handle) (r : Answer.the_row.Denot) (v : Val) → Holds r g is
+  out : (p : Ptr) (g is : Option DomainHandle) (r : Answer.the_row.Denot) (v : Val) → Holds r g is
       → Sq 𝓛 (‵ (pointed_at H.the_row p is) ∷ ‵ (Answer.the_row.own_val r (v ∷ [])) ∷ []) (prop (W.post (y p g) v))
   out p g is r v s =
       suffices ! _ (ends_at 𝓛 f.ended stayed c (y p g) v r (tt, (tt, (tt, tt))) (tt, (tt, (tt, tt)))) $
@@ -91,7 +91,7 @@ module _ {M : Type 1} {𝓤 : Ura M} (𝓛 : Logic 𝓤) (𝓜 : Model 𝓤 𝓛
       move ! (1 ∷ []) $ pick ! (λ ws. split ! $ drop ! $ heard ! _ (λ told. nothing ! $ out null_ptr None None r v (refl, told)))))))
       (λ isnt. absurd isnt)))
 
-  some_walk : (b o : ℕ) (h : Handle)
+  some_walk : (b o : ℕ) (h : DomainHandle)
       → ent 𝓤 (sep 𝓤 (Entry (block_ptr b o)) (sep 𝓤 (sem 𝓛 (pointed_at H.the_row (block_ptr b o) (Some h))) (fact 𝓤 (o < 2 ^ 63)))) (Runs (block_ptr b o) (Some h))
   some_walk b o h =
       let p = block_ptr b o in
@@ -105,7 +105,7 @@ module _ {M : Type 1} {𝓤 : Ura M} (𝓛 : Logic 𝓤) (𝓜 : Model 𝓤 𝓛
       use1 𝓛 (later (some (λ (γ : GName). ‵ ((MutRef (named 0) κ H.the_row).own_val (record { ref_ptr = (b, o); ghost_name = γ; now = h }) (vptr b o ∷ [])) ⊛ ‵ (flent κ (Body (mem H.the_row) b o γ)))))
       (lends_ref 𝓛 H.the_row (named 0) κ h b o) $ await ! tt $ pick ! (λ γ. split ! $
       -- [the loan; what the lender keeps; the token]
-      let x : MutBor Handle = record { ref_ptr = (b, o); ghost_name = γ; now = h } in
+      let x : MutBor DomainHandle = record { ref_ptr = (b, o); ghost_name = γ; now = h } in
       let z : C.Ghost = (((κ, tt), (full_share, tt), tt, (al, (x, (records, tt))), (global al, (vptr b o ∷ [], (uint_vals w64 records, tt)))), tt) in
       nothing ! $ owned ! usize (Is usize) (uint_Makes 𝓛 w64) records _ (refl, records_fits) $ join ! $ move ! (1 ∷ 0 ∷ []) $ join ! $
       owned ! Heap.the_row (Is Heap.the_row) (laws.makes Heap.the_type heap.the_plain 𝓛) al _ al_is $ join ! $
@@ -122,7 +122,7 @@ module _ {M : Type 1} {𝓤 : Ura M} (𝓛 : Logic 𝓤) (𝓜 : Model 𝓤 𝓛
       move ! (4 ∷ 6 ∷ 0 ∷ []) $ use3 𝓛 (later (‵ (part_at H.the_row full_share ws.1.0 b o))) (ref_back 𝓛 H.the_row κ γ ws.1.0 b o) $ await ! tt $
       returns ! (look_at ! 0 refl) $ free_all ! refl $ keep ! (0 ∷ 3 ∷ []) $ out p (Some h) (Some ws.1.0) r v told))))))))))
 
-  at_each : (p : Ptr) (g : Option Handle) → ent 𝓤 (sep 𝓤 (Entry p) (sep 𝓤 (sem 𝓛 (pointed_at H.the_row p g)) (fact 𝓤 (count_of p < 2 ^ 63)))) (Runs p g)
+  at_each : (p : Ptr) (g : Option DomainHandle) → ent 𝓤 (sep 𝓤 (Entry p) (sep 𝓤 (sem 𝓛 (pointed_at H.the_row p g)) (fact 𝓤 (count_of p < 2 ^ 63)))) (Runs p g)
   at_each null_ptr None = null_walk
   at_each (block_ptr b o) (Some h) = some_walk b o h
   at_each null_ptr (Some h) = via 𝓤 (never 𝓤) (via 𝓤 _ (snd∗ 𝓤 (Entry null_ptr) _) (fst∗ 𝓤 (never 𝓤) (fact 𝓤 (0 < 2 ^ 63)))) (never_e 𝓤 _)

@@ -10,11 +10,11 @@ status-found-requires c = record { idle = idle-there c.deref_mut.ensures.value c
 
 pub returns : goal.returns
 returns c =
-    made-telling c.of-answer.result (c.entry_told-entry.result ≡ no_entry) (SaysEntry (ref_at c.args.gref) c.entry_told-entry.result c.of-answer.result) c.deref_mut.ensures.value c.in-Ok.ensures.ok.0 c.put.ensures.1 c.in-Ok.ensures.ok.2
+    made-telling c.of-answer.result (c.entry_status-entry.result ≡ no_entry) (SaysEntry (ref_at c.args.gref) c.entry_status-entry.result c.of-answer.result) c.deref_mut.ensures.value c.in-Ok.ensures.ok.0 c.put.ensures.1 c.in-Ok.ensures.ok.2
     (record {
       found = c.status-found.result;
       encodes = c.of-answer.ensures ∙ ap encoded c.present.ensures;
-      told = c.entry_told-entry.ensures;
+      told = c.entry_status-entry.ensures;
       stays = c.status-found.ensures.stays;
       looks = c.status-found.ensures.looks;
     })

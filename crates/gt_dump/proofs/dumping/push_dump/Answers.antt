@@ -6,8 +6,8 @@ use Rattle.gt_dump.proofs.dumping.push_dump.Goals as goal
 pub entries-preserved : goal.entries-preserved
 entries-preserved c =
     let next : c.entries.gref + 1 ≡ suc c.entries.gref = omega arith in
-    subst (λ (n : ℕ). TellsEntries c.args.asked c.args.dump.now n c.push_told.new.out.items) (sym next)
-    (tells_next c.args.asked c.args.dump.now c.entries.gref _ c.entries.out.items _ c.entries.invariant c.entry_at.ensures c.in_ok-push_told.ensures)
+    subst (λ (n : ℕ). TellsEntries c.args.asked c.args.dump.now n c.push_entry_lines.new.out.items) (sym next)
+    (tells_next c.args.asked c.args.dump.now c.entries.gref _ c.entries.out.items _ c.entries.invariant c.entry_at.ensures c.in_ok-push_entry_lines.ensures)
 
 pub returns : goal.returns
 returns c =

@@ -1,7 +1,7 @@
 use Rattle.std.proofs.Common.{◌∷◌, ◌∙◌, List, ap, subst, sym}
 use Rattle.gt_script.specs.RunContents.{run_told}
 use Rattle.gt_replay.specs.Orders.{MayGive}
-use Rattle.gt_ways.specs.declared.exploring.Order.{Order}
+use Rattle.gt_ways.specs.declared.exploring.FoundText.{FoundText}
 use Rattle.gt_explore.proofs.Added.{IsThere, texts_hold, there_more}
 use Rattle.gt_explore.proofs.texts.distinct.Goals as goal
 
@@ -11,6 +11,6 @@ orders-preserved c =
       possible = texts_hold (MayGive (run_told c.args.script.now)) old p new c.orders.invariant.possible c.in_ok-replayed.ensures.possible c.in_ok-add.ensures.added;
       whole = λ at o is.
           there_more old new p c.next.new.self.rest.items o c.in_ok-add.ensures
-          (subst (λ (l : List Order). IsThere o old l) (c.in-Some.ensures.steps.0 ∙ ap (λ (q : Order). q ∷ c.next.new.self.rest.items) (sym c.in_ok-replayed.ensures.same)) (c.orders.invariant.whole at o is));
+          (subst (λ (l : List FoundText). IsThere o old l) (c.in-Some.ensures.steps.0 ∙ ap (λ (q : FoundText). q ∷ c.next.new.self.rest.items) (sym c.in_ok-replayed.ensures.same)) (c.orders.invariant.whole at o is));
       apart = c.in_ok-add.ensures.apart c.orders.invariant.apart;
     }

@@ -1,6 +1,6 @@
 use Rattle.std.proofs.Common.{ap, ◌∙◌, subst}
 use Rattle.gt_entry.specs.declared.header.Header.{Header}
-use Rattle.gt_calls.specs.declared.held.Held.{Held}
+use Rattle.gt_calls.specs.declared.held.HeldPin.{HeldPin}
 use Rattle.gt_calls.specs.Rules.{knowledge_of}
 use Rattle.gt_handles.specs.Handles.{HandleMap}
 use Rattle.gt_words.specs.Conditions.{SeatOf}
@@ -12,7 +12,7 @@ use Rattle.gt_live.proofs.domain.known_with.Goals as goal
 pub returns-clause-known : goal.returns-clause-known
 returns-clause-known g c d rows seat mapped =
     let m = c.args.monitor.now in let may = g.P.Allows.may m.rights in let own = c.args.own.now in let header = c.header.result in
-    ap (λ (ms : HandleMap Held). knowledge_of m.config.domains.items m.config.first_gen may own header ms) mapped
+    ap (λ (ms : HandleMap HeldPin). knowledge_of m.config.domains.items m.config.first_gen may own header ms) mapped
     ∙ same-knowledge m.config may d own header rows (c.header.ensures.value ∙ ap (λ (s : SeatOf). own_table s.view) seat)
 
 pub returns-clause-kept : goal.returns-clause-kept

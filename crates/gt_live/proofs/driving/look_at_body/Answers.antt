@@ -1,8 +1,8 @@
 use Rattle.std.proofs.Common.{◌∙◌, Bool, ap, refl, subst, sym}
 use Rattle.gt_entry.specs.Words.{is_kind}
 use Rattle.gt_entry.specs.declared.control.Control.{Control}
-use Rattle.gt_entry.specs.declared.control.Kind.{Kind}
-use Rattle.gt_entry.specs.declared.control.Kind.TheVariants.{Sub}
+use Rattle.gt_entry.specs.declared.control.EntryKind.{EntryKind}
+use Rattle.gt_entry.specs.declared.control.EntryKind.TheVariants.{Sub}
 use Rattle.gt_live.specs.Walks.{ReadsSecond}
 use Rattle.gt_live.proofs.Making.{same_seat-then}
 use Rattle.gt_live.proofs.Legs.{no-sub}
@@ -18,7 +18,7 @@ returns-in-Sub c =
         c.look_at_half-first.ensures.made,
         subst (λ (b : Bool). ReadsSecond b c.args.words.now.layout c.args.leg.now c.look_at_half-second.result
             c.look_at_half-first.new.seat.view c.look_at_half-second.new.seat.view)
-            (sym (ap (λ (x : Kind). is_kind x Sub) kind)) c.look_at_half-second.ensures.made,
+            (sym (ap (λ (x : EntryKind). is_kind x Sub) kind)) c.look_at_half-second.ensures.made,
       );
     }
 

@@ -1,9 +1,9 @@
 use Rattle.std.proofs.Common.{◌≡◌, Option, None, Some, subst, sym}
 use Rattle.std.proofs.lemmas.Bool.{eq-eqb, ne_eqb}
 use Rattle.gt_types.specs.declared.denial.Rule.{Rule}
-use Rattle.gt_calls.specs.declared.action.Seen.TheVariants.{Taken, Word}
+use Rattle.gt_calls.specs.declared.action.Observation.TheVariants.{Taken, Word}
 use Rattle.gt_calls.specs.declared.action.Step.TheVariants.{Pin}
-use Rattle.gt_calls.specs.declared.held.Held.{Held}
+use Rattle.gt_calls.specs.declared.held.HeldPin.{HeldPin}
 use Rattle.gt_calls.specs.declared.leg.LegNext.TheVariants.{Refused, Pinned}
 use Rattle.gt_calls.specs.declared.leg.LegPhase.TheVariants.{Body, Header, Look, Pinning, Relook}
 use Rattle.gt_calls.specs.Legs.{after_miss}
@@ -105,7 +105,7 @@ pub take_pin-requires-clause-can : goal.take_pin-requires-clause-can
 take_pin-requires-clause-can c =
     let k = c.args.words.now.layout in let v = c.args.seat.now.view in let leg = c.args.leg.now in
     let word = c.look_at_control-word in let body = c.look_at_body-body in
-    subst (λ (p : Held). CanMake k body.new.seat.view (Pin p)) (sym c.pinned-held.ensures)
+    subst (λ (p : HeldPin). CanMake k body.new.seat.view (Pin p)) (sym c.pinned-held.ensures)
     (c.requires.can (Pinning c.tries.more word.result body.result.first body.result.second) body.new.seat.view
     (tried k leg v c.tries.more word.result body.result.first body.result.second c.judge_control.result
     c.judge_words.result None c.tries.seat.view word.new.seat.view body.new.seat.view c.tries.invariant.going
@@ -118,14 +118,14 @@ returns-in-Ok c =
     record {
       seat = same_seat-then _ _ _ (same_seat-then _ _ _ (same_seat-then _ _ _ c.tries.invariant.same word.ensures.seat)
           body.ensures.seat) pin.ensures.seat;
-      walked = subst (λ (p : Held). WalksLeg k leg v (Pinned p) pin.new.seat.view) (sym c.pinned-held.ensures)
+      walked = subst (λ (p : HeldPin). WalksLeg k leg v (Pinned p) pin.new.seat.view) (sym c.pinned-held.ensures)
           (walk-on k leg v (Pinning c.tries.more word.result body.result.first body.result.second) Taken
           body.new.seat.view pin.new.seat.view
           (tried k leg v c.tries.more word.result body.result.first body.result.second c.judge_control.result
           c.judge_words.result None c.tries.seat.view word.new.seat.view body.new.seat.view c.tries.invariant.going
           word.ensures.made c.judge_control.ensures c.in_default.is body.ensures.read c.judge_words.ensures
           c.in-None.is)
-          (subst (λ (p : Held). Made k (Pin p) Taken body.new.seat.view pin.new.seat.view) c.pinned-held.ensures
+          (subst (λ (p : HeldPin). Made k (Pin p) Taken body.new.seat.view pin.new.seat.view) c.pinned-held.ensures
           c.in-Ok.ensures.made));
     }
 

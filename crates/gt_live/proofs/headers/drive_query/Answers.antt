@@ -2,11 +2,11 @@ use Rattle.std.proofs.Common.{refl, sym, subst}
 use Rattle.gt_types.specs.Names.{resolved}
 use Rattle.gt_types.specs.declared.DomId.{DomId}
 use Rattle.gt_calls.specs.Rules.{knows}
-use Rattle.gt_calls.specs.declared.action.Seen.TheVariants.{Word}
+use Rattle.gt_calls.specs.declared.action.Observation.TheVariants.{Word}
 use Rattle.gt_calls.specs.declared.action.Step.TheVariants.{LookHeader}
 use Rattle.gt_calls.specs.declared.call.Phase.TheVariants.{Asking}
-use Rattle.gt_calls.specs.declared.call.Question.{Question}
-use Rattle.gt_calls.specs.declared.call.Question.TheVariants.{Size}
+use Rattle.gt_calls.specs.declared.call.HeaderQuery.{HeaderQuery}
+use Rattle.gt_calls.specs.declared.call.HeaderQuery.TheVariants.{Size}
 use Rattle.gt_live.specs.Driving.{CanMake}
 use Rattle.gt_live.specs.Questions.{asks_question}
 use Rattle.gt_live.specs.Walks.{Made}
@@ -28,7 +28,7 @@ returns-clause-called g c =
     let k = c.args.words.now.layout in let v = c.args.seat.now.view in let a = c.args in let r = c.requires in
     let w = c.look_at_header.new.seat.view in let word = c.look_at_header.result in
     let made = subst (λ (d : DomId). Made k (LookHeader d) (Word word) v w) c.resolve.ensures c.look_at_header.ensures.made in
-    λ (question : Question). (asked-so known law k v a.caller a.dom word w r.knows r.unanswered made question).called
+    λ (question : HeaderQuery). (asked-so known law k v a.caller a.dom word w r.knows r.unanswered made question).called
 
 pub returns-clause-same : goal.returns-clause-same
 returns-clause-same g c =

@@ -1,6 +1,6 @@
 use Rattle.std.proofs.Common.{List, [], sym, subst}
 use Rattle.std.proofs.lemmas.List.{append-nil}
-use Rattle.gt_calls.specs.declared.held.Held.{Held}
+use Rattle.gt_calls.specs.declared.held.HeldPin.{HeldPin}
 use Rattle.gt_calls.specs.Holding.{held_by}
 use Rattle.gt_live.specs.Underway.{HasTaken}
 use Rattle.gt_live.proofs.GivingBack.{can-give, dest-run, given-both, given-taken, gives-back, source-run}
@@ -17,7 +17,7 @@ give_back_route-requires-2-clause-can c =
     let k = c.args.words.now.layout in let pins = c.args.pins.now in let base = c.requires.taken.0 in
     let mid = c.give_back_route.new.seat.view in
     can-give k (held_by pins.source) [] base mid
-    (subst (λ (ps : List Held). HasTaken k ps base mid) (sym (append-nil (held_by pins.source)))
+    (subst (λ (ps : List HeldPin). HasTaken k ps base mid) (sym (append-nil (held_by pins.source)))
     (given-taken k (held_by pins.dest) (held_by pins.source) base c.args.seat.now.view mid
     c.give_back_route.ensures.given c.requires.taken.1))
     (source-run k (held_by pins.dest) (held_by pins.source) c.requires.of_run)

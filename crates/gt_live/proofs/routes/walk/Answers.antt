@@ -1,7 +1,7 @@
 use Rattle.std.proofs.Common.{◌≡◌, ◌∙◌, ap, sym}
-use Rattle.gt_calls.specs.declared.held.Pins.{Pins}
-use Rattle.gt_calls.specs.declared.held.Route.{Route}
-use Rattle.gt_calls.specs.declared.held.Route.TheVariants.{Own}
+use Rattle.gt_calls.specs.declared.held.CallPins.{CallPins}
+use Rattle.gt_calls.specs.declared.held.AccessPath.{AccessPath}
+use Rattle.gt_calls.specs.declared.held.AccessPath.TheVariants.{Own}
 use Rattle.gt_calls.specs.Machine.{at_dest, at_source}
 use Rattle.gt_calls.specs.Rules.{knows}
 use Rattle.gt_live.specs.Copies.{after_copy, filled, source_leg}
@@ -10,26 +10,26 @@ use Rattle.gt_live.proofs.Reaching.{source-own, source-walked}
 use Rattle.gt_live.proofs.routes.walk.Goals as goal
 
 pub walk_to_dest-requires-clause-own : goal.walk_to_dest-requires-clause-own
-walk_to_dest-requires-clause-own g c = ap (λ (p : Pins). p.dest) c.requires.none
+walk_to_dest-requires-clause-own g c = ap (λ (p : CallPins). p.dest) c.requires.none
 
 pub walk_to_dest-requires-clause-can : goal.walk_to_dest-requires-clause-can
 walk_to_dest-requires-clause-can g c =
     let known = knows g.P.Allows.may c.args.known.now in let k = c.args.words.now.layout in
     let caller = c.args.caller in let copy = c.args.copy.now in
-    let own : c.args.pins.now.source ≡ Own = ap (λ (p : Pins). p.source) c.requires.none in
+    let own : c.args.pins.now.source ≡ Own = ap (λ (p : CallPins). p.source) c.requires.none in
     can-from known k caller (at_source known caller copy) (at_dest known caller copy c.args.pins.now.source)
     c.args.seat.now.view
     (source-own known k caller copy (sym c.is_source_granted.ensures ∙ c.if-not-is_source_granted.true)
-    ∙ ap (λ (r : Route). at_dest known caller copy r) (sym own)) c.requires.can
+    ∙ ap (λ (r : AccessPath). at_dest known caller copy r) (sym own)) c.requires.can
 
 pub returns-then-not-is_source_granted-clause-goes : goal.returns-then-not-is_source_granted-clause-goes
 returns-then-not-is_source_granted-clause-goes g c =
     let known = knows g.P.Allows.may c.args.known.now in let k = c.args.words.now.layout in
     let caller = c.args.caller in let copy = c.args.copy.now in let v = c.args.seat.now.view in
-    let own : c.args.pins.now.source ≡ Own = ap (λ (p : Pins). p.source) c.requires.none in
+    let own : c.args.pins.now.source ≡ Own = ap (λ (p : CallPins). p.source) c.requires.none in
     let there = at_dest known caller copy c.args.pins.now.source in
     let is = source-own known k caller copy (sym c.is_source_granted.ensures ∙ c.if-not-is_source_granted.true)
-    ∙ ap (λ (r : Route). at_dest known caller copy r) (sym own) in
+    ∙ ap (λ (r : AccessPath). at_dest known caller copy r) (sym own) in
     runs-from known k caller there (at_source known caller copy)
     (after_copy copy (filled c.walk_to_dest.result c.walk_to_dest.new.pins)) v c.walk_to_dest.new.seat.view (sym is)
     c.walk_to_dest.ensures.goes
@@ -43,7 +43,7 @@ reach_source-requires-clause-can g c =
     c.requires.can
 
 pub walk_to_dest-requires-in-Ok-clause-own : goal.walk_to_dest-requires-in-Ok-clause-own
-walk_to_dest-requires-in-Ok-clause-own g c = ap (λ (p : Pins). p.dest) c.requires.none
+walk_to_dest-requires-in-Ok-clause-own g c = ap (λ (p : CallPins). p.dest) c.requires.none
 
 pub walk_to_dest-requires-in-Ok-clause-can : goal.walk_to_dest-requires-in-Ok-clause-can
 walk_to_dest-requires-in-Ok-clause-can g c =

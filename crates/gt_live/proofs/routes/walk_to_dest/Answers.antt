@@ -1,8 +1,8 @@
 use Rattle.std.proofs.Common.{◌∙◌, ap, sym}
 use Rattle.std.specs.Prelude.{Err}
-use Rattle.gt_calls.specs.declared.action.Verdict.TheVariants.{Refused}
+use Rattle.gt_calls.specs.declared.action.CallResult.TheVariants.{Refused}
 use Rattle.gt_calls.specs.declared.call.Phase.TheVariants.{Accessing, Ending}
-use Rattle.gt_calls.specs.declared.held.Route.{Route}
+use Rattle.gt_calls.specs.declared.held.AccessPath.{AccessPath}
 use Rattle.gt_calls.specs.Machine.{at_dest}
 use Rattle.gt_calls.specs.Rules.{knows}
 use Rattle.gt_live.specs.Copies.{after_copy, dest_leg}
@@ -51,7 +51,7 @@ returns-then-not-is_dest_granted-clause-goes g c =
     let v = c.args.seat.now.view in let start = at_dest known caller copy pins.source in
     runs-to known k caller start start (Accessing copy pins.source pins.dest) v v
     (dest-own known k caller copy pins.source (sym c.is_dest_granted.ensures ∙ c.if-not-is_dest_granted.true)
-    ∙ ap (λ (r : Route). Accessing copy pins.source r) (sym c.requires.own))
+    ∙ ap (λ (r : AccessPath). Accessing copy pins.source r) (sym c.requires.own))
     (runs-none known k caller start v)
 
 pub returns-in-Ok-clause-goes : goal.returns-in-Ok-clause-goes

@@ -1,5 +1,5 @@
 use Rattle.std.proofs.Common.{refl, subst, sym, Ok}
-use Rattle.gt_run.specs.Printing.{CameOf}
+use Rattle.gt_run.specs.Printing.{IsOutputOf}
 use Rattle.gt_run.specs.declared.serving.Output.{Output}
 use Rattle.gt_run.proofs.ListLemmas.{starts_told}
 use Rattle.gt_run.proofs.DutyLemmas.{begun_not, came_plain, came_told}
@@ -11,12 +11,12 @@ serve-requires-clause-told g c = starts_told g.P.Allows.may c.args.duty c.args.d
 
 pub returns : goal.returns
 returns g c = elim c.match-teller.branch [
-  | in-Some w ↦ subst (λ (o : Output). CameOf g.P.Allows.may c.args.duty o) (sym w.output-is) (
+  | in-Some w ↦ subst (λ (o : Output). IsOutputOf g.P.Allows.may c.args.duty o) (sym w.output-is) (
       came_told g.P.Allows.may c.args.duty c.args.domain c.serve.new.domain.domain c.finish-left.result.trail c.serve.result c.serve.new.teller _
       (record { text = c.serve.new.text; whole = c.serve.result; audit = w.audit.result; lost = w.lost.result })
       c.requires w.in-Some.is c.finish-left.ensures c.serve.ensures w.audit.ensures w.lost.ensures
       )
-  | in_default w ↦ subst (λ (o : Output). CameOf g.P.Allows.may c.args.duty o) (sym w.output-is) (
+  | in_default w ↦ subst (λ (o : Output). IsOutputOf g.P.Allows.may c.args.duty o) (sym w.output-is) (
       came_plain g.P.Allows.may c.args.duty c.args.domain c.serve.new.domain.domain c.serve.result c.serve.new.teller
       (record { text = c.serve.new.text; whole = c.serve.result; audit = Ok c.new-2.result; lost = 0 })
       c.requires w.in_default.is c.serve.ensures c.new-2.ensures.items refl

@@ -1,14 +1,14 @@
 use Rattle.std.proofs.Common.{[], sym, subst}
 use Rattle.gt_handles.specs.Handles.{HandleMap}
 use Rattle.gt_handles.specs.Listing.{HasJust}
-use Rattle.gt_calls.specs.declared.held.Held.{Held}
+use Rattle.gt_calls.specs.declared.held.HeldPin.{HeldPin}
 use Rattle.gt_search.proofs.Placing.{none-placed, placed-step}
 use Rattle.gt_search.proofs.names.names_of.Goals as goal
 
 pub loop-mapping-init : goal.loop-mapping-init
 loop-mapping-init c =
     none-placed c.args.dom (record { mappings = c.new-mappings.result; handles = c.new-handles.result; labels = c.new-labels.result })
-    (subst (λ (m : HandleMap Held). HasJust m [] 0) (sym c.new-mappings.ensures) c.nothing_is_listed.ensures) c.new-handles.ensures.items c.new-labels.ensures
+    (subst (λ (m : HandleMap HeldPin). HasJust m [] 0) (sym c.new-mappings.ensures) c.nothing_is_listed.ensures) c.new-handles.ensures.items c.new-labels.ensures
 
 pub loop-mapping-preserved : goal.loop-mapping-preserved
 loop-mapping-preserved c = let l = c.loop-mapping in let e = c.insert-handle.ensures in

@@ -1,5 +1,5 @@
 use Rattle.gt_core.proofs.Words.{◌≡◌, ℕ, length, Option, Some, None, refl, sym, ap, ◌∙◌, subst, set, same_Some}
-use Rattle.gt_core.proofs.Words.{slice_get_read, slice_get, IsTrue, bytes_at, FrameSet, frame_at, has_range, Open, Step}
+use Rattle.gt_core.proofs.Words.{slice_get_read, slice_get, IsTrue, bytes_at, FrameSet, frame_at, has_range, OpenCall, Step}
 use Rattle.gt_core.proofs.Words.{BytesAnswer, State, IsLoading, asked_in, IsReadable, with_underway, Closed, vec_len}
 use Rattle.gt_core.proofs.{Placed.ids-set, CallsOver.loaded, CallsOver.closed-plain}
 use Rattle.gt_core.proofs.kept.Machine.close.Goals as goal
@@ -9,7 +9,7 @@ read_bytes-bytes-requires g c = let xs = c.args.self.now.domains.items in let at
     let y = c.index_mut.result.now in
     let here : slice_get xs at ≡ Some y = slice_get_read xs (length xs) at y refl c.requires.there c.index_mut.ensures.value in
     let can = subst (IsReadable c.args.self.now.frames c.args.last.call) c.in-Read.is c.requires.readable in
-    let asks = subst (λ (o : Option Open). IsLoading (asked_in o) (vec_len c.close_load-out.result)) (c.requires.under y here) c.close_load-out.ensures.room in
+    let asks = subst (λ (o : Option OpenCall). IsLoading (asked_in o) (vec_len c.close_load-out.result)) (c.requires.under y here) c.close_load-out.ensures.room in
     subst (λ (n : ℕ). IsTrue (has_range c.args.self.now.frames (record { owner = c.in-Read.dom; number = c.in-Read.frame }) c.in-Read.off n)) (sym (loaded c.args.last.call.request _ c.in-Read.len asks can.1)) can.0
 
 pub returns-in-Read-clause-settles : goal.returns-in-Read-clause-settles
@@ -20,7 +20,7 @@ returns-in-Read-clause-settles g c = let fs : FrameSet = c.args.self.now.frames 
     let can = subst (IsReadable fs c.args.last.call) c.in-Read.is c.requires.readable in λ d here.
     let same : y ≡ d = same_Some _ _ (sym (slice_get_read xs (length xs) at y refl c.requires.there c.index_mut.ensures.value) ∙ here) in
     let asks : IsLoading (Some c.args.last.call.request) (vec_len out) =
-    subst (λ (o : Option Open). IsLoading (asked_in o) (vec_len out)) (ap (λ (z : State). z.underway) same ∙ c.requires.under d here) c.close_load-out.ensures.room in
+    subst (λ (o : Option OpenCall). IsLoading (asked_in o) (vec_len out)) (ap (λ (z : State). z.underway) same ∙ c.requires.under d here) c.close_load-out.ensures.room in
     let after : new ≡ set xs at (with_underway None d) = ap (λ (z : State). set xs at z) (c.close_load-out.ensures.closed ∙ ap (with_underway None) same) in
     let read : bytes.items ≡ bytes_at (frame_at fs (record { owner = c.in-Read.dom; number = c.in-Read.frame })) c.in-Read.off c.in-Read.len =
     c.read_bytes-bytes.ensures ∙ ap (bytes_at (frame_at fs (record { owner = c.in-Read.dom; number = c.in-Read.frame })) c.in-Read.off) (loaded c.args.last.call.request (vec_len out) c.in-Read.len asks can.1) in

@@ -1,8 +1,8 @@
 use Rattle.std.proofs.Common.{◌≡◌, ◌∙◌, ap, sym, subst, refl, Some}
 use Rattle.gt_types.specs.declared.DomId.{DomId}
-use Rattle.gt_calls.specs.Path.{path, told_to}
+use Rattle.gt_calls.specs.Path.{path, header_value_of}
 use Rattle.gt_calls.specs.Rules.{CallerKnowledge, label_of, query_begun}
-use Rattle.gt_calls.specs.declared.call.Question.{Question}
+use Rattle.gt_calls.specs.declared.call.HeaderQuery.{HeaderQuery}
 use Rattle.gt_live.specs.Domains.{knowledge}
 use Rattle.gt_live.specs.Driving.{Knows}
 use Rattle.gt_live.specs.Questions.{asks_question}
@@ -55,9 +55,9 @@ returns g c =
     let seat = c.drive_query.new.seat in let e = c.drive_query.ensures in let word = c.drive_query.result in
     record {
       stays = (still-mine m.words m.config may d seat c.requires.mine e.seat e.same, e.seat);
-      called = λ (question : Question).
-          subst (λ (x : DomId). Called m.words.layout (path (knowledge m.config may d) x (asks_question c.args.dom question)) (told_to question word) d.seat.view seat.view) c.dom-caller.ensures
-          (subst (λ (k : CallerKnowledge). Called m.words.layout (path k c.dom-caller.result (asks_question c.args.dom question)) (told_to question word) d.seat.view seat.view) same (e.called question));
+      called = λ (question : HeaderQuery).
+          subst (λ (x : DomId). Called m.words.layout (path (knowledge m.config may d) x (asks_question c.args.dom question)) (header_value_of question word) d.seat.view seat.view) c.dom-caller.ensures
+          (subst (λ (k : CallerKnowledge). Called m.words.layout (path k c.dom-caller.result (asks_question c.args.dom question)) (header_value_of question word) d.seat.view seat.view) same (e.called question));
       kept = (record { slots = refl; given = refl }, e.same.pins);
       silent = refl;
       untouched = refl;

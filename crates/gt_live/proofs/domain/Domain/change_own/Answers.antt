@@ -2,8 +2,8 @@ use Rattle.std.proofs.Common.{◌∙◌, ap, List}
 use Rattle.std.specs.Vec.{with_items}
 use Rattle.std.proofs.lemmas.List.{with_items_is}
 use Rattle.gt_handles.specs.Handles.{HandleMap}
-use Rattle.gt_calls.specs.declared.held.Held.{Held}
-use Rattle.gt_calls.specs.declared.known.Own.{Own}
+use Rattle.gt_calls.specs.declared.held.HeldPin.{HeldPin}
+use Rattle.gt_calls.specs.declared.known.OwnerEntry.{OwnerEntry}
 use Rattle.gt_live.specs.Owning.{asks_change}
 use Rattle.gt_live.specs.Rows.{row_changed}
 use Rattle.gt_live.specs.Domains.{knowledge}
@@ -19,10 +19,10 @@ returns-in-Ok-clause-stays g c =
     let q = c.args.gref.0 in let ch = c.args.change in
     let own = with_items_is f.own c.change_row.new.own (c.change_row.auto.own ∙ c.deref_mut.ensures.len)
     ∙ c.change_row.ensures
-    ∙ ap (λ (os : List Own). row_changed os q ch) (c.deref_mut.ensures.value ∙ ap (λ v. v.items) kept.own) in (
+    ∙ ap (λ (os : List OwnerEntry). row_changed os q ch) (c.deref_mut.ensures.value ∙ ap (λ v. v.items) kept.own) in (
       changed m.words m.config may d (record f { own = with_items f.own c.change_row.new.own })
           (asks_change c.args.gref ch) q ch c.requires.mine kept.seat
-          (ap (λ (z : HandleMap Held). z.slots) kept.mappings) own c.in-Ok.ensures.leaves,
+          (ap (λ (z : HandleMap HeldPin). z.slots) kept.mappings) own c.in-Ok.ensures.leaves,
       kept.seat,
     )
 
@@ -31,7 +31,7 @@ returns-in-Err-clause-stays g c =
     let m = c.args.monitor.now in let d = c.args.self.now in let may = g.P.Allows.may m.rights in
     let f = c.drive_change.new.self in let kept = c.drive_change.ensures.kept in (
       looked m.words m.config may d f c.requires.mine (still_seat m.words d.seat f.seat c.requires.mine.seat kept.seat)
-          kept.seat.dom (ap (λ v. v.items) kept.own) (ap (λ (z : HandleMap Held). z.slots) kept.mappings)
+          kept.seat.dom (ap (λ v. v.items) kept.own) (ap (λ (z : HandleMap HeldPin). z.slots) kept.mappings)
           c.in-Err.ensures.leaves,
       kept.seat,
     )

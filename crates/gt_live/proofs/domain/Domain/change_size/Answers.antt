@@ -2,11 +2,11 @@ use Rattle.std.proofs.Common.{◌≡◌, ◌∙◌, ap, sym, subst, refl, Some, 
 use Rattle.gt_types.specs.declared.DomId.{DomId}
 use Rattle.gt_calls.specs.Path.{path}
 use Rattle.gt_calls.specs.Rules.{CallerKnowledge, begun, knows, label_of}
-use Rattle.gt_calls.specs.declared.request.Asked.TheVariants as asks
+use Rattle.gt_calls.specs.declared.request.OpenRequest.TheVariants as asks
 use Rattle.std.specs.Prelude.{Result, ℕ}
 use Rattle.gt_types.specs.declared.denial.Denial.{Denial}
-use Rattle.gt_calls.specs.declared.action.Value.TheVariants.{Frames}
-use Rattle.gt_calls.specs.declared.action.Verdict.TheVariants.{Given}
+use Rattle.gt_calls.specs.declared.action.CallValue.TheVariants.{Frames}
+use Rattle.gt_calls.specs.declared.action.CallResult.TheVariants.{Given}
 use Rattle.gt_live.specs.Domains.{knowledge, verdict_of_frames}
 use Rattle.gt_live.proofs.AtOnce.{once-framed}
 use Rattle.gt_live.specs.Driving.{Knows}
@@ -28,7 +28,7 @@ returns-in-Some g c =
       stays = (c.requires.mine, same_seat-self d.seat);
       answers = (
         subst (λ (r : Result ℕ Denial). Called m.words.layout (path k d.seat.dom (asks.SetupTable c.args.frames)) (verdict_of_frames r) d.seat.view d.seat.view)
-            (sym c.frames_told.ensures)
+            (sym c.frames_granted.ensures)
             (once-framed m.words.layout k d.seat.dom c.args.frames verdict d.seat.view answered),
         (record { slots = refl; given = refl }, λ t r. refl),
         refl,

@@ -4,8 +4,8 @@ use Rattle.gt_types.specs.declared.DomId.{DomId}
 use Rattle.gt_words.specs.Conditions.{IsWordOf}
 use Rattle.gt_words.specs.declared.view.EntryRecord.{EntryRecord}
 use Rattle.gt_calls.specs.Rules.{entry_in, own_generation}
-use Rattle.gt_calls.specs.declared.known.Own.{Own}
-use Rattle.gt_calls.specs.declared.action.Seen.TheVariants.{Word}
+use Rattle.gt_calls.specs.declared.known.OwnerEntry.{OwnerEntry}
+use Rattle.gt_calls.specs.declared.action.Observation.TheVariants.{Word}
 use Rattle.gt_calls.specs.declared.action.Step.TheVariants.{LookControl}
 use Rattle.gt_live.specs.Walks.{Made}
 use Rattle.gt_live.proofs.Closing.{goes-self, goes-then, quiet-then, shut-within, valid-used}
@@ -17,7 +17,7 @@ returns g c =
     let d = c.args.self.now in let e = c.withdraw_often.new.self in let f = c.look.new.self in
     let a = c.withdraw_often.ensures in let b = c.look.ensures in let r = c.args.gref.0 in
     let own : f.own.items ≡ e.own.items = ap (λ v. v.items) b.kept.own in
-    let same : entry_in f.own.items r ≡ entry_in e.own.items r = ap (λ (os : List Own). entry_in os r) own in
+    let same : entry_in f.own.items r ≡ entry_in e.own.items r = ap (λ (os : List OwnerEntry). entry_in os r) own in
     let row = b.mine.rows r c.requires.entry in
     record {
       mine = b.mine;
@@ -34,5 +34,5 @@ returns g c =
         counted = valid-used (entry_in f.own.items r) (own_generation m.config.first_gen f.own.items r) c.look.result
             (subst (λ (x : EntryRecord). IsWordOf x c.look.result) row b.own);
       };
-      others = λ q ne. ap (λ (os : List Own). slice_get os q) own ∙ a.others q ne;
+      others = λ q ne. ap (λ (os : List OwnerEntry). slice_get os q) own ∙ a.others q ne;
     }

@@ -1,10 +1,10 @@
 use Rattle.std.proofs.Common.{◌∙◌, refl, sym, ap, subst}
 use Rattle.gt_types.specs.declared.DomId.{DomId}
-use Rattle.gt_calls.specs.declared.held.Held.{Held}
+use Rattle.gt_calls.specs.declared.held.HeldPin.{HeldPin}
 use Rattle.gt_calls.specs.declared.request.Request.TheVariants as requests
 use Rattle.gt_handles.specs.Handles.{HandleMap}
 use Rattle.gt_live.specs.Domains.{knowledge}
-use Rattle.gt_live.specs.declared.domain.copies.Halfway.{Halfway}
+use Rattle.gt_live.specs.declared.domain.copies.PendingCopy.{PendingCopy}
 use Rattle.gt_live.specs.Copies.{halfway_with}
 use Rattle.gt_live.specs.Halves.{ComesHalfway}
 use Rattle.gt_live.proofs.Accessing.{refused-begun}
@@ -31,7 +31,7 @@ returns-in-Err-clause-mine g c =
     let m = c.args.monitor.now in let d = c.args.self.now in let may = g.P.Allows.may m.rights in
     let f = c.drive_copy.new.self in let kept = c.drive_copy.ensures.kept in
     looked m.words m.config may d f c.requires.mine (still_seat m.words d.seat f.seat c.requires.mine.seat kept.seat)
-    kept.seat.dom (ap (λ v. v.items) kept.own) (ap (λ (z : HandleMap Held). z.slots) kept.mappings)
+    kept.seat.dom (ap (λ v. v.items) kept.own) (ap (λ (z : HandleMap HeldPin). z.slots) kept.mappings)
     c.in-Err.ensures.stops.same
 
 pub returns-in-Err-clause-refused : goal.returns-in-Err-clause-refused
@@ -41,8 +41,8 @@ pub returns-in-Err-clause-kept : goal.returns-in-Err-clause-kept
 returns-in-Err-clause-kept g c =
     let one = c.drive_copy.ensures.kept in (
       record {
-        slots = ap (λ (z : HandleMap Held). z.slots) one.mappings;
-        given = ap (λ (z : HandleMap Held). z.given) one.mappings;
+        slots = ap (λ (z : HandleMap HeldPin). z.slots) one.mappings;
+        given = ap (λ (z : HandleMap HeldPin). z.given) one.mappings;
       },
       c.in-Err.ensures.stops.same.pins,
     )
@@ -66,5 +66,5 @@ returns-in-Ok-clause-comes g c =
       dest_range = access-dest-range c0 k f.seat d.seat.dom copy pins d.seat.view me a half.to refl;
       kept = kept;
     } in
-    subst (λ (h : Halfway). ComesHalfway g.P.Allows.may m d copy h f)
+    subst (λ (h : PendingCopy). ComesHalfway g.P.Allows.may m d copy h f)
     (sym (c.at_access.ensures ∙ ap (λ (x : DomId). halfway_with x copy pins) (c.dom.ensures ∙ me))) comes

@@ -1,7 +1,7 @@
 use Rattle.std.proofs.Common.{◌≡◌, sym, subst, None, refl}
 use Rattle.gt_types.specs.declared.DomId.{DomId}
 use Rattle.gt_calls.specs.Rules.{CallerKnowledge, copy_begun}
-use Rattle.gt_live.specs.Copies.{StopsSo, filled}
+use Rattle.gt_live.specs.Copies.{CopyStopsWith, filled}
 use Rattle.gt_live.specs.Driving.{Knows}
 use Rattle.gt_live.specs.Domains.{knowledge}
 use Rattle.gt_live.proofs.Knowing.{knows-own}
@@ -28,7 +28,7 @@ returns-clause-stops g c =
     let m = c.args.monitor.now in let d = c.args.self.now in let may = g.P.Allows.may m.rights in
     let same = c.known_with-known.ensures.known d c.deref.ensures.value refl refl in
     let end = c.drive_copy.new.seat.view in let copy = c.args.copy.now in
-    subst (λ (x : DomId). StopsSo (knowledge m.config may d) m.words.layout x copy (filled c.drive_copy.result c.drive_copy.new.pins) d.seat.view end)
+    subst (λ (x : DomId). CopyStopsWith (knowledge m.config may d) m.words.layout x copy (filled c.drive_copy.result c.drive_copy.new.pins) d.seat.view end)
     c.dom-caller.ensures
-    (subst (λ (k : CallerKnowledge). StopsSo k m.words.layout c.dom-caller.result copy (filled c.drive_copy.result c.drive_copy.new.pins) d.seat.view end)
+    (subst (λ (k : CallerKnowledge). CopyStopsWith k m.words.layout c.dom-caller.result copy (filled c.drive_copy.result c.drive_copy.new.pins) d.seat.view end)
     same c.drive_copy.ensures.stops)

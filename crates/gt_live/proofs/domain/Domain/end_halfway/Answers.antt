@@ -1,10 +1,10 @@
 use Rattle.std.proofs.Common.{ap, ◌∙◌, subst, sym}
-use Rattle.gt_calls.specs.declared.held.Pins.{Pins}
+use Rattle.gt_calls.specs.declared.held.CallPins.{CallPins}
 use Rattle.gt_calls.specs.Holding.{last_first}
 use Rattle.gt_calls.specs.Standing.{pins_by_call}
 use Rattle.gt_live.specs.Underway.{AreOfRun, HasTaken}
 use Rattle.gt_live.proofs.GivingBack.{gives-routes}
-use Rattle.gt_calls.specs.declared.held.Held.{Held}
+use Rattle.gt_calls.specs.declared.held.HeldPin.{HeldPin}
 use Rattle.gt_handles.specs.Handles.{HandleMap}
 use Rattle.gt_live.proofs.DomainKept.{looked}
 use Rattle.gt_live.proofs.Making.{same_seat-then, still_seat}
@@ -19,10 +19,10 @@ give_back-requires g c =
       seat = still_seat m.words d.seat e.seat mine.seat h.kept.seat;
       taken = (
         d.seat.view,
-        subst (λ (p : Pins). HasTaken m.words.layout (last_first p) d.seat.view e.seat.view) (sym c.pins-pins.ensures)
+        subst (λ (p : CallPins). HasTaken m.words.layout (last_first p) d.seat.view e.seat.view) (sym c.pins-pins.ensures)
             h.access.taken,
       );
-      of_run = subst (λ (p : Pins). AreOfRun m.words.layout (last_first p)) (sym c.pins-pins.ensures) h.access.of_run;
+      of_run = subst (λ (p : CallPins). AreOfRun m.words.layout (last_first p)) (sym c.pins-pins.ensures) h.access.of_run;
     }
 
 pub returns-clause-mine : goal.returns-clause-mine
@@ -31,7 +31,7 @@ returns-clause-mine g c =
     let one = h.kept in let two = c.give_back.ensures.kept in let may = g.P.Allows.may m.rights in
     let same = all-back m.words.layout d.seat.view f.seat.view ((gives-routes m.words.layout c.pins-pins.result (pins_by_call c.args.halfway.call) e.seat.view f.seat.view c.pins-pins.ensures c.give_back.ensures.gives).back d.seat.view h.access.taken) in
     let seat = same_seat-then d.seat e.seat f.seat one.seat two.seat in
-    looked m.words m.config may d f mine (still_seat m.words d.seat f.seat mine.seat seat) seat.dom (ap (λ v. v.items) (two.own ∙ one.own)) (ap (λ (z : HandleMap Held). z.slots) (two.mappings ∙ one.mappings)) same
+    looked m.words m.config may d f mine (still_seat m.words d.seat f.seat mine.seat seat) seat.dom (ap (λ v. v.items) (two.own ∙ one.own)) (ap (λ (z : HandleMap HeldPin). z.slots) (two.mappings ∙ one.mappings)) same
 
 pub returns-clause-ends : goal.returns-clause-ends
 returns-clause-ends g c =

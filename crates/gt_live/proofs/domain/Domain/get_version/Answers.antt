@@ -2,9 +2,9 @@ use Rattle.gt_audit.specs.declared.record.Hypercall.TheVariants as hypercalls
 use Rattle.gt_calls.specs.declared.request.Request.TheVariants as requests
 use Rattle.std.proofs.Common.{sym, subst}
 use Rattle.gt_calls.specs.Path.{path}
-use Rattle.gt_calls.specs.declared.action.Verdict.{Verdict}
-use Rattle.gt_calls.specs.declared.call.Question.TheVariants.{Version}
-use Rattle.gt_calls.specs.declared.request.Asked.TheVariants as asks
+use Rattle.gt_calls.specs.declared.action.CallResult.{CallResult}
+use Rattle.gt_calls.specs.declared.call.HeaderQuery.TheVariants.{Version}
+use Rattle.gt_calls.specs.declared.request.OpenRequest.TheVariants as asks
 use Rattle.gt_live.specs.Domains.{knowledge, verdict_of_version}
 use Rattle.gt_live.specs.Walks.{Called}
 use Rattle.gt_live.proofs.Told.{told, told-stays}
@@ -19,7 +19,7 @@ pub returns-clause-answers : goal.returns-clause-answers
 returns-clause-answers g c =
     told g.P.Allows.may c.args.monitor.now c.args.self.now c.ask.new.self c.tell.new.self (requests.GetVersion c.args.dom) (hypercalls.GetVersion c.args.dom)
     c.version_reply.result (verdict_of_version c.version_by-result.result) c.ask.ensures.stays (
-      subst (λ (x : Verdict). Called c.args.monitor.now.words.layout
+      subst (λ (x : CallResult). Called c.args.monitor.now.words.layout
           (path (knowledge c.args.monitor.now.config (g.P.Allows.may c.args.monitor.now.rights) c.args.self.now) c.args.self.now.seat.dom (asks.GetVersion c.args.dom)) x
           c.args.self.now.seat.view c.ask.new.self.seat.view) (sym c.version_by-result.ensures) (c.ask.ensures.called Version),
       c.ask.ensures.kept,

@@ -1,10 +1,10 @@
 use Rattle.std.proofs.Common.{◌≡◌, ◌∙◌, ap, sym, subst, refl, Option}
 use Rattle.gt_calls.specs.Asking.{begun_of}
 use Rattle.gt_calls.specs.Path.{Continuation, after_beginning, path, path_of, steps_of}
-use Rattle.gt_calls.specs.declared.action.Verdict.{Verdict}
-use Rattle.gt_calls.specs.declared.action.Verdict.TheVariants.{Refused}
-use Rattle.gt_calls.specs.declared.request.Asked.{Asked}
-use Rattle.gt_calls.specs.declared.request.Asked.TheVariants as asks
+use Rattle.gt_calls.specs.declared.action.CallResult.{CallResult}
+use Rattle.gt_calls.specs.declared.action.CallResult.TheVariants.{Refused}
+use Rattle.gt_calls.specs.declared.request.OpenRequest.{OpenRequest}
+use Rattle.gt_calls.specs.declared.request.OpenRequest.TheVariants as asks
 use Rattle.gt_calls.specs.declared.request.Request.TheVariants as requests
 use Rattle.gt_live.specs.Domains.{knowledge, verdict_of}
 use Rattle.gt_live.specs.Walks.{Called}
@@ -18,9 +18,9 @@ returns-in-Ok g c =
     let e = c.change_own.ensures in let entry = c.in-Ok.entry in let open_so = c.in-Ok.ensures.open in
     let request = requests.GrantBytes c.args.gref c.args.bytes in
     let same : path k d.seat.dom (asks.Grant c.args.gref entry) ≡ path_of k d.seat.dom request =
-    ap (λ (o : Option Verdict). after_beginning o (steps_of k d.seat.dom (asks.Grant c.args.gref entry)))
+    ap (λ (o : Option CallResult). after_beginning o (steps_of k d.seat.dom (asks.Grant c.args.gref entry)))
     (open_so.2 ∙ sym open_so.0)
-    ∙ ap (λ (a : Asked). after_beginning (begun_of k d.seat.dom request) (steps_of k d.seat.dom a)) open_so.1 in
+    ∙ ap (λ (a : OpenRequest). after_beginning (begun_of k d.seat.dom request) (steps_of k d.seat.dom a)) open_so.1 in
     record {
       stays = e.stays;
       answers = (

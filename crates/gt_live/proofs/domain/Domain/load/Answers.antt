@@ -5,7 +5,7 @@ use Rattle.gt_frames.specs.Receipts.{Reading}
 use Rattle.gt_types.specs.declared.Dir.TheVariants as dirs
 use Rattle.gt_entry.specs.Entries.{frame_of}
 use Rattle.gt_calls.specs.declared.action.Step.TheVariants as steps
-use Rattle.gt_calls.specs.declared.held.Held.{Held}
+use Rattle.gt_calls.specs.declared.held.HeldPin.{HeldPin}
 use Rattle.gt_calls.specs.declared.request.Request.TheVariants as requests
 use Rattle.gt_handles.specs.Handles.{value_of}
 use Rattle.gt_calls.specs.Rules.{load_begun}
@@ -37,7 +37,7 @@ returns-clause-answers g c =
     let k = knowledge m.config may d in
     let judged : c.judge_load.result ≡ load_begun (value_of d.mappings) c.args.handle c.args.off c.args.len =
     c.judge_load.ensures ∙ ap (λ (n : ℕ). load_begun (value_of d.mappings) c.args.handle c.args.off n) c.from.ensures in
-    let way = mapped-way k d.seat.dom (requests.Load c.args.handle c.args.off c.args.len) c.args.handle held (λ (p : Held). steps.Read p.dom (frame_of p.entry) c.args.off c.args.len) (sym judged ∙ none-left c.judge_load.result c.in_default.not-Some) there refl in (
+    let way = mapped-way k d.seat.dom (requests.Load c.args.handle c.args.off c.args.len) c.args.handle held (λ (p : HeldPin). steps.Read p.dom (frame_of p.entry) c.args.off c.args.len) (sym judged ∙ none-left c.judge_load.result c.in_default.not-Some) there refl in (
       one-access m.words.layout _ (steps.Read held.dom (frame_of held.entry) c.args.off c.args.len) IsReadBy c.read_through.result d.seat.view tt way (subst (λ (n : ℕ). IfOk c.read_through.result (λ (r : Reading). IsReadOf r (frame_named held.dom n) c.args.off c.args.len)) c.frame.ensures c.read_through.ensures.read) c.read_through.ensures.refused,
       (record { slots = refl; given = refl }, λ t r. refl),
       refl,

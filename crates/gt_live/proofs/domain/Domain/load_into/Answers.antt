@@ -5,7 +5,7 @@ use Rattle.gt_frames.specs.Receipts.{Reading}
 use Rattle.gt_types.specs.declared.Dir.TheVariants as dirs
 use Rattle.gt_entry.specs.Entries.{frame_of}
 use Rattle.gt_calls.specs.declared.action.Step.TheVariants as steps
-use Rattle.gt_calls.specs.declared.held.Held.{Held}
+use Rattle.gt_calls.specs.declared.held.HeldPin.{HeldPin}
 use Rattle.gt_calls.specs.declared.request.Request.TheVariants as requests
 use Rattle.gt_handles.specs.Handles.{value_of}
 use Rattle.gt_live.specs.Accesses.{IsReadBy, frame_named}
@@ -34,7 +34,7 @@ returns-clause-answers g c =
     let m = c.args.monitor.now in let d = c.args.self.now in let may = g.P.Allows.may m.rights in let held = c.unwrap-held.result.now in
     let there : value_of d.mappings c.args.handle ≡ Some held = sym c.get.ensures.value ∙ ap option_copied c.unwrap-held.ensures in
     let k = knowledge m.config may d in
-    let way = mapped-way k d.seat.dom (requests.Load c.args.handle c.args.off (length c.args.buffer.now)) c.args.handle held (λ (p : Held). steps.Read p.dom (frame_of p.entry) c.args.off (length c.args.buffer.now)) (sym c.judge_load.ensures ∙ none-left c.judge_load.result c.in_default.not-Some) there refl in (
+    let way = mapped-way k d.seat.dom (requests.Load c.args.handle c.args.off (length c.args.buffer.now)) c.args.handle held (λ (p : HeldPin). steps.Read p.dom (frame_of p.entry) c.args.off (length c.args.buffer.now)) (sym c.judge_load.ensures ∙ none-left c.judge_load.result c.in_default.not-Some) there refl in (
       one-access m.words.layout _ (steps.Read held.dom (frame_of held.entry) c.args.off (length c.args.buffer.now)) IsReadBy c.fill_through.result d.seat.view tt way (subst (λ (n : ℕ). IfOk c.fill_through.result (λ (r : Reading). IsReadOf r (frame_named held.dom n) c.args.off (length c.args.buffer.now))) c.frame.ensures c.fill_through.ensures.read) c.fill_through.ensures.refused,
       (record { slots = refl; given = refl }, λ t r. refl),
       refl,

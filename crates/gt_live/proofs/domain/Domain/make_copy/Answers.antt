@@ -1,7 +1,7 @@
 use Rattle.std.proofs.Common.{◌≡◌, ◌∙◌, refl, sym, ap, subst, inl}
 use Rattle.gt_types.specs.declared.DomId.{DomId}
 use Rattle.gt_types.specs.declared.places.Spot.{Spot}
-use Rattle.gt_calls.specs.declared.held.Held.{Held}
+use Rattle.gt_calls.specs.declared.held.HeldPin.{HeldPin}
 use Rattle.gt_calls.specs.declared.request.Request.TheVariants as requests
 use Rattle.gt_calls.specs.Path.{path_of, place_of}
 use Rattle.gt_handles.specs.Handles.{HandleMap}
@@ -82,7 +82,7 @@ returns-in-Err-clause-mine g c =
     let m = c.args.monitor.now in let d = c.args.self.now in let may = g.P.Allows.may m.rights in
     let f = c.drive_copy.new.self in let kept = c.drive_copy.ensures.kept in
     looked m.words m.config may d f c.requires.mine (still_seat m.words d.seat f.seat c.requires.mine.seat kept.seat)
-    kept.seat.dom (ap (λ v. v.items) kept.own) (ap (λ (z : HandleMap Held). z.slots) kept.mappings)
+    kept.seat.dom (ap (λ v. v.items) kept.own) (ap (λ (z : HandleMap HeldPin). z.slots) kept.mappings)
     c.in-Err.ensures.stops.same
 
 pub returns-in-Err-clause-answered : goal.returns-in-Err-clause-answered
@@ -92,8 +92,8 @@ pub returns-in-Err-clause-kept : goal.returns-in-Err-clause-kept
 returns-in-Err-clause-kept g c =
     let one = c.drive_copy.ensures.kept in (
       record {
-        slots = ap (λ (z : HandleMap Held). z.slots) one.mappings;
-        given = ap (λ (z : HandleMap Held). z.given) one.mappings;
+        slots = ap (λ (z : HandleMap HeldPin). z.slots) one.mappings;
+        given = ap (λ (z : HandleMap HeldPin). z.given) one.mappings;
       },
       c.in-Err.ensures.stops.same.pins,
     )
@@ -107,7 +107,7 @@ returns-clause-mine g c =
     (c.give_back.ensures.gives.back d.seat.view c.in-Ok.ensures.stops.taken) in
     let seat = same_seat-then d.seat f.seat e.seat one.seat two.seat in
     looked m.words m.config may d e c.requires.mine (still_seat m.words d.seat e.seat c.requires.mine.seat seat) seat.dom
-    (ap (λ v. v.items) (two.own ∙ one.own)) (ap (λ (z : HandleMap Held). z.slots) (two.mappings ∙ one.mappings)) same
+    (ap (λ v. v.items) (two.own ∙ one.own)) (ap (λ (z : HandleMap HeldPin). z.slots) (two.mappings ∙ one.mappings)) same
 
 pub returns-clause-answered : goal.returns-clause-answered
 returns-clause-answered g c =
@@ -139,8 +139,8 @@ returns-clause-kept g c =
     let same = all-back c.args.monitor.now.words.layout d.seat.view e.seat.view
     (c.give_back.ensures.gives.back d.seat.view c.in-Ok.ensures.stops.taken) in (
       record {
-        slots = ap (λ (z : HandleMap Held). z.slots) (two.mappings ∙ one.mappings);
-        given = ap (λ (z : HandleMap Held). z.given) (two.mappings ∙ one.mappings);
+        slots = ap (λ (z : HandleMap HeldPin). z.slots) (two.mappings ∙ one.mappings);
+        given = ap (λ (z : HandleMap HeldPin). z.given) (two.mappings ∙ one.mappings);
       },
       same.pins,
     )

@@ -6,8 +6,8 @@ use Rattle.gt_handles.specs.Listing.{IsInserted}
 use Rattle.gt_calls.specs.Asking.{begun_of}
 use Rattle.gt_calls.specs.Path.{path}
 use Rattle.gt_calls.specs.Rules.{CallerKnowledge, map_begun}
-use Rattle.gt_calls.specs.declared.held.Held.{Held}
-use Rattle.gt_calls.specs.declared.request.Asked.TheVariants as asks
+use Rattle.gt_calls.specs.declared.held.HeldPin.{HeldPin}
+use Rattle.gt_calls.specs.declared.request.OpenRequest.TheVariants as asks
 use Rattle.gt_calls.specs.declared.request.Request.TheVariants as requests
 use Rattle.gt_live.specs.declared.domain.Domain.{Domain}
 use Rattle.gt_live.specs.Domains.{knowledge}
@@ -50,7 +50,7 @@ pub returns-then-is_err-clause-mine : goal.returns-then-is_err-clause-mine
 returns-then-is_err-clause-mine g c =
     let m = c.args.monitor.now in let d = c.args.self.now in let may = g.P.Allows.may m.rights in
     looked m.words m.config may d (record d { mappings = c.reserve.new.self }) c.requires.mine c.requires.mine.seat refl refl
-    (ap (λ (z : HandleMap Held). z.slots) c.reserve.ensures.kept) (same-self d.seat.view)
+    (ap (λ (z : HandleMap HeldPin). z.slots) c.reserve.ensures.kept) (same-self d.seat.view)
 
 pub returns-then-is_err-clause-answered : goal.returns-then-is_err-clause-answered
 returns-then-is_err-clause-answered g c =
@@ -58,30 +58,30 @@ returns-then-is_err-clause-answered g c =
     let begun : begun_of k d.seat.dom (requests.Map c.args.dom c.args.gref c.args.flags) ≡ None =
     sym c.judge_map.ensures ∙ none-left c.judge_map.result c.in_default.not-Some in
     let kept = c.reserve.ensures.kept in
-    (inr (c.new.ensures, begun, no-room c.reserve.result d.mappings.room (sym c.is_err.ensures.value ∙ c.if-is_err.true) c.reserve.ensures.succeeds, refl), (record { slots = ap (λ (z : HandleMap Held). z.slots) kept; given = ap (λ (z : HandleMap Held). z.given) kept }, λ t q. refl))
+    (inr (c.new.ensures, begun, no-room c.reserve.result d.mappings.room (sym c.is_err.ensures.value ∙ c.if-is_err.true) c.reserve.ensures.succeeds, refl), (record { slots = ap (λ (z : HandleMap HeldPin). z.slots) kept; given = ap (λ (z : HandleMap HeldPin). z.given) kept }, λ t q. refl))
 
 pub drive_map-requires-clause-mine : goal.drive_map-requires-clause-mine
 drive_map-requires-clause-mine g c =
     let m = c.args.monitor.now in let d = c.args.self.now in let may = g.P.Allows.may m.rights in
     looked m.words m.config may d (record d { mappings = c.reserve.new.self }) c.requires.mine c.requires.mine.seat refl refl
-    (ap (λ (z : HandleMap Held). z.slots) c.reserve.ensures.kept) (same-self d.seat.view)
+    (ap (λ (z : HandleMap HeldPin). z.slots) c.reserve.ensures.kept) (same-self d.seat.view)
 
 pub drive_map-requires-clause-unanswered : goal.drive_map-requires-clause-unanswered
 drive_map-requires-clause-unanswered g c =
     let m = c.args.monitor.now in let d = c.args.self.now in let may = g.P.Allows.may m.rights in let k = knowledge m.config may d in
     let begun : map_begun k d.seat.dom c.args.dom c.args.flags ≡ None =
     sym c.judge_map.ensures ∙ none-left c.judge_map.result c.in_default.not-Some in
-    subst (λ (z : HandleMap Held). map_begun (knowledge m.config may (record d { mappings = z })) d.seat.dom c.args.dom c.args.flags ≡ None) (sym c.reserve.ensures.kept) begun
+    subst (λ (z : HandleMap HeldPin). map_begun (knowledge m.config may (record d { mappings = z })) d.seat.dom c.args.dom c.args.flags ≡ None) (sym c.reserve.ensures.kept) begun
 
 pub insert-requires-clause-room : goal.insert-requires-clause-room
 insert-requires-clause-room g c =
-    subst (λ (z : HandleMap Held). 1 ≤ z.room) (sym c.drive_map.ensures.kept.mappings)
+    subst (λ (z : HandleMap HeldPin). 1 ≤ z.room) (sym c.drive_map.ensures.kept.mappings)
     (on-ok c.reserve.result (1 ≤ c.reserve.new.self.room) (sym c.is_err.ensures.value ∙ c.if-is_err.false) c.reserve.ensures.room)
 
 pub insert-requires-clause-serial : goal.insert-requires-clause-serial
 insert-requires-clause-serial g c =
     let left = c.in-Ok.ensures.leaves in
-    subst (λ (z : HandleMap Held). z.given + 1 < 2 ^ 64) (sym c.drive_map.ensures.kept.mappings) left.serial
+    subst (λ (z : HandleMap HeldPin). z.given + 1 < 2 ^ 64) (sym c.drive_map.ensures.kept.mappings) left.serial
 
 pub returns-in-Err : goal.returns-in-Err
 returns-in-Err g c =
@@ -89,15 +89,15 @@ returns-in-Err g c =
     let one = c.reserve.ensures.kept in let e = c.drive_map.ensures.kept in
     let same : IsSame d.seat.view f.seat.view = c.in-Err.ensures.leaves in
     let d' : Domain = record d { mappings = c.reserve.new.self } in
-    let known : knowledge m.config may d' ≡ knowledge m.config may d = ap (λ (x : HandleMap Held). knowledge m.config may (record d { mappings = x })) one in
+    let known : knowledge m.config may d' ≡ knowledge m.config may d = ap (λ (x : HandleMap HeldPin). knowledge m.config may (record d { mappings = x })) one in
     let request = asks.Map c.args.dom c.args.gref c.args.flags in
-    let slots = ap (λ (z : HandleMap Held). z.slots) (e.mappings ∙ one) in
+    let slots = ap (λ (z : HandleMap HeldPin). z.slots) (e.mappings ∙ one) in
     record {
       mine = looked m.words m.config may d f c.requires.mine (still_seat m.words d.seat f.seat c.requires.mine.seat e.seat) e.seat.dom (ap (λ v. v.items) e.own) slots same;
       seat = e.seat;
       answered = (
         inl (subst (λ (k : CallerKnowledge). Called m.words.layout (path k d.seat.dom request) (pin_verdict (Err c.in-Err.denial)) d.seat.view f.seat.view) known c.in-Err.ensures.called),
-        (record { slots = slots; given = ap (λ (z : HandleMap Held). z.given) (e.mappings ∙ one) }, same.pins),
+        (record { slots = slots; given = ap (λ (z : HandleMap HeldPin). z.given) (e.mappings ∙ one) }, same.pins),
       );
       silent = e.trail;
       untouched = e.visits;
@@ -109,11 +109,11 @@ returns-in-Ok g c =
     let one = c.reserve.ensures.kept in let e = c.drive_map.ensures.kept in let i = c.insert.ensures in let h = c.insert.result in
     let new = c.insert.new.self in let p = c.in-Ok.held in
     let d' : Domain = record d { mappings = c.reserve.new.self } in
-    let known : knowledge m.config may d' ≡ knowledge m.config may d = ap (λ (x : HandleMap Held). knowledge m.config may (record d { mappings = x })) one in
+    let known : knowledge m.config may d' ≡ knowledge m.config may d = ap (λ (x : HandleMap HeldPin). knowledge m.config may (record d { mappings = x })) one in
     let request = asks.Map c.args.dom c.args.gref c.args.flags in
-    let mine' = looked m.words m.config may d d' c.requires.mine c.requires.mine.seat refl refl (ap (λ (z : HandleMap Held). z.slots) one) (same-self d.seat.view) in
+    let mine' = looked m.words m.config may d d' c.requires.mine c.requires.mine.seat refl refl (ap (λ (z : HandleMap HeldPin). z.slots) one) (same-self d.seat.view) in
     let inserted : IsInserted d'.mappings new h p =
-    subst (λ (z : HandleMap Held). IsInserted z new h p) e.mappings (record { fresh = i.fresh; updates = i.updates; count = i.count; given = i.given }) in
+    subst (λ (z : HandleMap HeldPin). IsInserted z new h p) e.mappings (record { fresh = i.fresh; updates = i.updates; count = i.count; given = i.given }) in
     record {
       mine = mapped m.words m.config may d' (record f { mappings = new }) h request p mine' e.seat (ap (λ v. v.items) e.own) c.in-Ok.ensures.leaves inserted;
       seat = e.seat;
@@ -121,9 +121,9 @@ returns-in-Ok g c =
         p,
         subst (λ (k : CallerKnowledge). Called m.words.layout (path k d.seat.dom request) (pin_verdict (Ok p)) d.seat.view f.seat.view) known c.in-Ok.ensures.called,
         record {
-          serial = i.serial ∙ ap (λ (z : HandleMap Held). z.given) (e.mappings ∙ one);
+          serial = i.serial ∙ ap (λ (z : HandleMap HeldPin). z.given) (e.mappings ∙ one);
           inserted = roomier-inserted d'.mappings d.mappings new h p one inserted;
-          spent = λ other was. subst (λ (z : HandleMap Held). KeepsSpent z new) (e.mappings ∙ one) i.spent other (record { given = was.given; gone = was.gone });
+          spent = λ other was. subst (λ (z : HandleMap HeldPin). KeepsSpent z new) (e.mappings ∙ one) i.spent other (record { given = was.given; gone = was.gone });
         },
       );
       silent = e.trail;

@@ -1,7 +1,7 @@
 use Rattle.std.proofs.Common.{◌≡◌, ◌<◌, ◌∙◌, ap, arith, inl, inr, refl, subst, sym, length, List, ℕ}
 use Rattle.std.specs.Prelude.{slice_get}
-use Rattle.gt_entry.specs.declared.change.Change.TheVariants.{Withdraw}
-use Rattle.gt_calls.specs.declared.known.Own.{Own}
+use Rattle.gt_entry.specs.declared.change.EntryChange.TheVariants.{Withdraw}
+use Rattle.gt_calls.specs.declared.known.OwnerEntry.{OwnerEntry}
 use Rattle.gt_live.proofs.Closing.{called-goes, goes-self, goes-then, quiet-self, quiet-then, row-shut}
 use Rattle.gt_live.proofs.RowsKept.{row-other}
 use Rattle.gt_live.proofs.domain.Domain.withdraw_often.Goals as goal
@@ -36,8 +36,8 @@ returns-in-Ok g c =
       mine = w.mine;
       quiet = quiet-then d e f inv.quiet w.quiet;
       shut = inl (row-shut e.own.items f.own.items r (omega (arith, rows, c.requires.entry)) c.in-Ok.ensures.gone);
-      others = λ q ne. ap (λ (os : List Own). slice_get os q) c.in-Ok.ensures.gone ∙ row-other e.own.items r q Withdraw ne
-          ∙ ap (λ (os : List Own). slice_get os q) inv.same;
+      others = λ q ne. ap (λ (os : List OwnerEntry). slice_get os q) c.in-Ok.ensures.gone ∙ row-other e.own.items r q Withdraw ne
+          ∙ ap (λ (os : List OwnerEntry). slice_get os q) inv.same;
     }
 
 pub returns : goal.returns
@@ -47,5 +47,5 @@ returns g c =
       mine = inv.mine;
       quiet = inv.quiet;
       shut = inr (inv.missed (omega arith));
-      others = λ q ne. ap (λ (os : List Own). slice_get os q) inv.same;
+      others = λ q ne. ap (λ (os : List OwnerEntry). slice_get os q) inv.same;
     }

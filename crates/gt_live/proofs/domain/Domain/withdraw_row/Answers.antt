@@ -3,12 +3,12 @@ use Rattle.std.specs.Prelude.{Result, OnOk}
 use Rattle.std.specs.Vec.{with_items}
 use Rattle.std.proofs.lemmas.List.{with_items_is}
 use Rattle.gt_types.specs.declared.denial.Denial.{Denial}
-use Rattle.gt_entry.specs.declared.change.Change.TheVariants.{Withdraw}
+use Rattle.gt_entry.specs.declared.change.EntryChange.TheVariants.{Withdraw}
 use Rattle.gt_handles.specs.Handles.{HandleMap}
 use Rattle.gt_calls.specs.Path.{path}
-use Rattle.gt_calls.specs.declared.held.Held.{Held}
-use Rattle.gt_calls.specs.declared.known.Own.{Own}
-use Rattle.gt_calls.specs.declared.request.Asked.TheVariants as asks
+use Rattle.gt_calls.specs.declared.held.HeldPin.{HeldPin}
+use Rattle.gt_calls.specs.declared.known.OwnerEntry.{OwnerEntry}
+use Rattle.gt_calls.specs.declared.request.OpenRequest.TheVariants as asks
 use Rattle.gt_calls.specs.declared.request.Request.TheVariants as requests
 use Rattle.gt_live.specs.Domains.{knowledge, verdict_of}
 use Rattle.gt_live.specs.Rows.{row_changed}
@@ -43,9 +43,9 @@ returns-in-Ok-clause-mine g c =
     let q = c.args.gref.0 in
     let own = with_items_is f.own c.change_row.new.own (c.change_row.auto.own ∙ c.deref_mut.ensures.len)
     ∙ c.change_row.ensures
-    ∙ ap (λ (os : List Own). row_changed os q Withdraw) (c.deref_mut.ensures.value ∙ ap (λ v. v.items) kept.own) in
+    ∙ ap (λ (os : List OwnerEntry). row_changed os q Withdraw) (c.deref_mut.ensures.value ∙ ap (λ v. v.items) kept.own) in
     changed m.words m.config may d (record f { own = with_items f.own c.change_row.new.own }) (asks.Withdraw c.args.gref) q Withdraw
-    c.requires.mine kept.seat (ap (λ (z : HandleMap Held). z.slots) kept.mappings) own c.in-Ok.ensures.leaves
+    c.requires.mine kept.seat (ap (λ (z : HandleMap HeldPin). z.slots) kept.mappings) own c.in-Ok.ensures.leaves
 
 pub returns-in-Ok-clause-quiet : goal.returns-in-Ok-clause-quiet
 returns-in-Ok-clause-quiet g c =
@@ -54,8 +54,8 @@ returns-in-Ok-clause-quiet g c =
       seat = kept.seat;
       pinned = (
         record {
-          slots = ap (λ (z : HandleMap Held). z.slots) kept.mappings;
-          given = ap (λ (z : HandleMap Held). z.given) kept.mappings;
+          slots = ap (λ (z : HandleMap HeldPin). z.slots) kept.mappings;
+          given = ap (λ (z : HandleMap HeldPin). z.given) kept.mappings;
         },
         λ t r. left.changes.pins t r ∙ left.same.pins t r,
       );
@@ -68,14 +68,14 @@ pub returns-in-Ok-clause-gone : goal.returns-in-Ok-clause-gone
 returns-in-Ok-clause-gone g c =
     let f = c.drive_change.new.self in let kept = c.drive_change.ensures.kept in let q = c.args.gref.0 in
     with_items_is f.own c.change_row.new.own (c.change_row.auto.own ∙ c.deref_mut.ensures.len) ∙ c.change_row.ensures
-    ∙ ap (λ (os : List Own). row_changed os q Withdraw) (c.deref_mut.ensures.value ∙ ap (λ v. v.items) kept.own)
+    ∙ ap (λ (os : List OwnerEntry). row_changed os q Withdraw) (c.deref_mut.ensures.value ∙ ap (λ v. v.items) kept.own)
 
 pub returns-in-Err-clause-mine : goal.returns-in-Err-clause-mine
 returns-in-Err-clause-mine g c =
     let m = c.args.monitor.now in let d = c.args.self.now in let may = g.P.Allows.may m.rights in
     let f = c.drive_change.new.self in let kept = c.drive_change.ensures.kept in
     looked m.words m.config may d f c.requires.mine (still_seat m.words d.seat f.seat c.requires.mine.seat kept.seat)
-    kept.seat.dom (ap (λ v. v.items) kept.own) (ap (λ (z : HandleMap Held). z.slots) kept.mappings) c.in-Err.ensures.leaves
+    kept.seat.dom (ap (λ v. v.items) kept.own) (ap (λ (z : HandleMap HeldPin). z.slots) kept.mappings) c.in-Err.ensures.leaves
 
 pub returns-in-Err-clause-quiet : goal.returns-in-Err-clause-quiet
 returns-in-Err-clause-quiet g c =
@@ -84,8 +84,8 @@ returns-in-Err-clause-quiet g c =
       seat = kept.seat;
       pinned = (
         record {
-          slots = ap (λ (z : HandleMap Held). z.slots) kept.mappings;
-          given = ap (λ (z : HandleMap Held). z.given) kept.mappings;
+          slots = ap (λ (z : HandleMap HeldPin). z.slots) kept.mappings;
+          given = ap (λ (z : HandleMap HeldPin). z.given) kept.mappings;
         },
         c.in-Err.ensures.leaves.pins,
       );

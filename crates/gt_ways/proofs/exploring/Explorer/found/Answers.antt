@@ -3,7 +3,7 @@ use Rattle.std.proofs.lemmas.Option.{same_Some, slice_get_within, slice_get-get_
 use Rattle.std.specs.List.{flat_map, range_with_len}
 use Rattle.std.specs.Option.{option_map}
 use Rattle.gt_ways.specs.Lists.{rest_by}
-use Rattle.gt_ways.specs.declared.exploring.End.{End}
+use Rattle.gt_ways.specs.declared.exploring.ReachedList.{ReachedList}
 use Rattle.gt_ways.specs.declared.exploring.Node.{Node}
 use Rattle.gt_ways.proofs.Trying.{length_more, text_found, texts_more}
 use Rattle.gt_ways.proofs.exploring.Explorer.found.Goals as goal
@@ -26,7 +26,7 @@ returns g c = λ over.
     text_found (g.S.Space.ways c.args.space.now) c.args.self.now over c.in-Some.first (record { orders = c.ends.orders; states = c.len-states.result }) c.in-Some.ensures (λ n at e here is has.
     let same : n.ends.items ≡ c.as_slice-end-items.result.now =
     ap (λ (m : Node). m.ends.items) (same_Some n c.in-Some-node_at.done.now (sym here ∙ there)) ∙ sym c.as_slice-end-items.ensures.value in
-    let now : slice_get c.as_slice-end-items.result.now at ≡ Some e = ap (λ (l : List End). slice_get l at) (sym same) ∙ is in
+    let now : slice_get c.as_slice-end-items.result.now at ≡ Some e = ap (λ (l : List ReachedList). slice_get l at) (sym same) ∙ is in
     let within = slice_get_within c.as_slice-end-items.result.now at e now in
     let less : at < c.ends.end-index = omega (arith, within, all) in
     let o = c.ends.invariant.each at e less now has in

@@ -1,6 +1,6 @@
 use Rattle.std.proofs.Common.{rules, arith, subst, Option, IfSome}
 use Rattle.gt_ways.specs.Exploring.{VisitHolds}
-use Rattle.gt_ways.specs.declared.exploring.Visit.{Visit}
+use Rattle.gt_ways.specs.declared.exploring.OpenNode.{OpenNode}
 use Rattle.gt_ways.proofs.Trying.{each_on, each_pop, each_push}
 use Rattle.gt_ways.proofs.exploring.Explorer.try_next.Goals as goal
 
@@ -19,7 +19,7 @@ returns-in_ok-push-2 g c = λ holds each.
       s.holds,
       s.grew,
       each_push (g.S.Space.ways c.args.space.now) c.step.new.self c.push.new.self.items c.push-in-Some-deeper.new.self.items c.in-Some-deeper.deeper c.in_ok-push-2.ensures.items first
-          (subst (λ (d : Option Visit). IfSome d (VisitHolds (g.S.Space.ways c.args.space.now) c.step.new.self)) c.in-Some-deeper.is s.deeper),
+          (subst (λ (d : Option OpenNode). IfSome d (VisitHolds (g.S.Space.ways c.args.space.now) c.step.new.self)) c.in-Some-deeper.is s.deeper),
     )
 
 pub returns-in_default-deeper : goal.returns-in_default-deeper

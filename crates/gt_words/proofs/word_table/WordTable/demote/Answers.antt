@@ -9,7 +9,7 @@ use Rattle.gt_words.specs.Controls.{generation_of}
 use Rattle.gt_words.specs.Rule.{layout_of}
 use Rattle.gt_words.specs.declared.view.EntryRecord.{EntryRecord}
 use Rattle.gt_words.specs.Views.{last_of}
-use Rattle.gt_entry.specs.declared.change.Change.TheVariants as change
+use Rattle.gt_entry.specs.declared.change.EntryChange.TheVariants as change
 use Rattle.gt_words.specs.declared.view.Purpose.TheVariants as purpose
 
 -- the word is not worn

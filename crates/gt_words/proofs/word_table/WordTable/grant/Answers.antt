@@ -1,7 +1,7 @@
 use Rattle.std.proofs.Common.{subst, ◌≡◌, ℕ, ◌+◌, ap, ◌∙◌, arith}
 use Rattle.gt_words.proofs.word_table.WordTable.grant.Goals as goal
 use Rattle.gt_entry.specs.Spelling.{IsSpelled, idle_word_of}
-use Rattle.gt_entry.specs.declared.change.Half.TheVariants.{First, Second}
+use Rattle.gt_entry.specs.declared.change.BodyWord.TheVariants.{First, Second}
 use Rattle.gt_words.specs.declared.view.View.{View}
 use Rattle.gt_entry.specs.Words.{control_of}
 use Rattle.gt_entry.specs.declared.control.Control.{Control}
@@ -14,7 +14,7 @@ use Rattle.gt_words.specs.Rule.{layout_of}
 use Rattle.gt_words.specs.Steps.{changed_word}
 use Rattle.gt_words.specs.Views.{last_of, own_body, steps_on, stored_body}
 use Rattle.gt_words.specs.declared.view.EntryRecord.{EntryRecord}
-use Rattle.gt_entry.specs.declared.change.Change.TheVariants as change
+use Rattle.gt_entry.specs.declared.change.EntryChange.TheVariants as change
 use Rattle.gt_words.specs.declared.view.Purpose.TheVariants as purpose
 
 -- the generation that the word has

@@ -8,7 +8,7 @@ use Rattle.gt_words.proofs.StepDuties.{revoke_owes}
 use Rattle.gt_words.proofs.StepFacts.{exchange_missed, exchange_taken, finds_pins, revokes}
 use Rattle.gt_words.specs.Controls.{invalid_word}
 use Rattle.gt_words.specs.Rule.{layout_of}
-use Rattle.gt_entry.specs.declared.change.Change.TheVariants as change
+use Rattle.gt_entry.specs.declared.change.EntryChange.TheVariants as change
 use Rattle.gt_words.specs.declared.view.Purpose.TheVariants as purpose
 
 -- the invalid word of the same generation

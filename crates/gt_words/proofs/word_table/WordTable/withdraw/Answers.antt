@@ -3,7 +3,7 @@ use Rattle.gt_words.proofs.word_table.WordTable.withdraw.Goals as goal
 use Rattle.gt_words.proofs.StepDuties.{withdraw_owes}
 use Rattle.gt_words.proofs.StepFacts.{exchange_missed, exchange_taken, finds_another, takes_change}
 use Rattle.gt_words.specs.Rule.{layout_of}
-use Rattle.gt_entry.specs.declared.change.Change.TheVariants as change
+use Rattle.gt_entry.specs.declared.change.EntryChange.TheVariants as change
 use Rattle.gt_words.specs.declared.view.Purpose.TheVariants as purpose
 
 pub exchange_word-found-requires-clause-allowed : goal.exchange_word-found-requires-clause-allowed
