@@ -53,7 +53,7 @@ OF_XEN = {
 
 def sources():
     texts = []
-    for crate in ("gt_c/src/**/*.rt", "gt_begin/src/*.rt", "gt_seat/src/*.rt", "gt_types/src/**/*.rt", "gt_audit/src/pieces.rt"):
+    for crate in ("gt_c/src/**/*.rt", "gt_start/src/*.rt", "gt_attached/src/*.rt", "gt_types/src/**/*.rt", "gt_audit/src/pieces.rt"):
         for path in sorted((TOP / "crates").glob(crate)):
             texts.append(re.sub(r"//.*", "", path.read_text(encoding="utf-8")))
     return "\n".join(texts)

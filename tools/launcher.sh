@@ -13,7 +13,7 @@ tried=0 failed=0
 
 # A copy of what the launcher reads, and of what it installs.
 checkout="$work/checkout"
-mkdir -p "$checkout/crates/gthost/src" "$checkout"/crates/{gt_explore,gt_run,gt_advising,gthost_play,cases_program} \
+mkdir -p "$checkout/crates/gthost/src" "$checkout"/crates/{gt_explore,gt_run,gt_checks,gthost_play,cases_program} \
   "$checkout/tools" "$checkout/docs" "$work/bin" "$work/other"
 cp -r "$top/gthost" "$top/HANDLES" "$top/crates.txt" "$top/gthost.1" "$top/contrib" "$top/examples" "$checkout/"
 cp "$top"/tools/*.awk "$checkout/tools/"
@@ -204,7 +204,7 @@ else
 fi
 if [ "$runs" -eq 4 ]; then
   grep -qx "$out/beside/gt_run/crates/gt_run --jobs 1" "$work/libs" || wrong 'no run for gt_run'
-  grep -qx "$out/beside/gt_advising/crates/gt_advising --jobs 1" "$work/libs" || wrong 'no run for gt_advising'
+  grep -qx "$out/beside/gt_checks/crates/gt_checks --jobs 1" "$work/libs" || wrong 'no run for gt_checks'
 fi
 rm -f "$work/libs"; echo '// more' >>"$checkout/crates/gthost/src/main.rt"
 try 'a later build' 0 build; [ ! -e "$work/libs" ] || wrong 'a later build in lanes'

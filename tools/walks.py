@@ -13,7 +13,7 @@ CRATE = pathlib.Path(__file__).resolve().parent.parent / "crates" / "gt_c"
 NUMBERS = {"u16": 16, "u32": 32, "u64": 64, "usize": 64}
 # Where a struct that crosses is declared.
 STRUCTS = {
-    "Answer": "Rattle.gt_seat.{}.answer.Answer", "BegunTold": "Rattle.gt_c.{}.copies.BegunTold",
+    "Answer": "Rattle.gt_attached.{}.answer.Answer", "BegunTold": "Rattle.gt_c.{}.copies.BegunTold",
     "CopySettings": "Rattle.gt_c.{}.copies.CopySettings", "EntryBytes": "Rattle.gt_c.{}.calls.EntryBytes",
     "MapHandle": "Rattle.gt_c.{}.calls.MapHandle", "MappingTold": "Rattle.gt_c.{}.telling.MappingTold",
     "RecordTold": "Rattle.gt_c.{}.telling.RecordTold", "EntryTold": "Rattle.gt_c.{}.telling.EntryTold",

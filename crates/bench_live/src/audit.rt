@@ -1,5 +1,5 @@
 //! How calls are recorded, and how much is done.
-use gt_running::TestDomain;
+use test_monitor::TestDomain;
 use gt_types::Allows;
 
 /// How the calls of a domain are recorded.

@@ -7,7 +7,7 @@ use gt_calls::{CopyArgs, End};
 use gt_entry::Entry;
 use gt_live::Monitor;
 use gt_policy::Policy;
-use gt_running::{TestDomain, WRITABLE, all_running};
+use test_monitor::{TestDomain, WRITABLE, all_running};
 use gt_types::{Allows, DOMID_SELF, DomId, GrantRef};
 use std::alloc::Global;
 use std::sync::Wait;

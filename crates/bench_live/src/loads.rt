@@ -6,7 +6,7 @@ use gt_audit::Trail;
 use gt_entry::Entry;
 use gt_live::Monitor;
 use gt_policy::Policy;
-use gt_running::{READ_ONLY, TestDomain, all_running};
+use test_monitor::{READ_ONLY, TestDomain, all_running};
 use gt_types::{Allows, Config, DomId, DomainConfig, LAST_GENERATION, MAX_TABLE_FRAMES, TypeId};
 use std::alloc::{AllocError, Global};
 use std::thread::{self, Threads};

@@ -16,7 +16,7 @@
 //! before its first call, and with `taken` each mapper's records are taken while it runs. A fifth word is the number of
 //! domains of a load of calls, from 6 to 64 (6).
 //!
-//! It promises nothing beyond the calls that it makes, and uses `gt_live` and `gt_running`. The script `bench/live.sh`
+//! It promises nothing beyond the calls that it makes, and uses `gt_live` and `test_monitor`. The script `bench/live.sh`
 //! runs and times it beside the bare words and a program in C.
 #![tactic(auto)]
 

@@ -9,7 +9,7 @@ use crate::mapper::{Mapper, Target, map_and_unmap, through_via};
 use crate::owner::{Row, page, publish, revoke_and_grant, withdraw_and_grant};
 use anyhow::{Result, bail};
 use gt_entry::Entry;
-use gt_positions::Positions;
+use gt_roster::Positions;
 use gt_types::{
     Config, DomId, DomainConfig, GrantRef, MAX_TABLE_FRAMES, StartFault, TABLE_ENTRIES, TypeId,
 };

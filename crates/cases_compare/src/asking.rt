@@ -3,7 +3,7 @@ use crate::scarce::{Place, Scarce};
 use anyhow::bail;
 use gt_core::{Answer, Begun, Core, Request, Ticked};
 use gt_host::ScriptPolicy;
-use gt_running::TestDomain;
+use test_monitor::TestDomain;
 use gt_types::{DomId, DomainConfig, Rule};
 use std::alloc::Global;
 use std::sync::Wait;

@@ -1,7 +1,7 @@
 //! Memory that is refused to calls, each request in turn.
 use anyhow::bail;
 use gt_core::Request;
-use gt_flood::Flood;
+use test_flood::Flood;
 use std::alloc::{AllocError, Global};
 
 // What a call finds grows by so many bytes each time that it is refused, and so often at most.

@@ -3,7 +3,7 @@ use crate::asking::Both;
 use anyhow::bail;
 use gt_audit::push_line;
 use gt_host::{ScriptPolicy, play};
-use gt_running::TestDomain;
+use test_monitor::TestDomain;
 use gt_script::Text;
 use gt_types::DomainConfig;
 use std::alloc::Global;

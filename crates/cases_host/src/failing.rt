@@ -1,5 +1,5 @@
 //! Scripts over readers and writers that fail.
-use gt_failing::{FailingReader, FailingWriter, failing_line};
+use test_failing::{FailingReader, FailingWriter, failing_line};
 use gt_host::{PlayFault, play};
 use std::alloc::Global;
 

@@ -1,5 +1,5 @@
 //! What policies allow.
-use gt_listing::policy;
+use gt_policy_list::policy;
 use std::alloc::Global;
 use std::fs;
 use std::rt::Runtime;

@@ -1,8 +1,8 @@
 //! Scripts and policies that are refused memory, each request in turn.
 use crate::scripts::script_named;
-use gt_flood::Flood;
+use test_flood::Flood;
 use gt_host::{PlayFault, play};
-use gt_listing::{ListingFault, policy};
+use gt_policy_list::{ListingFault, policy};
 use std::alloc::Global;
 use std::fs;
 use std::rt::Runtime;

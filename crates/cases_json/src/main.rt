@@ -8,7 +8,7 @@
 #![tactic(auto)]
 
 use anyhow::bail;
-use gt_failing::{FailingWriter, failing_line};
+use test_failing::{FailingWriter, failing_line};
 use gt_json::{JsonFault, PrintedText, write_json};
 use std::alloc::Global;
 use std::fs;

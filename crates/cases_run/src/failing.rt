@@ -1,7 +1,7 @@
 //! Scripts over readers and writers that fail.
 use crate::running::{run_failing, run_recorded};
 use gt_audit::SharedLog;
-use gt_failing::failing_line;
+use test_failing::failing_line;
 use gt_run::FlagGate;
 use std::alloc::Global;
 use std::sync::Wait;

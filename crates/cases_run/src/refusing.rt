@@ -3,7 +3,7 @@ use crate::likeness::{Shortage, lacks};
 use crate::running::{run_recorded, run_text};
 use crate::scarce::{End, GAP, Place, Scarce, run_scarce};
 use gt_audit::SharedLog;
-use gt_flood::Flood;
+use test_flood::Flood;
 use gt_run::FlagGate;
 use std::alloc::{AllocError, Global};
 use std::fmt::Write;

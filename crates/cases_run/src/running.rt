@@ -1,6 +1,6 @@
 //! Runs over memory.
 use gt_audit::SharedLog;
-use gt_failing::{FailingReader, FailingWriter};
+use test_failing::{FailingReader, FailingWriter};
 use gt_run::{FlagGate, Gate, RunFault, run};
 use std::alloc::{AllocError, Global};
 use std::sync::Wait;

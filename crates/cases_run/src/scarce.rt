@@ -1,6 +1,6 @@
 //! Memory that runs out on the way of a run.
 use gt_audit::SharedLog;
-use gt_flood::Flood;
+use test_flood::Flood;
 use gt_host::PlayFault;
 use gt_run::{FlagGate, Gate, RunFault, run};
 use gt_types::Memory;

@@ -9,7 +9,7 @@
 mod starting;
 mod sweeping;
 
-use gt_running::numbered;
+use test_monitor::numbered;
 use starting::Kind;
 use std::alloc::Global;
 use sweeping::Starts;

@@ -1,8 +1,8 @@
 //! One start.
 use gt_core::Core;
-use gt_flood::Flood;
+use test_flood::Flood;
 use gt_live::Monitor;
-use gt_running::all_running;
+use test_monitor::all_running;
 use gt_types::{Config, DomainConfig, StartFault, Triples};
 use std::alloc::{AllocError, Global};
 

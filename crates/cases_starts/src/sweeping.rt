@@ -1,6 +1,6 @@
 //! Starts in more and more memory.
 use crate::starting::{Came, Kind, configured, start};
-use gt_flood::Flood;
+use test_flood::Flood;
 use gt_types::DomainConfig;
 use std::alloc::{AllocError, Global};
 

@@ -11,7 +11,7 @@
 //! [`AccessFault::Gone`].
 //!
 //! It uses `gt_frames` (frames, pool), `gt_words` (seats and their views), `gt_calls` (routes),
-//! `gt_positions` (the configuration), `gt_entry` and `gt_types`.
+//! `gt_roster` (the configuration), `gt_entry` and `gt_types`.
 #![tactic(auto)]
 
 mod by;

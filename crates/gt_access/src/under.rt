@@ -11,7 +11,7 @@ ghost use Rattle.gt_access.specs.Routes.{MayAccessBy, MayCopyBy, ReachesBy, writ
 
 use gt_calls::{CallPins, AccessPath};
 use gt_frames::{Copied, LockedPair, Filled, WriteBasis, LockedFrame, Pool, Read, Writ, Written};
-use gt_positions::Roster;
+use gt_roster::Roster;
 use gt_types::{Allows, DomId, FRAME_SIZE, Memory, Range};
 use gt_words::{Seat, Words};
 

@@ -7,8 +7,8 @@ use Rattle.gt_as_json.specs.Prelude.{Told}
 use Rattle.gt_streams.specs.Streams.{OfInput}
 use Rattle.gt_host.specs.declared.fault.PlayFault.TheVariants as plays
 use Rattle.gt_run.specs.declared.fault.RunFault.TheVariants as runs
-use Rattle.gt_listing.specs.declared.fault.ListingFault.TheVariants as listings
-use Rattle.gt_dump.specs.declared.fault.DumpFault.TheVariants as dumps
+use Rattle.gt_policy_list.specs.declared.fault.ListingFault.TheVariants as listings
+use Rattle.gt_entries.specs.declared.fault.DumpFault.TheVariants as dumps
 
 -- what a command promises of the bytes that its writer held and holds, and of its answer
 abbrev pub Promise : Type 0 → Type 1

@@ -2,7 +2,7 @@
 use Rattle.std.proofs.Common.{◌≡◌, ◌∙◌, ap, refl, subst, inr, Option, Some, None}
 use Rattle.std.specs.Prelude.{is_some, false}
 use mathlib.Core.Bool.{true≢false}
-use Rattle.gt_seat.specs.declared.answer.EncodedAnswer.{EncodedAnswer}
+use Rattle.gt_attached.specs.declared.answer.EncodedAnswer.{EncodedAnswer}
 use Rattle.gt_c.specs.declared.here.CDomain.{CDomain}
 use Rattle.gt_c.specs.Calling.{CallsGuest, CallsTelling}
 

@@ -6,7 +6,7 @@ use Rattle.gt_c.specs.Prelude.{AnswersTold, KeepsPinned, Leaves, Departure, Rese
 use Rattle.gt_c.specs.Prelude.{MapAnswered, mapping_reply, subject_of, told_of, verdict_of, Removes, encoded}
 use Rattle.gt_c.specs.Prelude.{EndsAccess}
 use Rattle.gt_c.specs.Prelude.{Seated, StaysIdle, EncodedAnswer, AttachedOutcome, CDomain}
-use Rattle.gt_seat.specs.declared.answer.AttachedOutcome.TheVariants as outcomes
+use Rattle.gt_attached.specs.declared.answer.AttachedOutcome.TheVariants as outcomes
 
 -- the handle was not taken, stays as it was, and the answer says why: it has no domain, or one that is in a copy
 abbrev pub TurnedAway : Option CDomain → Option CDomain → EncodedAnswer → Type 0

@@ -4,9 +4,9 @@ use base.Fml.{Fml, ftrue, ffalse}
 use base.Fraction.{full_share}
 use denote.RattleType.{RattleType}
 use denote.RawPtr.{Ptr, null_ptr, block_ptr, lies_at}
-use Rattle.gt_seat.specs.Encoding.{encoded}
-use Rattle.gt_seat.specs.declared.answer.EncodedAnswer.{EncodedAnswer}
-use Rattle.gt_seat.specs.declared.answer.AttachedOutcome.TheVariants as outcomes
+use Rattle.gt_attached.specs.Encoding.{encoded}
+use Rattle.gt_attached.specs.declared.answer.EncodedAnswer.{EncodedAnswer}
+use Rattle.gt_attached.specs.declared.answer.AttachedOutcome.TheVariants as outcomes
 use Rattle.gt_c.specs.declared.handle.DomainHandle.{DomainHandle}
 use Rattle.gt_c.specs.declared.here.CDomain.{CDomain}
 

@@ -1,9 +1,9 @@
 -- The names of other crates, and of the code, that the definitions here speak of.
 pub use Rattle.gt_allow.specs.Looking.{Table}
-pub use Rattle.gt_begin.specs.Beginning.{Begins, IsFaultOf, may}
-pub use Rattle.gt_begin.specs.Faults.{no_fault, wrong_handles}
-pub use Rattle.gt_begin.specs.declared.faults.EncodedFault.{EncodedFault}
-pub use Rattle.gt_begin.specs.declared.settings.DomainSettings.{DomainSettings}
+pub use Rattle.gt_start.specs.Beginning.{Begins, IsFaultOf, may}
+pub use Rattle.gt_start.specs.Faults.{no_fault, wrong_handles}
+pub use Rattle.gt_start.specs.declared.faults.EncodedFault.{EncodedFault}
+pub use Rattle.gt_start.specs.declared.settings.DomainSettings.{DomainSettings}
 pub use Rattle.gt_audit.specs.Telling.{HasNone, Tells}
 pub use Rattle.gt_audit.specs.declared.record.Hypercall.{Hypercall}
 pub use Rattle.gt_audit.specs.declared.record.Record.{EncodedRecord as Kept}
@@ -31,15 +31,15 @@ pub use Rattle.gt_live.specs.Domains.{mapping_reply, subject_of, told_of}
 pub use Rattle.gt_live.specs.Domains.{verdict_of}
 pub use Rattle.gt_live.specs.Mappings.{Removes}
 pub use Rattle.gt_live.specs.declared.domain.Domain.{Domain}
-pub use Rattle.gt_seat.specs.Encoding.{encoded}
-pub use Rattle.gt_seat.specs.Recording.{no_end, record_kept}
-pub use Rattle.gt_seat.specs.Seated.{BeginsAccess, EndsAccess, Leaves, Seated, StaysIdle, taken_of}
-pub use Rattle.gt_seat.specs.declared.answer.EncodedAnswer.{EncodedAnswer}
-pub use Rattle.gt_seat.specs.declared.answer.AttachedOutcome.{AttachedOutcome}
-pub use Rattle.gt_seat.specs.declared.answer.Departure.{Departure}
-pub use Rattle.gt_seat.specs.declared.guest.CopyPlaces.{CopyPlaces}
-pub use Rattle.gt_seat.specs.declared.record.CopyEnd.{CopyEnd}
-pub use Rattle.gt_seat.specs.declared.record.EncodedRecord.{EncodedRecord}
+pub use Rattle.gt_attached.specs.Encoding.{encoded}
+pub use Rattle.gt_attached.specs.Recording.{no_end, record_kept}
+pub use Rattle.gt_attached.specs.Seated.{BeginsAccess, EndsAccess, Leaves, Seated, StaysIdle, taken_of}
+pub use Rattle.gt_attached.specs.declared.answer.EncodedAnswer.{EncodedAnswer}
+pub use Rattle.gt_attached.specs.declared.answer.AttachedOutcome.{AttachedOutcome}
+pub use Rattle.gt_attached.specs.declared.answer.Departure.{Departure}
+pub use Rattle.gt_attached.specs.declared.guest.CopyPlaces.{CopyPlaces}
+pub use Rattle.gt_attached.specs.declared.record.CopyEnd.{CopyEnd}
+pub use Rattle.gt_attached.specs.declared.record.EncodedRecord.{EncodedRecord}
 pub use Rattle.gt_types.specs.declared.Dir.{Dir}
 pub use Rattle.gt_types.specs.declared.Dir.TheVariants.{Read, Write}
 pub use Rattle.gt_types.specs.declared.DomId.{DomId}

@@ -3,7 +3,7 @@ use Rattle.std.specs.Prelude.{◌≡◌, ◌≢◌, ◌⊎◌, ℕ, true, List, 
 use Rattle.std.specs.List.{list_any}
 use Rattle.gt_c.specs.Prelude.{Begins, DomainSettings, EncodedFault, DomainHandle, CDomain, IsFaultOf, Seated, Table}
 use Rattle.gt_c.specs.Prelude.{no_fault, wrong_handles}
-use Rattle.gt_begin.specs.Beginning.{IsNameFault}
+use Rattle.gt_start.specs.Beginning.{IsNameFault}
 use Rattle.gt_policy.specs.Allowing.{Meaning, type_named}
 use Rattle.gt_policy.specs.Whole.{Says}
 use Rattle.gt_c.specs.declared.beginning.TypeReport.{TypeReport}

@@ -5,7 +5,7 @@ use Rattle.gt_c.specs.Prelude.{value_of, encoded, no_end, record_kept, BeginsAcc
 use Rattle.gt_c.specs.Prelude.{CopyPlaces, CopyEnd, may, Control, EntryKind, EntryStatus, GrantRef, LooksAtOwn, StaysIdle}
 use Rattle.gt_entry.specs.declared.control.EntryKind.TheVariants.{Invalid, Page, Sub, Via}
 use Rattle.gt_c.specs.Prelude.{EncodedRecord, CopySettings, PlaceReport, PlacesReport, MappedFrame, CDomain}
-use Rattle.gt_seat.specs.declared.answer.AttachedOutcome.TheVariants as outcomes
+use Rattle.gt_attached.specs.declared.answer.AttachedOutcome.TheVariants as outcomes
 use Rattle.gt_c.specs.declared.copies.BegunReport.{BegunReport}
 use Rattle.gt_c.specs.declared.telling.EntryReport.{EntryReport}
 use Rattle.gt_c.specs.declared.telling.MappingReport.{MappingReport}

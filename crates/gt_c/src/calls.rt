@@ -1,7 +1,7 @@
 //! The calls of a domain on the entries of its table, and on those of others.
 ghost use Rattle.std.specs.Prelude.{◌≡◌, IfOk, IfErr};
-ghost use Rattle.gt_seat.specs.Encoding.{encoded};
-ghost use Rattle.gt_seat.specs.declared.answer.AttachedOutcome.TheVariants as outcomes;
+ghost use Rattle.gt_attached.specs.Encoding.{encoded};
+ghost use Rattle.gt_attached.specs.declared.answer.AttachedOutcome.TheVariants as outcomes;
 ghost use Rattle.gt_c.specs.Asking.{handle_named, page, spelled, sub, via};
 ghost use Rattle.gt_c.specs.Calling.{Enters, TurnedAway, outcome, outcome_frames, outcome_mapped, outcome_size};
 ghost use Rattle.gt_c.specs.Calling.{outcome_version};
@@ -13,7 +13,7 @@ use crate::handle::DomainHandle;
 use crate::here::CDomain;
 use gt_calls::Handle as Name;
 use gt_entry::Entry;
-use gt_seat::{EncodedAnswer, MappingName as Named, AttachedOutcome};
+use gt_attached::{EncodedAnswer, MappingName as Named, AttachedOutcome};
 use gt_types::{Denial, DomId, GrantRef, Size};
 use std::alloc::Global;
 

@@ -7,7 +7,7 @@ ghost use Rattle.gt_c.specs.Telling.{place_report, places_report};
 use crate::calls::{enter, nowhere};
 use crate::handle::DomainHandle;
 use gt_calls::{CopyArgs, End, Spot};
-use gt_seat::{EncodedAnswer, CopyEnd, AttachedOutcome, CopyPlaces};
+use gt_attached::{EncodedAnswer, CopyEnd, AttachedOutcome, CopyPlaces};
 use gt_types::{Denial, DomId};
 use std::alloc::Global;
 

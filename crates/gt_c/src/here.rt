@@ -1,7 +1,7 @@
 //! A domain of this run, as a handle stands for it.
 
 use gt_allow::AllowTable;
-use gt_seat::AttachedDomain;
+use gt_attached::AttachedDomain;
 
 /// A domain under the rights of a compiled policy, and the number that its run was given.
 #[derive(Drop)]

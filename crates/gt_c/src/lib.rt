@@ -1,7 +1,7 @@
 //! The running monitor for a program in C: one export for each call of a domain that waits for nobody.
 //!
 //! `include/gthost.h` declares all of it. A [`DomainHandle`] stands for a domain, or for none if it is all zeros. A call
-//! takes the domain out of its handle, makes the call of `gt_seat` on it, puts it back, and writes an `Answer`. It
+//! takes the domain out of its handle, makes the call of `gt_attached` on it, puts it back, and writes an `Answer`. It
 //! takes no memory for that.
 //!
 //! What holds: every call is safe and ends. Each makes just the call of its name, with its own arguments, on its
@@ -9,7 +9,7 @@
 //! copy, and the answer says so. A copy that began holds its pins until it ends. C owes only what the types say:
 //! pointers are valid, a handle is zeros or what `gthost_start` wrote, and is in one call at a time.
 //!
-//! It uses `gt_seat`, `gt_allow` and `gt_policy` (rights), `gt_audit` (records), `gt_calls`, `gt_entry`, `gt_handles`
+//! It uses `gt_attached`, `gt_allow` and `gt_policy` (rights), `gt_audit` (records), `gt_calls`, `gt_entry`, `gt_handles`
 //! and `gt_types`.
 #![tactic(auto)]
 

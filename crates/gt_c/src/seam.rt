@@ -25,7 +25,7 @@ use crate::telling::{
     EntryReport, MappingReport, RecordReport, entry_nowhere, entry_on, keep_at_most_on, mapping_nowhere,
     mapping_on, record_nowhere, record_on, reserve_records_on, take_records_on,
 };
-use gt_seat::EncodedAnswer;
+use gt_attached::EncodedAnswer;
 use std::alloc::Global;
 use std::ptr;
 

@@ -10,7 +10,7 @@ use crate::calls::{MapHandle, enter, handle_named, nowhere};
 use crate::handle::DomainHandle;
 use gt_calls::HeldPin;
 use gt_entry::{Control, EntryKind};
-use gt_seat::{EncodedAnswer, CopyEnd, AttachedOutcome, EncodedRecord};
+use gt_attached::{EncodedAnswer, CopyEnd, AttachedOutcome, EncodedRecord};
 use gt_types::{Dir, GrantRef, Memory};
 use std::alloc::Global;
 

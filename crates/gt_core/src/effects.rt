@@ -6,7 +6,7 @@ ghost use Rattle.gt_core.specs.Effects.{with_slot, applied, without_holder, with
 use crate::pin_counts::CountsChange;
 use crate::state::{DomainState, find};
 use gt_calls::{EntryChange, PinHolder, Observation, Step};
-use gt_positions::Roster;
+use gt_roster::Roster;
 use gt_types::{DomId, GrantRef};
 
 fn change_slot(

@@ -3,7 +3,7 @@ ghost use Rattle.gt_core.specs.States.{IsPlaced};
 
 use crate::state::DomainState;
 use gt_frames::Frames;
-use gt_positions::Roster;
+use gt_roster::Roster;
 use std::alloc::Global;
 
 /// The domains and frames of a run, under its configuration and policy.

@@ -11,7 +11,7 @@
 //! the rules and paths of calls, which `gt_calls` judges. `specs/Standing.antt` says when a core stands
 //! for a history.
 //!
-//! It uses `gt_calls`, `gt_entry`, `gt_frames`, `gt_handles`, `gt_positions` and `gt_types`.
+//! It uses `gt_calls`, `gt_entry`, `gt_frames`, `gt_handles`, `gt_roster` and `gt_types`.
 #![tactic(auto)]
 
 mod accesses;

@@ -32,7 +32,7 @@ use crate::trace::{Answer, Bytes};
 use crate::underway::OpenCall;
 use gt_calls::{Action, Call, CallerState, Request, Observation, CallStart, Step, CallValue, CallResult, asked_fits};
 use gt_frames::{FrameName, Frames};
-use gt_positions::Roster;
+use gt_roster::Roster;
 use gt_types::{Allows, Config, DomId, GrantRef, Memory, StartFault};
 use std::alloc::Global;
 

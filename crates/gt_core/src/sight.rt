@@ -8,7 +8,7 @@ use crate::pin_counts::PinCounts;
 use crate::state::{DomainState, find};
 use gt_calls::{BodyWord, OwnerEntry, Observation, Step, own_at};
 use gt_entry::Control;
-use gt_positions::Roster;
+use gt_roster::Roster;
 use gt_types::{DomId, GrantRef};
 
 fn slot_at(slots: &[PinCounts], gref: GrantRef) -> PinCounts

@@ -10,7 +10,7 @@ use gt_calls::{OpenRequest, Call, EntryChange, ENTRIES, HeldPin, PinHolder, Owne
 use gt_entry::Header;
 use gt_frames::{WriteBasis, Writ};
 use gt_handles::{Handle, Handles};
-use gt_positions::Roster;
+use gt_roster::Roster;
 use gt_types::{DomId, DomainConfig, GrantRef, LAST_GENERATION, Memory};
 use std::alloc::Global;
 use std::marker::Model;

@@ -7,7 +7,7 @@ use Rattle.std.proofs.lemmas.List.Elements.{All-take}
 use Rattle.std.proofs.lemmas.List.{map-append, take_all, take_more}
 use Rattle.std.proofs.lemmas.Option.{none-some, same_Some}
 use Rattle.std.specs.List.{insert}
-use Rattle.gt_ways.specs.declared.exploring.FoundText.{FoundText}
+use Rattle.gt_explore_search.specs.declared.exploring.FoundText.{FoundText}
 use Rattle.gt_explore.specs.Adding.{AddsOrder, AreDifferentTexts, IsAdded, IsTextAmong, IsApart, texts_of_orders}
 
 pub all_added : {X : Type 0} (P : X → Type 0) (old : List X) (x : X) (new : List X) → All P old → P x → IsAdded old x new → All P new

@@ -14,7 +14,7 @@ use lib.Pointwise.{pointwise}
 use Rattle.gt_host.specs.Playing.{Played}
 use Rattle.gt_script.specs.Script.{TellsScript}
 use Rattle.gt_types.specs.declared.config.DomainConfig.{DomainConfig}
-use Rattle.gt_ways.specs.declared.exploring.FoundText.{FoundText}
+use Rattle.gt_explore_search.specs.declared.exploring.FoundText.{FoundText}
 use Rattle.gt_explore.specs.Adding.{texts_of_orders}
 use Rattle.gt_explore.specs.Witness.{GivesAnswers, IsWitness, SameAnswers, without_number}
 

@@ -13,7 +13,7 @@ use Rattle.gt_streams.specs.Laws.{keeps_same, of_any_input}
 use Rattle.gt_streams.specs.Streams.{OfInput}
 use Rattle.gt_streams.specs.declared.fault.ReadFault.{ReadFault}
 use Rattle.gt_streams.specs.declared.fault.ReadFault.TheVariants as reads
-use Rattle.gt_ways.specs.declared.exploring.FoundText.{FoundText}
+use Rattle.gt_explore_search.specs.declared.exploring.FoundText.{FoundText}
 use Rattle.gt_explore.specs.Adding.{texts_of_orders}
 use Rattle.gt_explore.specs.Exploring.{AreTextsOf, Explored, Explores, IsMadeBy}
 use Rattle.gt_explore.specs.Telling.{is_wanted, texts_told as told_of}

@@ -1,7 +1,7 @@
 -- A list of orders whose texts all differ, with one more in it.
 use Rattle.std.specs.Prelude.{◌≡◌, ◌≢◌, ◌⊎◌, ℕ, List, [], ◌∷◌, All, map, Some, slice_get}
 use Rattle.std.specs.List.{insert}
-use Rattle.gt_ways.specs.declared.exploring.FoundText.{FoundText}
+use Rattle.gt_explore_search.specs.declared.exploring.FoundText.{FoundText}
 
 -- x was added somewhere, or not at all
 abbrev pub IsAdded : {X : Type 0} → List X → X → List X → Type 0

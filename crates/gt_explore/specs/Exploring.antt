@@ -8,7 +8,7 @@ use Rattle.gt_script.specs.RunContents.{RunContents}
 use Rattle.gt_script.specs.Script.{Wrong, in_script, in_policy}
 use Rattle.gt_streams.specs.Streams.{AppendsBeginning}
 use Rattle.gt_host.specs.declared.fault.PlayFault.TheVariants.{Memory, Read, Write, Script, Policy}
-use Rattle.gt_replay.specs.Orders.{MayGive}
+use Rattle.gt_explore_replay.specs.Orders.{MayGive}
 use Rattle.gt_explore.specs.Adding.{AreDifferentTexts, IsTextAmong}
 use Rattle.gt_explore.specs.Telling.{is_wanted, texts_told}
 use Rattle.gt_explore.specs.Witness.{IsWitness}

@@ -20,7 +20,7 @@ use crate::witness::push_witness;
 use gt_host::PlayFault;
 use gt_script::{RunScript, parse_run};
 use gt_streams::{read_text, text_of, write_text};
-use gt_ways::FoundText;
+use gt_explore_search::FoundText;
 use std::alloc::Global;
 use std::io::{Read, Write};
 

@@ -1,10 +1,10 @@
 //! The texts that a script for `run` may give, over all orders of its domains' moves.
 //!
-//! `texts_of` searches for orders (`gt_search`) and replays each of them on the core (`gt_replay`). `explore` reads a
+//! `texts_of` searches for orders (`gt_explore_moves`) and replays each of them on the core (`gt_explore_replay`). `explore` reads a
 //! script and writes these texts, each with its number, or the lines of a script for `play` that gives one of them.
 //!
 //! What holds: the texts that are answered or written are just those that the script may give (`MayGive` of
-//! `gt_replay`): each of them, all of them, and each once. A script for `play` that is written gives the answers of its
+//! `gt_explore_replay`): each of them, all of them, and each once. A script for `play` that is written gives the answers of its
 //! text: it was played before, and they were compared.
 #![tactic(auto)]
 

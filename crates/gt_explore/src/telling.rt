@@ -6,10 +6,10 @@ ghost use Rattle.gt_explore.specs.Telling.{has_word, heading, is_between, is_wan
 ghost use Rattle.gt_explore.specs.Telling.{texts_told};
 ghost use Rattle.gt_explore.specs.Adding.{texts_of_orders};
 
-use gt_lines::is_word;
+use gt_script_lines::is_word;
 use gt_streams::push_text;
 use gt_texts::push_number;
-use gt_ways::FoundText;
+use gt_explore_search::FoundText;
 use std::alloc::AllocError;
 
 fn is_between(byte: u8) -> bool

@@ -5,15 +5,15 @@ ghost use Rattle.gt_script.specs.Contents.{contents_told};
 ghost use Rattle.gt_script.specs.RunContents.{run_told};
 ghost use Rattle.gt_script.specs.RunScripts.{CanConfigure};
 ghost use Rattle.gt_script.specs.Stuck.{AreNumbered};
-ghost use Rattle.gt_replay.specs.Orders.{MayGive};
-ghost use Rattle.gt_ways.specs.declared.exploring.FoundText.{FoundText};
+ghost use Rattle.gt_explore_replay.specs.Orders.{MayGive};
+ghost use Rattle.gt_explore_search.specs.declared.exploring.FoundText.{FoundText};
 ghost use Rattle.gt_explore.specs.Adding.{AddsOrder, AreDifferentTexts, IsTextAmong, IsApart, texts_of_orders};
 
 use crate::fault::TextsFault;
-use gt_replay::text_of;
+use gt_explore_replay::text_of;
 use gt_script::RunScript;
-use gt_search::search;
-use gt_ways::FoundText;
+use gt_explore_moves::search;
+use gt_explore_search::FoundText;
 use std::alloc::{AllocError, Global};
 
 /// Texts that a script may give, each with turns that lead to it, in the order of their bytes; and how many states the

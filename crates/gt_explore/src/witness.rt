@@ -3,8 +3,8 @@ ghost use Rattle.gt_script.specs.Contents.{contents_told};
 ghost use Rattle.gt_script.specs.RunScripts.{CanConfigure};
 
 use crate::fault::TextsFault;
-use gt_lines::{line_words, text_lines};
-use gt_replay::{Replay, Turn, Walker};
+use gt_script_lines::{line_words, text_lines};
+use gt_explore_replay::{Replay, Turn, Walker};
 use gt_script::{RunAction, RunScript, RunTask};
 use gt_streams::push_text;
 use gt_texts::push_number;

@@ -8,9 +8,9 @@ use Rattle.std.proofs.lemmas.Option.{none-some, same_Some}
 use Rattle.std.proofs.lemmas.List.{append-nil, length-replicate}
 use Rattle.gt_types.specs.declared.DomId.{DomId}
 use Rattle.gt_types.specs.declared.GrantRef.{GrantRef}
-use Rattle.gt_lines.specs.declared.calls.ScriptCall.{ScriptCall}
-use Rattle.gt_lines.specs.declared.calls.ScriptAction.{ScriptAction}
-use Rattle.gt_lines.specs.declared.calls.ScriptAction.TheVariants as actions
+use Rattle.gt_script_lines.specs.declared.calls.ScriptCall.{ScriptCall}
+use Rattle.gt_script_lines.specs.declared.calls.ScriptAction.{ScriptAction}
+use Rattle.gt_script_lines.specs.declared.calls.ScriptAction.TheVariants as actions
 use Rattle.gt_script.specs.Contents.{Contents, type_names}
 use Rattle.gt_script.specs.Script.{TellsScript, Wrong}
 use Rattle.gt_script.specs.declared.script.ScriptStep.{ScriptStep}

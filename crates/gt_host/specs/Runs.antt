@@ -4,8 +4,8 @@ use Rattle.std.specs.Prelude.{Some, None, unwrap_or, is_some, if◌then◌else�
 use Rattle.gt_host.specs.Prelude.{Bor, bytes_eq, DomId, GrantRef, DomainConfig, hex_bytes, ScriptCall, ScriptAction}
 use Rattle.gt_host.specs.Prelude.{ScriptStep, Handle, Request, Answer, Mapped, Event, Begin, Tick, Item, Element}
 use Rattle.gt_host.specs.Prelude.{History, Setting, open_call, history_after, shown_at, LineOutcome, Answered, Busy}
-use Rattle.gt_lines.specs.declared.calls.ScriptCall.TheVariants as calls
-use Rattle.gt_lines.specs.declared.calls.ScriptAction.TheVariants as actions
+use Rattle.gt_script_lines.specs.declared.calls.ScriptCall.TheVariants as calls
+use Rattle.gt_script_lines.specs.declared.calls.ScriptAction.TheVariants as actions
 use Rattle.gt_calls.specs.declared.request.Request.TheVariants as requests
 use Rattle.gt_core.specs.declared.trace.Element.TheVariants as elements
 use Rattle.gt_host.specs.Printing.{answer_line, busy_line, idle_line, open_line}

@@ -6,7 +6,7 @@ ghost use Rattle.gt_host.specs.Recording.{IsAbout};
 
 use gt_audit::{Hypercall, Record, Reply, push_line};
 use gt_core::{Answer, Core, Request};
-use gt_lines::Text;
+use gt_script_lines::Text;
 use gt_types::{Allows, DomId};
 use std::alloc::{AllocError, Global};
 

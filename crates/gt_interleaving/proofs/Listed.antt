@@ -41,8 +41,8 @@ use Rattle.gt_order.specs.Leaving.{MayUnmapAll}
 use Rattle.gt_order.specs.Runs.{AreCalls, CallMade, FitsTypes, IsAtRest, IsMonitorRun, IsSeatRun, KeepsNoPin}
 use Rattle.gt_order.specs.Runs.{CallOutcome, SeatRun, domain_after}
 use Rattle.gt_order.specs.Runs.CallOutcome.{Told, Kept, Starved, Wrote}
-use Rattle.gt_lines.specs.declared.calls.ScriptCall.{ScriptCall}
-use Rattle.gt_lines.specs.declared.calls.ScriptCall.TheVariants as calls
+use Rattle.gt_script_lines.specs.declared.calls.ScriptCall.{ScriptCall}
+use Rattle.gt_script_lines.specs.declared.calls.ScriptCall.TheVariants as calls
 use Rattle.gt_host.specs.Runs.{SaysRequest, Named, request_of}
 use Rattle.gt_script.specs.Lists.{RunAction, RunTask}
 use Rattle.gt_script.specs.declared.tasks.RunActionBy.TheVariants.{Await, Do, Tell}

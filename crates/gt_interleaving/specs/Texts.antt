@@ -8,7 +8,7 @@ use Rattle.gt_interleaving.specs.Prelude.{FitsTypes, CallOutcome, SeatRun, Told,
 use Rattle.gt_interleaving.specs.Prelude.{SaysRequest, Named, Do, RunTask, ThreadJob, Served, IsServed, MakesCall, ListOutcome}
 use Rattle.gt_interleaving.specs.Prelude.{ListProgress}
 use Rattle.gt_core.specs.declared.trace.Answer.TheVariants as answers
-use Rattle.gt_lines.specs.declared.calls.ScriptCall.TheVariants as calls
+use Rattle.gt_script_lines.specs.declared.calls.ScriptCall.TheVariants as calls
 
 -- the line asks for no read of bytes and for no copy
 abbrev pub ReadsNoBytes : ScriptCall → Type 0

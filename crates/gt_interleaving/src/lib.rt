@@ -9,7 +9,7 @@
 //! answer that its call has there ([`every_text_is_of_a_legal_order`]).
 //!
 //! It uses `gt_run`, `gt_order`, `gt_live`, `gt_core`, `gt_calls`, `gt_words`, `gt_frames`, `gt_host`, `gt_script`,
-//! `gt_lines`, `gt_handles`, `gt_types` and the kit's `atomic_table`.
+//! `gt_script_lines`, `gt_handles`, `gt_types` and the kit's `atomic_table`.
 #![tactic(auto)]
 
 mod laws;

@@ -10,7 +10,7 @@
 //! is the receipt of just what its path accesses (`specs/Accesses.antt`).
 //!
 //! It uses `gt_calls`, `gt_words`, `gt_access`, `gt_frames`, `gt_handles`, `gt_audit`, `gt_entry`,
-//! `gt_positions` and `gt_types`.
+//! `gt_roster` and `gt_types`.
 #![tactic(auto)]
 
 mod domain;

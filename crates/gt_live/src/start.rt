@@ -10,7 +10,7 @@ use crate::monitor::Monitor;
 use gt_audit::Trail;
 use gt_calls::{ENTRIES, Handles, OwnerEntry};
 use gt_frames::{Pool, FrameAccesses};
-use gt_positions::Roster;
+use gt_roster::Roster;
 use gt_types::{Allows, Config, StartFault};
 use gt_words::{Seat, Words};
 use std::alloc::{AllocError, Global};

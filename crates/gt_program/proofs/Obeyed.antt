@@ -13,15 +13,15 @@ use Rattle.clap.specs.declared.error.kind.ErrorKind.TheVariants.{ArgumentConflic
 use Rattle.clap.specs.declared.error.kind.ErrorKind.TheVariants.{OutOfMemory, InvalidSubcommand, InvalidValue}
 use Rattle.clap.specs.declared.error.kind.ErrorKind.TheVariants.{MissingRequiredArgument, MissingSubcommand}
 use Rattle.clap.specs.declared.error.kind.ErrorKind.TheVariants.{TooManyValues, UnknownArgument}
-use Rattle.gt_advice.specs.declared.asking.WhyQuestion.{WhyQuestion}
+use Rattle.gt_policy_check.specs.declared.asking.WhyQuestion.{WhyQuestion}
 use Rattle.gt_commands.specs.Commands.{Request, to_play, to_run, to_explore, to_list, to_tell_rules, to_check}
 use Rattle.gt_commands.specs.Commands.{to_explain}
 use Rattle.gt_commands.specs.Commands.{to_tell_entries, for_help, for_version, nothing, asked_by_plan, refusals}
 use Rattle.gt_commands.specs.Commands.{request_in_words}
 use Rattle.gt_commands.specs.declared.invocation.Invocation.{Invocation}
-use Rattle.gt_dump.specs.declared.asked.DumpOptions.{DumpOptions}
+use Rattle.gt_entries.specs.declared.asked.DumpOptions.{DumpOptions}
 use Rattle.gt_commands.specs.declared.invocation.Format.{Format}
-use Rattle.gt_listing.specs.declared.fault.ListingFault.{ListingFault}
+use Rattle.gt_policy_list.specs.declared.fault.ListingFault.{ListingFault}
 use Rattle.gt_as_json.specs.AsJson.{Promise}
 use Rattle.gt_program.specs.Formats.{CheckedAs, RanAs}
 use Rattle.gt_run.specs.declared.fault.RunFault.{RunFault}

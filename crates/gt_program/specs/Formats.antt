@@ -2,16 +2,16 @@
 use Rattle.std.specs.Prelude.{◌≡◌, ◌⊎◌, ℕ, Bool, true, false, List, Option, Result, Ok, Err}
 use Rattle.std.specs.Io.KnownBytes.{Appends, Keeps}
 use Rattle.gt_program.specs.Prelude.{DumpOptions, Format, RunTells}
-use Rattle.gt_advising.specs.Checking.{Checked}
-use Rattle.gt_advising.specs.Scripts.{CheckedScript}
+use Rattle.gt_checks.specs.Checking.{Checked}
+use Rattle.gt_checks.specs.Scripts.{CheckedScript}
 use Rattle.gt_as_json.specs.AsJson.{Promise, ListedAsJson, PlayedAsJson, RanAsJson, ToldAsJson}
 use Rattle.gt_commands.specs.declared.invocation.Format.TheVariants.{Text, Json}
-use Rattle.gt_dump.specs.Dumps.{Told}
-use Rattle.gt_dump.specs.declared.fault.DumpFault.{DumpFault}
+use Rattle.gt_entries.specs.Dumps.{Told}
+use Rattle.gt_entries.specs.declared.fault.DumpFault.{DumpFault}
 use Rattle.gt_host.specs.Playing.{Played}
 use Rattle.gt_host.specs.declared.fault.PlayFault.{PlayFault}
-use Rattle.gt_listing.specs.Writing.{Listed}
-use Rattle.gt_listing.specs.declared.fault.ListingFault.{ListingFault}
+use Rattle.gt_policy_list.specs.Writing.{Listed}
+use Rattle.gt_policy_list.specs.declared.fault.ListingFault.{ListingFault}
 use Rattle.gt_run.specs.Runs.{Ran}
 use Rattle.gt_run.specs.declared.fault.RunFault.{RunFault}
 use Rattle.gt_script.specs.Script.{TellsScript}

@@ -2,11 +2,11 @@
 ghost use Rattle.std.specs.Prelude.{◌≡◌};
 ghost use Rattle.gt_program.specs.Obeying.{exit_status_of};
 
-use gt_advising::WhyFault;
-use gt_dump::DumpFault;
+use gt_checks::WhyFault;
+use gt_entries::DumpFault;
 use gt_explore::ExploreFault;
 use gt_host::PlayFault;
-use gt_listing::ListingFault;
+use gt_policy_list::ListingFault;
 use gt_run::RunFault;
 use gt_streams::{ReadFault, WriteFault};
 use std::error::Error;

@@ -3,13 +3,13 @@ ghost use Rattle.std.specs.Prelude.{is_some};
 ghost use Rattle.gt_streams.specs.Streams.{OfInput};
 ghost use Rattle.gt_program.specs.Formats.{CheckedAs, ListedAs, PlayedAs, RanAs, ToldAs};
 
-use gt_advising::{check, check_script};
+use gt_checks::{check, check_script};
 use gt_as_json::{entries_json, play_json, policy_json, run_json};
 use gt_audit::SharedLog;
 use gt_commands::Format;
-use gt_dump::{DumpOptions, DumpFault, entries};
+use gt_entries::{DumpOptions, DumpFault, entries};
 use gt_host::{PlayFault, play};
-use gt_listing::{ListingFault, policy};
+use gt_policy_list::{ListingFault, policy};
 use gt_run::{Gate, RunFault, run};
 use std::alloc::Global;
 use std::io::{Read, Write};

@@ -3,7 +3,7 @@ use Rattle.std.proofs.Common.{◌≡◌, ◌<◌, ◌≤◌, ℕ, zero, suc, ◌
 use Rattle.std.proofs.Common.{drop, refl, ap, ◌∙◌, arith}
 use Rattle.std.specs.Prelude.{is_some}
 use Rattle.std.proofs.lemmas.List.{map-append}
-use Rattle.gt_lines.specs.Lines.{line_of}
+use Rattle.gt_script_lines.specs.Lines.{line_of}
 use Rattle.gt_reasons.specs.Fitting.{fits, IsFitting, IsMisfit}
 
 -- of an example without words none fits

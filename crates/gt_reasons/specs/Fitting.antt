@@ -1,6 +1,6 @@
 -- How far the words of a line fit an example.
 use Rattle.std.specs.Prelude.{◌≡◌, ◌<◌, ◌≤◌, ℕ, ◌+◌, Bool, true, false, List, ◌++◌, length, take, drop, is_some}
-use Rattle.gt_lines.specs.Lines.{line_of}
+use Rattle.gt_script_lines.specs.Lines.{line_of}
 
 -- a line can be read that begins with so many of the words, and goes on as the example does
 abbrev pub fits : List (List ℕ) → List (List ℕ) → ℕ → Bool

@@ -1,5 +1,5 @@
 //! The policy block of a script.
-use gt_lines::{is_word, line_words};
+use gt_script_lines::{is_word, line_words};
 use std::alloc::{AllocError, Global};
 
 fn is_just(words: &[&[u8]], word: &str) -> bool {

@@ -8,7 +8,7 @@
 //! What holds: the word told is a word of the line, and the first one that does not fit: up to it the
 //! line goes on as a line that can be read does, with it it can't. Texts beside that are tested.
 //!
-//! It uses `gt_lines` and `gt_script` (what lines say, and faults), `gt_advice` and `gt_policy` (policies),
+//! It uses `gt_script_lines` and `gt_script` (what lines say, and faults), `gt_policy_check` and `gt_policy` (policies),
 //! `gt_types` (limits), `gt_streams` and `gt_texts` (texts).
 #![tactic(auto)]
 

@@ -2,7 +2,7 @@
 ghost use Rattle.std.specs.Prelude.{◌≡◌, ◌≤◌, IfOk, length, map};
 ghost use Rattle.gt_reasons.specs.Fitting.{fits, IsFitting};
 
-use gt_lines::read_line;
+use gt_script_lines::read_line;
 use std::alloc::{AllocError, Global};
 
 // Whether a line can be read that begins with so many of these words, and goes on as the example does.

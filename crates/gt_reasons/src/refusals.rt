@@ -1,8 +1,8 @@
 //! The rules that come near a call that the policy refused.
 use crate::blocks::block_text;
 use crate::texts::push_word;
-use gt_advice::{WhyQuestion, why};
-use gt_lines::{ScriptLine, line_words, read_line, text_lines};
+use gt_policy_check::{WhyQuestion, why};
+use gt_script_lines::{ScriptLine, line_words, read_line, text_lines};
 use gt_policy::PolicyFaultKind;
 use gt_streams::text_of;
 use gt_texts::{push_number, push_text};

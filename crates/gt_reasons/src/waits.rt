@@ -2,8 +2,8 @@
 use crate::columns::column_of;
 use crate::reason::{ReasonNote, Reason};
 use crate::texts::push_word;
-use gt_advice::push_hint;
-use gt_lines::{is_word, line_words};
+use gt_policy_check::push_hint;
+use gt_script_lines::{is_word, line_words};
 use gt_streams::text_of;
 use gt_texts::{push_number, push_text};
 use std::alloc::{AllocError, Global};

@@ -16,7 +16,7 @@ use Rattle.gt_core.specs.declared.trace.Answer.{Answer}
 use Rattle.gt_host.specs.Printing.{answer_line}
 use Rattle.gt_host.specs.Runs.{handle_given, label_given, with_name}
 use Rattle.gt_host.specs.declared.labels.Labels.{Labels}
-use Rattle.gt_lines.specs.declared.calls.ScriptCall.{ScriptCall}
+use Rattle.gt_script_lines.specs.declared.calls.ScriptCall.{ScriptCall}
 use Rattle.gt_live.specs.Domains.{AllowRelation}
 use Rattle.gt_live.specs.declared.domain.Domain.{Domain}
 use Rattle.gt_live.specs.declared.monitor.Monitor.{Monitor}

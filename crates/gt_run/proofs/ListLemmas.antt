@@ -11,7 +11,7 @@ use Rattle.std.proofs.lemmas.Option.{slice_get_read}
 use Rattle.gt_audit.specs.Telling.{Telling, nothing_told, silent}
 use Rattle.gt_types.specs.declared.DomId.{DomId}
 use Rattle.gt_host.specs.declared.labels.Labels.{Labels}
-use Rattle.gt_lines.specs.declared.calls.ScriptCall.{ScriptCall}
+use Rattle.gt_script_lines.specs.declared.calls.ScriptCall.{ScriptCall}
 use Rattle.gt_live.specs.Domains.{AllowRelation}
 use Rattle.gt_live.specs.declared.domain.Domain.{Domain}
 use Rattle.gt_script.specs.Lists.{RunAction, RunTask}

@@ -17,7 +17,7 @@ pub use Rattle.gt_host.specs.Naming.{AreNamed}
 pub use Rattle.gt_host.specs.Printing.{answer_line, call_text}
 pub use Rattle.gt_host.specs.Runs.{SaysRequest, Named, handle_given, label_given, with_name}
 pub use Rattle.gt_host.specs.declared.labels.Labels.{Labels}
-pub use Rattle.gt_lines.specs.declared.calls.ScriptCall.{ScriptCall}
+pub use Rattle.gt_script_lines.specs.declared.calls.ScriptCall.{ScriptCall}
 pub use Rattle.gt_live.specs.Accesses.{IsCopiedBy, IsReadBy, IsWrittenBy}
 pub use Rattle.gt_live.specs.Domains.{Accesses, AllowRelation, Answered, BelongsTo, KeepsPinned, MapAnswered}
 pub use Rattle.gt_live.specs.Domains.{mapping_reply}

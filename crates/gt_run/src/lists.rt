@@ -2,7 +2,7 @@
 use crate::gate::Gate;
 use crate::serving::Output;
 use gt_audit::SharedLog;
-use gt_lines::Text;
+use gt_script_lines::Text;
 use gt_live::Monitor;
 use gt_script::RunTask;
 use gt_types::{Allows, DomId};

@@ -13,7 +13,7 @@ use crate::lists::{DomainPart, RunContext};
 use crate::threads::run_lists;
 use gt_audit::SharedLog;
 use gt_host::{PlayFault, ScriptPolicy};
-use gt_lines::Text;
+use gt_script_lines::Text;
 use gt_script::{RunScript, RunTask, parse_run};
 use gt_streams::read_text;
 use gt_types::{Config, DomainConfig};

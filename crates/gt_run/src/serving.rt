@@ -9,7 +9,7 @@ use crate::running::RunningDomain;
 use crate::telling::{TrailLogger, tell_next, teller_for};
 use gt_core::Answer;
 use gt_host::{Labels, call_bytes, label_given, name_mapping, push_answer_line, request_of};
-use gt_lines::ScriptCall;
+use gt_script_lines::ScriptCall;
 use gt_script::RunAction;
 use gt_texts::{push_number, push_text};
 use gt_types::{Allows, DomId, Memory};

@@ -5,7 +5,7 @@ ghost use Rattle.gt_run.specs.Telling.{LogsTrail};
 ghost use Rattle.std.specs.Prelude.{◌≡◌};
 
 use gt_audit::{SharedLog, DomainLog, Trail, push_line};
-use gt_lines::Text;
+use gt_script_lines::Text;
 use gt_live::Departed;
 use gt_types::{DomId, Memory};
 use std::alloc::Global;

@@ -9,7 +9,7 @@ use Rattle.std.proofs.lemmas.List.Elements.{All-nil, All-cons}
 use Rattle.std.proofs.lemmas.Option.{same_Some}
 use Rattle.std.proofs.lemmas.Slice.Eq.{bytes_eq-Decides}
 use Rattle.std.specs.Str.{bytes_eq}
-use Rattle.gt_lines.specs.Words.{words}
+use Rattle.gt_script_lines.specs.Words.{words}
 use Rattle.gt_script.specs.Blocks.{is_just, opening, closing}
 use Rattle.gt_script.specs.Laws.{HasNoBlock}
 use Rattle.gt_script.proofs.ScriptLemmas.{texts}

@@ -18,7 +18,7 @@ use Rattle.gt_policy.specs.Whole as policies
 use Rattle.gt_policy.specs.declared.fault.TokenFault as policy
 use Rattle.gt_policy.specs.declared.parse.PolicyFaultKind as kinds
 use Rattle.gt_policy.specs.declared.parse.PolicyFaultKind.TheVariants as kind
-use Rattle.gt_lines.specs.Words.{words}
+use Rattle.gt_script_lines.specs.Words.{words}
 use Rattle.gt_script.specs.Faults.{error_in_block}
 use Rattle.gt_script.specs.Blocks.{opening, closing, block_text, Means, IsFaultyBlock, IsPolicyOf}
 use Rattle.gt_script.specs.Contents.{contents_told, Contents, empty, with_policy, type_names_with}

@@ -15,10 +15,10 @@ use Rattle.gt_types.specs.declared.DomId.{DomId}
 use Rattle.gt_types.specs.declared.TypeId.{TypeId}
 use Rattle.gt_types.specs.declared.rights.Triple.{Triple}
 use Rattle.gt_types.specs.declared.config.DomainConfig.{DomainConfig}
-use Rattle.gt_lines.specs.Words.{words}
-use Rattle.gt_lines.specs.Numbers.{number_below}
-use Rattle.gt_lines.specs.Fields.{◌>>=◌}
-use Rattle.gt_lines.specs.Lines.{line_of}
+use Rattle.gt_script_lines.specs.Words.{words}
+use Rattle.gt_script_lines.specs.Numbers.{number_below}
+use Rattle.gt_script_lines.specs.Fields.{◌>>=◌}
+use Rattle.gt_script_lines.specs.Lines.{line_of}
 use Rattle.gt_script.specs.Types.{with_type_name}
 use Rattle.gt_policy.specs.Allowing.{Allowed, type_named}
 use Rattle.gt_script.specs.Contents.{Contents, type_names_with}
@@ -30,13 +30,13 @@ use Rattle.gt_script.specs.Script.{with_body_line, with_placed, with_script_line
 use Rattle.gt_script.specs.Laws.{lines_said, triple_in, wear_in, domain_in, step_for, step_on, order_for, order_on}
 use Rattle.gt_script.specs.Laws.{asks_for}
 use Rattle.gt_script.specs.Laws.{is_for, IsLine}
-use Rattle.gt_lines.specs.declared.numbers.Number.{Number}
-use Rattle.gt_lines.specs.declared.calls.ScriptAction.{ScriptAction}
-use Rattle.gt_lines.specs.declared.lines.TripleLine.{TripleLine}
-use Rattle.gt_lines.specs.declared.lines.DomainLine.{DomainLine}
-use Rattle.gt_lines.specs.declared.lines.ScriptLine.{ScriptLine}
-use Rattle.gt_lines.specs.declared.lines.ScriptLine.TheVariants as line
-use Rattle.gt_lines.specs.declared.lines.BodyLine.{BodyLine}
+use Rattle.gt_script_lines.specs.declared.numbers.Number.{Number}
+use Rattle.gt_script_lines.specs.declared.calls.ScriptAction.{ScriptAction}
+use Rattle.gt_script_lines.specs.declared.lines.TripleLine.{TripleLine}
+use Rattle.gt_script_lines.specs.declared.lines.DomainLine.{DomainLine}
+use Rattle.gt_script_lines.specs.declared.lines.ScriptLine.{ScriptLine}
+use Rattle.gt_script_lines.specs.declared.lines.ScriptLine.TheVariants as line
+use Rattle.gt_script_lines.specs.declared.lines.BodyLine.{BodyLine}
 use Rattle.gt_script.specs.declared.command.ScriptCommand.{ScriptCommand}
 use Rattle.gt_script.specs.declared.command.ScriptCommand.TheVariants.{Play, Run}
 use Rattle.gt_script.specs.Lists.{NamedRunTask, NamedRunAction}

@@ -1,7 +1,7 @@
 use Rattle.std.proofs.Common.{◌≡◌, ℕ, ◌+◌, ◌<◌, List, ◌∷◌, length, map, drop, get_or, Result, Ok, Err, ap, ◌∙◌, Bor}
 use Rattle.std.proofs.Common.{arith}
 use Rattle.std.proofs.lemmas.List.{at_drop_more}
-use Rattle.gt_lines.specs.Words.{words}
+use Rattle.gt_script_lines.specs.Words.{words}
 use Rattle.gt_script.specs.Contents.{Contents}
 use Rattle.gt_script.specs.Script.{with_words, with_lines}
 use Rattle.gt_script.specs.declared.faults.ScriptFaultKind.{ScriptFaultKind}

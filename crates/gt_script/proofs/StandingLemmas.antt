@@ -14,7 +14,7 @@ use Rattle.std.proofs.Math.Seq.{drop-append-add, take-append_seam}
 use Rattle.gt_types.specs.declared.rights.Triple.{Triple}
 use Rattle.gt_policy.specs.Allowing.{Allowed}
 use Rattle.gt_policy.specs.declared.fault.TokenFault as policy
-use Rattle.gt_lines.specs.Words.{words}
+use Rattle.gt_script_lines.specs.Words.{words}
 use Rattle.gt_script.specs.Blocks.{is_just, opening, closing, Means, IsFaultyBlock}
 use Rattle.gt_script.specs.declared.command.ScriptCommand.{ScriptCommand}
 use Rattle.gt_script.specs.Contents.{Contents, empty, with_policy}

@@ -8,17 +8,17 @@ use Rattle.std.specs.Option.{option_map, option_to_list, unwrap_or}
 use Rattle.std.proofs.lemmas.Bool.Decides.{nat_tests}
 use Rattle.std.proofs.lemmas.List.Elements.{All-nil, All-cons}
 use Rattle.gt_types.specs.declared.limits.TheConstants.{LAST_GENERATION}
-use Rattle.gt_lines.specs.Words.{words}
-use Rattle.gt_lines.specs.Numbers.{decimal_value, decimal_number, below}
-use Rattle.gt_lines.specs.Fields.{◌>>=◌, generation_word}
-use Rattle.gt_lines.specs.Lines.{triple_of, wear_of, domain_line_of, body_of, line_of, body_line_of}
+use Rattle.gt_script_lines.specs.Words.{words}
+use Rattle.gt_script_lines.specs.Numbers.{decimal_value, decimal_number, below}
+use Rattle.gt_script_lines.specs.Fields.{◌>>=◌, generation_word}
+use Rattle.gt_script_lines.specs.Lines.{triple_of, wear_of, domain_line_of, body_of, line_of, body_line_of}
 use Rattle.gt_script.specs.Laws.{lines_said, wear_in}
-use Rattle.gt_lines.specs.declared.numbers.Number.{Number}
-use Rattle.gt_lines.specs.declared.lines.BodyLine.{BodyLine}
-use Rattle.gt_lines.specs.declared.lines.TripleLine.{TripleLine}
-use Rattle.gt_lines.specs.declared.lines.DomainLine.{DomainLine}
-use Rattle.gt_lines.specs.declared.lines.ScriptLine.{ScriptLine}
-use Rattle.gt_lines.specs.declared.lines.ScriptLine.TheVariants as line
+use Rattle.gt_script_lines.specs.declared.numbers.Number.{Number}
+use Rattle.gt_script_lines.specs.declared.lines.BodyLine.{BodyLine}
+use Rattle.gt_script_lines.specs.declared.lines.TripleLine.{TripleLine}
+use Rattle.gt_script_lines.specs.declared.lines.DomainLine.{DomainLine}
+use Rattle.gt_script_lines.specs.declared.lines.ScriptLine.{ScriptLine}
+use Rattle.gt_script_lines.specs.declared.lines.ScriptLine.TheVariants as line
 use Rattle.gt_script.proofs.LawLemmas.{filter-cons}
 
 -- a line that gives no generation past the last

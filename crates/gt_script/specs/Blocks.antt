@@ -7,7 +7,7 @@ use Rattle.gt_policy.specs.Allowing.{Meaning, KeptPolicy, Allowed, allowed_of, a
 use Rattle.gt_policy.specs.Shown.{kind_shown}
 use Rattle.gt_policy.specs.Whole.{Says}
 use Rattle.gt_policy.specs.declared.fault.TokenFault as policy
-use Rattle.gt_lines.specs.Words.{words}
+use Rattle.gt_script_lines.specs.Words.{words}
 use Rattle.gt_script.specs.declared.faults.BlockFault.{BlockFault}
 use Rattle.gt_script.specs.declared.faults.ScriptError.{ScriptError}
 use Rattle.gt_script.specs.declared.faults.ScriptError.TheVariants as errors

@@ -10,7 +10,7 @@ use Rattle.gt_policy.specs.declared.fault.TokenFault as policy
 use Rattle.gt_script.specs.Blocks.{Means, IsFaultyBlock, block_fault_shown}
 use Rattle.gt_script.specs.Contents.{Contents, empty, with_policy, type_names, first_gen}
 use Rattle.gt_script.specs.Script.{domain_written, play_action_in, run_action_in, with_words, with_lines}
-use Rattle.gt_lines.specs.declared.lines.ScriptLine.TheVariants as line
+use Rattle.gt_script_lines.specs.declared.lines.ScriptLine.TheVariants as line
 use Rattle.gt_script.specs.declared.faults.ScriptError.TheVariants as errors
 
 -- what the lines say, each with its number

@@ -1,14 +1,14 @@
 -- The names of other crates, and of the code, that the definitions here speak of.
-pub use Rattle.gt_lines.specs.Fields.{◌>>=◌}
-pub use Rattle.gt_lines.specs.Lines.{line_of}
-pub use Rattle.gt_lines.specs.Numbers.{number_below}
-pub use Rattle.gt_lines.specs.Words.{words}
-pub use Rattle.gt_lines.specs.declared.calls.ScriptAction.{ScriptAction}
-pub use Rattle.gt_lines.specs.declared.lines.BodyLine.{BodyLine}
-pub use Rattle.gt_lines.specs.declared.lines.DomainLine.{DomainLine}
-pub use Rattle.gt_lines.specs.declared.lines.ScriptLine.{ScriptLine}
-pub use Rattle.gt_lines.specs.declared.lines.TripleLine.{TripleLine}
-pub use Rattle.gt_lines.specs.declared.numbers.Number.{Number}
+pub use Rattle.gt_script_lines.specs.Fields.{◌>>=◌}
+pub use Rattle.gt_script_lines.specs.Lines.{line_of}
+pub use Rattle.gt_script_lines.specs.Numbers.{number_below}
+pub use Rattle.gt_script_lines.specs.Words.{words}
+pub use Rattle.gt_script_lines.specs.declared.calls.ScriptAction.{ScriptAction}
+pub use Rattle.gt_script_lines.specs.declared.lines.BodyLine.{BodyLine}
+pub use Rattle.gt_script_lines.specs.declared.lines.DomainLine.{DomainLine}
+pub use Rattle.gt_script_lines.specs.declared.lines.ScriptLine.{ScriptLine}
+pub use Rattle.gt_script_lines.specs.declared.lines.TripleLine.{TripleLine}
+pub use Rattle.gt_script_lines.specs.declared.numbers.Number.{Number}
 pub use Rattle.gt_policy.specs.Allowing.{Allowed, type_named}
 pub use Rattle.gt_script.specs.declared.command.ScriptCommand.{ScriptCommand}
 pub use Rattle.gt_script.specs.declared.command.ScriptCommand.TheVariants.{Play, Run}

@@ -10,11 +10,11 @@ use Rattle.gt_policy.specs.declared.fault.TokenFault as policy
 use Rattle.gt_script.specs.Blocks.{opening, closing, Means, IsFaultyBlock}
 use Rattle.gt_script.specs.Types.{with_type_name}
 use Rattle.gt_script.specs.Contents.{Contents, empty, with_policy}
-use Rattle.gt_lines.specs.declared.calls.ScriptAction.TheVariants as actions
-use Rattle.gt_lines.specs.declared.lines.BodyLine.TheVariants as bodies
-use Rattle.gt_lines.specs.declared.signals.FlagLine.TheVariants as signals
+use Rattle.gt_script_lines.specs.declared.calls.ScriptAction.TheVariants as actions
+use Rattle.gt_script_lines.specs.declared.lines.BodyLine.TheVariants as bodies
+use Rattle.gt_script_lines.specs.declared.signals.FlagLine.TheVariants as signals
 use Rattle.gt_script.specs.declared.tasks.RunActionBy.TheVariants as runs
-use Rattle.gt_lines.specs.declared.lines.ScriptLine.TheVariants as line
+use Rattle.gt_script_lines.specs.declared.lines.ScriptLine.TheVariants as line
 
 -- a list without elements
 abbrev pub is_empty : {X : Type 0} → List X → Bool

@@ -4,11 +4,11 @@
 //! configures domains. Its body is a list of steps, each of one domain. `parse` answers the script,
 //! exactly, or the first fault with its line. Names and labels are borrowed from the bytes.
 //!
-//! What a line says is for `gt_lines`. Whether it is in its place depends on the lines before it, and
+//! What a line says is for `gt_script_lines`. Whether it is in its place depends on the lines before it, and
 //! is defined here.
 //!
 //! It uses `gt_types` (domains and triples), `gt_policy` (the policy block), `gt_streams` (bytes as
-//! text) and `gt_lines`.
+//! text) and `gt_script_lines`.
 #![tactic(auto)]
 
 mod blocks;
@@ -23,7 +23,7 @@ mod tasks;
 mod types;
 
 pub use faults::{BlockFault, ScriptError, ScriptFault, ScriptFaultKind};
-pub use gt_lines::{ScriptAction, ScriptCall, Text, hex_bytes};
+pub use gt_script_lines::{ScriptAction, ScriptCall, Text, hex_bytes};
 pub use laws::{every_fault_is_reported, every_text_tells_one_thing};
 pub use run_script::{RunScript, parse_run};
 pub use script::{Script, ScriptStep, parse};

@@ -15,7 +15,7 @@ use crate::command::ScriptCommand;
 use crate::faults::{ScriptError, ScriptFault, ScriptFaultKind};
 use crate::tasks::{RunActionBy, NamedRunTask};
 use crate::types::TypeNames;
-use gt_lines::{
+use gt_script_lines::{
     BodyLine, DomainLine, ScriptLine, Number, ScriptAction, FlagLine, Text, TripleLine, line_words,
     read_line, text_lines,
 };
@@ -179,7 +179,7 @@ fn domain_written(line: &DomainLine, label: TypeId) -> Option<DomainConfig>
 
 impl<'a> Script<'a> {
     ghost use Rattle.std.specs.Prelude.{◌≡◌, map, ◌<◌, ◌≤◌, ◌+◌, ◌-◌, ◌^◌, length};
-    ghost use Rattle.gt_lines.specs.Words.{words as words_in};
+    ghost use Rattle.gt_script_lines.specs.Words.{words as words_in};
     ghost use Rattle.std.specs.Option.{option_map};
     ghost use Rattle.gt_policy.specs.Allowing.{allowed_of};
     ghost use Rattle.gt_script.specs.Contents.{contents_told, empty, with_policy, without_orders, type_names};

@@ -3,7 +3,7 @@ ghost use Rattle.std.specs.Prelude.{◌≡◌, IfOk, map};
 ghost use Rattle.gt_script.specs.Tasks.{deed_of, task_of, tasks_for};
 
 use crate::flags::FlagNames;
-use gt_lines::{ScriptCall, Text};
+use gt_script_lines::{ScriptCall, Text};
 use gt_types::DomId;
 use std::alloc::{AllocError, Global};
 

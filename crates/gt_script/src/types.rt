@@ -2,7 +2,7 @@
 ghost use Rattle.std.specs.Prelude.{◌≡◌, position};
 ghost use Rattle.std.specs.Str.{bytes_eq};
 
-use gt_lines::Text;
+use gt_script_lines::Text;
 use gt_types::TypeId;
 use std::alloc::{AllocError, Global};
 use std::marker::Model;

@@ -15,7 +15,7 @@ use Rattle.gt_words.specs.Views.{steps_on, steps_on_header, with_step}
 use Rattle.gt_words.specs.declared.view.HeaderStep.TheVariants as header
 use Rattle.gt_words.specs.Conditions.{Board, SeatOf, IsSeatOf, position_at, IsWordOf, IsBusyOf, MayPin, HasNoPins}
 use Rattle.gt_words.specs.Conditions.{HasNoWritePins, IsNotEarlier}
-pub use Rattle.gt_positions.specs.Starting.{IsStartFault}
+pub use Rattle.gt_roster.specs.Starting.{IsStartFault}
 
 -- the seat added the step m on the entry r of the domain t to its view, which was taken
 -- after the steps past of all seats, and nothing else

@@ -10,7 +10,7 @@
 //! none waits.
 //!
 //! It uses `atomic_table`, whose rule is `Shows` of specs/Rule.antt, the words of `gt_entry`, and
-//! `gt_positions`, which finds domains by their numbers.
+//! `gt_roster`, which finds domains by their numbers.
 #![tactic(auto)]
 
 mod laws;

@@ -19,7 +19,7 @@ use crate::start::{deal_seats, first_words};
 use crate::word_table::{TableSeat, WordTable};
 use atomic_table::Table;
 use gt_entry::{EntryChange, Control, Entry, BodyWord, Header};
-use gt_positions::Positions;
+use gt_roster::Positions;
 use gt_types::{Config, Dir, DomId, GrantRef, MAX_TABLE_FRAMES, StartFault, TABLE_ENTRIES};
 use std::alloc::{AllocError, Global};
 use std::marker::Model;

@@ -4,7 +4,7 @@
 #![tactic(auto)]
 
 use gt_host::{PlayFault, play};
-use gt_listing::{ListingFault, policy};
+use gt_policy_list::{ListingFault, policy};
 use std::fmt;
 use std::fs::File;
 use std::io::{self, ErrorKind, Read};

@@ -1,5 +1,5 @@
 //! Streams in memory, and streams that fail.
-use gt_failing::{FailingReader, FailingWriter};
+use test_failing::{FailingReader, FailingWriter};
 use gt_streams::{ReadFault, WriteFault, finish, push_text, read_text, send, text_of, write_text};
 use std::alloc::Global;
 use std::io::ErrorKind;

@@ -4,7 +4,7 @@ use crate::script::{CALLER, GRANTED, HEADER, MIDDLE, OWNER, Part, Row, pin, unse
 use gt_calls::Request::Copy;
 use gt_calls::{CopyArgs, End, HeldPin, Request, Observation, Spot, Step as CallStep};
 use gt_entry::Entry;
-use gt_rows::{copy, end, page, spot, sub, via};
+use test_rows::{copy, end, page, spot, sub, via};
 use gt_types::{Dir, DomId, Facts, FrameName, GrantRef, Perms, Rule, TypeId};
 
 const SELF: DomId = DomId(0x7FF0);

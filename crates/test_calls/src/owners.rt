@@ -3,7 +3,7 @@ use crate::script::Part::{self, Ends, Header, Leg, Refused, RefusedAt, Step, Try
 use crate::script::{CALLER, GRANTED, OWNER, Row, pin, unseen};
 use gt_calls::{EntryChange, BodyWord, Handle, HeldPin, PinHolder, Request, Observation, Step as CallStep, CallResult};
 use gt_entry::Entry;
-use gt_rows::page;
+use test_rows::page;
 use gt_types::{Dir, Facts, GrantRef, Rule};
 
 /// The entry of the owner's page.

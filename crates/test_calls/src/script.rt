@@ -3,7 +3,7 @@ use gt_calls::{
     Action, Call, BodyWord, Handles, HeldPin, PinHolder, CallerState, OwnerEntry, Request, Observation, CallStart, Step, CallResult,
 };
 use gt_entry::{Entry, Header};
-use gt_positions::Roster;
+use gt_roster::Roster;
 use gt_types::{
     Config, Denial, DomId, DomainConfig, Facts, GrantRef, Memory, Perms, Rule, StartFault, Triple,
     Triples, TypeId,

@@ -5,7 +5,7 @@ use crate::runs::{FIRST_HANDLE, GRANT, MAP_RO, MAP_RW, REVOKE};
 use gt_core::{
     Answer, Begun, CopyArgs, Core, Element, End, Event, Handle, Item, Request, Ticked, play,
 };
-use gt_rows::{copy, end};
+use test_rows::{copy, end};
 use gt_types::{DomId, GrantRef, Memory, Rule, StartFault, Triples};
 use std::alloc::Global;
 use std::process::Abort;

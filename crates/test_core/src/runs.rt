@@ -16,7 +16,7 @@ use crate::doing::Doing::{self, Begin, Do, Show, Tick};
 use crate::doing::{OTHER, OWNER, PEER, READ_ONLY, Row, WRITABLE, grant, load, map, said, start};
 use gt_core::{Core, Handle, Request};
 use gt_entry::Entry;
-use gt_rows::page;
+use test_rows::page;
 use gt_types::{DomId, GrantRef, Triples};
 use std::alloc::Global;
 use std::process::Abort;

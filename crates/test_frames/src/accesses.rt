@@ -6,7 +6,7 @@ use crate::places::{BYTES, config, text};
 use gt_access::{AccessContext, copy_by, read_by, write_by};
 use gt_calls::{CallPins, AccessPath};
 use gt_frames::{FrameName, Pool, Read, Spot, FrameAccesses};
-use gt_positions::Roster;
+use gt_roster::Roster;
 use gt_types::{Allows, Config, Perms, Range, StartFault, TypeId};
 use gt_words::{Seat, Words};
 use std::alloc::{AllocError, Global};

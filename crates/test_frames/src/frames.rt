@@ -1,7 +1,7 @@
 //! The frames of a run, found by owner and number.
 use crate::places::{BYTES, at, config, text};
 use gt_frames::{FrameName, Frames, WriteBasis, Read, Spot, Writ};
-use gt_rows::spot;
+use test_rows::spot;
 use gt_types::{DomId, Range};
 use std::alloc::{AllocError, Global};
 use std::test::Fail;

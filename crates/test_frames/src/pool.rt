@@ -1,7 +1,7 @@
 //! Frames under locks, in threads.
 use crate::places::{BYTES, at, config, text};
 use gt_frames::{FrameName, WriteBasis, Pool, Read, Spot, FrameAccesses, Writ};
-use gt_rows::spot;
+use test_rows::spot;
 use gt_types::{DomId, Range};
 use std::alloc::{AllocError, Global};
 use std::process::Abort;

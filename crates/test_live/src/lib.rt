@@ -6,7 +6,7 @@
 //! threads. Two of those share a page, a storm of four leaves every word idle, and three access the same frames.
 //!
 //! One function plays all rows (`playing.rt`), since each function that starts a run costs as much proof as all tables.
-//! What a domain does in its thread is `working.rt`. The domains and their calls as values are those of `gt_running`.
+//! What a domain does in its thread is `working.rt`. The domains and their calls as values are those of `test_monitor`.
 #![tactic(auto)]
 
 // A copy from a grant of a domain to a frame of the caller's own: domain, reference, offset; frame, offset; and length.

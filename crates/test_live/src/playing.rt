@@ -1,6 +1,6 @@
 //! Runs of a table: lines that domains are asked, with what they must answer, and then threads.
 use crate::working::{Behind, Part, work_at_once};
-use gt_running::{TestCall, READ_ONLY, TestDomain, TestReply, all_running, rights, start, text};
+use test_monitor::{TestCall, READ_ONLY, TestDomain, TestReply, all_running, rights, start, text};
 use gt_types::{Allows, Memory, Rule, StartFault};
 use std::alloc::Global;
 use std::process::Abort;

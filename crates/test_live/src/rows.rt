@@ -3,12 +3,12 @@
 use crate::playing::{Line, ONE, Row, Stage, THREE, TWO, play_row};
 use gt_calls::{CopyArgs, End};
 use gt_entry::Entry;
-use gt_rows::{copy, end, page, sub, via};
-use gt_running::TestCall::{
+use test_rows::{copy, end, page, sub, via};
+use test_monitor::TestCall::{
     self, Bytes, Copy, Demote, GetVersion, Grant, Load, Map, Peek, Poke, Promote, Revoke, Setup,
     Size, Store, Unmap, Version, Withdraw,
 };
-use gt_running::{READ_ONLY, WRITABLE};
+use test_monitor::{READ_ONLY, WRITABLE};
 use gt_types::{DOMID_SELF, DomId, GrantRef};
 use std::test::Fail;
 

@@ -3,11 +3,11 @@ use crate::playing::{Line, ONE, Row, Stage, THREE, TWO, play_row};
 use crate::working::{Access, LEN, Part, UNUSED};
 use gt_calls::{CopyArgs, End};
 use gt_entry::Entry;
-use gt_rows::{copy, end, page};
-use gt_running::TestCall::{
+use test_rows::{copy, end, page};
+use test_monitor::TestCall::{
     self, Demote, GetVersion, Grant, Load, Map, Peek, Poke, Revoke, Store, Unmap,
 };
-use gt_running::{READ_ONLY, WRITABLE};
+use test_monitor::{READ_ONLY, WRITABLE};
 use gt_types::{ConfigFault, DOMID_SELF, DomId, StartFault};
 use std::test::Fail;
 

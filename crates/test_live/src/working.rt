@@ -1,8 +1,8 @@
 //! What domains do at once, each in a thread of its own.
 use gt_calls::{CopyArgs, End};
 use gt_entry::{Control, Entry, EntryKind};
-use gt_rows::{copy, end};
-use gt_running::{TestCall, READ_ONLY, TestDomain, TestReply, WRITABLE};
+use test_rows::{copy, end};
+use test_monitor::{TestCall, READ_ONLY, TestDomain, TestReply, WRITABLE};
 use gt_types::{Allows, DOMID_SELF, Denial, DomId, Facts, GrantRef, Memory, Rule};
 use std::alloc::{AllocError, Global};
 use std::sync::Wait;

@@ -1,7 +1,7 @@
 //! Listings of texts at the limits and of texts that are cut off, and over readers and writers that fail.
 use crate::texts::{GUESTS, TAKEN_OUT, declarations};
-use gt_failing::{FailingReader, FailingWriter};
-use gt_listing::{ListingFault, policy};
+use test_failing::{FailingReader, FailingWriter};
+use gt_policy_list::{ListingFault, policy};
 use std::alloc::Global;
 use std::process::Abort;
 use std::test::Fail;

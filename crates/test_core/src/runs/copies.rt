@@ -10,7 +10,7 @@ use crate::doing::{OTHER, OWNER, PEER, Row, grant, peek, poke};
 use gt_core::Request::Copy;
 use gt_core::{CopyArgs, End, Request};
 use gt_entry::Entry;
-use gt_rows::{copy, end, page};
+use test_rows::{copy, end, page};
 use gt_types::{DomId, GrantRef};
 
 // The caller's own domain, in a request.

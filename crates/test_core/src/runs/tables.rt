@@ -4,7 +4,7 @@ use crate::doing::Doing::{Begin, Do, Steps, Tick};
 use crate::doing::{OTHER, OWNER, PEER, READ_ONLY, Row, grant, map};
 use gt_core::Request;
 use gt_entry::Entry;
-use gt_rows::{sub, via};
+use test_rows::{sub, via};
 use gt_types::{DomId, GrantRef};
 
 // Part of a page.

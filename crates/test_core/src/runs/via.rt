@@ -6,7 +6,7 @@ use crate::doing::{OTHER, OWNER, PEER, Row, grant, peek, poke};
 use gt_core::Request::Copy;
 use gt_core::{CopyArgs, End, Request};
 use gt_entry::Entry;
-use gt_rows::{copy, end, page, via};
+use test_rows::{copy, end, page, via};
 use gt_types::{DomId, GrantRef};
 
 // The owner's entry 4.

@@ -1,6 +1,6 @@
 use Rattle.std.proofs.Common.{List, ℕ}
-use Rattle.gt_dump.specs.Dumps.{Told}
-use Rattle.gt_dump.specs.declared.fault.DumpFault.TheVariants as dumps
+use Rattle.gt_entries.specs.Dumps.{Told}
+use Rattle.gt_entries.specs.declared.fault.DumpFault.TheVariants as dumps
 use Rattle.gt_json.specs.declared.places.PrintedText.TheVariants.{Entries}
 use Rattle.gt_as_json.proofs.JsonLemmas.{passed}
 use Rattle.gt_as_json.proofs.commands.entries_json.Goals as goal

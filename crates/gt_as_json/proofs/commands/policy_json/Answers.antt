@@ -1,6 +1,6 @@
 use Rattle.std.proofs.Common.{List, ℕ}
-use Rattle.gt_listing.specs.Writing.{Listed}
-use Rattle.gt_listing.specs.declared.fault.ListingFault.TheVariants as listings
+use Rattle.gt_policy_list.specs.Writing.{Listed}
+use Rattle.gt_policy_list.specs.declared.fault.ListingFault.TheVariants as listings
 use Rattle.gt_json.specs.declared.places.PrintedText.TheVariants.{Policy}
 use Rattle.gt_as_json.proofs.JsonLemmas.{passed}
 use Rattle.gt_as_json.proofs.commands.policy_json.Goals as goal

@@ -1,10 +1,10 @@
 use Rattle.std.proofs.Common.{ap, subst, ◌∙◌}
 use Rattle.gt_entry.specs.declared.entry.Entry.{Entry}
 use Rattle.gt_live.specs.Domains.{AnswersQuietly, verdict_of}
-use Rattle.gt_seat.specs.Encoding.{encoded}
+use Rattle.gt_attached.specs.Encoding.{encoded}
 use Rattle.gt_calls.specs.declared.request.Request.TheVariants as requests
 use Rattle.gt_c.specs.Asking.{page}
-use Rattle.gt_begin.specs.Beginning.{may}
+use Rattle.gt_start.specs.Beginning.{may}
 use Rattle.gt_c.specs.Calling.{SaysDone, ref_at}
 use Rattle.gt_c.proofs.Made.{idle-there, made}
 use Rattle.gt_c.proofs.calls.grant_page_on.Goals as goal

@@ -1,7 +1,7 @@
 use Rattle.std.proofs.Common.{ap, subst, sym, ◌∙◌}
 use Rattle.gt_handles.specs.declared.handles.Handle.{Handle as Name}
 use Rattle.gt_c.specs.declared.here.CDomain.{CDomain}
-use Rattle.gt_seat.specs.Encoding.{encoded}
+use Rattle.gt_attached.specs.Encoding.{encoded}
 use Rattle.gt_calls.specs.declared.request.Request.TheVariants as requests
 use Rattle.gt_audit.specs.declared.record.Hypercall.TheVariants as hypercalls
 use Rattle.gt_c.specs.Asking.{handle_named}

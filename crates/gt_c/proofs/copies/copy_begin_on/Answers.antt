@@ -1,8 +1,8 @@
 use Rattle.std.proofs.Common.{◌≡◌, ap, subst, ◌∙◌}
 use Rattle.gt_types.specs.declared.copies.CopyArgs.{CopyArgs}
-use Rattle.gt_seat.specs.Encoding.{encoded}
-use Rattle.gt_seat.specs.Seated.{BeginsAccess}
-use Rattle.gt_begin.specs.Beginning.{may}
+use Rattle.gt_attached.specs.Encoding.{encoded}
+use Rattle.gt_attached.specs.Seated.{BeginsAccess}
+use Rattle.gt_start.specs.Beginning.{may}
 use Rattle.gt_c.specs.Telling.{no_places, SaysBegun, copy_asked}
 use Rattle.gt_c.proofs.Made.{made-telling}
 use Rattle.gt_c.proofs.copies.copy_begin_on.Goals as goal

@@ -16,8 +16,8 @@ use Rattle.gt_c.proofs.Steps.{says, stay_dropped, Goes-dropped, ends_at}
 use denote.Struct.Laws as laws
 use Rattle.std.specs.contracts.alloc.Global as Heap
 use Rattle.std.proofs.alloc.Global.TheLaws as heap
-use Rattle.gt_seat.specs.contracts.answer.EncodedAnswer
-use Rattle.gt_seat.proofs.answer.EncodedAnswer.TheLaws as Answer_laws
+use Rattle.gt_attached.specs.contracts.answer.EncodedAnswer
+use Rattle.gt_attached.proofs.answer.EncodedAnswer.TheLaws as Answer_laws
 use Rattle.gt_c.specs.contracts.handle.DomainHandle as H
 use Rattle.gt_c.specs.declared.handle.DomainHandle.{DomainHandle}
 use Rattle.gt_c.specs.Pointing.{PointsTo, pointed_at}

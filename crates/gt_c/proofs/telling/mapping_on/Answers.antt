@@ -1,5 +1,5 @@
 use Rattle.std.proofs.Common.{◌≡◌, ap, refl, ◌∙◌, Option}
-use Rattle.gt_seat.specs.Encoding.{encoded}
+use Rattle.gt_attached.specs.Encoding.{encoded}
 use Rattle.gt_c.specs.declared.here.CDomain.{CDomain}
 use Rattle.gt_calls.specs.declared.held.HeldPin.{HeldPin as Kept}
 use Rattle.gt_handles.specs.Handles.{value_of}

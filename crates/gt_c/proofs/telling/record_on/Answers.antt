@@ -1,5 +1,5 @@
 use Rattle.std.proofs.Common.{◌≡◌, ap, refl, ◌∙◌, Option}
-use Rattle.gt_seat.specs.Encoding.{encoded}
+use Rattle.gt_attached.specs.Encoding.{encoded}
 use Rattle.gt_c.specs.declared.here.CDomain.{CDomain}
 use Rattle.std.specs.List.{slice_get}
 use Rattle.gt_audit.specs.declared.record.Record.{Record as Kept}

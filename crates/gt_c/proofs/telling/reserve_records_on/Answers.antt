@@ -1,5 +1,5 @@
 use Rattle.std.proofs.Common.{ap, ◌∙◌}
-use Rattle.gt_seat.specs.Encoding.{encoded}
+use Rattle.gt_attached.specs.Encoding.{encoded}
 use Rattle.gt_c.specs.Calling.{Reserves}
 use Rattle.gt_c.proofs.Made.{made}
 use Rattle.gt_c.proofs.telling.reserve_records_on.Goals as goal

@@ -1,7 +1,7 @@
 use Rattle.std.proofs.Common.{ap, ◌∙◌}
-use Rattle.gt_seat.specs.Encoding.{encoded}
-use Rattle.gt_seat.specs.declared.answer.AttachedOutcome.TheVariants.{Taken}
-use Rattle.gt_seat.specs.declared.answer.TakenCounts.{TakenCounts as Told}
+use Rattle.gt_attached.specs.Encoding.{encoded}
+use Rattle.gt_attached.specs.declared.answer.AttachedOutcome.TheVariants.{Taken}
+use Rattle.gt_attached.specs.declared.answer.TakenCounts.{TakenCounts as Told}
 use Rattle.gt_c.specs.Calling.{TakesAll}
 use Rattle.gt_c.proofs.Made.{made}
 use Rattle.gt_c.proofs.telling.take_records_on.Goals as goal

@@ -1,7 +1,7 @@
 use Rattle.std.proofs.Common.{◌∷◌, ◌∙◌, List, ap, subst, sym}
 use Rattle.gt_script.specs.RunContents.{run_told}
-use Rattle.gt_replay.specs.Orders.{MayGive}
-use Rattle.gt_ways.specs.declared.exploring.FoundText.{FoundText}
+use Rattle.gt_explore_replay.specs.Orders.{MayGive}
+use Rattle.gt_explore_search.specs.declared.exploring.FoundText.{FoundText}
 use Rattle.gt_explore.proofs.Added.{IsThere, texts_hold, there_more}
 use Rattle.gt_explore.proofs.texts.distinct.Goals as goal
 

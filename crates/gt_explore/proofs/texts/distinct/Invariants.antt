@@ -1,7 +1,7 @@
 use Rattle.std.proofs.Common.{◌≡◌, ℕ, All, Some, slice_get}
 use Rattle.gt_script.specs.RunContents.{run_told}
-use Rattle.gt_replay.specs.Orders.{MayGive}
-use Rattle.gt_ways.specs.declared.exploring.FoundText.{FoundText}
+use Rattle.gt_explore_replay.specs.Orders.{MayGive}
+use Rattle.gt_explore_search.specs.declared.exploring.FoundText.{FoundText}
 use Rattle.gt_explore.specs.Adding.{AreDifferentTexts, texts_of_orders}
 use Rattle.gt_explore.proofs.Added.{IsThere}
 use Rattle.gt_explore.proofs.texts.distinct.Given as goal

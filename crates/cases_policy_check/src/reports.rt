@@ -1,0 +1,29 @@
+//! What is wrong or useless in policies.
+use gt_policy_check::{Finding, FindingKind, check, push_json, push_report};
+use std::alloc::Global;
+
+/// What is found in a policy, as text and then as JSON.
+pub fn report_said(alloc: Global, file: &str, text: &str) -> anyhow::Result<String> {
+    let found = check(alloc, text)?;
+    let mut said = Vec::new(alloc);
+    push_report(&mut said, file, text, found.as_slice())?;
+    push_json(&mut said, file, found.as_slice())?;
+    Ok(String::from_utf8(said)?)
+}
+
+// Letters that take two columns and one, a mark over the one before it, and a control character.
+const WIDE: &str = "日本 e\u{301}\u{1b}x";
+
+/// What is printed of a finding at the end of a line of such letters.
+pub fn wide_said(alloc: Global) -> anyhow::Result<String> {
+    let mut found = Vec::new(alloc);
+    found.push(Finding {
+        kind: FindingKind::Note,
+        line: 1,
+        column: 12,
+        message: Vec::from_slice(alloc, b"the caret stands below the last letter")?,
+    })?;
+    let mut said = Vec::new(alloc);
+    push_report(&mut said, "wide", WIDE, found.as_slice())?;
+    Ok(String::from_utf8(said)?)
+}

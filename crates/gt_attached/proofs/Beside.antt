@@ -1,0 +1,37 @@
+-- What holds of a guest's domain beside the monitor that it was lent holds of the guest as contracts see it.
+use Rattle.std.proofs.Common.{◌≡◌, ◌∙◌, ap, subst, sym, Option, Some, None}
+use Rattle.gt_live.specs.declared.domain.Domain.{Domain}
+use Rattle.gt_live.specs.declared.domain.copies.PendingCopy.{PendingCopy}
+use Rattle.gt_live.specs.declared.monitor.Monitor.{Monitor}
+use Rattle.gt_types.specs.declared.copies.CopyArgs.{CopyArgs}
+use Rattle.gt_live.specs.Domains.{AllowRelation, BelongsTo}
+use Rattle.gt_live.specs.Halves.{ComesHalfway, IsHalfway}
+use Rattle.gt_attached.specs.Seated.{Seated, StandsBy}
+
+pub beside : {P : Type 0} {m n : Monitor P} {d : Domain} {o : Option PendingCopy} {s : Seated P} (Q : Monitor P → Domain → Type 0)
+    → m ≡ n → ◌≡◌ {A = Seated P} (record { monitor = n; domain = d; copying = o }) s → Q m d → Q s.monitor s.domain
+beside {P} {m} {n} {d} {o} {s} Q e v q = subst (λ (t : Seated P). Q t.monitor t.domain) v (subst (λ (k : Monitor P). Q k d) e q)
+
+pub idle : {P : Type 0} (may : P → AllowRelation) {m n : Monitor P} {d : Domain} {o : Option PendingCopy} {s : Seated P}
+    → m ≡ n → ◌≡◌ {A = Seated P} (record { monitor = n; domain = d; copying = o }) s → s.copying ≡ None → StandsBy may n d o
+    → BelongsTo may m d
+idle {P} may {m} {n} {d} {o} {s} e v none stands =
+    subst (λ (k : Monitor P). BelongsTo may k d) (sym e)
+    (subst (λ (x : Option PendingCopy). StandsBy may n d x) (ap (λ (t : Seated P). t.copying) v ∙ none) stands)
+
+pub still : {P : Type 0} (may : P → AllowRelation) {m n : Monitor P} {d e : Domain} {o : Option PendingCopy} {s : Seated P}
+    → m ≡ n → ◌≡◌ {A = Seated P} (record { monitor = n; domain = d; copying = o }) s → s.copying ≡ None → BelongsTo may m e
+    → StandsBy may n e o
+still {P} may {m} {n} {d} {e} {o} {s} q v none mine =
+    subst (λ (x : Option PendingCopy). StandsBy may n e x) (sym (ap (λ (t : Seated P). t.copying) v ∙ none))
+    (subst (λ (k : Monitor P). BelongsTo may k e) q mine)
+
+pub stands-there : {P : Type 0} (may : P → AllowRelation) (m n : Monitor P) (d e : Domain) (copy : CopyArgs) (h : PendingCopy)
+    → m ≡ n → BelongsTo may m d → ComesHalfway may m d copy h e → IsHalfway may n h e
+stands-there {P} may m n d e copy h q mine comes =
+    subst (λ (k : Monitor P). IsHalfway may k h e) q (d, mine, subst (λ (x : CopyArgs). ComesHalfway may m d x h e) (sym comes.asked) comes)
+
+pub at-access : {P : Type 0} (may : P → AllowRelation) {m n : Monitor P} {d : Domain} {o : Option PendingCopy} {h : PendingCopy}
+    → m ≡ n → o ≡ Some h → StandsBy may n d o → IsHalfway may m h d
+at-access {P} may {m} {n} {d} {o} {h} e there stands =
+    subst (λ (k : Monitor P). IsHalfway may k h d) (sym e) (subst (λ (x : Option PendingCopy). StandsBy may n d x) there stands)

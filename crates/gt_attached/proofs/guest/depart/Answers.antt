@@ -1,0 +1,11 @@
+use Rattle.gt_attached.proofs.guest.depart.Goals as goal
+
+pub returns : goal.returns
+returns g c =
+    record {
+      closed = c.reset-in_use.new.self;
+      resets = c.reset-in_use.ensures.resets;
+      left = c.finish.result;
+      leaves = c.finish.ensures.left;
+      lost = c.lost-lost.ensures;
+    }

@@ -1,0 +1,90 @@
+-- How an answer is laid out for C.
+use Rattle.std.specs.Prelude.{ℕ, ℤ, pos}
+use Rattle.gt_types.specs.declared.DomId.{DomId}
+use Rattle.gt_types.specs.declared.GrantRef.{GrantRef}
+use Rattle.gt_types.specs.declared.TypeId.{TypeId}
+use Rattle.gt_types.specs.declared.Size.{Size}
+use Rattle.gt_types.specs.declared.perms.Perms.{Perms}
+use Rattle.gt_types.specs.declared.denial.Denial.{Denial}
+use Rattle.gt_types.specs.declared.denial.Facts.{Facts}
+use Rattle.gt_types.specs.declared.denial.Facts.TheVariants as facts
+use Rattle.gt_types.specs.declared.denial.Field.{Field}
+use Rattle.gt_types.specs.declared.denial.Field.TheVariants as fields
+use Rattle.gt_types.specs.Denial.{rule_number, status_number}
+use Rattle.gt_attached.specs.declared.answer.EncodedAnswer.{EncodedAnswer}
+use Rattle.gt_attached.specs.declared.answer.MappingName.{MappingName}
+use Rattle.gt_attached.specs.declared.answer.AttachedOutcome.{AttachedOutcome}
+use Rattle.gt_attached.specs.declared.answer.AttachedOutcome.TheVariants.{Done, Mapped, Frames, Version, Size as SizeOf, Denied}
+use Rattle.gt_attached.specs.declared.answer.AttachedOutcome.TheVariants.{NoDomain, Busy, NoMemory, NoCopy, Absent, NullPointer}
+use Rattle.gt_attached.specs.declared.answer.AttachedOutcome.TheVariants.{Left, Taken as TakenRecords}
+
+-- the number of a field of an entry's bytes
+abbrev pub field_number : Field → ℕ
+field_number fields.Length = 1
+field_number fields.Kind = 2
+field_number fields.Reading = 3
+field_number fields.Writing = 4
+field_number fields.Pwt = 5
+field_number fields.Pcd = 6
+field_number fields.Pat = 7
+field_number fields.SubPage = 8
+field_number fields.Reserved = 9
+
+-- an answer that says nothing but its rule and status
+abbrev pub bare : ℕ → ℤ → EncodedAnswer
+bare rule status =
+    record {
+      rule = rule;
+      status = status;
+      kind = 0;
+      dom = 0;
+      gref = 0;
+      source = 0;
+      target = 0;
+      detail = 0;
+      word = 0;
+      value = 0;
+      more = 0;
+    }
+
+-- Ok with a value: what it is, and its one or two numbers
+abbrev pub given : ℕ → ℕ → ℕ → EncodedAnswer
+given kind value more = record (bare 0 (pos 0)) { kind = kind; value = value; more = more }
+
+-- Ok with the name of a mapping
+abbrev pub mapped : MappingName → EncodedAnswer
+mapped name =
+    record (given 1 name.handle.serial name.handle.key) {
+      dom = name.dom.0;
+      detail = name.run;
+    }
+
+-- an answer with what a refusal rests on
+abbrev pub with_facts : Facts → EncodedAnswer → EncodedAnswer
+with_facts facts.None a = a
+with_facts (facts.Policy source target perm) a =
+    record a { kind = 5; source = source.0; target = target.0; detail = perm.0 }
+with_facts (facts.Field field) a = record a { kind = 6; detail = field_number field }
+with_facts (facts.Header dom word) a = record a { kind = 7; dom = dom.0; word = word }
+with_facts (facts.Entry dom gref word) a = record a { kind = 8; dom = dom.0; gref = gref.0; word = word }
+
+-- a refusal
+abbrev pub refusal : Denial → EncodedAnswer
+refusal d = with_facts d.facts (bare (rule_number d.rule) (status_number d.status))
+
+-- the answer that says this outcome
+abbrev pub encoded : AttachedOutcome → EncodedAnswer
+encoded Done = bare 0 (pos 0)
+encoded (Mapped name) = mapped name
+encoded (Frames frames) = given 2 frames 0
+encoded (Version version) = given 3 version 0
+encoded (SizeOf size) = given 4 size.frames size.max
+encoded (Denied denial) = refusal denial
+encoded NoDomain = bare 256 (pos 0)
+encoded Busy = bare 257 (pos 0)
+encoded NoMemory = bare 258 (pos 0)
+encoded NoCopy = bare 259 (pos 0)
+encoded Absent = bare 260 (pos 0)
+encoded NullPointer = bare 261 (pos 0)
+encoded (Left remains) = given 9 remains.lost remains.in_use
+encoded (TakenRecords taken) = given 10 taken.records taken.lost

@@ -1,0 +1,60 @@
+-- How a record is laid out for C.
+use Rattle.std.specs.Prelude.{ℕ, Some, None}
+use Rattle.gt_audit.specs.declared.record.Hypercall.{Hypercall}
+use Rattle.gt_audit.specs.declared.record.Hypercall.TheVariants as calls
+use Rattle.gt_audit.specs.declared.record.Record.{EncodedRecord as Kept}
+use Rattle.gt_audit.specs.declared.record.Reply.{Reply}
+use Rattle.gt_audit.specs.declared.record.Reply.TheVariants as replies
+use Rattle.gt_types.specs.declared.copies.End.{End}
+use Rattle.gt_attached.specs.Encoding.{encoded}
+use Rattle.gt_attached.specs.declared.answer.AttachedOutcome.{AttachedOutcome}
+use Rattle.gt_attached.specs.declared.answer.AttachedOutcome.TheVariants as outcomes
+use Rattle.gt_attached.specs.declared.record.CopyEnd.{CopyEnd}
+use Rattle.gt_attached.specs.declared.record.EncodedRecord.{EncodedRecord}
+
+-- the outcome that a reply says
+abbrev pub outcome_of_reply : Reply → AttachedOutcome
+outcome_of_reply replies.Done = outcomes.Done
+outcome_of_reply (replies.Frames frames) = outcomes.Frames frames
+outcome_of_reply (replies.Size size) = outcomes.Size size
+outcome_of_reply (replies.Version version) = outcomes.Version version
+outcome_of_reply (replies.Denied denial) = outcomes.Denied denial
+
+-- an end of a copy
+abbrev pub end_recorded : End → CopyEnd
+end_recorded end = record { ptr = end.ptr; dom = end.domid.0; off = end.offset }
+
+-- an end of no copy
+abbrev pub no_end : CopyEnd
+no_end = record { ptr = 0; dom = 0; off = 0 }
+
+-- a record that says nothing but who called and what was answered
+abbrev pub plainly : Kept → EncodedRecord
+plainly r =
+    record {
+      call = 0;
+      caller = r.dom.0;
+      dom = 0;
+      gref = 0;
+      flags = 0;
+      len = 0;
+      source = no_end;
+      dest = no_end;
+      reply = encoded (outcome_of_reply r.reply);
+    }
+
+-- a record with what was called
+abbrev pub with_call : Hypercall → EncodedRecord → EncodedRecord
+with_call (calls.Map dom gref flags) r = record r { call = 1; dom = dom.0; gref = gref.0; flags = flags }
+with_call (calls.Unmap (Some (dom, gref))) r = record r { call = 2; dom = dom.0; gref = gref.0 }
+with_call (calls.Unmap None) r = record r { call = 3 }
+with_call (calls.Copy source dest len flags) r =
+    record r { call = 4; flags = flags; len = len; source = end_recorded source; dest = end_recorded dest }
+with_call (calls.QuerySize dom) r = record r { call = 5; dom = dom.0 }
+with_call (calls.GetVersion dom) r = record r { call = 6; dom = dom.0 }
+with_call (calls.SetVersion version) r = record r { call = 7; flags = version }
+with_call (calls.SetupTable frames) r = record r { call = 8; flags = frames }
+
+-- the record, as C reads it
+abbrev pub record_kept : Kept → EncodedRecord
+record_kept r = with_call r.call (plainly r)

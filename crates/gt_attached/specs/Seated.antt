@@ -1,0 +1,67 @@
+-- What a contract sees of a guest, and how its copies begin and end.
+use Rattle.std.specs.Prelude.{◌≡◌, length, Option, Some, None, Result, Ok, Err}
+use Rattle.gt_types.specs.declared.denial.Denial.{Denial}
+use Rattle.gt_audit.specs.Telling.{Telling, Tells}
+use Rattle.gt_calls.specs.declared.action.CallResult.TheVariants.{Refused}
+use Rattle.gt_types.specs.declared.copies.CopyArgs.{CopyArgs}
+use Rattle.gt_calls.specs.declared.request.Request.TheVariants as requests
+use Rattle.gt_live.specs.declared.domain.Domain.{Domain}
+use Rattle.gt_live.specs.declared.domain.copies.PendingCopy.{PendingCopy}
+use Rattle.gt_live.specs.declared.monitor.Monitor.{Monitor}
+use Rattle.gt_live.specs.declared.domain.Departed.{Departed}
+use Rattle.gt_live.specs.Closing.{Resets}
+use Rattle.gt_live.specs.Domains.{AllowRelation, Answered, BelongsTo, HasLeft, KeepsPinned, told_copy}
+use Rattle.gt_live.specs.Halves.{ComesHalfway, EndsHalfway, IsHalfway, done_copy}
+use Rattle.gt_attached.specs.declared.answer.Departure.{Departure}
+use Rattle.gt_attached.specs.declared.answer.TakenCounts.{TakenCounts}
+use Rattle.gt_attached.specs.declared.guest.CopyPlaces.{CopyPlaces}
+
+-- a domain, its monitor, and the copy that it is in
+pub record Seated (P : Type 0) : Type 0 where
+  pub monitor : Monitor P
+  pub domain : Domain
+  pub copying : Option PendingCopy
+
+-- the domain came with this monitor, or stands at the access of this copy
+abbrev pub StandsBy : {P : Type 0} → (P → AllowRelation) → Monitor P → Domain → Option PendingCopy → Type 0
+StandsBy may m d None = BelongsTo may m d
+StandsBy may m d (Some h) = IsHalfway may m h d
+
+-- the monitor is the one that it was, and it is in no copy
+abbrev pub StaysIdle : {P : Type 0} → Seated P → Seated P → Type 0
+StaysIdle s t = (t.monitor ≡ s.monitor) × (t.copying ≡ None)
+
+-- the places of a copy at its access
+abbrev pub places_of : PendingCopy → CopyPlaces
+places_of h = record { from = h.from; to = h.to; len = h.len }
+
+-- A copy was begun so. Ok: it came to its access, at which the guest stands, and its places are told. Refused: by its
+-- path, and the guest keeps its mappings and pins as they were, is in no copy, and tells the record
+abbrev pub BeginsAccess : {P : Type 0} → (P → AllowRelation) → Seated P → CopyArgs → Result CopyPlaces Denial → Seated P
+    → Type 0
+BeginsAccess may s copy (Ok places) t =
+    (h : PendingCopy) × (t.copying ≡ Some h) × (places ≡ places_of h) × (t.monitor ≡ s.monitor)
+    × ComesHalfway may s.monitor s.domain copy h t.domain
+BeginsAccess may s copy (Err denial) t =
+    StaysIdle s t × Answered may s.monitor s.domain (requests.Copy copy) (Refused denial) t.domain
+    × KeepsPinned s.domain t.domain × Tells s.domain.trail (told_copy s.domain copy (Err denial)) t.domain.trail
+
+-- the pins of the copy that the guest was in were given back, and it tells that it is Ok
+abbrev pub EndsAccess : {P : Type 0} → Seated P → Seated P → Type 0
+EndsAccess s t =
+    (h : PendingCopy) × (s.copying ≡ Some h) × StaysIdle s t
+    × EndsHalfway s.monitor.words.layout h s.domain t.domain
+    × Tells s.domain.trail (done_copy s.domain h.copy) t.domain.trail
+
+-- a domain gave up its mappings, closed its table and left its run: so many of its entries are in use still, and so
+-- many of its records were lost
+pub record Leaves {P : Type 0} (may : P → AllowRelation) (m : Monitor P) (d : Domain) (remains : Departure) : Type 0 where
+  pub closed : Domain
+  pub resets : Resets may m d remains.in_use closed
+  pub left : Departed
+  pub leaves : HasLeft m.words.layout closed left
+  pub lost : remains.lost ≡ left.trail.lost
+
+-- how many records a domain has, and how many were lost
+abbrev pub taken_of : Telling → TakenCounts
+taken_of t = record { records = length t.records; lost = t.lost }

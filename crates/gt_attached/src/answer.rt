@@ -1,0 +1,253 @@
+//! An answer, in a layout that C reads.
+ghost use Rattle.std.specs.Prelude.{◌≡◌, pos};
+ghost use Rattle.gt_attached.specs.Encoding.{bare, encoded, field_number, given, mapped, refusal};
+ghost use Rattle.gt_attached.specs.Decoding.{AnswersAreReadBack};
+
+use bitflags::Flags;
+use gt_calls::Handle;
+use gt_types::{Denial, DomId, Facts, Field, Size};
+
+/// The name of a mapping: its handle, the domain that has it, and the number that its run was given.
+#[derive(Clone, Copy)]
+pub struct MappingName {
+    pub handle: Handle,
+    pub dom: DomId,
+    pub run: u32,
+}
+
+/// What a domain leaves behind: how many of its records were lost, and how many of its entries are still in use.
+#[derive(Clone, Copy)]
+pub struct Departure {
+    pub lost: u64,
+    pub in_use: u64,
+}
+
+/// What was taken from a domain: how many records, and how many were lost before.
+#[derive(Clone, Copy)]
+pub struct TakenCounts {
+    pub records: u64,
+    pub lost: u64,
+}
+
+/// What a call answered.
+#[derive(Clone, Copy)]
+pub enum AttachedOutcome {
+    /// Ok, without a value.
+    Done,
+    /// Ok: the mapping has this name.
+    Mapped(MappingName),
+    /// Ok: the table has this many frames.
+    Frames(u32),
+    /// Ok: the table has this version.
+    Version(u32),
+    /// Ok: the table has this size.
+    Size(Size),
+    /// A rule stood against the call.
+    Denied(Denial),
+    /// The handle stands for no domain: the call was not made.
+    NoDomain,
+    /// The domain is in a copy: the call was not made.
+    Busy,
+    /// Memory was refused, and nothing has changed.
+    NoMemory,
+    /// The domain is in no copy that could end.
+    NoCopy,
+    /// There is no such mapping or record.
+    Absent,
+    /// A pointer is null: the call was not made.
+    NullPointer,
+    /// Ok: the domain has left its place, and this remains.
+    Left(Departure),
+    /// Ok: its records were taken.
+    TakenCounts(TakenCounts),
+}
+
+/// What a call answered, in a layout that C reads. A field that says nothing is 0.
+#[repr(C)]
+#[derive(Clone, Copy)]
+pub struct EncodedAnswer {
+    /// 0 if the call is Ok, the number of the rule from 1 to 26 if it is refused, or else one of [`NO_DOMAIN`],
+    /// [`BUSY`], [`NO_MEMORY`], [`NO_COPY`], [`ABSENT`] and [`NULL_POINTER`].
+    pub rule: u32,
+    /// The status of the public header `grant_table.h`: 0, or below it.
+    pub status: i32,
+    /// What else it carries: 0 nothing, 1 a handle, 2 frames, 3 a version, 4 a size, 5 what the policy denies, 6 a
+    /// field of an entry's bytes, 7 a header's word, 8 an entry's word, 9 what a domain leaves, 10 taken records.
+    pub kind: u32,
+    /// The domain whose word it carries, or that has the mapping.
+    pub dom: u32,
+    /// The entry whose word it carries.
+    pub gref: u32,
+    /// The type that asks.
+    pub source: u32,
+    /// The type that is asked.
+    pub target: u32,
+    /// The permission that lacks, as its bit; the number of the field, from 1 on; or the number of the mapping's run.
+    pub detail: u32,
+    /// The word of the deciding look or exchange.
+    pub word: u64,
+    /// The serial of a handle, a number of frames, a version, how many records a domain lost, or how many were taken.
+    pub value: u64,
+    /// The key of a handle, how many frames a table may have, how many entries of a domain that left are in use, or how
+    /// many records were lost before those taken.
+    pub more: u64,
+}
+
+/// The rule of an answer to a call that was not made.
+pub const NO_DOMAIN: u32 = 256;
+
+/// The rule of an answer to a call that was not made, since the domain is in a copy.
+pub const BUSY: u32 = 257;
+
+/// The rule of an answer to a call that memory was refused.
+pub const NO_MEMORY: u32 = 258;
+
+/// The rule of an answer to the end of a copy, if there is none.
+pub const NO_COPY: u32 = 259;
+
+/// The rule of an answer that a mapping or a record would be told by, if there is none.
+pub const ABSENT: u32 = 260;
+
+/// The rule of an answer to a call that was not made, since a pointer is null.
+pub const NULL_POINTER: u32 = 261;
+
+const DONE: EncodedAnswer = EncodedAnswer {
+    rule: 0,
+    status: 0,
+    kind: 0,
+    dom: 0,
+    gref: 0,
+    source: 0,
+    target: 0,
+    detail: 0,
+    word: 0,
+    value: 0,
+    more: 0,
+};
+
+// The number of a field of an entry's bytes.
+fn field_number(field: Field) -> u32
+    ensures { result ≡ field_number field }
+{
+    match field {
+        Field::Length => 1,
+        Field::Kind => 2,
+        Field::Reading => 3,
+        Field::Writing => 4,
+        Field::Pwt => 5,
+        Field::Pcd => 6,
+        Field::Pat => 7,
+        Field::SubPage => 8,
+        Field::Reserved => 9,
+    }
+}
+
+// An answer that only has a rule.
+fn by_rule(rule: u32) -> EncodedAnswer
+    ensures { result ≡ bare rule (pos 0) }
+{
+    EncodedAnswer { rule, ..DONE }
+}
+
+// A refusal.
+fn refusal(denial: Denial) -> EncodedAnswer
+    ensures { result ≡ refusal denial }
+{
+    let bare = EncodedAnswer {
+        rule: u32::from(denial.rule.number()),
+        status: i32::from(denial.status.number()),
+        ..DONE
+    };
+    match denial.facts {
+        Facts::None => bare,
+        Facts::Policy {
+            source,
+            target,
+            perm,
+        } => EncodedAnswer {
+            kind: 5,
+            source: u32::from(source.0),
+            target: u32::from(target.0),
+            detail: u32::from(perm.bits()),
+            ..bare
+        },
+        Facts::Field(field) => EncodedAnswer {
+            kind: 6,
+            detail: field_number(field),
+            ..bare
+        },
+        Facts::Header { dom, word } => EncodedAnswer {
+            kind: 7,
+            dom: u32::from(dom.0),
+            word,
+            ..bare
+        },
+        Facts::Entry { dom, gref, word } => EncodedAnswer {
+            kind: 8,
+            dom: u32::from(dom.0),
+            gref: gref.0,
+            word,
+            ..bare
+        },
+    }
+}
+
+// Ok, with a value.
+fn given(kind: u32, value: u64, more: u64) -> EncodedAnswer
+    ensures { result ≡ given kind value more }
+{
+    EncodedAnswer {
+        kind,
+        value,
+        more,
+        ..DONE
+    }
+}
+
+// Ok, with the name of a mapping.
+#[inline(always)]
+fn mapped(name: MappingName) -> EncodedAnswer
+    ensures { result ≡ mapped name }
+{
+    EncodedAnswer {
+        kind: 1,
+        dom: u32::from(name.dom.0),
+        detail: name.run,
+        value: name.handle.serial,
+        more: name.handle.key as u64,
+        ..DONE
+    }
+}
+
+impl EncodedAnswer {
+    ghost use Rattle.std.specs.Prelude.{◌≡◌};
+    ghost use Rattle.gt_attached.specs.Encoding.{encoded};
+
+    /// The outcome, as C reads it.
+    #[inline(always)]
+    pub fn of(outcome: AttachedOutcome) -> EncodedAnswer
+        ensures { result ≡ encoded outcome }
+    {
+        match outcome {
+            AttachedOutcome::Done => DONE,
+            AttachedOutcome::Mapped(name) => mapped(name),
+            AttachedOutcome::Frames(frames) => given(2, u64::from(frames), 0),
+            AttachedOutcome::Version(version) => given(3, u64::from(version), 0),
+            AttachedOutcome::Size(size) => given(4, u64::from(size.frames), u64::from(size.max)),
+            AttachedOutcome::Denied(denial) => refusal(denial),
+            AttachedOutcome::NoDomain => by_rule(NO_DOMAIN),
+            AttachedOutcome::Busy => by_rule(BUSY),
+            AttachedOutcome::NoMemory => by_rule(NO_MEMORY),
+            AttachedOutcome::NoCopy => by_rule(NO_COPY),
+            AttachedOutcome::Absent => by_rule(ABSENT),
+            AttachedOutcome::NullPointer => by_rule(NULL_POINTER),
+            AttachedOutcome::Left(remains) => given(9, remains.lost, remains.in_use),
+            AttachedOutcome::Taken(taken) => given(10, taken.records, taken.lost),
+        }
+    }
+}
+
+/// A law: an answer is read back as the outcome that it says. So no two outcomes have one answer.
+pub fn answers_are_read_back()
+    ensures { AnswersAreReadBack }
+{}

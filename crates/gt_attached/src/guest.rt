@@ -1,0 +1,425 @@
+//! A domain beside its monitor.
+ghost use Rattle.std.specs.Prelude.{◌≡◌};
+ghost use Rattle.gt_live.specs.Domains.{BelongsTo};
+ghost use Rattle.gt_attached.specs.Seated.{Leaves, StandsBy};
+
+use crate::answer::{Departure, TakenCounts};
+use gt_audit::{Record, Trail};
+use gt_calls::{CopyArgs, Handle, HeldPin, Spot};
+use gt_entry::{Control, Entry};
+use gt_live::{Domain, PendingCopy, Monitor};
+use gt_types::{Allows, Denial, DomId, GrantRef, Memory, Size};
+use std::alloc::Global;
+use std::marker::Model;
+use std::sync::Arc;
+
+/// Where a copy at its access may read and write: so many bytes from the one place to the other.
+#[derive(Clone, Copy)]
+pub struct CopyPlaces {
+    pub from: Spot,
+    pub to: Spot,
+    pub len: u16,
+}
+
+/// A domain beside an owner of its monitor, and the copy that it is in, if it is in one. It closes its table and leaves
+/// the run if it is let go. A contract sees these three.
+pub struct AttachedDomain<P: Allows + Drop> {
+    monitor: Arc<Monitor<P>, Global>,
+    domain: Domain,
+    copying: Option<PendingCopy>,
+}
+
+// Gives back the pins of the copy that the domain is in, if it is in one.
+fn settle<P: Allows>(monitor: &Monitor<P>, domain: &mut Domain, copying: Option<PendingCopy>)
+    requires { StandsBy P.may monitor.now domain.old copying }
+    ensures { BelongsTo P.may monitor.now domain.new }
+{
+    if let Some(halfway) = copying {
+        domain.copy_end(monitor, halfway);
+    }
+}
+
+// The domain gives up its mappings, closes its table and leaves its run.
+fn depart<P: Allows>(monitor: &Monitor<P>, domain: Domain) -> Departure
+    requires { BelongsTo P.may monitor.now domain }
+    ensures { Leaves P.may monitor.now domain result }
+{
+    let mut domain = domain;
+    let in_use = domain.reset(monitor) as u64;
+    let lost = domain.finish(monitor).lost();
+    Departure { lost, in_use }
+}
+
+impl<P: Allows + Drop> Model for AttachedDomain<P> {
+    ghost use Rattle.std.specs.Arc.{arc_value};
+    ghost use Rattle.gt_attached.specs.Seated.{Seated, StandsBy};
+
+    ghost Value = { Seated P };
+
+    ghost view = { λ g. record { monitor = arc_value g.monitor; domain = g.domain; copying = g.copying } };
+
+    ghost invariant = { λ g. StandsBy P.may (arc_value g.monitor) g.domain g.copying };
+}
+
+impl<P: Allows + Drop> Drop for AttachedDomain<P> {
+    fn drop(self) {
+        let AttachedDomain {
+            monitor,
+            mut domain,
+            copying,
+        } = self;
+        settle(&monitor, &mut domain, copying);
+        let _ = depart(&monitor, domain);
+    }
+}
+
+impl<P: Allows + Drop> AttachedDomain<P> {
+    ghost use Rattle.std.specs.Prelude.{◌≡◌, ◌≤◌, IsSome, None, OnOk, OnErr, is_some};
+    ghost use Rattle.gt_audit.specs.Telling.{HasNone, Tells};
+    ghost use Rattle.gt_audit.specs.declared.record.Hypercall.TheVariants as Hypercall;
+    ghost use Rattle.gt_calls.specs.declared.held.HeldPin.{HeldPin as Mapping};
+    ghost use Rattle.gt_calls.specs.declared.request.Request.TheVariants as Request;
+    ghost use Rattle.gt_live.specs.Domains.{Answered, AnswersQuietly, AnswersTold};
+    ghost use Rattle.gt_live.specs.Closing.{LooksAtOwn, Resets};
+    ghost use Rattle.gt_live.specs.Domains.{KeepsPinned, MapAnswered, mapping_reply, subject_of};
+    ghost use Rattle.gt_live.specs.Domains.{told_of, verdict_of, verdict_of_frames, verdict_of_size};
+    ghost use Rattle.gt_live.specs.Domains.{verdict_of_version};
+    ghost use Rattle.gt_live.specs.Mappings.{Removes};
+    ghost use Rattle.gt_handles.specs.Handles.{value_of};
+    ghost use Rattle.gt_attached.specs.Seated.{BeginsAccess, EndsAccess, Leaves, StaysIdle, taken_of};
+    ghost use Rattle.std.specs.List.{slice_get};
+    ghost use Rattle.std.specs.Arc.{arc_value};
+
+    /// The domain beside its monitor.
+    pub(crate) fn new(monitor: Arc<Monitor<P>, Global>, domain: Domain) -> Self
+        requires { BelongsTo P.may (arc_value monitor) domain }
+        ensures { result ≡ record { monitor = arc_value monitor; domain = domain; copying = None } }
+    {
+        AttachedDomain {
+            monitor,
+            domain,
+            copying: None,
+        }
+    }
+
+    /// Publishes an entry in place of an invalid one.
+    ///
+    /// # Errors
+    /// N9, N20, N21, N22 or N19.
+    pub fn grant(&mut self, gref: GrantRef, entry: &Entry) -> Result<(), Denial>
+        requires idle { self.old.copying ≡ None }
+        ensures stays { StaysIdle self.old self.new }
+        ensures answers { AnswersQuietly P.may self.old.monitor self.old.domain
+            (Request.Grant gref entry.now) (verdict_of result) self.new.domain }
+    {
+        self.domain.grant(&self.monitor, gref, entry)
+    }
+
+    /// Publishes the entry that the bytes spell in a table of the domain's version.
+    ///
+    /// # Errors
+    /// N9, N20, N22, N25 or N19.
+    pub fn grant_bytes(&mut self, gref: GrantRef, bytes: &[u8]) -> Result<(), Denial>
+        requires idle { self.old.copying ≡ None }
+        ensures stays { StaysIdle self.old self.new }
+        ensures answers { AnswersQuietly P.may self.old.monitor self.old.domain
+            (Request.GrantBytes gref bytes.entry) (verdict_of result) self.new.domain }
+    {
+        self.domain.grant_bytes(&self.monitor, gref, bytes)
+    }
+
+    /// Makes an entry of its own invalid, if it has no pins.
+    ///
+    /// # Errors
+    /// N9, N10 or N19.
+    pub fn revoke(&mut self, gref: GrantRef) -> Result<(), Denial>
+        requires idle { self.old.copying ≡ None }
+        ensures stays { StaysIdle self.old self.new }
+        ensures answers { AnswersQuietly P.may self.old.monitor self.old.domain
+            (Request.Revoke gref) (verdict_of result) self.new.domain }
+    {
+        self.domain.revoke(&self.monitor, gref)
+    }
+
+    /// Makes an entry of its own invalid, with or without pins.
+    ///
+    /// # Errors
+    /// N9, N10 or N18.
+    pub fn withdraw(&mut self, gref: GrantRef) -> Result<(), Denial>
+        requires idle { self.old.copying ≡ None }
+        ensures stays { StaysIdle self.old self.new }
+        ensures answers { AnswersQuietly P.may self.old.monitor self.old.domain
+            (Request.Withdraw gref) (verdict_of result) self.new.domain }
+    {
+        self.domain.withdraw(&self.monitor, gref)
+    }
+
+    /// Makes an entry of its own read-only, if it has no write pins.
+    ///
+    /// # Errors
+    /// N9, N10, N22, N18 or N19.
+    pub fn demote(&mut self, gref: GrantRef) -> Result<(), Denial>
+        requires idle { self.old.copying ≡ None }
+        ensures stays { StaysIdle self.old self.new }
+        ensures answers { AnswersQuietly P.may self.old.monitor self.old.domain
+            (Request.Demote gref) (verdict_of result) self.new.domain }
+    {
+        self.domain.demote(&self.monitor, gref)
+    }
+
+    /// Makes an entry of its own writable.
+    ///
+    /// # Errors
+    /// N9, N10, N22 or N18.
+    pub fn promote(&mut self, gref: GrantRef) -> Result<(), Denial>
+        requires idle { self.old.copying ≡ None }
+        ensures stays { StaysIdle self.old self.new }
+        ensures answers { AnswersQuietly P.may self.old.monitor self.old.domain
+            (Request.Promote gref) (verdict_of result) self.new.domain }
+    {
+        self.domain.promote(&self.monitor, gref)
+    }
+
+    /// Gives its table this version, while all its entries are invalid.
+    ///
+    /// # Errors
+    /// N2 or N24.
+    pub fn set_version(&mut self, version: u32) -> Result<(), Denial>
+        requires idle { self.old.copying ≡ None }
+        ensures stays { StaysIdle self.old self.new }
+        ensures answers { AnswersTold P.may self.old.monitor self.old.domain
+            (Request.SetVersion version) (Hypercall.SetVersion version) (verdict_of result) self.new.domain }
+    {
+        self.domain.set_version(&self.monitor, version)
+    }
+
+    /// Gives its table so many frames, if it has fewer, and answers how many it then has.
+    ///
+    /// # Errors
+    /// N5 or N23.
+    pub fn setup_table(&mut self, frames: u32) -> Result<u32, Denial>
+        requires idle { self.old.copying ≡ None }
+        ensures stays { StaysIdle self.old self.new }
+        ensures answers { AnswersTold P.may self.old.monitor self.old.domain
+            (Request.SetupTable frames) (Hypercall.SetupTable frames) (verdict_of_frames result) self.new.domain }
+    {
+        self.domain.setup_table(&self.monitor, frames)
+    }
+
+    /// How many frames the table of a domain has, and how many it may have.
+    ///
+    /// # Errors
+    /// N1 or N5.
+    pub fn query_size(&mut self, dom: DomId) -> Result<Size, Denial>
+        requires idle { self.old.copying ≡ None }
+        ensures stays { StaysIdle self.old self.new }
+        ensures answers { AnswersTold P.may self.old.monitor self.old.domain
+            (Request.QuerySize dom) (Hypercall.QuerySize dom) (verdict_of_size result) self.new.domain }
+    {
+        self.domain.query_size(&self.monitor, dom)
+    }
+
+    /// The version of the table of a domain.
+    ///
+    /// # Errors
+    /// N1 or N5.
+    pub fn get_version(&mut self, dom: DomId) -> Result<u32, Denial>
+        requires idle { self.old.copying ≡ None }
+        ensures stays { StaysIdle self.old self.new }
+        ensures answers { AnswersTold P.may self.old.monitor self.old.domain
+            (Request.GetVersion dom) (Hypercall.GetVersion dom) (verdict_of_version result) self.new.domain }
+    {
+        self.domain.get_version(&self.monitor, dom)
+    }
+
+    /// Maps an entry of a domain, for reading and writing (flags 2) or for reading (flags 6).
+    ///
+    /// # Errors
+    /// N1, N2, N5, N8 to N13, N16 to N18, or N26. Mappings and pins are as they were.
+    pub fn map(&mut self, dom: DomId, gref: GrantRef, flags: u32) -> Result<Handle, Denial>
+        requires idle { self.old.copying ≡ None }
+        ensures stays { StaysIdle self.old self.new }
+        ensures answered { MapAnswered P.may self.old.monitor self.old.domain
+            (Request.Map dom gref flags) result self.new.domain }
+        ensures told { Tells self.old.domain.trail
+            (record {
+              dom = self.old.domain.seat.dom;
+              call = Hypercall.Map dom gref flags;
+              reply = mapping_reply result;
+            })
+            self.new.domain.trail }
+    {
+        self.domain.map(&self.monitor, dom, gref, flags)
+    }
+
+    /// Gives a mapping up, and its pin back.
+    ///
+    /// # Errors
+    /// N6 or N5, and mappings and pins are as they were.
+    pub fn unmap(&mut self, handle: Handle) -> Result<(), Denial>
+        requires idle { self.old.copying ≡ None }
+        ensures stays { StaysIdle self.old self.new }
+        ensures answered { Answered P.may self.old.monitor self.old.domain
+            (Request.Unmap handle) (verdict_of result) self.new.domain }
+        ensures removed { OnOk result ((p : Mapping)
+            × Removes self.old.domain.mappings self.new.domain.mappings handle p) }
+        ensures refused { OnErr result (KeepsPinned self.old.domain self.new.domain) }
+        ensures told { Tells self.old.domain.trail
+            (told_of self.old.domain (Hypercall.Unmap (subject_of self.old.domain handle)) (verdict_of result))
+            self.new.domain.trail }
+    {
+        self.domain.unmap(&self.monitor, handle)
+    }
+
+    /// The mapping under a handle, None if the handle names none of its mappings.
+    pub fn mapping(&self, handle: Handle) -> Option<HeldPin>
+        requires idle { self.now.copying ≡ None }
+        ensures { result ≡ value_of self.now.domain.mappings handle }
+    {
+        self.domain.mapping(&self.monitor, handle)
+    }
+
+    /// From now on it keeps a record only while it has fewer than so many; with 0 its calls are not recorded at all.
+    pub fn keep_at_most(&mut self, records: usize)
+        requires idle { self.old.copying ≡ None }
+        ensures stays { StaysIdle self.old self.new }
+        ensures bound { self.new.domain
+            ≡ record self.old.domain { trail = record self.old.domain.trail { most = records } } }
+    {
+        self.domain.keep_at_most(records);
+    }
+
+    /// Makes room for so many more records, which then take no memory.
+    ///
+    /// # Errors
+    /// `Memory`, and what it keeps stays.
+    pub fn reserve_records(&mut self, records: usize) -> Result<(), Memory>
+        requires idle { self.old.copying ≡ None }
+        ensures stays { StaysIdle self.old self.new }
+        ensures room { OnOk result (records ≤ self.new.domain.trail.room) }
+        ensures kept { self.new.domain ≡ record self.old.domain {
+          trail =
+              record self.old.domain.trail { room = self.new.domain.trail.room };
+        } }
+    {
+        self.domain.reserve_records(records)
+    }
+
+    /// The record of its calls at this place, counted from 0.
+    pub fn record_at(&self, index: usize) -> Option<Record>
+        ensures { result ≡ slice_get self.now.domain.trail.records index }
+    {
+        self.domain.trail().get(index)
+    }
+
+    /// How many records were lost so far.
+    pub fn lost(&self) -> u64
+        ensures { result ≡ self.now.domain.trail.lost }
+    {
+        self.domain.trail().lost()
+    }
+
+    /// Whether it is in a copy.
+    pub fn is_copying(&self) -> bool
+        ensures { result ≡ is_some self.now.copying }
+    {
+        self.copying.is_some()
+    }
+
+    /// Begins a copy: takes its pins, and tells the two places that may now be touched. Until `copy_end` it is in this
+    /// copy. That just these bytes are moved is for the caller.
+    ///
+    /// # Errors
+    /// The first rule that stands. Then no pin is kept.
+    pub fn copy_begin(&mut self, copy: &CopyArgs) -> Result<CopyPlaces, Denial>
+        requires idle { self.old.copying ≡ None }
+        ensures begins { BeginsAccess P.may self.old copy.now result self.new }
+    {
+        match self.domain.copy_begin(&self.monitor, copy) {
+            Ok(halfway) => {
+                self.copying = Some(halfway);
+                Ok(CopyPlaces {
+                    from: halfway.from,
+                    to: halfway.to,
+                    len: halfway.len,
+                })
+            }
+            Err(denial) => Err(denial),
+        }
+    }
+
+    /// Ends the copy that it is in: its pins are given back, the last one first.
+    pub fn copy_end(&mut self)
+        requires copying { IsSome self.old.copying }
+        ensures ends { EndsAccess self.old self.new }
+    {
+        let copying = self.copying;
+        if let Some(halfway) = copying {
+            self.domain.copy_end(&self.monitor, halfway);
+            self.copying = None;
+        }
+    }
+
+    /// Leaves the run: each of its mappings is given up, and its pin back, and then each of its valid entries is
+    /// withdrawn. Answers how many records were lost, and how many of its entries are still in use by others.
+    pub fn finish(self) -> Departure
+        requires idle { self.copying ≡ None }
+        ensures leaves { Leaves P.may self.monitor self.domain result }
+    {
+        let AttachedDomain {
+            monitor,
+            domain,
+            copying: _,
+        } = self;
+        depart(&monitor, domain)
+    }
+
+    /// Gives up each of its mappings, and closes its table, for the next guest in its place. Its records stay. Answers
+    /// how many were lost, and how many of its entries are still in use.
+    pub fn reset(&mut self) -> Departure
+        requires idle { self.old.copying ≡ None }
+        ensures stays { StaysIdle self.old self.new }
+        ensures resets { Resets P.may self.old.monitor self.old.domain result.in_use self.new.domain }
+        ensures lost { result.lost ≡ self.old.domain.trail.lost }
+    {
+        let in_use = self.domain.reset(&self.monitor) as u64;
+        let lost = self.domain.trail().lost();
+        Departure { lost, in_use }
+    }
+
+    /// One look at an entry of its own: its kind, its generation and its pins of each kind. None if its table has no
+    /// such entry.
+    pub fn status(&mut self, gref: GrantRef) -> Option<Control>
+        requires idle { self.old.copying ≡ None }
+        ensures stays { StaysIdle self.old self.new }
+        ensures looks { LooksAtOwn self.old.monitor.words.layout self.old.domain gref result self.new.domain }
+    {
+        self.domain.status(&self.monitor, gref)
+    }
+
+    /// Lets its records go, and keeps their room. Answers how many there were, and how many were lost before.
+    pub fn take_records(&mut self, alloc: Global) -> TakenCounts
+        requires idle { self.old.copying ≡ None }
+        ensures stays { StaysIdle self.old self.new }
+        ensures taken { result ≡ taken_of self.old.domain.trail }
+        ensures emptied { HasNone self.new.domain.trail }
+        ensures bound { self.new.domain.trail.most ≡ self.old.domain.trail.most }
+        ensures kept { self.new.domain ≡ record self.old.domain { trail = self.new.domain.trail } }
+    {
+        let mut records = self.domain.take_records(Trail::new(alloc));
+        let taken = TakenCounts {
+            records: records.len() as u64,
+            lost: records.lost(),
+        };
+        records.clear();
+        let _none = self.domain.take_records(records);
+        taken
+    }
+
+    /// Its number.
+    pub fn dom(&self) -> DomId
+        ensures { result ≡ self.now.domain.seat.dom }
+    {
+        self.domain.seat().dom()
+    }
+}

@@ -1,0 +1,141 @@
+//! The record of a call, in a layout that C reads.
+ghost use Rattle.std.specs.Prelude.{◌≡◌};
+ghost use Rattle.gt_attached.specs.Recording.{end_recorded, record_kept, outcome_of_reply};
+
+use crate::answer::{EncodedAnswer, AttachedOutcome};
+use gt_audit::{Hypercall, Reply};
+use gt_types::End;
+
+/// One end of a copy as it was asked: a reference of the domain, or the number of a frame.
+#[repr(C)]
+#[derive(Clone, Copy)]
+pub struct CopyEnd {
+    pub ptr: u64,
+    pub dom: u16,
+    pub off: u16,
+}
+
+/// The record of a call, in a layout that C reads. A field that says nothing is 0.
+#[repr(C)]
+#[derive(Clone, Copy)]
+pub struct EncodedRecord {
+    /// What was called: 1 a map, 2 an unmap of a mapping, 3 an unmap of none, 4 a copy, 5 a size, 6 a version that is
+    /// asked, 7 a version that is set, 8 a setup.
+    pub call: u32,
+    /// The domain that called.
+    pub caller: u32,
+    /// The domain of the entry, or the one asked about.
+    pub dom: u32,
+    /// The reference of the entry.
+    pub gref: u32,
+    /// The flags of a map or a copy, the version that is set, or how many frames are set up.
+    pub flags: u32,
+    /// How many bytes are copied.
+    pub len: u32,
+    pub source: CopyEnd,
+    pub dest: CopyEnd,
+    /// What was answered; a map's handle is left out.
+    pub reply: EncodedAnswer,
+}
+
+const NO_END: CopyEnd = CopyEnd {
+    ptr: 0,
+    dom: 0,
+    off: 0,
+};
+
+// What a record keeps of an answer.
+fn replied(reply: Reply) -> AttachedOutcome
+    ensures { result ≡ outcome_of_reply reply }
+{
+    match reply {
+        Reply::Done => AttachedOutcome::Done,
+        Reply::Frames(frames) => AttachedOutcome::Frames(frames),
+        Reply::Size(size) => AttachedOutcome::Size(size),
+        Reply::Version(version) => AttachedOutcome::Version(version),
+        Reply::Denied(denial) => AttachedOutcome::Denied(denial),
+    }
+}
+
+fn end_recorded(end: End) -> CopyEnd
+    ensures { result ≡ end_recorded end }
+{
+    CopyEnd {
+        ptr: end.ptr,
+        dom: end.domid.0,
+        off: end.offset,
+    }
+}
+
+impl EncodedRecord {
+    ghost use Rattle.std.specs.Prelude.{◌≡◌};
+    ghost use Rattle.gt_attached.specs.Recording.{record_kept};
+
+    /// The record, as C reads it.
+    pub fn of(told: gt_audit::Record) -> EncodedRecord
+        ensures { result ≡ record_kept told }
+    {
+        let bare = EncodedRecord {
+            call: 0,
+            caller: u32::from(told.dom.0),
+            dom: 0,
+            gref: 0,
+            flags: 0,
+            len: 0,
+            source: NO_END,
+            dest: NO_END,
+            reply: EncodedAnswer::of(replied(told.reply)),
+        };
+        match told.call {
+            Hypercall::Map { dom, gref, flags } => EncodedRecord {
+                call: 1,
+                dom: u32::from(dom.0),
+                gref: gref.0,
+                flags,
+                ..bare
+            },
+            Hypercall::Unmap {
+                subject: Some((dom, gref)),
+            } => EncodedRecord {
+                call: 2,
+                dom: u32::from(dom.0),
+                gref: gref.0,
+                ..bare
+            },
+            Hypercall::Unmap { subject: None } => EncodedRecord { call: 3, ..bare },
+            Hypercall::Copy {
+                source,
+                dest,
+                len,
+                flags,
+            } => EncodedRecord {
+                call: 4,
+                flags: u32::from(flags),
+                len: u32::from(len),
+                source: end_recorded(source),
+                dest: end_recorded(dest),
+                ..bare
+            },
+            Hypercall::QuerySize { dom } => EncodedRecord {
+                call: 5,
+                dom: u32::from(dom.0),
+                ..bare
+            },
+            Hypercall::GetVersion { dom } => EncodedRecord {
+                call: 6,
+                dom: u32::from(dom.0),
+                ..bare
+            },
+            Hypercall::SetVersion { version } => EncodedRecord {
+                call: 7,
+                flags: version,
+                ..bare
+            },
+            Hypercall::SetupTable { frames } => EncodedRecord {
+                call: 8,
+                flags: frames,
+                ..bare
+            },
+        }
+    }
+}

@@ -1,0 +1,88 @@
+//! How a run starts for a caller outside Rattle.
+ghost use Rattle.std.specs.Prelude.{◌≡◌, All, length, map, IfOk, IfErr, OnOk};
+ghost use Rattle.gt_types.specs.Config.{IsWithinLimits};
+ghost use Rattle.gt_words.specs.Answers.{IsStartFault};
+ghost use Rattle.gt_live.specs.Domains.{BelongsTo};
+ghost use Rattle.gt_attached.specs.Starting.{AreNewGuests, beside};
+ghost use Rattle.std.specs.Arc.{arc_value};
+
+use crate::guest::AttachedDomain;
+use gt_live::{Domain, Monitor};
+use gt_types::{Allows, Config, StartFault};
+use std::alloc::{AllocError, Global};
+use std::sync::Arc;
+
+// Lets domains leave that do nothing.
+fn finish_all<P: Allows + Drop>(monitor: &Monitor<P>, domains: Vec<Domain>)
+    requires { All (λ d. BelongsTo P.may monitor.now d) domains.items }
+{
+    let mut rest = domains.into_iter();
+    'rest: while let Some(domain) = rest.next() {
+        let _ = domain.finish(monitor);
+    }
+    rest.destroy_empty();
+}
+
+// Each domain beside an owner of its monitor.
+fn all_guests<P: Allows + Drop>(
+    alloc: Global,
+    monitor: &Arc<Monitor<P>, Global>,
+    domains: Vec<Domain>,
+) -> Result<Vec<AttachedDomain<P>>, AllocError>
+    requires { All (λ d. BelongsTo P.may (arc_value monitor.now) d) domains.items }
+    ensures { IfOk result (λ v. v.items ≡ map (beside (arc_value monitor.now)) domains.items) }
+{
+    let count = domains.len();
+    let Ok(room) = Vec::with_capacity(alloc, count) else {
+        finish_all(monitor, domains);
+        return Err(AllocError);
+    };
+    let mut all: Vec<AttachedDomain<P>> = room;
+    let mut rest = domains.into_iter();
+    'rest: while let Some(domain) = rest.next() {
+        match Arc::try_clone(monitor) {
+            Ok(own) => all.push_reserved(AttachedDomain::new(own, domain)),
+            Err(_) => {
+                let _ = domain.finish(monitor);
+            }
+        }
+    }
+    rest.destroy_empty();
+    if all.len() == count {
+        Ok(all)
+    } else {
+        Err(AllocError)
+    }
+}
+
+/// Starts a run, and gives a guest for each domain configured, in order. The guests share one monitor, which has this
+/// configuration and these rights.
+///
+/// # Errors
+/// The first fault of the configuration, or `Memory` if it has none and memory is refused. No domain is left then.
+pub fn start<P: Allows + Drop>(
+    alloc: Global,
+    config: Config,
+    rights: P,
+) -> Result<Vec<AttachedDomain<P>>, StartFault>
+    ensures ok { OnOk result (IsWithinLimits config) }
+    ensures guests { IfOk result (λ v. AreNewGuests P.may config rights v.items) }
+    ensures count { IfOk result (λ v. length v.items ≡ length config.domains.items) }
+    ensures err { IfErr result (IsStartFault config) }
+{
+    let (monitor, domains) = match Monitor::new(alloc, config, rights) {
+        Ok(made) => made,
+        Err(fault) => return Err(fault),
+    };
+    let monitor = match Arc::new(alloc, monitor) {
+        Ok(monitor) => monitor,
+        Err(refused) => {
+            finish_all(&refused.value, domains);
+            return Err(StartFault::Memory);
+        }
+    };
+    match all_guests(alloc, &monitor, domains) {
+        Ok(guests) => Ok(guests),
+        Err(_) => Err(StartFault::Memory),
+    }
+}

@@ -1,6 +1,0 @@
-use Rattle.std.proofs.Common.{◌≡◌, map, take}
-use Rattle.gt_begin.specs.Beginning.{domain_set}
-use Rattle.gt_begin.proofs.settings.configured.Given as goal
-
-abbrev pub invariant-loop-one : goal.invariant-loop-one
-invariant-loop-one l = l.domains.items ≡ map domain_set (take l.one-index l.settings)

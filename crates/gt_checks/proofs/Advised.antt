@@ -1,0 +1,179 @@
+-- From what was read, found and written to what is advised.
+use Rattle.std.proofs.Common.{◌≡◌, ◌⊎◌, ℕ, ◌<◌, ◌≤◌, List, [], ◌∷◌, length, length-take, take, Option, Some, None}
+use Rattle.std.proofs.Common.{Result, Ok, Err, Bool, true, false, not, refl, sym, ap, subst, ◌∙◌, inl, inr, arith}
+use Rattle.std.specs.List.{flat_map, list_any}
+use Rattle.std.specs.Io.KnownBytes.{Appends}
+use Rattle.std.specs.Str.{IsUtf8}
+use Rattle.gt_policy_check.specs.Check.{Judges, faulty, sound, error_lines, is_error}
+use Rattle.gt_policy_check.specs.Why.{IsExplained}
+use Rattle.gt_policy_check.specs.declared.asking.WhyAnswer.{WhyAnswer}
+use Rattle.gt_policy_check.specs.declared.asking.WhyAnswer.TheVariants as answers
+use Rattle.gt_policy_check.specs.declared.asking.Explanation.{Explanation}
+use Rattle.gt_policy_check.specs.declared.asking.WhyQuestion.{WhyQuestion}
+use Rattle.gt_policy_check.specs.declared.findings.Finding.{Finding}
+use Rattle.gt_checks.specs.Checking.{Checked, CheckedText, IsCleanText}
+use Rattle.gt_checks.specs.Explaining.{AnswersWhy, AskedOf, Explained, WritesLines, answer_for}
+use Rattle.gt_checks.specs.Telling.{TellsFindings}
+use Rattle.gt_checks.specs.declared.fault.WhyFault.{WhyFault}
+use Rattle.gt_checks.specs.declared.fault.WhyFault.TheVariants.{Text, NoSource, NoTarget, NoPermission}
+use Rattle.gt_policy_list.specs.Faults.{listing_fault_of, listing_read_fault}
+use Rattle.gt_policy_list.specs.Reading.{IsNoText}
+use Rattle.gt_policy_list.specs.declared.fault.ListingFault.{ListingFault}
+use Rattle.gt_policy_list.specs.declared.fault.ListingFault.TheVariants as faults
+use Rattle.gt_policy.specs.Allowing.{Meaning}
+use Rattle.gt_policy.specs.Grammar.{at}
+use Rattle.gt_policy.specs.Lined.{IsLined}
+use Rattle.gt_policy.specs.Shown.{fault_shown}
+use Rattle.gt_policy.specs.Whole.{Says, too_long}
+use Rattle.gt_policy.specs.declared.fault.TokenFault.{TokenFault}
+use Rattle.gt_policy.specs.declared.fault.TokenFaultKind.TheVariants.{Limit}
+use Rattle.gt_policy.specs.declared.lined.LinedStatement.{LinedStatement}
+use Rattle.gt_policy.specs.declared.parse.PolicyFaultKind.{PolicyFaultKind}
+use Rattle.gt_policy.specs.declared.parse.PolicyFaultKind.TheVariants as kinds
+use Rattle.gt_streams.specs.Laws.{keeps_same, of_any_input, take_whole}
+use Rattle.gt_streams.specs.Streams.{AppendsBeginning, OfInput}
+use Rattle.gt_streams.specs.declared.fault.ReadFault.{ReadFault}
+use Rattle.gt_streams.specs.declared.fault.ReadFault.TheVariants as reads
+
+-- ---- a text that is checked
+
+abbrev pub errs : List Finding → Bool
+errs found = list_any (λ x. is_error x.kind) found
+
+pub no_error : (found : List Finding) → error_lines found ≡ [] → errs found ≡ false
+no_error [] none = refl
+no_error (x ∷ xs) none = by (is_error x.kind) refl none (no_error xs)
+  where
+    by : (b : Bool) → is_error x.kind ≡ b → error_lines (x ∷ xs) ≡ [] → (error_lines xs ≡ [] → errs xs ≡ false) → errs (x ∷ xs) ≡ false
+    by true e none later = absurd (cc (rw e at none))
+    by false e none later = rw e (later (rw e at none))
+
+pub some_error : (found : List Finding) (line : ℕ) → error_lines found ≡ line ∷ [] → errs found ≡ true
+some_error [] line some = absurd (cc some)
+some_error (x ∷ xs) line some = by (is_error x.kind) refl some (some_error xs line)
+  where
+    by : (b : Bool) → is_error x.kind ≡ b → error_lines (x ∷ xs) ≡ line ∷ [] → (error_lines xs ≡ line ∷ [] → errs xs ≡ true) → errs (x ∷ xs) ≡ true
+    by true e some later = rw e refl
+    by false e some later = rw e (later (rw e at some))
+
+clean : (text : List ℕ) (found : List Finding) → Judges text found → IsCleanText text (not (errs found))
+clean text found (faulty f _ says line) = rw (some_error found f.line line) (f, says)
+clean text found (sound m xs _ says lined none _ _) = rw (no_error found none) (m, says)
+
+told : (text : List ℕ) (found : List Finding) (old new : Option (List ℕ)) (r : Result Bool ListingFault) → Judges text found → TellsFindings found old new r → CheckedText text old new r
+told text found old new (Ok answer) judges (is, (report, went)) = (found, report, judges, subst (IsCleanText text) (sym is) (clean text found judges), went)
+told text found old new (Err faults.Write) judges t = t
+told text found old new (Err faults.Memory) judges t = t
+told text found old new (Err faults.Read) judges t = absurd t
+told text found old new (Err (faults.Utf8 line)) judges t = absurd t
+told text found old new (Err (faults.Policy shown)) judges t = absurd t
+
+-- the findings went out
+pub checked_text : (text : List ℕ) (found given : List Finding) (old new : Option (List ℕ)) (r : Result Bool ListingFault) → Judges text found → given ≡ found → TellsFindings given old new r → CheckedText text old new r
+checked_text text found given old new r judges same t = told text found old new r judges (subst (λ (l : List Finding). TellsFindings l old new r) same t)
+
+take_shorter : (n : ℕ) (xs : List ℕ) → length (take n xs) ≤ length xs
+take_shorter n xs = rw length-take (omega arith)
+
+from_text : (bytes : List ℕ) (old new : Option (List ℕ)) (r : Result Bool ListingFault) → IsUtf8 bytes → CheckedText bytes old new r → Checked bytes old new r
+from_text bytes old new (Ok answer) utf8 c = (utf8, c)
+from_text bytes old new (Err faults.Write) utf8 c = c
+from_text bytes old new (Err faults.Memory) utf8 c = c
+from_text bytes old new (Err faults.Read) utf8 c = absurd c
+from_text bytes old new (Err (faults.Utf8 line)) utf8 c = absurd c
+from_text bytes old new (Err (faults.Policy shown)) utf8 c = absurd c
+
+whole_read : (all bytes : List ℕ) → bytes ≡ take 1048577 all → length bytes ≤ 1048576 → bytes ≡ all
+whole_read all bytes read short =
+    let few : length (take 1048577 all) ≤ 1048576 = subst (λ (l : List ℕ). length l ≤ 1048576) read short in
+    read ∙ take_whole 1048576 all few
+
+pub checked_bytes : (all bytes text : List ℕ) (old new : Option (List ℕ)) (r : Result Bool ListingFault) → bytes ≡ take 1048577 all → text ≡ bytes → length bytes ≤ 1048576 → IsUtf8 bytes
+    → CheckedText text old new r → Checked all old new r
+checked_bytes all bytes text old new r read same short utf8 c =
+    subst (λ (l : List ℕ). Checked l old new r) (whole_read all bytes read short) (from_text bytes old new r utf8 (subst (λ (l : List ℕ). CheckedText l old new r) same c))
+
+too_many : (all bytes : List ℕ) → bytes ≡ take 1048577 all → 1048576 < length bytes → 1048576 < length all
+too_many all bytes read long =
+    let many : 1048576 < length (take 1048577 all) = subst (λ (l : List ℕ). 1048576 < length l) read long in
+    omega (arith, many, take_shorter 1048577 all)
+
+pub checked_no : (all bytes : List ℕ) (fault : ListingFault) (old : Option (List ℕ)) → bytes ≡ take 1048577 all → IsNoText bytes fault → Checked all old old (Err fault)
+checked_no all bytes (faults.Utf8 line) old read h = subst (λ (l : List ℕ). Checked l old old (Err (faults.Utf8 line))) (whole_read all bytes read h.0) (h, keeps_same old)
+checked_no all bytes (faults.Policy shown) old read h =
+    let long = too_many all bytes read h.0 in (at 1 Limit, h.1, (inl long, too_long all long), keeps_same old)
+checked_no all bytes faults.Memory old read h = absurd h
+checked_no all bytes faults.Read old read h = absurd h
+checked_no all bytes faults.Write old read h = absurd h
+
+unread : (all : List ℕ) (old : Option (List ℕ)) (error : ReadFault) → Checked all old old (Err (listing_read_fault error))
+unread all old reads.Memory = keeps_same old
+unread all old reads.Read = keeps_same old
+
+pub checked_unread : (known old : Option (List ℕ)) (error : ReadFault) (fault : ListingFault) → fault ≡ listing_read_fault error → OfInput known (λ input. Checked input old old (Err fault))
+checked_unread known old error fault is =
+    of_any_input known (λ (input : List ℕ). Checked input old old (Err fault)) (λ (input : List ℕ). subst (λ (f : ListingFault). Checked input old old (Err f)) (sym is) (unread input old error))
+
+-- ---- a question
+
+-- the lines of an answer went out
+pub asked_lines : (file text lines : List ℕ) (q : WhyQuestion) (e : Explanation) (allowed : Bool) (old new : Option (List ℕ)) (r : Result Bool WhyFault) → lines ≡ e.lines.items → AnswersWhy file text q (answer_for allowed) e
+    → WritesLines lines allowed old new r → AskedOf file q text old new r
+asked_lines file text lines q e allowed old new (Ok answer) same is (of, went) =
+    (e, subst (λ (b : Bool). AnswersWhy file text q (answer_for b) e) (sym of) is, subst (λ (l : List ℕ). Appends old new l) same went)
+asked_lines file text lines q e allowed old new (Err NoSource) same is w = absurd w
+asked_lines file text lines q e allowed old new (Err NoTarget) same is w = absurd w
+asked_lines file text lines q e allowed old new (Err NoPermission) same is w = absurd w
+asked_lines file text lines q e allowed old new (Err (Text faults.Write)) same is w = (lines, w)
+asked_lines file text lines q e allowed old new (Err (Text faults.Memory)) same is w = absurd w
+asked_lines file text lines q e allowed old new (Err (Text faults.Read)) same is w = absurd w
+asked_lines file text lines q e allowed old new (Err (Text (faults.Utf8 line))) same is w = absurd w
+asked_lines file text lines q e allowed old new (Err (Text (faults.Policy shown))) same is w = absurd w
+
+-- the text is no policy
+refused : (file text : List ℕ) (q : WhyQuestion) (line : ℕ) (kind : PolicyFaultKind) (old : Option (List ℕ)) → ((f : TokenFault) → fault_shown (record { line = line; kind = kind }) ≡ Some f → Says text (Err f))
+    → AskedOf file q text old old (Err (Text (listing_fault_of line kind)))
+refused file text q line kinds.Memory old says = keeps_same old
+refused file text q line kinds.Syntax old says = (_, refl, says _ refl, keeps_same old)
+refused file text q line (kinds.Unknown name) old says = (_, refl, says _ refl, keeps_same old)
+refused file text q line (kinds.Twice name) old says = (_, refl, says _ refl, keeps_same old)
+refused file text q line (kinds.Permission name) old says = (_, refl, says _ refl, keeps_same old)
+refused file text q line (kinds.Outside word) old says = (_, refl, says _ refl, keeps_same old)
+refused file text q line kinds.Limit old says = (_, refl, says _ refl, keeps_same old)
+
+pub asked_no : (file text : List ℕ) (q : WhyQuestion) (line : ℕ) (kind : PolicyFaultKind) (fault : ListingFault) (old : Option (List ℕ)) → fault ≡ listing_fault_of line kind
+    → ((f : TokenFault) → fault_shown (record { line = line; kind = kind }) ≡ Some f → Says text (Err f)) → AskedOf file q text old old (Err (Text fault))
+asked_no file text q line kind fault old is says = subst (λ (f : ListingFault). AskedOf file q text old old (Err (Text f))) (sym is) (refused file text q line kind old says)
+
+answered_from : (file bytes : List ℕ) (q : WhyQuestion) (old new : Option (List ℕ)) (r : Result Bool WhyFault) → IsUtf8 bytes → AskedOf file q bytes old new r → Explained file q bytes old new r
+answered_from file bytes q old new (Ok answer) utf8 c = (utf8, c)
+answered_from file bytes q old new (Err NoSource) utf8 c = (utf8, c)
+answered_from file bytes q old new (Err NoTarget) utf8 c = (utf8, c)
+answered_from file bytes q old new (Err NoPermission) utf8 c = (utf8, c)
+answered_from file bytes q old new (Err (Text faults.Write)) utf8 c = c
+answered_from file bytes q old new (Err (Text faults.Memory)) utf8 c = c
+answered_from file bytes q old new (Err (Text faults.Read)) utf8 c = absurd c
+answered_from file bytes q old new (Err (Text (faults.Utf8 line))) utf8 c = absurd c
+answered_from file bytes q old new (Err (Text (faults.Policy shown))) utf8 c = (c.0, c.1, (inr utf8, c.2), c.3)
+
+pub explained_bytes : (file all bytes text : List ℕ) (q : WhyQuestion) (old new : Option (List ℕ)) (r : Result Bool WhyFault) → bytes ≡ take 1048577 all → text ≡ bytes → length bytes ≤ 1048576 → IsUtf8 bytes
+    → AskedOf file q text old new r → Explained file q all old new r
+explained_bytes file all bytes text q old new r read same short utf8 c =
+    subst (λ (l : List ℕ). Explained file q l old new r) (whole_read all bytes read short) (answered_from file bytes q old new r utf8 (subst (λ (l : List ℕ). AskedOf file q l old new r) same c))
+
+pub explained_no : (file all bytes : List ℕ) (q : WhyQuestion) (fault : ListingFault) (old : Option (List ℕ)) → bytes ≡ take 1048577 all → IsNoText bytes fault → Explained file q all old old (Err (Text fault))
+explained_no file all bytes q (faults.Utf8 line) old read h = subst (λ (l : List ℕ). Explained file q l old old (Err (Text (faults.Utf8 line)))) (whole_read all bytes read h.0) (h, keeps_same old)
+explained_no file all bytes q (faults.Policy shown) old read h =
+    let long = too_many all bytes read h.0 in (at 1 Limit, h.1, (inl long, too_long all long), keeps_same old)
+explained_no file all bytes q faults.Memory old read h = absurd h
+explained_no file all bytes q faults.Read old read h = absurd h
+explained_no file all bytes q faults.Write old read h = absurd h
+
+unasked : (file all : List ℕ) (q : WhyQuestion) (old : Option (List ℕ)) (error : ReadFault) → Explained file q all old old (Err (Text (listing_read_fault error)))
+unasked file all q old reads.Memory = keeps_same old
+unasked file all q old reads.Read = keeps_same old
+
+pub explained_unread : (file : List ℕ) (q : WhyQuestion) (known old : Option (List ℕ)) (error : ReadFault) (fault : ListingFault) → fault ≡ listing_read_fault error → OfInput known (λ input. Explained file q input old old (Err (Text fault)))
+explained_unread file q known old error fault is =
+    of_any_input known (λ (input : List ℕ). Explained file q input old old (Err (Text fault)))
+    (λ (input : List ℕ). subst (λ (f : ListingFault). Explained file q input old old (Err (Text f))) (sym is) (unasked file input q old error))

@@ -1,0 +1,12 @@
+-- Why a question is not answered, as words.
+use Rattle.std.specs.Prelude.{ℕ, List, codes}
+use Rattle.gt_policy_list.specs.Faults.{listing_fault_text}
+use Rattle.gt_checks.specs.declared.fault.WhyFault.{WhyFault}
+use Rattle.gt_checks.specs.declared.fault.WhyFault.TheVariants as faults
+
+-- the words that are printed
+abbrev pub why_fault_text : WhyFault → List ℕ
+why_fault_text (faults.Text fault) = listing_fault_text fault
+why_fault_text faults.NoSource = codes "source: no such type"
+why_fault_text faults.NoTarget = codes "target: no such type"
+why_fault_text faults.NoPermission = codes "permission: none of the seven"

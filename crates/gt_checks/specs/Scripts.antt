@@ -1,0 +1,29 @@
+-- What is written for a script that is checked.
+use Rattle.std.specs.Prelude.{◌≡◌, ◌⊎◌, ℕ, Bool, true, false, List, Option, Result, Ok, Err}
+use Rattle.std.specs.Io.KnownBytes.{Appends, Keeps}
+use Rattle.gt_policy_check.specs.declared.findings.Finding.{Finding}
+use Rattle.gt_policy_list.specs.declared.fault.ListingFault.{ListingFault}
+use Rattle.gt_policy_list.specs.declared.fault.ListingFault.TheVariants.{Utf8, Policy, Memory, Read, Write}
+use Rattle.gt_script.specs.Contents.{Contents}
+use Rattle.gt_script.specs.RunContents.{RunContents}
+use Rattle.gt_script.specs.RunScripts.{RunTells}
+use Rattle.gt_script.specs.Script.{TellsScript, Wrong}
+use Rattle.gt_script_check.specs.Judging.{JudgesScript}
+use Rattle.gt_streams.specs.Streams.{AppendsBeginning}
+
+-- the bytes are a script for `play` or for `run`, or for neither
+abbrev pub IsScript : List ℕ → Bool → Type 0
+IsScript bytes true = ((c : Contents) × TellsScript bytes (Ok c)) ⊎ ((c : RunContents) × RunTells bytes (Ok c))
+IsScript bytes false = (play : Wrong) × (run : Wrong) × TellsScript bytes (Err play) × RunTells bytes (Err run)
+
+-- what was written for a script: at Ok what was found in it, and whether it is one; after a failed write a beginning;
+-- nothing where memory is refused or the text is not read
+abbrev pub CheckedScript : List ℕ → Option (List ℕ) → Option (List ℕ) → Result Bool ListingFault → Type 0
+CheckedScript bytes old new (Ok clean) =
+    (found : List Finding) × (report : List ℕ) × JudgesScript bytes found × IsScript bytes clean
+    × Appends old new report
+CheckedScript bytes old new (Err Write) = (report : List ℕ) × AppendsBeginning old new report
+CheckedScript bytes old new (Err Memory) = Keeps old new
+CheckedScript bytes old new (Err Read) = Keeps old new
+CheckedScript bytes old new (Err (Utf8 line)) = ⊥
+CheckedScript bytes old new (Err (Policy shown)) = ⊥

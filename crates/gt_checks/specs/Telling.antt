@@ -1,0 +1,19 @@
+-- What is written of the findings in a text.
+use Rattle.std.specs.Prelude.{◌≡◌, ℕ, Bool, not, List, Option, Result, Ok, Err}
+use Rattle.std.specs.List.{list_any}
+use Rattle.std.specs.Io.KnownBytes.{Appends, Keeps}
+use Rattle.gt_policy_check.specs.Check.{is_error}
+use Rattle.gt_policy_check.specs.declared.findings.Finding.{Finding}
+use Rattle.gt_policy_list.specs.declared.fault.ListingFault.{ListingFault}
+use Rattle.gt_policy_list.specs.declared.fault.ListingFault.TheVariants.{Utf8, Policy, Memory, Read, Write}
+use Rattle.gt_streams.specs.Streams.{AppendsBeginning}
+
+-- findings went out, or a beginning of them; the answer is that none is an error
+abbrev pub TellsFindings : List Finding → Option (List ℕ) → Option (List ℕ) → Result Bool ListingFault → Type 0
+TellsFindings found old new (Ok clean) =
+    (clean ≡ not (list_any (λ x. is_error x.kind) found)) × ((report : List ℕ) × Appends old new report)
+TellsFindings found old new (Err Write) = (report : List ℕ) × AppendsBeginning old new report
+TellsFindings found old new (Err Memory) = Keeps old new
+TellsFindings found old new (Err Read) = ⊥
+TellsFindings found old new (Err (Utf8 line)) = ⊥
+TellsFindings found old new (Err (Policy shown)) = ⊥

@@ -1,0 +1,35 @@
+//! Why a question is not answered.
+use gt_policy_list::ListingFault;
+use std::error::Error;
+use std::fmt;
+
+/// Why a question is not answered. It prints as one line, without its end.
+#[derive(Debug, Drop)]
+pub enum WhyFault {
+    /// The text is no policy, or could not be read, or the lines not be written.
+    Text(ListingFault),
+    /// The source is no declared type. Nothing was written.
+    NoSource,
+    /// The target is no declared type. Nothing was written.
+    NoTarget,
+    /// The word is none of the seven permissions. Nothing was written.
+    NoPermission,
+}
+
+impl fmt::Display for WhyFault {
+    ghost use Rattle.std.specs.Prelude.{Some};
+    ghost use Rattle.gt_checks.specs.Faults.{why_fault_text};
+
+    ghost output = { λ fault. Some (why_fault_text fault) };
+
+    fn fmt<W: fmt::Write>(&self, f: &mut fmt::Formatter<W>) -> fmt::Result {
+        match self {
+            WhyFault::Text(fault) => write!(f, "{fault}"),
+            WhyFault::NoSource => f.write_str("source: no such type"),
+            WhyFault::NoTarget => f.write_str("target: no such type"),
+            WhyFault::NoPermission => f.write_str("permission: none of the seven"),
+        }
+    }
+}
+
+impl Error for WhyFault {}

@@ -1,0 +1,63 @@
+//! A script in, and what is wrong or useless in it out.
+ghost use Rattle.std.specs.Prelude.{◌≡◌, ◌+◌, ℕ, List, take};
+ghost use Rattle.gt_types.specs.declared.limits.TheConstants.{LONGEST_TEXT};
+ghost use Rattle.gt_streams.specs.Streams.{OfInput};
+ghost use Rattle.gt_checks.specs.Scripts.{CheckedScript};
+
+use crate::telling::tell_findings;
+use gt_policy_list::ListingFault;
+use gt_script_check::judge;
+use gt_streams::{read_text, text_of};
+use std::alloc::Global;
+use std::io::{Read, Write};
+
+// The text of a script; empty if it is no UTF-8, so that no line of it is shown.
+fn shown_text<'a>(input: &'a [u8]) -> &'a str {
+    match text_of(input) {
+        Ok(text) => text,
+        Err(_) => "",
+    }
+}
+
+// Checks the script that bytes say, of which those up to the limit were read.
+fn check_script_bytes<W: Write>(
+    alloc: Global,
+    file: &str,
+    json: bool,
+    input: &[u8],
+    writer: &mut W,
+) -> Result<bool, ListingFault>
+    ensures { (all : List ℕ) → input.now ≡ take (LONGEST_TEXT + 1) all →
+        CheckedScript all (W.contents writer.old) (W.contents writer.new) result }
+{
+    match judge(alloc, input) {
+        Ok(found) => tell_findings(
+            alloc,
+            file,
+            json,
+            shown_text(input),
+            found.as_slice(),
+            writer,
+        ),
+        Err(_) => Err(ListingFault::Memory),
+    }
+}
+
+/// Writes what is wrong or useless in the script of the reader's text and in its policy block, as compilers print it,
+/// or as an object a line. `file` is the name that the lines begin with. It answers whether the text is a script, for
+/// `play` or for `run`. At most 1,048,577 bytes are read; a text that is too long or no UTF-8 is told as a finding.
+pub fn check_script<R: Read, W: Write>(
+    alloc: Global,
+    file: &str,
+    json: bool,
+    reader: &mut R,
+    writer: &mut W,
+) -> Result<bool, ListingFault>
+    ensures { OfInput (R.remaining reader.old) (λ input.
+        CheckedScript input (W.contents writer.old) (W.contents writer.new) result) }
+{
+    match read_text(alloc, reader) {
+        Ok(input) => check_script_bytes(alloc, file, json, input.as_slice(), writer),
+        Err(fault) => Err(ListingFault::from(fault)),
+    }
+}

@@ -1,0 +1,57 @@
+//! What was found in a text, written for its author.
+ghost use Rattle.std.specs.Prelude.{◌≡◌};
+ghost use Rattle.std.specs.List.{list_any};
+ghost use Rattle.gt_policy_check.specs.Check.{is_error};
+ghost use Rattle.gt_checks.specs.Telling.{TellsFindings};
+
+use gt_policy_check::{Finding, FindingKind, push_json, push_report};
+use gt_policy_list::ListingFault;
+use gt_streams::finish;
+use std::alloc::{AllocError, Global};
+use std::io::Write;
+
+// Whether some finding is an error.
+fn has_error(found: &[Finding]) -> bool
+    ensures { result ≡ list_any (λ x. is_error x.kind) found.now }
+{
+    found
+        .iter()
+        .any(|finding| matches!(finding.kind, FindingKind::Fault))
+}
+
+// The findings as they are written.
+fn report(
+    alloc: Global,
+    file: &str,
+    json: bool,
+    text: &str,
+    found: &[Finding],
+) -> Result<Vec<u8>, AllocError> {
+    let mut out = Vec::new(alloc);
+    if json {
+        push_json(&mut out, file, found)?;
+    } else {
+        push_report(&mut out, file, text, found)?;
+    }
+    Ok(out)
+}
+
+/// Writes findings, and answers whether none of them is an error.
+pub(crate) fn tell_findings<W: Write>(
+    alloc: Global,
+    file: &str,
+    json: bool,
+    text: &str,
+    found: &[Finding],
+    writer: &mut W,
+) -> Result<bool, ListingFault>
+    ensures { TellsFindings found.now (W.contents writer.old) (W.contents writer.new) result }
+{
+    let Ok(said) = report(alloc, file, json, text, found) else {
+        return Err(ListingFault::Memory);
+    };
+    match finish(writer, said.as_slice()) {
+        Ok(()) => Ok(!has_error(found)),
+        Err(_) => Err(ListingFault::Write),
+    }
+}

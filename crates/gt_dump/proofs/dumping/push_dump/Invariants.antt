@@ -1,5 +1,0 @@
-use Rattle.gt_dump.specs.Dumps.{TellsEntries}
-use Rattle.gt_dump.proofs.dumping.push_dump.Given as goal
-
-abbrev pub invariant-entries : goal.invariant-entries
-invariant-entries l = TellsEntries l.asked l.dump l.gref l.out.items

@@ -1,0 +1,40 @@
+//! The bytes of a dump, or hexadecimal text for them.
+ghost use Rattle.std.specs.Prelude.{◌≡◌, ◌≤◌, length, IfOk, IfErr};
+ghost use Rattle.gt_entries.specs.Dumps.{IsNoDump, SaysDump, digits_of};
+
+use crate::fault::DumpFault;
+use gt_types::LONGEST_TEXT;
+use hex::FromHexError;
+use std::alloc::{AllocError, Global};
+
+// The digits of hexadecimal text, without its blanks and line ends.
+fn digits_of(alloc: Global, input: &[u8]) -> Result<Vec<u8>, AllocError>
+    ensures { IfOk result (λ digits. digits.items ≡ digits_of input.now) }
+{
+    input
+        .iter()
+        .filter(|byte| !byte.is_ascii_whitespace())
+        .copied()
+        .collect(alloc)
+}
+
+/// The bytes that the input says: its own, or, if it is `hex`, those that its hexadecimal digits say, two digits for
+/// each. An Err says that it is no such text, that it has more than 1,048,576 bytes, or that memory was refused.
+pub fn bytes_of(alloc: Global, hex: bool, input: Vec<u8>) -> Result<Vec<u8>, DumpFault>
+    ensures says { IfOk result (λ bytes. SaysDump hex input.items bytes.items) }
+    ensures few { IfOk result (λ _. length input.items ≤ LONGEST_TEXT) }
+    ensures fault { IfErr result (λ fault. IsNoDump hex input.items fault) }
+{
+    if input.len() > LONGEST_TEXT {
+        return Err(DumpFault::Limit);
+    }
+    if !hex {
+        return Ok(input);
+    }
+    let digits = digits_of(alloc, input.as_slice())?;
+    match hex::decode(alloc, digits) {
+        Ok(bytes) => Ok(bytes),
+        Err(FromHexError::OutOfMemory) => Err(DumpFault::Memory),
+        Err(_) => Err(DumpFault::Syntax),
+    }
+}

@@ -1,0 +1,103 @@
+//! The line of an entry.
+ghost use Rattle.std.specs.Prelude.{◌≡◌, ◌==◌, ◌++◌, ℕ, List, OnOk};
+ghost use Rattle.std.specs.List.{list_all};
+ghost use Rattle.gt_entry.specs.Bytes.{entry_size};
+ghost use Rattle.gt_entries.specs.Dumps.{Decodes, TellsEntry, is_left_out, dump_line_text, field_text};
+ghost use Rattle.gt_entries.specs.Live.{cleared};
+
+use crate::asked::DumpOptions;
+use crate::live::{cleared, push_live};
+use crate::script::push_call;
+use crate::showing::push_answer;
+use gt_entry::{Entry, decode};
+use gt_texts::{push_number, push_text};
+use gt_types::Field;
+use std::alloc::{AllocError, Global};
+
+// What the decoders answer.
+fn answer_of(version: u8, plain: &[u8]) -> Result<Entry, Field>
+    ensures { Decodes version plain.now result }
+{
+    decode(version, plain)
+}
+
+// Appends an entry as it is shown.
+fn push_shown(
+    out: &mut Vec<u8>,
+    gref: usize,
+    bytes: &[u8],
+    answer: Result<Entry, Field>,
+) -> Result<(), AllocError>
+    ensures { OnOk result (out.new.items ≡ out.old.items ++ field_text gref bytes.now answer) }
+{
+    push_number(out, gref)?;
+    push_text(out, " ")?;
+    push_answer(out, answer)?;
+    push_live(out, bytes)?;
+    push_text(out, "\n")
+}
+
+// Appends the line for what the decoders answer.
+fn push_answered(
+    alloc: Global,
+    out: &mut Vec<u8>,
+    asked: DumpOptions,
+    gref: usize,
+    bytes: &[u8],
+    plain: Vec<u8>,
+    answer: Result<Entry, Field>,
+) -> Result<(), AllocError>
+    requires { plain.items ≡ cleared bytes.now }
+    ensures { OnOk result (out.new.items ≡ out.old.items
+        ++ dump_line_text asked.script asked.version gref bytes.now answer) }
+{
+    let Some(dom) = asked.script else {
+        return push_shown(out, gref, bytes, answer);
+    };
+    match answer {
+        Ok(entry) => push_call(alloc, out, dom, asked.version, gref, entry, plain, bytes),
+        Err(field) => {
+            push_text(out, "# ")?;
+            push_shown(out, gref, bytes, Err(field))
+        }
+    }
+}
+
+/// How many bytes an entry has in a table of this version.
+pub(crate) fn entry_size(version: u8) -> usize
+    ensures { result ≡ entry_size version }
+{
+    if version == 2 { 16 } else { 8 }
+}
+
+fn is_zero(bytes: &[u8]) -> bool
+    ensures { result ≡ list_all (λ byte. byte == 0) bytes.now }
+{
+    bytes.iter().all(|byte| *byte == 0)
+}
+
+fn is_left_out(asked: DumpOptions, bytes: &[u8]) -> bool
+    ensures { result ≡ is_left_out asked bytes.now }
+{
+    !asked.all && bytes.len() == entry_size(asked.version) && is_zero(bytes)
+}
+
+/// Appends the text of an entry: its line, or nothing if it is left out. After an Err a part of
+/// the line may be there.
+pub fn push_entry_lines(
+    alloc: Global,
+    out: &mut Vec<u8>,
+    asked: DumpOptions,
+    gref: usize,
+    bytes: &[u8],
+) -> Result<(), AllocError>
+    ensures { OnOk result ((text : List ℕ) × TellsEntry asked gref bytes.now text
+        × (out.new.items ≡ out.old.items ++ text)) }
+{
+    if is_left_out(asked, bytes) {
+        return Ok(());
+    }
+    let plain = cleared(alloc, bytes)?;
+    let answer = answer_of(asked.version, plain.as_slice());
+    push_answered(alloc, out, asked, gref, bytes, plain, answer)
+}

@@ -1,0 +1,606 @@
+//! The moves of the domains.
+ghost use Rattle.std.specs.Prelude.{◌≡◌, ◌++◌, false, get_or, IfOk, List, OnOk};
+ghost use Rattle.std.specs.Option.{option_map};
+ghost use Rattle.gt_calls.specs.Asking.{FitsAsked, asked};
+ghost use Rattle.gt_calls.specs.declared.request.Request.{Request};
+ghost use Rattle.gt_core.specs.Acting.{answer_of};
+ghost use Rattle.gt_entry.specs.Entries.{IsEntry};
+ghost use Rattle.gt_host.specs.Runs.{Named, SaysRequest};
+ghost use Rattle.gt_explore_moves.specs.Ends.{choices, disturbs_none};
+ghost use Rattle.gt_explore_moves.specs.Mappings.{label_bytes};
+ghost use Rattle.gt_explore_moves.specs.Ticking.{bytes_by, label_given_by};
+ghost use Rattle.gt_types.specs.declared.DomId.{DomId};
+
+use crate::actor::{Actor, ActorCall};
+use crate::calls::{CallOpening, go_on, open_call};
+use crate::names::names_of;
+use crate::scene::{SearchContext, SearchState};
+use gt_calls::{Action, Call, Handles, HeldPin, CallerState, Request, Observation, Step, CallResult};
+use gt_core::{Answer, Bytes, answer_of};
+use gt_entry::Entry;
+use gt_host::{ScriptPolicy, call_bytes, label_given, push_answer_line, request_of};
+use gt_script_lines::ScriptCall;
+use gt_explore_replay::Turn;
+use gt_script::{RunAction, RunTask};
+use gt_types::DomId;
+use gt_explore_search::{TurnResult, SearchFault};
+use gt_explore_state::{SparseState, SparseTable};
+use std::alloc::{AllocError, Global};
+
+// A law: each number of an entry fits its type.
+fn entry_fits(entry: Entry)
+    ensures { IsEntry entry }
+{}
+
+// A law: what the call of a line asks fits its types.
+fn said_fits(call: &ScriptCall<'_>)
+    ensures { (named : List Named) (dom : DomId) (request : Request) →
+        SaysRequest named dom call.now request → FitsAsked (asked request) }
+{
+    match call {
+        ScriptCall::Grant { entry, .. } => entry_fits(*entry),
+        _ => {}
+    }
+}
+
+// The bytes that the call of a task says.
+fn bytes_of_task(alloc: Global, task: Option<&RunTask>) -> Result<Vec<u8>, SearchFault>
+    ensures { IfOk result (λ bytes. bytes.items ≡ bytes_by (option_map (λ t. t.now) task.entry)) }
+{
+    match task {
+        Some(task) => match &task.deed {
+            RunAction::Do(call) => Ok(call_bytes(alloc, call)?),
+            _ => Ok(Vec::new(alloc)),
+        },
+        None => Ok(Vec::new(alloc)),
+    }
+}
+
+// The label to which a task gives its mapping.
+fn label_of<'a>(task: &RunTask<'a>) -> Option<&'a [u8]>
+    ensures { label_bytes result ≡ label_given_by task.now.deed }
+{
+    match &task.deed {
+        RunAction::Do(call) => label_given(call),
+        _ => None,
+    }
+}
+
+// So many moves of a domain, each with its own choice.
+fn push_choices(turns: &mut Vec<Turn>, place: usize, count: usize) -> Result<(), AllocError>
+    ensures { OnOk result (turns.new.items ≡ turns.old.items ++ choices place count) }
+{
+    for choice in 0..count {
+        turns.push(Turn { place, choice })?;
+    }
+    Ok(())
+}
+
+// Whether a flag was raised.
+fn is_told(told: &[bool], flag: usize) -> bool
+    ensures { result ≡ get_or told.now flag false }
+{
+    flag < told.len() && told[flag]
+}
+
+// Whether a task disturbs no other domain when it is next: it begins a call, raises a flag, or awaits a raised one.
+fn disturbs_none(told: &[bool], task: &RunTask) -> bool
+    ensures { result ≡ disturbs_none told.now task.now.deed }
+{
+    match &task.deed {
+        RunAction::Await(flag) => is_told(told, *flag),
+        _ => true,
+    }
+}
+
+impl<'s, 'a> SearchContext<'s, 'a> {
+    ghost use Rattle.std.specs.Prelude.{◌≡◌, ◌<◌, ◌^◌, ℕ, List, ◌∷◌, Option, Some, None, true, length, slice_get};
+    ghost use Rattle.std.specs.Prelude.{slice_set, IfOk, IsTrue};
+    ghost use Rattle.gt_core.specs.GoingOn.{beginning};
+    ghost use Rattle.gt_core.specs.Legal.{BeginsRight};
+    ghost use Rattle.gt_core.specs.declared.trace.Answer.{Answer};
+    ghost use Rattle.gt_host.specs.Printing.{answer_line};
+    ghost use Rattle.gt_explore_replay.specs.Orders.{given_up};
+    ghost use Rattle.gt_explore_moves.specs.declared.actor.Actor.{Actor};
+    ghost use Rattle.gt_calls.specs.declared.request.Request.{Request};
+    ghost use Rattle.gt_calls.specs.Path.{path};
+    ghost use Rattle.gt_calls.specs.declared.judging.TheConstants.{SERIAL_LIMIT};
+    ghost use Rattle.gt_core.specs.History.{History, Setting, Underway, known_at, maps_answered_at, seen_by, values};
+    ghost use Rattle.gt_explore_moves.specs.Continuing.{GoesOnAsRun, StillKnows};
+    ghost use Rattle.gt_host.specs.Runs.{SaysRequest};
+    ghost use Rattle.gt_calls.specs.declared.request.Request.TheVariants.{Unmap};
+    ghost use Rattle.gt_handles.specs.declared.handles.Handle.{Handle};
+    ghost use Rattle.gt_types.specs.declared.config.DomainConfig.{DomainConfig};
+    ghost use Rattle.gt_explore_replay.specs.Courses.{Course, IsDoneIf, back_after, course_after, resting};
+    ghost use Rattle.gt_script.specs.Lists.{RunTask};
+    ghost use Rattle.gt_explore_moves.specs.Starting.{BeginsAsRun, GivesAsRun, IsNextCall, MovesAsRun, PassesTo, PrintsLine};
+    ghost use Rattle.gt_explore_moves.specs.Starting.{held_but};
+    ghost use Rattle.gt_calls.specs.Following.{Goes, IsLeftAlike};
+    ghost use Rattle.gt_calls.specs.Rules.{CallerKnowledge, knows};
+    ghost use Rattle.gt_host.specs.Rights.{may_by};
+    ghost use Rattle.gt_explore_moves.specs.Beginnings.{BeginsAlike, OpensSo};
+    ghost use Rattle.gt_explore_moves.specs.Calls.{GoesAlong, KnowsTable, SerialsRise, ShowsCalls, handles_at, known_in, no_mappings};
+    ghost use Rattle.std.specs.Prelude.{IfSome};
+    ghost use Rattle.gt_explore_moves.specs.Ends.{AreDone, AreToBeTried, choices_at, goes_at_once, is_done, is_ended, tasks_at};
+    ghost use Rattle.gt_explore_moves.specs.Ends.{turns_from};
+    ghost use Rattle.gt_core.specs.Legal.{IsItemOf, IsRight};
+    ghost use Rattle.gt_core.specs.declared.trace.Event.TheVariants.{Tick};
+    ghost use Rattle.gt_core.specs.declared.trace.Item.{Item};
+    ghost use Rattle.gt_explore_moves.specs.Scenes.{MovesAlong};
+    ghost use Rattle.gt_explore_moves.specs.Ticking.{Closes, ClosesBack, HasStepped, IsTick, ReadsInFrame, ShowsAt, TellsEnd};
+    ghost use Rattle.gt_explore_moves.specs.Ticking.{TickLeads, TicksAsRun, bytes_by, task_in};
+    ghost use Rattle.gt_explore_moves.specs.declared.scene.SearchState.{SearchState};
+    ghost use Rattle.gt_explore_state.specs.Shows.{PagesShow};
+
+    // What a domain knows, if these are its mappings.
+    fn known<'k>(&'k self, table: &'k SparseTable, mappings: &'k Handles<HeldPin>) -> CallerState<'k, ScriptPolicy>
+        ensures { knows may_by result ≡ known_in self.now table.now mappings.now }
+    {
+        CallerState {
+            config: &self.roster,
+            rights: &self.rights,
+            own: table.own.as_slice(),
+            header: table.header,
+            mappings,
+        }
+    }
+
+    // How a call begins.
+    fn opening(
+        &self,
+        table: &SparseTable,
+        mappings: &Handles<HeldPin>,
+        dom: DomId,
+        request: Request<'_>,
+    ) -> CallOpening
+        ensures { (k : CallerKnowledge) →
+            BeginsAlike k (known_in self.now table.now mappings.now) dom request.entry →
+            OpensSo k dom request.entry result }
+    {
+        open_call(&self.known(table, mappings), dom, request)
+    }
+
+    // How a call goes on that saw this. It asks nothing of the mappings of its domain any more.
+    fn next(&self, table: &SparseTable, last: ActorCall, seen: Observation) -> (Call, Action)
+        ensures caller { result.0.caller ≡ last.call.caller }
+        ensures request { result.0.request ≡ last.call.request }
+        ensures goes { (k : CallerKnowledge) →
+            IsLeftAlike k (known_in self.now table.now no_mappings) last.call seen →
+            Goes k last.call seen result.0 result.1 }
+        ensures along { (s : Setting) (h : History) (d : DomId) (c : Underway) (z : Step) →
+            GoesAlong s h d c last → maps_answered_at h d.0 < SERIAL_LIMIT →
+            SerialsRise 0 (handles_at h d) (maps_answered_at h d.0) →
+            path (known_at s h d) d c.request (values c) ≡ Some (Action.Step z) → seen ≡ seen_by s h d z →
+            StillKnows s h d self.now table.now last.call →
+            GoesOnAsRun s h d c z last.task result.0 result.1 }
+    {
+        let mappings = Handles::new(self.alloc);
+        go_on(&self.known(table, &mappings), last.call, seen)
+    }
+
+    // The line that the answer of a task prints.
+    fn line(&self, task: &RunTask<'a>, answer: &Answer) -> Result<TurnResult, SearchFault>
+        ensures { IfOk result (λ led. PrintsLine led
+            (answer_line self.now.types.items task.now.line task.now.dom answer.now)) }
+    {
+        let mut out = Vec::new(self.alloc);
+        let types = self.types.as_slice();
+        push_answer_line(self.alloc, &mut out, types, task.line, task.dom, answer)?;
+        Ok(TurnResult::Answered(out))
+    }
+
+    // How the call of a task begins.
+    fn begun(
+        &self,
+        actor: &Actor<'a>,
+        table: &SparseTable,
+        task: &RunTask<'a>,
+        call: &ScriptCall<'a>,
+    ) -> Result<CallOpening, SearchFault>
+        ensures { (s : Setting) (h : History) (tasks : List RunTask) (k : Course) (q : Request) →
+            ShowsCalls s h tasks k actor.now → length tasks < 2 ^ 63 → KnowsTable s h k.dom self.now table.now →
+            task.now.dom ≡ k.dom → SaysRequest k.named k.dom call.now q → IfOk result (BeginsAsRun s h k.dom q) }
+    {
+        let bytes = call_bytes(self.alloc, call)?;
+        let names = names_of(self.alloc, task.dom, actor.mappings.as_slice())?;
+        let request = request_of(&names.labels, task.dom, bytes.as_slice(), call);
+        Ok(self.opening(table, &names.mappings, task.dom, request))
+    }
+
+    // The call of a task begins.
+    fn begin(
+        &self,
+        world: &mut SearchState<'a>,
+        at: usize,
+        task: &'s RunTask<'a>,
+        call: &'s ScriptCall<'a>,
+    ) -> Result<TurnResult, SearchFault>
+        ensures { (s : Setting) (h : History) (k : Course) (ts : List RunTask) (a : Actor) (q : Request)
+            (t : SparseTable) (answer : Option Answer) → slice_get world.old.actors.items at ≡ Some a →
+            slice_get world.old.ground.tables.items at ≡ Some t →
+            ShowsCalls s h (tasks_at self.now at) k a → KnowsTable s h k.dom self.now t →
+            IsNextCall k task.now ts call.now → SaysRequest k.named k.dom call.now q →
+            BeginsRight s h (beginning k.dom q answer) q →
+            IfOk result (MovesAsRun s (beginning k.dom q answer ∷ h) (tasks_at self.now at) a k
+            (course_after self.now.types.items task.now.line call.now (given_up q) (record k { tasks = ts }) answer)
+            world.old world.new at) }
+    {
+        let Some(actor) = world.actors.get_mut(at) else {
+            return Ok(TurnResult::Nowhere);
+        };
+        let Some(table) = world.ground.tables.get(at) else {
+            return Ok(TurnResult::Nowhere);
+        };
+        match self.begun(actor, table, task, call)? {
+            CallOpening::Open(call, step) => {
+                actor.start(call, step);
+                Ok(TurnResult::On)
+            }
+            CallOpening::Done(verdict) => {
+                actor.pass();
+                self.line(task, &answer_of(verdict))
+            }
+        }
+    }
+
+    // How an unmap of a domain's mapping at this place begins, if there is one.
+    fn unmapping(
+        &self,
+        actor: &Actor<'a>,
+        table: &SparseTable,
+        dom: DomId,
+        choice: usize,
+    ) -> Result<Option<CallOpening>, SearchFault>
+        ensures { (s : Setting) (h : History) (tasks : List RunTask) (k : Course) (handle : Handle) →
+            ShowsCalls s h tasks k actor.now → length tasks < 2 ^ 63 → KnowsTable s h k.dom self.now table.now →
+            dom ≡ k.dom → k.opened ≡ resting → slice_get k.held choice ≡ Some handle →
+            IfOk result (GivesAsRun s h k.dom handle choice) }
+    {
+        let names = names_of(self.alloc, dom, actor.mappings.as_slice())?;
+        let Some(handle) = names.handles.get(choice).copied() else {
+            return Ok(None);
+        };
+        let request = Request::Unmap { handle };
+        Ok(Some(self.opening(table, &names.mappings, dom, request)))
+    }
+
+    // A domain at the end of its list begins to give a mapping back.
+    fn give_back(&self, world: &mut SearchState<'a>, turn: Turn) -> Result<TurnResult, SearchFault>
+        ensures { (s : Setting) (h : History) (k : Course) (a : Actor) (domain : DomainConfig) (handle : Handle)
+            (t : SparseTable) (answer : Option Answer) → slice_get world.old.actors.items turn.place ≡ Some a →
+            slice_get world.old.ground.tables.items turn.place ≡ Some t →
+            slice_get self.now.roster.domains.items turn.place ≡ Some domain → domain.id ≡ k.dom →
+            ShowsCalls s h (tasks_at self.now turn.place) k a → KnowsTable s h k.dom self.now t →
+            k.opened ≡ resting → slice_get k.held turn.choice ≡ Some handle →
+            BeginsRight s h (beginning k.dom (Unmap handle) answer) (Unmap handle) → IsDoneIf answer →
+            IfOk result (MovesAsRun s (beginning k.dom (Unmap handle) answer ∷ h) (tasks_at self.now turn.place) a k
+            (back_after (held_but k turn.choice) answer) world.old world.new turn.place) }
+    {
+        let Some(domain) = self.roster.config().domains.get(turn.place) else {
+            return Ok(TurnResult::Nowhere);
+        };
+        let Some(actor) = world.actors.get_mut(turn.place) else {
+            return Ok(TurnResult::Nowhere);
+        };
+        let Some(table) = world.ground.tables.get(turn.place) else {
+            return Ok(TurnResult::Nowhere);
+        };
+        match self.unmapping(actor, table, domain.id, turn.choice)? {
+            None => Ok(TurnResult::Nowhere),
+            Some(CallOpening::Open(call, step)) => {
+                actor.give(call, step);
+                Ok(TurnResult::On)
+            }
+            Some(CallOpening::Done(_)) => Err(SearchFault::Keeps(domain.id)),
+        }
+    }
+
+    // The bytes that were given to an open call.
+    fn given(&self, at: usize, open: ActorCall) -> Result<Vec<u8>, SearchFault>
+        ensures { IfOk result (λ bytes. bytes.items ≡ bytes_by (task_in (tasks_at self.now at) «open».task)) }
+    {
+        let task = match open.task {
+            Some(place) => self.task(at, place),
+            None => None,
+        };
+        bytes_of_task(self.alloc, task)
+    }
+
+    // The open call of a domain makes its step, in tables and pages. This is what the step saw.
+    fn make(&self, ground: &mut SparseState, at: usize, open: ActorCall) -> Result<Observation, SearchFault>
+        ensures { (s : Setting) (h : History) (before : SearchState) (k : Course) (a : Actor) (i : Item) →
+            IsTick s h self.now before at k a «open» i → ground.old ≡ before.ground →
+            IfOk result (λ seen. HasStepped s h k i «open» seen ground.new.tables.items ground.new.pages.items) }
+    {
+        let given = self.given(at, open)?;
+        ground.write(self.alloc, open.step, given.as_slice())?;
+        let seen = ground.see(&self.roster, open.call.caller, open.step);
+        ground.apply(&self.roster, at, open.step, seen)?;
+        Ok(seen)
+    }
+
+    // The answer of a call that ends so after this step.
+    fn answer(&self, ground: &SparseState, last: Step, verdict: CallResult) -> Result<Answer, SearchFault>
+        ensures { (h : History) → PagesShow h ground.now.pages.items → ReadsInFrame last →
+            IfOk result (TellsEnd h last verdict) }
+    {
+        match (verdict, last) {
+            (
+                CallResult::Granted,
+                Step::Read {
+                    dom,
+                    frame,
+                    off,
+                    len,
+                },
+            ) => {
+                let bytes = ground.read(self.alloc, dom, frame, off, len)?;
+                Ok(Answer::Bytes(Bytes { bytes }))
+            }
+            _ => Ok(answer_of(verdict)),
+        }
+    }
+
+    // The open call of a task ends so.
+    fn close_line(
+        &self,
+        world: &mut SearchState<'a>,
+        at: usize,
+        task: &'s RunTask<'a>,
+        last: Step,
+        verdict: CallResult,
+    ) -> Result<TurnResult, SearchFault>
+        ensures { (h : History) (a : Actor) → slice_get world.old.actors.items at ≡ Some a →
+            PagesShow h world.old.ground.pages.items → ReadsInFrame last →
+            IfOk result (Closes h self.now.types.items task.now last verdict a world.old world.new at) }
+    {
+        let answer = self.answer(&world.ground, last, verdict)?;
+        let Some(actor) = world.actors.get_mut(at) else {
+            return Ok(TurnResult::Nowhere);
+        };
+        actor.close(label_of(task), verdict)?;
+        self.line(task, &answer)
+    }
+
+    // An unmap at the end of a domain's list ends so.
+    fn close_back(
+        &self,
+        world: &mut SearchState<'a>,
+        at: usize,
+        dom: DomId,
+        verdict: CallResult,
+    ) -> Result<TurnResult, SearchFault>
+        ensures { (a : Actor) → slice_get world.old.actors.items at ≡ Some a →
+            IfOk result (ClosesBack verdict a world.old world.new at) }
+    {
+        let Some(actor) = world.actors.get_mut(at) else {
+            return Ok(TurnResult::Nowhere);
+        };
+        match verdict {
+            CallResult::Granted => {
+                actor.open = None;
+                Ok(TurnResult::On)
+            }
+            _ => Err(SearchFault::Keeps(dom)),
+        }
+    }
+
+    // The open call of a domain ends so.
+    fn close(
+        &self,
+        world: &mut SearchState<'a>,
+        at: usize,
+        open: ActorCall,
+        verdict: CallResult,
+    ) -> Result<TurnResult, SearchFault>
+        ensures line { (h : History) (a : Actor) (place : ℕ) (t : RunTask) →
+            slice_get world.old.actors.items at ≡ Some a → PagesShow h world.old.ground.pages.items →
+            ReadsInFrame «open».step → «open».task ≡ Some place → slice_get (tasks_at self.now at) place ≡ Some t →
+            IfOk result (Closes h self.now.types.items t «open».step verdict a world.old world.new at) }
+        ensures back { (a : Actor) → slice_get world.old.actors.items at ≡ Some a → «open».task ≡ None →
+            IfOk result (ClosesBack verdict a world.old world.new at) }
+    {
+        let Some(place) = open.task else {
+            return self.close_back(world, at, open.call.caller, verdict);
+        };
+        let Some(task) = self.task(at, place) else {
+            return Ok(TurnResult::Nowhere);
+        };
+        self.close_line(world, at, task, open.step, verdict)
+    }
+
+    // The open call of a domain goes on after its step, which saw this, or ends.
+    fn settle(
+        &self,
+        world: &mut SearchState<'a>,
+        at: usize,
+        open: ActorCall,
+        seen: Observation,
+    ) -> Result<TurnResult, SearchFault>
+        ensures { (s : Setting) (h : History) (before : SearchState) (k j : Course) (a : Actor) (i : Item) →
+            IsTick s h self.now before at k a «open» i → TickLeads self.now.types.items k k.opened i j →
+            world.old.actors ≡ before.actors →
+            HasStepped s h k i «open» seen world.old.ground.tables.items world.old.ground.pages.items →
+            IfOk result (TicksAsRun s (i ∷ h) (tasks_at self.now at) k j world.old world.new at) }
+    {
+        let Some(actor) = world.actors.get_mut(at) else {
+            return Ok(TurnResult::Nowhere);
+        };
+        let Some(table) = world.ground.tables.get(at) else {
+            return Ok(TurnResult::Nowhere);
+        };
+        actor.make(open.step);
+        let (call, action) = self.next(table, open, seen);
+        match action {
+            Action::Step(step) => {
+                let task = open.task;
+                actor.open = Some(ActorCall { task, call, step });
+                Ok(TurnResult::On)
+            }
+            Action::Done(verdict) => self.close(world, at, open, verdict),
+        }
+    }
+
+    // The open call of a domain makes its next step.
+    fn tick(&self, world: &mut SearchState<'a>, at: usize, open: ActorCall) -> Result<TurnResult, SearchFault>
+        ensures { (s : Setting) (h : History) (k j : Course) (a : Actor) (i : Item) →
+            ShowsAt s h self.now world.old at k a → a.«open» ≡ Some «open» → IsItemOf (Tick k.dom) i → IsRight s h i →
+            TickLeads self.now.types.items k k.opened i j →
+            IfOk result (TicksAsRun s (i ∷ h) (tasks_at self.now at) k j world.old world.new at) }
+    {
+        let seen = self.make(&mut world.ground, at, open)?;
+        self.settle(world, at, open, seen)
+    }
+
+    // A domain raises a flag.
+    fn raise(&self, world: &mut SearchState<'a>, at: usize, flag: usize) -> TurnResult
+        ensures { (s : Setting) (h : History) (k : Course) (t : RunTask) (ts : List RunTask) (a : Actor) →
+            slice_get world.old.actors.items at ≡ Some a → ShowsCalls s h (tasks_at self.now at) k a →
+            k.opened ≡ resting → k.tasks ≡ t ∷ ts → flag < length world.old.told.items →
+            (result ≡ TurnResult.On) × (world.new.told.items ≡ slice_set world.old.told.items flag true)
+            × PassesTo s h (tasks_at self.now at) a (record k { tasks = ts }) world.old world.new at }
+    {
+        let Some(actor) = world.actors.get_mut(at) else {
+            return TurnResult::Nowhere;
+        };
+        let Some(told) = world.told.get_mut(flag) else {
+            return TurnResult::Nowhere;
+        };
+        *told = true;
+        actor.pass();
+        TurnResult::On
+    }
+
+    // A domain goes past a flag, if that was raised.
+    fn go_past(&self, world: &mut SearchState<'a>, at: usize, flag: usize) -> TurnResult
+        ensures raised { (s : Setting) (h : History) (k : Course) (t : RunTask) (ts : List RunTask) (a : Actor) →
+            slice_get world.old.actors.items at ≡ Some a → ShowsCalls s h (tasks_at self.now at) k a →
+            k.opened ≡ resting → k.tasks ≡ t ∷ ts → slice_get world.old.told.items flag ≡ Some true →
+            (result ≡ TurnResult.On) × (world.new.told ≡ world.old.told)
+            × PassesTo s h (tasks_at self.now at) a (record k { tasks = ts }) world.old world.new at }
+    {
+        let is_raised = is_told(world.told.as_slice(), flag);
+        let Some(actor) = world.actors.get_mut(at) else {
+            return TurnResult::Nowhere;
+        };
+        if is_raised {
+            actor.pass();
+            TurnResult::On
+        } else {
+            TurnResult::Nowhere
+        }
+    }
+
+    /// The move of a domain.
+    pub fn advance(&self, world: &mut SearchState<'a>, turn: Turn) -> Result<TurnResult, SearchFault>
+        ensures { IfOk result (λ led. MovesAlong self.now turn.place turn.choice world.old led world.new) }
+    {
+        let at = turn.place;
+        let Some(actor) = world.actors.get(at) else {
+            return Ok(TurnResult::Nowhere);
+        };
+        if let Some(open) = actor.open {
+            return self.tick(world, at, open);
+        }
+        let Some(task) = self.task(at, actor.next) else {
+            return self.give_back(world, turn);
+        };
+        match &task.deed {
+            RunAction::Do(call) => {
+                said_fits(call);
+                self.begin(world, at, task, call)
+            }
+            RunAction::Tell(flag) => Ok(self.raise(world, at, *flag)),
+            RunAction::Await(flag) => Ok(self.go_past(world, at, *flag)),
+        }
+    }
+
+    // Whether the domain at this place has no call open, and has begun all tasks of its list.
+    fn is_ended(&self, place: usize, actor: &Actor<'a>) -> bool
+        ensures { result ≡ is_ended self.now place actor.now }
+    {
+        actor.open.is_none() && self.task(place, actor.next).is_none()
+    }
+
+    // Whether it has no mapping either.
+    fn is_done(&self, place: usize, actor: &Actor<'a>) -> bool
+        ensures { result ≡ is_done self.now place actor.now }
+    {
+        self.is_ended(place, actor) && actor.mappings.is_empty()
+    }
+
+    // How many moves it has: at the end of its list it can give back each of its mappings.
+    fn choices(&self, place: usize, actor: &Actor<'a>) -> usize
+        ensures { result ≡ choices_at self.now place actor.now }
+    {
+        if self.is_ended(place, actor) {
+            actor.mappings.len()
+        } else {
+            1
+        }
+    }
+
+    // The moves of all domains.
+    fn all_turns(&self, world: &SearchState<'a>) -> Result<Vec<Turn>, AllocError>
+        ensures { IfOk result (λ turns. turns.items ≡ turns_from self.now 0 world.now.actors.items) }
+    {
+        let mut turns = Vec::new(self.alloc);
+        for (place, actor) in world.actors.as_slice().iter().enumerate() {
+            push_choices(&mut turns, place, self.choices(place, actor))?;
+        }
+        Ok(turns)
+    }
+
+    // Whether the domain at this place has no open call, and its next line disturbs no other domain.
+    fn goes_at_once(&self, told: &[bool], place: usize, actor: &Actor<'a>) -> bool
+        ensures { result ≡ goes_at_once self.now told.now place actor.now }
+    {
+        if actor.open.is_some() {
+            return false;
+        }
+        match self.task(place, actor.next) {
+            Some(task) => disturbs_none(told, task),
+            None => false,
+        }
+    }
+
+    // The place of the first such domain.
+    fn at_once(&self, world: &SearchState<'a>) -> Option<usize>
+        ensures { IfSome result (λ place. (a : Actor) × (slice_get world.now.actors.items place ≡ Some a)
+            × (goes_at_once self.now world.now.told.items place a ≡ true)) }
+    {
+        for (place, actor) in world.actors.as_slice().iter().enumerate() {
+            if self.goes_at_once(world.told.as_slice(), place, actor) {
+                return Some(place);
+            }
+        }
+        None
+    }
+
+    /// The moves to try: that of a domain which disturbs no other, if there is one, or else all.
+    pub fn turns(&self, world: &SearchState<'a>) -> Result<Vec<Turn>, AllocError>
+        ensures { IfOk result (λ turns. AreToBeTried self.now world.now turns.items) }
+    {
+        match self.at_once(world) {
+            Some(place) => {
+                let mut turns = Vec::new(self.alloc);
+                turns.push(Turn { place, choice: 0 })?;
+                Ok(turns)
+            }
+            None => self.all_turns(world),
+        }
+    }
+
+    /// Whether all domains are at the ends of their lists, with no call open and no mapping.
+    pub fn is_finished(&self, world: &SearchState<'a>) -> bool
+        ensures finished { IsTrue result → AreDone self.now world.now.actors.items }
+        ensures end { AreDone self.now world.now.actors.items → IsTrue result }
+    {
+        for (place, actor) in world.actors.as_slice().iter().enumerate() {
+            if !self.is_done(place, actor) {
+                return false;
+            }
+        }
+        true
+    }
+}

@@ -1,0 +1,536 @@
+//! Whether states are the same.
+ghost use Rattle.std.specs.Prelude.{◌≡◌, IsTrue};
+ghost use Rattle.gt_explore_moves.specs.Copies.{SameActor, SameActors, SameWorld};
+ghost use Rattle.gt_explore_moves.specs.Mappings.{labels_of, mapping_pins, label_bytes};
+
+use crate::actor::{Actor, LabelledMapping, ActorCall};
+use crate::scene::SearchState;
+use gt_calls::{
+    PinPurpose, OpenRequest, Call, HeldPin, Leg, LegPhase, Phase, CallPins, HeaderQuery, AccessPath, Step, CallValue, CallResult,
+};
+use gt_types::{Denial, Facts};
+
+fn same_asked(one: OpenRequest, other: OpenRequest) -> bool
+    ensures { IsTrue result → other ≡ one }
+{
+    match (one, other) {
+        (OpenRequest::Grant { gref, entry }, OpenRequest::Grant { gref: g, entry: e }) => {
+            gref == g && entry == e
+        }
+        (OpenRequest::Revoke { gref }, OpenRequest::Revoke { gref: g })
+        | (OpenRequest::Withdraw { gref }, OpenRequest::Withdraw { gref: g })
+        | (OpenRequest::Demote { gref }, OpenRequest::Demote { gref: g })
+        | (OpenRequest::Promote { gref }, OpenRequest::Promote { gref: g }) => gref == g,
+        (
+            OpenRequest::Map { dom, gref, flags },
+            OpenRequest::Map {
+                dom: d,
+                gref: g,
+                flags: f,
+            },
+        ) => dom == d && gref == g && flags == f,
+        (OpenRequest::Unmap { handle }, OpenRequest::Unmap { handle: h }) => handle == h,
+        (
+            OpenRequest::Load { handle, off, len },
+            OpenRequest::Load {
+                handle: h,
+                off: o,
+                len: l,
+            },
+        ) => handle == h && off == o && len == l,
+        (
+            OpenRequest::Store { handle, off, len },
+            OpenRequest::Store {
+                handle: h,
+                off: o,
+                len: l,
+            },
+        ) => handle == h && off == o && len == l,
+        (
+            OpenRequest::Peek { frame, off, len },
+            OpenRequest::Peek {
+                frame: f,
+                off: o,
+                len: l,
+            },
+        ) => frame == f && off == o && len == l,
+        (
+            OpenRequest::Poke { frame, off, len },
+            OpenRequest::Poke {
+                frame: f,
+                off: o,
+                len: l,
+            },
+        ) => frame == f && off == o && len == l,
+        (OpenRequest::Copy(args), OpenRequest::Copy(a)) => args == a,
+        (OpenRequest::SetVersion { version }, OpenRequest::SetVersion { version: v }) => version == v,
+        (OpenRequest::SetupTable { frames }, OpenRequest::SetupTable { frames: f }) => frames == f,
+        (OpenRequest::QuerySize { dom }, OpenRequest::QuerySize { dom: d })
+        | (OpenRequest::GetVersion { dom }, OpenRequest::GetVersion { dom: d }) => dom == d,
+        _ => false,
+    }
+}
+
+fn same_question(one: HeaderQuery, other: HeaderQuery) -> bool
+    ensures { IsTrue result → other ≡ one }
+{
+    match (one, other) {
+        (HeaderQuery::Size, HeaderQuery::Size) | (HeaderQuery::Version, HeaderQuery::Version) => true,
+        _ => false,
+    }
+}
+
+fn same_held(one: HeldPin, other: HeldPin) -> bool
+    ensures { IsTrue result → other ≡ one }
+{
+    one == other
+}
+
+fn same_value(one: CallValue, other: CallValue) -> bool
+    ensures { IsTrue result → other ≡ one }
+{
+    one == other
+}
+
+fn same_facts(one: Facts, other: Facts) -> bool
+    ensures { IsTrue result → other ≡ one }
+{
+    one == other
+}
+
+fn same_denial(one: Denial, other: Denial) -> bool
+    ensures { IsTrue result → other ≡ one }
+{
+    one.rule == other.rule && one.status == other.status && same_facts(one.facts, other.facts)
+}
+
+fn same_verdict(one: CallResult, other: CallResult) -> bool
+    ensures { IsTrue result → other ≡ one }
+{
+    match (one, other) {
+        (CallResult::Granted, CallResult::Granted) => true,
+        (CallResult::Given(value), CallResult::Given(v)) => same_value(value, v),
+        (CallResult::Mapped(held), CallResult::Mapped(h)) => same_held(held, h),
+        (CallResult::Refused(denial), CallResult::Refused(d)) => same_denial(denial, d),
+        _ => false,
+    }
+}
+
+// Of steps that look at a word. Others are not the same by this test.
+fn same_look(one: Step, other: Step) -> bool
+    ensures { IsTrue result → other ≡ one }
+{
+    match (one, other) {
+        (Step::LookHeader { dom }, Step::LookHeader { dom: d }) => dom == d,
+        (Step::LookControl { dom, gref }, Step::LookControl { dom: d, gref: g }) => {
+            dom == d && gref == g
+        }
+        (
+            Step::LookBody { dom, gref, half },
+            Step::LookBody {
+                dom: d,
+                gref: g,
+                half: h,
+            },
+        ) => dom == d && gref == g && half == h,
+        _ => false,
+    }
+}
+
+// Of steps that change a word.
+fn same_change(one: Step, other: Step) -> bool
+    ensures { IsTrue result → other ≡ one }
+{
+    match (one, other) {
+        (Step::Pin { held }, Step::Pin { held: h }) => same_held(held, h),
+        (Step::Unpin { held, holder }, Step::Unpin { held: h, holder: o }) => {
+            same_held(held, h) && holder == o
+        }
+        (
+            Step::StoreBody { gref, half, word },
+            Step::StoreBody {
+                gref: g,
+                half: h,
+                word: w,
+            },
+        ) => gref == g && half == h && word == w,
+        (
+            Step::Exchange {
+                gref,
+                looked,
+                change,
+            },
+            Step::Exchange {
+                gref: g,
+                looked: l,
+                change: c,
+            },
+        ) => gref == g && looked == l && change == c,
+        (
+            Step::StoreHeader { version, frames },
+            Step::StoreHeader {
+                version: v,
+                frames: f,
+            },
+        ) => version == v && frames == f,
+        _ => false,
+    }
+}
+
+// Of steps on bytes.
+fn same_access(one: Step, other: Step) -> bool
+    ensures { IsTrue result → other ≡ one }
+{
+    match (one, other) {
+        (
+            Step::Read {
+                dom,
+                frame,
+                off,
+                len,
+            },
+            Step::Read {
+                dom: d,
+                frame: f,
+                off: o,
+                len: l,
+            },
+        ) => dom == d && frame == f && off == o && len == l,
+        (
+            Step::Write {
+                dom,
+                frame,
+                off,
+                len,
+            },
+            Step::Write {
+                dom: d,
+                frame: f,
+                off: o,
+                len: l,
+            },
+        ) => dom == d && frame == f && off == o && len == l,
+        (
+            Step::Copy { from, to, len },
+            Step::Copy {
+                from: f,
+                to: t,
+                len: l,
+            },
+        ) => from == f && to == t && len == l,
+        _ => false,
+    }
+}
+
+fn same_step(one: Step, other: Step) -> bool
+    ensures { IsTrue result → other ≡ one }
+{
+    same_look(one, other) || same_change(one, other) || same_access(one, other)
+}
+
+fn same_via(one: Option<HeldPin>, other: Option<HeldPin>) -> bool
+    ensures { IsTrue result → other ≡ one }
+{
+    match (one, other) {
+        (None, None) => true,
+        (Some(held), Some(h)) => same_held(held, h),
+        _ => false,
+    }
+}
+
+fn same_route(one: AccessPath, other: AccessPath) -> bool
+    ensures { IsTrue result → other ≡ one }
+{
+    match (one, other) {
+        (AccessPath::Own, AccessPath::Own) => true,
+        (AccessPath::Direct(held), AccessPath::Direct(h)) => same_held(held, h),
+        (AccessPath::Through { via, held }, AccessPath::Through { via: v, held: h }) => {
+            same_held(via, v) && same_held(held, h)
+        }
+        _ => false,
+    }
+}
+
+fn same_pins(one: CallPins, other: CallPins) -> bool
+    ensures { IsTrue result → other ≡ one }
+{
+    same_route(one.source, other.source) && same_route(one.dest, other.dest)
+}
+
+fn same_leg(one: Leg, other: Leg) -> bool
+    ensures { IsTrue result → other ≡ one }
+{
+    one.grantee == other.grantee
+        && one.dom == other.dom
+        && one.gref == other.gref
+        && one.dir == other.dir
+        && one.purpose == other.purpose
+        && one.beyond_via == other.beyond_via
+        && one.off == other.off
+        && one.len == other.len
+        && one.frames == other.frames
+}
+
+fn same_leg_phase(one: LegPhase, other: LegPhase) -> bool
+    ensures { IsTrue result → other ≡ one }
+{
+    match (one, other) {
+        (LegPhase::Header, LegPhase::Header) => true,
+        (LegPhase::Look { more }, LegPhase::Look { more: m }) => more == m,
+        (LegPhase::Body { more, word }, LegPhase::Body { more: m, word: w }) => {
+            more == m && word == w
+        }
+        (
+            LegPhase::Second { more, word, body },
+            LegPhase::Second {
+                more: m,
+                word: w,
+                body: b,
+            },
+        ) => more == m && word == w && body == b,
+        (
+            LegPhase::Pinning {
+                more,
+                word,
+                body,
+                second,
+            },
+            LegPhase::Pinning {
+                more: m,
+                word: w,
+                body: b,
+                second: s,
+            },
+        ) => more == m && word == w && body == b && second == s,
+        (
+            LegPhase::Relook { more, word, rule },
+            LegPhase::Relook {
+                more: m,
+                word: w,
+                rule: r,
+            },
+        ) => more == m && word == w && rule == r,
+        _ => false,
+    }
+}
+
+fn same_aim(one: PinPurpose, other: PinPurpose) -> bool
+    ensures { IsTrue result → other ≡ one }
+{
+    match (one, other) {
+        (PinPurpose::Mapping, PinPurpose::Mapping) => true,
+        (PinPurpose::Source { copy, via }, PinPurpose::Source { copy: c, via: v }) => {
+            copy == c && same_via(via, v)
+        }
+        (
+            PinPurpose::Dest { copy, source, via },
+            PinPurpose::Dest {
+                copy: c,
+                source: s,
+                via: v,
+            },
+        ) => copy == c && same_route(source, s) && same_via(via, v),
+        _ => false,
+    }
+}
+
+// Of phases of a call on an own entry. Others are not the same by this test.
+fn same_own_phase(one: Phase, other: Phase) -> bool
+    ensures { IsTrue result → other ≡ one }
+{
+    match (one, other) {
+        (Phase::Storing { gref, entry }, Phase::Storing { gref: g, entry: e })
+        | (Phase::StoringSecond { gref, entry }, Phase::StoringSecond { gref: g, entry: e }) => {
+            gref == g && entry == e
+        }
+        (
+            Phase::Exchanging {
+                gref,
+                looked,
+                change,
+            },
+            Phase::Exchanging {
+                gref: g,
+                looked: l,
+                change: c,
+            },
+        ) => gref == g && looked == l && change == c,
+        (
+            Phase::Looking { gref, change, more },
+            Phase::Looking {
+                gref: g,
+                change: c,
+                more: m,
+            },
+        ) => gref == g && change == c && more == m,
+        (
+            Phase::Changing {
+                gref,
+                change,
+                more,
+                looked,
+            },
+            Phase::Changing {
+                gref: g,
+                change: c,
+                more: m,
+                looked: l,
+            },
+        ) => gref == g && change == c && more == m && looked == l,
+        _ => false,
+    }
+}
+
+// Of the other phases.
+fn same_other_phase(one: Phase, other: Phase) -> bool
+    ensures { IsTrue result → other ≡ one }
+{
+    match (one, other) {
+        (
+            Phase::Walking { aim, leg, at },
+            Phase::Walking {
+                aim: a,
+                leg: l,
+                at: p,
+            },
+        ) => same_aim(aim, a) && same_leg(leg, l) && same_leg_phase(at, p),
+        (
+            Phase::Accessing { copy, source, dest },
+            Phase::Accessing {
+                copy: c,
+                source: s,
+                dest: d,
+            },
+        ) => copy == c && same_route(source, s) && same_route(dest, d),
+        (
+            Phase::Asking { dom, question },
+            Phase::Asking {
+                dom: d,
+                question: q,
+            },
+        ) => dom == d && same_question(question, q),
+        (
+            Phase::Last { step, verdict },
+            Phase::Last {
+                step: s,
+                verdict: v,
+            },
+        ) => same_step(step, s) && same_verdict(verdict, v),
+        (
+            Phase::Ending { pins, verdict },
+            Phase::Ending {
+                pins: p,
+                verdict: v,
+            },
+        ) => same_pins(pins, p) && same_verdict(verdict, v),
+        _ => false,
+    }
+}
+
+fn same_phase(one: Option<Phase>, other: Option<Phase>) -> bool
+    ensures { IsTrue result → other ≡ one }
+{
+    match (one, other) {
+        (None, None) => true,
+        (Some(phase), Some(p)) => same_own_phase(phase, p) || same_other_phase(phase, p),
+        _ => false,
+    }
+}
+
+fn same_call(one: Call, other: Call) -> bool
+    ensures { IsTrue result → other ≡ one }
+{
+    one.caller == other.caller
+        && same_asked(one.request, other.request)
+        && same_phase(one.phase, other.phase)
+}
+
+fn same_task(one: Option<usize>, other: Option<usize>) -> bool
+    ensures { IsTrue result → other ≡ one }
+{
+    one == other
+}
+
+fn same_open(one: Option<ActorCall>, other: Option<ActorCall>) -> bool
+    ensures { IsTrue result → other ≡ one }
+{
+    match (one, other) {
+        (None, None) => true,
+        (Some(open), Some(o)) => {
+            same_task(open.task, o.task)
+                && same_call(open.call, o.call)
+                && same_step(open.step, o.step)
+        }
+        _ => false,
+    }
+}
+
+fn same_label(one: Option<&[u8]>, other: Option<&[u8]>) -> bool
+    ensures { IsTrue result → label_bytes other.entry ≡ label_bytes one.entry }
+{
+    match (one, other) {
+        (None, None) => true,
+        (Some(label), Some(l)) => label == l,
+        _ => false,
+    }
+}
+
+fn same_mappings(one: &[LabelledMapping], other: &[LabelledMapping]) -> bool
+    ensures pins { IsTrue result → mapping_pins other.now ≡ mapping_pins one.now }
+    ensures labels { IsTrue result → labels_of other.now ≡ labels_of one.now }
+{
+    if one.len() != other.len() {
+        return false;
+    }
+    'mappings: for at in 0..one.len() {
+        if one[at].held != other[at].held || !same_label(one[at].label, other[at].label) {
+            return false;
+        }
+    }
+    true
+}
+
+fn same_actor(one: &Actor, other: &Actor) -> bool
+    ensures { IsTrue result → SameActor one.now other.now }
+{
+    one.next == other.next
+        && same_mappings(one.mappings.as_slice(), other.mappings.as_slice())
+        && same_open(one.open, other.open)
+}
+
+fn same_actors(one: &[Actor], other: &[Actor]) -> bool
+    ensures { IsTrue result → SameActors one.now other.now }
+{
+    if one.len() != other.len() {
+        return false;
+    }
+    'actors: for at in 0..one.len() {
+        if !same_actor(&one[at], &other[at]) {
+            return false;
+        }
+    }
+    true
+}
+
+fn same_flags(one: &[bool], other: &[bool]) -> bool
+    ensures { IsTrue result → other.now ≡ one.now }
+{
+    if one.len() != other.len() {
+        return false;
+    }
+    'flags: for at in 0..one.len() {
+        if one[at] != other[at] {
+            return false;
+        }
+    }
+    true
+}
+
+/// Whether the states are the same.
+pub fn same_worlds(one: &SearchState, other: &SearchState) -> bool
+    ensures { IsTrue result → SameWorld one.now other.now }
+{
+    same_flags(one.told.as_slice(), other.told.as_slice())
+        && same_actors(one.actors.as_slice(), other.actors.as_slice())
+        && one.ground.is_same(&other.ground)
+}

@@ -1,0 +1,30 @@
+//! The search.
+ghost use Rattle.std.specs.Prelude.{IfOk};
+ghost use Rattle.gt_script.specs.Contents.{contents_told};
+ghost use Rattle.gt_script.specs.RunContents.{run_told};
+ghost use Rattle.gt_script.specs.RunScripts.{CanConfigure};
+ghost use Rattle.gt_script.specs.Stuck.{AreNumbered};
+ghost use Rattle.gt_explore_moves.specs.Spaces.{FindsAll};
+
+use crate::scene::SearchContext;
+use gt_script::RunScript;
+use gt_explore_search::{SearchResult, SearchFault};
+use std::alloc::Global;
+
+/// Goes through the states of a script's run, at most `limit` of them. For each text that the script may give it
+/// answers one list of turns that led to it.
+///
+/// # Errors
+/// `Memory` if memory was refused; `States` past the limit; `Circle` if a run comes back to a state; `Keeps` if a
+/// domain can't give a mapping back.
+pub fn search<'s, 'a>(
+    alloc: Global,
+    script: &'s RunScript<'a>,
+    limit: usize,
+) -> Result<SearchResult, SearchFault>
+    requires { CanConfigure (contents_told script.now.head) }
+    ensures { AreNumbered script.now.flags script.now.tasks → IfOk result (FindsAll (run_told script.now)) }
+{
+    let scene: SearchContext<'s, 's> = SearchContext::new(alloc, script)?;
+    gt_explore_search::search(alloc, &scene, limit)
+}

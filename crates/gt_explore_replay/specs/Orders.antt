@@ -1,0 +1,140 @@
+-- What a script for `run` may answer.
+use Rattle.std.specs.Prelude.{◌≡◌, ◌≢◌, ◌<◌, ◌++◌, ◌==◌, not, ℕ, List, [], ◌∷◌, map, filter, All, Option, Some, None}
+use Rattle.std.specs.Prelude.{slice_get}
+use Rattle.gt_explore_replay.specs.Prelude.{domain_of, DomId, DomainConfig, Handle, Request, Unmap, Legal, actor_of, Answer}
+use Rattle.gt_explore_replay.specs.Prelude.{Done, Mapped, Element, Event, Begin, Tick, type_names, RunContents, list_of, RunAction}
+use Rattle.gt_explore_replay.specs.Prelude.{Do, Tell, Await, RunTask, setting_of_script, answer_line, Named, SaysRequest, EndsWith}
+use Rattle.gt_explore_replay.specs.Prelude.{handle_given, label_given, with_name}
+
+-- orders
+
+-- one thing that happens in a run: an event of the core, and what it did; a domain raises
+-- a flag; or a domain that awaits a flag goes past it
+pub data Happening : Type 0 where
+  did : Event → Element → Happening
+  raised : DomId → ℕ → Happening
+  passed : DomId → ℕ → Happening
+
+-- whose it is
+abbrev pub doer : Happening → DomId
+doer (did e x) = actor_of e
+doer (raised d flag) = d
+doer (passed d flag) = d
+
+-- what one domain does, in its order
+abbrev pub own_happenings : DomId → List Happening → List Happening
+own_happenings dom hs = filter (λ x. (doer x).0 == dom.0) hs
+
+-- the events of an order, as the core is asked them
+abbrev pub events_in : List Happening → List Event
+events_in [] = []
+events_in (did e x ∷ hs) = e ∷ events_in hs
+events_in (raised d flag ∷ hs) = events_in hs
+events_in (passed d flag ∷ hs) = events_in hs
+
+-- what each of them did
+abbrev pub trace_in : List Happening → List Element
+trace_in [] = []
+trace_in (did e x ∷ hs) = x ∷ trace_in hs
+trace_in (raised d flag ∷ hs) = trace_in hs
+trace_in (passed d flag ∷ hs) = trace_in hs
+
+-- some domain raises this flag at one of the first places
+abbrev pub IsRaisedBefore : ℕ → ℕ → List Happening → Type 0
+IsRaisedBefore place flag hs = (at : ℕ) × (d : DomId) × (at < place) × (slice_get hs at ≡ Some (raised d flag))
+
+-- a domain goes past a flag only after some domain has raised it
+abbrev pub FlagsAreRaised : List Happening → Type 0
+FlagsAreRaised hs = (at : ℕ) (d : DomId) (flag : ℕ) → slice_get hs at ≡ Some (passed d flag)
+    → IsRaisedBefore at flag hs
+
+-- what one domain does
+
+-- the ticks of a domain, which did this
+abbrev pub ticks_of : DomId → List Element → List Happening
+ticks_of dom trace = map (λ x. did (Tick dom) x) trace
+
+-- an open call goes on to its answer, by ticks of its domain, and after that it goes on so
+abbrev pub CallGoesOn : DomId → (Answer → List Happening → Type 0) → List Happening → Type 0
+CallGoesOn dom After hs =
+    (trace : List Element) × (answer : Answer) × (more : List Happening)
+    × (hs ≡ ticks_of dom trace ++ more) × EndsWith trace answer × After answer more
+
+-- a domain makes the call that is asked, from its beginning to its answer, and after that it goes on so
+abbrev pub CallHappens : DomId → Request → (Answer → List Happening → Type 0) → List Happening → Type 0
+CallHappens dom request After hs =
+    (first : Element) × (trace : List Element) × (answer : Answer) × (more : List Happening)
+    × (hs ≡ did (Begin dom request) first ∷ (ticks_of dom trace ++ more))
+    × EndsWith (first ∷ trace) answer × After answer more
+
+-- the handle that a request gives up, if it is answered Ok
+abbrev pub given_up : Request → Option Handle
+given_up (Unmap handle) = Some handle
+given_up request = None
+
+-- all but the handle with this serial
+abbrev pub handles_without : Handle → List Handle → List Handle
+handles_without handle held = filter (λ h. not (h.serial == handle.serial)) held
+
+-- what a domain holds after this answer: a map answered Ok gives it a handle,
+-- and an unmap answered Ok takes one
+abbrev pub held_after : List Handle → Option Handle → Answer → List Handle
+held_after held (Some handle) Done = handles_without handle held
+held_after held lost (Mapped handle) = held ++ handle ∷ []
+held_after held lost answer = held
+
+-- A domain at the end of its list gives back all that it holds, in this order: by unmaps, each
+-- answered Ok. (The running monitor does so when the domain leaves.)
+abbrev pub GivesMappingsBack : DomId → List Handle → List Handle → List Happening → Type 0
+GivesMappingsBack dom [] held hs = (held ≡ []) × (hs ≡ [])
+GivesMappingsBack dom (handle ∷ order) held hs =
+    (before : List Handle) × (after : List Handle) × (held ≡ before ++ handle ∷ after)
+    × CallHappens dom (Unmap handle)
+    (λ answer more. (answer ≡ Done) × GivesMappingsBack dom order (before ++ after) more) hs
+
+-- after a call of this line the text goes on with its answer
+abbrev pub Prints : List ℕ → (List ℕ → Type 0) → List ℕ → Type 0
+Prints line Rest text = (rest : List ℕ) × (text ≡ line ++ rest) × Rest rest
+
+-- a domain does what a line says, and goes on so with what its labels then name, what it then holds
+-- and what it prints after that
+abbrev pub DeedHappens : List (List ℕ) → DomId → List Named → List Handle → ℕ → RunAction
+    → (List Named → List Handle → List Happening → List ℕ → Type 0) → List Happening → List ℕ → Type 0
+DeedHappens types dom named held line (Tell flag) Next hs text =
+    (more : List Happening) × (hs ≡ raised dom flag ∷ more) × Next named held more text
+DeedHappens types dom named held line (Await flag) Next hs text =
+    (more : List Happening) × (hs ≡ passed dom flag ∷ more) × Next named held more text
+DeedHappens types dom named held line (Do call) Next hs text =
+    (request : Request) × SaysRequest named dom call request
+    × CallHappens dom request (λ answer more.
+    Prints (answer_line types line dom answer)
+    (Next (with_name named dom (label_given call) (handle_given answer)) (held_after held (given_up request) answer) more)
+    text) hs
+
+-- a domain does what its list says, line by line, and then gives back what it holds; this is what it prints
+abbrev pub FollowsList : List (List ℕ) → DomId → List Named → List Handle → List RunTask → List Happening → List ℕ → Type 0
+FollowsList types dom named held [] hs text = (order : List Handle) × GivesMappingsBack dom order held hs × (text ≡ [])
+FollowsList types dom named held (t ∷ ts) hs text =
+    DeedHappens types dom named held t.line t.deed
+    (λ names holds more rest. FollowsList types dom names holds ts more rest) hs text
+
+-- scripts
+
+-- each of the domains follows its list, and prints its part of the text, in their order
+abbrev pub AllFollow : RunContents → List Happening → List DomainConfig → List ℕ → Type 0
+AllFollow c hs [] text = text ≡ []
+AllFollow c hs (d ∷ ds) text =
+    (part : List ℕ) × Prints part (AllFollow c hs ds) text
+    × FollowsList (type_names c.head) d.id [] [] (list_of c.tasks d.id) (own_happenings d.id hs) part
+
+-- one order of a script's run, and its text: what the core did is a legal trace, each domain follows
+-- its list, nobody else does anything, and no flag is passed that was not raised before
+pub record IsOrderOf (c : RunContents) (hs : List Happening) (text : List ℕ) : Type 0 where
+  pub legal : Legal (setting_of_script c.head) (events_in hs) (trace_in hs)
+  pub follow : AllFollow c hs c.head.domains text
+  pub known : All (λ x. domain_of c.head.domains (doer x) ≢ None) hs
+  pub flags : FlagsAreRaised hs
+
+-- the script may give this text: in some order of its run
+abbrev pub MayGive : RunContents → List ℕ → Type 0
+MayGive c text = (hs : List Happening) × IsOrderOf c hs text

@@ -1,0 +1,112 @@
+-- How far a domain has come on its list, and what a move of it leads to.
+use Rattle.std.specs.Prelude.{◌≡◌, ◌≢◌, ◌++◌, ◌≤◌, ℕ, true, false, List, [], ◌∷◌, length, drop, map, All, AllPairs}
+use Rattle.std.specs.Prelude.{Option, Some, None, slice_get, get_or}
+use Rattle.gt_explore_replay.specs.Prelude.{domain_of, DomainConfig, Handle, History, Setting, Legal, MayDo, grown}
+use Rattle.gt_explore_replay.specs.Prelude.{history_after, CoreStands, setting_in, CoreState, Answer, Element, Event}
+use Rattle.gt_explore_replay.specs.Prelude.{ScriptCall, type_names, RunContents, list_of, RunTask, AreNamed, setting_of_script}
+use Rattle.gt_explore_replay.specs.Prelude.{answer_line, may_by, Named, handle_given, label_given, with_name, Replay, OpenTask}
+use Rattle.gt_explore_replay.specs.Prelude.{Nothing, Line, GivesBack, Walker}
+use Rattle.gt_core.specs.declared.trace.Answer.TheVariants as answers
+use Rattle.gt_explore_replay.specs.Orders.{Happening, did, doer, own_happenings, events_in, trace_in, IsRaisedBefore}
+use Rattle.gt_explore_replay.specs.Orders.{FlagsAreRaised}
+use Rattle.gt_explore_replay.specs.Orders.{CallGoesOn, Prints, FollowsList, held_after}
+
+-- a domain's list
+abbrev pub tasks_left_of : Walker → List RunTask
+tasks_left_of w = map (λ t. t.now) w.tasks.items
+
+-- what it has still to begin
+abbrev pub tasks_left : Walker → List RunTask
+tasks_left w = drop w.next (tasks_left_of w)
+
+-- what a domain does from here on, and what it prints then, if it has this open and its labels name these handles
+unfoldable pub Continues : List (List ℕ) → Walker → List Named → OpenTask → List Happening → List ℕ → Type 0
+Continues types w named Nothing hs text = FollowsList types w.dom named w.held.items (tasks_left w) hs text
+Continues types w named (Line line call lost) hs text =
+    CallGoesOn w.dom (λ answer more.
+    Prints (answer_line types line w.dom answer)
+    (FollowsList types w.dom (with_name named w.dom (label_given call.now) (handle_given answer))
+    (held_after w.held.items lost answer) (tasks_left w) more)
+    text) hs
+Continues types w named GivesBack hs text =
+    CallGoesOn w.dom (λ answer more. (answer ≡ answers.Done)
+    × FollowsList types w.dom named w.held.items (tasks_left w) more text) hs
+
+-- by this a domain comes from one point of its list to another: what it does from there on is,
+-- with this before it, what it does from here on, and it has printed what comes between
+pub record Moves (types : List (List ℕ)) (v : Walker) (x : Happening) (w : Walker) : Type 0 where
+  pub own_move : doer x ≡ v.dom
+  pub dom : w.dom ≡ v.dom
+  pub leads : (named : List Named) → AreNamed v.labels named → (names : List Named) × AreNamed w.labels names
+      × ((more : List Happening) (rest : List ℕ) → Continues types w names w.doing more rest
+      → (before : List ℕ) × Continues types v named v.doing (x ∷ more) before
+      × (v.text.items ++ before ≡ w.text.items ++ rest))
+
+-- an event of the core did what it may, the core stands for what that leaves, and by it the domain moved
+abbrev pub WalksTo : Setting → List (List ℕ) → CoreState → Walker → CoreState → Walker → Type 0
+WalksTo s types old v new w = (h : History) → CoreStands s h old
+    → (e : Event) × (x : Element) × MayDo s h e x × CoreStands s (grown h x) new × Moves types v (did e x) w
+
+-- the call of a line has its answer, which is printed, and which its label and what is held follow
+pub record AnswersLine (types : List (List ℕ)) (line : ℕ) (call : ScriptCall) (lost : Option Handle) (answer : Answer)
+    (v w : Walker) : Type 0 where
+  pub named : (named : List Named) → AreNamed v.labels named
+      → AreNamed w.labels (with_name named v.dom (label_given call) (handle_given answer))
+  pub dom : w.dom ≡ v.dom
+  pub tasks : w.tasks.items ≡ v.tasks.items
+  pub next : w.next ≡ v.next
+  pub doing : w.doing ≡ Nothing
+  pub held : w.held.items ≡ held_after v.held.items lost answer
+  pub text : w.text.items ≡ v.text.items ++ answer_line types line v.dom answer
+
+-- what a domain has open has its answer
+unfoldable pub IsClosedFrom : List (List ℕ) → OpenTask → Answer → Walker → Walker → Type 0
+IsClosedFrom types Nothing answer v w = ⊥
+IsClosedFrom types (Line line call lost) answer v w = AnswersLine types line call.now lost answer v w
+IsClosedFrom types GivesBack answer v w = (answer ≡ answers.Done) × (w ≡ record v { doing = Nothing })
+
+abbrev pub ClosesCall : List (List ℕ) → Answer → Walker → Walker → Type 0
+ClosesCall types answer v w = IsClosedFrom types v.doing answer v w
+
+-- a domain is before the first line of its list
+pub record StartsWalk (tasks : List RunTask) (w : Walker) : Type 0 where
+  pub list : tasks_left_of w ≡ list_of tasks w.dom
+  pub next : w.next ≡ 0
+  pub doing : w.doing ≡ Nothing
+  pub labels : AreNamed w.labels []
+  pub held : w.held.items ≡ []
+  pub text : w.text.items ≡ []
+
+-- a domain is at the end of its list, with nothing open and nothing held
+pub record IsAtEnd (w : Walker) : Type 0 where
+  pub left : length (tasks_left_of w) ≤ w.next
+  pub doing : w.doing ≡ Nothing
+  pub held : w.held.items ≡ []
+
+-- no two of the domains have one number
+abbrev pub HaveOwnIds : List DomainConfig → Type 0
+HaveOwnIds domains = AllPairs (λ d e. d.id.0 ≢ e.id.0) domains
+
+-- a domain has come this far: what it did so far, and what it does from here on, follow its list
+abbrev pub HasFollowed : RunContents → List Happening → Walker → Type 0
+HasFollowed c hs w = (named : List Named) × AreNamed w.labels named
+    × ((more : List Happening) (rest : List ℕ) → Continues (type_names c.head) w named w.doing more rest
+    → FollowsList (type_names c.head) w.dom [] [] (list_of c.tasks w.dom)
+    (own_happenings w.dom hs ++ more) (w.text.items ++ rest))
+
+-- the run has come this far by what happened
+pub record HasWalked (c : RunContents) (hs : List Happening) (r : Replay) : Type 0 where
+  pub setting : setting_in may_by r.core ≡ setting_of_script c.head
+  pub types : r.types.items ≡ type_names c.head
+  pub legal : Legal (setting_of_script c.head) (events_in hs) (trace_in hs)
+  pub stands : CoreStands (setting_of_script c.head) (history_after [] (trace_in hs)) r.core.state
+  pub known : All (λ x. domain_of c.head.domains (doer x) ≢ None) hs
+  pub flags : FlagsAreRaised hs
+  pub told : (flag : ℕ) → get_or r.told.items flag false ≡ true → IsRaisedBefore (length hs) flag hs
+  pub domains : map (λ w. w.dom) r.walkers.items ≡ map (λ d. d.id) c.head.domains
+  pub apart : HaveOwnIds c.head.domains
+  pub followed : (at : ℕ) (w : Walker) → slice_get r.walkers.items at ≡ Some w → HasFollowed c hs w
+
+-- one thing more has happened
+abbrev pub ComesOn : RunContents → List Happening → Replay → Type 0
+ComesOn c hs r = (x : Happening) × HasWalked c (hs ++ x ∷ []) r

@@ -1,0 +1,182 @@
+-- The ways on by a turn are gathered from the state that it leads to.
+use Rattle.std.proofs.Common.{◌≡◌, ◌⊎◌, ◌<◌, ◌≤◌, ℕ, zero, suc, ◌+◌, List, ◌++◌, length, ap, sym, ◌∙◌, refl, subst}
+use Rattle.std.proofs.Common.{arith, inl, inr}
+use Rattle.std.proofs.Common.{Option, Some, slice_get, append_assoc}
+use Rattle.std.proofs.lemmas.Option.{same_Some, slice_get_within}
+use Rattle.gt_explore_search.specs.Lists.{HasListAt, AreWhole, GrowsInto, HasItsLine, IsLonger, line_by, rest_by}
+use Rattle.gt_explore_search.specs.Ways.{Ways, PrintsTo}
+use Rattle.gt_explore_search.specs.Exploring.{HasEnd, AllByTurn, NodeHolds, SearchHolds, Grew, VisitHolds, Notes, TurnLeads}
+use Rattle.gt_explore_search.specs.Exploring.{Gathered}
+use Rattle.gt_explore_search.specs.declared.exploring.ReachedList.{ReachedList}
+use Rattle.gt_explore_search.specs.declared.exploring.Explorer.{Explorer}
+use Rattle.gt_explore_search.specs.declared.exploring.Node.{Node}
+use Rattle.gt_explore_search.specs.declared.exploring.FirstTurn.{FirstTurn}
+use Rattle.gt_explore_search.specs.declared.exploring.OpenNode.{OpenNode}
+use Rattle.gt_explore_replay.specs.declared.replay.Turn.{Turn}
+use Rattle.gt_explore_search.specs.declared.suffixes.AnswerLine.{AnswerLine}
+use Rattle.gt_explore_search.specs.declared.suffixes.AnswerLists.{AnswerLists}
+use Rattle.gt_explore_search.proofs.Listing.{rest_kept, list_grown, line_kept}
+use Rattle.gt_explore_search.proofs.Growing.{get_grown, no_more, grew_same, grew_on, visit_on, holds_on}
+use Rattle.gt_explore_search.proofs.Finding.{end_more, visit_noted}
+
+-- the ways on to the first of the lists that the other state leads to are gathered
+pub record IsGathering {W : Type 0} (ways : Ways W) (old : Explorer W) (v : OpenNode) (turn : Turn) (line : Option AnswerLine) (done : Node) (ex : Explorer W) (w : OpenNode) (i : ℕ) : Type 0 where
+  pub holds : SearchHolds ways ex
+  pub grew : Grew old ex
+  pub visit : VisitHolds ways ex w
+  pub next : w.next ≡ v.next
+  pub turns : w.turns ≡ v.turns
+  pub state : w.state ≡ v.state
+  pub found : (at : ℕ) (e : ReachedList) → at < i → slice_get done.ends.items at ≡ Some e
+      → (list : ℕ) × HasEnd w.ends.items list × HasListAt ex.suffixes list × IsLonger ex.suffixes line e.list list
+
+pub gathers_first : {W : Type 0} (ways : Ways W) (old : Explorer W) (v : OpenNode) (turn : Turn) (line : Option AnswerLine) (done : Node) → SearchHolds ways old → VisitHolds ways old v → IsGathering ways old v turn line done old v 0
+gathers_first ways old v turn line done holds visit = record {
+  holds = holds;
+  grew = grew_same old;
+  visit = visit;
+  next = refl;
+  turns = refl;
+  state = refl;
+  found = λ at e lt is. absurd (omega (arith, lt));
+}
+
+-- what the turn leads to, when the search has come on
+leads_on : {W : Type 0} (ways : Ways W) (old : Explorer W) (v : OpenNode) (turn : Turn) (node : ℕ) (line : Option AnswerLine) (done : Node) (ex : Explorer W) → SearchHolds ways old → VisitHolds ways old v
+    → TurnLeads ways old v turn node line → slice_get old.nodes.items node ≡ Some done → Grew old ex → HasItsLine old.suffixes line
+    → (w u : W) → slice_get ex.states.worlds.items v.state ≡ Some w → slice_get ex.states.worlds.items done.state ≡ Some u
+    → (p m : ways.Point) → ways.shows w p → ways.next p turn m
+    → ways.shows u m × PrintsTo ways (line_by ex.suffixes line) p m
+leads_on ways old v turn node line done ex holds visit leads is grew has w u here there p m shows next =
+    let one : leads.done ≡ done = same_Some leads.done done (sym leads.there ∙ is) in
+    let it = holds.nodes node done is in
+    let same : visit.world ≡ w = same_Some visit.world w (sym (get_grown old.states.worlds.items ex.states.worlds.items v.state visit.world grew.worlds visit.there) ∙ here) in
+    let other : it.world ≡ u = same_Some it.world u (sym (get_grown old.states.worlds.items ex.states.worlds.items done.state it.world grew.worlds it.there) ∙ there) in
+    let led = leads.leads visit.world it.world visit.there (ap (λ (n : Node). slice_get old.states.worlds.items n.state) one ∙ it.there) p m
+    (subst (λ i. ways.shows i p) (sym same) shows) next in (
+      subst (λ i. ways.shows i m) other led.0,
+      λ at. led.1 at ∙ ap (λ (i : List ℕ). ways.printed p at ++ i) (sym (line_kept old.suffixes ex.suffixes line at grew.suffixes has)),
+    )
+
+longer_on : (s t : AnswerLists) (line : Option AnswerLine) (list n : ℕ) → AreWhole s → GrowsInto s t → HasItsLine s line → HasListAt s list → HasListAt s n → IsLonger s line list n → IsLonger t line list n
+longer_on s t line list n whole grows is has also longer = λ at.
+    rest_kept s t n at whole grows also ∙ longer at
+    ∙ ap (λ (i : List ℕ). i ++ rest_by s list at) (sym (line_kept s t line at grows is))
+    ∙ ap (λ (i : List ℕ). line_by t line at ++ i) (sym (rest_kept s t list at whole grows has))
+
+pub less_or : (at i : ℕ) → at < i + 1 → (at < i) ⊎ (at ≡ i)
+less_or zero zero lt = inr refl
+less_or zero (suc i) lt = inl (omega arith)
+less_or (suc at) zero lt = absurd (omega (arith, lt))
+less_or (suc at) (suc i) lt = by (less_or at i (omega (arith, lt)))
+  where
+    by : (at < i) ⊎ (at ≡ i) → (suc at < suc i) ⊎ (suc at ≡ suc i)
+    by (inl less) = inl (omega (arith, less))
+    by (inr same) = inr (ap suc same)
+
+abbrev with_suffixes : {W : Type 0} → Explorer W → AnswerLists → Explorer W
+with_suffixes ex t = record ex { suffixes = t }
+
+abbrev noted_of : ℕ → Option FirstTurn → ReachedList
+noted_of list onward = record { list = list; onward = onward }
+
+-- the next list was gathered
+pub gathers_more : {W : Type 0} (ways : Ways W) (old : Explorer W) (v : OpenNode) (turn : Turn) (node : ℕ) (line : Option AnswerLine) (done : Node) (ex : Explorer W) (w : OpenNode) (i : ℕ) (e : ReachedList)
+    (t : AnswerLists) (list : ℕ) (onward : Option FirstTurn) (u : OpenNode)
+    → slice_get old.nodes.items node ≡ Some done → HasItsLine ex.suffixes line → IsGathering ways old v turn line done ex w i → slice_get done.ends.items i ≡ Some e → GrowsInto ex.suffixes t → (HasListAt ex.suffixes e.list → HasListAt t list)
+    → (AreWhole ex.suffixes → HasListAt ex.suffixes e.list → IsLonger t line e.list list)
+    → Notes w (record { list = list; onward = onward }) u
+    → IsGathering ways old v turn line done (record ex { suffixes = t }) u (i + 1)
+gathers_more ways old v turn node line done ex w i e t list onward u is line_on gathers there grows lists longers notes = record {
+  holds = holds;
+  grew = grew;
+  visit = visit_noted ways (with_suffixes ex t) w (noted_of list onward) u notes has now;
+  next = notes.next ∙ gathers.next;
+  turns = notes.turns ∙ gathers.turns;
+  state = notes.state ∙ gathers.state;
+  found = found;
+}
+  where
+    on : Grew ex (with_suffixes ex t)
+    on = record {
+      worlds = no_more ex.states.worlds.items _ refl;
+      nodes = no_more ex.nodes.items _ refl;
+      suffixes = grows;
+    }
+
+    grew : Grew old (with_suffixes ex t)
+    grew = grew_on old ex (with_suffixes ex t) gathers.grew on
+
+    holds : SearchHolds ways (with_suffixes ex t)
+    holds = holds_on ways ex (with_suffixes ex t) on refl (λ state j so. so) gathers.holds
+
+    now : VisitHolds ways (with_suffixes ex t) w
+    now = visit_on ways ex (with_suffixes ex t) w gathers.holds.whole on gathers.visit
+
+    here : slice_get ex.nodes.items node ≡ Some done
+    here = get_grown old.nodes.items ex.nodes.items node done gathers.grew.nodes is
+
+    it : NodeHolds ways ex done
+    it = gathers.holds.nodes node done here
+
+    was : HasListAt ex.suffixes e.list
+    was = it.lists i e there
+
+    has : HasListAt t list
+    has = lists was
+
+    longer : IsLonger t line e.list list
+    longer = longers gathers.holds.whole was
+
+    found : (at : ℕ) (d : ReachedList) → at < i + 1 → slice_get done.ends.items at ≡ Some d
+        → (n : ℕ) × HasEnd u.ends.items n × HasListAt t n × IsLonger t line d.list n
+    found at d lt so = by (less_or at i lt)
+      where
+        by : (at < i) ⊎ (at ≡ i) → (n : ℕ) × HasEnd u.ends.items n × HasListAt t n × IsLonger t line d.list n
+        by (inl less) =
+            let f = gathers.found at d less so in (
+              f.0,
+              end_more w (noted_of list onward) u f.0 notes.ends f.1,
+              list_grown ex.suffixes t f.0 grows f.2,
+              longer_on ex.suffixes t line d.list f.0 gathers.holds.whole grows line_on (it.lists at d so) f.2 f.3,
+            )
+        by (inr same) =
+            let one : d ≡ e = same_Some d e (sym so ∙ ap (λ (n : ℕ). slice_get done.ends.items n) same ∙ there) in (
+              list,
+              notes.has gathers.visit.numbers,
+              has,
+              subst (λ (b : ReachedList). IsLonger t line b.list list) (sym one) longer,
+            )
+
+-- all were gathered
+pub gathers_all : {W : Type 0} (ways : Ways W) (old : Explorer W) (v : OpenNode) (turn : Turn) (node : ℕ) (line : Option AnswerLine) (done : Node) (ex : Explorer W) (w : OpenNode) (i : ℕ)
+    → SearchHolds ways old → VisitHolds ways old v → TurnLeads ways old v turn node line → slice_get old.nodes.items node ≡ Some done → HasItsLine old.suffixes line
+    → length done.ends.items ≤ i → IsGathering ways old v turn line done ex w i → Gathered ways old v turn ex w
+gathers_all ways old v turn node line done ex w i first visit leads is line_is all gathers = record {
+  holds = gathers.holds;
+  grew = gathers.grew;
+  visit = gathers.visit;
+  next = gathers.next;
+  turns = gathers.turns;
+  found = found;
+}
+  where
+    it : NodeHolds ways ex done
+    it = gathers.holds.nodes node done (get_grown old.nodes.items ex.nodes.items node done gathers.grew.nodes is)
+
+    found : AllByTurn ways ex.suffixes gathers.visit.world w.ends.items turn
+    found = λ p m turns q shows next goes.
+        let led = leads_on ways old v turn node line done ex first visit leads is gathers.grew line_is gathers.visit.world it.world
+        (ap (λ (n : ℕ). slice_get ex.states.worlds.items n) (sym gathers.state) ∙ gathers.visit.there) it.there p m shows next in
+        let (old_list, (at, e, there, same), has, prints) = it.finds m turns q led.0 goes in
+        let within = slice_get_within done.ends.items at e there in
+        let (list, end, also, longer) = gathers.found at e (omega (arith, within, all)) there in (
+          list,
+          end,
+          also,
+          λ i.
+              prints i ∙ ap (λ (b : List ℕ). b ++ rest_by ex.suffixes old_list i) (led.1 i)
+              ∙ append_assoc (ways.printed p i) (line_by ex.suffixes line i) (rest_by ex.suffixes old_list i)
+              ∙ ap (λ (n : ℕ). ways.printed p i ++ (line_by ex.suffixes line i ++ rest_by ex.suffixes n i)) (sym same)
+              ∙ ap (λ (b : List ℕ). ways.printed p i ++ b) (sym (longer i)),
+        )

@@ -1,0 +1,89 @@
+-- What holds in a search holds when it has come on.
+use Rattle.std.proofs.Common.{◌≡◌, ℕ, zero, suc, List, [], ◌∷◌, ◌++◌, ap, sym, ◌∙◌, refl, append_assoc}
+use Rattle.std.proofs.Common.{Some, slice_get}
+use Rattle.std.proofs.lemmas.List.{append-nil}
+use Rattle.std.proofs.lemmas.Option.{none-some}
+use Rattle.gt_explore_search.specs.Lists.{HasListAt, AreWhole, GrowsInto, rest_by}
+use Rattle.gt_explore_search.specs.Ways.{Ways, PrintsTo}
+use Rattle.gt_explore_search.specs.Exploring.{IsAmongEnds, AllHaveLists, NodeHolds, SearchHolds, Grew, VisitHolds}
+use Rattle.gt_explore_search.specs.declared.exploring.ReachedList.{ReachedList}
+use Rattle.gt_explore_search.specs.declared.exploring.Explorer.{Explorer}
+use Rattle.gt_explore_search.specs.declared.exploring.Node.{Node}
+use Rattle.gt_explore_search.specs.declared.exploring.OpenNode.{OpenNode}
+use Rattle.gt_explore_search.specs.declared.suffixes.AnswerLists.{AnswerLists}
+use Rattle.gt_explore_search.proofs.Listing.{rest_kept, list_grown, grows_same, grows_on}
+
+-- lists
+
+pub get_kept : {X : Type 0} (xs more : List X) (i : ℕ) (x : X) → slice_get xs i ≡ Some x → slice_get (xs ++ more) i ≡ Some x
+get_kept [] more i x is = absurd (none-some x is)
+get_kept (y ∷ xs) more zero x is = is
+get_kept (y ∷ xs) more (suc i) x is = get_kept xs more i x is
+
+pub get_grown : {X : Type 0} (xs ys : List X) (i : ℕ) (x : X) → (more : List X) × (ys ≡ xs ++ more) → slice_get xs i ≡ Some x → slice_get ys i ≡ Some x
+get_grown xs ys i x (more, is) there = ap (λ l. slice_get l i) is ∙ get_kept xs more i x there
+
+pub no_more : {X : Type 0} (xs ys : List X) → ys ≡ xs → (more : List X) × (ys ≡ xs ++ more)
+no_more xs ys is = ([], is ∙ sym (append-nil xs))
+
+both_more : {X : Type 0} (xs ys zs : List X) → (more : List X) × (ys ≡ xs ++ more) → (more : List X) × (zs ≡ ys ++ more) → (more : List X) × (zs ≡ xs ++ more)
+both_more xs ys zs (a, first) (b, second) = (a ++ b, second ∙ ap (λ l. l ++ b) first ∙ append_assoc xs a b)
+
+-- lists of answers
+
+prints_grown : {W : Type 0} (ways : Ways W) (s t : AnswerLists) (n : ℕ) (p q : ways.Point) → AreWhole s → GrowsInto s t → HasListAt s n → PrintsTo ways (rest_by s n) p q → PrintsTo ways (rest_by t n) p q
+prints_grown ways s t n p q whole grows has prints = λ at. prints at ∙ ap (λ w. ways.printed p at ++ w) (sym (rest_kept s t n at whole grows has))
+
+pub among_grown : {W : Type 0} (ways : Ways W) (s t : AnswerLists) (ends : List ReachedList) (p q : ways.Point) → AreWhole s → GrowsInto s t → IsAmongEnds ways s ends p q → IsAmongEnds ways t ends p q
+among_grown ways s t ends p q whole grows (list, end, has, prints) = (list, end, list_grown s t list grows has, prints_grown ways s t list p q whole grows has prints)
+
+pub lists_grown : (s t : AnswerLists) (ends : List ReachedList) → GrowsInto s t → AllHaveLists s ends → AllHaveLists t ends
+lists_grown s t ends grows lists = λ at e there. list_grown s t e.list grows (lists at e there)
+
+-- searches
+
+pub grew_same : {W : Type 0} (ex : Explorer W) → Grew ex ex
+grew_same ex = record {
+  worlds = no_more ex.states.worlds.items _ refl;
+  nodes = no_more ex.nodes.items _ refl;
+  suffixes = grows_same ex.suffixes;
+}
+
+pub grew_on : {W : Type 0} (a b d : Explorer W) → Grew a b → Grew b d → Grew a d
+grew_on a b d first second = record {
+  worlds = both_more a.states.worlds.items b.states.worlds.items d.states.worlds.items first.worlds second.worlds;
+  nodes = both_more a.nodes.items b.nodes.items d.nodes.items first.nodes second.nodes;
+  suffixes = grows_on a.suffixes b.suffixes d.suffixes first.suffixes second.suffixes;
+}
+
+pub node_on : {W : Type 0} (ways : Ways W) (old new : Explorer W) (n : Node) → AreWhole old.suffixes → Grew old new → NodeHolds ways old n → NodeHolds ways new n
+node_on ways old new n whole grew holds = record {
+  world = holds.world;
+  there = get_grown old.states.worlds.items new.states.worlds.items n.state holds.world grew.worlds holds.there;
+  finds = λ p turns q shows goes. among_grown ways old.suffixes new.suffixes n.ends.items p q whole grew.suffixes (holds.finds p turns q shows goes);
+  lists = lists_grown old.suffixes new.suffixes n.ends.items grew.suffixes holds.lists;
+}
+
+pub visit_on : {W : Type 0} (ways : Ways W) (old new : Explorer W) (v : OpenNode) → AreWhole old.suffixes → Grew old new → VisitHolds ways old v → VisitHolds ways new v
+visit_on ways old new v whole grew holds = record {
+  world = holds.world;
+  there = get_grown old.states.worlds.items new.states.worlds.items v.state holds.world grew.worlds holds.there;
+  turns = holds.turns;
+  tried = λ at turn lt there p m turns q shows next goes.
+      among_grown ways old.suffixes new.suffixes v.ends.items p q whole grew.suffixes (holds.tried at turn lt there p m turns q shows next goes);
+  over = λ p shows ended. among_grown ways old.suffixes new.suffixes v.ends.items p p whole grew.suffixes (holds.over p shows ended);
+  lists = lists_grown old.suffixes new.suffixes v.ends.items grew.suffixes holds.lists;
+  numbers = holds.numbers;
+}
+
+-- a search that has done no more states
+pub holds_on : {W : Type 0} (ways : Ways W) (old new : Explorer W) → Grew old new → new.nodes.items ≡ old.nodes.items
+    → ((state i : ℕ) → slice_get new.done.items state ≡ Some (Some i) → slice_get old.done.items state ≡ Some (Some i)) → SearchHolds ways old → SearchHolds ways new
+holds_on ways old new grew same done holds = record {
+  whole = grew.suffixes.whole holds.whole;
+  empty = (list_grown old.suffixes new.suffixes 0 grew.suffixes holds.empty.0, λ at. rest_kept old.suffixes new.suffixes 0 at holds.whole grew.suffixes holds.empty.0 ∙ holds.empty.1 at);
+  nodes = λ i n there. node_on ways old new n holds.whole grew (holds.nodes i n (ap (λ l. slice_get l i) (sym same) ∙ there));
+  done = λ state i is.
+      let was = holds.done state i (done state i is) in
+      (was.0, ap (λ l. slice_get l i) same ∙ was.1, was.2);
+}

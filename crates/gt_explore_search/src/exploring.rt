@@ -1,0 +1,385 @@
+//! The search.
+ghost use Rattle.std.specs.Prelude.{◌≡◌, ◌⊎◌, ℕ, IfOk, IsTrue, slice_get, Some};
+ghost use Rattle.std.specs.Option.{option_map};
+ghost use Rattle.gt_explore_search.specs.Exploring.{AllTextsFound, SearchStarts};
+
+use crate::fault::SearchFault;
+use crate::spaces::{TurnResult, TransitionSystem};
+use crate::states::StateIndex;
+use crate::suffixes::{AnswerLine, AnswerLists};
+use gt_explore_replay::Turn;
+use indexmap::IndexSet;
+use std::alloc::{AllocError, Global};
+
+/// A text that a run may give, and turns that led the search to it.
+#[derive(Drop)]
+pub struct FoundText {
+    pub turns: Vec<Turn>,
+    pub text: Vec<u8>,
+}
+
+/// What a search found: an order for each list of answers, and how many states it met.
+#[derive(Drop)]
+pub struct SearchResult {
+    pub orders: Vec<FoundText>,
+    pub states: usize,
+}
+
+/// The first turn towards an end. It leads to a state that is done, and goes on to the end of that state at this index.
+#[derive(Clone, Copy)]
+pub struct FirstTurn {
+    pub turn: Turn,
+    pub node: usize,
+    pub end: usize,
+}
+
+/// A list of answers that a state leads to, by its number. There is no way on from a state in which all domains are at
+/// their ends.
+#[derive(Clone, Copy)]
+pub struct ReachedList {
+    pub list: usize,
+    pub onward: Option<FirstTurn>,
+}
+
+/// A state whose moves have been tried, and the lists of answers that it leads to.
+#[derive(Drop)]
+pub struct Node {
+    pub state: usize,
+    pub ends: Vec<ReachedList>,
+}
+
+/// A state whose moves are being tried.
+#[derive(Drop)]
+pub struct OpenNode {
+    pub state: usize,
+    pub turns: Vec<Turn>,
+    pub next: usize,
+    pub lists: IndexSet<usize>,
+    pub ends: Vec<ReachedList>,
+}
+
+/// A search under way. A state that is done has the number of its node.
+#[derive(Drop)]
+pub struct Explorer<W> {
+    pub alloc: Global,
+    pub limit: usize,
+    pub states: StateIndex<W>,
+    pub done: Vec<Option<usize>>,
+    pub nodes: Vec<Node>,
+    pub suffixes: AnswerLists,
+}
+
+impl OpenNode {
+    ghost use Rattle.std.specs.Prelude.{◌≡◌, ◌≤◌, Some, IfNone, IfSome, OnOk, length, slice_get};
+    ghost use Rattle.gt_explore_search.specs.Exploring.{Notes};
+
+    // The turn that is to be tried next.
+    fn turn(&self) -> Option<Turn>
+        ensures turn { IfSome result (λ t. slice_get self.now.turns.items self.now.next ≡ Some t) }
+        ensures over { IfNone result (length self.now.turns.items ≤ self.now.next) }
+    {
+        if self.next >= self.turns.len() {
+            return None;
+        }
+        Some(self.turns[self.next])
+    }
+
+    // Notes that the state leads to this list of answers, if that is new.
+    fn note(&mut self, list: usize, onward: Option<FirstTurn>) -> Result<(), AllocError>
+        ensures { OnOk result (Notes self.old (record { list = list; onward = onward }) self.new) }
+    {
+        let (_, is_new) = self.lists.insert_full(list)?;
+        if is_new {
+            self.ends.push(ReachedList { list, onward })?;
+        }
+        Ok(())
+    }
+}
+
+// The node with this number.
+fn node_at(nodes: &[Node], node: usize) -> Option<&Node>
+    ensures { option_map (λ n. n.now) result ≡ slice_get nodes.now node }
+{
+    nodes.get(node)
+}
+
+// The state with this number has this node from now on.
+fn set_done(done: &mut Vec<Option<usize>>, state: usize, node: usize)
+    ensures { (s i : ℕ) → slice_get done.new.items s ≡ Some (Some i) →
+        (slice_get done.old.items s ≡ Some (Some i)) ⊎ ((s ≡ state) × (i ≡ node)) }
+{
+    if state >= done.len() {
+        return;
+    }
+    done[state] = Some(node);
+}
+
+// The move led nowhere.
+fn leads_nowhere(led: &TurnResult) -> bool
+    ensures { IsTrue result → led.now ≡ TurnResult.Nowhere }
+{
+    match led {
+        TurnResult::Nowhere => true,
+        TurnResult::On | TurnResult::Answered(_) => false,
+    }
+}
+
+impl<W: Drop> Explorer<W> {
+    ghost use Rattle.std.specs.Prelude.{◌≡◌, ◌≤◌, Some, IfOk, IfSome, OnOk, length, slice_get};
+    ghost use Rattle.gt_explore_search.specs.Lists.{HasItsLine};
+    ghost use Rattle.gt_explore_search.specs.Exploring.{SearchHolds, EachVisitHolds, VisitHolds, Grew, TurnLeads, Gathered};
+    ghost use Rattle.gt_explore_search.specs.Exploring.{Stepped};
+    ghost use Rattle.gt_explore_search.specs.Exploring.{AllTextsFound, IsLineOf, SearchStarts, SearchFinishes};
+
+    // The node of a state that is done.
+    fn node_of(&self, state: usize) -> Option<usize>
+        ensures { IfSome result (λ node. slice_get self.now.done.items state ≡ Some (Some node)) }
+    {
+        if state >= self.done.len() {
+            return None;
+        }
+        self.done[state]
+    }
+
+    // The state is met for the first time: its moves are to be tried.
+    fn visit<S: TransitionSystem<State = W>>(&mut self, space: &S, state: usize) -> Result<OpenNode, SearchFault>
+        ensures holds { SearchHolds (S.ways space.now) self.old → IfOk result (λ v.
+            SearchHolds (S.ways space.now) self.new × Grew self.old self.new
+            × VisitHolds (S.ways space.now) self.new v) }
+    {
+        let Some(world) = self.states.world(state) else {
+            return Err(SearchFault::States);
+        };
+        if self.states.len() > self.limit {
+            return Err(SearchFault::States);
+        }
+        let alloc = self.alloc;
+        self.done.push(None)?;
+        let mut visit = OpenNode {
+            state,
+            turns: space.turns(world)?,
+            next: 0,
+            lists: IndexSet::new(alloc),
+            ends: Vec::new(alloc),
+        };
+        if !space.is_finished(world) {
+            return Ok(visit);
+        }
+        visit.note(0, None)?;
+        Ok(visit)
+    }
+
+    // The line of the answer that a move of the domain at this place led to.
+    fn line(&mut self, place: usize, led: TurnResult) -> Result<Option<AnswerLine>, AllocError>
+        ensures { IfOk result (λ line. IsLineOf self.old place led line self.new) }
+    {
+        match led {
+            TurnResult::Answered(line) => {
+                let number = self.suffixes.line(line)?;
+                Ok(Some(AnswerLine { place, number }))
+            }
+            TurnResult::On | TurnResult::Nowhere => Ok(None),
+        }
+    }
+
+    // A turn of the state led to another one, which is done, and printed this line.
+    fn gather<S: TransitionSystem<State = W>>(
+        &mut self,
+        _space: &S,
+        visit: &mut OpenNode,
+        turn: Turn,
+        node: usize,
+        line: Option<AnswerLine>,
+    ) -> Result<(), AllocError>
+        requires { HasItsLine self.old.suffixes line }
+        ensures { SearchHolds (S.ways _space.now) self.old → VisitHolds (S.ways _space.now) self.old visit.old →
+            TurnLeads (S.ways _space.now) self.old visit.old turn node line →
+            OnOk result (Gathered (S.ways _space.now) self.old visit.old turn self.new visit.new) }
+    {
+        let Some(done) = node_at(self.nodes.as_slice(), node) else {
+            return Ok(());
+        };
+        let suffixes = &mut self.suffixes;
+        let mut at = 0_usize;
+        'ends: for end in done.ends.as_slice() {
+            let list = suffixes.longer(end.list, line)?;
+            let onward = FirstTurn {
+                turn,
+                node,
+                end: at,
+            };
+            visit.note(list, Some(onward))?;
+            at = at.saturating_add(1);
+        }
+        Ok(())
+    }
+
+    // Tries the turn of the state that is next. Answers the state that it leads to, if that is new; the turn is tried
+    // once more when that one is done.
+    fn step<S: TransitionSystem<State = W>>(
+        &mut self,
+        space: &S,
+        visit: &mut OpenNode,
+        turn: Turn,
+    ) -> Result<Option<OpenNode>, SearchFault>
+        ensures { SearchHolds (S.ways space.now) self.old → VisitHolds (S.ways space.now) self.old visit.old →
+            slice_get visit.old.turns.items visit.old.next ≡ Some turn →
+            IfOk result (λ deeper. Stepped (S.ways space.now) self.old visit.new deeper self.new) }
+    {
+        let Some(world) = self.states.world(visit.state) else {
+            return Err(SearchFault::States);
+        };
+        let mut world = space.copy(world)?;
+        let led = space.advance(&mut world, turn)?;
+        if leads_nowhere(&led) {
+            visit.next = visit.next.saturating_add(1);
+            return Ok(None);
+        }
+        let line = self.line(turn.place, led)?;
+        let key = space.key(&world)?;
+        let met = self.states.len();
+        let state = self.states.number(space, key, world)?;
+        if state == met {
+            return Ok(Some(self.visit(space, state)?));
+        }
+        let Some(node) = self.node_of(state) else {
+            return Err(SearchFault::Circle);
+        };
+        self.gather(space, visit, turn, node, line)?;
+        visit.next = visit.next.saturating_add(1);
+        Ok(None)
+    }
+
+    // All moves of the state have been tried.
+    fn finish<S: TransitionSystem<State = W>>(&mut self, _space: &S, visit: OpenNode) -> Result<(), AllocError>
+        ensures { SearchHolds (S.ways _space.now) self.old → VisitHolds (S.ways _space.now) self.old visit →
+            length visit.turns.items ≤ visit.next →
+            OnOk result (SearchHolds (S.ways _space.now) self.new × Grew self.old self.new) }
+    {
+        let node = self.nodes.as_slice().len();
+        let state = visit.state;
+        let ends = visit.ends;
+        self.nodes.push(Node { state, ends })?;
+        set_done(&mut self.done, state, node);
+        Ok(())
+    }
+
+    // Goes on with the last of these states. Answers whether there is one.
+    fn try_next<S: TransitionSystem<State = W>>(
+        &mut self,
+        space: &S,
+        stack: &mut Vec<OpenNode>,
+    ) -> Result<bool, SearchFault>
+        ensures { SearchHolds (S.ways space.now) self.old → EachVisitHolds (S.ways space.now) self.old stack.old.items →
+            OnOk result (SearchHolds (S.ways space.now) self.new × Grew self.old self.new
+            × EachVisitHolds (S.ways space.now) self.new stack.new.items) }
+    {
+        let Some(mut visit) = stack.pop() else {
+            return Ok(false);
+        };
+        let Some(turn) = visit.turn() else {
+            self.finish(space, visit)?;
+            return Ok(true);
+        };
+        let deeper = self.step(space, &mut visit, turn)?;
+        stack.push(visit)?;
+        if let Some(deeper) = deeper {
+            stack.push(deeper)?;
+        }
+        Ok(true)
+    }
+
+    // Goes through all states from this one on.
+    fn walk<S: TransitionSystem<State = W>>(&mut self, space: &S, first: OpenNode) -> Result<(), SearchFault>
+        ensures { SearchHolds (S.ways space.now) self.old → VisitHolds (S.ways space.now) self.old first →
+            OnOk result (SearchHolds (S.ways space.now) self.new × Grew self.old self.new) }
+    {
+        let mut stack = Vec::new(self.alloc);
+        stack.push(first)?;
+        'tries: for _ in 0..u64::MAX {
+            if !self.try_next(space, &mut stack)? {
+                return Ok(());
+            }
+        }
+        Err(SearchFault::States)
+    }
+
+    // The way on from a state that is done to the end at this index.
+    fn onward(&self, node: usize, end: usize) -> Option<FirstTurn> {
+        let done = self.nodes.get(node)?;
+        done.ends.get(end)?.onward
+    }
+
+    // The turns that lead from a state that is done to the end at this index.
+    fn turns(&self, node: usize, end: usize) -> Result<Vec<Turn>, AllocError> {
+        let mut turns = Vec::new(self.alloc);
+        let mut next = self.onward(node, end);
+        for _ in 0..self.nodes.len() {
+            let Some(onward) = next else {
+                return Ok(turns);
+            };
+            turns.push(onward.turn)?;
+            next = self.onward(onward.node, onward.end);
+        }
+        Ok(turns)
+    }
+
+    // Goes through all states of the space.
+    fn run<S: TransitionSystem<State = W>>(&mut self, space: &S) -> Result<(), SearchFault>
+        ensures { SearchStarts (S.ways space.now) self.old → OnOk result (SearchFinishes (S.ways space.now) self.new) }
+    {
+        let world = space.start()?;
+        let key = space.key(&world)?;
+        let state = self.states.number(space, key, world)?;
+        let first = self.visit(space, state)?;
+        self.walk(space, first)
+    }
+
+    // What was found: an order for each list of answers that the first state leads to.
+    fn found<S: TransitionSystem<State = W>>(&self, space: &S) -> Result<SearchResult, SearchFault>
+        ensures { SearchFinishes (S.ways space.now) self.now → IfOk result (AllTextsFound (S.ways space.now)) }
+    {
+        let Some(first) = self.node_of(0) else {
+            return Err(SearchFault::Circle);
+        };
+        let Some(done) = node_at(self.nodes.as_slice(), first) else {
+            return Err(SearchFault::Circle);
+        };
+        let mut orders = Vec::new(self.alloc);
+        let domains = space.domains();
+        'ends: for end in done.ends.as_slice() {
+            let turns = self.turns(first, orders.len())?;
+            let text = self.suffixes.text(end.list, domains)?;
+            orders.push(FoundText { turns, text })?;
+        }
+        let states = self.states.len();
+        Ok(SearchResult { orders, states })
+    }
+}
+
+// A search that has met no state yet.
+fn new_explorer<S: TransitionSystem>(
+    alloc: Global,
+    space: &S,
+    limit: usize,
+) -> Result<Explorer<S::State>, AllocError>
+    ensures { IfOk result (SearchStarts (S.ways space.now)) }
+{
+    Ok(Explorer {
+        alloc,
+        limit,
+        states: StateIndex::new(alloc),
+        done: Vec::new(alloc),
+        nodes: Vec::new(alloc),
+        suffixes: AnswerLists::new(alloc)?,
+    })
+}
+
+/// Goes through the states of a space, at most `limit` of them.
+pub fn search<S: TransitionSystem>(alloc: Global, space: &S, limit: usize) -> Result<SearchResult, SearchFault>
+    ensures { IfOk result (AllTextsFound (S.ways space.now)) }
+{
+    let mut explorer = new_explorer(alloc, space, limit)?;
+    explorer.run(space)?;
+    explorer.found(space)
+}

@@ -1,0 +1,26 @@
+-- What a step leaves of pages: the code's own representation, which is here since contracts cite it.
+use Rattle.std.specs.Prelude.{◌≡◌, ◌+◌, ◌≤◌, ℕ, List, take, drop}
+use Rattle.gt_types.specs.declared.limits.TheConstants.{FRAME_SIZE}
+use Rattle.gt_types.specs.declared.places.Spot.{Spot}
+use Rattle.gt_calls.specs.declared.action.Step.{Step}
+use Rattle.gt_calls.specs.declared.action.Step.TheVariants.{Write as WriteBytes, Copy as CopyBytes}
+use Rattle.gt_explore_state.specs.Pages.{page_contents, WritesPage}
+use Rattle.gt_explore_state.specs.declared.pages.SparsePage.{SparsePage}
+
+-- the pages after a copy of so many bytes
+abbrev pub CopiesPage : List SparsePage → List SparsePage → Spot → Spot → ℕ → Type 0
+CopiesPage old new from to len =
+    WritesPage old new to.frame.owner.0 to.frame.number to.off
+    (take len (drop from.off (page_contents old from.frame.owner.0 from.frame.number)))
+
+-- the step's ranges are inside frames
+abbrev pub IsInFrames : Step → Type 0
+IsInFrames (WriteBytes dom frame off len) = off + len ≤ FRAME_SIZE
+IsInFrames (CopyBytes from to len) = (from.off + len ≤ FRAME_SIZE) × (to.off + len ≤ FRAME_SIZE)
+IsInFrames step = Unit {0}
+
+-- the pages after a step whose call was given these bytes
+abbrev pub PagesAfter : Step → List ℕ → List SparsePage → List SparsePage → Type 0
+PagesAfter (WriteBytes dom frame off len) given old new = WritesPage old new dom.0 frame off given
+PagesAfter (CopyBytes from to len) given old new = CopiesPage old new from to len
+PagesAfter step given old new = new ≡ old

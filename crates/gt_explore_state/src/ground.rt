@@ -1,0 +1,133 @@
+//! The tables and pages of a state.
+use crate::copies::{copy_pages, copy_tables, first_tables};
+use crate::effects::apply_to;
+use crate::pages::{SparsePage, read};
+use crate::same::{same_pages, same_tables};
+use crate::sight::see_in;
+use crate::table::SparseTable;
+use crate::writing::write_to;
+use gt_calls::{Observation, Step};
+use gt_roster::Roster;
+use gt_types::{DomId, DomainConfig};
+use std::alloc::{AllocError, Global};
+
+/// The tables of the domains of a run, in their order, and the bytes of its frames.
+#[derive(Drop)]
+pub struct SparseState {
+    pub tables: Vec<SparseTable>,
+    pub pages: Vec<SparsePage>,
+}
+
+impl SparseState {
+    ghost use Rattle.std.specs.Prelude.{◌≡◌, ◌+◌, ◌≤◌, ◌∷◌, [], ℕ, IfOk, OnOk, IsTrue, take, drop};
+    ghost use Rattle.gt_types.specs.Config.{IsWithinLimits};
+    ghost use Rattle.gt_types.specs.declared.config.Config.{Config};
+    ghost use Rattle.gt_explore_state.specs.Copies.{SamePages, SameTables};
+    ghost use Rattle.gt_types.specs.declared.limits.TheConstants.{FRAME_SIZE};
+    ghost use Rattle.gt_core.specs.declared.trace.Item.{Item};
+    ghost use Rattle.gt_core.specs.History.{History, Setting, contents_at, seen_by};
+    ghost use Rattle.gt_calls.specs.declared.action.Observation.{Observation};
+    ghost use Rattle.gt_explore_state.specs.Shows.{IsGivenTo, IsItemOfStep, IsSettingOf, LooksInRun, PagesShow, TablesShow};
+
+    /// The tables of these domains and the frames of a run, before anything happened.
+    ///
+    /// # Errors
+    /// `AllocError` if memory was refused.
+    pub fn new(alloc: Global, domains: &[DomainConfig]) -> Result<SparseState, AllocError>
+        ensures tables { (c : Config) (s : Setting) → IsSettingOf c s → IsWithinLimits c →
+            c.domains.items ≡ domains.now → IfOk result (λ g. TablesShow s [] g.tables.items) }
+        ensures pages { IfOk result (λ g. PagesShow [] g.pages.items) }
+    {
+        let tables = first_tables(alloc, domains)?;
+        let pages = Vec::new(alloc);
+        Ok(SparseState { tables, pages })
+    }
+
+    /// The same tables and pages once more.
+    ///
+    /// # Errors
+    /// `AllocError` if memory was refused.
+    pub fn copy(&self, alloc: Global) -> Result<SparseState, AllocError>
+        ensures tables { IfOk result (λ g. SameTables self.now.tables.items g.tables.items) }
+        ensures pages { IfOk result (λ g. SamePages self.now.pages.items g.pages.items) }
+        ensures tables_show { (s : Setting) (h : History) → TablesShow s h self.now.tables.items →
+            IfOk result (λ g. TablesShow s h g.tables.items) }
+        ensures pages_show { (h : History) → PagesShow h self.now.pages.items →
+            IfOk result (λ g. PagesShow h g.pages.items) }
+    {
+        let tables = copy_tables(alloc, self.tables.as_slice())?;
+        let pages = copy_pages(alloc, self.pages.as_slice())?;
+        Ok(SparseState { tables, pages })
+    }
+
+    /// Whether the tables and pages are the same.
+    pub fn is_same(&self, other: &SparseState) -> bool
+        ensures tables { IsTrue result → SameTables self.now.tables.items other.now.tables.items }
+        ensures pages { IsTrue result → SamePages self.now.pages.items other.now.pages.items }
+        ensures tables_show { (s : Setting) (h : History) → IsTrue result → TablesShow s h self.now.tables.items →
+            TablesShow s h other.now.tables.items }
+        ensures pages_show { (h : History) → IsTrue result → PagesShow h self.now.pages.items →
+            PagesShow h other.now.pages.items }
+    {
+        same_tables(self.tables.as_slice(), other.tables.as_slice())
+            && same_pages(self.pages.as_slice(), other.pages.as_slice())
+    }
+
+    /// What a step of the domain sees.
+    pub fn see(&self, config: &Roster, actor: DomId, step: Step) -> Observation
+        ensures { (s : Setting) (h : History) → IsSettingOf config.now s → TablesShow s h self.now.tables.items →
+            LooksInRun s actor step → result ≡ seen_by s h actor step }
+    {
+        see_in(config, self.tables.as_slice(), actor, step)
+    }
+
+    /// What a step of the domain at this place, which saw this, does to the tables.
+    ///
+    /// # Errors
+    /// `AllocError` if memory was refused: the tables may then be of no use.
+    pub fn apply(
+        &mut self,
+        config: &Roster,
+        at: usize,
+        step: Step,
+        seen: Observation,
+    ) -> Result<(), AllocError>
+        ensures shows { (s : Setting) (h : History) (i : Item) → IsSettingOf config.now s →
+            TablesShow s h self.old.tables.items → IsItemOfStep s h i at step seen →
+            OnOk result (TablesShow s (i ∷ h) self.new.tables.items) }
+        ensures pages { self.new.pages ≡ self.old.pages }
+    {
+        apply_to(config, self.tables.as_mut_slice(), at, step, seen)
+    }
+
+    /// What a step of a call that was given these bytes writes to the pages.
+    ///
+    /// # Errors
+    /// `AllocError` if memory was refused: the pages may then be of no use.
+    pub fn write(&mut self, alloc: Global, step: Step, given: &[u8]) -> Result<(), AllocError>
+        ensures shows { (s : Setting) (h : History) (i : Item) (at : ℕ) (seen : Observation) →
+            PagesShow h self.old.pages.items → IsItemOfStep s h i at step seen → IsGivenTo h i.actor step given.now →
+            OnOk result (PagesShow (i ∷ h) self.new.pages.items) }
+        ensures tables { self.new.tables ≡ self.old.tables }
+    {
+        write_to(alloc, &mut self.pages, step, given)
+    }
+
+    /// `len` bytes of a frame from `off` on.
+    ///
+    /// # Errors
+    /// `AllocError` if memory was refused.
+    pub fn read(
+        &self,
+        alloc: Global,
+        owner: DomId,
+        frame: u64,
+        off: u16,
+        len: u16,
+    ) -> Result<Vec<u8>, AllocError>
+        ensures { (h : History) → PagesShow h self.now.pages.items → off + len ≤ FRAME_SIZE →
+            IfOk result (λ v. v.items ≡ take len (drop off (contents_at h owner.0 frame))) }
+    {
+        read(alloc, self.pages.as_slice(), owner, frame, off, len)
+    }
+}

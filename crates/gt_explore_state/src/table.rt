@@ -1,0 +1,107 @@
+//! What a state keeps of a domain's grant table.
+ghost use Rattle.std.specs.Prelude.{◌≡◌};
+ghost use Rattle.gt_entry.specs.Words.{header_word};
+
+use crate::rows::{change_own, counts_at, set_counts, word_at};
+use gt_calls::{EntryChange, BodyWord, OwnerEntry};
+use gt_core::{CountsChange, PinCounts};
+use gt_entry::Header;
+use gt_types::GrantRef;
+use std::alloc::{AllocError, Global};
+
+/// A grant table: its header, and the rows of its entries up to the last one that was touched.
+#[derive(Drop)]
+pub struct SparseTable {
+    pub header: Header,
+    pub own: Vec<OwnerEntry>,
+    pub counts: Vec<PinCounts>,
+}
+
+// The word of a header.
+fn header_word(header: Header) -> u64
+    ensures { result ≡ header_word header }
+{
+    u64::from(header.version) + u64::from(header.frames) * 4
+}
+
+impl SparseTable {
+    ghost use Rattle.std.specs.Prelude.{◌≡◌, ◌%◌, [], IfOk, OnOk};
+    ghost use Rattle.gt_entry.specs.Words.{header_word};
+    ghost use Rattle.gt_explore_state.specs.Rows.{body_in_rows, word_in};
+    ghost use Rattle.gt_explore_state.specs.Tables.{CountsChangeOf, OwnChangeOf, HeaderStored, SameTable};
+
+    /// A table whose entries are all untouched.
+    pub fn new(alloc: Global, header: Header) -> SparseTable
+        ensures header { result.header ≡ header }
+        ensures own { result.own.items ≡ [] }
+        ensures counts { result.counts.items ≡ [] }
+    {
+        SparseTable {
+            header,
+            own: Vec::new(alloc),
+            counts: Vec::new(alloc),
+        }
+    }
+
+    /// The same table once more.
+    pub fn copy(&self, alloc: Global) -> Result<SparseTable, AllocError>
+        ensures { IfOk result (SameTable self.now) }
+    {
+        Ok(SparseTable {
+            header: self.header,
+            own: Vec::from_slice(alloc, self.own.as_slice())?,
+            counts: Vec::from_slice(alloc, self.counts.as_slice())?,
+        })
+    }
+
+    /// The header word.
+    pub fn header_word(&self) -> u64
+        ensures { result ≡ header_word self.now.header }
+    {
+        header_word(self.header)
+    }
+
+    /// The control word of an entry.
+    pub fn word(&self, first_gen: u32, gref: GrantRef) -> u64
+        ensures { result ≡ word_in first_gen self.now.own.items self.now.counts.items gref.0 }
+    {
+        word_at(self.own.as_slice(), self.counts.as_slice(), first_gen, gref)
+    }
+
+    /// A body word of an entry.
+    pub fn body(&self, gref: GrantRef, half: BodyWord) -> u64
+        ensures { result ≡ body_in_rows self.now.counts.items gref.0 half }
+    {
+        counts_at(self.counts.as_slice(), gref).body(half)
+    }
+
+    /// The pins or a body word of an entry change.
+    pub fn change_counts(&mut self, gref: GrantRef, change: CountsChange) -> Result<(), AllocError>
+        ensures { OnOk result (CountsChangeOf gref.0 change self.old self.new) }
+    {
+        let new = counts_at(self.counts.as_slice(), gref).after(change);
+        set_counts(&mut self.counts, gref, new)
+    }
+
+    /// Its owner changes an entry.
+    pub fn change_own(
+        &mut self,
+        first_gen: u32,
+        gref: GrantRef,
+        change: EntryChange,
+    ) -> Result<(), AllocError>
+        ensures { OnOk result (OwnChangeOf first_gen gref.0 change self.old self.new) }
+    {
+        change_own(&mut self.own, first_gen, gref, change)
+    }
+
+    /// Stores the header; its word has room for versions below 4 and 255 frames.
+    pub fn store_header(&mut self, version: u32, frames: u32)
+        ensures { HeaderStored version frames self.old self.new }
+    {
+        self.header = Header {
+            version: (version % 4) as u8,
+            frames: (frames % 256) as u8,
+        };
+    }
+}

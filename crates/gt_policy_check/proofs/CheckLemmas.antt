@@ -1,0 +1,214 @@
+-- Which statements allow nothing.
+use Rattle.std.proofs.Common.{◌≡◌, ℕ, Bool, true, false, ◌&&◌, not, List, [], ◌∷◌, ◌++◌, map, None, refl, sym, ap, ap₂}
+use Rattle.std.proofs.Common.{◌∙◌}
+use Rattle.std.specs.Prelude.{if◌then◌else◌, filter, is_some, Some, Err}
+use Rattle.std.specs.List.{flat_map, list_any}
+use Rattle.gt_types.specs.Names.{every_permission, permission_name}
+use Rattle.gt_types.specs.declared.perms.Perms.{Perms}
+use Rattle.gt_policy.specs.Granting.{statement_grants}
+use Rattle.gt_policy.specs.Shown.{fault_shown}
+use Rattle.gt_policy.specs.Whole.{Says}
+use Rattle.gt_policy.specs.declared.fault.TokenFault.{TokenFault}
+use Rattle.gt_policy.specs.declared.parse.PolicyFaultKind.{PolicyFaultKind}
+use Rattle.gt_policy.specs.declared.parse.PolicyFaultKind.TheVariants as kinds
+use Rattle.gt_policy.specs.Lined.{statements_in}
+use Rattle.gt_policy.specs.Resolving.{has_grant}
+use Rattle.gt_policy.specs.Spelling.{types_in}
+use Rattle.gt_policy.specs.declared.lined.LinedStatement.{LinedStatement}
+use Rattle.gt_policy.specs.declared.statements.Allowance.{Allowance}
+use Rattle.gt_policy.specs.declared.statements.Statement.{Statement}
+use Rattle.gt_policy.specs.declared.statements.Statement.TheVariants.{DeclareType, DeclareAttribute, GiveAttributes}
+use Rattle.gt_policy.specs.declared.statements.Statement.TheVariants.{Allow}
+use Rattle.gt_policy_check.specs.declared.members.Member.{Member}
+use Rattle.gt_policy_check.specs.declared.findings.Finding.{Finding}
+use Rattle.gt_policy_check.specs.Check.{is_useless_with, allows_nothing, useless_line, is_error, is_of_nothing, is_of_repeat}
+use Rattle.gt_policy_check.specs.Check.{error_lines, nothing_lines, repeat_lines, Quiet, TellsUseless, Judges, faulty}
+use Rattle.gt_policy_check.specs.Check.{grants_something, grants_with, grants_no_more, no_more_with, repeats, repeats_with}
+use Rattle.gt_policy_check.specs.Check.{repeat_line, repeated_with, lines_repeated}
+use Rattle.std.proofs.lemmas.List.{append-nil}
+use Rattle.std.proofs.lemmas.List.Concat.{flat_map-append}
+use Rattle.gt_policy_check.specs.Granting.{exceeds_on, exceeds_some, gives_one, gives_some, gives_source, reaches_by}
+use Rattle.gt_policy_check.specs.Members.{is_asked, membership_of, members_of}
+use Rattle.gt_policy_check.specs.Why.{types_asked}
+use Rattle.gt_policy_check.proofs.GrantLemmas.{any_and, any_asked, any_never, any_same, by_names, gives_named}
+
+-- all types are asked for
+filter_all : (ts : List (List ℕ)) → filter (is_asked None) ts ≡ ts
+filter_all [] = refl
+filter_all (t ∷ ts) = ap (λ (l : List (List ℕ)). t ∷ l) (filter_all ts)
+
+-- a statement grants a permission to some type on some type
+gives_any_type : (xs : List LinedStatement) (w : List ℕ) (x : Statement) → gives_some w (members_of xs None) (members_of xs None) x
+    ≡ list_any (λ s. list_any (λ t. statement_grants (statements_in xs) s t w x) (types_in (statements_in xs))) (types_in (statements_in xs))
+gives_any_type xs w x =
+    gives_named xs w None None x
+    ∙ ap (λ (ts : List (List ℕ)). list_any (λ s. list_any (λ t. statement_grants (statements_in xs) s t w x) ts) ts) (filter_all (types_in (statements_in xs)))
+
+pub useless_same : (xs : List LinedStatement) (x : Statement) → is_useless_with (members_of xs None) x ≡ allows_nothing xs x
+useless_same xs (DeclareType w ms) = refl
+useless_same xs (DeclareAttribute w) = refl
+useless_same xs (GiveAttributes m ms) = refl
+useless_same xs (Allow a) =
+    ap (λ (b : Bool). has_grant a.classes && not b)
+    (any_same (λ p. gives_some (permission_name p) (members_of xs None) (members_of xs None) (Allow a))
+    (λ p. list_any (λ s. list_any (λ t. statement_grants (statements_in xs) s t (permission_name p) (Allow a)) (types_in (statements_in xs))) (types_in (statements_in xs)))
+    (λ p. gives_any_type xs (permission_name p) (Allow a)) every_permission)
+
+-- their lines
+one_line : (x : LinedStatement) (b : Bool) (xs : List LinedStatement) → (if b then x.line ∷ [] else []) ++ map (λ y. y.line) xs ≡ map (λ y. y.line) (if b then x ∷ xs else xs)
+one_line x true xs = refl
+one_line x false xs = refl
+
+pub useless_lines : (all xs : List LinedStatement) → flat_map (λ x. useless_line (members_of all None) x) xs ≡ map (λ x. x.line) (filter (λ x. allows_nothing all x.statement) xs)
+useless_lines all [] = refl
+useless_lines all (x ∷ xs) =
+    ap (λ (l : List ℕ). useless_line (members_of all None) x ++ l) (useless_lines all xs)
+    ∙ ap (λ (b : Bool). (if b then x.line ∷ [] else []) ++ map (λ y. y.line) (filter (λ y. allows_nothing all y.statement) xs)) (useless_same all x.statement)
+    ∙ one_line x (allows_nothing all x.statement) (filter (λ y. allows_nothing all y.statement) xs)
+
+-- one finding more
+lines_more : (f : Finding → List ℕ) (old new : List Finding) (x : Finding) → new ≡ old ++ x ∷ [] → flat_map f new ≡ flat_map f old ++ f x
+lines_more f old new x is = ap (λ (l : List Finding). flat_map f l) is ∙ flat_map-append f old (x ∷ []) ∙ ap (λ (l : List ℕ). flat_map f old ++ l) (append-nil (f x))
+
+no_line : (b : Bool) (n : ℕ) → b ≡ false → (if b then n ∷ [] else []) ≡ []
+no_line b n e = rw e refl
+
+a_line : (b : Bool) (n : ℕ) → b ≡ true → (if b then n ∷ [] else []) ≡ n ∷ []
+a_line b n e = rw e refl
+
+nothing_more : (old new added : List ℕ) → new ≡ old ++ added → added ≡ [] → new ≡ old
+nothing_more old new added e none = e ∙ ap (λ (l : List ℕ). old ++ l) none ∙ append-nil old
+
+no_more : (old new : List ℕ) → new ≡ old → new ≡ old ++ []
+no_more old new is = is ∙ sym (append-nil old)
+
+module _ (old new : List Finding) (x : Finding) (is : new ≡ old ++ x ∷ []) where
+  no_error_more : is_error x.kind ≡ false → error_lines new ≡ error_lines old
+  no_error_more fine =
+      nothing_more (error_lines old) (error_lines new) (if is_error x.kind then x.line ∷ [] else []) (lines_more (λ y. if is_error y.kind then y.line ∷ [] else []) old new x is) (no_line (is_error x.kind) x.line fine)
+
+  no_statement_more : is_of_nothing x.kind ≡ false → nothing_lines new ≡ nothing_lines old
+  no_statement_more quiet =
+      nothing_more (nothing_lines old) (nothing_lines new) (if is_of_nothing x.kind then x.line ∷ [] else []) (lines_more (λ y. if is_of_nothing y.kind then y.line ∷ [] else []) old new x is) (no_line (is_of_nothing x.kind) x.line quiet)
+
+  no_repeat_more : is_of_repeat x.kind ≡ false → repeat_lines new ≡ repeat_lines old
+  no_repeat_more quiet =
+      nothing_more (repeat_lines old) (repeat_lines new) (if is_of_repeat x.kind then x.line ∷ [] else []) (lines_more (λ y. if is_of_repeat y.kind then y.line ∷ [] else []) old new x is) (no_line (is_of_repeat x.kind) x.line quiet)
+
+  a_statement_more : is_of_nothing x.kind ≡ true → nothing_lines new ≡ nothing_lines old ++ x.line ∷ []
+  a_statement_more tells =
+      lines_more (λ y. if is_of_nothing y.kind then y.line ∷ [] else []) old new x is ∙ ap (λ (l : List ℕ). nothing_lines old ++ l) (a_line (is_of_nothing x.kind) x.line tells)
+
+  a_repeat_more : is_of_repeat x.kind ≡ true → repeat_lines new ≡ repeat_lines old ++ x.line ∷ []
+  a_repeat_more tells =
+      lines_more (λ y. if is_of_repeat y.kind then y.line ∷ [] else []) old new x is ∙ ap (λ (l : List ℕ). repeat_lines old ++ l) (a_line (is_of_repeat x.kind) x.line tells)
+
+pub quiet_push : (old new : List Finding) (x : Finding) → is_error x.kind ≡ false → is_of_nothing x.kind ≡ false → is_of_repeat x.kind ≡ false → new ≡ old ++ x ∷ [] → Quiet old new
+quiet_push old new x fine nothing repeat is = (no_error_more old new x is fine, no_statement_more old new x is nothing, no_repeat_more old new x is repeat)
+
+pub nothing_push : (old new : List Finding) (x : Finding) → is_error x.kind ≡ false → is_of_nothing x.kind ≡ true → is_of_repeat x.kind ≡ false → new ≡ old ++ x ∷ [] → TellsUseless old new (x.line ∷ []) []
+nothing_push old new x fine tells repeat is = (no_error_more old new x is fine, a_statement_more old new x is tells, no_more (repeat_lines old) (repeat_lines new) (no_repeat_more old new x is repeat))
+
+pub repeat_push : (old new : List Finding) (x : Finding) → is_error x.kind ≡ false → is_of_nothing x.kind ≡ false → is_of_repeat x.kind ≡ true → new ≡ old ++ x ∷ [] → TellsUseless old new [] (x.line ∷ [])
+repeat_push old new x fine nothing tells is = (no_error_more old new x is fine, no_more (nothing_lines old) (nothing_lines new) (no_statement_more old new x is nothing), a_repeat_more old new x is tells)
+
+-- a statement that repeats another, and then a note
+pub repeat_then_note : (a b c : List Finding) (repeated : List ℕ) → TellsUseless a b [] repeated → Quiet b c → TellsUseless a c [] repeated
+repeat_then_note a b c repeated t q = (q.0 ∙ t.0, q.1 ∙ t.1, q.2 ∙ t.2)
+
+one_then_none : (a b c l : List ℕ) → b ≡ a ++ l → c ≡ b ++ [] → c ≡ a ++ l
+one_then_none a b c l p q = q ∙ append-nil b ∙ p
+
+none_then_one : (a b c l : List ℕ) → b ≡ a ++ [] → c ≡ b ++ l → c ≡ a ++ l
+none_then_one a b c l p q = q ∙ ap (λ (x : List ℕ). x ++ l) (p ∙ append-nil a)
+
+-- nothing more, then what a statement has useless, and then nothing more
+pub tells_all : (a b c d e : List Finding) (nothing repeated : List ℕ) → Quiet a b → TellsUseless b c nothing [] → TellsUseless c d [] repeated → Quiet d e → TellsUseless a e nothing repeated
+tells_all a b c d e nothing repeated q n r m = (
+  m.0 ∙ r.0 ∙ n.0 ∙ q.0,
+  m.1 ∙ one_then_none (nothing_lines a) (nothing_lines c) (nothing_lines d) nothing (n.1 ∙ ap (λ (l : List ℕ). l ++ nothing) q.1) r.1,
+  m.2 ∙ none_then_one (repeat_lines a) (repeat_lines c) (repeat_lines d) repeated (n.2 ∙ ap (λ (l : List ℕ). l ++ []) q.2) r.2,
+)
+
+-- ---- statements that repeat another
+
+and_assoc : (a b c : Bool) → (a && (b && c)) ≡ ((a && b) && c)
+and_assoc true b c = refl
+and_assoc false b c = refl
+
+one_by_names : (xs : List LinedStatement) (w s t : List ℕ) (y : Statement) → gives_one w (membership_of xs s) (membership_of xs t) y ≡ statement_grants (statements_in xs) s t w y
+one_by_names xs w s t (DeclareType v ms) = refl
+one_by_names xs w s t (DeclareAttribute v) = refl
+one_by_names xs w s t (GiveAttributes m ms) = refl
+one_by_names xs w s t (Allow b) = by_names xs w s t b
+
+module _ (xs : List LinedStatement) (w : List ℕ) (y : Statement) where
+  abbrev types : List (List ℕ)
+  types = types_asked xs None
+
+  abbrev Exceeds : Statement → List ℕ → List ℕ → Bool
+  Exceeds x s t = statement_grants (statements_in xs) s t w x && not (statement_grants (statements_in xs) s t w y)
+
+  never_exceeds : (ts us : List (List ℕ)) → false ≡ list_any (λ s. list_any (λ t. false) us) ts
+  never_exceeds ts us = sym (any_never (λ s. list_any (λ t. false) us) (λ s. any_never (λ t. false) (λ t. refl) us) ts)
+
+  exceeds_asked : (x : Statement) → exceeds_some w (members_of xs None) x y ≡ list_any (λ s. list_any (λ t. Exceeds x s t) types) types
+  exceeds_asked (DeclareType v ms) = never_exceeds types types
+  exceeds_asked (DeclareAttribute v) = never_exceeds types types
+  exceeds_asked (GiveAttributes m ms) = never_exceeds types types
+  exceeds_asked (Allow a) =
+      any_asked xs None (λ s. gives_source w s a && exceeds_on w (members_of xs None) a y s)
+      ∙ any_same (λ s. gives_source w (membership_of xs s) a && exceeds_on w (members_of xs None) a y (membership_of xs s)) (λ s. list_any (λ t. Exceeds (Allow a) s t) types)
+      (λ s. ap (λ (v : Bool). gives_source w (membership_of xs s) a && v) (any_asked xs None (λ t. reaches_by (membership_of xs s) t a && not (gives_one w (membership_of xs s) t y)))
+      ∙ sym (any_and (gives_source w (membership_of xs s) a) (λ t. reaches_by (membership_of xs s) (membership_of xs t) a && not (gives_one w (membership_of xs s) (membership_of xs t) y)) types)
+      ∙ any_same (λ t. gives_source w (membership_of xs s) a && (reaches_by (membership_of xs s) (membership_of xs t) a && not (gives_one w (membership_of xs s) (membership_of xs t) y))) (λ t. Exceeds (Allow a) s t)
+      (λ t. and_assoc (gives_source w (membership_of xs s) a) (reaches_by (membership_of xs s) (membership_of xs t) a) (not (gives_one w (membership_of xs s) (membership_of xs t) y))
+      ∙ ap₂ (λ (u v : Bool). u && not v) (by_names xs w s t a) (one_by_names xs w s t y)) types)
+      types
+
+  exceeds_named : (x : Statement) → exceeds_some w (members_of xs None) x y
+      ≡ list_any (λ s. list_any (λ t. Exceeds x s t) (types_in (statements_in xs))) (types_in (statements_in xs))
+  exceeds_named x = exceeds_asked x ∙ ap (λ (ts : List (List ℕ)). list_any (λ s. list_any (λ t. Exceeds x s t) ts) ts) (filter_all (types_in (statements_in xs)))
+
+no_more_same : (xs : List LinedStatement) (x y : Statement) → no_more_with (members_of xs None) x y ≡ grants_no_more xs x y
+no_more_same xs x y =
+    ap not (any_same (λ p. exceeds_some (permission_name p) (members_of xs None) x y)
+    (λ p. list_any (λ s. list_any (λ t. statement_grants (statements_in xs) s t (permission_name p) x && not (statement_grants (statements_in xs) s t (permission_name p) y)) (types_in (statements_in xs))) (types_in (statements_in xs)))
+    (λ p. exceeds_named xs (permission_name p) y x) every_permission)
+
+grants_same : (xs : List LinedStatement) (x : Statement) → grants_with (members_of xs None) x ≡ grants_something xs x
+grants_same xs x =
+    any_same (λ p. gives_some (permission_name p) (members_of xs None) (members_of xs None) x)
+    (λ p. list_any (λ s. list_any (λ t. statement_grants (statements_in xs) s t (permission_name p) x) (types_in (statements_in xs))) (types_in (statements_in xs)))
+    (λ p. gives_any_type xs (permission_name p) x) every_permission
+
+repeats_same : (xs before : List LinedStatement) (x : Statement) → repeats_with (members_of xs None) before x ≡ repeats xs before x
+repeats_same xs before x =
+    ap₂ (λ (a b : Bool). a && b) (grants_same xs x)
+    (any_same (λ y. no_more_with (members_of xs None) x y.statement) (λ y. grants_no_more xs x y.statement) (λ y. no_more_same xs x y.statement) before)
+
+pub repeated_same : (xs before ys : List LinedStatement) → repeated_with (members_of xs None) before ys ≡ lines_repeated xs before ys
+repeated_same xs before [] = refl
+repeated_same xs before (y ∷ ys) =
+    ap₂ (λ (b : Bool) (l : List ℕ). (if b then y.line ∷ [] else []) ++ l) (repeats_same xs before y.statement) (repeated_same xs (before ++ y ∷ []) ys)
+
+-- a text that is no policy
+pub judged_faulty : (line : ℕ) (kind : PolicyFaultKind) (text : List ℕ) (found : List Finding) → ((f : TokenFault) → fault_shown (record { line = line; kind = kind }) ≡ Some f → Says text (Err f))
+    → is_some (fault_shown (record { line = line; kind = kind })) ≡ true → error_lines found ≡ line ∷ [] → Judges text found
+judged_faulty line kinds.Memory text found says shown lines = absurd (cc)
+judged_faulty line kinds.Syntax text found says shown lines = faulty _ found (says _ refl) lines
+judged_faulty line (kinds.Unknown name) text found says shown lines = faulty _ found (says _ refl) lines
+judged_faulty line (kinds.Twice name) text found says shown lines = faulty _ found (says _ refl) lines
+judged_faulty line (kinds.Permission name) text found says shown lines = faulty _ found (says _ refl) lines
+judged_faulty line (kinds.Outside word) text found says shown lines = faulty _ found (says _ refl) lines
+judged_faulty line kinds.Limit text found says shown lines = faulty _ found (says _ refl) lines
+
+-- a fault shows something, if memory was not refused
+pub is_shown : (line : ℕ) (kind : PolicyFaultKind) → (kind ≡ kinds.Memory → ⊥) → is_some (fault_shown (record { line = line; kind = kind })) ≡ true
+is_shown line kinds.Memory other = absurd (other refl)
+is_shown line kinds.Syntax other = refl
+is_shown line (kinds.Unknown name) other = refl
+is_shown line (kinds.Twice name) other = refl
+is_shown line (kinds.Permission name) other = refl
+is_shown line (kinds.Outside word) other = refl
+is_shown line kinds.Limit other = refl

@@ -1,0 +1,149 @@
+-- What is told of a text: that it is no policy, or what is useless in it.
+use Rattle.std.specs.Prelude.{◌≡◌, ℕ, Bool, true, false, not, ◌&&◌, List, [], ◌∷◌, ◌++◌, Ok, Err, map, filter}
+use Rattle.std.specs.Prelude.{if◌then◌else◌}
+use Rattle.gt_policy_check.specs.Prelude.{flat_map, list_any, every_permission, permission_name, Meaning, statement_grants}
+use Rattle.gt_policy_check.specs.Prelude.{IsLined, statements_in, has_grant, types_in, Says, TokenFault, LinedStatement}
+use Rattle.gt_policy_check.specs.Prelude.{Statement, DeclareType, DeclareAttribute, GiveAttributes, Allow, Finding, FindingKind}
+use Rattle.gt_policy_check.specs.Prelude.{Fault, OtherClass, OtherPermission, AllowsNothing, NeverAsked, Repeats, NeverNamed}
+use Rattle.gt_policy_check.specs.Prelude.{NoDomain, NeverMatters, NeverMapped, Note, Member}
+use Rattle.gt_policy_check.specs.Granting.{exceeds_some, gives_some}
+
+-- the finding is an error
+abbrev pub is_error : FindingKind → Bool
+is_error Fault = true
+is_error OtherClass = false
+is_error OtherPermission = false
+is_error AllowsNothing = false
+is_error NeverAsked = false
+is_error Repeats = false
+is_error NeverNamed = false
+is_error NoDomain = false
+is_error NeverMatters = false
+is_error NeverMapped = false
+is_error Note = false
+
+-- the finding is that a statement allows nothing
+abbrev pub is_of_nothing : FindingKind → Bool
+is_of_nothing Fault = false
+is_of_nothing OtherClass = false
+is_of_nothing OtherPermission = false
+is_of_nothing AllowsNothing = true
+is_of_nothing NeverAsked = false
+is_of_nothing Repeats = false
+is_of_nothing NeverNamed = false
+is_of_nothing NoDomain = false
+is_of_nothing NeverMatters = false
+is_of_nothing NeverMapped = false
+is_of_nothing Note = false
+
+-- the finding is that a statement repeats an earlier one
+abbrev pub is_of_repeat : FindingKind → Bool
+is_of_repeat Fault = false
+is_of_repeat OtherClass = false
+is_of_repeat OtherPermission = false
+is_of_repeat AllowsNothing = false
+is_of_repeat NeverAsked = false
+is_of_repeat Repeats = true
+is_of_repeat NeverNamed = false
+is_of_repeat NoDomain = false
+is_of_repeat NeverMatters = false
+is_of_repeat NeverMapped = false
+is_of_repeat Note = false
+
+-- the lines of the errors
+abbrev pub error_lines : List Finding → List ℕ
+error_lines found = flat_map (λ x. if is_error x.kind then x.line ∷ [] else []) found
+
+-- the lines of the statements that are told to allow nothing
+abbrev pub nothing_lines : List Finding → List ℕ
+nothing_lines found = flat_map (λ x. if is_of_nothing x.kind then x.line ∷ [] else []) found
+
+-- the lines of the statements that are told to repeat an earlier one
+abbrev pub repeat_lines : List Finding → List ℕ
+repeat_lines found = flat_map (λ x. if is_of_repeat x.kind then x.line ∷ [] else []) found
+
+-- the statement grants some permission to some declared type on some declared type (SELinux policy language: allow)
+abbrev pub grants_something : List LinedStatement → Statement → Bool
+grants_something xs x = list_any
+    (λ p. list_any
+    (λ s. list_any (λ t. statement_grants (statements_in xs) s t (permission_name p) x) (types_in (statements_in xs)))
+    (types_in (statements_in xs))) every_permission
+
+-- an allow statement of class `grant` that grants nothing
+abbrev pub allows_nothing : List LinedStatement → Statement → Bool
+allows_nothing xs (DeclareType w ms) = false
+allows_nothing xs (DeclareAttribute w) = false
+allows_nothing xs (GiveAttributes m ms) = false
+allows_nothing xs (Allow a) = has_grant a.classes && not (grants_something xs (Allow a))
+
+-- whatever the statement x grants to a declared type on a declared type, y grants too
+abbrev pub grants_no_more : List LinedStatement → Statement → Statement → Bool
+grants_no_more xs x y = not (list_any
+    (λ p. list_any
+    (λ s. list_any
+    (λ t. statement_grants (statements_in xs) s t (permission_name p) x
+    && not (statement_grants (statements_in xs) s t (permission_name p) y)) (types_in (statements_in xs)))
+    (types_in (statements_in xs))) every_permission)
+
+-- the statement grants something, and one of those before it grants all of that
+abbrev pub repeats : List LinedStatement → List LinedStatement → Statement → Bool
+repeats xs before x = grants_something xs x && list_any (λ y. grants_no_more xs x y.statement) before
+
+-- the lines of those statements that repeat one that comes before them
+abbrev pub lines_repeated : List LinedStatement → List LinedStatement → List LinedStatement → List ℕ
+lines_repeated xs before [] = []
+lines_repeated xs before (y ∷ ys) =
+    (if repeats xs before y.statement then y.line ∷ [] else []) ++ lines_repeated xs (before ++ y ∷ []) ys
+
+-- the same, of the members
+abbrev pub grants_with : List Member → Statement → Bool
+grants_with members x = list_any (λ p. gives_some (permission_name p) members members x) every_permission
+
+abbrev pub exceeds_with : List Member → Statement → Statement → Bool
+exceeds_with members x y = list_any (λ p. exceeds_some (permission_name p) members x y) every_permission
+
+abbrev pub no_more_with : List Member → Statement → Statement → Bool
+no_more_with members x y = not (exceeds_with members x y)
+
+abbrev pub repeats_with : List Member → List LinedStatement → Statement → Bool
+repeats_with members before x = grants_with members x && list_any (λ y. no_more_with members x y.statement) before
+
+abbrev pub repeat_line : List Member → List LinedStatement → LinedStatement → List ℕ
+repeat_line members before x = if repeats_with members before x.statement then x.line ∷ [] else []
+
+abbrev pub repeated_with : List Member → List LinedStatement → List LinedStatement → List ℕ
+repeated_with members before [] = []
+repeated_with members before (y ∷ ys) =
+    repeat_line members before y ++ repeated_with members (before ++ y ∷ []) ys
+
+abbrev pub is_useless_with : List Member → Statement → Bool
+is_useless_with members (DeclareType w ms) = false
+is_useless_with members (DeclareAttribute w) = false
+is_useless_with members (GiveAttributes m ms) = false
+is_useless_with members (Allow a) =
+    has_grant a.classes && not (list_any (λ p. gives_some (permission_name p) members members (Allow a)) every_permission)
+
+-- the line of a statement that allows nothing
+abbrev pub useless_line : List Member → LinedStatement → List ℕ
+useless_line members x = if is_useless_with members x.statement then x.line ∷ [] else []
+
+-- of what was added nothing is an error, nor that a statement allows nothing or repeats another
+abbrev pub Quiet : List Finding → List Finding → Type 0
+Quiet old new =
+    (error_lines new ≡ error_lines old) × (nothing_lines new ≡ nothing_lines old) × (repeat_lines new ≡ repeat_lines old)
+
+-- of what was added nothing is an error, these are the lines of statements that allow nothing, and those the lines of
+-- statements that repeat another
+abbrev pub TellsUseless : List Finding → List Finding → List ℕ → List ℕ → Type 0
+TellsUseless old new nothing repeated =
+    (error_lines new ≡ error_lines old) × (nothing_lines new ≡ nothing_lines old ++ nothing)
+    × (repeat_lines new ≡ repeat_lines old ++ repeated)
+
+-- What is found in a text. If it is no policy one error is told, at the line of its first fault. If it is one
+-- no error is, and those statements are told to allow nothing that do, and those to repeat an earlier one that do.
+pub data Judges (text : List ℕ) : List Finding → Type 0 where
+  faulty : (f : TokenFault) (found : List Finding) → Says text (Err f) → error_lines found ≡ f.line ∷ []
+      → Judges text found
+  sound : (m : Meaning) (xs : List LinedStatement) (found : List Finding) → Says text (Ok m) → IsLined text xs
+      → error_lines found ≡ [] → nothing_lines found ≡ map (λ x. x.line) (filter (λ x. allows_nothing xs x.statement) xs)
+      → repeat_lines found ≡ lines_repeated xs [] xs → Judges text found

@@ -1,0 +1,40 @@
+-- Types, with the names that stand for them.
+use Rattle.std.specs.Prelude.{ℕ, Bool, true, List, [], ◌∷◌, map, Option, Some, None, if◌then◌else◌}
+use Rattle.std.specs.List.{flat_map}
+use Rattle.std.specs.Str.{bytes_eq}
+use Rattle.gt_policy.specs.declared.lined.LinedStatement.{LinedStatement}
+use Rattle.gt_policy.specs.declared.statements.Statement.{Statement}
+use Rattle.gt_policy.specs.declared.statements.Statement.TheVariants.{DeclareType, DeclareAttribute, GiveAttributes}
+use Rattle.gt_policy.specs.declared.statements.Statement.TheVariants.{Allow}
+use Rattle.gt_policy_check.specs.declared.members.Member.{Member}
+
+-- the attributes that a statement gives the type (SELinux policy language: type, typeattribute)
+abbrev pub names_given : List ℕ → Statement → List (List ℕ)
+names_given t (DeclareType w ms) = if bytes_eq w t then map (λ m. m.name) ms else []
+names_given t (DeclareAttribute w) = []
+names_given t (GiveAttributes m ms) = if bytes_eq m.name t then map (λ n. n.name) ms else []
+names_given t (Allow a) = []
+
+-- the names that stand for a type: its own, and those of the attributes that statements give it (SELinux policy language)
+abbrev pub names_in_lines : List LinedStatement → List ℕ → List (List ℕ)
+names_in_lines xs t = t ∷ flat_map (λ x. names_given t x.statement) xs
+
+-- a type with the names that stand for it
+abbrev pub membership_of : List LinedStatement → List ℕ → Member
+membership_of xs t = record { name = t; names = names_in_lines xs t }
+
+-- the type is asked for: by its name, or as any
+abbrev pub is_asked : Option (List ℕ) → List ℕ → Bool
+is_asked (Some wanted) t = bytes_eq t wanted
+is_asked None t = true
+
+-- the type that a statement declares, if it is asked for
+abbrev pub members_in : List LinedStatement → Option (List ℕ) → Statement → List Member
+members_in xs asked (DeclareType w ms) = if is_asked asked w then membership_of xs w ∷ [] else []
+members_in xs asked (DeclareAttribute w) = []
+members_in xs asked (GiveAttributes m ms) = []
+members_in xs asked (Allow a) = []
+
+-- the declared types that are asked for, in the order of their declarations
+abbrev pub members_of : List LinedStatement → Option (List ℕ) → List Member
+members_of xs asked = flat_map (λ x. members_in xs asked x.statement) xs

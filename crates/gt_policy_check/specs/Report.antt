@@ -1,0 +1,28 @@
+-- Findings as text.
+use Rattle.std.specs.Prelude.{ℕ, List, ◌++◌, codes}
+use Rattle.std.specs.Fmt.{decimal}
+use Rattle.gt_policy_check.specs.declared.findings.Finding.{Finding}
+use Rattle.gt_policy_check.specs.declared.findings.FindingKind.{FindingKind}
+use Rattle.gt_policy_check.specs.declared.findings.FindingKind.TheVariants.{Fault, OtherClass, OtherPermission, AllowsNothing}
+use Rattle.gt_policy_check.specs.declared.findings.FindingKind.TheVariants.{NeverAsked}
+use Rattle.gt_policy_check.specs.declared.findings.FindingKind.TheVariants.{Repeats, NeverNamed, NoDomain, NeverMatters, NeverMapped}
+use Rattle.gt_policy_check.specs.declared.findings.FindingKind.TheVariants.{Note}
+
+-- how bad a finding is
+abbrev pub severity_text : FindingKind → List ℕ
+severity_text Fault = codes "error"
+severity_text OtherClass = codes "warning"
+severity_text OtherPermission = codes "warning"
+severity_text AllowsNothing = codes "warning"
+severity_text NeverAsked = codes "warning"
+severity_text Repeats = codes "warning"
+severity_text NeverNamed = codes "warning"
+severity_text NoDomain = codes "warning"
+severity_text NeverMatters = codes "warning"
+severity_text NeverMapped = codes "warning"
+severity_text Note = codes "note"
+
+-- `FILE:LINE:COLUMN: SEVERITY: MESSAGE`
+abbrev pub heading_text : List ℕ → Finding → List ℕ
+heading_text file x = file ++ codes ":" ++ decimal x.line ++ codes ":" ++ decimal x.column ++ codes ": "
+    ++ severity_text x.kind ++ codes ": " ++ x.message.items ++ codes "\n"

@@ -1,0 +1,249 @@
+//! Which types a statement allows what.
+ghost use Rattle.std.specs.Prelude.{◌≡◌, ◌&&◌, not};
+ghost use Rattle.std.specs.List.{list_any};
+ghost use Rattle.std.specs.Str.{bytes_eq};
+ghost use Rattle.gt_policy.specs.Granting.{lists_word, is_self};
+ghost use Rattle.gt_policy.specs.Resolving.{has_grant};
+ghost use Rattle.gt_policy_check.specs.Granting.{puts_in, takes_out, elements_hold, reaches_by, gives_source, gives_by};
+ghost use Rattle.gt_policy_check.specs.Granting.{gives_some};
+ghost use Rattle.gt_policy_check.specs.Granting.{is_near_miss, exceeds_on, exceeds_some, gives_one, near_some};
+
+use crate::members::{Member, is_same};
+use gt_policy::{Allowance, Permissions, SetElement, Statement, TextPiece};
+
+/// Whether class `grant` is among the classes.
+pub(crate) fn has_grant(classes: &[TextPiece]) -> bool
+    ensures { result ≡ has_grant classes.now }
+{
+    classes.iter().any(|class| class.as_str() == "grant")
+}
+
+// Whether some of the words is this one.
+fn is_listed(words: &[TextPiece], word: &str) -> bool
+    ensures { result ≡ list_any (λ v. bytes_eq v word.now) words.now }
+{
+    words
+        .iter()
+        .any(|listed| listed.as_bytes() == word.as_bytes())
+}
+
+// Whether the permissions list this one.
+fn lists(perms: &Permissions, word: &str) -> bool
+    ensures { result ≡ lists_word perms.now word.now }
+{
+    match perms {
+        Permissions::Every => true,
+        Permissions::Named(words) => is_listed(words.as_slice(), word),
+    }
+}
+
+// Whether the word is one of these names.
+fn is_among(names: &[TextPiece], word: &TextPiece) -> bool
+    ensures { result ≡ list_any (λ v. bytes_eq v word.now) names.now }
+{
+    names.iter().any(|name| is_same(name, word))
+}
+
+/// Whether an item puts a type of these names into its set.
+pub(crate) fn puts_in(names: &[TextPiece], item: &SetElement) -> bool
+    ensures { result ≡ puts_in names.now item.now }
+{
+    match item {
+        SetElement::With(mention) => is_among(names, &mention.name),
+        SetElement::Without(_) => false,
+        SetElement::Itself => false,
+    }
+}
+
+// Whether an item takes a type of these names out of its set.
+fn takes_out(names: &[TextPiece], item: &SetElement) -> bool
+    ensures { result ≡ takes_out names.now item.now }
+{
+    match item {
+        SetElement::With(_) => false,
+        SetElement::Without(mention) => is_among(names, &mention.name),
+        SetElement::Itself => false,
+    }
+}
+
+// Whether some item puts such a type in.
+fn some_puts_in(names: &[TextPiece], items: &[SetElement]) -> bool
+    ensures { result ≡ list_any (λ i. puts_in names.now i) items.now }
+{
+    items.iter().any(|item| puts_in(names, item))
+}
+
+// Whether some item takes such a type out.
+fn some_takes_out(names: &[TextPiece], items: &[SetElement]) -> bool
+    ensures { result ≡ list_any (λ i. takes_out names.now i) items.now }
+{
+    items.iter().any(|item| takes_out(names, item))
+}
+
+/// Whether a set holds a type of these names.
+pub(crate) fn holds(names: &[TextPiece], items: &[SetElement]) -> bool
+    ensures { result ≡ elements_hold names.now items.now }
+{
+    some_puts_in(names, items) && !some_takes_out(names, items)
+}
+
+/// Whether a set says `self`.
+pub(crate) fn says_self(items: &[SetElement]) -> bool
+    ensures { result ≡ list_any is_self items.now }
+{
+    items.iter().any(|item| matches!(item, SetElement::Itself))
+}
+
+// Whether a statement's target set holds the target, or says `self` and the two are one.
+fn reaches(allowed: &Allowance, source: &Member, target: &Member) -> bool
+    ensures { result ≡ reaches_by source.now target.now allowed.now }
+{
+    holds(target.names.as_slice(), allowed.target.as_slice())
+        || (says_self(allowed.target.as_slice()) && is_same(&source.name, &target.name))
+}
+
+// The same, of some of the targets.
+fn reaches_some(allowed: &Allowance, source: &Member, targets: &[Member]) -> bool
+    ensures { result ≡ list_any (λ t. reaches_by source.now t allowed.now) targets.now }
+{
+    targets
+        .iter()
+        .any(|target| reaches(allowed, source, target))
+}
+
+// Whether a statement gives the source this permission, on whatever target.
+fn gives_source(allowed: &Allowance, source: &Member, perm: &str) -> bool
+    ensures { result ≡ gives_source perm.now source.now allowed.now }
+{
+    has_grant(allowed.classes.as_slice())
+        && lists(&allowed.perms, perm)
+        && holds(source.names.as_slice(), allowed.source.as_slice())
+}
+
+// Whether a statement grants the permission to the source on some of the targets.
+fn gives(allowed: &Allowance, source: &Member, targets: &[Member], perm: &str) -> bool
+    ensures { result ≡ gives_by perm.now targets.now source.now allowed.now }
+{
+    gives_source(allowed, source, perm) && reaches_some(allowed, source, targets)
+}
+
+// Whether it is granted to some of the sources on some of the targets.
+fn gives_any(allowed: &Allowance, sources: &[Member], targets: &[Member], perm: &str) -> bool
+    ensures { result ≡ list_any (λ s. gives_by perm.now targets.now s allowed.now) sources.now }
+{
+    sources
+        .iter()
+        .any(|source| gives(allowed, source, targets, perm))
+}
+
+/// Whether a statement grants the permission to some of the sources on some of the targets.
+pub(crate) fn gives_some<'a>(
+    statement: &Statement,
+    sources: &[Member<'a>],
+    targets: &[Member<'a>],
+    perm: &str,
+) -> bool
+    ensures { result ≡ gives_some perm.now sources.now targets.now statement.now }
+{
+    match statement {
+        Statement::Allow(allowed) => gives_any(allowed, sources, targets, perm),
+        _ => false,
+    }
+}
+
+// Whether a statement comes near a grant to the source: it lists the permission or holds the source, and reaches some
+// of the targets.
+fn is_near_miss(allowed: &Allowance, source: &Member, targets: &[Member], perm: &str) -> bool
+    ensures { result ≡ is_near_miss perm.now targets.now source.now allowed.now }
+{
+    has_grant(allowed.classes.as_slice())
+        && (lists(&allowed.perms, perm)
+            || holds(source.names.as_slice(), allowed.source.as_slice()))
+        && reaches_some(allowed, source, targets)
+}
+
+// Whether a statement comes near a grant to some of the sources.
+fn near_any(allowed: &Allowance, sources: &[Member], targets: &[Member], perm: &str) -> bool
+    ensures { result ≡ list_any (λ s. is_near_miss perm.now targets.now s allowed.now) sources.now }
+{
+    sources
+        .iter()
+        .any(|source| is_near_miss(allowed, source, targets, perm))
+}
+
+/// Whether a statement comes near: it has the target and the permission, or the target and the source.
+pub(crate) fn near_some(
+    statement: &Statement,
+    sources: &[Member],
+    targets: &[Member],
+    perm: &str,
+) -> bool
+    ensures { result ≡ near_some perm.now sources.now targets.now statement.now }
+{
+    match statement {
+        Statement::Allow(allowed) => near_any(allowed, sources, targets, perm),
+        _ => false,
+    }
+}
+
+// Whether a statement grants the permission to the source on the target.
+fn gives_one(statement: &Statement, source: &Member, target: &Member, perm: &str) -> bool
+    ensures { result ≡ gives_one perm.now source.now target.now statement.now }
+{
+    match statement {
+        Statement::Allow(allowed) => {
+            gives_source(allowed, source, perm) && reaches(allowed, source, target)
+        }
+        _ => false,
+    }
+}
+
+// Whether a statement that gives the source this permission reaches a target on which another does not grant it.
+fn exceeds_on(
+    allowed: &Allowance,
+    other: &Statement,
+    source: &Member,
+    targets: &[Member],
+    perm: &str,
+) -> bool
+    ensures { result ≡ exceeds_on perm.now targets.now allowed.now other.now source.now }
+{
+    targets.iter().any(|target| reaches(allowed, source, target)
+        && !gives_one(other, source, target, perm))
+}
+
+// Whether a statement grants the permission to some source on some target where another does not.
+fn exceeds_any(allowed: &Allowance, other: &Statement, members: &[Member], perm: &str) -> bool
+    ensures { result ≡ list_any (λ s. gives_source perm.now s allowed.now
+        && exceeds_on perm.now members.now allowed.now other.now s) members.now }
+{
+    members.iter().any(|source| {
+        gives_source(allowed, source, perm) && exceeds_on(allowed, other, source, members, perm)
+    })
+}
+
+/// Whether a statement grants the permission to some of the types on some of them where another statement does not.
+pub(crate) fn exceeds_some<'a>(
+    statement: &Statement,
+    other: &Statement,
+    members: &[Member<'a>],
+    perm: &str,
+) -> bool
+    ensures { result ≡ exceeds_some perm.now members.now statement.now other.now }
+{
+    match statement {
+        Statement::Allow(allowed) => exceeds_any(allowed, other, members, perm),
+        _ => false,
+    }
+}
+
+/// Whether the source or the target set of an allow statement holds the type.
+pub(crate) fn names_type(statement: &Statement, member: &Member) -> bool {
+    match statement {
+        Statement::Allow(allowed) => {
+            let names = member.names.as_slice();
+            holds(names, allowed.source.as_slice()) || holds(names, allowed.target.as_slice())
+        }
+        _ => false,
+    }
+}

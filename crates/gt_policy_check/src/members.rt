@@ -1,0 +1,123 @@
+//! Types, with the names that stand for them.
+ghost use Rattle.std.specs.Prelude.{◌≡◌, ◌++◌, map, IfOk, OnOk};
+ghost use Rattle.std.specs.Option.{option_map};
+ghost use Rattle.std.specs.Str.{bytes_eq};
+ghost use Rattle.gt_policy_check.specs.Members.{names_given, names_in_lines, is_asked, members_in, members_of};
+
+use gt_policy::{Items, LinedStatement, Mention, Statement, TextPiece};
+use std::alloc::{AllocError, Global};
+
+/// A type, and the names that stand for it: its own, and those of the attributes that it has.
+#[derive(Drop)]
+pub struct Member<'a> {
+    pub name: TextPiece<'a>,
+    pub names: Items<TextPiece<'a>>,
+}
+
+/// Whether two pieces are the same text.
+pub(crate) fn is_same(one: &TextPiece, other: &TextPiece) -> bool
+    ensures { result ≡ bytes_eq one.now other.now }
+{
+    one.as_bytes() == other.as_bytes()
+}
+
+// Adds the names that are mentioned.
+fn push_mentions<'a>(
+    names: &mut Items<TextPiece<'a>>,
+    mentions: &[Mention<'a>],
+) -> Result<(), AllocError>
+    ensures { OnOk result (names.new ≡ names.old ++ map (λ m. m.name) mentions.now) }
+{
+    'mentions: for mention in mentions {
+        names.push(mention.name.again())?;
+    }
+    Ok(())
+}
+
+// Adds the attributes that a statement gives the type.
+fn push_given<'a>(
+    names: &mut Items<TextPiece<'a>>,
+    statement: &Statement<'a>,
+    name: &TextPiece<'a>,
+) -> Result<(), AllocError>
+    ensures { OnOk result (names.new ≡ names.old ++ names_given name.now statement.now) }
+{
+    match statement {
+        Statement::DeclareType(declared, attributes) => {
+            if is_same(declared, name) {
+                return push_mentions(names, attributes.as_slice());
+            }
+        }
+        Statement::GiveAttributes(mention, attributes) => {
+            if is_same(&mention.name, name) {
+                return push_mentions(names, attributes.as_slice());
+            }
+        }
+        _ => {}
+    }
+    Ok(())
+}
+
+// The names that stand for a type.
+fn names_of<'a>(
+    alloc: Global,
+    statements: &[LinedStatement<'a>],
+    name: &TextPiece<'a>,
+) -> Result<Items<TextPiece<'a>>, AllocError>
+    ensures { IfOk result (λ names. names ≡ names_in_lines statements.now name.now) }
+{
+    let mut names = Items::new(alloc);
+    names.push(name.again())?;
+    'statements: for statement in statements {
+        push_given(&mut names, &statement.statement, name)?;
+    }
+    Ok(names)
+}
+
+// Whether this type is asked for.
+fn is_asked(asked: Option<&str>, name: &TextPiece) -> bool
+    ensures { result ≡ is_asked (option_map (λ a. a.now) asked.entry) name.now }
+{
+    match asked {
+        Some(wanted) => name.as_bytes() == wanted.as_bytes(),
+        None => true,
+    }
+}
+
+// Adds the type that a statement declares, if it is asked for.
+fn push_member<'a>(
+    alloc: Global,
+    members: &mut Vec<Member<'a>>,
+    statements: &[LinedStatement<'a>],
+    statement: &Statement<'a>,
+    asked: Option<&str>,
+) -> Result<(), AllocError>
+    ensures { OnOk result (members.new.items ≡ members.old.items
+        ++ members_in statements.now (option_map (λ a. a.now) asked.entry) statement.now) }
+{
+    if let Statement::DeclareType(name, _) = statement {
+        if is_asked(asked, name) {
+            let names = names_of(alloc, statements, name)?;
+            members.push(Member {
+                name: name.again(),
+                names,
+            })?;
+        }
+    }
+    Ok(())
+}
+
+/// The declared types that are asked for, in the order of their declarations: the one of this name, or all of them.
+pub(crate) fn members_of<'a>(
+    alloc: Global,
+    statements: &[LinedStatement<'a>],
+    asked: Option<&str>,
+) -> Result<Vec<Member<'a>>, AllocError>
+    ensures { IfOk result (λ v. v.items ≡ members_of statements.now (option_map (λ a. a.now) asked.entry)) }
+{
+    let mut members = Vec::new(alloc);
+    'statements: for statement in statements {
+        push_member(alloc, &mut members, statements, &statement.statement, asked)?;
+    }
+    Ok(members)
+}

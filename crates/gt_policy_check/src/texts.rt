@@ -1,0 +1,261 @@
+//! Allow statements as text.
+ghost use Rattle.std.specs.Prelude.{◌≡◌, ◌++◌, find, OnOk};
+ghost use Rattle.std.specs.List.{list_any, list_all};
+ghost use Rattle.std.specs.Option.{option_map};
+ghost use Rattle.gt_policy_check.specs.Texts.{is_plain, item_text, items_text, set_text, words_text, list_text, perms_text};
+ghost use Rattle.gt_policy_check.specs.Texts.{allow_text, names_type, way_text, held_text, all_held_text, self_text};
+ghost use Rattle.gt_policy_check.specs.Texts.{note_text, place_text, report_entry_text, is_kept, by_text, item_by_text};
+ghost use Rattle.gt_policy_check.specs.Granting.{puts_in};
+
+use crate::granting::{holds, puts_in, says_self};
+use crate::members::{Member, is_same};
+use gt_policy::{Allowance, LinedStatement, Permissions, SetElement, Statement, TextPiece};
+use gt_streams::push_text;
+use itoa::Buffer;
+use std::alloc::AllocError;
+
+fn push_item(out: &mut Vec<u8>, item: &SetElement) -> Result<(), AllocError>
+    ensures { OnOk result (out.new.items ≡ out.old.items ++ item_text item.now) }
+{
+    match item {
+        SetElement::With(mention) => push_text(out, mention.name.as_str()),
+        SetElement::Without(mention) => {
+            push_text(out, "-")?;
+            push_text(out, mention.name.as_str())
+        }
+        SetElement::Itself => push_text(out, "self"),
+    }
+}
+
+// Whether no item is one after `-`.
+fn are_kept(items: &[SetElement]) -> bool
+    ensures { result ≡ list_all is_kept items.now }
+{
+    items
+        .iter()
+        .all(|item| !matches!(item, SetElement::Without(_)))
+}
+
+// Whether the set is one name, or `self`, which needs no braces.
+fn is_plain(items: &[SetElement]) -> bool
+    ensures { result ≡ is_plain items.now }
+{
+    items.len() == 1 && are_kept(items)
+}
+
+// Appends the items, each with a space before it.
+fn push_items(out: &mut Vec<u8>, items: &[SetElement]) -> Result<(), AllocError>
+    ensures { OnOk result (out.new.items ≡ out.old.items ++ items_text items.now) }
+{
+    'items: for item in items {
+        push_text(out, " ")?;
+        push_item(out, item)?;
+    }
+    Ok(())
+}
+
+// Appends a set, with a space before it.
+fn push_set(out: &mut Vec<u8>, items: &[SetElement]) -> Result<(), AllocError>
+    ensures { OnOk result (out.new.items ≡ out.old.items ++ set_text items.now) }
+{
+    if is_plain(items) {
+        return push_items(out, items);
+    }
+    push_text(out, " {")?;
+    push_items(out, items)?;
+    push_text(out, " }")
+}
+
+// Appends the words, each with a text before it.
+fn push_words(out: &mut Vec<u8>, words: &[TextPiece], before: &str) -> Result<(), AllocError>
+    ensures { OnOk result (out.new.items ≡ out.old.items ++ words_text before.now words.now) }
+{
+    'words: for word in words {
+        push_text(out, before)?;
+        push_text(out, word.as_str())?;
+    }
+    Ok(())
+}
+
+// Appends classes or permissions.
+fn push_list(out: &mut Vec<u8>, words: &[TextPiece]) -> Result<(), AllocError>
+    ensures { OnOk result (out.new.items ≡ out.old.items ++ list_text words.now) }
+{
+    if words.len() == 1 {
+        return push_words(out, words, "");
+    }
+    push_text(out, "{")?;
+    push_words(out, words, " ")?;
+    push_text(out, " }")
+}
+
+fn push_perms(out: &mut Vec<u8>, perms: &Permissions) -> Result<(), AllocError>
+    ensures { OnOk result (out.new.items ≡ out.old.items ++ perms_text perms.now) }
+{
+    match perms {
+        Permissions::Every => push_text(out, " *"),
+        Permissions::Named(words) => {
+            push_text(out, " ")?;
+            push_list(out, words.as_slice())
+        }
+    }
+}
+
+// Appends an allow statement, on one line.
+fn push_allow(out: &mut Vec<u8>, allowed: &Allowance) -> Result<(), AllocError>
+    ensures { OnOk result (out.new.items ≡ out.old.items ++ allow_text allowed.now) }
+{
+    push_text(out, "allow")?;
+    push_set(out, allowed.source.as_slice())?;
+    push_set(out, allowed.target.as_slice())?;
+    push_text(out, ":")?;
+    push_list(out, allowed.classes.as_slice())?;
+    push_perms(out, &allowed.perms)?;
+    push_text(out, ";")
+}
+
+// Whether an item is this very type.
+fn names_type(name: &TextPiece, item: &SetElement) -> bool
+    ensures { result ≡ names_type name.now item.now }
+{
+    match item {
+        SetElement::With(mention) => is_same(&mention.name, name),
+        _ => false,
+    }
+}
+
+// Whether some item is this very type.
+fn is_named(name: &TextPiece, items: &[SetElement]) -> bool
+    ensures { result ≡ list_any (λ i. names_type name.now i) items.now }
+{
+    items.iter().any(|item| names_type(name, item))
+}
+
+// Appends that a type came into a set by the attribute of an item.
+fn push_by(out: &mut Vec<u8>, item: &SetElement) -> Result<(), AllocError>
+    ensures { OnOk result (out.new.items ≡ out.old.items ++ item_by_text item.now) }
+{
+    match item {
+        SetElement::With(mention) => {
+            push_text(out, " by ")?;
+            push_text(out, mention.name.as_str())
+        }
+        _ => Ok(()),
+    }
+}
+
+// The first item that puts such a type in.
+fn first_way<'s, 'a>(names: &[TextPiece], items: &'s [SetElement<'a>]) -> Option<&'s SetElement<'a>>
+    ensures { option_map (λ i. i.now) result ≡ find (λ i. puts_in names.now i) items.entry.now }
+{
+    items.iter().find(|item| puts_in(names, item))
+}
+
+// Appends by which attribute a type came into a set, of the first item that puts it there.
+fn push_attribute(
+    out: &mut Vec<u8>,
+    names: &[TextPiece],
+    items: &[SetElement],
+) -> Result<(), AllocError>
+    ensures { OnOk result (out.new.items ≡ out.old.items ++ by_text (find (λ i. puts_in names.now i) items.now)) }
+{
+    match first_way(names, items) {
+        Some(item) => push_by(out, item),
+        None => Ok(()),
+    }
+}
+
+// Appends by which attribute a type came into a set, if it is not named itself.
+fn push_way(out: &mut Vec<u8>, member: &Member, items: &[SetElement]) -> Result<(), AllocError>
+    ensures { OnOk result (out.new.items ≡ out.old.items ++ way_text member.now items.now) }
+{
+    if is_named(&member.name, items) {
+        return Ok(());
+    }
+    push_attribute(out, member.names.as_slice(), items)
+}
+
+// Appends a type that a set holds, and by which attribute.
+fn push_held(out: &mut Vec<u8>, member: &Member, items: &[SetElement]) -> Result<(), AllocError>
+    ensures { OnOk result (out.new.items ≡ out.old.items ++ held_text items.now member.now) }
+{
+    if !holds(member.names.as_slice(), items) {
+        return Ok(());
+    }
+    push_text(out, " ")?;
+    push_text(out, member.name.as_str())?;
+    push_way(out, member, items)
+}
+
+// Appends the types that a set holds.
+fn push_all_held(
+    out: &mut Vec<u8>,
+    members: &[Member],
+    items: &[SetElement],
+) -> Result<(), AllocError>
+    ensures { OnOk result (out.new.items ≡ out.old.items ++ all_held_text items.now members.now) }
+{
+    'members: for member in members {
+        push_held(out, member, items)?;
+    }
+    Ok(())
+}
+
+// Appends that a target set says `self`, if it does.
+fn push_self(out: &mut Vec<u8>, items: &[SetElement]) -> Result<(), AllocError>
+    ensures { OnOk result (out.new.items ≡ out.old.items ++ self_text items.now) }
+{
+    if says_self(items) {
+        push_text(out, " self")
+    } else {
+        Ok(())
+    }
+}
+
+// Appends which of these sources and targets the sets of a statement hold.
+fn push_note(
+    out: &mut Vec<u8>,
+    allowed: &Allowance,
+    sources: &[Member],
+    targets: &[Member],
+) -> Result<(), AllocError>
+    ensures { OnOk result (out.new.items ≡ out.old.items ++ note_text sources.now targets.now allowed.now) }
+{
+    push_text(out, "  #")?;
+    push_all_held(out, sources, allowed.source.as_slice())?;
+    push_text(out, " ->")?;
+    push_all_held(out, targets, allowed.target.as_slice())?;
+    push_self(out, allowed.target.as_slice())?;
+    push_text(out, "\n")
+}
+
+// Appends a place, as compilers write it.
+fn push_place(out: &mut Vec<u8>, file: &str, line: u32) -> Result<(), AllocError>
+    ensures { OnOk result (out.new.items ≡ out.old.items ++ place_text file.now line) }
+{
+    let mut digits = Buffer::new();
+    push_text(out, file)?;
+    push_text(out, ":")?;
+    push_text(out, digits.format(line))?;
+    push_text(out, ": ")
+}
+
+/// Appends the line of an allow statement: where it stands, the statement, and which of these sources and targets its
+/// sets hold.
+pub(crate) fn push_entry(
+    out: &mut Vec<u8>,
+    file: &str,
+    stated: &LinedStatement,
+    sources: &[Member],
+    targets: &[Member],
+) -> Result<(), AllocError>
+    ensures { OnOk result (out.new.items ≡ out.old.items
+        ++ report_entry_text file.now sources.now targets.now stated.now) }
+{
+    let Statement::Allow(allowed) = &stated.statement else {
+        return Ok(());
+    };
+    push_place(out, file, stated.line)?;
+    push_allow(out, allowed)?;
+    push_note(out, allowed, sources, targets)
+}

@@ -1,0 +1,65 @@
+-- What is written for what is read.
+use Rattle.std.specs.Prelude.{◌≡◌, ◌⊎◌, ℕ, List, Option, Some, Result, Ok, Err}
+use Rattle.std.specs.Io.KnownBytes.{Appends, Keeps}
+use Rattle.gt_types.specs.declared.TypeId.{TypeId}
+use Rattle.gt_policy.specs.Allowing.{Meaning, KeptPolicy, may_of, is_allowed}
+use Rattle.gt_policy.specs.Listing.{AreByName}
+use Rattle.gt_policy.specs.Shown.{fault_shown}
+use Rattle.gt_policy.specs.Whole.{Says}
+use Rattle.gt_policy.specs.declared.fault.TokenFault as policy
+use Rattle.gt_policy_list.specs.declared.fault.ListingFault.{ListingFault}
+use Rattle.gt_policy_list.specs.declared.fault.ListingFault.TheVariants.{Utf8, Policy, Memory, Read, Write}
+use Rattle.gt_policy_list.specs.Listing.{listing}
+use Rattle.gt_policy_list.specs.Reading.{IsPolicy, IsNotUtf8At, IsFaulty}
+use Rattle.gt_streams.specs.Streams.{AppendsBeginning}
+
+-- the text of a policy: the lines of the triples that it allows, of its types in the byte order of their names
+abbrev pub IsListing : Meaning → List ℕ → Type 0
+IsListing m text = (ids : List TypeId) × AreByName m.types ids × (text ≡ listing m.types (is_allowed m) ids)
+
+-- that text went out
+abbrev pub WritesListing : Meaning → Option (List ℕ) → Option (List ℕ) → Type 0
+WritesListing m old new = (text : List ℕ) × IsListing m text × Appends old new text
+
+-- a beginning of it went out
+abbrev pub BeginsListing : Meaning → Option (List ℕ) → Option (List ℕ) → Type 0
+BeginsListing m old new = (text : List ℕ) × IsListing m text × AppendsBeginning old new text
+
+-- what `policy` wrote for these bytes, if it answers so: at Ok the
+-- text of the policy that they are, whole; at a fault
+-- of the bytes nothing, and the fault is their first; after a failed write a
+-- beginning of that text; if memory is refused that or nothing
+abbrev pub Listed : List ℕ → Option (List ℕ) → Option (List ℕ) → Result (Unit {0}) ListingFault → Type 0
+Listed bytes old new (Ok done) = (m : Meaning) × IsPolicy bytes m × WritesListing m old new
+Listed bytes old new (Err (Utf8 line)) = IsNotUtf8At bytes line × Keeps old new
+Listed bytes old new (Err (Policy shown)) =
+    (f : policy.TokenFault) × (fault_shown shown ≡ Some f) × IsFaulty bytes f × Keeps old new
+Listed bytes old new (Err Write) = (m : Meaning) × IsPolicy bytes m × BeginsListing m old new
+Listed bytes old new (Err Memory) = Keeps old new ⊎ ((m : Meaning) × IsPolicy bytes m × BeginsListing m old new)
+Listed bytes old new (Err Read) = Keeps old new
+
+-- the same of a text
+abbrev pub Parsed : List ℕ → Option (List ℕ) → Option (List ℕ) → Result (Unit {0}) ListingFault → Type 0
+Parsed text old new (Ok done) = (m : Meaning) × Says text (Ok m) × WritesListing m old new
+Parsed text old new (Err (Utf8 line)) = ⊥
+Parsed text old new (Err (Policy shown)) =
+    (f : policy.TokenFault) × (fault_shown shown ≡ Some f) × Says text (Err f) × Keeps old new
+Parsed text old new (Err Write) = (m : Meaning) × Says text (Ok m) × BeginsListing m old new
+Parsed text old new (Err Memory) = Keeps old new ⊎ ((m : Meaning) × Says text (Ok m) × BeginsListing m old new)
+Parsed text old new (Err Read) = ⊥
+
+-- the lines of what a kept policy allows, of these types in their order
+abbrev pub text_with : KeptPolicy → List TypeId → List ℕ
+text_with p ids = listing p.types (may_of p) ids
+
+-- what went out of that text: at Ok all of it; after a failed write a
+-- beginning; if memory is refused that or nothing
+abbrev pub WritesRules : KeptPolicy → Option (List ℕ) → Option (List ℕ) → Result (Unit {0}) ListingFault → Type 0
+WritesRules p old new (Ok done) = (ids : List TypeId) × AreByName p.types ids × Appends old new (text_with p ids)
+WritesRules p old new (Err Write) =
+    (ids : List TypeId) × AreByName p.types ids × AppendsBeginning old new (text_with p ids)
+WritesRules p old new (Err Memory) =
+    Keeps old new ⊎ ((ids : List TypeId) × AreByName p.types ids × AppendsBeginning old new (text_with p ids))
+WritesRules p old new (Err Read) = ⊥
+WritesRules p old new (Err (Utf8 line)) = ⊥
+WritesRules p old new (Err (Policy shown)) = ⊥

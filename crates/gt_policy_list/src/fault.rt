@@ -1,0 +1,91 @@
+//! Why a listing did not end well.
+use gt_policy::{PolicyFault, PolicyFaultKind};
+use gt_streams::{ReadFault, WriteFault};
+use std::alloc::AllocError;
+use std::error::Error;
+use std::fmt;
+
+/// Why a listing did not end well. It prints as one line, without its end.
+#[derive(Debug, Drop)]
+pub enum ListingFault {
+    /// The bytes are no UTF-8, from a byte of this line on. Nothing was written.
+    Utf8 { line: usize },
+    /// The first fault of the text, with the number of its line. Nothing was written.
+    Policy(PolicyFault),
+    /// Memory was refused. A beginning of the lines was written.
+    Memory,
+    /// A read failed, or the text can't be opened. Nothing was written.
+    Read,
+    /// A write failed. A beginning of the lines was written.
+    Write,
+}
+
+impl fmt::Display for ListingFault {
+    ghost use Rattle.std.specs.Prelude.{Some};
+    ghost use Rattle.gt_policy_list.specs.Faults.{listing_fault_text};
+
+    ghost output = { λ fault. Some (listing_fault_text fault) };
+
+    fn fmt<W: fmt::Write>(&self, f: &mut fmt::Formatter<W>) -> fmt::Result {
+        match self {
+            ListingFault::Utf8 { line } => write!(f, "line {line}: utf8"),
+            ListingFault::Policy(fault) => write!(f, "{fault}"),
+            ListingFault::Memory => f.write_str("memory"),
+            ListingFault::Read => f.write_str("read"),
+            ListingFault::Write => f.write_str("write"),
+        }
+    }
+}
+
+impl Error for ListingFault {}
+
+impl From<AllocError> for ListingFault {
+    ghost use Rattle.std.specs.Prelude.{◌≡◌};
+    ghost use Rattle.gt_policy_list.specs.declared.fault.ListingFault.TheVariants as faults;
+
+    ghost from_gives = { λ _ e. e ≡ faults.Memory };
+
+    fn from(_error: AllocError) -> ListingFault {
+        ListingFault::Memory
+    }
+}
+
+impl From<PolicyFault> for ListingFault {
+    ghost use Rattle.std.specs.Prelude.{◌≡◌};
+    ghost use Rattle.gt_policy_list.specs.Faults.{listing_fault_of};
+
+    ghost from_gives = { λ error fault. fault ≡ listing_fault_of error.line error.kind };
+
+    fn from(error: PolicyFault) -> ListingFault {
+        let PolicyFault { line, kind } = error;
+        match kind {
+            PolicyFaultKind::Memory => ListingFault::Memory,
+            kind => ListingFault::Policy(PolicyFault { line, kind }),
+        }
+    }
+}
+
+impl From<ReadFault> for ListingFault {
+    ghost use Rattle.std.specs.Prelude.{◌≡◌};
+    ghost use Rattle.gt_policy_list.specs.Faults.{listing_read_fault};
+
+    ghost from_gives = { λ error fault. fault ≡ listing_read_fault error };
+
+    fn from(error: ReadFault) -> ListingFault {
+        match error {
+            ReadFault::Memory => ListingFault::Memory,
+            ReadFault::Read => ListingFault::Read,
+        }
+    }
+}
+
+impl From<WriteFault> for ListingFault {
+    ghost use Rattle.std.specs.Prelude.{◌≡◌};
+    ghost use Rattle.gt_policy_list.specs.declared.fault.ListingFault.TheVariants as faults;
+
+    ghost from_gives = { λ _ e. e ≡ faults.Write };
+
+    fn from(_error: WriteFault) -> ListingFault {
+        ListingFault::Write
+    }
+}

@@ -1,0 +1,15 @@
+//! What the definition of a listing comes to.
+ghost use Rattle.std.specs.Prelude.{◌≡◌, ℕ, List, Ok};
+ghost use Rattle.gt_policy.specs.Allowing.{Meaning};
+ghost use Rattle.gt_policy.specs.Whole.{Says};
+ghost use Rattle.gt_policy_list.specs.Writing.{IsListing};
+
+use gt_policy::written_texts;
+
+/// A policy has one listing.
+pub fn one_listing()
+    ensures { (bytes one other : List ℕ) (m : Meaning) →
+        Says bytes (Ok m) → IsListing m one → IsListing m other → one ≡ other }
+{
+    written_texts();
+}

@@ -1,5 +1,0 @@
-use Rattle.gt_running.proofs.running.TestDomain.keep_at_most.Goals as goal
-
-pub invariant_of-self : goal.invariant_of-self
-invariant_of-self g c =
-    let m = c.self.inside.monitor.now in c.keep_at_most.ensures.mine m.words m.config (g.P.Allows.may m.rights) c.self.invariant

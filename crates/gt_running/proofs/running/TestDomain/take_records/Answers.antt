@@ -1,4 +1,0 @@
-use Rattle.gt_running.proofs.running.TestDomain.take_records.Goals as goal
-
-pub invariant_of-self : goal.invariant_of-self
-invariant_of-self g c = c.take_records.ensures.mine _ _ _ c.self.invariant

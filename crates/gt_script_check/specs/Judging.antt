@@ -1,0 +1,38 @@
+-- What is told of bytes that are to be a script.
+use Rattle.std.specs.Prelude.{◌≡◌, ◌⊎◌, ℕ, List, [], ◌∷◌, Option, Some, None, Ok, Err}
+use Rattle.gt_policy_check.specs.Check.{error_lines}
+use Rattle.gt_policy_check.specs.declared.findings.Finding.{Finding}
+use Rattle.gt_script.specs.Contents.{Contents}
+use Rattle.gt_script.specs.RunContents.{RunContents}
+use Rattle.gt_script.specs.RunScripts.{RunTells}
+use Rattle.gt_script.specs.Script.{TellsScript, Wrong, in_script, in_policy}
+use Rattle.gt_script.specs.declared.faults.ScriptError.{ScriptError}
+use Rattle.gt_script.specs.declared.faults.ScriptError.TheVariants.{Memory, Fault, Policy}
+
+-- the line of a fault
+abbrev pub line_of_fault : Wrong → ℕ
+line_of_fault (in_script f) = f.line
+line_of_fault (in_policy g) = g.line
+
+-- What is found in bytes. If they are no script for `play`, nor for `run`, one error is told, at the line of their first
+-- fault for one of the two. If they are a script for one of them, no error is.
+pub data JudgesScript (bytes : List ℕ) : List Finding → Type 0 where
+  for_play : (c : Contents) (found : List Finding) → TellsScript bytes (Ok c) → error_lines found ≡ []
+      → JudgesScript bytes found
+  for_run : (c : RunContents) (found : List Finding) → RunTells bytes (Ok c) → error_lines found ≡ []
+      → JudgesScript bytes found
+  faulty : (play run : Wrong) (found : List Finding) → TellsScript bytes (Err play) → RunTells bytes (Err run)
+      → (error_lines found ≡ line_of_fault play ∷ []) ⊎ (error_lines found ≡ line_of_fault run ∷ [])
+      → JudgesScript bytes found
+
+-- the line of the fault that an error tells, none where memory was refused
+abbrev pub error_line : ScriptError → Option ℕ
+error_line Memory = None
+error_line (Fault f) = Some f.line
+error_line (Policy f) = Some f.line
+
+-- one error is told, at the line of one of these
+abbrev pub IsAtEither : ScriptError → ScriptError → List Finding → Type 0
+IsAtEither play run found =
+    (line other : ℕ) × (error_line play ≡ Some line) × (error_line run ≡ Some other)
+    × ((error_lines found ≡ line ∷ []) ⊎ (error_lines found ≡ other ∷ []))

@@ -1,0 +1,112 @@
+//! The error of bytes that are no script.
+ghost use Rattle.std.specs.Prelude.{◌≡◌, ◌⊎◌, ◌∷◌, [], ℕ, Some, IfOk, OnOk};
+ghost use Rattle.gt_policy_check.specs.Check.{error_lines};
+ghost use Rattle.gt_script_check.specs.Judging.{error_line, IsAtEither};
+
+use crate::warning::{column_number, push_warning};
+use gt_policy_check::{Finding, FindingKind};
+use gt_reasons::{ReasonNote, Reason, block_reason, script_reason};
+use gt_script::{ScriptError, ScriptFaultKind};
+use gt_types::Memory;
+use std::alloc::{AllocError, Global};
+
+// The line of a fault; none of refused memory.
+fn line_of(error: &ScriptError) -> Option<usize>
+    ensures { result ≡ error_line error.now }
+{
+    match error {
+        ScriptError::Memory => None,
+        ScriptError::Fault(fault) => Some(fault.line),
+        ScriptError::Policy(fault) => Some(fault.line),
+    }
+}
+
+fn reason_of(alloc: Global, input: &[u8], error: &ScriptError) -> Result<Reason, Memory> {
+    match error {
+        ScriptError::Memory => Err(Memory),
+        ScriptError::Fault(fault) => {
+            let reason = script_reason(alloc, input, fault)?;
+            Ok(reason)
+        }
+        ScriptError::Policy(_) => {
+            let reason = block_reason(alloc, input)?;
+            Ok(reason)
+        }
+    }
+}
+
+// Adds what is said beside an error, if anything is.
+fn push_note(found: &mut Vec<Finding>, note: Option<ReasonNote>) -> Result<(), AllocError>
+    ensures { OnOk result (error_lines found.new.items ≡ error_lines found.old.items) }
+{
+    let Some(note) = note else {
+        return Ok(());
+    };
+    push_warning(
+        found,
+        Finding {
+            kind: FindingKind::Note,
+            line: column_number(note.line),
+            column: column_number(note.column),
+            message: note.message,
+        },
+    )
+}
+
+// The finding of a fault on this line. A script has far fewer lines than a number of 32 bits can count.
+fn error_at(
+    alloc: Global,
+    input: &[u8],
+    error: &ScriptError,
+    line: usize,
+) -> Result<Vec<Finding>, Memory>
+    ensures { IfOk result (λ v. error_lines v.items ≡ line ∷ []) }
+{
+    let Ok(number) = u32::try_from(line) else {
+        return Err(Memory);
+    };
+    let Reason {
+        column,
+        message,
+        note,
+    } = reason_of(alloc, input, error)?;
+    let mut found = Vec::new(alloc);
+    found.push(Finding {
+        kind: FindingKind::Fault,
+        line: number,
+        column: column_number(column),
+        message,
+    })?;
+    push_note(&mut found, note)?;
+    Ok(found)
+}
+
+// Whether a line is for the other command.
+fn is_mode(error: &ScriptError) -> bool {
+    match error {
+        ScriptError::Fault(fault) => fault.kind == ScriptFaultKind::Mode,
+        ScriptError::Policy(_) | ScriptError::Memory => false,
+    }
+}
+
+/// The error of bytes that are no script for `play`, nor for `run`: the one of the two that is further down. If both
+/// are on one line, it is not the one that the line is for the other command.
+pub(crate) fn errors(
+    alloc: Global,
+    input: &[u8],
+    play: &ScriptError,
+    run: &ScriptError,
+) -> Result<Vec<Finding>, Memory>
+    ensures { IfOk result (λ v. IsAtEither play.now run.now v.items) }
+{
+    match (line_of(play), line_of(run)) {
+        (Some(line), Some(other)) => {
+            if line < other || line == other && is_mode(play) {
+                error_at(alloc, input, run, other)
+            } else {
+                error_at(alloc, input, play, line)
+            }
+        }
+        _ => Err(Memory),
+    }
+}

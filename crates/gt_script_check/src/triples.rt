@@ -1,0 +1,70 @@
+//! The triples of a script that allow nothing to its domains.
+ghost use Rattle.std.specs.Prelude.{◌≡◌, OnOk};
+ghost use Rattle.gt_policy_check.specs.Check.{error_lines};
+
+use crate::warning::{column_number, push_warning};
+use gt_policy_check::{Finding, FindingKind, said_of};
+use gt_script_lines::{ScriptLine, line_words, read_line};
+use gt_reasons::column_of;
+use gt_streams::text_of;
+use std::alloc::{AllocError, Global};
+
+// A type of a triple that no domain has, and which word of the line it is.
+#[derive(Clone, Copy)]
+struct Unworn<'t> {
+    name: &'t str,
+    place: usize,
+}
+
+// Whether no domain has the type.
+fn is_unworn(worn: &[&str], name: &[u8]) -> bool {
+    !worn.iter().any(|one| one.as_bytes() == name)
+}
+
+// The first type of a triple that no domain has; none of another line.
+fn unworn_in<'t>(
+    alloc: Global,
+    line: &'t str,
+    worn: &[&str],
+) -> Result<Option<Unworn<'t>>, AllocError> {
+    let words = line_words(alloc, line)?;
+    let Some(ScriptLine::Triple(triple)) = read_line(words.as_slice()) else {
+        return Ok(None);
+    };
+    let (name, place) = if is_unworn(worn, triple.source.as_bytes()) {
+        (triple.source.as_bytes(), 1)
+    } else {
+        (triple.target.as_bytes(), 2)
+    };
+    match text_of(name) {
+        Ok(name) if is_unworn(worn, name.as_bytes()) => Ok(Some(Unworn { name, place })),
+        _ => Ok(None),
+    }
+}
+
+/// Tells that a line is a triple that allows nothing to domains of these types, if it is.
+pub(crate) fn warn_triple(
+    alloc: Global,
+    found: &mut Vec<Finding>,
+    number: u32,
+    line: &str,
+    worn: &[&str],
+) -> Result<(), AllocError>
+    ensures { OnOk result (error_lines found.new.items ≡ error_lines found.old.items) }
+{
+    let Some(unworn) = unworn_in(alloc, line, worn)? else {
+        return Ok(());
+    };
+    let said = " is the type of no domain of this script, so this triple never matters";
+    let message = said_of(alloc, unworn.name, said)?;
+    let kind = FindingKind::NeverMatters;
+    push_warning(
+        found,
+        Finding {
+            kind,
+            line: number,
+            column: column_number(column_of(line.as_bytes(), unworn.place)),
+            message,
+        },
+    )
+}

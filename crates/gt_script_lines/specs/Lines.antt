@@ -1,0 +1,61 @@
+-- What the words of a line say.
+use Rattle.std.specs.Prelude.{ℕ, List, [], ◌∷◌, Option, Some, None, if◌then◌else◌, codes}
+use Rattle.std.specs.Option.{option_map}
+use Rattle.std.specs.Str.{bytes_eq}
+use Rattle.gt_types.specs.Names.{permission_of}
+use Rattle.gt_script_lines.specs.Numbers.{decimal_number}
+use Rattle.gt_script_lines.specs.Fields.{◌>>=◌, name_word, text_where, generation_word, type_word}
+use Rattle.gt_script_lines.specs.Calls.{action_of}
+use Rattle.gt_script_lines.specs.Signals.{is_signal_word, signal_of}
+use Rattle.gt_script_lines.specs.declared.lines.BodyLine.{BodyLine}
+use Rattle.gt_script_lines.specs.declared.lines.BodyLine.TheVariants as bodies
+use Rattle.gt_script_lines.specs.declared.lines.TripleLine.{TripleLine}
+use Rattle.gt_script_lines.specs.declared.lines.DomainLine.{DomainLine}
+use Rattle.gt_script_lines.specs.declared.lines.ScriptLine.{ScriptLine}
+use Rattle.gt_script_lines.specs.declared.lines.ScriptLine.TheVariants as lines
+
+-- what follows `triple`: SOURCE TARGET PERMISSION
+unfoldable pub triple_of : List (List ℕ) → Option TripleLine
+triple_of (source ∷ target ∷ permission ∷ []) = do
+  s ← text_where name_word source
+  t ← text_where name_word target
+  p ← permission_of permission
+  Some (record { source = s; target = t; perm = p })
+triple_of _ = None
+
+-- what follows `wear`: N
+unfoldable pub wear_of : List (List ℕ) → Option ℕ
+wear_of (first ∷ []) = generation_word first
+wear_of _ = None
+
+-- what follows `domain`: ID USER:ROLE:TYPE FRAMES TABLEFRAMES VERSION
+unfoldable pub domain_line_of : List (List ℕ) → Option DomainLine
+domain_line_of (id ∷ label ∷ frames ∷ table_frames ∷ version ∷ []) = do
+  i ← decimal_number id
+  t ← type_word label
+  f ← decimal_number frames
+  n ← decimal_number table_frames
+  v ← decimal_number version
+  Some (record { id = i; type_name = t; frames = f; table_frames = n; version = v })
+domain_line_of _ = None
+
+-- what a line of the body asks, by its word and what follows its domain
+unfoldable pub body_line_of : List ℕ → List (List ℕ) → Option BodyLine
+body_line_of word args = if is_signal_word word then option_map bodies.Signal (signal_of word args)
+    else option_map bodies.Action (action_of word args)
+
+-- a line of the body: its word, then ID and what follows
+unfoldable pub body_of : List ℕ → List (List ℕ) → Option ScriptLine
+body_of word [] = None
+body_of word (id ∷ args) = do
+  n ← decimal_number id
+  a ← body_line_of word args
+  Some (lines.Body n a)
+
+-- a line of a script by its first word
+abbrev pub line_of : List (List ℕ) → Option ScriptLine
+line_of [] = None
+line_of (word ∷ args) = if bytes_eq word (codes "triple") then option_map lines.Triple (triple_of args)
+    else (if bytes_eq word (codes "wear") then option_map lines.Wear (wear_of args)
+    else (if bytes_eq word (codes "domain") then option_map lines.Domain (domain_line_of args)
+    else body_of word args))

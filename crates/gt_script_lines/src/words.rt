@@ -1,0 +1,46 @@
+//! Lines and words.
+ghost use Rattle.std.specs.Prelude.{◌≡◌, IfOk, map};
+ghost use Rattle.std.specs.Str.Lines.{lines as lines_in};
+ghost use Rattle.gt_script_lines.specs.Words.{words as words_in, uncommented as without_comment, is_space as blank};
+ghost use Rattle.gt_script_lines.specs.Words.{is_nonempty as nonempty};
+
+use std::alloc::{AllocError, Global};
+
+/// The lines of a text: each ends with LF, and a CR before that is no part of it.
+pub fn text_lines<'a>(alloc: Global, text: &'a str) -> Result<Vec<&'a str>, AllocError>
+    ensures { IfOk result (λ v. map (λ line. line.now) v.items ≡ lines_in text.entry.now) }
+{
+    text.lines().collect(alloc)
+}
+
+fn uncommented<'a>(line: &'a str) -> &'a str
+    ensures { result.now ≡ without_comment line.entry.now }
+{
+    match line.split_once('#') {
+        Some((front, _)) => front,
+        None => line,
+    }
+}
+
+fn is_blank(byte: u8) -> bool
+    ensures { result ≡ blank byte }
+{
+    byte == b' ' || byte == b'\t'
+}
+
+fn is_nonempty(word: &[u8]) -> bool
+    ensures { result ≡ nonempty word.now }
+{
+    !word.is_empty()
+}
+
+/// The words of a line, parted by spaces and tabs.
+pub fn line_words<'a>(alloc: Global, line: &'a str) -> Result<Vec<&'a [u8]>, AllocError>
+    ensures { IfOk result (λ v. map (λ word. word.now) v.items ≡ words_in line.entry.now) }
+{
+    uncommented(line)
+        .as_bytes()
+        .split(|b| is_blank(*b))
+        .filter(|word| is_nonempty(*word))
+        .collect(alloc)
+}

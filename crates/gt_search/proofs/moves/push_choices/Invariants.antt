@@ -1,6 +1,0 @@
-use Rattle.std.proofs.Common.{◌≡◌, ◌++◌}
-use Rattle.gt_search.specs.Ends.{choices}
-use Rattle.gt_search.proofs.moves.push_choices.Given as goal
-
-abbrev pub invariant-loop-choice : goal.invariant-loop-choice
-invariant-loop-choice l = l.turns.items ≡ l.fn.turns.items ++ choices l.place l.choice

@@ -1,5 +1,0 @@
-use Rattle.gt_search.proofs.MovesListed.{AreDoneTo}
-use Rattle.gt_search.proofs.scene.SearchContext.is_finished.Given as goal
-
-abbrev pub invariant-loop-place : goal.invariant-loop-place
-invariant-loop-place l = AreDoneTo l.place l.self l.world.actors.items

@@ -1,5 +1,0 @@
-use Rattle.gt_search.proofs.AtOnce.{enough-turns}
-use Rattle.gt_search.proofs.space.SceneSpace.turns.Goals as goal
-
-pub returns : goal.returns
-returns c = enough-turns c.args.self.now c.args.state.now _ c.in_ok-turns.ensures

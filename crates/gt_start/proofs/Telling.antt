@@ -1,0 +1,37 @@
+-- Why a run did not begin.
+use Rattle.std.proofs.Common.{◌≡◌, ◌∙◌, ℕ, ap, inl, inr, refl, subst, length, List, Option, Some, None}
+use Rattle.std.specs.Prelude.{Err, Ok}
+use Rattle.gt_types.specs.declared.config.Config.{Config}
+use Rattle.gt_types.specs.declared.config.StartFault.{StartFault}
+use Rattle.gt_types.specs.declared.config.StartFault.TheVariants as starts
+use Rattle.gt_roster.specs.Starting.{IsStartFault}
+use Rattle.gt_policy.specs.Allowing.{Allowed, KeptPolicy, Meaning, PolicyShows}
+use Rattle.gt_policy.specs.Whole.{Says}
+use Rattle.gt_policy.specs.declared.fault.TokenFault.{TokenFault}
+use Rattle.gt_start.specs.Beginning.{IsFaultOf, IsLabelFault, IsSetBy, IsTextFault}
+use Rattle.gt_start.specs.Faults.{config_told, policy_told}
+use Rattle.gt_start.specs.declared.faults.EncodedFault.{EncodedFault}
+use Rattle.gt_start.specs.declared.settings.DomainSettings.{DomainSettings}
+
+-- the fault of a policy is one of its text
+pub of-text : (text : List ℕ) (o : Option TokenFault) (fault : EncodedFault) → ((f : TokenFault) → o ≡ Some f → Says text (Err f))
+    → fault ≡ policy_told o → IsTextFault text fault
+of-text text (Some f) fault says e = inr (inr (f, says f refl, e))
+of-text text None fault says e = inl e
+
+-- the fault of a start is one of the settings
+pub of-settings : (settings : List DomainSettings) (first_gen : ℕ) (text : List ℕ) (c : Config) (s : StartFault) (fault : EncodedFault)
+    → IsSetBy settings first_gen c → IsStartFault c s → fault ≡ config_told s → IsFaultOf settings first_gen text fault
+of-settings settings first_gen text c (starts.Config f) fault set is e = inr (inr (c, f, set, is.1, e))
+of-settings settings first_gen text c starts.Memory fault set is e = inl (inl e)
+
+-- a policy has as many types as what its text means
+pub same-count : (p : KeptPolicy) (m : Meaning) → PolicyShows p m → length p.types ≡ length m.types
+same-count p m shows = ap (λ (a : Allowed). length a.types) shows
+
+-- the fault of a label is one of the settings
+pub of-label : (settings : List DomainSettings) (first_gen : ℕ) (text : List ℕ) (p : KeptPolicy) (m : Meaning) (types : ℕ) (fault : EncodedFault)
+    → Says text (Ok m) → PolicyShows p m → types ≡ length p.types → IsLabelFault types settings fault
+    → IsFaultOf settings first_gen text fault
+of-label settings first_gen text p m types fault says shows count is =
+    inr (inl (m, says, subst (λ (n : ℕ). IsLabelFault n settings fault) (count ∙ same-count p m shows) is))

@@ -1,0 +1,75 @@
+-- How a fault is told to C: its kind, its line, its domain.
+use Rattle.std.specs.Prelude.{ℕ, Option, Some, None}
+use Rattle.gt_types.specs.declared.DomId.{DomId}
+use Rattle.gt_types.specs.declared.config.ConfigFault.{ConfigFault}
+use Rattle.gt_types.specs.declared.config.ConfigFault.TheVariants.{NoDomains, TooMany, Id, Repeated, Frames}
+use Rattle.gt_types.specs.declared.config.ConfigFault.TheVariants.{TableFrames, Version, Generation}
+use Rattle.gt_types.specs.declared.config.StartFault.{StartFault}
+use Rattle.gt_types.specs.declared.config.StartFault.TheVariants as starts
+use Rattle.gt_policy.specs.declared.fault.TokenFault.{TokenFault}
+use Rattle.gt_policy.specs.declared.fault.TokenFaultKind.{TokenFaultKind}
+use Rattle.gt_policy.specs.declared.fault.TokenFaultKind.TheVariants.{Syntax, Unknown, Twice, Permission, Outside}
+use Rattle.gt_policy.specs.declared.fault.TokenFaultKind.TheVariants.{Limit}
+use Rattle.gt_start.specs.declared.faults.EncodedFault.{EncodedFault}
+
+-- nothing is at fault
+abbrev pub no_fault : EncodedFault
+no_fault = record { kind = 0; line = 0; dom = 0 }
+
+-- memory was refused
+abbrev pub no_memory : EncodedFault
+no_memory = record { kind = 1; line = 0; dom = 0 }
+
+-- the handles are not as many as the domains, or one of them has a domain
+abbrev pub wrong_handles : EncodedFault
+wrong_handles = record { kind = 2; line = 0; dom = 0 }
+
+-- the policy is no UTF-8
+abbrev pub no_text : EncodedFault
+no_text = record { kind = 9; line = 0; dom = 0 }
+
+-- the policy has no type of a name
+abbrev pub no_type : EncodedFault
+no_type = record { kind = 20; line = 0; dom = 0 }
+
+-- the kind of a fault of a policy
+abbrev pub policy_kind : TokenFaultKind → ℕ
+policy_kind Syntax = 3
+policy_kind (Unknown name) = 4
+policy_kind (Twice name) = 5
+policy_kind (Permission name) = 6
+policy_kind (Outside name) = 7
+policy_kind Limit = 8
+
+-- a fault of a policy, at its line
+abbrev pub token_told : TokenFault → EncodedFault
+token_told f = record { kind = policy_kind f.kind; line = f.line; dom = 0 }
+
+-- the same; memory was refused, if there is none
+abbrev pub policy_told : Option TokenFault → EncodedFault
+policy_told (Some f) = token_told f
+policy_told None = no_memory
+
+-- a fault of a domain
+abbrev pub domain_told : ℕ → DomId → EncodedFault
+domain_told kind dom = record { kind = kind; line = 0; dom = dom.0 }
+
+-- a fault of a configuration
+abbrev pub limit_told : ConfigFault → EncodedFault
+limit_told NoDomains = record { kind = 10; line = 0; dom = 0 }
+limit_told (TooMany dom) = domain_told 11 dom
+limit_told (Id dom) = domain_told 12 dom
+limit_told (Repeated dom) = domain_told 13 dom
+limit_told (Frames dom) = domain_told 14 dom
+limit_told (TableFrames dom) = domain_told 15 dom
+limit_told (Version dom) = domain_told 16 dom
+limit_told Generation = record { kind = 17; line = 0; dom = 0 }
+
+-- the same; memory was refused, if the configuration has none
+abbrev pub config_told : StartFault → EncodedFault
+config_told (starts.Config fault) = limit_told fault
+config_told starts.Memory = no_memory
+
+-- the label of a domain is past the policy's types
+abbrev pub label_told : DomId → EncodedFault
+label_told dom = domain_told 19 dom

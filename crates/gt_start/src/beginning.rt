@@ -1,0 +1,81 @@
+//! How a run begins.
+ghost use Rattle.std.specs.Prelude.{◌≡◌, length, IfOk, IfErr, Ok, Some};
+ghost use Rattle.gt_policy.specs.Allowing.{Meaning, PolicyShows, type_named};
+ghost use Rattle.gt_policy.specs.Whole.{Says};
+ghost use Rattle.gt_start.specs.Beginning.{Begins, IsFaultOf, IsNameFault, IsTextFault};
+
+use crate::faults::{EncodedFault, MEMORY, NO_TYPE, TEXT, config_fault, policy_fault};
+use crate::settings::{DomainSettings, configured, label_past};
+use gt_allow::AllowTable;
+use gt_policy::Policy;
+use gt_attached::{AttachedDomain, start};
+use gt_types::TypeId;
+use std::alloc::Global;
+
+// The policy of a text.
+fn policy_of(alloc: Global, text: &[u8]) -> Result<Policy, EncodedFault>
+    ensures policy { IfOk result (λ policy. (m : Meaning) × Says text.now (Ok m) × PolicyShows policy m) }
+    ensures fault { IfErr result (IsTextFault text.now) }
+{
+    let Ok(text) = str::from_utf8(text) else {
+        return Err(TEXT);
+    };
+    match Policy::parse(alloc, text) {
+        Ok(policy) => Ok(policy),
+        Err(refused) => Err(policy_fault(refused)),
+    }
+}
+
+/// Begins a run with these settings under a policy's text, and gives a guest for each domain, in order. `first_gen` is
+/// the generation that each entry begins at.
+///
+/// # Errors
+/// The first fault of the policy's text; then the first label that is past the policy's types; then the first fault of
+/// the configuration; `memory` wherever memory is refused. No domain is left then.
+pub fn begin(
+    alloc: Global,
+    settings: &[DomainSettings],
+    first_gen: u32,
+    policy: &[u8],
+) -> Result<Vec<AttachedDomain<AllowTable>>, EncodedFault>
+    ensures begun { IfOk result (λ guests. Begins settings.now first_gen policy.now guests.items) }
+    ensures count { IfOk result (λ guests. length guests.items ≡ length settings.now) }
+    ensures fault { IfErr result (IsFaultOf settings.now first_gen policy.now) }
+{
+    let policy = match policy_of(alloc, policy) {
+        Ok(policy) => policy,
+        Err(fault) => return Err(fault),
+    };
+    if let Some(fault) = label_past(settings, policy.count()) {
+        return Err(fault);
+    }
+    let Ok(rights) = AllowTable::compile(alloc, &policy) else {
+        return Err(MEMORY);
+    };
+    let Ok(config) = configured(alloc, settings, first_gen) else {
+        return Err(MEMORY);
+    };
+    match start(alloc, config, rights) {
+        Ok(guests) => Ok(guests),
+        Err(refused) => Err(config_fault(refused)),
+    }
+}
+
+/// The type of this name in a policy's text: its number is the label of a domain of that type.
+///
+/// # Errors
+/// The first fault of the text, or that it declares no type of this name, or `memory`.
+pub fn type_of(alloc: Global, policy: &[u8], name: &[u8]) -> Result<TypeId, EncodedFault>
+    ensures named { IfOk result (λ id.
+        (m : Meaning) × Says policy.now (Ok m) × (type_named m.types name.now ≡ Some id)) }
+    ensures fault { IfErr result (IsNameFault policy.now name.now) }
+{
+    let policy = match policy_of(alloc, policy) {
+        Ok(policy) => policy,
+        Err(fault) => return Err(fault),
+    };
+    match policy.type_spelled(name) {
+        Some(id) => Ok(id),
+        None => Err(NO_TYPE),
+    }
+}

@@ -1,0 +1,64 @@
+//! The settings of a run.
+ghost use Rattle.std.specs.Prelude.{◌≡◌, position, map, MatchOption, None, IfOk};
+ghost use Rattle.gt_start.specs.Beginning.{IsLabelFault, IsSetBy, domain_set, is_past};
+
+use crate::faults::{EncodedFault, label_fault};
+use gt_types::{Config, DomId, DomainConfig, TypeId};
+use std::alloc::{AllocError, Global};
+
+/// A domain of a run to start: its number, the number of its type in the policy, how many frames it and its grant table
+/// have, and the version of the table.
+#[repr(C)]
+#[derive(Clone, Copy)]
+pub struct DomainSettings {
+    pub id: u16,
+    pub label: u16,
+    pub frames: u32,
+    pub table_frames: u32,
+    pub version: u32,
+}
+
+fn domain_set(one: &DomainSettings) -> DomainConfig
+    ensures { result ≡ domain_set one.now }
+{
+    DomainConfig {
+        id: DomId(one.id),
+        label: TypeId(one.label),
+        frames: one.frames,
+        table_frames: one.table_frames,
+        version: one.version,
+    }
+}
+
+// The configuration of a run with these settings.
+pub(crate) fn configured(
+    alloc: Global,
+    settings: &[DomainSettings],
+    first_gen: u32,
+) -> Result<Config, AllocError>
+    ensures { IfOk result (IsSetBy settings.now first_gen) }
+{
+    let mut domains = Vec::new(alloc);
+    for one in settings {
+        domains.push(domain_set(one))?;
+    }
+    Ok(Config { domains, first_gen })
+}
+
+// The place of the first domain whose label is past so many types.
+fn first_past(settings: &[DomainSettings], types: u16) -> Option<usize>
+    ensures { result ≡ position (is_past types) settings.now }
+{
+    settings.iter().position(|one| one.label >= types)
+}
+
+// The fault of the first label that is not below the number of types, if there is one.
+pub(crate) fn label_past(settings: &[DomainSettings], types: u16) -> Option<EncodedFault>
+    ensures { MatchOption result (position (is_past types) settings.now ≡ None)
+        (λ fault. IsLabelFault types settings.now fault) }
+{
+    match first_past(settings, types) {
+        Some(place) => Some(label_fault(DomId(settings[place].id))),
+        None => None,
+    }
+}

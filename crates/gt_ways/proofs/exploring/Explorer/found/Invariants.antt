@@ -1,9 +1,0 @@
-use Rattle.std.proofs.Common.{◌≡◌, length}
-use Rattle.gt_ways.proofs.Trying.{HaveTexts}
-use Rattle.gt_ways.proofs.exploring.Explorer.found.Given as goal
-
-abbrev pub invariant-ends : goal.invariant-ends
-invariant-ends g l = record {
-  many : length l.orders.items ≡ l.end-index;
-  each : HaveTexts l.self.suffixes l.domains l.end-items l.orders.items l.end-index;
-}

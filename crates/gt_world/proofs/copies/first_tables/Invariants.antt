@@ -1,6 +1,0 @@
-use Rattle.std.proofs.Common.{take}
-use Rattle.gt_world.specs.Copies.{AreTablesOf}
-use Rattle.gt_world.proofs.copies.first_tables.Given as goal
-
-abbrev pub invariant-domains : goal.invariant-domains
-invariant-domains l = AreTablesOf (take l.domain-index l.domains) l.tables.items

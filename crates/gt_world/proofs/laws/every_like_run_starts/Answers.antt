@@ -1,5 +1,0 @@
-use Rattle.gt_world.proofs.GoingAlike.{like-starts}
-use Rattle.gt_world.proofs.laws.every_like_run_starts.Goals as goal
-
-pub returns : goal.returns
-returns c = like-starts

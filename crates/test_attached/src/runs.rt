@@ -1,0 +1,204 @@
+//! Whole runs, from their settings to the end of each guest.
+use gt_allow::AllowTable;
+use gt_start::{DomainSettings, begin, type_of};
+use gt_calls::Handle;
+use gt_entry::{Entry, EntryKind};
+use gt_attached::AttachedDomain;
+use gt_types::{DomId, GrantRef, Rule};
+use std::alloc::{AllocError, Global};
+
+const POLICY: &[u8] =
+    b"type other_t; type guest_t; allow guest_t guest_t:grant { map_read map_write unmap };";
+
+const PAGE: GrantRef = GrantRef(7);
+
+// Settings of domains with the numbers from 1 on.
+fn settings(alloc: Global, count: u16, label: u16) -> Result<Vec<DomainSettings>, AllocError> {
+    let mut all = Vec::new(alloc);
+    for place in 0..count {
+        all.push(DomainSettings {
+            id: place.saturating_add(1),
+            label,
+            frames: 8,
+            table_frames: 1,
+            version: 1,
+        })?;
+    }
+    Ok(all)
+}
+
+// Grants a page to a domain.
+fn grants(guest: &mut AttachedDomain<AllowTable>, to: u16) -> bool {
+    let page = Entry::Page {
+        dom: DomId(to),
+        ro: false,
+        frame: 5,
+    };
+    !guest.is_copying() && guest.grant(PAGE, &page).is_ok()
+}
+
+// Maps the page of a domain.
+fn maps(guest: &mut AttachedDomain<AllowTable>, owner: u16) -> Option<Handle> {
+    if guest.is_copying() {
+        return None;
+    }
+    guest.map(DomId(owner), PAGE, 2).ok()
+}
+
+// Gives a mapping up.
+fn unmaps(guest: &mut AttachedDomain<AllowTable>, handle: Handle) -> bool {
+    !guest.is_copying() && guest.unmap(handle).is_ok()
+}
+
+// The rule by which the page is not revoked.
+fn kept_by(guest: &mut AttachedDomain<AllowTable>) -> Option<Rule> {
+    if guest.is_copying() {
+        return None;
+    }
+    guest.revoke(PAGE).err().map(|denial| denial.rule)
+}
+
+// The kind of the page's entry, and its pins for writing.
+fn status(guest: &mut AttachedDomain<AllowTable>) -> Option<(EntryKind, u16)> {
+    if guest.is_copying() {
+        return None;
+    }
+    let control = guest.status(PAGE)?;
+    Some((control.kind, control.writes))
+}
+
+// Makes a guest ready for the next one in its place; how many entries are in use.
+fn resets(guest: &mut AttachedDomain<AllowTable>) -> Option<u64> {
+    if guest.is_copying() {
+        return None;
+    }
+    Some(guest.reset().in_use)
+}
+
+// The guest leaves; how many of its entries are in use.
+fn leaves(guest: AttachedDomain<AllowTable>) -> Option<u64> {
+    if guest.is_copying() {
+        return None;
+    }
+    Some(guest.finish().in_use)
+}
+
+// The number of the domain after the one at a place, by turns.
+fn next(place: u16, count: u16) -> u16 {
+    let after = place.saturating_add(1);
+    if after < count {
+        after.saturating_add(1)
+    } else {
+        1
+    }
+}
+
+// Each guest grants its page to the next one.
+fn grant_all(guests: &mut [AttachedDomain<AllowTable>], count: u16) -> u16 {
+    let mut done = 0u16;
+    let mut place = 0u16;
+    for guest in guests.iter_mut() {
+        if grants(guest, next(place, count)) {
+            done = done.saturating_add(1);
+        }
+        place = place.saturating_add(1);
+    }
+    done
+}
+
+// Each guest maps the page of the one before it.
+fn map_all(guests: &mut [AttachedDomain<AllowTable>], count: u16) -> u16 {
+    let mut done = 0u16;
+    let mut owner = count;
+    for guest in guests.iter_mut() {
+        if maps(guest, owner).is_some() {
+            done = done.saturating_add(1);
+        }
+        owner = guest.dom().0;
+    }
+    done
+}
+
+// How many guests can't revoke their page, since it is in use.
+fn count_busy(guests: &mut [AttachedDomain<AllowTable>]) -> u16 {
+    let mut busy = 0u16;
+    for guest in guests.iter_mut() {
+        if kept_by(guest) == Some(Rule::N19) {
+            busy = busy.saturating_add(1);
+        }
+    }
+    busy
+}
+
+// Each guest leaves, the first one first. How many left an entry in use.
+fn leave_all(guests: Vec<AttachedDomain<AllowTable>>) -> u16 {
+    let mut left = 0u16;
+    for guest in guests {
+        if leaves(guest) == Some(1) {
+            left = left.saturating_add(1);
+        }
+    }
+    left
+}
+
+// A run of so many domains: how many pages were granted, mapped, in use, and left in use.
+fn run(alloc: Global, count: u16) -> Result<(usize, [u16; 4]), AllocError> {
+    let label = match type_of(alloc, POLICY, b"guest_t") {
+        Ok(id) => id.0,
+        Err(_) => return Err(AllocError),
+    };
+    let settings = settings(alloc, count, label)?;
+    let Ok(mut guests) = begin(alloc, settings.as_slice(), 0, POLICY) else {
+        return Err(AllocError);
+    };
+    let len = guests.len();
+    let granted = grant_all(guests.as_mut_slice(), count);
+    let mapped = map_all(guests.as_mut_slice(), count);
+    let busy = count_busy(guests.as_mut_slice());
+    Ok((len, [granted, mapped, busy, leave_all(guests)]))
+}
+
+#[test]
+fn runs_of_1_and_2_and_64_domains_begin_and_end(rt: HostRuntime) -> Result<(), AllocError> {
+    let alloc = rt.alloc();
+    assert_eq!(rt; run(alloc, 1)?, (1, [1, 1, 1, 0]));
+    assert_eq!(rt; run(alloc, 2)?, (2, [2, 2, 2, 1]));
+    assert_eq!(rt; run(alloc, 64)?, (64, [64, 64, 64, 63]));
+    Ok(())
+}
+
+#[test]
+fn a_place_is_made_ready_for_the_next_guest(rt: HostRuntime) -> Result<(), AllocError> {
+    let settings = settings(rt.alloc(), 2, 1)?;
+    let Ok(mut guests) = begin(rt.alloc(), settings.as_slice(), 3, POLICY) else {
+        return Err(AllocError);
+    };
+    let (Some(mut mapper), Some(mut owner)) = (guests.pop(), guests.pop()) else {
+        return Err(AllocError);
+    };
+    assert!(rt; grants(&mut owner, 2));
+    let Some(handle) = maps(&mut mapper, 1) else {
+        return Err(AllocError);
+    };
+    assert_eq!(rt; status(&mut owner), Some((EntryKind::Page, 1)));
+    assert_eq!(rt; resets(&mut owner), Some(1));
+    assert_eq!(rt; status(&mut owner), Some((EntryKind::Invalid, 1)));
+    assert!(rt; maps(&mut mapper, 1).is_none());
+    assert!(rt; unmaps(&mut mapper, handle));
+    assert_eq!(rt; status(&mut owner), Some((EntryKind::Invalid, 0)));
+    assert!(rt; grants(&mut owner, 2));
+    assert!(rt; maps(&mut mapper, 1).is_some());
+    assert_eq!(rt; resets(&mut mapper), Some(0));
+    assert_eq!(rt; (leaves(owner), leaves(mapper)), (Some(0), Some(0)));
+    Ok(())
+}
+
+#[test]
+fn a_label_past_the_types_is_a_fault(rt: HostRuntime) -> Result<(), AllocError> {
+    let settings = settings(rt.alloc(), 2, 2)?;
+    match begin(rt.alloc(), settings.as_slice(), 0, POLICY) {
+        Ok(_) => assert!(rt; false, "it began"),
+        Err(fault) => assert_eq!(rt; (fault.kind, fault.dom), (19, 1)),
+    }
+    Ok(())
+}

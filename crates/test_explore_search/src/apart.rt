@@ -1,0 +1,90 @@
+//! Two counters that have nothing to do with each other, as a space with fewer turns.
+ghost use Rattle.test_explore_search.specs.Apart.{apart_ways};
+
+use gt_explore_replay::Turn;
+use gt_explore_search::{TurnResult, SearchFault, TransitionSystem};
+use std::alloc::{AllocError, Global};
+
+/// Two counters that count up to a limit, and print how far they have come.
+#[derive(Drop)]
+pub struct Apart {
+    pub alloc: Global,
+    pub limit: u8,
+}
+
+/// How far each has come.
+#[derive(Drop)]
+pub struct Place {
+    pub first: u8,
+    pub second: u8,
+}
+
+impl TransitionSystem for Apart {
+    type State = Place;
+
+    ghost ways = { apart_ways };
+
+    fn domains(&self) -> usize {
+        2
+    }
+
+    fn start(&self) -> Result<Place, SearchFault> {
+        Ok(Place {
+            first: 0,
+            second: 0,
+        })
+    }
+
+    fn key(&self, state: &Place) -> Result<Vec<u8>, AllocError> {
+        let mut key = Vec::new(self.alloc);
+        key.push(state.first)?;
+        Ok(key)
+    }
+
+    fn turns(&self, state: &Place) -> Result<Vec<Turn>, SearchFault> {
+        let mut turns = Vec::new(self.alloc);
+        if state.first < self.limit {
+            turns.push(Turn {
+                place: 0,
+                choice: 0,
+            })?;
+        } else {
+            turns.push(Turn {
+                place: 1,
+                choice: 0,
+            })?;
+        }
+        Ok(turns)
+    }
+
+    fn advance(&self, state: &mut Place, turn: Turn) -> Result<TurnResult, SearchFault> {
+        if turn.place == 0 && state.first < self.limit {
+            let mut line = Vec::new(self.alloc);
+            line.push(state.first)?;
+            state.first += 1;
+            return Ok(TurnResult::Answered(line));
+        }
+        if turn.place == 1 && state.second < self.limit {
+            let mut line = Vec::new(self.alloc);
+            line.push(state.second)?;
+            state.second += 1;
+            return Ok(TurnResult::Answered(line));
+        }
+        Ok(TurnResult::Nowhere)
+    }
+
+    fn is_finished(&self, state: &Place) -> bool {
+        state.first == self.limit && state.second == self.limit
+    }
+
+    fn is_same(&self, one: &Place, other: &Place) -> bool {
+        one.first == other.first && one.second == other.second
+    }
+
+    fn copy(&self, state: &Place) -> Result<Place, AllocError> {
+        Ok(Place {
+            first: state.first,
+            second: state.second,
+        })
+    }
+}

@@ -1,0 +1,57 @@
+//! The texts of two counters.
+use crate::counters::Counters;
+use gt_explore_search::{SearchResult, search};
+use std::test::Fail;
+
+// Whether an order has this text.
+fn has(found: &SearchResult, text: &[u8]) -> bool {
+    for order in found.orders.as_slice() {
+        if order.text.as_slice() == text {
+            return true;
+        }
+    }
+    false
+}
+
+// Up to two the first counter's lines rise from 0 to 2: there are six such texts, and nine states.
+#[test]
+fn each_text_of_two_counters_is_found(rt: HostRuntime) -> Result<(), Fail> {
+    let alloc = rt.alloc();
+    let counters = Counters { alloc, limit: 2 };
+    let Ok(found) = search(alloc, &counters, 9) else {
+        assert!(rt; false);
+        return Ok(());
+    };
+    assert_eq!(rt; found.states, 9);
+    assert_eq!(rt; found.orders.len(), 6);
+    assert!(rt; has(&found, &[0, 0]));
+    assert!(rt; has(&found, &[0, 1]));
+    assert!(rt; has(&found, &[0, 2]));
+    assert!(rt; has(&found, &[1, 1]));
+    assert!(rt; has(&found, &[1, 2]));
+    assert!(rt; has(&found, &[2, 2]));
+    Ok(())
+}
+
+#[test]
+fn one_state_less_is_too_few(rt: HostRuntime) -> Result<(), Fail> {
+    let alloc = rt.alloc();
+    let counters = Counters { alloc, limit: 2 };
+    assert!(rt; search(alloc, &counters, 8).is_err());
+    Ok(())
+}
+
+// Each counter prints its own way alone: there is one text, and seven states are enough of 16.
+#[test]
+fn the_one_text_of_counters_that_are_apart(rt: HostRuntime) -> Result<(), Fail> {
+    let alloc = rt.alloc();
+    let counters = crate::apart::Apart { alloc, limit: 3 };
+    let Ok(found) = search(alloc, &counters, 9) else {
+        assert!(rt; false);
+        return Ok(());
+    };
+    assert_eq!(rt; found.states, 7);
+    assert_eq!(rt; found.orders.len(), 1);
+    assert!(rt; has(&found, &[0, 1, 2, 0, 1, 2]));
+    Ok(())
+}
