@@ -4,7 +4,7 @@ use Rattle.gt_types.specs.declared.DomId.{DomId}
 use Rattle.gt_types.specs.declared.GrantRef.{GrantRef}
 use Rattle.gt_types.specs.declared.TypeId.{TypeId}
 use Rattle.gt_types.specs.Names.{resolved}
-use Rattle.gt_texts.specs.Printing.{denial_text, frames_text, size_text, version_text}
+use Rattle.gt_text.specs.Printing.{denial_text, frames_text, size_text, version_text}
 use Rattle.gt_types.specs.declared.copies.End.{End}
 use Rattle.gt_audit.specs.declared.record.Hypercall.{Hypercall}
 use Rattle.gt_audit.specs.declared.record.Hypercall.TheVariants.{Map, Unmap, Copy, QuerySize, GetVersion, SetVersion}

@@ -10,7 +10,7 @@
 //! log gives the record that was pushed for it, whatever came after. What is found under a domain and a
 //! number was pushed for them. Only a push into a shared log may wait.
 //!
-//! It uses `gt_types` (domains, references, refusals), `gt_texts` (what answers print) and `boxcar` (a
+//! It uses `gt_types` (domains, references, refusals), `gt_text` (what answers print) and `boxcar` (a
 //! list that threads share).
 #![tactic(auto)]
 

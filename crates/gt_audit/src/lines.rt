@@ -1,14 +1,14 @@
 //! The lines of records.
 ghost use Rattle.std.specs.Prelude.{◌≡◌, ◌++◌, OnOk, IfOk, codes, decimal, string_bytes};
 ghost use Rattle.gt_types.specs.Names.{resolved as resolved_in};
-ghost use Rattle.gt_texts.specs.Printing.{type_text};
-ghost use Rattle.gt_texts.specs.Texts.{StaysText, AreTexts};
+ghost use Rattle.gt_text.specs.Printing.{type_text};
+ghost use Rattle.gt_text.specs.Texts.{StaysText, AreTexts};
 ghost use Rattle.gt_audit.specs.Lines.{domain_text, reference_text, copy_kind_text, end_text, copy_text};
 ghost use Rattle.gt_audit.specs.Lines.{hypercall_text};
 ghost use Rattle.gt_audit.specs.Lines.{asked_text, reply_text, line_text, lost_text};
 
 use crate::record::{Hypercall, Record, Reply};
-use gt_texts::{push_denial, push_frames, push_number, push_size, push_text, push_version};
+use gt_text::{push_denial, push_frames, push_number, push_size, push_text, push_version};
 use gt_types::{DOMID_SELF, DomId, End, GrantRef, Memory};
 use std::alloc::{AllocError, Global};
 use std::convert::AsSlice;

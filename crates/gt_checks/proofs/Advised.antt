@@ -30,10 +30,10 @@ use Rattle.gt_policy.specs.declared.fault.TokenFaultKind.TheVariants.{Limit}
 use Rattle.gt_policy.specs.declared.lined.LinedStatement.{LinedStatement}
 use Rattle.gt_policy.specs.declared.parse.PolicyFaultKind.{PolicyFaultKind}
 use Rattle.gt_policy.specs.declared.parse.PolicyFaultKind.TheVariants as kinds
-use Rattle.gt_streams.specs.Laws.{keeps_same, of_any_input, take_whole}
-use Rattle.gt_streams.specs.Streams.{AppendsBeginning, OfInput}
-use Rattle.gt_streams.specs.declared.fault.ReadFault.{ReadFault}
-use Rattle.gt_streams.specs.declared.fault.ReadFault.TheVariants as reads
+use Rattle.gt_text.specs.Laws.{keeps_same, of_any_input, take_whole}
+use Rattle.gt_text.specs.Streams.{AppendsBeginning, OfInput}
+use Rattle.gt_text.specs.declared.fault.ReadFault.{ReadFault}
+use Rattle.gt_text.specs.declared.fault.ReadFault.TheVariants as reads
 
 -- ---- a text that is checked
 

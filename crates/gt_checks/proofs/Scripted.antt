@@ -8,10 +8,10 @@ use Rattle.gt_policy_list.specs.Faults.{listing_read_fault}
 use Rattle.gt_policy_list.specs.declared.fault.ListingFault.{ListingFault}
 use Rattle.gt_policy_list.specs.declared.fault.ListingFault.TheVariants as faults
 use Rattle.gt_script_check.specs.Judging.{JudgesScript, for_play, for_run, faulty, line_of_fault}
-use Rattle.gt_streams.specs.Laws.{keeps_same, of_any_input}
-use Rattle.gt_streams.specs.Streams.{OfInput}
-use Rattle.gt_streams.specs.declared.fault.ReadFault.{ReadFault}
-use Rattle.gt_streams.specs.declared.fault.ReadFault.TheVariants as reads
+use Rattle.gt_text.specs.Laws.{keeps_same, of_any_input}
+use Rattle.gt_text.specs.Streams.{OfInput}
+use Rattle.gt_text.specs.declared.fault.ReadFault.{ReadFault}
+use Rattle.gt_text.specs.declared.fault.ReadFault.TheVariants as reads
 
 is_script : (bytes : List ℕ) (found : List Finding) → JudgesScript bytes found → IsScript bytes (not (errs found))
 is_script bytes found (for_play c _ tells none) = rw (no_error found none) (inl (c, tells))

@@ -11,7 +11,7 @@ use Rattle.gt_policy.specs.Allowing.{Meaning}
 use Rattle.gt_policy.specs.Shown.{fault_shown}
 use Rattle.gt_policy.specs.Whole.{Says}
 use Rattle.gt_policy.specs.declared.fault.TokenFault.{TokenFault}
-use Rattle.gt_streams.specs.Streams.{AppendsBeginning}
+use Rattle.gt_text.specs.Streams.{AppendsBeginning}
 
 -- the text is a policy, or it is none
 abbrev pub IsCleanText : List ℕ → Bool → Type 0

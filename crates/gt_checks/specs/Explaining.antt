@@ -17,7 +17,7 @@ use Rattle.gt_policy.specs.Shown.{fault_shown}
 use Rattle.gt_policy.specs.Whole.{Says}
 use Rattle.gt_policy.specs.declared.fault.TokenFault.{TokenFault}
 use Rattle.gt_policy.specs.declared.lined.LinedStatement.{LinedStatement}
-use Rattle.gt_streams.specs.Streams.{AppendsBeginning}
+use Rattle.gt_text.specs.Streams.{AppendsBeginning}
 
 -- the text is a policy, and what its statements explain answers so
 abbrev pub AnswersWhy : List ℕ → List ℕ → WhyQuestion → WhyAnswer → Explanation → Type 0

@@ -9,7 +9,7 @@ use Rattle.gt_script.specs.RunContents.{RunContents}
 use Rattle.gt_script.specs.RunScripts.{RunTells}
 use Rattle.gt_script.specs.Script.{TellsScript, Wrong}
 use Rattle.gt_script_check.specs.Judging.{JudgesScript}
-use Rattle.gt_streams.specs.Streams.{AppendsBeginning}
+use Rattle.gt_text.specs.Streams.{AppendsBeginning}
 
 -- the bytes are a script for `play` or for `run`, or for neither
 abbrev pub IsScript : List ℕ → Bool → Type 0

@@ -1,12 +1,12 @@
 //! A policy in, and what is wrong or useless in it out.
 ghost use Rattle.std.specs.Prelude.{◌≡◌, ◌+◌, ℕ, List, take};
 ghost use Rattle.gt_types.specs.declared.limits.TheConstants.{LONGEST_TEXT};
-ghost use Rattle.gt_streams.specs.Streams.{OfInput};
+ghost use Rattle.gt_text.specs.Streams.{OfInput};
 ghost use Rattle.gt_checks.specs.Checking.{Checked, CheckedText};
 
 use crate::telling::tell_findings;
 use gt_policy_list::{ListingFault, policy_text};
-use gt_streams::read_text;
+use gt_text::read_text;
 use std::alloc::Global;
 use std::io::{Read, Write};
 

@@ -1,13 +1,13 @@
 //! A question about a policy in, and the lines of its answer out.
 ghost use Rattle.std.specs.Prelude.{◌≡◌, ◌+◌, ℕ, List, take};
 ghost use Rattle.gt_types.specs.declared.limits.TheConstants.{LONGEST_TEXT};
-ghost use Rattle.gt_streams.specs.Streams.{OfInput};
+ghost use Rattle.gt_text.specs.Streams.{OfInput};
 ghost use Rattle.gt_checks.specs.Explaining.{AskedOf, Explained, WritesLines};
 
 use crate::fault::WhyFault;
 use gt_policy_check::{WhyAnswer, Explanation, WhyQuestion};
 use gt_policy_list::{ListingFault, policy_text};
-use gt_streams::{finish, read_text};
+use gt_text::{finish, read_text};
 use std::alloc::Global;
 use std::io::{Read, Write};
 

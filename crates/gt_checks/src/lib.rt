@@ -9,7 +9,7 @@
 //! is asked, or that come near it.
 //!
 //! It uses `gt_policy_check` (the findings and the lines), `gt_policy_list` (the faults of a text), `gt_policy`,
-//! `gt_script` and `gt_script_check` (scripts), `gt_streams` (reads and writes) and `gt_types`.
+//! `gt_script` and `gt_script_check` (scripts), `gt_text` (reads and writes) and `gt_types`.
 #![tactic(auto)]
 
 mod checking;

@@ -1,13 +1,13 @@
 //! A script in, and what is wrong or useless in it out.
 ghost use Rattle.std.specs.Prelude.{◌≡◌, ◌+◌, ℕ, List, take};
 ghost use Rattle.gt_types.specs.declared.limits.TheConstants.{LONGEST_TEXT};
-ghost use Rattle.gt_streams.specs.Streams.{OfInput};
+ghost use Rattle.gt_text.specs.Streams.{OfInput};
 ghost use Rattle.gt_checks.specs.Scripts.{CheckedScript};
 
 use crate::telling::tell_findings;
 use gt_policy_list::ListingFault;
 use gt_script_check::judge;
-use gt_streams::{read_text, text_of};
+use gt_text::{read_text, text_of};
 use std::alloc::Global;
 use std::io::{Read, Write};
 

@@ -6,7 +6,7 @@ ghost use Rattle.gt_checks.specs.Telling.{TellsFindings};
 
 use gt_policy_check::{Finding, FindingKind, push_json, push_report};
 use gt_policy_list::ListingFault;
-use gt_streams::finish;
+use gt_text::finish;
 use std::alloc::{AllocError, Global};
 use std::io::Write;
 

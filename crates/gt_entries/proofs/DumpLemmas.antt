@@ -1,10 +1,10 @@
 -- From the dump that an input says to what is written for the input.
 use Rattle.std.proofs.Common.{◌≡◌, ℕ, ◌+◌, ◌<◌, ◌≤◌, List, ◌++◌, length, length-take, take, min, Option, Result, Ok}
 use Rattle.std.proofs.Common.{Err, subst, sym, ◌∙◌, inl, inr, arith, suc}
-use Rattle.gt_streams.specs.Laws.{keeps_same, of_any_input, take_whole}
-use Rattle.gt_streams.specs.Streams.{OfInput}
-use Rattle.gt_streams.specs.declared.fault.ReadFault.{ReadFault}
-use Rattle.gt_streams.specs.declared.fault.ReadFault.TheVariants as reads
+use Rattle.gt_text.specs.Laws.{keeps_same, of_any_input, take_whole}
+use Rattle.gt_text.specs.Streams.{OfInput}
+use Rattle.gt_text.specs.declared.fault.ReadFault.{ReadFault}
+use Rattle.gt_text.specs.declared.fault.ReadFault.TheVariants as reads
 use Rattle.gt_entries.specs.declared.asked.DumpOptions.{DumpOptions}
 use Rattle.gt_entries.specs.declared.fault.DumpFault.{DumpFault}
 use Rattle.gt_entries.specs.declared.fault.DumpFault.TheVariants.{Memory, Read, Write, Limit, Syntax}

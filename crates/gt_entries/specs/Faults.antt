@@ -1,7 +1,7 @@
 -- Why no dump was told, as words.
 use Rattle.std.specs.Prelude.{ℕ, List, codes}
-use Rattle.gt_streams.specs.declared.fault.ReadFault.{ReadFault}
-use Rattle.gt_streams.specs.declared.fault.ReadFault.TheVariants as reads
+use Rattle.gt_text.specs.declared.fault.ReadFault.{ReadFault}
+use Rattle.gt_text.specs.declared.fault.ReadFault.TheVariants as reads
 use Rattle.gt_entries.specs.declared.fault.DumpFault.{DumpFault}
 use Rattle.gt_entries.specs.declared.fault.DumpFault.TheVariants as faults
 

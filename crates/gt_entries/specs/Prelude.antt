@@ -4,7 +4,7 @@ pub use Rattle.gt_entries.specs.declared.fault.DumpFault.{DumpFault}
 pub use Rattle.gt_entries.specs.declared.fault.DumpFault.TheVariants.{Limit, Memory, Read, Syntax, Write}
 pub use Rattle.gt_entry.specs.Bytes.{Spells, entry_size, first_refused}
 pub use Rattle.gt_entry.specs.declared.entry.Entry.{Entry}
-pub use Rattle.gt_streams.specs.Streams.{AppendsBeginning}
+pub use Rattle.gt_text.specs.Streams.{AppendsBeginning}
 pub use Rattle.gt_types.specs.declared.DomId.{DomId}
 pub use Rattle.gt_types.specs.declared.denial.Field.{Field}
 pub use Rattle.gt_types.specs.declared.limits.TheConstants.{LONGEST_TEXT}

@@ -1,7 +1,7 @@
 -- The lines of a script that grants what a dump has.
 use Rattle.std.specs.Prelude.{ℕ, ◌-◌, ◌%◌, ◌==◌, nat_lt, List, [], ◌∷◌, ◌++◌, take, codes, decimal, if◌then◌else◌}
 use Rattle.hex.specs.Hex.{encode_lower}
-use Rattle.gt_texts.specs.Printing.{part_text}
+use Rattle.gt_text.specs.Printing.{part_text}
 use Rattle.gt_types.specs.declared.DomId.{DomId}
 use Rattle.gt_types.specs.declared.limits.TheConstants.{MAX_FRAMES}
 use Rattle.gt_entry.specs.Entries.{frame_of}

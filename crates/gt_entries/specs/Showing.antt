@@ -1,6 +1,6 @@
 -- What the decoders answer for an entry's bytes, in words.
 use Rattle.std.specs.Prelude.{ℕ, List, ◌++◌, codes, Result, Ok, Err}
-use Rattle.gt_texts.specs.Entries.{entry_text}
+use Rattle.gt_text.specs.Entries.{entry_text}
 use Rattle.gt_types.specs.Denial.{field_name}
 use Rattle.gt_types.specs.declared.denial.Field.{Field}
 use Rattle.gt_entry.specs.declared.entry.Entry.{Entry}

@@ -1,14 +1,14 @@
 //! A dump in, and the lines of its entries out.
 ghost use Rattle.std.specs.Prelude.{◌≡◌, ◌≤◌, ◌++◌, ◌*◌, ◌+◌, ℕ, List, [], OnOk, length, take};
-ghost use Rattle.gt_streams.specs.Streams.{OfInput, ConsumesAtMost};
-ghost use Rattle.gt_streams.specs.declared.streams.TheConstants.{READ_LIMIT};
+ghost use Rattle.gt_text.specs.Streams.{OfInput, ConsumesAtMost};
+ghost use Rattle.gt_text.specs.declared.streams.TheConstants.{READ_LIMIT};
 ghost use Rattle.gt_entries.specs.Dumps.{Dumped, TellsDump, Told, entry_count, entry_bytes_at, most_bytes};
 
 use crate::asked::DumpOptions;
 use crate::fault::DumpFault;
 use crate::input::bytes_of;
 use crate::lines::{entry_size, push_entry_lines};
-use gt_streams::{finish, read_text};
+use gt_text::{finish, read_text};
 use std::alloc::{AllocError, Global};
 use std::io::{Read, Write};
 

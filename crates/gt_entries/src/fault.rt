@@ -1,5 +1,5 @@
 //! Why a dump was not told.
-use gt_streams::{ReadFault, WriteFault};
+use gt_text::{ReadFault, WriteFault};
 use std::alloc::AllocError;
 use std::error::Error;
 use std::fmt;

@@ -7,7 +7,7 @@
 //!
 //! What holds: each line is what the decoders of `gt_entry` answer for those bytes with the two bits
 //! cleared, for each entry once, in order, and nothing else goes out (`Dumped`).
-//! It uses `gt_entry`, `gt_types`, `gt_texts` (numbers), `gt_streams` (reads and writes) and `hex`.
+//! It uses `gt_entry`, `gt_types`, `gt_text` (numbers), `gt_text` (reads and writes) and `hex`.
 #![tactic(auto)]
 
 mod asked;

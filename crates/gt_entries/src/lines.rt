@@ -10,7 +10,7 @@ use crate::live::{cleared, push_live};
 use crate::script::push_call;
 use crate::showing::push_answer;
 use gt_entry::{Entry, decode};
-use gt_texts::{push_number, push_text};
+use gt_text::{push_number, push_text};
 use gt_types::Field;
 use std::alloc::{AllocError, Global};
 

@@ -2,7 +2,7 @@
 ghost use Rattle.std.specs.Prelude.{◌≡◌, ◌++◌, IfOk, OnOk};
 ghost use Rattle.gt_entries.specs.Live.{cleared_byte, cleared, live_text};
 
-use gt_texts::push_text;
+use gt_text::push_text;
 use std::alloc::{AllocError, Global};
 
 // The byte without its bits 3 and 4.

@@ -6,7 +6,7 @@ ghost use Rattle.gt_entries.specs.Script.{bytes_call_text, comment_text, frame_n
 
 use crate::live::push_live;
 use gt_entry::Entry;
-use gt_texts::{push_number, push_part, push_text};
+use gt_text::{push_number, push_part, push_text};
 use gt_types::{DomId, MAX_FRAMES};
 use std::alloc::{AllocError, Global};
 

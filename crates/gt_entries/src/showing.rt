@@ -3,7 +3,7 @@ ghost use Rattle.std.specs.Prelude.{◌≡◌, ◌++◌, OnOk, codes};
 ghost use Rattle.gt_entries.specs.Showing.{decoded_text};
 
 use gt_entry::Entry;
-use gt_texts::{push_entry, push_text};
+use gt_text::{push_entry, push_text};
 use gt_types::Field;
 use std::alloc::AllocError;
 

@@ -9,10 +9,10 @@ use Rattle.gt_script.specs.RunScripts.{RunAnswers, RunTells}
 use Rattle.gt_script.specs.Script.{Wrong}
 use Rattle.gt_script.specs.declared.faults.ScriptError.{ScriptError}
 use Rattle.gt_script.specs.declared.faults.ScriptError.TheVariants as errors
-use Rattle.gt_streams.specs.Laws.{keeps_same, of_any_input}
-use Rattle.gt_streams.specs.Streams.{OfInput}
-use Rattle.gt_streams.specs.declared.fault.ReadFault.{ReadFault}
-use Rattle.gt_streams.specs.declared.fault.ReadFault.TheVariants as reads
+use Rattle.gt_text.specs.Laws.{keeps_same, of_any_input}
+use Rattle.gt_text.specs.Streams.{OfInput}
+use Rattle.gt_text.specs.declared.fault.ReadFault.{ReadFault}
+use Rattle.gt_text.specs.declared.fault.ReadFault.TheVariants as reads
 use Rattle.gt_explore_search.specs.declared.exploring.FoundText.{FoundText}
 use Rattle.gt_explore.specs.Adding.{texts_of_orders}
 use Rattle.gt_explore.specs.Exploring.{AreTextsOf, Explored, Explores, IsMadeBy}

@@ -7,8 +7,8 @@ ghost use Rattle.gt_explore.specs.Telling.{texts_told};
 ghost use Rattle.gt_explore.specs.Adding.{texts_of_orders};
 
 use gt_script_lines::is_word;
-use gt_streams::push_text;
-use gt_texts::push_number;
+use gt_text::push_text;
+use gt_text::push_number;
 use gt_explore_search::FoundText;
 use std::alloc::AllocError;
 

@@ -6,8 +6,8 @@ use crate::fault::TextsFault;
 use gt_script_lines::{line_words, text_lines};
 use gt_explore_replay::{Replay, Turn, Walker};
 use gt_script::{RunAction, RunScript, RunTask};
-use gt_streams::push_text;
-use gt_texts::push_number;
+use gt_text::push_text;
+use gt_text::push_number;
 use gt_types::DomId;
 use std::alloc::{AllocError, Global};
 

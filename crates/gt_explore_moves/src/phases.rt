@@ -1,7 +1,7 @@
 //! The bytes that tell where an open call is.
 use gt_calls::{PinPurpose, HeldPin, Leg, LegPhase, Phase, CallPins, AccessPath, CallResult};
 use gt_script_lines::Text;
-use gt_texts::push_denial;
+use gt_text::push_denial;
 use gt_types::{Dir, Facts};
 use std::alloc::AllocError;
 

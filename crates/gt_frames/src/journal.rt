@@ -3,7 +3,7 @@ ghost use Rattle.std.specs.Prelude.{◌≡◌, ◌+◌, [], slice_range};
 ghost use Rattle.gt_frames.specs.Frames.{recorded};
 
 use crate::Writ;
-use gt_history::History;
+use crate::history::History;
 use std::marker::Model;
 
 // By what a range was written, and which.

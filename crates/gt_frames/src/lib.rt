@@ -20,6 +20,7 @@
 mod bytes;
 mod frame;
 mod frames;
+mod history;
 mod journal;
 mod laws;
 mod places;

@@ -3,7 +3,7 @@ ghost use Rattle.std.specs.Prelude.{◌≡◌, ◌+◌, ◌≤◌, ◌++◌, [],
 ghost use Rattle.std.specs.Prelude.{IsTrue};
 
 use crate::{Copied, Filled, Frame, FrameName, Read, Writ, Written};
-use gt_history::History;
+use crate::history::History;
 use gt_types::{FRAME_SIZE, Memory, Range};
 use std::marker::Model;
 use std::snapshot::Snapshot;

@@ -11,7 +11,7 @@ use Rattle.gt_calls.specs.Asking.{asked, bytes_given_by}
 use Rattle.gt_calls.specs.declared.action.Observation.{Observation}
 use Rattle.gt_calls.specs.declared.action.Step.{Step}
 use Rattle.gt_calls.specs.declared.request.Request.{Request}
-use Rattle.gt_texts.specs.Printing.{type_text}
+use Rattle.gt_text.specs.Printing.{type_text}
 use Rattle.gt_audit.specs.Lines.{line_text}
 use Rattle.gt_audit.specs.declared.record.Hypercall.{Hypercall}
 use Rattle.gt_audit.specs.declared.record.Record.{Record}

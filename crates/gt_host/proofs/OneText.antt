@@ -26,8 +26,8 @@ use Rattle.gt_core.specs.Legal.{Legal, LegalAfter, grown, history_after}
 use Rattle.gt_core.specs.Shown.{shown_at}
 use Rattle.gt_core.specs.declared.core_state.EntryView.{EntryView}
 use Rattle.gt_core.specs.Alike.{told_part, SameEvent, SameElement, IsOfKnown, IsRun, AreAlike}
-use Rattle.gt_streams.specs.Streams.{AppendsBeginning}
-use Rattle.gt_streams.specs.Laws.{begins_longer}
+use Rattle.gt_text.specs.Streams.{AppendsBeginning}
+use Rattle.gt_text.specs.Laws.{begins_longer}
 use Rattle.gt_host.specs.declared.outcome.LineOutcome.{LineOutcome}
 use Rattle.gt_host.specs.declared.outcome.LineOutcome.TheVariants.{Answered, Busy}
 use Rattle.gt_host.specs.Printing.{answer_text, answer_line, call_text, busy_line, idle_line}

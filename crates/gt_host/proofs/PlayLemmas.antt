@@ -25,8 +25,8 @@ use Rattle.gt_host.specs.Playing.{audited_text}
 use Rattle.gt_host.specs.Recording.{IsAudited, RecordsNothing}
 use Rattle.gt_core.specs.declared.trace.Element.{Element}
 use Rattle.gt_host.specs.Runs.{Progress, PlayLeadsTo, IsRunOf, RunsLine, at_start, history_of, open_text, open_lines}
-use Rattle.gt_streams.specs.Laws.{appends_both, appends_nothing, begins_after}
-use Rattle.gt_streams.specs.Streams.{AppendsBeginning, Sends}
+use Rattle.gt_text.specs.Laws.{appends_both, appends_nothing, begins_after}
+use Rattle.gt_text.specs.Streams.{AppendsBeginning, Sends}
 use Rattle.gt_host.specs.Ticking.{IsReadyToCall, KeepsProgress, HasPlayed, Leads}
 use Rattle.gt_host.proofs.StartLemmas.{taken_known}
 

@@ -6,15 +6,15 @@ use Rattle.gt_script.specs.Outcomes.{AnswersScript}
 use Rattle.gt_script.specs.Script.{TellsScript, Wrong}
 use Rattle.gt_script.specs.declared.faults.ScriptError.{ScriptError}
 use Rattle.gt_script.specs.declared.faults.ScriptError.TheVariants as errors
-use Rattle.gt_streams.specs.declared.fault.ReadFault.{ReadFault}
-use Rattle.gt_streams.specs.declared.fault.ReadFault.TheVariants as reads
+use Rattle.gt_text.specs.declared.fault.ReadFault.{ReadFault}
+use Rattle.gt_text.specs.declared.fault.ReadFault.TheVariants as reads
 use Rattle.gt_host.specs.declared.fault.StepsFault.{StepsFault}
 use Rattle.gt_host.specs.declared.fault.StepsFault.TheVariants as runs
 use Rattle.gt_host.specs.declared.fault.PlayFault.{PlayFault}
 use Rattle.gt_host.specs.Faults.{fault_of, read_fault, play_ended}
 use Rattle.gt_host.specs.Playing.{BeginsEvery, BeginsRun, WritesRun, Played}
-use Rattle.gt_streams.specs.Laws.{keeps_same, of_any_input}
-use Rattle.gt_streams.specs.Streams.{OfInput}
+use Rattle.gt_text.specs.Laws.{keeps_same, of_any_input}
+use Rattle.gt_text.specs.Streams.{OfInput}
 
 -- there is no script, and nothing went out
 no_script : (Told : Result Contents Wrong → Type 0) (audit : Bool) (error : ScriptError) (old new : Option (List ℕ)) → AnswersScript (Err error) Told → Keeps old new → Played Told audit old new (Err (fault_of error))

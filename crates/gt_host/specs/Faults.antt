@@ -4,8 +4,8 @@ use Rattle.gt_policy.specs.Texts.{fault_text as policy_fault_text}
 use Rattle.gt_script.specs.Faults.{script_fault_text}
 use Rattle.gt_script.specs.declared.faults.ScriptError.{ScriptError}
 use Rattle.gt_script.specs.declared.faults.ScriptError.TheVariants as errors
-use Rattle.gt_streams.specs.declared.fault.ReadFault.{ReadFault}
-use Rattle.gt_streams.specs.declared.fault.ReadFault.TheVariants as reads
+use Rattle.gt_text.specs.declared.fault.ReadFault.{ReadFault}
+use Rattle.gt_text.specs.declared.fault.ReadFault.TheVariants as reads
 use Rattle.gt_host.specs.declared.fault.StepsFault.{StepsFault}
 use Rattle.gt_host.specs.declared.fault.StepsFault.TheVariants as runs
 use Rattle.gt_host.specs.declared.fault.PlayFault.{PlayFault}

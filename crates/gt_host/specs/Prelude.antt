@@ -33,8 +33,8 @@ pub use Rattle.gt_script.specs.Blocks.{block_fault_shown}
 pub use Rattle.gt_script.specs.Contents.{Contents, first_gen, type_names}
 pub use Rattle.gt_script.specs.Script.{Wrong, in_policy, in_script}
 pub use Rattle.gt_script.specs.declared.script.ScriptStep.{ScriptStep}
-pub use Rattle.gt_streams.specs.Streams.{AppendsBeginning}
-pub use Rattle.gt_texts.specs.Printing.{type_text}
+pub use Rattle.gt_text.specs.Streams.{AppendsBeginning}
+pub use Rattle.gt_text.specs.Printing.{type_text}
 pub use Rattle.gt_types.specs.Config.{AreFaultless, is_taken}
 pub use Rattle.gt_types.specs.declared.DomId.{DomId}
 pub use Rattle.gt_types.specs.declared.GrantRef.{GrantRef}

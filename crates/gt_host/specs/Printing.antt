@@ -2,7 +2,7 @@
 use Rattle.std.specs.Prelude.{ℕ, List, [], length, ◌++◌, ◌==◌, codes, decimal, if◌then◌else◌}
 use Rattle.hex.specs.Hex.{encode_lower}
 use Rattle.gt_types.specs.declared.DomId.{DomId}
-use Rattle.gt_texts.specs.Printing.{type_text, denial_text, frames_text, size_text, version_text}
+use Rattle.gt_text.specs.Printing.{type_text, denial_text, frames_text, size_text, version_text}
 use Rattle.gt_core.specs.declared.trace.Answer.{Answer}
 use Rattle.gt_core.specs.declared.trace.Answer.TheVariants as answers
 

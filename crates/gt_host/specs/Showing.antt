@@ -2,8 +2,8 @@
 use Rattle.std.specs.Prelude.{ℕ, List, ◌++◌, codes, decimal, Option, Some, None}
 use Rattle.std.specs.Int.{to_be_bytes, w16}
 use Rattle.hex.specs.Hex.{encode_lower}
-pub use Rattle.gt_texts.specs.Printing.{part_text}
-pub use Rattle.gt_texts.specs.Entries.{entry_text}
+pub use Rattle.gt_text.specs.Printing.{part_text}
+pub use Rattle.gt_text.specs.Entries.{entry_text}
 use Rattle.gt_types.specs.declared.DomId.{DomId}
 use Rattle.gt_types.specs.declared.GrantRef.{GrantRef}
 use Rattle.gt_entry.specs.Spelling.{control_with}

@@ -5,7 +5,7 @@ ghost use Rattle.gt_host.specs.Printing.{open_line};
 
 use gt_core::Answer;
 use gt_script_lines::Text;
-use gt_texts::{push_denial, push_frames, push_number, push_size, push_text, push_version};
+use gt_text::{push_denial, push_frames, push_number, push_size, push_text, push_version};
 use gt_types::DomId;
 use std::alloc::{AllocError, Global};
 

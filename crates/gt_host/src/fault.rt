@@ -1,6 +1,6 @@
 //! Why a run did not end well.
 use gt_script::{BlockFault, ScriptError, ScriptFault};
-use gt_streams::{ReadFault, WriteFault};
+use gt_text::{ReadFault, WriteFault};
 use gt_types::Memory;
 use std::alloc::{AllocError, AllocFailed};
 use std::error::Error;

@@ -13,7 +13,7 @@
 //!
 //! It uses `gt_script` (what a script says), `gt_core` (what its calls do), `gt_policy`, `gt_allow` and
 //! `gt_types` (what its policy or its triples allow), `gt_entry` (entries that lines grant and show),
-//! `gt_audit` (records and their lines) and `gt_streams` (reads and writes). Its definitions also speak
+//! `gt_audit` (records and their lines) and `gt_text` (reads and writes). Its definitions also speak
 //! of the requests of `gt_calls` and the handles of `gt_handles`.
 #![tactic(auto)]
 

@@ -4,7 +4,7 @@ ghost use Rattle.gt_host.specs.Showing.{part_text, entry_text, counts_text, stat
 
 use gt_core::EntryView;
 use gt_entry::{Control, status_word};
-use gt_texts::{push_entry, push_number, push_part, push_text};
+use gt_text::{push_entry, push_number, push_part, push_text};
 use gt_types::{DomId, GrantRef};
 use std::alloc::{AllocError, Global};
 

@@ -1,2 +1,3 @@
+pub mod JsonLemmas
 pub mod PieceLemmas
 pub mod ToldLemmas

@@ -6,8 +6,8 @@ use Rattle.std.proofs.lemmas.List.{append-nil, flat_map_more, take-append-drop}
 use Rattle.std.proofs.lemmas.List.Concat.{flat_map-append}
 use Rattle.std.specs.Io.KnownBytes.{Appends}
 use Rattle.std.specs.List.{flat_map}
-use Rattle.gt_streams.specs.Laws.{appends_both, appends_nothing, begins_after, begins_longer}
-use Rattle.gt_streams.specs.Streams.{AppendsBeginning, Sends}
+use Rattle.gt_text.specs.Laws.{appends_both, appends_nothing, begins_after, begins_longer}
+use Rattle.gt_text.specs.Streams.{AppendsBeginning, Sends}
 
 -- a piece more
 pub piece_more : {X : Type 0} (f : X → List ℕ) (xs : List X) (i : ℕ) (e : X) (start : List ℕ) → i < length xs → (start ++ flat_map f (take i xs)) ++ f (get_or xs i e) ≡ start ++ flat_map f (take (i + 1) xs)

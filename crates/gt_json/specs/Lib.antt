@@ -1,4 +1,6 @@
-pub mod Words
-pub mod Places
-pub mod Strings
+pub mod AsJson
 pub mod Lines
+pub mod Places
+pub mod Prelude
+pub mod Strings
+pub mod Words

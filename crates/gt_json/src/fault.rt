@@ -1,5 +1,5 @@
 //! Why a text was not written as JSON.
-use gt_streams::WriteFault;
+use gt_text::WriteFault;
 use std::alloc::AllocError;
 
 /// Why a text was not written whole. A beginning of its JSON may have gone out.

@@ -2,14 +2,14 @@
 ghost use Rattle.std.specs.Prelude.{◌≡◌, ◌==◌, ◌++◌, IfOk, OnOk, OnErr, map};
 ghost use Rattle.std.specs.Io.KnownBytes.{Appends};
 ghost use Rattle.std.specs.List.{slice_split, flat_map};
-ghost use Rattle.gt_streams.specs.Streams.{AppendsBeginning};
+ghost use Rattle.gt_text.specs.Streams.{AppendsBeginning};
 ghost use Rattle.gt_json.specs.Lines.{pieces, json_words, object_line, json_text};
 ghost use Rattle.gt_json.specs.Places.{start};
 
 use crate::fault::JsonFault;
 use crate::members::push_word_member;
 use crate::places::PrintedText;
-use gt_streams::{finish, push_text, send};
+use gt_text::{finish, push_text, send};
 use std::alloc::{AllocError, Global};
 use std::io::Write;
 

@@ -5,7 +5,7 @@ ghost use Rattle.gt_json.specs.Lines.{is_fact, member_of, is_hex, lead, member_t
 use crate::places::WordPlace;
 use crate::values::{push_quoted, push_value};
 use crate::words::{is_word, split_at_equals};
-use gt_streams::push_text;
+use gt_text::push_text;
 use std::alloc::AllocError;
 
 // The name and the value of a word.

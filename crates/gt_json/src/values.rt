@@ -3,7 +3,7 @@ ghost use Rattle.std.specs.Prelude.{◌≡◌, ◌++◌, ◌<◌, OnOk};
 ghost use Rattle.gt_json.specs.Strings.{hex_digit, escaped, quoted, value_text};
 
 use crate::words::{is_word, is_number};
-use gt_streams::push_text;
+use gt_text::push_text;
 use std::alloc::AllocError;
 
 // The hexadecimal digit of a number below 16.

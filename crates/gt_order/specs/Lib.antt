@@ -5,3 +5,5 @@ pub mod Agreeing
 pub mod Ordering
 pub mod Laws
 pub mod Prelude
+pub mod RunNames
+pub mod Texts

@@ -3,6 +3,7 @@ ghost use Rattle.gt_order.specs.Calling.{LostWritesAreMade, MapsAreMade, PlainCa
 ghost use Rattle.gt_order.specs.Calling.{WritesAreMade};
 ghost use Rattle.gt_order.specs.Leaving.{LeavingIsUnmapping};
 ghost use Rattle.gt_order.specs.Laws.{CoreSeesTheWords, RunsHaveLegalOrders, StepsKeepAgreement};
+ghost use Rattle.gt_order.specs.Texts.{TextsAreOfALegalOrder};
 
 use gt_live::Monitor;
 use gt_types::Allows;
@@ -40,4 +41,9 @@ pub fn every_run_has_a_legal_order()
 /// Ok. So a run goes on past a domain that leaves.
 pub fn leaving_is_unmapping()
     ensures { LeavingIsUnmapping }
+{}
+
+/// A law: the lists of a run that read and copy no bytes print the answers of one legal interleaving of their calls.
+pub fn every_text_is_of_a_legal_order<P: Allows>(monitor: &Monitor<P>)
+    ensures { TextsAreOfALegalOrder P.may monitor.now }
 {}

@@ -7,9 +7,10 @@
 //! What holds: for each run whose calls read no bytes, copy none and are finished there is one list of the core's items
 //! that is legal (`gt_core`), whose steps are those of the run in their order, and in which each call is answered as
 //! its domain answered it ([`every_run_has_a_legal_order`]). The contracts of a domain's calls make them calls of a run
-//! ([`calls_of_domains_are_made`]).
+//! ([`calls_of_domains_are_made`]). The lists of `gt_run` that read and copy no bytes print the answers of such a list of
+//! items ([`every_text_is_of_a_legal_order`]).
 //!
-//! It uses `gt_live`, `gt_core`, `gt_words`, `gt_calls`, `gt_frames`, `gt_handles`, `gt_entry`, `gt_types` and the
+//! It uses `gt_run`, `gt_host`, `gt_script`, `gt_script_lines`, `gt_live`, `gt_core`, `gt_words`, `gt_calls`, `gt_frames`, `gt_handles`, `gt_entry`, `gt_types` and the
 //! kit's `atomic_table`.
 #![tactic(auto)]
 
@@ -17,5 +18,5 @@ mod laws;
 
 pub use laws::{
     calls_of_domains_are_made, core_sees_the_words, every_run_has_a_legal_order,
-    leaving_is_unmapping, steps_keep_agreement,
+    every_text_is_of_a_legal_order, leaving_is_unmapping, steps_keep_agreement,
 };

@@ -15,7 +15,7 @@ use crate::granting::{gives_some, near_some};
 use crate::members::{Member, members_of};
 use crate::texts::push_entry;
 use gt_policy::{LinedStatement, Policy, PolicyFault, PolicyFaultKind, Statement, statements_of};
-use gt_streams::push_text;
+use gt_text::push_text;
 use gt_types::Perms;
 use std::alloc::{AllocError, Global};
 

@@ -1,6 +1,6 @@
 //! The declarations of a text's names, with their lines and columns.
 use crate::places::{bytes_of, column_of, line_tokens};
-use gt_streams::text_of;
+use gt_text::text_of;
 use std::alloc::{AllocError, Global};
 
 /// A name that is declared, as a type or as an attribute, and where.

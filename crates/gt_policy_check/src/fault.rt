@@ -4,7 +4,7 @@ use crate::nearest::nearest;
 use crate::places::{LineTokens, bytes_of, column_of, column_of_word, front_of, line_tokens};
 use crate::report::push_shown;
 use gt_policy::{Policy, PolicyFault, PolicyFaultKind};
-use gt_streams::{push_text, text_of};
+use gt_text::{push_text, text_of};
 use gt_types::Memory;
 use itoa::Buffer;
 use std::alloc::{AllocError, Global};

@@ -18,7 +18,7 @@ use gt_policy::{
     Allowance, LinedStatement, Permissions, Policy, PolicyFault, PolicyFaultKind, Statement,
     TextPiece, statements_of,
 };
-use gt_streams::push_text;
+use gt_text::push_text;
 use gt_types::{Memory, Perms};
 use itoa::Buffer;
 use std::alloc::{AllocError, Global};

@@ -10,7 +10,7 @@
 //! at the line of its first fault, and the statements told to allow nothing, or to repeat an earlier one,
 //! are exactly those that do.
 //!
-//! It uses `gt_policy` (the statements of a text), `gt_types` (permissions), `gt_streams` (text),
+//! It uses `gt_policy` (the statements of a text), `gt_types` (permissions), `gt_text` (text),
 //! `itoa` (numbers), `strsim` (nearest names) and `unicode_width` (columns of a terminal).
 #![tactic(auto)]
 

@@ -1,5 +1,5 @@
 //! Names that a misspelt one may be meant as.
-use gt_streams::text_of;
+use gt_text::text_of;
 use std::alloc::{AllocError, Global};
 use strsim::osa_distance;
 

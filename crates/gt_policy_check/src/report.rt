@@ -4,7 +4,7 @@ ghost use Rattle.gt_policy_check.specs.Report.{severity_text, heading_text};
 
 use crate::findings::{Finding, FindingKind};
 use crate::places::{bytes_of, line_span};
-use gt_streams::{push_text, text_of};
+use gt_text::{push_text, text_of};
 use itoa::Buffer;
 use std::alloc::AllocError;
 use unicode_width::UnicodeWidthChar;

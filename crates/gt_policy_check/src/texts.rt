@@ -10,7 +10,7 @@ ghost use Rattle.gt_policy_check.specs.Granting.{puts_in};
 use crate::granting::{holds, puts_in, says_self};
 use crate::members::{Member, is_same};
 use gt_policy::{Allowance, LinedStatement, Permissions, SetElement, Statement, TextPiece};
-use gt_streams::push_text;
+use gt_text::push_text;
 use itoa::Buffer;
 use std::alloc::AllocError;
 

@@ -3,7 +3,7 @@ use Rattle.std.proofs.Common.{◌≡◌, ◌⊎◌, ℕ, ◌<◌, ◌≤◌, Lis
 use Rattle.std.proofs.Common.{OnOk, OnErr, IfErr, refl, sym, ap, subst, ◌∙◌, inl, inr, arith, Bool}
 use Rattle.std.specs.Io.KnownBytes.{Appends}
 use Rattle.std.specs.Str.{IsUtf8}
-use Rattle.gt_streams.specs.Laws.{take_whole}
+use Rattle.gt_text.specs.Laws.{take_whole}
 use Rattle.gt_types.specs.declared.TypeId.{TypeId}
 use Rattle.gt_types.specs.declared.perms.Perms.{Perms}
 use Rattle.gt_policy.specs.Allowing.{Meaning, KeptPolicy, Allowed, PolicyShows, may_of}
@@ -15,14 +15,14 @@ use Rattle.gt_policy.specs.declared.fault.TokenFault as policy
 use Rattle.gt_policy.specs.declared.fault.TokenFaultKind.TheVariants.{Limit}
 use Rattle.gt_policy.specs.declared.parse.PolicyFaultKind.{PolicyFaultKind}
 use Rattle.gt_policy.specs.declared.parse.PolicyFaultKind.TheVariants as kinds
-use Rattle.gt_streams.specs.declared.fault.ReadFault.{ReadFault}
-use Rattle.gt_streams.specs.declared.fault.ReadFault.TheVariants as reads
+use Rattle.gt_text.specs.declared.fault.ReadFault.{ReadFault}
+use Rattle.gt_text.specs.declared.fault.ReadFault.TheVariants as reads
 use Rattle.gt_policy_list.specs.declared.fault.ListingFault.{ListingFault}
 use Rattle.gt_policy_list.specs.declared.fault.ListingFault.TheVariants as faults
 use Rattle.gt_policy_list.specs.Faults.{listing_fault_of, listing_read_fault}
 use Rattle.gt_policy_list.specs.Reading.{IsNoText}
-use Rattle.gt_streams.specs.Laws.{keeps_same, of_any_input}
-use Rattle.gt_streams.specs.Streams.{AppendsBeginning, OfInput}
+use Rattle.gt_text.specs.Laws.{keeps_same, of_any_input}
+use Rattle.gt_text.specs.Streams.{AppendsBeginning, OfInput}
 use Rattle.gt_policy_list.specs.Writing.{IsListing, Listed, Parsed, WritesRules, text_with}
 use Rattle.gt_policy_list.specs.Listing.{listing}
 

@@ -8,7 +8,7 @@ use Rattle.gt_policy.specs.Shown.{fault_shown}
 use Rattle.gt_policy.specs.Whole.{Says}
 use Rattle.gt_policy.specs.declared.fault.TokenFault as policy
 use Rattle.gt_policy.specs.declared.fault.TokenFaultKind.TheVariants.{Limit}
-use Rattle.gt_streams.specs.Texts as texts
+use Rattle.gt_text.specs.Texts as texts
 use Rattle.gt_policy_list.specs.declared.fault.ListingFault.{ListingFault}
 use Rattle.gt_policy_list.specs.declared.fault.ListingFault.TheVariants.{Utf8, Policy, Memory, Read, Write}
 

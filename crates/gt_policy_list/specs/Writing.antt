@@ -11,7 +11,7 @@ use Rattle.gt_policy_list.specs.declared.fault.ListingFault.{ListingFault}
 use Rattle.gt_policy_list.specs.declared.fault.ListingFault.TheVariants.{Utf8, Policy, Memory, Read, Write}
 use Rattle.gt_policy_list.specs.Listing.{listing}
 use Rattle.gt_policy_list.specs.Reading.{IsPolicy, IsNotUtf8At, IsFaulty}
-use Rattle.gt_streams.specs.Streams.{AppendsBeginning}
+use Rattle.gt_text.specs.Streams.{AppendsBeginning}
 
 -- the text of a policy: the lines of the triples that it allows, of its types in the byte order of their names
 abbrev pub IsListing : Meaning → List ℕ → Type 0

@@ -1,6 +1,6 @@
 //! Why a listing did not end well.
 use gt_policy::{PolicyFault, PolicyFaultKind};
-use gt_streams::{ReadFault, WriteFault};
+use gt_text::{ReadFault, WriteFault};
 use std::alloc::AllocError;
 use std::error::Error;
 use std::fmt;

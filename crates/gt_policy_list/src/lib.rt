@@ -10,7 +10,7 @@
 //! beginning of those lines.
 //!
 //! It uses `gt_policy` and `gt_allow` (what a text allows), `gt_types` (types and permissions) and
-//! `gt_streams` (reads and writes).
+//! `gt_text` (reads and writes).
 #![tactic(auto)]
 
 mod fault;

@@ -7,7 +7,7 @@ ghost use Rattle.gt_policy_list.specs.Lines.{triple_text, pair_text};
 
 use gt_allow::AllowTable;
 use gt_policy::Policy;
-use gt_streams::push_text;
+use gt_text::push_text;
 use gt_types::{Allows, Perms, Triple, TypeId};
 use std::alloc::AllocError;
 

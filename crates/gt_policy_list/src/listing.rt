@@ -1,13 +1,13 @@
 //! A policy in, and the lines of its triples out.
 ghost use Rattle.std.specs.Prelude.{◌≡◌, ◌+◌, ℕ, List, take};
-ghost use Rattle.gt_streams.specs.Streams.{OfInput, ConsumesAtMost};
-ghost use Rattle.gt_streams.specs.declared.streams.TheConstants.{READ_LIMIT};
+ghost use Rattle.gt_text.specs.Streams.{OfInput, ConsumesAtMost};
+ghost use Rattle.gt_text.specs.declared.streams.TheConstants.{READ_LIMIT};
 ghost use Rattle.gt_policy_list.specs.Writing.{Listed, Parsed};
 
 use crate::fault::ListingFault;
 use crate::sources::write_policy;
 use crate::text::policy_text;
-use gt_streams::read_text;
+use gt_text::read_text;
 use gt_types::LONGEST_TEXT;
 use std::alloc::Global;
 use std::io::{Read, Write};

@@ -4,7 +4,7 @@ ghost use Rattle.std.specs.Io.KnownBytes.{Appends};
 ghost use Rattle.gt_allow.specs.Looking.{looks_up};
 ghost use Rattle.gt_policy_list.specs.Lines.{source_text};
 ghost use Rattle.gt_policy_list.specs.Listing.{listing};
-ghost use Rattle.gt_streams.specs.Streams.{AppendsBeginning, Sends};
+ghost use Rattle.gt_text.specs.Streams.{AppendsBeginning, Sends};
 ghost use Rattle.gt_policy_list.specs.Writing.{WritesRules};
 ghost use Rattle.gt_policy_list.specs.declared.fault.ListingFault.TheVariants as faults;
 
@@ -12,7 +12,7 @@ use crate::fault::ListingFault;
 use crate::lines::push_pair;
 use gt_allow::AllowTable;
 use gt_policy::Policy;
-use gt_streams::{CHUNK, finish, send};
+use gt_text::{CHUNK, finish, send};
 use gt_types::TypeId;
 use std::alloc::Global;
 use std::io::Write;

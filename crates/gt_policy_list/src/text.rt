@@ -5,7 +5,7 @@ ghost use Rattle.gt_policy_list.specs.Reading.{IsNoText};
 
 use crate::fault::ListingFault;
 use gt_policy::{PolicyFault, PolicyFaultKind};
-use gt_streams::text_of;
+use gt_text::text_of;
 use gt_types::LONGEST_TEXT;
 
 /// The bytes as text, or the fault that keeps them from being one: too many, or no UTF-8.

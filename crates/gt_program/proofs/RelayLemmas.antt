@@ -4,8 +4,8 @@ use Rattle.std.proofs.Common.{inr}
 use Rattle.std.proofs.Common.{arith}
 use Rattle.std.proofs.lemmas.List.{append-nil}
 use Rattle.std.specs.Io.KnownBytes.{Appends, Keeps}
-use Rattle.gt_as_json.specs.AsJson.{AsJson, Failed, Promise}
-use Rattle.gt_as_json.specs.Prelude.{Run, json_text}
+use Rattle.gt_json.specs.AsJson.{AsJson, Failed, Promise}
+use Rattle.gt_json.specs.Prelude.{Run, json_text}
 use Rattle.gt_commands.specs.declared.invocation.Format.{Format}
 use Rattle.gt_commands.specs.declared.invocation.Format.TheVariants.{Text, Json}
 use Rattle.gt_host.specs.Rights.{may_by}
@@ -19,7 +19,7 @@ use Rattle.gt_run.specs.declared.lists.ThreadJob.{ThreadJob}
 use Rattle.gt_script.specs.RunContents.{RunContents}
 use Rattle.gt_script.specs.RunScripts.{RunTells}
 use Rattle.gt_script.specs.Script.{Wrong}
-use Rattle.gt_streams.specs.Streams.{AppendsBeginning, OfInput}
+use Rattle.gt_text.specs.Streams.{AppendsBeginning, OfInput}
 use Rattle.gt_program.specs.Formats.{RanAs, Relays}
 
 -- where all stays nothing went out, which is a beginning of any text

@@ -4,7 +4,7 @@ use Rattle.std.specs.Io.KnownBytes.{Appends, Keeps}
 use Rattle.gt_program.specs.Prelude.{DumpOptions, Format, RunTells}
 use Rattle.gt_checks.specs.Checking.{Checked}
 use Rattle.gt_checks.specs.Scripts.{CheckedScript}
-use Rattle.gt_as_json.specs.AsJson.{Promise, ListedAsJson, PlayedAsJson, RanAsJson, ToldAsJson}
+use Rattle.gt_json.specs.AsJson.{Promise, ListedAsJson, PlayedAsJson, RanAsJson, ToldAsJson}
 use Rattle.gt_commands.specs.declared.invocation.Format.TheVariants.{Text, Json}
 use Rattle.gt_entries.specs.Dumps.{Told}
 use Rattle.gt_entries.specs.declared.fault.DumpFault.{DumpFault}
@@ -15,7 +15,7 @@ use Rattle.gt_policy_list.specs.declared.fault.ListingFault.{ListingFault}
 use Rattle.gt_run.specs.Runs.{Ran}
 use Rattle.gt_run.specs.declared.fault.RunFault.{RunFault}
 use Rattle.gt_script.specs.Script.{TellsScript}
-use Rattle.gt_streams.specs.Streams.{AppendsBeginning}
+use Rattle.gt_text.specs.Streams.{AppendsBeginning}
 use Rattle.gt_host.specs.declared.fault.PlayFault.TheVariants as plays
 use Rattle.gt_run.specs.declared.fault.RunFault.TheVariants as runs
 

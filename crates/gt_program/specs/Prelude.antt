@@ -19,6 +19,6 @@ pub use Rattle.gt_program.specs.declared.failure.Failure.{Failure}
 pub use Rattle.gt_program.specs.declared.commands.Work.{Work}
 pub use Rattle.gt_run.specs.Faults.{run_fault_text}
 pub use Rattle.gt_script.specs.RunScripts.{RunTells}
-pub use Rattle.gt_streams.specs.Texts.{read_word}
+pub use Rattle.gt_text.specs.Texts.{read_word}
 pub use Rattle.std.specs.Io.KnownBytes.{Keeps}
 pub use Rattle.std.specs.Option.{option_map}

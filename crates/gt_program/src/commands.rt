@@ -1,6 +1,6 @@
 //! Each command, done with the text that it names.
 ghost use Rattle.std.specs.Prelude.{◌≡◌, IfSome, is_some};
-ghost use Rattle.gt_streams.specs.Streams.{OfInput};
+ghost use Rattle.gt_text.specs.Streams.{OfInput};
 ghost use Rattle.gt_program.specs.Obeying.{known_input, Does, Performs, RunsDomains, Works};
 
 use crate::failure::Failure;

@@ -8,7 +8,7 @@ use gt_explore::ExploreFault;
 use gt_host::PlayFault;
 use gt_policy_list::ListingFault;
 use gt_run::RunFault;
-use gt_streams::{ReadFault, WriteFault};
+use gt_text::{ReadFault, WriteFault};
 use std::error::Error;
 use std::fmt;
 

@@ -1,10 +1,10 @@
 //! Commands with their texts in a format.
 ghost use Rattle.std.specs.Prelude.{is_some};
-ghost use Rattle.gt_streams.specs.Streams.{OfInput};
+ghost use Rattle.gt_text.specs.Streams.{OfInput};
 ghost use Rattle.gt_program.specs.Formats.{CheckedAs, ListedAs, PlayedAs, RanAs, ToldAs};
 
 use gt_checks::{check, check_script};
-use gt_as_json::{entries_json, play_json, policy_json, run_json};
+use gt_json::{entries_json, play_json, policy_json, run_json};
 use gt_audit::SharedLog;
 use gt_commands::Format;
 use gt_entries::{DumpOptions, DumpFault, entries};

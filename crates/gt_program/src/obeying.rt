@@ -17,7 +17,7 @@ use gt_policy_check::WhyQuestion;
 use gt_commands::{Format, Invocation, plan, with_long_flags};
 use gt_entries::DumpOptions;
 use gt_explore::ExploreOptions as Searched;
-use gt_streams::WriteFault;
+use gt_text::WriteFault;
 use gt_types::DomId;
 use std::alloc::Global;
 use std::io::Write;

@@ -3,7 +3,7 @@ ghost use Rattle.std.specs.Prelude.{◌≤◌};
 
 use crate::failure::Failure;
 use crate::obeying::report;
-use gt_streams::WriteFault;
+use gt_text::WriteFault;
 use gt_types::{Rule, Status};
 use std::io::{self, Write};
 

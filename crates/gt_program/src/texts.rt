@@ -1,5 +1,5 @@
 //! The texts that commands work on.
-use gt_streams::ReadFault;
+use gt_text::ReadFault;
 use std::io::{self, ErrorKind, Read};
 
 /// The texts that commands work on: files by their names, and the standard input. An implementation may promise the

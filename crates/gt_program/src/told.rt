@@ -1,6 +1,6 @@
 //! Scripts that are played or run, and the reasons of what they come to.
 ghost use Rattle.std.specs.Prelude.{is_some};
-ghost use Rattle.gt_streams.specs.Streams.{OfInput};
+ghost use Rattle.gt_text.specs.Streams.{OfInput};
 ghost use Rattle.gt_program.specs.Formats.{PlayedAs, RanAs, Relays};
 
 use crate::copying::CopyingReader;
@@ -10,7 +10,7 @@ use gt_audit::SharedLog;
 use gt_commands::Format;
 use gt_host::PlayFault;
 use gt_run::{Gate, RunFault};
-use gt_streams::{every_writer_keeps_what_it_has, finish};
+use gt_text::{every_writer_keeps_what_it_has, finish};
 use std::alloc::Global;
 use std::io::{Read, Write};
 use std::sync::Wait;

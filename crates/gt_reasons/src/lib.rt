@@ -9,7 +9,7 @@
 //! line goes on as a line that can be read does, with it it can't. Texts beside that are tested.
 //!
 //! It uses `gt_script_lines` and `gt_script` (what lines say, and faults), `gt_policy_check` and `gt_policy` (policies),
-//! `gt_types` (limits), `gt_streams` and `gt_texts` (texts).
+//! `gt_types` (limits), `gt_text` and `gt_text` (texts).
 #![tactic(auto)]
 
 mod blocks;

@@ -9,8 +9,8 @@ use crate::texts::push_word;
 use gt_policy_check::push_hint;
 use gt_script_lines::{BodyLine, DomainLine, ScriptLine, Number, line_words, read_line};
 use gt_policy::{LinedStatement, Statement, statements_of};
-use gt_streams::text_of;
-use gt_texts::{push_number, push_text};
+use gt_text::text_of;
+use gt_text::{push_number, push_text};
 use gt_types::{
     ConfigFault, DOMID_SELF, DomId, DomainConfig, LAST_VERSION, MAX_DOMAINS, MAX_FRAMES,
     MAX_TABLE_FRAMES, TypeId,

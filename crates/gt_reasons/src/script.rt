@@ -11,8 +11,8 @@ use crate::waits::stuck_reason;
 use gt_policy_check::{Finding, FindingKind, check};
 use gt_script_lines::text_lines;
 use gt_script::{BlockFault, ScriptFault, ScriptFaultKind};
-use gt_streams::text_of;
-use gt_texts::{push_number, push_text};
+use gt_text::text_of;
+use gt_text::{push_number, push_text};
 use gt_types::LONGEST_TEXT;
 use std::alloc::{AllocError, Global};
 

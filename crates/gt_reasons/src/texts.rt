@@ -2,7 +2,7 @@
 ghost use Rattle.std.specs.Prelude.{◌≡◌, ◌++◌, OnOk};
 ghost use Rattle.gt_reasons.specs.Reasons.{reason_heading, quoted_text, shown_byte};
 
-use gt_texts::{push_number, push_text};
+use gt_text::{push_number, push_text};
 use std::alloc::AllocError;
 
 /// Appends `FILE:LINE:COLUMN: `. After an Err a part of it may be there.

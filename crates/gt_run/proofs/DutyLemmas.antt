@@ -18,13 +18,13 @@ use Rattle.gt_types.specs.declared.config.DomainConfig.{DomainConfig}
 use Rattle.gt_words.specs.Rule.{Layout, id_at}
 use Rattle.gt_audit.specs.Lines.{line_text, lost_text}
 use Rattle.gt_audit.specs.Telling.{Telling}
-use Rattle.gt_texts.specs.Printing.{type_text}
+use Rattle.gt_text.specs.Printing.{type_text}
 use Rattle.gt_live.specs.Domains.{AllowRelation}
 use Rattle.gt_live.specs.Starting.{IsNewDomain}
 use Rattle.gt_live.specs.declared.domain.Domain.{Domain}
 use Rattle.gt_live.specs.declared.monitor.Monitor.{Monitor}
-use Rattle.gt_streams.specs.Laws.{appends_both, begins_after, begins_longer, keeps_same}
-use Rattle.gt_streams.specs.Streams.{AppendsBeginning}
+use Rattle.gt_text.specs.Laws.{appends_both, begins_after, begins_longer, keeps_same}
+use Rattle.gt_text.specs.Streams.{AppendsBeginning}
 use Rattle.gt_host.specs.declared.fault.PlayFault.TheVariants as plays
 use Rattle.gt_run.specs.Asking.{Stand}
 use Rattle.gt_run.specs.Faults.{run_out_of_memory}

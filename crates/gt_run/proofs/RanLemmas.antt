@@ -17,10 +17,10 @@ use Rattle.gt_script.specs.Script.{Wrong}
 use Rattle.gt_script.specs.declared.faults.ScriptError.{ScriptError}
 use Rattle.gt_script.specs.declared.faults.ScriptError.TheVariants as errors
 use Rattle.gt_script.specs.Lists.{RunTask}
-use Rattle.gt_streams.specs.Laws.{keeps_same, of_any_input}
-use Rattle.gt_streams.specs.Streams.{OfInput}
-use Rattle.gt_streams.specs.declared.fault.ReadFault.{ReadFault}
-use Rattle.gt_streams.specs.declared.fault.ReadFault.TheVariants as reads
+use Rattle.gt_text.specs.Laws.{keeps_same, of_any_input}
+use Rattle.gt_text.specs.Streams.{OfInput}
+use Rattle.gt_text.specs.declared.fault.ReadFault.{ReadFault}
+use Rattle.gt_text.specs.declared.fault.ReadFault.TheVariants as reads
 use Rattle.gt_run.specs.Faults.{run_out_of_memory}
 use Rattle.gt_run.specs.Runs.{AreOf, AreParts, AreListsOf, AreUnder, IsOver, Ran, Wrote, WroteScript}
 use Rattle.gt_run.specs.declared.fault.RunFault.{RunFault}

@@ -2,7 +2,7 @@
 use Rattle.std.specs.Prelude.{◌≡◌, ◌⊎◌, ℕ, Bool, List, Option, Some, None, Result, Ok, Err, IsTrue}
 use Rattle.std.specs.Io.KnownBytes.{Appends, Keeps}
 use Rattle.gt_live.specs.Domains.{AllowRelation}
-use Rattle.gt_streams.specs.Streams.{AppendsBeginning}
+use Rattle.gt_text.specs.Streams.{AppendsBeginning}
 use Rattle.gt_run.specs.declared.fault.RunFault.{RunFault}
 use Rattle.gt_run.specs.declared.fault.RunFault.TheVariants.{Thread}
 use Rattle.gt_run.specs.declared.lists.ThreadJob.{ThreadJob}

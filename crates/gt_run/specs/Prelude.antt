@@ -33,7 +33,7 @@ pub use Rattle.gt_run.specs.declared.lists.DomainPart.{DomainPart}
 pub use Rattle.gt_run.specs.declared.telling.TrailLogger.{TrailLogger}
 pub use Rattle.gt_script.specs.Lists.{RunAction, RunTask}
 pub use Rattle.gt_script.specs.declared.tasks.RunActionBy.TheVariants.{Await, Do, Tell}
-pub use Rattle.gt_texts.specs.Printing.{type_text}
+pub use Rattle.gt_text.specs.Printing.{type_text}
 pub use Rattle.gt_types.specs.declared.DomId.{DomId}
 pub use Rattle.gt_types.specs.declared.Size.{Size}
 pub use Rattle.gt_types.specs.declared.denial.Denial.{Denial}

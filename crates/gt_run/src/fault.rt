@@ -1,6 +1,6 @@
 //! Why a run did not end well.
 use gt_host::PlayFault;
-use gt_streams::WriteFault;
+use gt_text::WriteFault;
 use gt_types::Memory;
 use std::alloc::{AllocError, AllocFailed};
 use std::error::Error;

@@ -2,7 +2,7 @@
 ghost use Rattle.std.specs.Prelude.{◌*◌, ◌<◌};
 
 use crate::gate::FLAGS;
-use gt_streams::READ_LIMIT;
+use gt_text::READ_LIMIT;
 
 /// A law: no script names as many flags as a program's gate has. The line that first names a flag takes eight bytes and
 /// the end of the line, and no more than [`READ_LIMIT`] bytes are read.

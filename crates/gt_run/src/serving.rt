@@ -11,7 +11,7 @@ use gt_core::Answer;
 use gt_host::{Labels, call_bytes, label_given, name_mapping, push_answer_line, request_of};
 use gt_script_lines::ScriptCall;
 use gt_script::RunAction;
-use gt_texts::{push_number, push_text};
+use gt_text::{push_number, push_text};
 use gt_types::{Allows, DomId, Memory};
 use std::alloc::{AllocError, Global};
 use std::sync::{OnceLock, Wait};

@@ -21,7 +21,7 @@ pub struct TrailLogger<'l> {
 impl<'l> TrailLogger<'l> {
     ghost use Rattle.std.specs.Prelude.{◌≡◌, ◌+◌, length, map, slice_get, IfOk};
     ghost use Rattle.std.specs.List.{flat_map};
-    ghost use Rattle.gt_texts.specs.Printing.{type_text};
+    ghost use Rattle.gt_text.specs.Printing.{type_text};
     ghost use Rattle.gt_audit.specs.Lines.{line_text};
     ghost use Rattle.gt_audit.specs.Telling.{nothing_told};
     ghost use Rattle.gt_run.specs.Serving.{counted};

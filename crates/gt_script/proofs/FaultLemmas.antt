@@ -38,7 +38,7 @@ use Rattle.gt_script.specs.declared.faults.ScriptError.TheVariants as errors
 use Rattle.gt_script.specs.declared.faults.ScriptFaultKind.{ScriptFaultKind}
 use Rattle.gt_script.specs.declared.faults.ScriptFaultKind.TheVariants.{Syntax, Config}
 use Rattle.gt_script.specs.declared.faults.ScriptFault.{ScriptFault}
-use Rattle.gt_streams.specs.Laws.{take_whole}
+use Rattle.gt_text.specs.Laws.{take_whole}
 use Rattle.gt_script.proofs.BlockLemmas.{OpensAt, opens_at, none_opens, ClosesAt, closes_at, none_closes}
 use Rattle.gt_script.proofs.ScriptLemmas.{texts}
 use Rattle.gt_script.proofs.LawLemmas.{with_lines-Extends, faultless-none}

@@ -7,7 +7,7 @@
 //! What a line says is for `gt_script_lines`. Whether it is in its place depends on the lines before it, and
 //! is defined here.
 //!
-//! It uses `gt_types` (domains and triples), `gt_policy` (the policy block), `gt_streams` (bytes as
+//! It uses `gt_types` (domains and triples), `gt_policy` (the policy block), `gt_text` (bytes as
 //! text) and `gt_script_lines`.
 #![tactic(auto)]
 

@@ -558,7 +558,7 @@ fn script_text<'a>(bytes: &'a [u8]) -> Result<&'a str, ScriptFault>
             kind: ScriptFaultKind::Limit,
         });
     }
-    match gt_streams::text_of(bytes) {
+    match gt_text::text_of(bytes) {
         Ok(text) => Ok(text),
         Err(line) => Err(ScriptFault {
             line,

@@ -12,7 +12,7 @@ use crate::worn::{body_start, worn_types};
 use gt_policy_check::Finding;
 use gt_script_lines::text_lines;
 use gt_script::{parse, parse_run};
-use gt_streams::text_of;
+use gt_text::text_of;
 use gt_types::Memory;
 use std::alloc::{AllocError, Global};
 

@@ -6,7 +6,7 @@ use crate::warning::{column_number, push_warning};
 use gt_policy_check::{Finding, FindingKind, push_hint, said_of};
 use gt_script_lines::{BodyLine, ScriptLine, Number, ScriptAction, ScriptCall, line_words, read_line};
 use gt_reasons::column_of;
-use gt_streams::text_of;
+use gt_text::text_of;
 use std::alloc::{AllocError, Global};
 
 /// A label of a domain, and whether a map gives it or another call needs it.

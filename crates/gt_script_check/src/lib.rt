@@ -8,7 +8,7 @@
 //! stands at the line of the first fault for one of them. Of a script no error is told.
 //!
 //! It uses `gt_script` and `gt_script_lines` (scripts and lines), `gt_policy_check` (findings), `gt_reasons` (what a
-//! fault means), `gt_streams` (text) and `gt_types`.
+//! fault means), `gt_text` (text) and `gt_types`.
 #![tactic(auto)]
 
 mod block;

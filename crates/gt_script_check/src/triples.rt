@@ -6,7 +6,7 @@ use crate::warning::{column_number, push_warning};
 use gt_policy_check::{Finding, FindingKind, said_of};
 use gt_script_lines::{ScriptLine, line_words, read_line};
 use gt_reasons::column_of;
-use gt_streams::text_of;
+use gt_text::text_of;
 use std::alloc::{AllocError, Global};
 
 // A type of a triple that no domain has, and which word of the line it is.

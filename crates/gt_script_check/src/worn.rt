@@ -1,7 +1,7 @@
 //! The types that the domains of a script have.
 use gt_script_lines::{ScriptLine, line_words, read_line};
 use gt_reasons::has_policy;
-use gt_streams::text_of;
+use gt_text::text_of;
 use std::alloc::{AllocError, Global};
 
 /// Where the lines after the policy block begin: at the first line, if there is none.

@@ -1,5 +1,5 @@
 use Rattle.std.proofs.Common.{ℕ, List}
-use Rattle.gt_streams.specs.Laws.{of_input}
+use Rattle.gt_text.specs.Laws.{of_input}
 use Rattle.gt_checks.specs.Checking.{Checked}
 use Rattle.gt_checks.proofs.Advised.{checked_unread}
 use Rattle.gt_checks.proofs.checking.check.Goals as goal

@@ -1,5 +1,5 @@
 use Rattle.std.proofs.Common.{true, false}
-use Rattle.gt_streams.specs.Laws.{keeps_same}
+use Rattle.gt_text.specs.Laws.{keeps_same}
 use Rattle.gt_checks.proofs.Advised.{asked_lines, asked_no}
 use Rattle.gt_checks.proofs.explaining.explain_text.Goals as goal
 

@@ -1,5 +1,5 @@
 use Rattle.std.proofs.Common.{ℕ, List}
-use Rattle.gt_streams.specs.Laws.{of_input}
+use Rattle.gt_text.specs.Laws.{of_input}
 use Rattle.gt_checks.specs.Explaining.{Explained}
 use Rattle.gt_checks.proofs.Advised.{explained_unread}
 use Rattle.gt_checks.proofs.explaining.why.Goals as goal

@@ -1,5 +1,5 @@
 use Rattle.std.proofs.Common.{ℕ, List}
-use Rattle.gt_streams.specs.Laws.{of_input}
+use Rattle.gt_text.specs.Laws.{of_input}
 use Rattle.gt_checks.specs.Scripts.{CheckedScript}
 use Rattle.gt_checks.proofs.Scripted.{unread_script}
 use Rattle.gt_checks.proofs.scripts.check_script.Goals as goal

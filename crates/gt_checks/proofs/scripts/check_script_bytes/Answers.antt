@@ -1,4 +1,4 @@
-use Rattle.gt_streams.specs.Laws.{keeps_same}
+use Rattle.gt_text.specs.Laws.{keeps_same}
 use Rattle.gt_checks.proofs.Scripted.{checked_script}
 use Rattle.gt_checks.proofs.scripts.check_script_bytes.Goals as goal
 

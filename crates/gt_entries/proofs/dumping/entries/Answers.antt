@@ -1,5 +1,5 @@
 use Rattle.std.proofs.Common.{ℕ, List}
-use Rattle.gt_streams.specs.Laws.{of_input}
+use Rattle.gt_text.specs.Laws.{of_input}
 use Rattle.gt_entries.specs.Dumps.{Told}
 use Rattle.gt_entries.proofs.DumpLemmas.{untold_read}
 use Rattle.gt_entries.proofs.dumping.entries.Goals as goal

@@ -1,6 +1,6 @@
 use Rattle.gt_script.specs.Contents.{contents_told}
 use Rattle.gt_script.specs.Script.{TellsScript}
-use Rattle.gt_streams.specs.Laws.{keeps_same}
+use Rattle.gt_text.specs.Laws.{keeps_same}
 use Rattle.gt_host.proofs.PlayedLemmas.{played_nothing, played_run}
 use Rattle.gt_host.proofs.playing.play_bytes.Goals as goal
 

@@ -1,6 +1,6 @@
 use Rattle.gt_script.specs.Contents.{contents_told}
-use Rattle.gt_streams.specs.Laws.{keeps_same}
-use Rattle.gt_streams.specs.Laws.{OnErr-all}
+use Rattle.gt_text.specs.Laws.{keeps_same}
+use Rattle.gt_text.specs.Laws.{OnErr-all}
 use Rattle.gt_host.proofs.PlayLemmas.{not_begun}
 use Rattle.gt_host.proofs.playing.run_script.Goals as goal
 

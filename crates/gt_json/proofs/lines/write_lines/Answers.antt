@@ -1,5 +1,5 @@
 use Rattle.std.proofs.Common.{◌≡◌, ◌<◌, ℕ, List, [], length, refl, arith}
-use Rattle.gt_streams.specs.Laws.{OnErr-all}
+use Rattle.gt_text.specs.Laws.{OnErr-all}
 use Rattle.gt_json.specs.Lines.{object_line}
 use Rattle.gt_json.proofs.PieceLemmas.{begins_all, begins_pieces, has_begun, sends_all, sends_start, sent_all}
 use Rattle.gt_json.proofs.PieceLemmas.{step_begun, step_sent}

@@ -1,5 +1,5 @@
 use Rattle.std.proofs.Common.{take, flat_map}
-use Rattle.gt_streams.specs.Streams.{Sends}
+use Rattle.gt_text.specs.Streams.{Sends}
 use Rattle.gt_json.specs.Lines.{object_line}
 use Rattle.gt_json.proofs.lines.write_lines.Given as goal
 

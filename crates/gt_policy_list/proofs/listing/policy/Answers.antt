@@ -1,5 +1,5 @@
 use Rattle.std.proofs.Common.{ℕ, List}
-use Rattle.gt_streams.specs.Laws.{of_input}
+use Rattle.gt_text.specs.Laws.{of_input}
 use Rattle.gt_policy_list.specs.Writing.{Listed}
 use Rattle.gt_policy_list.proofs.ListedLemmas.{listed_unread}
 use Rattle.gt_policy_list.proofs.listing.policy.Goals as goal

@@ -1,7 +1,7 @@
 use Rattle.std.proofs.Common.{ℕ, List}
 use Rattle.std.specs.Prelude.{is_some}
 use Rattle.gt_script.specs.RunScripts.{RunTells}
-use Rattle.gt_streams.specs.Laws.{of_input}
+use Rattle.gt_text.specs.Laws.{of_input}
 use Rattle.gt_run.specs.Runs.{Ran}
 use Rattle.gt_run.proofs.RanLemmas.{ran_unread}
 use Rattle.gt_run.proofs.reading.run.Goals as goal

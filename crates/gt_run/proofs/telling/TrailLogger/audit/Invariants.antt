@@ -1,6 +1,6 @@
 use Rattle.std.proofs.Common.{◌≡◌, take}
 use Rattle.std.specs.List.{flat_map}
-use Rattle.gt_texts.specs.Printing.{type_text}
+use Rattle.gt_text.specs.Printing.{type_text}
 use Rattle.gt_audit.specs.Lines.{line_text}
 use Rattle.gt_run.proofs.telling.TrailLogger.audit.Given as goal
 

@@ -1,0 +1,35 @@
+//! A list of pairs that only proofs read.
+ghost use Rattle.std.specs.Prelude.{◌≡◌, List, [], ◌∷◌, ◌++◌};
+ghost use Rattle.std.specs.Borrow.{ftrue};
+
+use std::marker::{Model, PhantomData};
+
+/// A list of pairs, which takes no memory. A clause reads the pairs as `items`, the oldest first.
+#[derive(Drop)]
+pub(crate) struct History<A, B> {
+    of: PhantomData<(A, B)>,
+    pub ghost items: { List (A × B) },
+}
+
+impl<A, B> Model for History<A, B> {
+    ghost also_owns = { λ _. ftrue };
+}
+
+// It owns nothing.
+unsafe impl<A, B> Send for History<A, B> {}
+
+impl<A, B> History<A, B> {
+    /// A history without a pair.
+    pub fn new() -> History<A, B>
+        ensures { result.items ≡ [] }
+    {
+        History { of: PhantomData }
+    }
+
+    /// This history with one pair more.
+    pub fn and(&self, first: &A, second: &B) -> History<A, B>
+        ensures { result.items ≡ self.now.items ++ (first.now, second.now) ∷ [] }
+    {
+        History { of: PhantomData }
+    }
+}

@@ -1,0 +1,17 @@
+-- The names of other crates, and of the code, that the definitions here speak of.
+pub use Rattle.gt_entries.specs.Dumps.{Told}
+pub use Rattle.gt_entries.specs.declared.asked.DumpOptions.{DumpOptions}
+pub use Rattle.gt_entries.specs.declared.fault.DumpFault.{DumpFault}
+pub use Rattle.gt_host.specs.Playing.{Played}
+pub use Rattle.gt_host.specs.declared.fault.PlayFault.{PlayFault}
+pub use Rattle.gt_json.specs.Lines.{json_text}
+pub use Rattle.gt_json.specs.declared.places.PrintedText.{PrintedText}
+pub use Rattle.gt_json.specs.declared.places.PrintedText.TheVariants.{Entries, Policy, Run}
+pub use Rattle.gt_policy_list.specs.Writing.{Listed}
+pub use Rattle.gt_policy_list.specs.declared.fault.ListingFault.{ListingFault}
+pub use Rattle.gt_run.specs.Runs.{Ran}
+pub use Rattle.gt_run.specs.declared.fault.RunFault.{RunFault}
+pub use Rattle.gt_script.specs.RunScripts.{RunTells}
+pub use Rattle.gt_script.specs.Script.{TellsScript}
+pub use Rattle.gt_text.specs.Streams.{AppendsBeginning}
+pub use Rattle.std.specs.Io.KnownBytes.{Appends, Keeps}

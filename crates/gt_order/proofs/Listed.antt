@@ -1,0 +1,316 @@
+-- The calls of a list are calls of a run, and the run of all lists has a legal order.
+use Rattle.std.proofs.Common.{Bor, ◌≡◌, inl, inr, ⊎_elim, ◌<◌, ◌==◌, nat_lt, ℕ, zero, suc, Bool, true, false, List, []}
+use Rattle.std.proofs.Common.{◌∷◌, ◌++◌, length, Result, Ok, Err, refl, sym, ap, ◌∙◌, subst, arith}
+use Rattle.std.specs.Prelude.{take}
+use Rattle.std.proofs.lemmas.Bool.Decides.{nat_tests}
+use mathlib.Core.Option.{some}
+use lib.ListN.{get_elem?}
+use Rattle.atomic_table.specs.Table.{State}
+use Rattle.gt_types.specs.declared.DomId.{DomId}
+use Rattle.gt_types.specs.declared.Size.{Size}
+use Rattle.gt_types.specs.declared.denial.Denial.{Denial}
+use Rattle.gt_words.specs.History.{Layout, Moment}
+use Rattle.gt_words.specs.Laws.{length-ids, own_position}
+use Rattle.gt_words.specs.Rule.{Shows, id_at}
+use Rattle.gt_words.specs.Views.{IsAmong}
+use Rattle.gt_words.specs.declared.view.View.{View}
+use Rattle.gt_handles.specs.declared.handles.Handle.{Handle}
+use Rattle.gt_calls.specs.declared.action.CallResult.{CallResult}
+use Rattle.gt_calls.specs.Asking.{asked}
+use Rattle.gt_calls.specs.declared.request.Request.{Request}
+use Rattle.gt_calls.specs.declared.request.Request.TheVariants as requests
+use Rattle.gt_core.specs.Acting.{answer_of}
+use Rattle.gt_core.specs.declared.trace.Answer.{Answer}
+use Rattle.gt_core.specs.declared.trace.Answer.TheVariants as answers
+use Rattle.gt_frames.specs.Receipts.{Writing}
+use Rattle.gt_calls.specs.declared.action.CallResult.TheVariants.{Refused}
+use Rattle.gt_live.specs.Accesses.{IsWrittenBy}
+use Rattle.gt_live.specs.Domains.{Accesses, AllowRelation, Answered, HasLeft, BelongsTo, KeepsPinned, verdict_of}
+use Rattle.gt_live.specs.Domains.{verdict_of_frames, verdict_of_size, verdict_of_version}
+use Rattle.gt_live.specs.Ending.{IsOfMapping}
+use Rattle.gt_live.specs.Starting.{IsNewDomain}
+use Rattle.gt_live.specs.declared.domain.Domain.{Domain}
+use Rattle.gt_live.specs.declared.domain.Departed.{Departed}
+use Rattle.gt_live.specs.declared.monitor.Monitor.{Monitor}
+use Rattle.gt_order.proofs.Called.{map-made, plain-made, unmap-made}
+use Rattle.gt_order.proofs.Leaving.{leaving}
+use Rattle.gt_order.proofs.Order.{runs-have-legal-orders}
+use Rattle.gt_order.proofs.Writes.{lost-made, writes-made}
+use Rattle.gt_order.specs.Calling.{IsOutcomeOf, IsStoring, StaysOf, WasMade}
+use Rattle.gt_order.specs.Leaving.{MayUnmapAll}
+use Rattle.gt_order.specs.Runs.{AreCalls, CallMade, FitsTypes, IsAtRest, IsMonitorRun, IsSeatRun, KeepsNoPin}
+use Rattle.gt_order.specs.Runs.{CallOutcome, SeatRun, domain_after}
+use Rattle.gt_order.specs.Runs.CallOutcome.{Told, Kept, Starved, Wrote}
+use Rattle.gt_script_lines.specs.declared.calls.ScriptCall.{ScriptCall}
+use Rattle.gt_script_lines.specs.declared.calls.ScriptCall.TheVariants as calls
+use Rattle.gt_host.specs.Runs.{SaysRequest, Named, request_of}
+use Rattle.gt_script.specs.Lists.{RunAction, RunTask}
+use Rattle.gt_script.specs.declared.tasks.RunActionBy.TheVariants.{Await, Do, Tell}
+use Rattle.gt_run.specs.Asking.{AnswersCall, Asks, frames_answer, mapped_answer, plain_answer, size_answer}
+use Rattle.gt_run.specs.Asking.{version_answer}
+use Rattle.gt_run.specs.Printing.{Served}
+use Rattle.gt_run.specs.Serving.{DoesDeed, DoesWhere, ListLeadsTo, MakesCall, ListOutcome, ListProgress, list_start}
+use Rattle.gt_run.specs.declared.lists.ThreadJob.{ThreadJob}
+use Rattle.gt_order.specs.Texts.{AreCallsOf, AreCallsOfList, AreOfALegalOrder, HasList, OutcomeGivesAnswer, IsQuietDuty}
+use Rattle.gt_order.specs.Texts.{IsViewOf, ReadsNoBytes, TextsAreOfALegalOrder}
+
+-- a request that reaches no bytes
+abbrev NoBytes : Request → Type 0
+NoBytes (requests.Load handle off len) = ⊥
+NoBytes (requests.Peek frame off len) = ⊥
+NoBytes (requests.Copy args) = ⊥
+NoBytes request = Unit {0}
+
+quiet-request : (named : List Named) (dom : DomId) (bytes : Bor (List ℕ)) (call : ScriptCall) → ReadsNoBytes call → NoBytes (request_of named dom bytes call)
+unfolding request_of
+quiet-request named dom bytes (calls.Grant gref entry) q = tt
+quiet-request named dom bytes (calls.GrantBytes gref hex) q = tt
+quiet-request named dom bytes (calls.Revoke gref) q = tt
+quiet-request named dom bytes (calls.Withdraw gref) q = tt
+quiet-request named dom bytes (calls.Demote gref) q = tt
+quiet-request named dom bytes (calls.Promote gref) q = tt
+quiet-request named dom bytes (calls.Map label to gref flags) q = tt
+quiet-request named dom bytes (calls.Unmap label) q = tt
+quiet-request named dom bytes (calls.Load label off len) q = absurd q
+quiet-request named dom bytes (calls.Store label off hex) q = tt
+quiet-request named dom bytes (calls.Peek frame off len) q = absurd q
+quiet-request named dom bytes (calls.Poke frame off hex) q = tt
+quiet-request named dom bytes (calls.Copy c) q = absurd q
+quiet-request named dom bytes (calls.SetVersion version) q = tt
+quiet-request named dom bytes (calls.SetupTable frames) q = tt
+quiet-request named dom bytes (calls.QuerySize to) q = tt
+quiet-request named dom bytes (calls.GetVersion to) q = tt
+
+-- what is printed is what the call answered
+
+plain-same : (r : Result (Unit {0}) Denial) → plain_answer r ≡ answer_of (verdict_of r)
+plain-same (Ok done) = refl
+plain-same (Err denial) = refl
+
+plain-pin : (r : Result (Unit {0}) Denial) → KeepsNoPin (verdict_of r)
+plain-pin (Ok done) = tt
+plain-pin (Err denial) = tt
+
+frames-same : (r : Result ℕ Denial) → frames_answer r ≡ answer_of (verdict_of_frames r)
+frames-same (Ok frames) = refl
+frames-same (Err denial) = refl
+
+frames-pin : (r : Result ℕ Denial) → KeepsNoPin (verdict_of_frames r)
+frames-pin (Ok frames) = tt
+frames-pin (Err denial) = tt
+
+size-same : (r : Result Size Denial) → size_answer r ≡ answer_of (verdict_of_size r)
+size-same (Ok size) = refl
+size-same (Err denial) = refl
+
+size-pin : (r : Result Size Denial) → KeepsNoPin (verdict_of_size r)
+size-pin (Ok size) = tt
+size-pin (Err denial) = tt
+
+version-same : (r : Result ℕ Denial) → version_answer r ≡ answer_of (verdict_of_version r)
+version-same (Ok version) = refl
+version-same (Err denial) = refl
+
+version-pin : (r : Result ℕ Denial) → KeepsNoPin (verdict_of_version r)
+version-pin (Ok version) = tt
+version-pin (Err denial) = tt
+
+map-same : (r : Result Handle Denial) (outcome : CallOutcome) → IsOutcomeOf r outcome → OutcomeGivesAnswer outcome (mapped_answer r)
+map-same (Ok handle) (Kept given p) e = ap (λ (h : Handle). answers.Mapped h) (sym e)
+map-same (Ok handle) (Told verdict) e = absurd e
+map-same (Ok handle) Starved e = absurd e
+map-same (Ok handle) Wrote e = absurd e
+map-same (Err denial) (Kept given p) e = absurd e
+map-same (Err denial) (Told verdict) e = sym (ap answer_of e)
+map-same (Err denial) Starved e = (denial, refl, inl e)
+map-same (Err denial) Wrote e = absurd e
+
+module _ {P : Type 0} (may : P → AllowRelation) (m : Monitor P) where
+  -- a call that was answered so is one of a run
+  abbrev IsMade : Request → Answer → Domain → Domain → Type 0
+  IsMade request answer d e = (outcome : CallOutcome) × (steps : List Moment) × OutcomeGivesAnswer outcome answer × WasMade may m request outcome steps d e
+
+  module _ (d e : Domain) (stays : StaysOf may m d e) where
+    plain : (request : Request) (verdict : CallResult) (told answer : Answer) → (IsOfMapping (asked request) → ⊥) → FitsTypes request → KeepsNoPin verdict → told ≡ answer_of verdict → answer ≡ told → Answered may m d request verdict e → KeepsPinned d e → IsMade request answer d e
+    plain request verdict told answer other fits none same is answered kept =
+        let z = plain-made may m d e request verdict stays other fits none answered kept in (Told verdict, z.0, is ∙ same, z.1)
+
+    -- a store or a poke: it wrote, a rule refused it, or its access could not be made
+    storing : (request : Request) (bytes : List ℕ) → IsStoring request → (IsOfMapping (asked request) → ⊥) → FitsTypes request → (answer : Answer) (r : Result Writing Denial) → answer ≡ plain_answer r
+        → Accesses may m d request (IsWrittenBy d.seat.dom bytes) r e → KeepsPinned d e → IsMade request answer d e
+    storing request bytes is other fits answer (Ok w) told accessed kept = (Wrote, [], told, writes-made may m d e request bytes w stays is accessed kept)
+    storing request bytes is other fits answer (Err denial) told (inl called) kept = plain request (Refused denial) (answers.Denied denial) answer other fits tt refl told called kept
+    storing request bytes is other fits answer (Err denial) told (inr lost) kept = (Starved, [], (denial, told, lost.2), lost-made may m d e request lost.0 stays is lost.1 kept)
+
+    is-made : (request : Request) (answer : Answer) → NoBytes request → FitsTypes request → AnswersCall may m d request answer e → IsMade request answer d e
+    is-made (requests.Map dom gref flags) answer quiet fits x = let z = map-made may m d e dom gref flags x.0 stays x.2 in
+        (z.0, z.2.0, subst (OutcomeGivesAnswer z.0) (sym x.1) (map-same x.0 z.0 z.1), z.2.1)
+    is-made (requests.Unmap handle) answer quiet fits x = let z = unmap-made may m d e handle x.0 stays x.2 x.3 x.4 in (Told (verdict_of x.0), z.0, x.1 ∙ plain-same x.0, z.1)
+    is-made (requests.SetVersion version) answer quiet fits x = plain (requests.SetVersion version) (verdict_of x.0) (plain_answer x.0) answer (λ q. q) fits (plain-pin x.0) (plain-same x.0) x.1 x.2.0 x.2.1
+    is-made (requests.SetupTable frames) answer quiet fits x = plain (requests.SetupTable frames) (verdict_of_frames x.0) (frames_answer x.0) answer (λ q. q) fits (frames-pin x.0) (frames-same x.0) x.1 x.2.0 x.2.1
+    is-made (requests.QuerySize dom) answer quiet fits x = plain (requests.QuerySize dom) (verdict_of_size x.0) (size_answer x.0) answer (λ q. q) fits (size-pin x.0) (size-same x.0) x.1 x.2.0 x.2.1
+    is-made (requests.GetVersion dom) answer quiet fits x = plain (requests.GetVersion dom) (verdict_of_version x.0) (version_answer x.0) answer (λ q. q) fits (version-pin x.0) (version-same x.0) x.1 x.2.0 x.2.1
+    is-made (requests.Load handle off len) answer quiet fits x = absurd quiet
+    is-made (requests.Peek frame off len) answer quiet fits x = absurd quiet
+    is-made (requests.Store handle off bytes) answer quiet fits x = storing (requests.Store handle off bytes) bytes.now tt (λ q. q) fits answer x.0 x.1 x.2.0 x.2.1
+    is-made (requests.Poke frame off bytes) answer quiet fits x = storing (requests.Poke frame off bytes) bytes.now tt (λ q. q) fits answer x.0 x.1 x.2.0 x.2.1
+    is-made (requests.Copy args) answer quiet fits x = absurd quiet
+    is-made (requests.Grant gref entry) answer quiet fits x = plain (requests.Grant gref entry) (verdict_of x.0) (plain_answer x.0) answer (λ q. q) fits (plain-pin x.0) (plain-same x.0) x.1 x.2.0 x.2.1
+    is-made (requests.GrantBytes gref bytes) answer quiet fits x = plain (requests.GrantBytes gref bytes) (verdict_of x.0) (plain_answer x.0) answer (λ q. q) fits (plain-pin x.0) (plain-same x.0) x.1 x.2.0 x.2.1
+    is-made (requests.Revoke gref) answer quiet fits x = plain (requests.Revoke gref) (verdict_of x.0) (plain_answer x.0) answer (λ q. q) fits (plain-pin x.0) (plain-same x.0) x.1 x.2.0 x.2.1
+    is-made (requests.Withdraw gref) answer quiet fits x = plain (requests.Withdraw gref) (verdict_of x.0) (plain_answer x.0) answer (λ q. q) fits (plain-pin x.0) (plain-same x.0) x.1 x.2.0 x.2.1
+    is-made (requests.Demote gref) answer quiet fits x = plain (requests.Demote gref) (verdict_of x.0) (plain_answer x.0) answer (λ q. q) fits (plain-pin x.0) (plain-same x.0) x.1 x.2.0 x.2.1
+    is-made (requests.Promote gref) answer quiet fits x = plain (requests.Promote gref) (verdict_of x.0) (plain_answer x.0) answer (λ q. q) fits (plain-pin x.0) (plain-same x.0) x.1 x.2.0 x.2.1
+
+  -- a list, as far as it has come
+  module _ (duty : ThreadJob P) (over : duty.monitor.now ≡ m) (quiet : IsQuietDuty duty) (first : Domain) where
+    record Come (p : ListProgress) : Type 0 where
+      made : List CallMade
+      calls_are : AreCalls m.words m.config (may m.rights) first made
+      now : domain_after first made ≡ p.domain
+      lines : AreCallsOf may duty made p.outcomes
+      mine : BelongsTo may m p.domain
+
+    one-call : (line : ℕ) (call : ScriptCall) (p q : ListProgress) → ReadsNoBytes call → ((named : List Named) (request : Request) → SaysRequest named duty.part.dom call request → FitsTypes request)
+        → MakesCall may duty line call p q → Come p → Come q
+    one-call line call p q none fits x come =
+        let says = x.says in
+        let asks : Asks may m p.domain x.request x.answer q.domain = subst (λ (y : Monitor P). Asks may y p.domain x.request x.answer q.domain) over x.asks in
+        let no-bytes : NoBytes x.request = subst NoBytes (sym says.2) (quiet-request p.named duty.part.dom says.0 call none) in
+        let z = is-made p.domain q.domain (record { before = come.mine; afterwards = asks.2.0; seat = asks.2.1 }) x.request x.answer no-bytes (fits p.named x.request says) asks.1 in
+        let m' : CallMade = record { request = x.request; outcome = z.0; steps = z.1; old = p.domain; new = q.domain } in
+        let o : ListOutcome = record { line = line; answer = x.answer; told = x.told; lost = x.lost } in
+        record {
+          made = m' ∷ come.made;
+          calls_are = (z.3, subst (λ (y : Domain). IsAtRest y p.domain) (sym come.now) (record { seat = refl; own = refl; mappings = refl }), come.calls_are);
+          now = refl;
+          lines = (p.outcomes, o, x.outcomes, record { call = call; before = p; afterwards = q; made = x; request = refl; old = refl; new = refl; answer = refl; answered = z.2 }, come.lines);
+          mine = asks.2.0;
+        }
+
+    one-deed : (task : RunTask) → IsAmong task duty.part.tasks.now → (task.dom.0 == duty.part.dom.0) ≡ true → (deed : RunAction) → task.deed ≡ deed → (p q : ListProgress) → DoesDeed may duty task.line deed p q → Come p → Come q
+    unfolding DoesDeed
+    one-deed task is-in own (Do call) is p q does come = let a = quiet task call is-in own is in one-call task.line call p q a.0 a.1 does come
+    one-deed task is-in own (Tell flag) is p q does come = subst Come (sym does) come
+    one-deed task is-in own (Await flag) is p q does come = subst Come (sym does) come
+
+    one-line : (task : RunTask) → IsAmong task duty.part.tasks.now → (b : Bool) → (task.dom.0 == duty.part.dom.0) ≡ b → (p q : ListProgress) → DoesWhere b may duty task p q → Come p → Come q
+    one-line task is-in true own p q does come = one-deed task is-in own task.deed refl p q does come
+    one-line task is-in false own p q does come = subst Come (sym does) come
+
+    comes : (tasks : List RunTask) → ((task : RunTask) → IsAmong task tasks → IsAmong task duty.part.tasks.now) → (p q : ListProgress) → ListLeadsTo may duty p tasks q → Come p → Come q
+    comes [] each p q leads come = subst Come (sym leads) come
+    comes (task ∷ tasks) each p q leads come =
+        comes tasks (λ t is. each t (inr is)) leads.0 q leads.2 (one-line task (each task (inl refl)) (task.dom.0 == duty.part.dom.0) refl p leads.0 leads.1 come)
+
+  take-in : {A : Type 0} (n : ℕ) (xs : List A) (x : A) → IsAmong x (take n xs) → IsAmong x xs
+  take-in zero xs x is = absurd is
+  take-in (suc n) [] x is = absurd is
+  take-in (suc n) (y ∷ ys) x (inl e) = inl e
+  take-in (suc n) (y ∷ ys) x (inr is) = inr (take-in n ys x is)
+
+  -- unmaps behind the calls of a list
+  module _ (first d : Domain) (ms : List CallMade) (now : domain_after first ms ≡ d) where
+    after-on : (us : List CallMade) → domain_after first (us ++ ms) ≡ domain_after d us
+    after-on [] = now
+    after-on (u ∷ us) = refl
+
+    calls-on : (us : List CallMade) → AreCalls m.words m.config (may m.rights) first ms → AreCalls m.words m.config (may m.rights) d us → AreCalls m.words m.config (may m.rights) first (us ++ ms)
+    calls-on [] made x = made
+    calls-on (u ∷ us) made x = (x.0, subst (λ (y : Domain). IsAtRest y u.old) (sym (after-on us)) x.1, calls-on us made x.2)
+
+  -- a list that was served, up to its last view
+  record Finished (i : ℕ) (s : Served P) (v : View) : Type 0 where
+    first : Domain
+    starts : IsNewDomain m.words m.config (may m.rights) i first
+    made : List CallMade
+    calls_are : AreCalls m.words m.config (may m.rights) first made
+    view : (domain_after first made).seat.view ≡ v
+    of_list : AreCallsOfList may s made
+
+  -- a domain of this number is at that position
+  stands-at : (i p : ℕ) (d : Domain) → i < length m.config.domains.items → IsNewDomain m.words m.config (may m.rights) p d → d.seat.dom ≡ id_at m.words.layout.ids i → p ≡ i
+  stands-at i p d inside fresh own =
+      let k : Layout = m.words.layout in let seat = fresh.seat.seat in
+      let long : length k.ids ≡ length m.config.domains.items = ap (λ (l : Layout). length l.ids) m.same_run ∙ length-ids m.config.domains.items in
+      let here = own_position m.config k k.ids d.seat.view.position d.seat.dom (sym m.same_run) m.limits (ap (λ (l : Layout). l.ids) m.same_run) seat.inside seat.named in
+      let there = own_position m.config k k.ids i d.seat.dom (sym m.same_run) m.limits (ap (λ (l : Layout). l.ids) m.same_run) (omega arith) (sym own) in
+      sym fresh.seat.position ∙ (here ∙ sym there)
+
+  finished : (i : ℕ) (s : Served P) (v : View) → i < length m.config.domains.items → (l : HasList may m i s) → IsViewOf m.words m.config (may m.rights) l.served.left.domain v → Finished i s v
+  finished i s v inside l ends = ⊎_elim stayed gone ends
+    where
+      first : Domain
+      first = l.served.domain
+
+      fresh : IsNewDomain m.words m.config (may m.rights) l.served.first.position first
+      fresh = subst (λ (y : Monitor P). IsNewDomain y.words y.config (may y.rights) l.served.first.position l.served.domain) l.monitor l.served.first.fresh
+
+      starts : IsNewDomain m.words m.config (may m.rights) i first
+      starts = subst (λ (p : ℕ). IsNewDomain m.words m.config (may m.rights) p l.served.domain) (stands-at i l.served.first.position l.served.domain inside fresh (l.served.first.own ∙ l.dom)) fresh
+
+      come : Come s.duty l.monitor l.quiet first l.served.left
+      come = comes s.duty l.monitor l.quiet l.served.domain (take l.served.number s.duty.part.tasks.now) (λ t is. take-in l.served.number s.duty.part.tasks.now t is) (list_start l.served.domain) l.served.left l.served.leads
+          (record { made = []; calls_are = tt; now = refl; lines = refl; mine = fresh.domain })
+
+      lines : AreCallsOf may s.duty come.made s.outcomes
+      lines = subst (AreCallsOf may s.duty come.made) l.served.came come.lines
+
+      stayed : v ≡ l.served.left.domain.seat.view → Finished i s v
+      stayed e = record {
+        first = first;
+        starts = starts;
+        made = come.made;
+        calls_are = come.calls_are;
+        view = ap (λ (d : Domain). d.seat.view) come.now ∙ sym e;
+        of_list = record { leaving = []; listed = come.made; all = refl; unmaps = tt; lines = lines };
+      }
+
+      gone : (x : Departed) × HasLeft m.words.layout l.served.left.domain x × MayUnmapAll m.config (may m.rights) l.served.left.domain × (v ≡ x.seat.view) → Finished i s v
+      gone g = let u = leaving m.words m.config (may m.rights) l.served.left.domain g.0 come.mine g.1 g.2 in record {
+        first = first;
+        starts = starts;
+        made = u.0 ++ come.made;
+        calls_are = calls-on first l.served.left.domain come.made come.now u.0 come.calls_are u.1;
+        view = ap (λ (d : Domain). d.seat.view) (after-on first l.served.left.domain come.made come.now u.0) ∙ (u.3 ∙ sym g.3);
+        of_list = record { leaving = u.0; listed = come.made; all = refl; unmaps = u.2; lines = lines };
+      }
+
+  below : (i n : ℕ) → nat_lt i n ≡ true → i < n
+  below i n e = grind (arith, nat_tests)
+
+  not-below : (i n : ℕ) → nat_lt i n ≡ false → i < n → ⊥
+  not-below i n e l = grind (arith, nat_tests)
+
+  -- all lists
+  module _ (lists : ℕ → Served P) (s : State (Unit {0}) View) (ends : ℕ → View)
+      (each : (i : ℕ) → i < length m.config.domains.items → (l : HasList may m i (lists i)) × IsViewOf m.words m.config (may m.rights) l.served.left.domain (ends i) × (get_elem? s.views i ≡ some (ends i))) where
+    done : (i : ℕ) → i < length m.config.domains.items → Finished i (lists i) (ends i)
+    done i inside = let l = each i inside in finished i (lists i) (ends i) inside l.0 l.1
+
+    abbrev run-of : (i : ℕ) → i < length m.config.domains.items → SeatRun
+    run-of i inside = record { first = (done i inside).first; calls = (done i inside).made }
+
+    -- beyond the domains any run will do
+    abbrev pick : (i : ℕ) (b : Bool) → nat_lt i (length m.config.domains.items) ≡ b → SeatRun
+    pick i true e = run-of i (below i (length m.config.domains.items) e)
+    pick i false e = run-of 0 (let some = m.limits.some in omega arith)
+
+    abbrev seats : ℕ → SeatRun
+    seats i = pick i (nat_lt i (length m.config.domains.items)) refl
+
+    runs-so : (i : ℕ) → i < length m.config.domains.items → (b : Bool) (e : nat_lt i (length m.config.domains.items) ≡ b)
+        → IsSeatRun m.words m.config (may m.rights) i (pick i b e) s.views × AreCallsOfList may (lists i) (pick i b e).calls
+    runs-so i inside true e = let l : i < length m.config.domains.items = below i (length m.config.domains.items) e in let f = done i l in
+        (record { starts = f.starts; calls = f.calls_are; now = (each i l).2 ∙ ap (λ (v : View). some v) (sym f.view) }, f.of_list)
+    runs-so i inside false e = absurd (not-below i (length m.config.domains.items) e inside)
+
+    text-legal : (shown : Shows m.words.layout s) → AreOfALegalOrder may m shown.history lists
+    text-legal shown =
+        let run : IsMonitorRun m.words m.config (may m.rights) s seats =
+        record { limits = m.limits; layout = m.same_run; shown = shown; each = λ i inside. (runs-so i inside (nat_lt i (length m.config.domains.items)) refl).0 } in
+        let order = runs-have-legal-orders m.words m.config (may m.rights) s seats run in
+        record { items = order.0; seats = seats; legal = order.1; each = λ i inside. (runs-so i inside (nat_lt i (length m.config.domains.items)) refl).1 }
+
+pub texts-legal : {P : Type 0} (may : P → AllowRelation) (m : Monitor P) → TextsAreOfALegalOrder may m
+texts-legal may m lists s ends each shown = text-legal may m lists s ends each shown

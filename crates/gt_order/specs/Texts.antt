@@ -1,0 +1,95 @@
+-- The lists of a run that read and copy no bytes, and the legal order whose answers they print.
+use Rattle.std.specs.Prelude.{◌≡◌, ◌⊎◌, ℕ, ◌<◌, ◌==◌, true, List, [], ◌∷◌, ◌++◌, length}
+use Rattle.gt_order.specs.RunNames.{some, get_elem?, State, Config, Denial, Board, StepHistory, Shows, id_at}
+use Rattle.gt_order.specs.RunNames.{IsAmong}
+use Rattle.gt_order.specs.RunNames.{View, Request, Items, answer_of, Answer, IsOfAccess, AllowRelation, HasLeft}
+use Rattle.gt_order.specs.RunNames.{Domain, Departed, Monitor, AreUnmaps, MayUnmapAll, IsLegalOrder, CallMade}
+use Rattle.gt_order.specs.RunNames.{FitsTypes, CallOutcome, SeatRun, Told, Kept, Starved, Wrote, ScriptCall}
+use Rattle.gt_order.specs.RunNames.{SaysRequest, Named, Do, RunTask, ThreadJob, Served, IsServed, MakesCall, ListOutcome}
+use Rattle.gt_order.specs.RunNames.{ListProgress}
+use Rattle.gt_core.specs.declared.trace.Answer.TheVariants as answers
+use Rattle.gt_script_lines.specs.declared.calls.ScriptCall.TheVariants as calls
+
+-- the line asks for no read of bytes and for no copy
+abbrev pub ReadsNoBytes : ScriptCall → Type 0
+ReadsNoBytes (calls.Load label off len) = ⊥
+ReadsNoBytes (calls.Peek frame off len) = ⊥
+ReadsNoBytes (calls.Copy c) = ⊥
+ReadsNoBytes call = Unit {0}
+
+-- Each call of the duty's list reads no bytes and copies none, and what it asks has the numbers that its types can hold,
+-- whatever its labels name
+abbrev pub IsQuietDuty : {P : Type 0} → ThreadJob P → Type 0
+IsQuietDuty duty =
+    (task : RunTask) (call : ScriptCall) → IsAmong task duty.part.tasks.now → (task.dom.0 == duty.part.dom.0) ≡ true
+    → task.deed ≡ Do call
+    → ReadsNoBytes call
+    × ((named : List Named) (request : Request) → SaysRequest named duty.part.dom call request → FitsTypes request)
+
+-- a call with this outcome was answered so
+abbrev pub OutcomeGivesAnswer : CallOutcome → Answer → Type 0
+OutcomeGivesAnswer (Told verdict) answer = answer ≡ answer_of verdict
+OutcomeGivesAnswer (Kept handle p) answer = answer ≡ answers.Mapped handle
+OutcomeGivesAnswer Starved answer = (denial : Denial) × (answer ≡ answers.Denied denial) × IsOfAccess denial
+OutcomeGivesAnswer Wrote answer = answer ≡ answers.Done
+
+-- the call m of a run is the one that a line of the duty's list made, and what came of that: its domain was asked what
+-- the line says, by what its labels stood for then, and its answer is what the line prints
+pub record IsCallOf {P : Type 0} (may : P → AllowRelation) (duty : ThreadJob P) (m : CallMade) (o : ListOutcome)
+    : Type 0 where
+  pub call : ScriptCall
+  pub before : ListProgress
+  pub afterwards : ListProgress
+  pub made : MakesCall may duty o.line call before afterwards
+  pub request : m.request ≡ made.request
+  pub old : m.old ≡ before.domain
+  pub new : m.new ≡ afterwards.domain
+  pub answer : o.answer ≡ made.answer
+  pub answered : OutcomeGivesAnswer m.outcome o.answer
+
+-- these calls, the last one first, are those that the lines of the duty's list made, whose outcomes are in their order
+abbrev pub AreCallsOf : {P : Type 0} → (P → AllowRelation) → ThreadJob P → List CallMade → List ListOutcome → Type 0
+AreCallsOf may duty [] outcomes = outcomes ≡ []
+AreCallsOf may duty (m ∷ ms) outcomes =
+    (before : List ListOutcome) × (o : ListOutcome) × (outcomes ≡ before ++ o ∷ []) × IsCallOf may duty m o
+    × AreCallsOf may duty ms before
+
+-- the list of the domain at the position i was served, and reads and copies no bytes
+pub record HasList {P : Type 0} (may : P → AllowRelation) (m : Monitor P) (i : ℕ) (s : Served P) : Type 0 where
+  pub monitor : s.duty.monitor.now ≡ m
+  pub dom : s.duty.part.dom ≡ id_at m.words.layout.ids i
+  pub served : IsServed may s.duty s.outcomes s.text
+  pub quiet : IsQuietDuty s.duty
+
+-- the view is that of the domain where its list ended; or the domain has left since, and the policy
+-- lets it give each of its mappings up
+abbrev pub IsViewOf : Board → Config → AllowRelation → Domain → View → Type 0
+IsViewOf b c may d v =
+    (v ≡ d.seat.view) ⊎ ((l : Departed) × HasLeft b.layout d l × MayUnmapAll c may d × (v ≡ l.seat.view))
+
+-- one of its calls is a call of its list, or an unmap with which it left
+pub record AreCallsOfList {P : Type 0} (may : P → AllowRelation) (s : Served P) (made : List CallMade) : Type 0 where
+  pub leaving : List CallMade
+  pub listed : List CallMade
+  pub all : made ≡ leaving ++ listed
+  pub unmaps : AreUnmaps leaving
+  pub lines : AreCallsOf may s.duty listed s.outcomes
+
+-- The text of the lists is that of a legal order: one list of items is legal for the run, has the steps of the history in
+-- their order, and has of each domain the calls of its list, with the answers that its lines print
+pub record AreOfALegalOrder {P : Type 0} (may : P → AllowRelation) (m : Monitor P) (h : StepHistory)
+    (lists : ℕ → Served P)
+    : Type 0 where
+  pub items : Items
+  pub seats : ℕ → SeatRun
+  pub legal : IsLegalOrder m.config (may m.rights) m.words.layout h seats items
+  pub each : (i : ℕ) → i < length m.config.domains.items → AreCallsOfList may (lists i) (seats i).calls
+
+-- If each domain's list was served and reads and copies no bytes, and words and views show a state in which each domain has the
+-- view with which its list ended or it left, the text of the lists is that of a legal order
+abbrev pub TextsAreOfALegalOrder : {P : Type 0} → (P → AllowRelation) → Monitor P → Type 0
+TextsAreOfALegalOrder {P} may m =
+    (lists : ℕ → Served P) (s : State (Unit {0}) View) (ends : ℕ → View)
+    → ((i : ℕ) → i < length m.config.domains.items → (l : HasList may m i (lists i))
+    × IsViewOf m.words m.config (may m.rights) l.served.left.domain (ends i) × (get_elem? s.views i ≡ some (ends i)))
+    → (shown : Shows m.words.layout s) → AreOfALegalOrder may m shown.history lists

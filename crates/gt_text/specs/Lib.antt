@@ -1,0 +1,5 @@
+pub mod Entries
+pub mod Laws
+pub mod Printing
+pub mod Streams
+pub mod Texts

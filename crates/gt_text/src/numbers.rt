@@ -1,0 +1,28 @@
+//! Numbers, and parts of a line that have one.
+ghost use Rattle.std.specs.Prelude.{◌≡◌, ◌++◌, OnOk, codes};
+ghost use Rattle.gt_text.specs.Texts.{StaysText};
+
+use crate::text::push_text;
+use itoa::{Buffer, Integer};
+use std::alloc::AllocError;
+
+/// Appends a number, in decimal digits.
+pub fn push_number<I: Integer>(out: &mut Vec<u8>, number: I) -> Result<(), AllocError>
+    ensures text { OnOk result (out.new.items ≡ out.old.items ++ I.text number) }
+    ensures stays { OnOk result (StaysText out.old.items out.new.items) }
+{
+    let mut buffer = Buffer::new();
+    push_text(out, buffer.format(number))
+}
+
+/// Appends ` NAME=NUMBER`. After an Err a part of it may be there.
+pub fn push_part<I: Integer>(out: &mut Vec<u8>, name: &str, number: I) -> Result<(), AllocError>
+    ensures text { OnOk result (out.new.items ≡ out.old.items
+        ++ codes " " ++ name.now ++ codes "=" ++ I.text number) }
+    ensures stays { OnOk result (StaysText out.old.items out.new.items) }
+{
+    push_text(out, " ")?;
+    push_text(out, name)?;
+    push_text(out, "=")?;
+    push_number(out, number)
+}

@@ -1,3 +1,0 @@
-pub mod Entries
-pub mod Printing
-pub mod Texts
