@@ -1,7 +1,7 @@
 use Rattle.gt_calls.proofs.{Words.◌≡◌, Words.true, Words.sym, Words.ap, Words.◌∙◌, Words.subst, Words.arith, Words.None}
 use Rattle.gt_calls.proofs.{Words.Spells, Words.is_invalid, Words.bytes_begun, Saying.spelled-is}
 use Rattle.gt_calls.proofs.{Saying.bytes-open, Saying.spelled-begun}
-use Rattle.gt_calls.proofs.judging.judge_bytes.Goals as goal
+use Rattle.gt_calls.proofs.asking.judge_bytes.Goals as goal
 
 pub returns-in-Ok : goal.returns-in-Ok
 returns-in-Ok c = let header = c.args.header in let own = c.args.own in let r = c.args.gref.0 in let bytes = c.args.bytes.now in

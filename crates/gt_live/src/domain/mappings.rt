@@ -1,0 +1,170 @@
+//! Map and unmap.
+use super::{Domain, known_with, outcome_reply, refusal_of};
+use crate::driving::{drive_map, pin_of};
+use crate::monitor::Monitor;
+use gt_audit::{Hypercall, Record};
+use gt_calls::{Handle, HeldPin, CallResult, judge_map, judge_unmap};
+use gt_types::{Allows, Denial, DomId, Facts, GrantRef, Rule};
+
+impl Domain {
+    ghost use Rattle.std.specs.Prelude.{◌≡◌, OnOk, OnErr, None, Some};
+    ghost use Rattle.gt_audit.specs.Telling.{Tells};
+    ghost use Rattle.gt_live.specs.Domains.{mapping_reply, subject_of, told_of, Answered, BelongsTo};
+    ghost use Rattle.gt_live.specs.Domains.{IsUnsettled, KeepsPinned, MapAnswered};
+    ghost use Rattle.gt_live.specs.Maps.{pin_effect, pin_verdict};
+    ghost use Rattle.gt_calls.specs.Path.{path};
+    ghost use Rattle.gt_calls.specs.declared.request.Request.{Request};
+    ghost use Rattle.gt_calls.specs.Rules.{map_begun, unmap_begun};
+    ghost use Rattle.gt_calls.specs.declared.request.OpenRequest.TheVariants as asks;
+    ghost use Rattle.gt_live.specs.Domains.{known_on, verdict_of};
+    ghost use Rattle.gt_live.specs.Mappings.{Removes};
+    ghost use Rattle.gt_calls.specs.declared.held.HeldPin.{HeldPin};
+
+    // Drives a map that no rule answered at its beginning to its end.
+    fn drive_map<P: Allows>(
+        &mut self,
+        monitor: &Monitor<P>,
+        dom: DomId,
+        gref: GrantRef,
+        flags: u32,
+    ) -> Result<HeldPin, Denial>
+        requires mine { BelongsTo P.may monitor.now self.old }
+        requires unanswered { map_begun (known_on P.may monitor.now self.old) self.old.seat.dom dom flags ≡ None }
+        ensures kept { IsUnsettled self.old self.new }
+        ensures called { Called monitor.now.words.layout
+            (path (known_on P.may monitor.now self.old) self.old.seat.dom (asks.Map dom gref flags))
+            (pin_verdict result) self.old.seat.view self.new.seat.view }
+        ensures leaves { Leaves (known_on P.may monitor.now self.old) monitor.now.words.layout
+            self.old.seat.dom (asks.Map dom gref flags) self.old.seat.view self.new.seat.view (pin_effect result) }
+    {
+        let known = known_with(monitor, &self.seat, &self.own, &self.mappings);
+        let caller = self.seat.dom();
+        drive_map(
+            &monitor.words,
+            &known,
+            &mut self.seat,
+            caller,
+            dom,
+            gref,
+            flags,
+        )
+    }
+
+    // Maps an entry, without a record.
+    fn make_mapping<P: Allows>(
+        &mut self,
+        monitor: &Monitor<P>,
+        dom: DomId,
+        gref: GrantRef,
+        flags: u32,
+    ) -> Result<Handle, Denial>
+        requires mine { BelongsTo P.may monitor.now self.old }
+        ensures mine { BelongsTo P.may monitor.now self.new }
+        ensures seat { IsSameSeat self.old.seat self.new.seat }
+        ensures answered { MapAnswered P.may monitor.now self.old (Request.Map dom gref flags) result self.new }
+        ensures silent { self.new.trail ≡ self.old.trail }
+        ensures untouched { self.new.visits ≡ self.old.visits }
+    {
+        if let Some(verdict) = self.judge_map(monitor, dom, flags) {
+            return Err(refusal_of(verdict));
+        }
+        if self.mappings.reserve().is_err() {
+            return Err(Denial::new(Rule::N26, Facts::None));
+        }
+        match self.drive_map(monitor, dom, gref, flags) {
+            Ok(held) => Ok(self.mappings.insert(held)),
+            Err(denial) => Err(denial),
+        }
+    }
+
+    /// Maps an entry of a domain, for reading and writing (flags 2) or for reading (flags 6): the bits host_map and
+    /// readonly of the public header. `DOMID_SELF` names the caller.
+    ///
+    /// # Errors
+    /// The first rule that stands: N1, N2, N5 or N8 at the beginning, N9 with the header's word, N10 to N13, N16, N17
+    /// or N18 with the entry's. N26 if none stands at the beginning, no room is left for a mapping and memory is
+    /// refused for more. Mappings and pins are as they were.
+    pub fn map<P: Allows>(
+        &mut self,
+        monitor: &Monitor<P>,
+        dom: DomId,
+        gref: GrantRef,
+        flags: u32,
+    ) -> Result<Handle, Denial>
+        requires mine { BelongsTo P.may monitor.now self.old }
+        ensures mine { BelongsTo P.may monitor.now self.new }
+        ensures seat { IsSameSeat self.old.seat self.new.seat }
+        ensures answered { MapAnswered P.may monitor.now self.old (Request.Map dom gref flags) result self.new }
+        ensures told { Tells self.old.trail
+            (record { dom = self.old.seat.dom; call = Hypercall.Map dom gref flags; reply = mapping_reply result })
+            self.new.trail }
+        ensures untouched { self.new.visits ≡ self.old.visits }
+    {
+        let result = self.make_mapping(monitor, dom, gref, flags);
+        let call = Hypercall::Map { dom, gref, flags };
+        let dom = self.seat.dom();
+        let reply = outcome_reply(&result);
+        self.trail.push(Record { dom, call, reply });
+        result
+    }
+
+    // The verdict at the beginning of a map, if one is given there.
+    fn judge_map<P: Allows>(&self, monitor: &Monitor<P>, dom: DomId, flags: u32) -> Option<CallResult>
+        requires mine { BelongsTo P.may monitor.now self.now }
+        ensures { result ≡ map_begun (known_on P.may monitor.now self.now) self.now.seat.dom dom flags }
+    {
+        let (caller, label) = (self.seat.dom(), self.label(monitor));
+        judge_map(&self.known(monitor), caller, label, dom, flags)
+    }
+
+    // The verdict at the beginning of an unmap, if one is given there.
+    fn judge_unmap<P: Allows>(&self, monitor: &Monitor<P>, handle: Handle) -> Option<CallResult>
+        requires mine { BelongsTo P.may monitor.now self.now }
+        ensures { result ≡ unmap_begun (known_on P.may monitor.now self.now) self.now.seat.dom handle }
+    {
+        judge_unmap(&self.known(monitor), self.label(monitor), handle)
+    }
+
+    // Gives a mapping up, without a record.
+    fn unmap_unrecorded<P: Allows>(&mut self, monitor: &Monitor<P>, handle: Handle) -> Result<(), Denial>
+        requires mine { BelongsTo P.may monitor.now self.old }
+        ensures mine { BelongsTo P.may monitor.now self.new }
+        ensures seat { IsSameSeat self.old.seat self.new.seat }
+        ensures answered { Answered P.may monitor.now self.old (Request.Unmap handle) (verdict_of result) self.new }
+        ensures removed { OnOk result ((p : HeldPin) × Removes self.old.mappings self.new.mappings handle p) }
+        ensures refused { OnErr result (KeepsPinned self.old self.new) }
+        ensures silent { self.new.trail ≡ self.old.trail }
+        ensures untouched { self.new.visits ≡ self.old.visits }
+    {
+        if let Some(verdict) = self.judge_unmap(monitor, handle) {
+            return Err(refusal_of(verdict));
+        }
+        let held = self.mappings.take(handle).unwrap();
+        monitor.words.unpin(&mut self.seat, pin_of(held));
+        Ok(())
+    }
+
+    /// Gives a mapping up, and its pin back.
+    ///
+    /// # Errors
+    /// N6 or N5, and mappings and pins are as they were.
+    pub fn unmap<P: Allows>(&mut self, monitor: &Monitor<P>, handle: Handle) -> Result<(), Denial>
+        requires mine { BelongsTo P.may monitor.now self.old }
+        ensures mine { BelongsTo P.may monitor.now self.new }
+        ensures seat { IsSameSeat self.old.seat self.new.seat }
+        ensures answered { Answered P.may monitor.now self.old (Request.Unmap handle) (verdict_of result) self.new }
+        ensures removed { OnOk result ((p : HeldPin) × Removes self.old.mappings self.new.mappings handle p) }
+        ensures refused { OnErr result (KeepsPinned self.old self.new) }
+        ensures told { Tells self.old.trail
+            (told_of self.old (Hypercall.Unmap (subject_of self.old handle)) (verdict_of result)) self.new.trail }
+        ensures untouched { self.new.visits ≡ self.old.visits }
+    {
+        let subject = self.subject(handle);
+        let result = self.unmap_unrecorded(monitor, handle);
+        let call = Hypercall::Unmap { subject };
+        let dom = self.seat.dom();
+        let reply = outcome_reply(&result);
+        self.trail.push(Record { dom, call, reply });
+        result
+    }
+}
