@@ -2,7 +2,7 @@
 use Rattle.std.specs.Prelude.{ℕ, Some, None}
 use Rattle.gt_audit.specs.declared.record.Hypercall.{Hypercall}
 use Rattle.gt_audit.specs.declared.record.Hypercall.TheVariants as calls
-use Rattle.gt_audit.specs.declared.record.Record.{EncodedRecord as Kept}
+use Rattle.gt_audit.specs.declared.record.Record.{Record as Kept}
 use Rattle.gt_audit.specs.declared.record.Reply.{Reply}
 use Rattle.gt_audit.specs.declared.record.Reply.TheVariants as replies
 use Rattle.gt_types.specs.declared.copies.End.{End}

@@ -1,6 +1,7 @@
 //! The record of a call, in a layout that C reads.
 ghost use Rattle.std.specs.Prelude.{◌≡◌};
-ghost use Rattle.gt_attached.specs.Recording.{end_recorded, record_kept, outcome_of_reply};
+ghost use Rattle.gt_audit.specs.declared.record.Hypercall.TheVariants.{Copy};
+ghost use Rattle.gt_attached.specs.Recording.{end_recorded, outcome_of_reply, plainly, with_call};
 
 use crate::answer::{EncodedAnswer, AttachedOutcome};
 use gt_audit::{Hypercall, Reply};
@@ -67,6 +68,37 @@ fn end_recorded(end: End) -> CopyEnd
     }
 }
 
+// A record with its caller and its reply alone.
+fn without_call(told: &gt_audit::Record) -> EncodedRecord
+    ensures { result ≡ plainly told.now }
+{
+    EncodedRecord {
+        call: 0,
+        caller: u32::from(told.dom.0),
+        dom: 0,
+        gref: 0,
+        flags: 0,
+        len: 0,
+        source: NO_END,
+        dest: NO_END,
+        reply: EncodedAnswer::of(replied(told.reply)),
+    }
+}
+
+// The record with a copy as its call.
+fn with_copy(source: End, dest: End, len: u16, flags: u16, bare: EncodedRecord) -> EncodedRecord
+    ensures { result ≡ with_call (Copy source dest len flags) bare }
+{
+    EncodedRecord {
+        call: 4,
+        flags: u32::from(flags),
+        len: u32::from(len),
+        source: end_recorded(source),
+        dest: end_recorded(dest),
+        ..bare
+    }
+}
+
 impl EncodedRecord {
     ghost use Rattle.std.specs.Prelude.{◌≡◌};
     ghost use Rattle.gt_attached.specs.Recording.{record_kept};
@@ -75,17 +107,7 @@ impl EncodedRecord {
     pub fn of(told: gt_audit::Record) -> EncodedRecord
         ensures { result ≡ record_kept told }
     {
-        let bare = EncodedRecord {
-            call: 0,
-            caller: u32::from(told.dom.0),
-            dom: 0,
-            gref: 0,
-            flags: 0,
-            len: 0,
-            source: NO_END,
-            dest: NO_END,
-            reply: EncodedAnswer::of(replied(told.reply)),
-        };
+        let bare = without_call(&told);
         match told.call {
             Hypercall::Map { dom, gref, flags } => EncodedRecord {
                 call: 1,
@@ -108,14 +130,7 @@ impl EncodedRecord {
                 dest,
                 len,
                 flags,
-            } => EncodedRecord {
-                call: 4,
-                flags: u32::from(flags),
-                len: u32::from(len),
-                source: end_recorded(source),
-                dest: end_recorded(dest),
-                ..bare
-            },
+            } => with_copy(source, dest, len, flags, bare),
             Hypercall::QuerySize { dom } => EncodedRecord {
                 call: 5,
                 dom: u32::from(dom.0),

@@ -2,6 +2,7 @@
 ghost use Rattle.std.specs.Prelude.{◌≡◌};
 ghost use Rattle.gt_audit.specs.Compact.{FitsCall, FitsReply, HasCall, HasReply};
 ghost use Rattle.gt_audit.specs.Compact.{called, facts_of, field_at, replied};
+ghost use Rattle.gt_audit.specs.declared.record.Hypercall.TheVariants.{Copy};
 ghost use Rattle.gt_audit.specs.declared.record.Reply.TheVariants.{Denied};
 
 use crate::record::{Hypercall, Record, Reply};
@@ -119,11 +120,35 @@ fn number_of(field: Field) -> u64
     }
 }
 
+// The parts with this copy.
+#[inline(always)]
+fn with_copy(source: End, dest: End, len: u16, flags: u16, rest: Packed) -> Packed
+    ensures { HasCall (Copy source dest len flags) rest result }
+{
+    Packed {
+        asked: CallKind::Copy,
+        dom: source.domid.0,
+        source: source.ptr,
+        source_off: source.offset,
+        dest_dom: dest.domid.0,
+        dest: dest.ptr,
+        dest_off: dest.offset,
+        len,
+        flags,
+        ..rest
+    }
+}
+
 // The parts with this call.
 #[inline(always)]
 fn with_call(call: Hypercall, rest: Packed) -> Packed
     ensures { HasCall call rest result }
 {
+    let bare = Packed {
+        source: 0,
+        dest: 0,
+        ..rest
+    };
     match call {
         Hypercall::Map { dom, gref, flags } => Packed {
             asked: CallKind::Map,
@@ -134,9 +159,7 @@ fn with_call(call: Hypercall, rest: Packed) -> Packed
         },
         Hypercall::Unmap { subject: None } => Packed {
             asked: CallKind::UnmapOfNothing,
-            source: 0,
-            dest: 0,
-            ..rest
+            ..bare
         },
         Hypercall::Unmap {
             subject: Some((dom, gref)),
@@ -144,51 +167,33 @@ fn with_call(call: Hypercall, rest: Packed) -> Packed
             asked: CallKind::Unmap,
             dom: dom.0,
             source: u64::from(gref.0),
-            dest: 0,
-            ..rest
+            ..bare
         },
         Hypercall::Copy {
             source,
             dest,
             len,
             flags,
-        } => Packed {
-            asked: CallKind::Copy,
-            dom: source.domid.0,
-            source: source.ptr,
-            source_off: source.offset,
-            dest_dom: dest.domid.0,
-            dest: dest.ptr,
-            dest_off: dest.offset,
-            len,
-            flags,
-            ..rest
-        },
+        } => with_copy(source, dest, len, flags, rest),
         Hypercall::QuerySize { dom } => Packed {
             asked: CallKind::QuerySize,
             dom: dom.0,
-            source: 0,
-            dest: 0,
-            ..rest
+            ..bare
         },
         Hypercall::GetVersion { dom } => Packed {
             asked: CallKind::GetVersion,
             dom: dom.0,
-            source: 0,
-            dest: 0,
-            ..rest
+            ..bare
         },
         Hypercall::SetVersion { version } => Packed {
             asked: CallKind::SetVersion,
             source: u64::from(version),
-            dest: 0,
-            ..rest
+            ..bare
         },
         Hypercall::SetupTable { frames } => Packed {
             asked: CallKind::SetupTable,
             source: u64::from(frames),
-            dest: 0,
-            ..rest
+            ..bare
         },
     }
 }

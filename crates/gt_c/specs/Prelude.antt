@@ -6,7 +6,7 @@ pub use Rattle.gt_start.specs.declared.faults.EncodedFault.{EncodedFault}
 pub use Rattle.gt_start.specs.declared.settings.DomainSettings.{DomainSettings}
 pub use Rattle.gt_audit.specs.Telling.{HasNone, Tells}
 pub use Rattle.gt_audit.specs.declared.record.Hypercall.{Hypercall}
-pub use Rattle.gt_audit.specs.declared.record.Record.{EncodedRecord as Kept}
+pub use Rattle.gt_audit.specs.declared.record.Record.{Record as Kept}
 pub use Rattle.gt_c.specs.declared.copies.CopySettings.{CopySettings}
 pub use Rattle.gt_c.specs.declared.copies.PlaceReport.{PlaceReport}
 pub use Rattle.gt_c.specs.declared.copies.PlacesReport.{PlacesReport}
@@ -24,7 +24,7 @@ pub use Rattle.gt_entry.specs.Entries.{frame_of}
 pub use Rattle.gt_entry.specs.declared.control.Control.{Control}
 pub use Rattle.gt_entry.specs.declared.control.EntryKind.{EntryKind}
 pub use Rattle.gt_handles.specs.Handles.{value_of}
-pub use Rattle.gt_handles.specs.declared.handles.Handle.{DomainHandle as Name}
+pub use Rattle.gt_handles.specs.declared.handles.Handle.{Handle as Name}
 pub use Rattle.gt_live.specs.Closing.{LooksAtOwn, Resets}
 pub use Rattle.gt_live.specs.Domains.{Answered, AnswersQuietly, AnswersTold, KeepsPinned, MapAnswered}
 pub use Rattle.gt_live.specs.Domains.{mapping_reply, subject_of, told_of}

@@ -20,6 +20,7 @@ mod moves;
 mod names;
 mod phases;
 mod same;
+mod same_steps;
 mod scene;
 mod searching;
 mod space;

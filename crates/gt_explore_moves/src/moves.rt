@@ -1,15 +1,16 @@
 //! The moves of the domains.
-ghost use Rattle.std.specs.Prelude.{◌≡◌, ◌++◌, false, get_or, IfOk, List, OnOk};
+ghost use Rattle.std.specs.Prelude.{◌≡◌, false, get_or, IfOk, List};
 ghost use Rattle.std.specs.Option.{option_map};
 ghost use Rattle.gt_calls.specs.Asking.{FitsAsked, asked};
 ghost use Rattle.gt_calls.specs.declared.request.Request.{Request};
 ghost use Rattle.gt_core.specs.Acting.{answer_of};
 ghost use Rattle.gt_entry.specs.Entries.{IsEntry};
 ghost use Rattle.gt_host.specs.Runs.{Named, SaysRequest};
-ghost use Rattle.gt_explore_moves.specs.Ends.{choices, disturbs_none};
 ghost use Rattle.gt_explore_moves.specs.Mappings.{label_bytes};
 ghost use Rattle.gt_explore_moves.specs.Ticking.{bytes_by, label_given_by};
 ghost use Rattle.gt_types.specs.declared.DomId.{DomId};
+
+mod turns;
 
 use crate::actor::{Actor, ActorCall};
 use crate::calls::{CallOpening, go_on, open_call};
@@ -66,16 +67,6 @@ fn label_of<'a>(task: &RunTask<'a>) -> Option<&'a [u8]>
     }
 }
 
-// So many moves of a domain, each with its own choice.
-fn push_choices(turns: &mut Vec<Turn>, place: usize, count: usize) -> Result<(), AllocError>
-    ensures { OnOk result (turns.new.items ≡ turns.old.items ++ choices place count) }
-{
-    for choice in 0..count {
-        turns.push(Turn { place, choice })?;
-    }
-    Ok(())
-}
-
 // Whether a flag was raised.
 fn is_told(told: &[bool], flag: usize) -> bool
     ensures { result ≡ get_or told.now flag false }
@@ -83,19 +74,9 @@ fn is_told(told: &[bool], flag: usize) -> bool
     flag < told.len() && told[flag]
 }
 
-// Whether a task disturbs no other domain when it is next: it begins a call, raises a flag, or awaits a raised one.
-fn disturbs_none(told: &[bool], task: &RunTask) -> bool
-    ensures { result ≡ disturbs_none told.now task.now.deed }
-{
-    match &task.deed {
-        RunAction::Await(flag) => is_told(told, *flag),
-        _ => true,
-    }
-}
-
 impl<'s, 'a> SearchContext<'s, 'a> {
     ghost use Rattle.std.specs.Prelude.{◌≡◌, ◌<◌, ◌^◌, ℕ, List, ◌∷◌, Option, Some, None, true, length, slice_get};
-    ghost use Rattle.std.specs.Prelude.{slice_set, IfOk, IsTrue};
+    ghost use Rattle.std.specs.Prelude.{slice_set, IfOk};
     ghost use Rattle.gt_core.specs.GoingOn.{beginning};
     ghost use Rattle.gt_core.specs.Legal.{BeginsRight};
     ghost use Rattle.gt_core.specs.declared.trace.Answer.{Answer};
@@ -120,9 +101,7 @@ impl<'s, 'a> SearchContext<'s, 'a> {
     ghost use Rattle.gt_host.specs.Rights.{may_by};
     ghost use Rattle.gt_explore_moves.specs.Beginnings.{BeginsAlike, OpensSo};
     ghost use Rattle.gt_explore_moves.specs.Calls.{GoesAlong, KnowsTable, SerialsRise, ShowsCalls, handles_at, known_in, no_mappings};
-    ghost use Rattle.std.specs.Prelude.{IfSome};
-    ghost use Rattle.gt_explore_moves.specs.Ends.{AreDone, AreToBeTried, choices_at, goes_at_once, is_done, is_ended, tasks_at};
-    ghost use Rattle.gt_explore_moves.specs.Ends.{turns_from};
+    ghost use Rattle.gt_explore_moves.specs.Ends.{tasks_at};
     ghost use Rattle.gt_core.specs.Legal.{IsItemOf, IsRight};
     ghost use Rattle.gt_core.specs.declared.trace.Event.TheVariants.{Tick};
     ghost use Rattle.gt_core.specs.declared.trace.Item.{Item};
@@ -513,94 +492,5 @@ impl<'s, 'a> SearchContext<'s, 'a> {
             RunAction::Tell(flag) => Ok(self.raise(world, at, *flag)),
             RunAction::Await(flag) => Ok(self.go_past(world, at, *flag)),
         }
-    }
-
-    // Whether the domain at this place has no call open, and has begun all tasks of its list.
-    fn is_ended(&self, place: usize, actor: &Actor<'a>) -> bool
-        ensures { result ≡ is_ended self.now place actor.now }
-    {
-        actor.open.is_none() && self.task(place, actor.next).is_none()
-    }
-
-    // Whether it has no mapping either.
-    fn is_done(&self, place: usize, actor: &Actor<'a>) -> bool
-        ensures { result ≡ is_done self.now place actor.now }
-    {
-        self.is_ended(place, actor) && actor.mappings.is_empty()
-    }
-
-    // How many moves it has: at the end of its list it can give back each of its mappings.
-    fn choices(&self, place: usize, actor: &Actor<'a>) -> usize
-        ensures { result ≡ choices_at self.now place actor.now }
-    {
-        if self.is_ended(place, actor) {
-            actor.mappings.len()
-        } else {
-            1
-        }
-    }
-
-    // The moves of all domains.
-    fn all_turns(&self, world: &SearchState<'a>) -> Result<Vec<Turn>, AllocError>
-        ensures { IfOk result (λ turns. turns.items ≡ turns_from self.now 0 world.now.actors.items) }
-    {
-        let mut turns = Vec::new(self.alloc);
-        for (place, actor) in world.actors.as_slice().iter().enumerate() {
-            push_choices(&mut turns, place, self.choices(place, actor))?;
-        }
-        Ok(turns)
-    }
-
-    // Whether the domain at this place has no open call, and its next line disturbs no other domain.
-    fn goes_at_once(&self, told: &[bool], place: usize, actor: &Actor<'a>) -> bool
-        ensures { result ≡ goes_at_once self.now told.now place actor.now }
-    {
-        if actor.open.is_some() {
-            return false;
-        }
-        match self.task(place, actor.next) {
-            Some(task) => disturbs_none(told, task),
-            None => false,
-        }
-    }
-
-    // The place of the first such domain.
-    fn at_once(&self, world: &SearchState<'a>) -> Option<usize>
-        ensures { IfSome result (λ place. (a : Actor) × (slice_get world.now.actors.items place ≡ Some a)
-            × (goes_at_once self.now world.now.told.items place a ≡ true)) }
-    {
-        for (place, actor) in world.actors.as_slice().iter().enumerate() {
-            if self.goes_at_once(world.told.as_slice(), place, actor) {
-                return Some(place);
-            }
-        }
-        None
-    }
-
-    /// The moves to try: that of a domain which disturbs no other, if there is one, or else all.
-    pub fn turns(&self, world: &SearchState<'a>) -> Result<Vec<Turn>, AllocError>
-        ensures { IfOk result (λ turns. AreToBeTried self.now world.now turns.items) }
-    {
-        match self.at_once(world) {
-            Some(place) => {
-                let mut turns = Vec::new(self.alloc);
-                turns.push(Turn { place, choice: 0 })?;
-                Ok(turns)
-            }
-            None => self.all_turns(world),
-        }
-    }
-
-    /// Whether all domains are at the ends of their lists, with no call open and no mapping.
-    pub fn is_finished(&self, world: &SearchState<'a>) -> bool
-        ensures finished { IsTrue result → AreDone self.now world.now.actors.items }
-        ensures end { AreDone self.now world.now.actors.items → IsTrue result }
-    {
-        for (place, actor) in world.actors.as_slice().iter().enumerate() {
-            if !self.is_done(place, actor) {
-                return false;
-            }
-        }
-        true
     }
 }

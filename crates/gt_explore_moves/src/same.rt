@@ -5,10 +5,9 @@ ghost use Rattle.gt_explore_moves.specs.Mappings.{labels_of, mapping_pins, label
 
 use crate::actor::{Actor, LabelledMapping, ActorCall};
 use crate::scene::SearchState;
-use gt_calls::{
-    PinPurpose, OpenRequest, Call, HeldPin, Leg, LegPhase, Phase, CallPins, HeaderQuery, AccessPath, Step, CallValue, CallResult,
-};
+use gt_calls::{PinPurpose, OpenRequest, Call, HeldPin, Leg, LegPhase, Phase, CallPins, HeaderQuery, AccessPath, CallValue, CallResult};
 use gt_types::{Denial, Facts};
+use crate::same_steps::{same_step};
 
 fn same_asked(one: OpenRequest, other: OpenRequest) -> bool
     ensures { IsTrue result → other ≡ one }
@@ -80,7 +79,7 @@ fn same_question(one: HeaderQuery, other: HeaderQuery) -> bool
     }
 }
 
-fn same_held(one: HeldPin, other: HeldPin) -> bool
+pub(crate) fn same_held(one: HeldPin, other: HeldPin) -> bool
     ensures { IsTrue result → other ≡ one }
 {
     one == other
@@ -114,118 +113,6 @@ fn same_verdict(one: CallResult, other: CallResult) -> bool
         (CallResult::Refused(denial), CallResult::Refused(d)) => same_denial(denial, d),
         _ => false,
     }
-}
-
-// Of steps that look at a word. Others are not the same by this test.
-fn same_look(one: Step, other: Step) -> bool
-    ensures { IsTrue result → other ≡ one }
-{
-    match (one, other) {
-        (Step::LookHeader { dom }, Step::LookHeader { dom: d }) => dom == d,
-        (Step::LookControl { dom, gref }, Step::LookControl { dom: d, gref: g }) => {
-            dom == d && gref == g
-        }
-        (
-            Step::LookBody { dom, gref, half },
-            Step::LookBody {
-                dom: d,
-                gref: g,
-                half: h,
-            },
-        ) => dom == d && gref == g && half == h,
-        _ => false,
-    }
-}
-
-// Of steps that change a word.
-fn same_change(one: Step, other: Step) -> bool
-    ensures { IsTrue result → other ≡ one }
-{
-    match (one, other) {
-        (Step::Pin { held }, Step::Pin { held: h }) => same_held(held, h),
-        (Step::Unpin { held, holder }, Step::Unpin { held: h, holder: o }) => {
-            same_held(held, h) && holder == o
-        }
-        (
-            Step::StoreBody { gref, half, word },
-            Step::StoreBody {
-                gref: g,
-                half: h,
-                word: w,
-            },
-        ) => gref == g && half == h && word == w,
-        (
-            Step::Exchange {
-                gref,
-                looked,
-                change,
-            },
-            Step::Exchange {
-                gref: g,
-                looked: l,
-                change: c,
-            },
-        ) => gref == g && looked == l && change == c,
-        (
-            Step::StoreHeader { version, frames },
-            Step::StoreHeader {
-                version: v,
-                frames: f,
-            },
-        ) => version == v && frames == f,
-        _ => false,
-    }
-}
-
-// Of steps on bytes.
-fn same_access(one: Step, other: Step) -> bool
-    ensures { IsTrue result → other ≡ one }
-{
-    match (one, other) {
-        (
-            Step::Read {
-                dom,
-                frame,
-                off,
-                len,
-            },
-            Step::Read {
-                dom: d,
-                frame: f,
-                off: o,
-                len: l,
-            },
-        ) => dom == d && frame == f && off == o && len == l,
-        (
-            Step::Write {
-                dom,
-                frame,
-                off,
-                len,
-            },
-            Step::Write {
-                dom: d,
-                frame: f,
-                off: o,
-                len: l,
-            },
-        ) => dom == d && frame == f && off == o && len == l,
-        (
-            Step::Copy { from, to, len },
-            Step::Copy {
-                from: f,
-                to: t,
-                len: l,
-            },
-        ) => from == f && to == t && len == l,
-        _ => false,
-    }
-}
-
-fn same_step(one: Step, other: Step) -> bool
-    ensures { IsTrue result → other ≡ one }
-{
-    same_look(one, other) || same_change(one, other) || same_access(one, other)
 }
 
 fn same_via(one: Option<HeldPin>, other: Option<HeldPin>) -> bool

@@ -26,7 +26,7 @@ use Rattle.gt_json.specs.AsJson.{Promise}
 use Rattle.gt_program.specs.Formats.{CheckedAs, RanAs}
 use Rattle.gt_run.specs.declared.fault.RunFault.{RunFault}
 use Rattle.gt_program.specs.Obeying.{IsSearched, Searches, Seeks}
-use Rattle.gt_explore.specs.declared.exploring.ExploreOptions.{DumpOptions as Searched}
+use Rattle.gt_explore.specs.declared.exploring.ExploreOptions.{ExploreOptions as Searched}
 use Rattle.gt_program.specs.Obeying.{AnswersQuestion, Checks, Does, Doing, Ending, Explains, FitsKind, IsAsked}
 use Rattle.gt_program.specs.Obeying.{IsQuestion}
 use Rattle.gt_program.specs.Obeying.{Lists, Obeys, Performs, Plays, RunsDomains, AnswersDump, AnswersEntries, Works}

@@ -12,7 +12,7 @@ pub use Rattle.gt_entries.specs.Faults.{dump_fault_text}
 pub use Rattle.gt_entries.specs.declared.asked.DumpOptions.{DumpOptions}
 pub use Rattle.gt_explore.specs.Exploring.{Explored, word_asked}
 pub use Rattle.gt_explore.specs.Faults.{explore_fault_text}
-pub use Rattle.gt_explore.specs.declared.exploring.ExploreOptions.{DumpOptions as Searched}
+pub use Rattle.gt_explore.specs.declared.exploring.ExploreOptions.{ExploreOptions as Searched}
 pub use Rattle.gt_host.specs.Faults.{play_fault_text}
 pub use Rattle.gt_policy_list.specs.Faults.{listing_fault_text}
 pub use Rattle.gt_program.specs.declared.failure.Failure.{Failure}

@@ -14,7 +14,7 @@ use gt_checks::why;
 use gt_audit::SharedLog;
 use gt_commands::Format;
 use gt_entries::DumpOptions;
-use gt_explore::{DumpOptions as Searched, explore};
+use gt_explore::{ExploreOptions as Searched, explore};
 use gt_run::FlagGate;
 use std::alloc::Global;
 use std::io::{Read, Write};

@@ -1,26 +1,16 @@
 //! A script: what its lines say, in order.
-ghost use Rattle.std.specs.Prelude.{◌≡◌, ◌≤◌, ◌<◌, ◌+◌, ◌^◌, ◌⊎◌, ℕ, List, length, take, drop, map, IfOk, IfErr};
-ghost use Rattle.std.specs.Str.{IsUtf8};
-ghost use Rattle.std.specs.Str.Lines.{lines as lines_in};
+ghost use Rattle.std.specs.Prelude.{◌≡◌, ◌≤◌, ◌<◌, ◌+◌, ◌^◌, length, map, IfOk};
 ghost use Rattle.gt_types.specs.Config.{is_taken};
-ghost use Rattle.gt_script.specs.Blocks.{opening as opening_in, closing as closing_in};
-ghost use Rattle.gt_script.specs.Script.{domain_written, configured, play_action_in, run_action_in, LinesSay};
-ghost use Rattle.gt_script.specs.Script.{BlockSays, TextSays, TellsFor, TellsScript};
+ghost use Rattle.gt_script.specs.Script.{domain_written, configured, play_action_in, run_action_in};
 ghost use Rattle.gt_script.specs.Contents.{contents_told};
-ghost use Rattle.gt_script.specs.Outcomes.{AnswersScript};
-ghost use Rattle.gt_script.specs.Laws.{IsScriptFor, IsScriptOf, StandsFor, ErrorStands, IsUnread};
 
-use crate::blocks::{closing, opening, read_policy};
 use crate::command::ScriptCommand;
 use crate::faults::{ScriptError, ScriptFault, ScriptFaultKind};
 use crate::tasks::{RunActionBy, NamedRunTask};
 use crate::types::TypeNames;
-use gt_script_lines::{
-    BodyLine, DomainLine, ScriptLine, Number, ScriptAction, FlagLine, Text, TripleLine, line_words,
-    read_line, text_lines,
-};
+use gt_script_lines::{BodyLine, DomainLine, ScriptLine, Number, ScriptAction, FlagLine, Text, TripleLine, line_words, read_line};
 use gt_policy::Policy;
-use gt_types::{DomId, DomainConfig, LONGEST_TEXT, Triple, TypeId};
+use gt_types::{DomId, DomainConfig, Triple, TypeId};
 use std::alloc::{AllocError, Global};
 use std::marker::Model;
 use std::mem;
@@ -190,7 +180,7 @@ impl<'a> Script<'a> {
     ghost use Rattle.gt_script.specs.Script.{has_no_rights, has_body, is_misplaced};
     ghost use Rattle.gt_script.specs.Outcomes.{AddsLine, SaysScript};
 
-    fn new(alloc: Global, command: ScriptCommand) -> Script<'a>
+    pub(crate) fn new(alloc: Global, command: ScriptCommand) -> Script<'a>
         ensures { contents_told result ≡ empty command }
     {
         Script {
@@ -206,7 +196,7 @@ impl<'a> Script<'a> {
     }
 
     // A script with this policy, and nothing more so far.
-    fn with_policy(alloc: Global, command: ScriptCommand, policy: Policy) -> Script<'a>
+    pub(crate) fn with_policy(alloc: Global, command: ScriptCommand, policy: Policy) -> Script<'a>
         ensures { contents_told result ≡ with_policy command (allowed_of policy) }
     {
         let mut script = Script::new(alloc, command);
@@ -427,7 +417,7 @@ impl<'a> Script<'a> {
         }
     }
 
-    fn with_text_line(
+    pub(crate) fn with_text_line(
         self,
         alloc: Global,
         number: usize,
@@ -440,7 +430,7 @@ impl<'a> Script<'a> {
     }
 
     // This script with more lines, which come after so many others.
-    fn with_lines(
+    pub(crate) fn with_lines(
         self,
         alloc: Global,
         before: usize,
@@ -463,7 +453,7 @@ impl<'a> Script<'a> {
 
     // What a script lacks at its end: a policy or a triple, or otherwise a domain.
     #[tactic(auto, unfolding(crate::specs::Script::completed))]
-    fn completed(self, count: usize) -> Result<Script<'a>, ScriptError>
+    pub(crate) fn completed(self, count: usize) -> Result<Script<'a>, ScriptError>
         requires { count < 2 ^ 64 - 1 }
         ensures { SaysScript result (completed count (contents_told self.entry)) }
     {
@@ -479,7 +469,7 @@ impl<'a> Script<'a> {
     }
 
     // This script with the lines after so many others, up to the end of a script of `count` lines.
-    fn with_rest(
+    pub(crate) fn with_rest(
         self,
         alloc: Global,
         before: usize,
@@ -492,113 +482,4 @@ impl<'a> Script<'a> {
     {
         self.with_lines(alloc, before, lines)?.completed(count)
     }
-}
-
-// The script of `count` lines that has a policy block, from the lines after the line `policy` with the
-// number `first`.
-fn of_block<'a>(
-    alloc: Global,
-    command: ScriptCommand,
-    count: usize,
-    first: usize,
-    lines: &[&'a str],
-) -> Result<Script<'a>, ScriptError>
-    requires whole { first + length lines.now ≡ count }
-    requires fits { count < 2 ^ 63 }
-    ensures { let said = map (λ line. line.now) lines.now in
-        AnswersScript result (BlockSays command count first said (closing_in said)) }
-{
-    let Some(end) = closing(alloc, lines)? else {
-        return Err(ScriptError::Fault(ScriptFault {
-            line: count + 1,
-            kind: ScriptFaultKind::Syntax,
-        }));
-    };
-    match read_policy(alloc, first, &lines[..end]) {
-        Ok(policy) => {
-            let script = Script::with_policy(alloc, command, policy);
-            script.with_rest(alloc, first + end + 1, count, &lines[end + 1..])
-        }
-        Err(error) => Err(error),
-    }
-}
-
-// The script that the lines say.
-fn of_lines<'a>(
-    alloc: Global,
-    command: ScriptCommand,
-    lines: &[&'a str],
-) -> Result<Script<'a>, ScriptError>
-    ensures { let said = map (λ line. line.now) lines.now in
-        AnswersScript result (LinesSay command said (opening_in said)) }
-{
-    match opening(alloc, lines)? {
-        Some(place) => of_block(alloc, command, lines.len(), place + 1, &lines[place + 1..]),
-        None => Script::new(alloc, command).with_rest(alloc, 0, lines.len(), lines),
-    }
-}
-
-fn of_text<'a>(alloc: Global, command: ScriptCommand, text: &'a str) -> Result<Script<'a>, ScriptError>
-    ensures { AnswersScript result (TextSays command text.entry.now) }
-{
-    let lines = text_lines(alloc, text)?;
-    of_lines(alloc, command, lines.as_slice())
-}
-
-// The bytes as text, if they are not too many.
-fn script_text<'a>(bytes: &'a [u8]) -> Result<&'a str, ScriptFault>
-    ensures text { IfOk result (λ text. text.now ≡ bytes.entry.now) }
-    ensures few { IfOk result (λ _. length bytes.entry.now ≤ LONGEST_TEXT) }
-    ensures utf8 { IfOk result (λ _. IsUtf8 bytes.entry.now) }
-    ensures fault { IfErr result (λ fault. IsUnread bytes.entry.now fault) }
-{
-    if bytes.len() > LONGEST_TEXT {
-        return Err(ScriptFault {
-            line: 1,
-            kind: ScriptFaultKind::Limit,
-        });
-    }
-    match gt_text::text_of(bytes) {
-        Ok(text) => Ok(text),
-        Err(line) => Err(ScriptFault {
-            line,
-            kind: ScriptFaultKind::Utf8,
-        }),
-    }
-}
-
-/// The script that the bytes say for this command, or their first fault. A list that waits for ever is not looked for
-/// here.
-pub fn parse_for<'a>(
-    alloc: Global,
-    command: ScriptCommand,
-    bytes: &'a [u8],
-) -> Result<Script<'a>, ScriptError>
-    ensures script { AnswersScript result (TellsFor command bytes.entry.now) }
-    ensures holds { IfOk result (λ s. IsScriptFor command (lines_in bytes.entry.now) (contents_told s)) }
-    ensures fault { IfErr result (λ e. StandsFor command bytes.entry.now e) }
-
-    // The bytes up to one past the limit decide what all of them say.
-    ensures beginning { (all : List ℕ) → bytes.entry.now ≡ take (LONGEST_TEXT + 1) all →
-        AnswersScript result (TellsFor command all) }
-{
-    match script_text(bytes) {
-        Ok(text) => of_text(alloc, command, text),
-        Err(fault) => Err(ScriptError::Fault(fault)),
-    }
-}
-
-/// The script for `play` that the bytes say, or their first fault: too many bytes, then no UTF-8, then the first line
-/// that is wrong, then what the whole lacks. A policy block is judged as a whole at its end. A line for only `run` is
-/// a fault.
-pub fn parse<'a>(alloc: Global, bytes: &'a [u8]) -> Result<Script<'a>, ScriptError>
-    ensures script { AnswersScript result (TellsScript bytes.entry.now) }
-    ensures holds { IfOk result (λ s. IsScriptOf (lines_in bytes.entry.now) (contents_told s)) }
-    ensures fault { IfErr result (λ e. ErrorStands bytes.entry.now e) }
-
-    // The bytes up to one past the limit decide what all of them say.
-    ensures beginning { (all : List ℕ) → bytes.entry.now ≡ take (LONGEST_TEXT + 1) all →
-        AnswersScript result (TellsScript all) }
-{
-    parse_for(alloc, ScriptCommand::Play, bytes)
 }

@@ -2,7 +2,7 @@ use Rattle.std.proofs.Common.{◌≡◌, ◌++◌, ℕ, sym, ap, ◌∙◌, arit
 use Rattle.std.proofs.lemmas.List.{append-nil}
 use Rattle.gt_explore_moves.specs.Ends.{choices}
 use Rattle.gt_explore_moves.proofs.MovesListed.{choices-step}
-use Rattle.gt_explore_moves.proofs.moves.push_choices.Goals as goal
+use Rattle.gt_explore_moves.proofs.moves.turns.push_choices.Goals as goal
 
 pub loop-choice-init : goal.loop-choice-init
 loop-choice-init c = sym (append-nil c.args.turns.now.items)

@@ -1,7 +1,7 @@
 use Rattle.std.proofs.Common.{sym, ◌∙◌}
 use Rattle.gt_script.specs.Contents.{contents_told}
 use Rattle.gt_script.proofs.FaultLemmas.{lines_block, lines_none}
-use Rattle.gt_script.proofs.script.of_lines.Goals as goal
+use Rattle.gt_script.proofs.parsing.of_lines.Goals as goal
 
 pub returns-in-Some : goal.returns-in-Some
 returns-in-Some c = lines_block c.args.command c.args.lines.now c.in-Some.place c.of_block.result (sym c.in-Some.is ∙ c.in_ok-place.ensures.opens) c.of_block.ensures

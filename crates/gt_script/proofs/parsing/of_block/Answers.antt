@@ -3,7 +3,7 @@ use Rattle.gt_policy.specs.Allowing.{allowed_of}
 use Rattle.gt_script.specs.Contents.{contents_told}
 use Rattle.gt_script.proofs.FaultLemmas.{block_open, block_rest, block_faulty}
 use Rattle.gt_script.proofs.ScriptLemmas.{texts}
-use Rattle.gt_script.proofs.script.of_block.Goals as goal
+use Rattle.gt_script.proofs.parsing.of_block.Goals as goal
 
 pub returns-in_default : goal.returns-in_default
 returns-in_default c = block_open c.args.command c.args.count c.args.first (texts c.args.lines.now) c.in_ok-end.field-0 c.in_ok-end.ensures.closes c.in_default.is

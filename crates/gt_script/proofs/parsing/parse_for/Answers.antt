@@ -1,7 +1,7 @@
 use Rattle.std.proofs.Common.{Err}
 use Rattle.gt_script.specs.declared.faults.ScriptError.TheVariants as errors
 use Rattle.gt_script.proofs.FaultLemmas.{answers-script, answers-fault, answers-all, answers-unread, answers-text}
-use Rattle.gt_script.proofs.script.parse_for.Goals as goal
+use Rattle.gt_script.proofs.parsing.parse_for.Goals as goal
 
 pub returns-in-Ok-clause-script : goal.returns-in-Ok-clause-script
 returns-in-Ok-clause-script c = answers-text c.args.command c.args.bytes.now _ c.of_text.result c.in-Ok.ensures.text c.in-Ok.ensures.few c.in-Ok.ensures.utf8 c.of_text.ensures

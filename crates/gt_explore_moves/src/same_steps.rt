@@ -1,0 +1,117 @@
+//! Whether two steps are the same.
+ghost use Rattle.std.specs.Prelude.{◌≡◌, IsTrue};
+
+use gt_calls::{Step};
+use crate::same::{same_held};
+
+// Of steps that look at a word. Others are not the same by this test.
+fn same_look(one: Step, other: Step) -> bool
+    ensures { IsTrue result → other ≡ one }
+{
+    match (one, other) {
+        (Step::LookHeader { dom }, Step::LookHeader { dom: d }) => dom == d,
+        (Step::LookControl { dom, gref }, Step::LookControl { dom: d, gref: g }) => {
+            dom == d && gref == g
+        }
+        (
+            Step::LookBody { dom, gref, half },
+            Step::LookBody {
+                dom: d,
+                gref: g,
+                half: h,
+            },
+        ) => dom == d && gref == g && half == h,
+        _ => false,
+    }
+}
+
+// Of steps that change a word.
+fn same_change(one: Step, other: Step) -> bool
+    ensures { IsTrue result → other ≡ one }
+{
+    match (one, other) {
+        (Step::Pin { held }, Step::Pin { held: h }) => same_held(held, h),
+        (Step::Unpin { held, holder }, Step::Unpin { held: h, holder: o }) => {
+            same_held(held, h) && holder == o
+        }
+        (
+            Step::StoreBody { gref, half, word },
+            Step::StoreBody {
+                gref: g,
+                half: h,
+                word: w,
+            },
+        ) => gref == g && half == h && word == w,
+        (
+            Step::Exchange {
+                gref,
+                looked,
+                change,
+            },
+            Step::Exchange {
+                gref: g,
+                looked: l,
+                change: c,
+            },
+        ) => gref == g && looked == l && change == c,
+        (
+            Step::StoreHeader { version, frames },
+            Step::StoreHeader {
+                version: v,
+                frames: f,
+            },
+        ) => version == v && frames == f,
+        _ => false,
+    }
+}
+
+// Of steps on bytes.
+fn same_access(one: Step, other: Step) -> bool
+    ensures { IsTrue result → other ≡ one }
+{
+    match (one, other) {
+        (
+            Step::Read {
+                dom,
+                frame,
+                off,
+                len,
+            },
+            Step::Read {
+                dom: d,
+                frame: f,
+                off: o,
+                len: l,
+            },
+        ) => dom == d && frame == f && off == o && len == l,
+        (
+            Step::Write {
+                dom,
+                frame,
+                off,
+                len,
+            },
+            Step::Write {
+                dom: d,
+                frame: f,
+                off: o,
+                len: l,
+            },
+        ) => dom == d && frame == f && off == o && len == l,
+        (
+            Step::Copy { from, to, len },
+            Step::Copy {
+                from: f,
+                to: t,
+                len: l,
+            },
+        ) => from == f && to == t && len == l,
+        _ => false,
+    }
+}
+
+pub(crate) fn same_step(one: Step, other: Step) -> bool
+    ensures { IsTrue result → other ≡ one }
+{
+    same_look(one, other) || same_change(one, other) || same_access(one, other)
+}

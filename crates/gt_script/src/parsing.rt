@@ -1,0 +1,127 @@
+//! A script from its bytes.
+ghost use Rattle.std.specs.Prelude.{◌≡◌, ◌≤◌, ◌<◌, ◌+◌, ◌^◌, ℕ, List, length, take, map, IfOk, IfErr};
+ghost use Rattle.std.specs.Str.{IsUtf8};
+ghost use Rattle.std.specs.Str.Lines.{lines as lines_in};
+ghost use Rattle.gt_script.specs.Blocks.{opening as opening_in, closing as closing_in};
+ghost use Rattle.gt_script.specs.Script.{LinesSay};
+ghost use Rattle.gt_script.specs.Script.{BlockSays, TextSays, TellsFor, TellsScript};
+ghost use Rattle.gt_script.specs.Contents.{contents_told};
+ghost use Rattle.gt_script.specs.Outcomes.{AnswersScript};
+ghost use Rattle.gt_script.specs.Laws.{IsScriptFor, IsScriptOf, StandsFor, ErrorStands, IsUnread};
+
+use crate::blocks::{closing, opening, read_policy};
+use crate::command::ScriptCommand;
+use crate::faults::{ScriptError, ScriptFault, ScriptFaultKind};
+use gt_script_lines::{text_lines};
+use gt_types::{LONGEST_TEXT};
+use std::alloc::{Global};
+use crate::script::{Script};
+
+// The script of `count` lines that has a policy block, from the lines after the line `policy` with the
+// number `first`.
+fn of_block<'a>(
+    alloc: Global,
+    command: ScriptCommand,
+    count: usize,
+    first: usize,
+    lines: &[&'a str],
+) -> Result<Script<'a>, ScriptError>
+    requires whole { first + length lines.now ≡ count }
+    requires fits { count < 2 ^ 63 }
+    ensures { let said = map (λ line. line.now) lines.now in
+        AnswersScript result (BlockSays command count first said (closing_in said)) }
+{
+    let Some(end) = closing(alloc, lines)? else {
+        return Err(ScriptError::Fault(ScriptFault {
+            line: count + 1,
+            kind: ScriptFaultKind::Syntax,
+        }));
+    };
+    match read_policy(alloc, first, &lines[..end]) {
+        Ok(policy) => {
+            let script = Script::with_policy(alloc, command, policy);
+            script.with_rest(alloc, first + end + 1, count, &lines[end + 1..])
+        }
+        Err(error) => Err(error),
+    }
+}
+
+// The script that the lines say.
+fn of_lines<'a>(
+    alloc: Global,
+    command: ScriptCommand,
+    lines: &[&'a str],
+) -> Result<Script<'a>, ScriptError>
+    ensures { let said = map (λ line. line.now) lines.now in
+        AnswersScript result (LinesSay command said (opening_in said)) }
+{
+    match opening(alloc, lines)? {
+        Some(place) => of_block(alloc, command, lines.len(), place + 1, &lines[place + 1..]),
+        None => Script::new(alloc, command).with_rest(alloc, 0, lines.len(), lines),
+    }
+}
+
+fn of_text<'a>(alloc: Global, command: ScriptCommand, text: &'a str) -> Result<Script<'a>, ScriptError>
+    ensures { AnswersScript result (TextSays command text.entry.now) }
+{
+    let lines = text_lines(alloc, text)?;
+    of_lines(alloc, command, lines.as_slice())
+}
+
+// The bytes as text, if they are not too many.
+fn script_text<'a>(bytes: &'a [u8]) -> Result<&'a str, ScriptFault>
+    ensures text { IfOk result (λ text. text.now ≡ bytes.entry.now) }
+    ensures few { IfOk result (λ _. length bytes.entry.now ≤ LONGEST_TEXT) }
+    ensures utf8 { IfOk result (λ _. IsUtf8 bytes.entry.now) }
+    ensures fault { IfErr result (λ fault. IsUnread bytes.entry.now fault) }
+{
+    if bytes.len() > LONGEST_TEXT {
+        return Err(ScriptFault {
+            line: 1,
+            kind: ScriptFaultKind::Limit,
+        });
+    }
+    match gt_text::text_of(bytes) {
+        Ok(text) => Ok(text),
+        Err(line) => Err(ScriptFault {
+            line,
+            kind: ScriptFaultKind::Utf8,
+        }),
+    }
+}
+
+/// The script that the bytes say for this command, or their first fault. A list that waits for ever is not looked for
+/// here.
+pub fn parse_for<'a>(
+    alloc: Global,
+    command: ScriptCommand,
+    bytes: &'a [u8],
+) -> Result<Script<'a>, ScriptError>
+    ensures script { AnswersScript result (TellsFor command bytes.entry.now) }
+    ensures holds { IfOk result (λ s. IsScriptFor command (lines_in bytes.entry.now) (contents_told s)) }
+    ensures fault { IfErr result (λ e. StandsFor command bytes.entry.now e) }
+
+    // The bytes up to one past the limit decide what all of them say.
+    ensures beginning { (all : List ℕ) → bytes.entry.now ≡ take (LONGEST_TEXT + 1) all →
+        AnswersScript result (TellsFor command all) }
+{
+    match script_text(bytes) {
+        Ok(text) => of_text(alloc, command, text),
+        Err(fault) => Err(ScriptError::Fault(fault)),
+    }
+}
+
+/// The script for `play` that the bytes say, or their first fault: too many bytes, then no UTF-8, then the first line
+/// that is wrong, then what the whole lacks. A policy block is judged as a whole at its end. A line for only `run` is
+/// a fault.
+pub fn parse<'a>(alloc: Global, bytes: &'a [u8]) -> Result<Script<'a>, ScriptError>
+    ensures script { AnswersScript result (TellsScript bytes.entry.now) }
+    ensures holds { IfOk result (λ s. IsScriptOf (lines_in bytes.entry.now) (contents_told s)) }
+    ensures fault { IfErr result (λ e. ErrorStands bytes.entry.now e) }
+
+    // The bytes up to one past the limit decide what all of them say.
+    ensures beginning { (all : List ℕ) → bytes.entry.now ≡ take (LONGEST_TEXT + 1) all →
+        AnswersScript result (TellsScript all) }
+{
+    parse_for(alloc, ScriptCommand::Play, bytes)
+}
