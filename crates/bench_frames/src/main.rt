@@ -13,7 +13,8 @@
 ghost use Rattle.std.specs.Prelude.{◌≡◌};
 
 use anyhow::{Result, bail};
-use gt_frames::{Frame, FrameName, Frames, WriteBasis, Pool, Spot, FrameAccesses, Writ};
+use gt_access::{FrameAccesses, Pool};
+use gt_frames::{Frame, FrameName, Frames, Spot, Writ, WriteBasis};
 use gt_handles::Handles;
 use gt_types::{Config, DomId, DomainConfig, FRAME_SIZE, Range, TypeId};
 use std::alloc::Global;

@@ -1,6 +1,6 @@
 //! How calls are recorded, and how much is done.
-use test_monitor::TestDomain;
 use gt_types::Allows;
+use test_monitor::TestDomain;
 
 /// How the calls of a domain are recorded.
 #[derive(Clone, Copy, PartialEq, Eq)]

@@ -7,11 +7,11 @@ use gt_calls::{CopyArgs, End};
 use gt_entry::Entry;
 use gt_live::Monitor;
 use gt_policy::Policy;
-use test_monitor::{TestDomain, WRITABLE, all_running};
 use gt_types::{Allows, DOMID_SELF, DomId, GrantRef};
 use std::alloc::Global;
 use std::sync::Wait;
 use std::thread::{self, Threads};
+use test_monitor::{TestDomain, WRITABLE, all_running};
 
 /// What the threads do with bytes.
 #[derive(Clone, Copy, PartialEq, Eq)]

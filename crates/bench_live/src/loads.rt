@@ -6,10 +6,10 @@ use gt_audit::Trail;
 use gt_entry::Entry;
 use gt_live::Monitor;
 use gt_policy::Policy;
-use test_monitor::{READ_ONLY, TestDomain, all_running};
 use gt_types::{Allows, Config, DomId, DomainConfig, LAST_GENERATION, MAX_TABLE_FRAMES, TypeId};
 use std::alloc::{AllocError, Global};
 use std::thread::{self, Threads};
+use test_monitor::{READ_ONLY, TestDomain, all_running};
 
 /// What the threads do.
 #[derive(Clone, Copy, PartialEq, Eq)]
@@ -148,7 +148,11 @@ fn revoke_and_grant<P: Allows>(owner: &mut TestDomain<'_, P>, spread: Spread, ro
 
 // Withdraws the entries by turns, and grants each again once it has no pin, so often, each time with as many tries as
 // it takes. Answers how often: less if entries are worn.
-fn withdraw_and_grant<P: Allows>(owner: &mut TestDomain<'_, P>, spread: Spread, rounds: u32) -> u32 {
+fn withdraw_and_grant<P: Allows>(
+    owner: &mut TestDomain<'_, P>,
+    spread: Spread,
+    rounds: u32,
+) -> u32 {
     let mut done = 0;
     let mut withdrawn = false;
     'rounds: for _ in 0..u64::MAX {

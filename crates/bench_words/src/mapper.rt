@@ -6,7 +6,7 @@ ghost use Rattle.gt_words.specs.Rule.{position_in};
 ghost use Rattle.gt_words.specs.Conditions.{HasLooked, Holds, IsEntryOf, IsSameSeat, IsSeatOf, KeepsPins};
 ghost use Rattle.bench_words.specs.Mapping.{CanMap, MayMap, KeepsPinsBeyond};
 
-use gt_entry::{Control, Entry, BodyWord, Header, EntryKind};
+use gt_entry::{BodyWord, Control, Entry, EntryKind, Header};
 use gt_types::{Dir, DomId, GrantRef, MAX_PINS, Range, TABLE_ENTRIES, Use};
 use gt_words::{Pin, Seat, Words};
 

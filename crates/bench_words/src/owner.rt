@@ -5,7 +5,7 @@ ghost use Rattle.gt_words.specs.Views.{last_of, own_body};
 ghost use Rattle.gt_words.specs.Conditions.{HasDomain, IsSeatOf, IsSameSeat};
 ghost use Rattle.bench_words.specs.Mapping.{Owns, OwnsStill};
 
-use gt_entry::{Control, Entry, BodyWord};
+use gt_entry::{BodyWord, Control, Entry};
 use gt_types::{DomId, GrantRef, LAST_GENERATION, TABLE_ENTRIES};
 use gt_words::{Seat, Words};
 

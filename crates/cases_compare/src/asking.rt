@@ -3,10 +3,10 @@ use crate::scarce::{Place, Scarce};
 use anyhow::bail;
 use gt_core::{Answer, Begun, Core, Request, Ticked};
 use gt_host::ScriptPolicy;
-use test_monitor::TestDomain;
 use gt_types::{DomId, DomainConfig, Rule};
 use std::alloc::Global;
 use std::sync::Wait;
+use test_monitor::TestDomain;
 
 // No call takes more steps.
 const MOST_STEPS: u32 = 71;

@@ -6,11 +6,11 @@ use anyhow::bail;
 use gt_core::{Answer, Core, Request};
 use gt_host::{Labels, ScriptPolicy, call_bytes, label_given, push_answer_line, request_of};
 use gt_live::Monitor;
-use test_monitor::{READ_ONLY, all_running};
 use gt_script::{Script, ScriptAction, ScriptCall, ScriptStep, Text, parse};
 use gt_types::{Config, DomId, DomainConfig, GrantRef};
 use std::alloc::Global;
 use std::sync::Wait;
+use test_monitor::{READ_ONLY, all_running};
 
 // So many entries of each domain are looked at after each call.
 const ENTRIES: u32 = 9;

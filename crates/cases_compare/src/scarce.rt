@@ -1,8 +1,8 @@
 //! Memory that is refused to calls, each request in turn.
 use anyhow::bail;
 use gt_core::Request;
-use test_flood::Flood;
 use std::alloc::{AllocError, Global};
+use test_flood::Flood;
 
 // What a call finds grows by so many bytes each time that it is refused, and so often at most.
 const STEP: usize = 16;

@@ -3,10 +3,10 @@ use crate::asking::Both;
 use anyhow::bail;
 use gt_audit::push_line;
 use gt_host::{ScriptPolicy, play};
-use test_monitor::TestDomain;
 use gt_script::Text;
 use gt_types::DomainConfig;
 use std::alloc::Global;
+use test_monitor::TestDomain;
 
 // The audit lines of this domain among those of a text.
 fn lines_of(alloc: Global, text: &str, dom: u16) -> anyhow::Result<String> {

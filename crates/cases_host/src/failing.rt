@@ -1,7 +1,7 @@
 //! Scripts over readers and writers that fail.
-use test_failing::{FailingReader, FailingWriter, failing_line};
 use gt_host::{PlayFault, play};
 use std::alloc::Global;
+use test_failing::{FailingReader, FailingWriter, failing_line};
 
 // Each read fails after so many bytes, for each number of them. The first number after which `play` answers another
 // fault, or writes something.

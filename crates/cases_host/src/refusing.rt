@@ -1,11 +1,11 @@
 //! Scripts and policies that are refused memory, each request in turn.
 use crate::scripts::script_named;
-use test_flood::Flood;
 use gt_host::{PlayFault, play};
 use gt_policy_list::{ListingFault, policy};
 use std::alloc::Global;
 use std::fs;
 use std::rt::Runtime;
+use test_flood::Flood;
 
 // No worked script prints more.
 const ROOM: usize = 65_536;

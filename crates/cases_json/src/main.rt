@@ -8,10 +8,10 @@
 #![tactic(auto)]
 
 use anyhow::bail;
-use test_failing::{FailingWriter, failing_line};
 use gt_json::{JsonFault, PrintedText, write_json};
 use std::alloc::Global;
 use std::fs;
+use test_failing::{FailingWriter, failing_line};
 
 // The command that prints a text of this name.
 fn printed_by(name: &str) -> PrintedText {

@@ -1,11 +1,11 @@
 //! Scripts over readers and writers that fail.
 use crate::running::{run_failing, run_recorded};
 use gt_audit::SharedLog;
-use test_failing::failing_line;
 use gt_run::FlagGate;
 use std::alloc::Global;
 use std::sync::Wait;
 use std::thread::Threads;
+use test_failing::failing_line;
 
 // Each read fails after so many bytes, for each number of them. The first number after which `run` answers another
 // fault, or writes something.

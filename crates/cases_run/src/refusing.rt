@@ -3,12 +3,12 @@ use crate::likeness::{Shortage, lacks};
 use crate::running::{run_recorded, run_text};
 use crate::scarce::{End, GAP, Place, Scarce, run_scarce};
 use gt_audit::SharedLog;
-use test_flood::Flood;
 use gt_run::FlagGate;
 use std::alloc::{AllocError, Global};
 use std::fmt::Write;
 use std::sync::{Mutex, Wait};
 use std::thread::Threads;
+use test_flood::Flood;
 
 // No worked script prints more.
 const ROOM: usize = 65_536;

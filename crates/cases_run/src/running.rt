@@ -1,10 +1,10 @@
 //! Runs over memory.
 use gt_audit::SharedLog;
-use test_failing::{FailingReader, FailingWriter};
 use gt_run::{FlagGate, Gate, RunFault, run};
 use std::alloc::{AllocError, Global};
 use std::sync::Wait;
 use std::thread::Threads;
+use test_failing::{FailingReader, FailingWriter};
 
 /// What a run wrote, and its fault as a text, which is empty if there was none.
 #[derive(Drop)]

@@ -1,6 +1,5 @@
 //! Memory that runs out on the way of a run.
 use gt_audit::SharedLog;
-use test_flood::Flood;
 use gt_host::PlayFault;
 use gt_run::{FlagGate, Gate, RunFault, run};
 use gt_types::Memory;
@@ -9,6 +8,7 @@ use std::io::{self, Write};
 use std::sync::atomic::{AtomicBool, AtomicU64, Ordering};
 use std::sync::{Mutex, Wait};
 use std::thread::Threads;
+use test_flood::Flood;
 
 /// So many bytes are held back, or let through, before lists run: a monitor of three domains starts with less.
 pub const GAP: usize = 4_000_000;

@@ -9,10 +9,10 @@
 mod starting;
 mod sweeping;
 
-use test_monitor::numbered;
 use starting::Kind;
 use std::alloc::Global;
 use sweeping::Starts;
+use test_monitor::numbered;
 
 // What starts, and with how many domains.
 #[derive(Clone, Copy)]

@@ -1,10 +1,10 @@
 //! One start.
 use gt_core::Core;
-use test_flood::Flood;
 use gt_live::Monitor;
-use test_monitor::all_running;
 use gt_types::{Config, DomainConfig, StartFault, Triples};
 use std::alloc::{AllocError, Global};
+use test_flood::Flood;
+use test_monitor::all_running;
 
 /// What starts.
 #[derive(Clone, Copy)]

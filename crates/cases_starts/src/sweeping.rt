@@ -1,8 +1,8 @@
 //! Starts in more and more memory.
 use crate::starting::{Came, Kind, configured, start};
-use test_flood::Flood;
 use gt_types::DomainConfig;
 use std::alloc::{AllocError, Global};
+use test_flood::Flood;
 
 // So much is held back, or let through.
 const GAP: usize = 4_000_000;

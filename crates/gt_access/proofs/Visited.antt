@@ -2,14 +2,14 @@
 use Rattle.std.proofs.Common.{◌≡◌, ◌∙◌, ℕ, sym, ap, subst, Option, Some, None, Ok, Err, List, [], ◌∷◌, ◌++◌}
 use Rattle.gt_types.specs.declared.places.FrameName.{FrameName}
 use Rattle.gt_types.specs.declared.places.Spot.{Spot}
-use Rattle.gt_frames.specs.declared.pool.LockedPair.{LockedPair}
+use Rattle.gt_access.specs.declared.pool.LockedPair.{LockedPair}
 use Rattle.gt_frames.specs.declared.writ.Writ.{Writ}
 use Rattle.gt_frames.specs.Frames.{FrameState, bytes_at, IsWrite}
-use Rattle.gt_frames.specs.Pool.{AreFresh, GoesOn, IsFreshIn, dest_of, dest_visit, frame_or, source_of, source_visit}
-use Rattle.gt_frames.specs.Pool.{visits_of}
+use Rattle.gt_access.specs.Pool.{AreFresh, GoesOn, IsFreshIn, dest_of, dest_visit, frame_or, source_of, source_visit}
+use Rattle.gt_access.specs.Pool.{visits_of}
 use Rattle.gt_frames.specs.Receipts.{Copying, Reading, Writing, reading_of}
 use Rattle.gt_frames.specs.Sets.{name_of}
-use Rattle.gt_frames.specs.Visits.{FrameAccess, IsFresh, visit_in}
+use Rattle.gt_access.specs.Visits.{FrameAccess, IsFresh, visit_in}
 use Rattle.gt_access.specs.declared.by.AccessFault.TheVariants.{Memory}
 use Rattle.gt_access.specs.Visiting.{CopiesIn, LeavesBoth, VisitsToCopy, VisitsToRead, VisitsToWrite}
 

@@ -5,7 +5,7 @@ use Rattle.gt_types.specs.declared.places.Spot.{Spot}
 use Rattle.gt_frames.specs.declared.writ.Writ.{Writ}
 use Rattle.gt_frames.specs.Frames.{bytes_at, IsWrite}
 use Rattle.gt_frames.specs.Receipts.{Reading, Writing, Copying, reading_of}
-use Rattle.gt_frames.specs.Visits.{FrameAccess, IsVisitOf, LeavesIt, visit_in}
+use Rattle.gt_access.specs.Visits.{FrameAccess, IsVisitOf, LeavesIt, visit_in}
 use Rattle.gt_access.specs.declared.by.AccessFault.{AccessFault}
 use Rattle.gt_access.specs.declared.by.AccessFault.TheVariants.{Gone, Memory}
 

@@ -8,8 +8,9 @@ ghost use Rattle.gt_access.specs.Routes.{MayAccessBy, MayCopyBy, ReachesBy, writ
 ghost use Rattle.gt_access.specs.Visiting.{VisitsToCopy, VisitsToRead, VisitsToWrite};
 
 use crate::under::{AccessContext, copy_under, fill_under, read_under, write_under};
-use gt_calls::{CallPins, AccessPath};
-use gt_frames::{Copied, Filled, FrameName, Read, Spot, FrameAccesses, Written};
+use crate::visits::FrameAccesses;
+use gt_calls::{AccessPath, CallPins};
+use gt_frames::{Copied, Filled, FrameName, Read, Spot, Written};
 use gt_types::{Allows, FRAME_SIZE, Memory, Range};
 use gt_words::Seat;
 use std::sync::Wait;

@@ -10,12 +10,18 @@
 //! again. Only they may wait. A frame under another name than the one wanted, or none, is
 //! [`AccessFault::Gone`].
 //!
-//! It uses `gt_frames` (frames, pool), `gt_words` (seats and their views), `gt_calls` (routes),
+//! A [`Pool`] has each frame of a run under a lock: a frame that is handed out has the name that was asked for.
+//!
+//! It uses `gt_frames` (frames), `crossbeam_utils` (room beside a lock), `gt_words` (seats and their views), `gt_calls` (routes),
 //! `gt_roster` (the configuration), `gt_entry` and `gt_types`.
 #![tactic(auto)]
 
 mod by;
+mod pool;
 mod under;
+mod visits;
 
 pub use by::{AccessFault, copy_by, fill_by, read_by, write_by};
+pub use pool::{LockedPair, Pool};
 pub use under::{AccessContext, copy_under, fill_under, read_under, writ_by, write_under};
+pub use visits::{FrameAccesses, LockedFrame};

@@ -4,13 +4,15 @@ ghost use Rattle.gt_types.specs.declared.Dir.TheVariants as dirs;
 ghost use Rattle.gt_types.specs.declared.Use.TheVariants as uses;
 ghost use Rattle.gt_words.specs.Conditions.{IsSeatOf};
 ghost use Rattle.gt_frames.specs.Frames.{bytes_at, IsKept, IsWrite};
-ghost use Rattle.gt_frames.specs.Pool.{dest_of, source_of, GoesOn, KeepsSource};
+ghost use Rattle.gt_access.specs.Pool.{dest_of, source_of, GoesOn, KeepsSource};
 ghost use Rattle.gt_frames.specs.Receipts.{reading_of, writing_of, copying_of};
 ghost use Rattle.gt_frames.specs.Sets.{name_of};
 ghost use Rattle.gt_access.specs.Routes.{MayAccessBy, MayCopyBy, ReachesBy, writ_by};
 
-use gt_calls::{CallPins, AccessPath};
-use gt_frames::{Copied, LockedPair, Filled, WriteBasis, LockedFrame, Pool, Read, Writ, Written};
+use crate::pool::{LockedPair, Pool};
+use crate::visits::LockedFrame;
+use gt_calls::{AccessPath, CallPins};
+use gt_frames::{Copied, Filled, Read, Writ, WriteBasis, Written};
 use gt_roster::Roster;
 use gt_types::{Allows, DomId, FRAME_SIZE, Memory, Range};
 use gt_words::{Seat, Words};

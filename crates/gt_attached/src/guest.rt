@@ -7,7 +7,7 @@ use crate::answer::{Departure, TakenCounts};
 use gt_audit::{Record, Trail};
 use gt_calls::{CopyArgs, Handle, HeldPin, Spot};
 use gt_entry::{Control, Entry};
-use gt_live::{Domain, PendingCopy, Monitor};
+use gt_live::{Domain, Monitor, PendingCopy};
 use gt_types::{Allows, Denial, DomId, GrantRef, Memory, Size};
 use std::alloc::Global;
 use std::marker::Model;

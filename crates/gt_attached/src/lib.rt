@@ -16,7 +16,9 @@ mod guest;
 mod record;
 mod starting;
 
-pub use answer::{EncodedAnswer, MappingName, AttachedOutcome, Departure, TakenCounts, answers_are_read_back};
+pub use answer::{
+    AttachedOutcome, Departure, EncodedAnswer, MappingName, TakenCounts, answers_are_read_back,
+};
 pub use guest::{AttachedDomain, CopyPlaces};
 pub use record::{CopyEnd, EncodedRecord};
 pub use starting::start;

@@ -3,7 +3,7 @@ ghost use Rattle.std.specs.Prelude.{◌≡◌};
 ghost use Rattle.gt_audit.specs.declared.record.Hypercall.TheVariants.{Copy};
 ghost use Rattle.gt_attached.specs.Recording.{end_recorded, outcome_of_reply, plainly, with_call};
 
-use crate::answer::{EncodedAnswer, AttachedOutcome};
+use crate::answer::{AttachedOutcome, EncodedAnswer};
 use gt_audit::{Hypercall, Reply};
 use gt_types::End;
 

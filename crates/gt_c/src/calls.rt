@@ -11,9 +11,9 @@ ghost use Rattle.gt_c.specs.Promises.{Maps, Promotes, RevokesEntry, SetsUp, Sets
 
 use crate::handle::DomainHandle;
 use crate::here::CDomain;
+use gt_attached::{AttachedOutcome, EncodedAnswer, MappingName as Named};
 use gt_calls::Handle as Name;
 use gt_entry::Entry;
-use gt_attached::{EncodedAnswer, MappingName as Named, AttachedOutcome};
 use gt_types::{Denial, DomId, GrantRef, Size};
 use std::alloc::Global;
 
@@ -231,7 +231,9 @@ pub(crate) fn grant_via_on(
         Ok(here) => here,
         Err(turned_away) => return turned_away,
     };
-    let answer = EncodedAnswer::of(done(here.guest.grant(GrantRef(gref), &via(to, dom2, ref2, ro))));
+    let answer = EncodedAnswer::of(done(
+        here.guest.grant(GrantRef(gref), &via(to, dom2, ref2, ro)),
+    ));
     domain.put(here);
     answer
 }
@@ -307,7 +309,13 @@ pub(crate) fn promote_on(alloc: Global, domain: &mut DomainHandle, gref: u32) ->
 }
 
 /// Maps an entry of a domain: flags 2 for reading and writing, 6 for reading.
-pub(crate) fn map_on(alloc: Global, domain: &mut DomainHandle, dom: u16, gref: u32, flags: u32) -> EncodedAnswer
+pub(crate) fn map_on(
+    alloc: Global,
+    domain: &mut DomainHandle,
+    dom: u16,
+    gref: u32,
+    flags: u32,
+) -> EncodedAnswer
     ensures { Maps dom gref flags result domain.old.held.value domain.new.held.value }
 {
     let mut here = match enter(alloc, domain) {
@@ -335,7 +343,11 @@ pub(crate) fn unmap_on(alloc: Global, domain: &mut DomainHandle, name: MapHandle
 }
 
 /// Gives its table this version, 1 or 2.
-pub(crate) fn set_version_on(alloc: Global, domain: &mut DomainHandle, version: u32) -> EncodedAnswer
+pub(crate) fn set_version_on(
+    alloc: Global,
+    domain: &mut DomainHandle,
+    version: u32,
+) -> EncodedAnswer
     ensures { SetsVersion version result domain.old.held.value domain.new.held.value }
 {
     let mut here = match enter(alloc, domain) {

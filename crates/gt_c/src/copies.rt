@@ -6,8 +6,8 @@ ghost use Rattle.gt_c.specs.Telling.{place_report, places_report};
 
 use crate::calls::{enter, nowhere};
 use crate::handle::DomainHandle;
+use gt_attached::{AttachedOutcome, CopyEnd, CopyPlaces, EncodedAnswer};
 use gt_calls::{CopyArgs, End, Spot};
-use gt_attached::{EncodedAnswer, CopyEnd, AttachedOutcome, CopyPlaces};
 use gt_types::{Denial, DomId};
 use std::alloc::Global;
 
@@ -130,7 +130,11 @@ pub(crate) fn begun_nowhere() -> BegunReport
 
 /// Begins a copy: the domain's pins for it are taken, and `places` says what may be touched until it ends. Refused, no
 /// pin is kept.
-pub(crate) fn copy_begin_on(alloc: Global, domain: &mut DomainHandle, copy: CopySettings) -> BegunReport
+pub(crate) fn copy_begin_on(
+    alloc: Global,
+    domain: &mut DomainHandle,
+    copy: CopySettings,
+) -> BegunReport
     ensures { BeginsCopy copy result domain.old.held.value domain.new.held.value }
 {
     let mut here = match enter(alloc, domain) {

@@ -22,8 +22,8 @@ use crate::calls::{
 use crate::copies::{BegunReport, CopySettings, begun_nowhere, copy_begin_on, copy_end_on};
 use crate::handle::DomainHandle;
 use crate::telling::{
-    EntryReport, MappingReport, RecordReport, entry_nowhere, entry_on, keep_at_most_on, mapping_nowhere,
-    mapping_on, record_nowhere, record_on, reserve_records_on, take_records_on,
+    EntryReport, MappingReport, RecordReport, entry_nowhere, entry_on, keep_at_most_on,
+    mapping_nowhere, mapping_on, record_nowhere, record_on, reserve_records_on, take_records_on,
 };
 use gt_attached::EncodedAnswer;
 use std::alloc::Global;
@@ -116,7 +116,11 @@ pub unsafe extern "C" fn gthost_grant_bytes(
 
 /// Makes an entry of its own invalid, where it has no pins.
 #[unsafe(no_mangle)]
-pub unsafe extern "C" fn gthost_revoke(alloc: Global, domain: *mut DomainHandle, gref: u32) -> EncodedAnswer
+pub unsafe extern "C" fn gthost_revoke(
+    alloc: Global,
+    domain: *mut DomainHandle,
+    gref: u32,
+) -> EncodedAnswer
     ghost was: { Option DomainHandle }
     requires* { sem 𝓛 (pointed_at handle domain was) ∗ ⌜ count_of domain < 2 ^ 63 ⌝ }
     ensures* { ∃ₛ (λ (is : Option DomainHandle). sem 𝓛 (pointed_at handle domain is)
@@ -130,7 +134,11 @@ pub unsafe extern "C" fn gthost_revoke(alloc: Global, domain: *mut DomainHandle,
 
 /// Makes an entry of its own invalid, with or without pins.
 #[unsafe(no_mangle)]
-pub unsafe extern "C" fn gthost_withdraw(alloc: Global, domain: *mut DomainHandle, gref: u32) -> EncodedAnswer
+pub unsafe extern "C" fn gthost_withdraw(
+    alloc: Global,
+    domain: *mut DomainHandle,
+    gref: u32,
+) -> EncodedAnswer
     ghost was: { Option DomainHandle }
     requires* { sem 𝓛 (pointed_at handle domain was) ∗ ⌜ count_of domain < 2 ^ 63 ⌝ }
     ensures* { ∃ₛ (λ (is : Option DomainHandle). sem 𝓛 (pointed_at handle domain is)
@@ -144,7 +152,11 @@ pub unsafe extern "C" fn gthost_withdraw(alloc: Global, domain: *mut DomainHandl
 
 /// Makes an entry of its own read-only, where it has no write pins.
 #[unsafe(no_mangle)]
-pub unsafe extern "C" fn gthost_demote(alloc: Global, domain: *mut DomainHandle, gref: u32) -> EncodedAnswer
+pub unsafe extern "C" fn gthost_demote(
+    alloc: Global,
+    domain: *mut DomainHandle,
+    gref: u32,
+) -> EncodedAnswer
     ghost was: { Option DomainHandle }
     requires* { sem 𝓛 (pointed_at handle domain was) ∗ ⌜ count_of domain < 2 ^ 63 ⌝ }
     ensures* { ∃ₛ (λ (is : Option DomainHandle). sem 𝓛 (pointed_at handle domain is)
@@ -158,7 +170,11 @@ pub unsafe extern "C" fn gthost_demote(alloc: Global, domain: *mut DomainHandle,
 
 /// Makes an entry of its own writable.
 #[unsafe(no_mangle)]
-pub unsafe extern "C" fn gthost_promote(alloc: Global, domain: *mut DomainHandle, gref: u32) -> EncodedAnswer
+pub unsafe extern "C" fn gthost_promote(
+    alloc: Global,
+    domain: *mut DomainHandle,
+    gref: u32,
+) -> EncodedAnswer
     ghost was: { Option DomainHandle }
     requires* { sem 𝓛 (pointed_at handle domain was) ∗ ⌜ count_of domain < 2 ^ 63 ⌝ }
     ensures* { ∃ₛ (λ (is : Option DomainHandle). sem 𝓛 (pointed_at handle domain is)
@@ -192,7 +208,11 @@ pub unsafe extern "C" fn gthost_map(
 
 /// Gives a mapping up.
 #[unsafe(no_mangle)]
-pub unsafe extern "C" fn gthost_unmap(alloc: Global, domain: *mut DomainHandle, name: MapHandle) -> EncodedAnswer
+pub unsafe extern "C" fn gthost_unmap(
+    alloc: Global,
+    domain: *mut DomainHandle,
+    name: MapHandle,
+) -> EncodedAnswer
     ghost was: { Option DomainHandle }
     requires* { sem 𝓛 (pointed_at handle domain was) ∗ ⌜ count_of domain < 2 ^ 63 ⌝ }
     ensures* { ∃ₛ (λ (is : Option DomainHandle). sem 𝓛 (pointed_at handle domain is)
@@ -242,7 +262,11 @@ pub unsafe extern "C" fn gthost_setup_table(
 
 /// The size of the table of a domain.
 #[unsafe(no_mangle)]
-pub unsafe extern "C" fn gthost_query_size(alloc: Global, domain: *mut DomainHandle, dom: u16) -> EncodedAnswer
+pub unsafe extern "C" fn gthost_query_size(
+    alloc: Global,
+    domain: *mut DomainHandle,
+    dom: u16,
+) -> EncodedAnswer
     ghost was: { Option DomainHandle }
     requires* { sem 𝓛 (pointed_at handle domain was) ∗ ⌜ count_of domain < 2 ^ 63 ⌝ }
     ensures* { ∃ₛ (λ (is : Option DomainHandle). sem 𝓛 (pointed_at handle domain is)
@@ -256,7 +280,11 @@ pub unsafe extern "C" fn gthost_query_size(alloc: Global, domain: *mut DomainHan
 
 /// The version of the table of a domain.
 #[unsafe(no_mangle)]
-pub unsafe extern "C" fn gthost_get_version(alloc: Global, domain: *mut DomainHandle, dom: u16) -> EncodedAnswer
+pub unsafe extern "C" fn gthost_get_version(
+    alloc: Global,
+    domain: *mut DomainHandle,
+    dom: u16,
+) -> EncodedAnswer
     ghost was: { Option DomainHandle }
     requires* { sem 𝓛 (pointed_at handle domain was) ∗ ⌜ count_of domain < 2 ^ 63 ⌝ }
     ensures* { ∃ₛ (λ (is : Option DomainHandle). sem 𝓛 (pointed_at handle domain is)
@@ -390,7 +418,11 @@ pub unsafe extern "C" fn gthost_finish(alloc: Global, domain: *mut DomainHandle)
 
 /// One look at an entry of its own: its kind, its generation and its pins.
 #[unsafe(no_mangle)]
-pub unsafe extern "C" fn gthost_entry(alloc: Global, domain: *mut DomainHandle, gref: u32) -> EntryReport
+pub unsafe extern "C" fn gthost_entry(
+    alloc: Global,
+    domain: *mut DomainHandle,
+    gref: u32,
+) -> EntryReport
     ghost was: { Option DomainHandle }
     requires* { sem 𝓛 (pointed_at handle domain was) ∗ ⌜ count_of domain < 2 ^ 63 ⌝ }
     ensures* { ∃ₛ (λ (is : Option DomainHandle). sem 𝓛 (pointed_at handle domain is)
@@ -404,7 +436,10 @@ pub unsafe extern "C" fn gthost_entry(alloc: Global, domain: *mut DomainHandle, 
 
 /// Lets the domain's records go, and keeps their room.
 #[unsafe(no_mangle)]
-pub unsafe extern "C" fn gthost_take_records(alloc: Global, domain: *mut DomainHandle) -> EncodedAnswer
+pub unsafe extern "C" fn gthost_take_records(
+    alloc: Global,
+    domain: *mut DomainHandle,
+) -> EncodedAnswer
     ghost was: { Option DomainHandle }
     requires* { sem 𝓛 (pointed_at handle domain was) ∗ ⌜ count_of domain < 2 ^ 63 ⌝ }
     ensures* { ∃ₛ (λ (is : Option DomainHandle). sem 𝓛 (pointed_at handle domain is)

@@ -8,9 +8,9 @@ ghost use Rattle.gt_c.specs.Telling.{record_nowhere, writes};
 
 use crate::calls::{MapHandle, enter, handle_named, nowhere};
 use crate::handle::DomainHandle;
+use gt_attached::{AttachedOutcome, CopyEnd, EncodedAnswer, EncodedRecord};
 use gt_calls::HeldPin;
 use gt_entry::{Control, EntryKind};
-use gt_attached::{EncodedAnswer, CopyEnd, AttachedOutcome, EncodedRecord};
 use gt_types::{Dir, GrantRef, Memory};
 use std::alloc::Global;
 
@@ -286,7 +286,11 @@ pub(crate) fn record_on(alloc: Global, domain: &mut DomainHandle, index: usize) 
 }
 
 /// From now on the domain keeps a record only while it has fewer than so many; with 0 its calls are not recorded.
-pub(crate) fn keep_at_most_on(alloc: Global, domain: &mut DomainHandle, records: usize) -> EncodedAnswer
+pub(crate) fn keep_at_most_on(
+    alloc: Global,
+    domain: &mut DomainHandle,
+    records: usize,
+) -> EncodedAnswer
     ensures { Bounds records result domain.old.held.value domain.new.held.value }
 {
     let mut here = match enter(alloc, domain) {
@@ -314,7 +318,11 @@ pub(crate) fn take_records_on(alloc: Global, domain: &mut DomainHandle) -> Encod
 }
 
 /// Makes room for so many more records, which then take no memory.
-pub(crate) fn reserve_records_on(alloc: Global, domain: &mut DomainHandle, records: usize) -> EncodedAnswer
+pub(crate) fn reserve_records_on(
+    alloc: Global,
+    domain: &mut DomainHandle,
+    records: usize,
+) -> EncodedAnswer
     ensures { MakesRoom records result domain.old.held.value domain.new.held.value }
 {
     let mut here = match enter(alloc, domain) {

@@ -6,15 +6,22 @@ ghost use Rattle.gt_calls.specs.Opening.{Opens};
 ghost use Rattle.gt_calls.specs.Rules.{CallerKnowledge, knows, begun, change_begun, entry_in, own_generation, label_of};
 ghost use Rattle.gt_calls.specs.Rules.{grant_begun};
 
-use crate::action::{CallResult};
+use crate::action::CallResult;
+use crate::judging::{
+    judge_change, judge_copy, judge_grant, judge_load, judge_map, judge_own_access, judge_query,
+    judge_revoke, judge_setup, judge_store, judge_unmap, judge_version, label_of, own_entry,
+};
 use crate::known::{CallerState, OwnerEntry};
 use crate::request::{OpenRequest, Request};
-use gt_entry::{EntryChange, Entry, Header, decode};
+use gt_entry::{Entry, EntryChange, Header, decode};
 use gt_types::{Allows, Denial, DomId, Facts, GrantRef, LAST_GENERATION, Rule};
-use crate::judging::{own_entry, judge_grant, judge_revoke, judge_change, label_of, judge_map, judge_unmap, judge_load, judge_store, judge_own_access, judge_version, judge_setup, judge_query, judge_copy};
 
 // The verdict at the beginning of a demotion or promotion by the entry's owner.
-fn judge_own_change<P: Allows>(known: &CallerState<'_, P>, change: EntryChange, gref: GrantRef) -> Option<CallResult>
+fn judge_own_change<P: Allows>(
+    known: &CallerState<'_, P>,
+    change: EntryChange,
+    gref: GrantRef,
+) -> Option<CallResult>
     ensures { result ≡ change_begun change known.now.header (entry_in known.now.own.now gref.0)
         (own_generation known.now.config.now.first_gen known.now.own.now gref.0) gref.0 }
 {
@@ -77,7 +84,12 @@ fn judge_beginning<P: Allows>(
 /// # Errors
 ///
 /// The refusal at the beginning of the grant: N9, N20, N22, or N25 with the field refused.
-pub fn judge_bytes(header: Header, own: OwnerEntry, gref: GrantRef, bytes: &[u8]) -> Result<Entry, Denial>
+pub fn judge_bytes(
+    header: Header,
+    own: OwnerEntry,
+    gref: GrantRef,
+    bytes: &[u8],
+) -> Result<Entry, Denial>
     ensures judged { JudgesBytes header (bytes_begun header own.entry own.generation gref.0 bytes.now)
         bytes.now result }
     ensures unanswered { IfOk result (λ entry.

@@ -7,17 +7,17 @@ ghost use Rattle.gt_calls.specs.Path.{map_leg, idle_word};
 ghost use Rattle.gt_calls.specs.Machine.{ended_as, refused_as, handle_refused, publishing, first_phase, unmap_phase};
 ghost use Rattle.gt_calls.specs.Machine.{load_phase, store_phase, after_store};
 
-use crate::action::{Step, CallValue, CallResult};
+use crate::action::{CallResult, CallValue, Step};
+use crate::call::{HeaderQuery, Phase};
 use crate::copying::{PinPurpose, at_source, leg_to};
-use crate::held::{HeldPin, NO_PINS, CallPins};
+use crate::held::{CallPins, HeldPin, NO_PINS};
 use crate::judging::{map_dir, own_entry, resolve};
 use crate::known::CallerState;
 use crate::leg::{Leg, LegPhase, MORE_TRIES, entry_refusal};
 use crate::request::{OpenRequest, PinHolder};
-use gt_entry::{EntryChange, Entry, Header};
+use gt_entry::{Entry, EntryChange, Header};
 use gt_handles::Handle;
 use gt_types::{Allows, CopyArgs, Denial, DomId, Facts, GrantRef, Range, Rule, Size, Use};
-use crate::call::{HeaderQuery, Phase};
 
 // The end of a call that gives these pins back.
 pub(crate) fn ending(pins: CallPins, verdict: CallResult) -> Phase
@@ -196,14 +196,24 @@ fn mapping<P: Allows>(
 
 // A copy at its beginning. It is a function of its own since only a copy needs the room.
 #[inline(never)]
-fn begin_copy<P: Allows>(known: &CallerState<'_, P>, caller: DomId, copy: CopyArgs, phase: &mut Phase)
+fn begin_copy<P: Allows>(
+    known: &CallerState<'_, P>,
+    caller: DomId,
+    copy: CopyArgs,
+    phase: &mut Phase,
+)
     ensures { phase.new ≡ first_phase (knows P.may known.now) caller (OpenRequest.Copy copy) }
 {
     *phase = at_source(known, caller, copy);
 }
 
 // All that a call has to do if it was not answered at its beginning.
-pub(crate) fn set_first<P: Allows>(known: &CallerState<'_, P>, caller: DomId, request: &OpenRequest, phase: &mut Phase)
+pub(crate) fn set_first<P: Allows>(
+    known: &CallerState<'_, P>,
+    caller: DomId,
+    request: &OpenRequest,
+    phase: &mut Phase,
+)
     ensures { phase.new ≡ first_phase (knows P.may known.now) caller request.now }
 {
     match *request {
@@ -214,8 +224,18 @@ pub(crate) fn set_first<P: Allows>(known: &CallerState<'_, P>, caller: DomId, re
         OpenRequest::Withdraw { gref } => *phase = turning(gref, EntryChange::Withdraw),
         OpenRequest::Demote { gref } => *phase = turning(gref, EntryChange::Demote),
         OpenRequest::Promote { gref } => *phase = turning(gref, EntryChange::Promote),
-        OpenRequest::Load { handle, off, len } => begin_load(held_at(known, handle), off, len, phase),
-        OpenRequest::Store { handle, off, len } => begin_store(held_at(known, handle), off, len, phase),
+        OpenRequest::Load { handle, off, len } => begin_load(
+            held_at(known, handle),
+            off,
+            len,
+            phase,
+        ),
+        OpenRequest::Store { handle, off, len } => begin_store(
+            held_at(known, handle),
+            off,
+            len,
+            phase,
+        ),
         OpenRequest::Peek { frame, off, len } => *phase = reading(caller, frame, off, len),
         OpenRequest::Poke { frame, off, len } => *phase = writing(caller, frame, off, len),
         OpenRequest::Copy(copy) => begin_copy(known, caller, copy, phase),
@@ -231,7 +251,11 @@ pub(crate) fn set_first<P: Allows>(known: &CallerState<'_, P>, caller: DomId, re
     }
 }
 
-pub(crate) fn publishing<P: Allows>(known: &CallerState<'_, P>, gref: GrantRef, entry: Entry) -> Phase
+pub(crate) fn publishing<P: Allows>(
+    known: &CallerState<'_, P>,
+    gref: GrantRef,
+    entry: Entry,
+) -> Phase
     ensures { result ≡ publishing (knows P.may known.now) gref entry }
 {
     Phase::Exchanging {
@@ -241,7 +265,11 @@ pub(crate) fn publishing<P: Allows>(known: &CallerState<'_, P>, gref: GrantRef, 
     }
 }
 
-pub(crate) fn after_store<P: Allows>(known: &CallerState<'_, P>, gref: GrantRef, entry: Entry) -> Phase
+pub(crate) fn after_store<P: Allows>(
+    known: &CallerState<'_, P>,
+    gref: GrantRef,
+    entry: Entry,
+) -> Phase
     ensures { result ≡ after_store (knows P.may known.now) gref entry }
 {
     match entry {

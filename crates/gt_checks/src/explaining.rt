@@ -5,7 +5,7 @@ ghost use Rattle.gt_text.specs.Streams.{OfInput};
 ghost use Rattle.gt_checks.specs.Explaining.{AskedOf, Explained, WritesLines};
 
 use crate::fault::WhyFault;
-use gt_policy_check::{WhyAnswer, Explanation, WhyQuestion};
+use gt_policy_check::{Explanation, WhyAnswer, WhyQuestion};
 use gt_policy_list::{ListingFault, policy_text};
 use gt_text::{finish, read_text};
 use std::alloc::Global;

@@ -25,7 +25,11 @@ pub fn read_bytes(frames: &Frames, name: FrameName, off: u16, out: Vec<u8>) -> V
 /// # Errors
 ///
 /// `Memory`, only if the step writes, with all frames as they were.
-pub fn write_bytes(frames: &mut Frames, domain: &DomainState, underway: OpenCall) -> Result<(), Memory>
+pub fn write_bytes(
+    frames: &mut Frames,
+    domain: &DomainState,
+    underway: OpenCall,
+) -> Result<(), Memory>
     requires { IsAdmitted frames.old domain.now underway.call underway.step }
     ensures accessed { OnOk result (AccessedBy domain.now underway.call underway.step frames.old frames.new) }
     ensures refused { OnErr result (frames.new ≡ frames.old) }

@@ -6,8 +6,8 @@ ghost use Rattle.gt_core.specs.Standing.{DoesEvent, setting_in};
 ghost use Rattle.gt_core.specs.Acting.{IsStartFaultOf, setting_of};
 
 use crate::kept::Machine;
-use crate::trace::{Answer, Element, Event, ItemEvent, Item, Trace};
-use gt_calls::{Handle, Request, Observation, Step};
+use crate::trace::{Answer, Element, Event, Item, ItemEvent, Trace};
+use gt_calls::{Handle, Observation, Request, Step};
 use gt_entry::Entry;
 use gt_types::{Allows, Config, DomId, GrantRef, Memory, StartFault};
 use std::alloc::Global;

@@ -5,7 +5,7 @@ ghost use Rattle.gt_core.specs.Effects.{with_slot, applied, without_holder, with
 
 use crate::pin_counts::CountsChange;
 use crate::state::{DomainState, find};
-use gt_calls::{EntryChange, PinHolder, Observation, Step};
+use gt_calls::{EntryChange, Observation, PinHolder, Step};
 use gt_roster::Roster;
 use gt_types::{DomId, GrantRef};
 
@@ -58,7 +58,13 @@ fn store_header(config: &Roster, domains: &mut [DomainState], dom: DomId, versio
 }
 
 /// What a step of the domain that saw this does to the words, and to the actor's mappings if it gives one up.
-pub fn apply(config: &Roster, domains: &mut [DomainState], actor: DomId, step: Step, seen: Observation)
+pub fn apply(
+    config: &Roster,
+    domains: &mut [DomainState],
+    actor: DomId,
+    step: Step,
+    seen: Observation,
+)
     requires { IsPlaced config.now.domains.items domains.old }
     ensures { domains.new ≡ applied actor step seen domains.old }
 {

@@ -28,7 +28,10 @@ mod trace;
 mod underway;
 
 pub use core_state::{Begun, Core, EntryView, Ticked, play};
-pub use gt_calls::{OpenRequest, EntryChange, CopyArgs, End, Handle, HeldPin, PinHolder, Request, Observation, Spot, Step};
+pub use gt_calls::{
+    CopyArgs, End, EntryChange, Handle, HeldPin, Observation, OpenRequest, PinHolder, Request,
+    Spot, Step,
+};
 pub use laws::{
     every_alike_event_does_one_thing, every_alike_run_shows_one_thing, every_beginning_is_apart,
     every_call_can_begin, every_event_does_one_thing, every_known_handle_has_one_subject,
@@ -40,4 +43,4 @@ pub use laws::{
 pub use machine::answer_of;
 pub use pin_counts::{CountsChange, PinCounts};
 pub use sight::exchange_sees;
-pub use trace::{Answer, Bytes, Element, Event, ItemEvent, Item, Trace};
+pub use trace::{Answer, Bytes, Element, Event, Item, ItemEvent, Trace};

@@ -30,7 +30,10 @@ use crate::sight::see;
 use crate::state::{DomainState, find};
 use crate::trace::{Answer, Bytes};
 use crate::underway::OpenCall;
-use gt_calls::{Action, Call, CallerState, Request, Observation, CallStart, Step, CallValue, CallResult, asked_fits};
+use gt_calls::{
+    Action, Call, CallResult, CallStart, CallValue, CallerState, Observation, Request, Step,
+    asked_fits,
+};
 use gt_frames::{FrameName, Frames};
 use gt_roster::Roster;
 use gt_types::{Allows, Config, DomId, GrantRef, Memory, StartFault};
@@ -244,7 +247,9 @@ impl<P: Allows> Machine<P> {
             }
             Action::Done(verdict) => match verdict {
                 CallResult::Granted => Some(self.close(at, last)),
-                CallResult::Mapped(held) => Some(Answer::Mapped(self.domains[at].add_mapping(held))),
+                CallResult::Mapped(held) => Some(Answer::Mapped(self.domains[at].add_mapping(
+                    held,
+                ))),
                 _ => {
                     self.domains[at].close();
                     Some(answer_of(verdict))

@@ -6,7 +6,7 @@ ghost use Rattle.gt_core.specs.States.{IsPlaced};
 
 use crate::pin_counts::PinCounts;
 use crate::state::{DomainState, find};
-use gt_calls::{BodyWord, OwnerEntry, Observation, Step, own_at};
+use gt_calls::{BodyWord, Observation, OwnerEntry, Step, own_at};
 use gt_entry::Control;
 use gt_roster::Roster;
 use gt_types::{DomId, GrantRef};
@@ -103,7 +103,9 @@ pub fn see(config: &Roster, domains: &[DomainState], actor: DomId, step: Step) -
 {
     match step {
         Step::LookHeader { dom } => Observation::Word(look_header(config, domains, dom)),
-        Step::LookControl { dom, gref } => Observation::Word(look_control(config, domains, dom, gref)),
+        Step::LookControl { dom, gref } => Observation::Word(look_control(
+            config, domains, dom, gref,
+        )),
         Step::LookBody { dom, gref, half } => {
             Observation::Word(look_body(config, domains, dom, gref, half))
         }

@@ -6,9 +6,11 @@ ghost use Rattle.gt_core.specs.States.{IsPlaced};
 use crate::core_state::EntryView;
 use crate::pin_counts::{CountsChange, PinCounts};
 use crate::underway::OpenCall;
-use gt_calls::{OpenRequest, Call, EntryChange, ENTRIES, HeldPin, PinHolder, OwnerEntry, AccessPath};
+use gt_calls::{
+    AccessPath, Call, ENTRIES, EntryChange, HeldPin, OpenRequest, OwnerEntry, PinHolder,
+};
 use gt_entry::Header;
-use gt_frames::{WriteBasis, Writ};
+use gt_frames::{Writ, WriteBasis};
 use gt_handles::{Handle, Handles};
 use gt_roster::Roster;
 use gt_types::{DomId, DomainConfig, GrantRef, LAST_GENERATION, Memory};
@@ -131,7 +133,9 @@ impl DomainState {
             OpenRequest::Load { len, .. } | OpenRequest::Peek { len, .. } => {
                 room = Some(vec![in alloc; 0u8; usize::from(len)]?);
             }
-            OpenRequest::Store { .. } | OpenRequest::Poke { .. } => given = Vec::from_slice(alloc, bytes)?,
+            OpenRequest::Store { .. } | OpenRequest::Poke { .. } => given = Vec::from_slice(
+                alloc, bytes,
+            )?,
             _ => {}
         }
         self.given = given;

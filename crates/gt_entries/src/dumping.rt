@@ -40,7 +40,12 @@ fn count_of(version: u8, dump: &[u8]) -> usize
 }
 
 // Appends the text of a dump.
-fn push_dump(alloc: Global, out: &mut Vec<u8>, asked: DumpOptions, dump: &[u8]) -> Result<(), AllocError>
+fn push_dump(
+    alloc: Global,
+    out: &mut Vec<u8>,
+    asked: DumpOptions,
+    dump: &[u8],
+) -> Result<(), AllocError>
     requires few { length dump.now ≤ most_bytes }
     requires empty { out.old.items ≡ [] }
     ensures { OnOk result (TellsDump asked dump.now out.new.items) }

@@ -8,8 +8,7 @@ ghost use Rattle.gt_explore.specs.Witness.{GivesAnswers, SameAnswers};
 
 use crate::fault::TextsFault;
 use gt_host::{PlayFault, play};
-use gt_text::push_text;
-use gt_text::push_number;
+use gt_text::{push_number, push_text};
 use gt_types::{DomId, DomainConfig};
 use std::alloc::{AllocError, Global};
 

@@ -17,10 +17,10 @@ use crate::fault::{ExploreFault, TextsFault};
 use crate::telling::{is_any_wanted, push_found_texts};
 use crate::texts::{FoundTexts, texts_of};
 use crate::witness::push_witness;
+use gt_explore_search::FoundText;
 use gt_host::PlayFault;
 use gt_script::{RunScript, parse_run};
 use gt_text::{read_text, text_of, write_text};
-use gt_explore_search::FoundText;
 use std::alloc::Global;
 use std::io::{Read, Write};
 
@@ -41,7 +41,11 @@ struct ExploreOutput {
 }
 
 // The texts that are asked for.
-fn texts_made(alloc: Global, asked: &ExploreOptions, all: &FoundTexts) -> Result<ExploreOutput, TextsFault>
+fn texts_made(
+    alloc: Global,
+    asked: &ExploreOptions,
+    all: &FoundTexts,
+) -> Result<ExploreOutput, TextsFault>
     ensures text { IfOk result (λ made. made.text.items
         ≡ told_of (word_asked asked.now) all.now.states (texts_of_orders all.now.texts.items)) }
     ensures any { IfOk result (λ made. made.is_any
@@ -100,7 +104,12 @@ fn witness_made(
 }
 
 // What is to be written of a script.
-fn make(alloc: Global, asked: &ExploreOptions, source: &[u8], script: &RunScript) -> Result<ExploreOutput, TextsFault>
+fn make(
+    alloc: Global,
+    asked: &ExploreOptions,
+    source: &[u8],
+    script: &RunScript,
+) -> Result<ExploreOutput, TextsFault>
     requires fits { CanConfigure (contents_told script.now.head) }
     requires numbered { AreNumbered script.now.flags script.now.tasks }
     ensures { IfOk result (λ made. IsMade (run_told script.now) asked.now made.text.items made.is_any) }

@@ -1,8 +1,8 @@
 //! Why a script was not explored.
-use gt_host::PlayFault;
 use gt_explore_replay::ReplayFault;
-use gt_types::DomId;
 use gt_explore_search::SearchFault;
+use gt_host::PlayFault;
+use gt_types::DomId;
 use std::alloc::{AllocError, AllocFailed};
 use std::error::Error;
 use std::fmt;

@@ -6,10 +6,9 @@ ghost use Rattle.gt_explore.specs.Telling.{has_word, heading, is_between, is_wan
 ghost use Rattle.gt_explore.specs.Telling.{texts_told};
 ghost use Rattle.gt_explore.specs.Adding.{texts_of_orders};
 
-use gt_script_lines::is_word;
-use gt_text::push_text;
-use gt_text::push_number;
 use gt_explore_search::FoundText;
+use gt_script_lines::is_word;
+use gt_text::{push_number, push_text};
 use std::alloc::AllocError;
 
 fn is_between(byte: u8) -> bool
@@ -22,7 +21,8 @@ fn is_between(byte: u8) -> bool
 fn has_word(text: &[u8], word: &str) -> bool
     ensures { result ≡ has_word word.now text.now }
 {
-    text.split(|b| is_between(*b)).any(|part| is_word(part, word))
+    text.split(|b| is_between(*b))
+        .any(|part| is_word(part, word))
 }
 
 // Whether a text is asked for.

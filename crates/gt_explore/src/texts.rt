@@ -10,10 +10,10 @@ ghost use Rattle.gt_explore_search.specs.declared.exploring.FoundText.{FoundText
 ghost use Rattle.gt_explore.specs.Adding.{AddsOrder, AreDifferentTexts, IsTextAmong, IsApart, texts_of_orders};
 
 use crate::fault::TextsFault;
-use gt_explore_replay::text_of;
-use gt_script::RunScript;
 use gt_explore_moves::search;
+use gt_explore_replay::text_of;
 use gt_explore_search::FoundText;
+use gt_script::RunScript;
 use std::alloc::{AllocError, Global};
 
 /// Texts that a script may give, each with turns that lead to it, in the order of their bytes; and how many states the
@@ -79,7 +79,11 @@ fn replayed(alloc: Global, script: &RunScript, order: FoundText) -> Result<Found
 }
 
 // One order for each text that some of these orders have, in the order of their bytes.
-fn distinct(alloc: Global, script: &RunScript, orders: Vec<FoundText>) -> Result<Vec<FoundText>, TextsFault>
+fn distinct(
+    alloc: Global,
+    script: &RunScript,
+    orders: Vec<FoundText>,
+) -> Result<Vec<FoundText>, TextsFault>
     requires { CanConfigure (contents_told script.now.head) }
     ensures possible { IfOk result (λ texts. All (MayGive (run_told script.now)) (texts_of_orders texts.items)) }
     ensures whole { (at : ℕ) (o : FoundText) → slice_get orders.items at ≡ Some o →

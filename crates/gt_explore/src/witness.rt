@@ -3,11 +3,10 @@ ghost use Rattle.gt_script.specs.Contents.{contents_told};
 ghost use Rattle.gt_script.specs.RunScripts.{CanConfigure};
 
 use crate::fault::TextsFault;
-use gt_script_lines::{line_words, text_lines};
 use gt_explore_replay::{Replay, Turn, Walker};
 use gt_script::{RunAction, RunScript, RunTask};
-use gt_text::push_text;
-use gt_text::push_number;
+use gt_script_lines::{line_words, text_lines};
+use gt_text::{push_number, push_text};
 use gt_types::DomId;
 use std::alloc::{AllocError, Global};
 

@@ -2,7 +2,7 @@
 ghost use Rattle.std.specs.Prelude.{◌≡◌, ◌++◌, [], ◌∷◌, map};
 ghost use Rattle.gt_explore_moves.specs.Mappings.{labels_of, mapping_pins, apart_from, label_bytes, unless_given};
 
-use gt_calls::{Call, HeldPin, PinHolder, Step, CallResult};
+use gt_calls::{Call, CallResult, HeldPin, PinHolder, Step};
 use std::alloc::{AllocError, Global};
 
 /// A mapping, and the label that names it.

@@ -4,7 +4,7 @@ ghost use Rattle.gt_calls.specs.Following.{Goes, IsLeftAlike};
 ghost use Rattle.gt_calls.specs.Rules.{CallerKnowledge, knows};
 ghost use Rattle.gt_explore_moves.specs.Beginnings.{BeginsAlike, OpensSo};
 
-use gt_calls::{Action, Call, CallerState, Request, Observation, CallStart, Step, CallResult};
+use gt_calls::{Action, Call, CallResult, CallStart, CallerState, Observation, Request, Step};
 use gt_types::{Allows, DomId};
 
 /// How a call begins: open, with its first step, or over.
@@ -15,7 +15,11 @@ pub enum CallOpening {
 }
 
 /// How a call begins, by what is known or by what begins it alike.
-pub fn open_call<P: Allows>(known: &CallerState<'_, P>, dom: DomId, request: Request<'_>) -> CallOpening
+pub fn open_call<P: Allows>(
+    known: &CallerState<'_, P>,
+    dom: DomId,
+    request: Request<'_>,
+) -> CallOpening
     ensures { (k : CallerKnowledge) → BeginsAlike k (knows P.may known.now) dom request.entry →
         OpensSo k dom request.entry result }
 {

@@ -1,10 +1,10 @@
 //! The bytes by which a state is found again.
-use crate::actor::{Actor, LabelledMapping, ActorCall};
+use crate::actor::{Actor, ActorCall, LabelledMapping};
 use crate::phases::{push, push_held, push_phase};
 use crate::scene::{SearchContext, SearchState};
 use gt_calls::{BodyWord, PinHolder};
-use gt_types::GrantRef;
 use gt_explore_state::{SparsePage, SparseTable};
+use gt_types::GrantRef;
 use std::alloc::AllocError;
 
 // The entries that are not as they were at the start.

@@ -25,5 +25,5 @@ mod scene;
 mod searching;
 mod space;
 
-pub use gt_explore_search::{SearchResult, FoundText, SearchFault};
+pub use gt_explore_search::{FoundText, SearchFault, SearchResult};
 pub use searching::search;

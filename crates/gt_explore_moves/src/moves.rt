@@ -16,16 +16,18 @@ use crate::actor::{Actor, ActorCall};
 use crate::calls::{CallOpening, go_on, open_call};
 use crate::names::names_of;
 use crate::scene::{SearchContext, SearchState};
-use gt_calls::{Action, Call, Handles, HeldPin, CallerState, Request, Observation, Step, CallResult};
+use gt_calls::{
+    Action, Call, CallResult, CallerState, Handles, HeldPin, Observation, Request, Step,
+};
 use gt_core::{Answer, Bytes, answer_of};
 use gt_entry::Entry;
-use gt_host::{ScriptPolicy, call_bytes, label_given, push_answer_line, request_of};
-use gt_script_lines::ScriptCall;
 use gt_explore_replay::Turn;
-use gt_script::{RunAction, RunTask};
-use gt_types::DomId;
-use gt_explore_search::{TurnResult, SearchFault};
+use gt_explore_search::{SearchFault, TurnResult};
 use gt_explore_state::{SparseState, SparseTable};
+use gt_host::{ScriptPolicy, call_bytes, label_given, push_answer_line, request_of};
+use gt_script::{RunAction, RunTask};
+use gt_script_lines::ScriptCall;
+use gt_types::DomId;
 use std::alloc::{AllocError, Global};
 
 // A law: each number of an entry fits its type.
@@ -112,7 +114,11 @@ impl<'s, 'a> SearchContext<'s, 'a> {
     ghost use Rattle.gt_explore_state.specs.Shows.{PagesShow};
 
     // What a domain knows, if these are its mappings.
-    fn known<'k>(&'k self, table: &'k SparseTable, mappings: &'k Handles<HeldPin>) -> CallerState<'k, ScriptPolicy>
+    fn known<'k>(
+        &'k self,
+        table: &'k SparseTable,
+        mappings: &'k Handles<HeldPin>,
+    ) -> CallerState<'k, ScriptPolicy>
         ensures { knows may_by result ≡ known_in self.now table.now mappings.now }
     {
         CallerState {
@@ -286,7 +292,12 @@ impl<'s, 'a> SearchContext<'s, 'a> {
     }
 
     // The open call of a domain makes its step, in tables and pages. This is what the step saw.
-    fn make(&self, ground: &mut SparseState, at: usize, open: ActorCall) -> Result<Observation, SearchFault>
+    fn make(
+        &self,
+        ground: &mut SparseState,
+        at: usize,
+        open: ActorCall,
+    ) -> Result<Observation, SearchFault>
         ensures { (s : Setting) (h : History) (before : SearchState) (k : Course) (a : Actor) (i : Item) →
             IsTick s h self.now before at k a «open» i → ground.old ≡ before.ground →
             IfOk result (λ seen. HasStepped s h k i «open» seen ground.new.tables.items ground.new.pages.items) }
@@ -299,7 +310,12 @@ impl<'s, 'a> SearchContext<'s, 'a> {
     }
 
     // The answer of a call that ends so after this step.
-    fn answer(&self, ground: &SparseState, last: Step, verdict: CallResult) -> Result<Answer, SearchFault>
+    fn answer(
+        &self,
+        ground: &SparseState,
+        last: Step,
+        verdict: CallResult,
+    ) -> Result<Answer, SearchFault>
         ensures { (h : History) → PagesShow h ground.now.pages.items → ReadsInFrame last →
             IfOk result (TellsEnd h last verdict) }
     {
@@ -421,7 +437,12 @@ impl<'s, 'a> SearchContext<'s, 'a> {
     }
 
     // The open call of a domain makes its next step.
-    fn tick(&self, world: &mut SearchState<'a>, at: usize, open: ActorCall) -> Result<TurnResult, SearchFault>
+    fn tick(
+        &self,
+        world: &mut SearchState<'a>,
+        at: usize,
+        open: ActorCall,
+    ) -> Result<TurnResult, SearchFault>
         ensures { (s : Setting) (h : History) (k j : Course) (a : Actor) (i : Item) →
             ShowsAt s h self.now world.old at k a → a.«open» ≡ Some «open» → IsItemOf (Tick k.dom) i → IsRight s h i →
             TickLeads self.now.types.items k k.opened i j →
@@ -471,7 +492,11 @@ impl<'s, 'a> SearchContext<'s, 'a> {
     }
 
     /// The move of a domain.
-    pub fn advance(&self, world: &mut SearchState<'a>, turn: Turn) -> Result<TurnResult, SearchFault>
+    pub fn advance(
+        &self,
+        world: &mut SearchState<'a>,
+        turn: Turn,
+    ) -> Result<TurnResult, SearchFault>
         ensures { IfOk result (λ led. MovesAlong self.now turn.place turn.choice world.old led world.new) }
     {
         let at = turn.place;

@@ -5,9 +5,9 @@ ghost use Rattle.gt_explore_moves.specs.Placing.{ArePlaced};
 use crate::actor::LabelledMapping;
 use gt_calls::{Handle, Handles, HeldPin};
 use gt_core::Answer;
+use gt_explore_search::SearchFault;
 use gt_host::{Labels, name_mapping};
 use gt_types::DomId;
-use gt_explore_search::SearchFault;
 use std::alloc::Global;
 
 /// The mappings of a domain under handles, whose serials are their places, and its labels.

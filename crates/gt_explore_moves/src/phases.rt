@@ -1,5 +1,5 @@
 //! The bytes that tell where an open call is.
-use gt_calls::{PinPurpose, HeldPin, Leg, LegPhase, Phase, CallPins, AccessPath, CallResult};
+use gt_calls::{AccessPath, CallPins, CallResult, HeldPin, Leg, LegPhase, Phase, PinPurpose};
 use gt_script_lines::Text;
 use gt_text::push_denial;
 use gt_types::{Dir, Facts};

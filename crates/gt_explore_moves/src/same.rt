@@ -3,11 +3,14 @@ ghost use Rattle.std.specs.Prelude.{◌≡◌, IsTrue};
 ghost use Rattle.gt_explore_moves.specs.Copies.{SameActor, SameActors, SameWorld};
 ghost use Rattle.gt_explore_moves.specs.Mappings.{labels_of, mapping_pins, label_bytes};
 
-use crate::actor::{Actor, LabelledMapping, ActorCall};
+use crate::actor::{Actor, ActorCall, LabelledMapping};
+use crate::same_steps::same_step;
 use crate::scene::SearchState;
-use gt_calls::{PinPurpose, OpenRequest, Call, HeldPin, Leg, LegPhase, Phase, CallPins, HeaderQuery, AccessPath, CallValue, CallResult};
+use gt_calls::{
+    AccessPath, Call, CallPins, CallResult, CallValue, HeaderQuery, HeldPin, Leg, LegPhase,
+    OpenRequest, Phase, PinPurpose,
+};
 use gt_types::{Denial, Facts};
-use crate::same_steps::{same_step};
 
 fn same_asked(one: OpenRequest, other: OpenRequest) -> bool
     ensures { IsTrue result → other ≡ one }
@@ -62,7 +65,8 @@ fn same_asked(one: OpenRequest, other: OpenRequest) -> bool
             },
         ) => frame == f && off == o && len == l,
         (OpenRequest::Copy(args), OpenRequest::Copy(a)) => args == a,
-        (OpenRequest::SetVersion { version }, OpenRequest::SetVersion { version: v }) => version == v,
+        (OpenRequest::SetVersion { version }, OpenRequest::SetVersion { version: v }) => version
+            == v,
         (OpenRequest::SetupTable { frames }, OpenRequest::SetupTable { frames: f }) => frames == f,
         (OpenRequest::QuerySize { dom }, OpenRequest::QuerySize { dom: d })
         | (OpenRequest::GetVersion { dom }, OpenRequest::GetVersion { dom: d }) => dom == d,
@@ -74,7 +78,8 @@ fn same_question(one: HeaderQuery, other: HeaderQuery) -> bool
     ensures { IsTrue result → other ≡ one }
 {
     match (one, other) {
-        (HeaderQuery::Size, HeaderQuery::Size) | (HeaderQuery::Version, HeaderQuery::Version) => true,
+        (HeaderQuery::Size, HeaderQuery::Size) | (HeaderQuery::Version, HeaderQuery::Version) =>
+            true,
         _ => false,
     }
 }

@@ -1,8 +1,8 @@
 //! Whether two steps are the same.
 ghost use Rattle.std.specs.Prelude.{◌≡◌, IsTrue};
 
-use gt_calls::{Step};
-use crate::same::{same_held};
+use crate::same::same_held;
+use gt_calls::Step;
 
 // Of steps that look at a word. Others are not the same by this test.
 fn same_look(one: Step, other: Step) -> bool

@@ -8,13 +8,13 @@ ghost use Rattle.gt_types.specs.Config.{IsWithinLimits};
 ghost use Rattle.gt_explore_state.specs.Shows.{IsSettingOf};
 
 use crate::actor::Actor;
-use gt_host::ScriptPolicy;
-use gt_script_lines::Text;
-use gt_roster::Roster;
-use gt_script::{RunScript, Script, RunTask};
-use gt_types::{Config, DomainConfig, StartFault};
 use gt_explore_search::SearchFault;
 use gt_explore_state::SparseState;
+use gt_host::ScriptPolicy;
+use gt_roster::Roster;
+use gt_script::{RunScript, RunTask, Script};
+use gt_script_lines::Text;
+use gt_types::{Config, DomainConfig, StartFault};
 use std::alloc::{AllocError, Global};
 
 /// What all states of a search have in common.
@@ -132,7 +132,10 @@ impl<'s, 'a> SearchContext<'s, 'a> {
     ghost use Rattle.gt_explore_moves.specs.Scenes.{IsSceneOf, SceneShows};
 
     /// The common part of the states of a script.
-    pub fn new(alloc: Global, script: &'s RunScript<'a>) -> Result<SearchContext<'s, 'a>, SearchFault>
+    pub fn new(
+        alloc: Global,
+        script: &'s RunScript<'a>,
+    ) -> Result<SearchContext<'s, 'a>, SearchFault>
         requires { CanConfigure (contents_told script.now.head) }
         ensures { AreNumbered script.entry.now.flags script.entry.now.tasks →
             IfOk result (IsSceneOf (run_told script.entry.now)) }

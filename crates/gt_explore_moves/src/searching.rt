@@ -7,8 +7,8 @@ ghost use Rattle.gt_script.specs.Stuck.{AreNumbered};
 ghost use Rattle.gt_explore_moves.specs.Spaces.{FindsAll};
 
 use crate::scene::SearchContext;
+use gt_explore_search::{SearchFault, SearchResult};
 use gt_script::RunScript;
-use gt_explore_search::{SearchResult, SearchFault};
 use std::alloc::Global;
 
 /// Goes through the states of a script's run, at most `limit` of them. For each text that the script may give it

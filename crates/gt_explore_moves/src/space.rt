@@ -4,7 +4,7 @@ ghost use Rattle.gt_explore_moves.specs.Spaces.{scene_ways};
 use crate::same::same_worlds;
 use crate::scene::{SearchContext, SearchState};
 use gt_explore_replay::Turn;
-use gt_explore_search::{TurnResult, SearchFault, TransitionSystem};
+use gt_explore_search::{SearchFault, TransitionSystem, TurnResult};
 use std::alloc::AllocError;
 
 impl<'s> TransitionSystem for SearchContext<'s, 's> {

@@ -15,8 +15,8 @@ use crate::fault::ReplayFault;
 use crate::walker::Walker;
 use gt_core::{Core, Observation, Step};
 use gt_host::{ScriptPolicy, core_of};
-use gt_script_lines::Text;
 use gt_script::{RunAction, RunScript};
+use gt_script_lines::Text;
 use gt_types::DomainConfig;
 use std::alloc::{AllocError, Global};
 

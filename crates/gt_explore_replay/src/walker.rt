@@ -8,8 +8,8 @@ use gt_core::{Answer, Begun, Core, Handle, Request, Ticked};
 use gt_host::{
     Labels, ScriptPolicy, call_bytes, label_given, name_mapping, push_answer_line, request_of,
 };
-use gt_script_lines::{ScriptCall, Text};
 use gt_script::RunTask;
+use gt_script_lines::{ScriptCall, Text};
 use gt_types::DomId;
 use std::alloc::{AllocError, Global};
 

@@ -4,7 +4,7 @@ ghost use Rattle.std.specs.Option.{option_map};
 ghost use Rattle.gt_explore_search.specs.Exploring.{AllTextsFound, SearchStarts};
 
 use crate::fault::SearchFault;
-use crate::spaces::{TurnResult, TransitionSystem};
+use crate::spaces::{TransitionSystem, TurnResult};
 use crate::states::StateIndex;
 use crate::suffixes::{AnswerLine, AnswerLists};
 use gt_explore_replay::Turn;
@@ -142,7 +142,11 @@ impl<W: Drop> Explorer<W> {
     }
 
     // The state is met for the first time: its moves are to be tried.
-    fn visit<S: TransitionSystem<State = W>>(&mut self, space: &S, state: usize) -> Result<OpenNode, SearchFault>
+    fn visit<S: TransitionSystem<State = W>>(
+        &mut self,
+        space: &S,
+        state: usize,
+    ) -> Result<OpenNode, SearchFault>
         ensures holds { SearchHolds (S.ways space.now) self.old → IfOk result (λ v.
             SearchHolds (S.ways space.now) self.new × Grew self.old self.new
             × VisitHolds (S.ways space.now) self.new v) }
@@ -251,7 +255,11 @@ impl<W: Drop> Explorer<W> {
     }
 
     // All moves of the state have been tried.
-    fn finish<S: TransitionSystem<State = W>>(&mut self, _space: &S, visit: OpenNode) -> Result<(), AllocError>
+    fn finish<S: TransitionSystem<State = W>>(
+        &mut self,
+        _space: &S,
+        visit: OpenNode,
+    ) -> Result<(), AllocError>
         ensures { SearchHolds (S.ways _space.now) self.old → VisitHolds (S.ways _space.now) self.old visit →
             length visit.turns.items ≤ visit.next →
             OnOk result (SearchHolds (S.ways _space.now) self.new × Grew self.old self.new) }
@@ -290,7 +298,11 @@ impl<W: Drop> Explorer<W> {
     }
 
     // Goes through all states from this one on.
-    fn walk<S: TransitionSystem<State = W>>(&mut self, space: &S, first: OpenNode) -> Result<(), SearchFault>
+    fn walk<S: TransitionSystem<State = W>>(
+        &mut self,
+        space: &S,
+        first: OpenNode,
+    ) -> Result<(), SearchFault>
         ensures { SearchHolds (S.ways space.now) self.old → VisitHolds (S.ways space.now) self.old first →
             OnOk result (SearchHolds (S.ways space.now) self.new × Grew self.old self.new) }
     {
@@ -376,7 +388,11 @@ fn new_explorer<S: TransitionSystem>(
 }
 
 /// Goes through the states of a space, at most `limit` of them.
-pub fn search<S: TransitionSystem>(alloc: Global, space: &S, limit: usize) -> Result<SearchResult, SearchFault>
+pub fn search<S: TransitionSystem>(
+    alloc: Global,
+    space: &S,
+    limit: usize,
+) -> Result<SearchResult, SearchFault>
     ensures { IfOk result (AllTextsFound (S.ways space.now)) }
 {
     let mut explorer = new_explorer(alloc, space, limit)?;

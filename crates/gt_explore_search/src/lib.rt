@@ -15,6 +15,6 @@ mod spaces;
 mod states;
 mod suffixes;
 
-pub use exploring::{SearchResult, FoundText, search};
+pub use exploring::{FoundText, SearchResult, search};
 pub use fault::SearchFault;
-pub use spaces::{TurnResult, TransitionSystem};
+pub use spaces::{TransitionSystem, TurnResult};

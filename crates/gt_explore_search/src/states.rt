@@ -42,7 +42,12 @@ impl<W: Drop> StateIndex<W> {
     }
 
     // The state with this key that is the same.
-    fn find<S: TransitionSystem<State = W>>(&self, space: &S, key: &Vec<u8>, world: &W) -> Option<usize>
+    fn find<S: TransitionSystem<State = W>>(
+        &self,
+        space: &S,
+        key: &Vec<u8>,
+        world: &W,
+    ) -> Option<usize>
         ensures { IfSome result (λ n. IsShownAt (S.ways space.now) self.now.worlds.items n world.now) }
     {
         let numbers = self.keys.get(key)?;

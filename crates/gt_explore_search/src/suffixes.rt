@@ -38,7 +38,11 @@ fn place_in(list: &[AnswerLine], place: usize) -> usize
 }
 
 // The list with this line before those that its domain prints later.
-fn with_line(alloc: Global, list: &[AnswerLine], line: AnswerLine) -> Result<Vec<AnswerLine>, AllocError>
+fn with_line(
+    alloc: Global,
+    list: &[AnswerLine],
+    line: AnswerLine,
+) -> Result<Vec<AnswerLine>, AllocError>
     ensures { IfOk result (λ longer. (at : ℕ) × IsBefore at line.place list.now
         × (at ≤ length list.now) × (longer.items ≡ insert list.now at line)) }
 {
@@ -110,7 +114,12 @@ impl AnswerLists {
     }
 
     // Appends what the domain at this place prints of these lines.
-    fn push_printed(&self, out: &mut Vec<u8>, list: &[AnswerLine], place: usize) -> Result<(), AllocError>
+    fn push_printed(
+        &self,
+        out: &mut Vec<u8>,
+        list: &[AnswerLine],
+        place: usize,
+    ) -> Result<(), AllocError>
         ensures { OnOk result (out.new.items
             ≡ out.old.items ++ printed_of self.now.lines.keys list.now place) }
     {

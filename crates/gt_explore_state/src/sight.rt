@@ -38,7 +38,13 @@ fn look_control(config: &Roster, tables: &[SparseTable], dom: DomId, gref: Grant
     }
 }
 
-fn look_body(config: &Roster, tables: &[SparseTable], dom: DomId, gref: GrantRef, half: BodyWord) -> u64
+fn look_body(
+    config: &Roster,
+    tables: &[SparseTable],
+    dom: DomId,
+    gref: GrantRef,
+    half: BodyWord,
+) -> u64
     ensures { result ≡ body_in_table (table_in config.now.domains.items tables.now dom.0) gref.0 half }
 {
     match table_of(config, tables, dom) {
@@ -53,7 +59,9 @@ pub fn see_in(config: &Roster, tables: &[SparseTable], actor: DomId, step: Step)
 {
     match step {
         Step::LookHeader { dom } => Observation::Word(look_header(config, tables, dom)),
-        Step::LookControl { dom, gref } => Observation::Word(look_control(config, tables, dom, gref)),
+        Step::LookControl { dom, gref } => Observation::Word(look_control(
+            config, tables, dom, gref,
+        )),
         Step::LookBody { dom, gref, half } => {
             Observation::Word(look_body(config, tables, dom, gref, half))
         }

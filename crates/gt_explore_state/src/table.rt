@@ -3,7 +3,7 @@ ghost use Rattle.std.specs.Prelude.{◌≡◌};
 ghost use Rattle.gt_entry.specs.Words.{header_word};
 
 use crate::rows::{change_own, counts_at, set_counts, word_at};
-use gt_calls::{EntryChange, BodyWord, OwnerEntry};
+use gt_calls::{BodyWord, EntryChange, OwnerEntry};
 use gt_core::{CountsChange, PinCounts};
 use gt_entry::Header;
 use gt_types::GrantRef;

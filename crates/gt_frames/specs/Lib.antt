@@ -3,8 +3,6 @@ pub mod Copies
 pub mod Covering
 pub mod Frames
 pub mod Places
-pub mod Pool
 pub mod Receipts
 pub mod Sets
-pub mod Visits
 pub mod Writers

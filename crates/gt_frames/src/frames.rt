@@ -6,7 +6,7 @@ ghost use Rattle.gt_frames.specs.Frames.{FrameState, covers};
 ghost use Rattle.gt_frames.specs.Receipts.{copying_of};
 ghost use Rattle.gt_frames.specs.Sets.{zero_frames, CopiesAmong};
 
-use crate::places::{find, frame_counts};
+use crate::places::{frame_counts, number_in_pool};
 use crate::{Copied, Frame, FrameCount, FrameName, Spot, Writ, Written};
 use gt_types::{Config, DomId, FRAME_SIZE, Memory, Range};
 use std::alloc::Global;
@@ -48,7 +48,7 @@ fn with_domain(
 }
 
 /// The frames of these domains, in their order, each of zeros and by its owner and number.
-pub(crate) fn frames_of_zeros(alloc: Global, domains: &[FrameCount]) -> Result<Vec<Frame>, Memory>
+pub fn frames_of_zeros(alloc: Global, domains: &[FrameCount]) -> Result<Vec<Frame>, Memory>
     ensures { IfOk result (λ frames. frames.items ≡ flat_map zero_frames domains.now) }
 {
     let mut frames = Vec::new(alloc);
@@ -118,7 +118,7 @@ impl Frames {
         ensures place { result ≡ place_in self.now name }
         ensures below { IfSome result (λ place. place < length self.now.journals) }
     {
-        find(&self.domains, name)
+        number_in_pool(&self.domains, name)
     }
 
     /// The frame of this name.

@@ -6,7 +6,7 @@ use std::marker::{Model, PhantomData};
 
 /// A list of pairs, which takes no memory. A clause reads the pairs as `items`, the oldest first.
 #[derive(Drop)]
-pub(crate) struct History<A, B> {
+pub struct History<A, B> {
     of: PhantomData<(A, B)>,
     pub ghost items: { List (A × B) },
 }

@@ -11,10 +11,9 @@
 //! caller shows who may write, by a writ that covers the range.
 //!
 //! [`Frames`] are all frames of a run for one thread: a write or a copy names its frames by owner and
-//! number, changes just the one written, and leaves all others as they were. A [`Pool`] has each of
-//! them under a lock of its own: a frame that is handed out has the name that was asked for.
+//! number, changes just the one written, and leaves all others unchanged. No frame has a lock here.
 //!
-//! It uses `gt_types` (names), `gt_entry` (entries, and what they permit) and `crossbeam_utils` (room beside a lock).
+//! It uses `gt_types` (names), `gt_entry` (entries, and what they permit) and `bytes` (a lemma on lists).
 #![tactic(auto)]
 
 mod bytes;
@@ -24,19 +23,16 @@ mod history;
 mod journal;
 mod laws;
 mod places;
-mod pool;
 mod receipts;
-mod visits;
 mod writ;
 mod writers;
 
 pub use bytes::FrameBytes;
 pub use frame::Frame;
-pub use frames::Frames;
+pub use frames::{Frames, frames_of_zeros};
 pub use gt_types::{FrameName, Spot};
+pub use history::History;
 pub use laws::{a_covered_record_shows_no_byte, as_many_records_as_bytes_are_enough};
-pub use places::FrameCount;
-pub use pool::{LockedPair, Pool};
+pub use places::{FrameCount, frame_counts, number_in_pool};
 pub use receipts::{Copied, Filled, Read, Written};
-pub use visits::{LockedFrame, FrameAccesses};
-pub use writ::{WriteBasis, Writ, WriteRecord};
+pub use writ::{Writ, WriteBasis, WriteRecord};

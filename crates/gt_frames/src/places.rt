@@ -13,7 +13,7 @@ pub struct FrameCount {
 }
 
 /// How many frames each domain has, in the order of the configuration.
-pub(crate) fn frame_counts(alloc: Global, config: &Config) -> Result<Vec<FrameCount>, Memory>
+pub fn frame_counts(alloc: Global, config: &Config) -> Result<Vec<FrameCount>, Memory>
     ensures { IfOk result (λ counts. counts.items ≡ frame_counts config.now.domains.items) }
 {
     let mut counts = Vec::new(alloc);
@@ -28,7 +28,7 @@ pub(crate) fn frame_counts(alloc: Global, config: &Config) -> Result<Vec<FrameCo
 
 /// The pool number of a frame. The numbers run over the frames of the first domain, then of the
 /// second, and so on.
-pub(crate) fn find(domains: &[FrameCount], name: FrameName) -> Option<usize>
+pub fn number_in_pool(domains: &[FrameCount], name: FrameName) -> Option<usize>
     requires { frames_of domains.now < 2 ^ 64 }
     ensures { result ≡ pool_number domains.now name.owner name.number 0 }
 {

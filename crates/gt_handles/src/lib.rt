@@ -14,4 +14,4 @@
 mod handles;
 mod laws;
 
-pub use handles::{Handle, Handles, HandleSlot};
+pub use handles::{Handle, HandleSlot, Handles};

@@ -20,7 +20,11 @@ pub struct AuditRecords {
 
 // How a call is recorded that the domain is about to make; None if such calls are not audited. An unmap is
 // recorded by the entry that is mapped now: once it has its answer, its handle may name none.
-fn hypercall_of_request<P: Allows>(core: &Core<P>, dom: DomId, request: Request<'_>) -> Option<Hypercall>
+fn hypercall_of_request<P: Allows>(
+    core: &Core<P>,
+    dom: DomId,
+    request: Request<'_>,
+) -> Option<Hypercall>
     ensures { IsAbout (setting_of core.now.config (P.may core.now.rights)) core.now.state
         dom request.entry result }
 {

@@ -12,7 +12,7 @@ ghost use Rattle.gt_text.specs.declared.streams.TheConstants.{READ_LIMIT};
 ghost use Rattle.gt_host.specs.Playing.{CanStart, StartsFor, WritesRun, BeginsRun, Played};
 
 use crate::answers::push_open_line;
-use crate::fault::{StepsFault, PlayFault};
+use crate::fault::{PlayFault, StepsFault};
 use crate::kept::PlayState;
 use crate::laws::every_beginning_is_of_the_text;
 use crate::open_calls::{OpenCalls, Opened};

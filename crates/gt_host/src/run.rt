@@ -20,8 +20,8 @@ use crate::outcome::LineOutcome;
 use crate::showing::push_show_line;
 use gt_calls::MAX_STEPS;
 use gt_core::{Answer, Begun, Core, Request, Ticked};
-use gt_script_lines::{ScriptAction, ScriptCall, Text, hex_bytes};
 use gt_script::ScriptStep;
+use gt_script_lines::{ScriptAction, ScriptCall, Text, hex_bytes};
 use gt_types::{Allows, DomId, Memory};
 use std::alloc::{AllocError, Global};
 

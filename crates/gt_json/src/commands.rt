@@ -9,12 +9,12 @@ ghost use Rattle.gt_policy_list.specs.declared.fault.ListingFault.TheVariants as
 ghost use Rattle.gt_entries.specs.declared.fault.DumpFault.TheVariants as dumps;
 ghost use Rattle.gt_json.specs.AsJson.{ForInput, PlayedAsJson, RanAsJson, ListedAsJson, ToldAsJson, Passes};
 
-use gt_audit::SharedLog;
-use gt_entries::{DumpOptions, DumpFault, entries};
-use gt_host::{PlayFault, play};
 use crate::fault::JsonFault;
 use crate::lines::write_json;
 use crate::places::PrintedText;
+use gt_audit::SharedLog;
+use gt_entries::{DumpFault, DumpOptions, entries};
+use gt_host::{PlayFault, play};
 use gt_policy_list::{ListingFault, policy};
 use gt_run::{Gate, RunFault, run};
 use gt_text::every_writer_keeps_what_it_has;

@@ -9,7 +9,7 @@ use Rattle.gt_types.specs.declared.places.FrameName.{FrameName}
 use Rattle.gt_types.specs.declared.places.Spot.{Spot}
 use Rattle.gt_frames.specs.declared.writ.Writ.{Writ}
 use Rattle.gt_frames.specs.Receipts.{Copying, Reading, Writing, reading_of}
-use Rattle.gt_frames.specs.Visits.{FrameAccess, visit_in}
+use Rattle.gt_access.specs.Visits.{FrameAccess, visit_in}
 use Rattle.gt_access.specs.Accesses.{IsReadOf, copying_at, writing_at}
 use Rattle.gt_access.specs.Routes.{writ_by}
 use Rattle.gt_access.specs.Visiting.{LeavesBoth, VisitsToCopy, VisitsToRead, VisitsToWrite}

@@ -10,7 +10,7 @@ use Rattle.gt_live.specs.Prelude.{path_of, CallerKnowledge, knowledge_of}
 use Rattle.gt_live.specs.Prelude.{entry_in}
 use Rattle.gt_live.specs.Prelude.{own_generation, Domain, Departed, Monitor, NotMade, Gone, OutOfMemory, Step}
 use Rattle.gt_audit.specs.Telling.{Tells}
-use Rattle.gt_frames.specs.Visits.{FrameAccess}
+use Rattle.gt_access.specs.Visits.{FrameAccess}
 use Rattle.gt_audit.specs.declared.record.Hypercall.TheVariants as hypercalls
 use Rattle.gt_audit.specs.declared.record.Reply.TheVariants as replies
 use Rattle.gt_live.specs.Mappings.{AddsMapping, IsMappingOf, KeepsMappings, PinsAreOf, Removes}

@@ -5,7 +5,7 @@ use Rattle.gt_types.specs.declared.places.Spot.{Spot}
 use Rattle.gt_frames.specs.declared.writ.Writ.{Writ}
 use Rattle.gt_frames.specs.Frames.{IsWrite}
 use Rattle.gt_frames.specs.Receipts.{Copying, End, Reading, Writing, reading_of, writing_of}
-use Rattle.gt_frames.specs.Visits.{FrameAccess, visit_in}
+use Rattle.gt_access.specs.Visits.{FrameAccess, visit_in}
 use Rattle.gt_access.specs.Visiting.{CopiesIn}
 
 -- each of these frames was locked and left as it was

@@ -21,13 +21,16 @@ mod mappings;
 mod owner_calls;
 mod table_calls;
 
-use crate::driving::{pin_of};
+use crate::driving::pin_of;
 use crate::monitor::Monitor;
 pub use copies::PendingCopy;
+use gt_access::FrameAccesses;
 use gt_audit::{Hypercall, Record, Reply, Trail};
-use gt_calls::{Handle, Handles, HeldPin, CallerState, OwnerEntry, CallValue, CallResult, own_entry, size_in, version_in};
-use gt_entry::{EntryChange};
-use gt_frames::FrameAccesses;
+use gt_calls::{
+    CallResult, CallValue, CallerState, Handle, Handles, HeldPin, OwnerEntry, own_entry, size_in,
+    version_in,
+};
+use gt_entry::EntryChange;
 use gt_types::{Allows, Denial, DomId, Facts, GrantRef, Memory, Rule, Size, TypeId};
 use gt_words::Seat;
 use std::alloc::Global;

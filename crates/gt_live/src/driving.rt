@@ -10,10 +10,11 @@ ghost use Rattle.gt_live.specs.Maps.{pin_effect, pin_of, pin_verdict};
 ghost use Rattle.gt_calls.specs.declared.request.OpenRequest.TheVariants as asks;
 
 use gt_calls::{
-    BodyWord, HeldPin, CallerState, Leg, MORE_TRIES, Observation, Step, entry_refusal, every_call_goes_on_by_its_phase,
-    has_entry, header_refusal, judge_control, judge_words, map_leg, pinned,
+    BodyWord, CallerState, HeldPin, Leg, MORE_TRIES, Observation, Step, entry_refusal,
+    every_call_goes_on_by_its_phase, has_entry, header_refusal, judge_control, judge_words,
+    map_leg, pinned,
 };
-use gt_entry::{EntryChange, Control, EntryKind};
+use gt_entry::{Control, EntryChange, EntryKind};
 use gt_handles::Handle;
 use gt_types::{Allows, Denial, DomId, GrantRef, Rule};
 use gt_words::{Pin, Seat, Words};

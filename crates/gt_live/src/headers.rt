@@ -10,7 +10,9 @@ ghost use Rattle.gt_live.specs.Questions.{asks_question};
 ghost use Rattle.gt_live.specs.Walks.{Called, Made};
 
 use crate::driving::look_at_header;
-use gt_calls::{CallerState, Observation, Step, CallValue, CallResult, every_call_goes_on_by_its_phase, resolve};
+use gt_calls::{
+    CallResult, CallValue, CallerState, Observation, Step, every_call_goes_on_by_its_phase, resolve,
+};
 use gt_entry::Header;
 use gt_types::{Allows, DomId};
 use gt_words::{Seat, Words};

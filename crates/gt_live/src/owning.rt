@@ -12,10 +12,10 @@ ghost use Rattle.gt_live.specs.Walks.{Called, Made};
 
 use crate::driving::look_at_control;
 use gt_calls::{
-    BodyWord, CallerState, MORE_TRIES, OwnerEntry, Observation, Step, CallResult, entry_refusal,
+    BodyWord, CallResult, CallerState, MORE_TRIES, Observation, OwnerEntry, Step, entry_refusal,
     every_call_goes_on_by_its_phase, is_stopped, judge_change, judge_grant, judge_revoke,
 };
-use gt_entry::{EntryChange, Control, Entry};
+use gt_entry::{Control, Entry, EntryChange};
 use gt_types::{Allows, Denial, DomId, GrantRef, Rule};
 use gt_words::{Seat, Words};
 
@@ -146,9 +146,23 @@ fn drive_grant<P: Allows>(
     match entry {
         Entry::Sub { .. } => {
             store_half(words, seat, gref, BodyWord::Second, entry.second_body());
-            change_once(words, seat, caller, gref, looked, EntryChange::Publish(entry))
+            change_once(
+                words,
+                seat,
+                caller,
+                gref,
+                looked,
+                EntryChange::Publish(entry),
+            )
         }
-        _ => change_once(words, seat, caller, gref, looked, EntryChange::Publish(entry)),
+        _ => change_once(
+            words,
+            seat,
+            caller,
+            gref,
+            looked,
+            EntryChange::Publish(entry),
+        ),
     }
 }
 
@@ -223,7 +237,14 @@ pub(crate) fn drive_change<P: Allows>(
     match change {
         EntryChange::Publish(entry) => drive_grant(words, known, seat, caller, gref, looked, entry),
         EntryChange::Revoke => drive_revoke(words, known, seat, caller, gref, looked),
-        EntryChange::Withdraw => drive_turns(words, known, seat, caller, gref, EntryChange::Withdraw),
+        EntryChange::Withdraw => drive_turns(
+            words,
+            known,
+            seat,
+            caller,
+            gref,
+            EntryChange::Withdraw,
+        ),
         EntryChange::Demote => drive_turns(words, known, seat, caller, gref, EntryChange::Demote),
         EntryChange::Promote => drive_turns(words, known, seat, caller, gref, EntryChange::Promote),
     }

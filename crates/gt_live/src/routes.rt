@@ -17,8 +17,8 @@ ghost use Rattle.gt_live.specs.Walks.{Made};
 use crate::domain::refusal_of;
 use crate::driving::{pin_of, walk_leg};
 use gt_calls::{
-    CopyArgs, HeldPin, PinHolder, CallerState, Leg, CallPins, AccessPath, Observation, Step, end_leg,
-    every_call_goes_on_by_its_phase, judge_via, resolve, second_leg,
+    AccessPath, CallPins, CallerState, CopyArgs, HeldPin, Leg, Observation, PinHolder, Step,
+    end_leg, every_call_goes_on_by_its_phase, judge_via, resolve, second_leg,
 };
 use gt_entry::Entry;
 use gt_types::{Allows, Denial, Dir, DomId, GrantRef};

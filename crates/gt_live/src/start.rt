@@ -7,9 +7,9 @@ ghost use Rattle.gt_live.specs.Starting.{first_rows, IsNewDomain};
 
 use crate::domain::Domain;
 use crate::monitor::Monitor;
+use gt_access::{FrameAccesses, Pool};
 use gt_audit::Trail;
 use gt_calls::{ENTRIES, Handles, OwnerEntry};
-use gt_frames::{Pool, FrameAccesses};
 use gt_roster::Roster;
 use gt_types::{Allows, Config, StartFault};
 use gt_words::{Seat, Words};

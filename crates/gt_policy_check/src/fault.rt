@@ -216,7 +216,11 @@ fn misfit_column(alloc: Global, bytes: &[u8], line: &LineTokens) -> Result<u32, 
 }
 
 // Says where a name is declared.
-fn declared_here(alloc: Global, declared: &Declared, said: &str) -> Result<FindingNote, AllocError> {
+fn declared_here(
+    alloc: Global,
+    declared: &Declared,
+    said: &str,
+) -> Result<FindingNote, AllocError> {
     Ok(FindingNote {
         line: declared.line,
         column: declared.column,

@@ -25,7 +25,7 @@ mod places;
 mod report;
 mod texts;
 
-pub use asking::{WhyAnswer, Explanation, WhyQuestion, why};
+pub use asking::{Explanation, WhyAnswer, WhyQuestion, why};
 pub use fault::{push_hint, said_of};
 pub use findings::{Finding, FindingKind, check, check_worn};
 pub use report::{push_json, push_report};

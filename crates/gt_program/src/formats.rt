@@ -3,12 +3,12 @@ ghost use Rattle.std.specs.Prelude.{is_some};
 ghost use Rattle.gt_text.specs.Streams.{OfInput};
 ghost use Rattle.gt_program.specs.Formats.{CheckedAs, ListedAs, PlayedAs, RanAs, ToldAs};
 
-use gt_checks::{check, check_script};
-use gt_json::{entries_json, play_json, policy_json, run_json};
 use gt_audit::SharedLog;
+use gt_checks::{check, check_script};
 use gt_commands::Format;
-use gt_entries::{DumpOptions, DumpFault, entries};
+use gt_entries::{DumpFault, DumpOptions, entries};
 use gt_host::{PlayFault, play};
+use gt_json::{entries_json, play_json, policy_json, run_json};
 use gt_policy_list::{ListingFault, policy};
 use gt_run::{Gate, RunFault, run};
 use std::alloc::Global;

@@ -121,7 +121,12 @@ impl<'a> Reasons<'a> {
     }
 
     /// Adds those of a script that was read, and whose run wrote this text and ended so.
-    pub(crate) fn add_run(&mut self, input: &KeptInput, text: &[u8], ending: &Result<(), RunFault>) {
+    pub(crate) fn add_run(
+        &mut self,
+        input: &KeptInput,
+        text: &[u8],
+        ending: &Result<(), RunFault>,
+    ) {
         let Some(file) = self.file else {
             return;
         };

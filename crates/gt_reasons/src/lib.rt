@@ -28,7 +28,7 @@ pub use blocks::{block_text, has_policy};
 pub use columns::column_of;
 pub use limits::limit_of;
 pub use misfit::fitting;
-pub use reason::{ReasonNote, Reason};
+pub use reason::{Reason, ReasonNote};
 pub use refusals::push_refusals;
 pub use script::{
     block_reason, push_block_reason, push_read_reason, push_script_reason, script_reason,

@@ -4,13 +4,12 @@ ghost use Rattle.gt_reasons.specs.Reasons.{limit_of};
 
 use crate::blocks::block_text;
 use crate::columns::column_of;
-use crate::reason::{ReasonNote, Reason};
+use crate::reason::{Reason, ReasonNote};
 use crate::texts::push_word;
-use gt_policy_check::push_hint;
-use gt_script_lines::{BodyLine, DomainLine, ScriptLine, Number, line_words, read_line};
 use gt_policy::{LinedStatement, Statement, statements_of};
-use gt_text::text_of;
-use gt_text::{push_number, push_text};
+use gt_policy_check::push_hint;
+use gt_script_lines::{BodyLine, DomainLine, Number, ScriptLine, line_words, read_line};
+use gt_text::{push_number, push_text, text_of};
 use gt_types::{
     ConfigFault, DOMID_SELF, DomId, DomainConfig, LAST_VERSION, MAX_DOMAINS, MAX_FRAMES,
     MAX_TABLE_FRAMES, TypeId,
@@ -89,7 +88,11 @@ fn domains_of(alloc: Global, lines: &[Configured]) -> Result<Vec<DomainConfig>, 
 }
 
 // Says where a domain with this number is configured, if one is.
-fn first_of(alloc: Global, lines: &[Configured], id: DomId) -> Result<Option<ReasonNote>, AllocError> {
+fn first_of(
+    alloc: Global,
+    lines: &[Configured],
+    id: DomId,
+) -> Result<Option<ReasonNote>, AllocError> {
     let Some(first) = lines.iter().find(|line| line.domain.id == id) else {
         return Ok(None);
     };

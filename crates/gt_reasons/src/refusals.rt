@@ -1,11 +1,10 @@
 //! The rules that come near a call that the policy refused.
 use crate::blocks::block_text;
 use crate::texts::push_word;
+use gt_policy::PolicyFaultKind;
 use gt_policy_check::{WhyQuestion, why};
 use gt_script_lines::{ScriptLine, line_words, read_line, text_lines};
-use gt_policy::PolicyFaultKind;
-use gt_text::text_of;
-use gt_text::{push_number, push_text};
+use gt_text::{push_number, push_text, text_of};
 use std::alloc::{AllocError, Global};
 
 // A call that was refused: the number of its line, and what the policy does not allow.

@@ -4,15 +4,14 @@ ghost use Rattle.gt_reasons.specs.Reasons.{TellsAt};
 
 use crate::blocks::{block_text, has_policy};
 use crate::limits::{config_reason, mode_reason};
-use crate::reason::{ReasonNote, Reason};
+use crate::reason::{Reason, ReasonNote};
 use crate::syntax::syntax_reason;
 use crate::texts::push_heading;
 use crate::waits::stuck_reason;
 use gt_policy_check::{Finding, FindingKind, check};
-use gt_script_lines::text_lines;
 use gt_script::{BlockFault, ScriptFault, ScriptFaultKind};
-use gt_text::text_of;
-use gt_text::{push_number, push_text};
+use gt_script_lines::text_lines;
+use gt_text::{push_number, push_text, text_of};
 use gt_types::LONGEST_TEXT;
 use std::alloc::{AllocError, Global};
 

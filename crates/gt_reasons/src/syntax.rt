@@ -9,8 +9,7 @@ use crate::reason::Reason;
 use crate::texts::push_word;
 use gt_policy_check::push_hint;
 use gt_script_lines::{ScriptLine, is_word, line_words, read_line};
-use gt_text::text_of;
-use gt_text::push_text;
+use gt_text::{push_text, text_of};
 use gt_types::Perms;
 use std::alloc::{AllocError, Global};
 

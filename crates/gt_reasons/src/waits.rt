@@ -1,11 +1,10 @@
 //! Why a domain waits forever.
 use crate::columns::column_of;
-use crate::reason::{ReasonNote, Reason};
+use crate::reason::{Reason, ReasonNote};
 use crate::texts::push_word;
 use gt_policy_check::push_hint;
 use gt_script_lines::{is_word, line_words};
-use gt_text::text_of;
-use gt_text::{push_number, push_text};
+use gt_text::{push_number, push_text, text_of};
 use std::alloc::{AllocError, Global};
 
 // A line by which a domain tells a flag.

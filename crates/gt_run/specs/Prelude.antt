@@ -10,7 +10,7 @@ pub use Rattle.gt_calls.specs.declared.held.HeldPin.{HeldPin}
 pub use Rattle.gt_calls.specs.declared.request.Request.{Request}
 pub use Rattle.gt_core.specs.declared.trace.Answer.{Answer}
 pub use Rattle.gt_frames.specs.Receipts.{Copying, Reading, Writing}
-pub use Rattle.gt_frames.specs.Visits.{FrameAccess}
+pub use Rattle.gt_access.specs.Visits.{FrameAccess}
 pub use Rattle.gt_handles.specs.declared.handles.Handle.{Handle}
 pub use Rattle.gt_host.specs.Auditing.{hypercall_of_request, encoded_record}
 pub use Rattle.gt_host.specs.Naming.{AreNamed}

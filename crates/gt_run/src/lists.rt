@@ -2,9 +2,9 @@
 use crate::gate::Gate;
 use crate::serving::Output;
 use gt_audit::SharedLog;
-use gt_script_lines::Text;
 use gt_live::Monitor;
 use gt_script::RunTask;
+use gt_script_lines::Text;
 use gt_types::{Allows, DomId};
 use std::alloc::Global;
 use std::sync::Wait;

@@ -5,7 +5,7 @@ ghost use Rattle.gt_run.specs.Asking.{IsReadAnswer, plain_answer};
 use gt_audit::Trail;
 use gt_core::{Answer, Bytes, Request};
 use gt_frames::{Copied, Read, Written};
-use gt_live::{Domain, Departed, Monitor};
+use gt_live::{Departed, Domain, Monitor};
 use gt_types::{Allows, Denial};
 use std::marker::Model;
 use std::sync::Wait;

@@ -4,9 +4,9 @@ ghost use Rattle.gt_audit.specs.Telling.{nothing_told};
 ghost use Rattle.gt_run.specs.Telling.{LogsTrail};
 ghost use Rattle.std.specs.Prelude.{◌≡◌};
 
-use gt_audit::{SharedLog, DomainLog, Trail, push_line};
-use gt_script_lines::Text;
+use gt_audit::{DomainLog, SharedLog, Trail, push_line};
 use gt_live::Departed;
+use gt_script_lines::Text;
 use gt_types::{DomId, Memory};
 use std::alloc::Global;
 use std::sync::Wait;
@@ -70,7 +70,11 @@ impl<'l> TrailLogger<'l> {
 }
 
 /// What a domain pushes into a log, if there is one. Nothing was pushed yet.
-pub fn teller_for<'l>(alloc: Global, log: Option<&'l SharedLog>, dom: DomId) -> Option<TrailLogger<'l>>
+pub fn teller_for<'l>(
+    alloc: Global,
+    log: Option<&'l SharedLog>,
+    dom: DomId,
+) -> Option<TrailLogger<'l>>
     ensures { result ≡ option_map (λ l. record { told = nothing_told dom; next = 0 }) log.entry }
 {
     match log {

@@ -16,7 +16,7 @@ ghost use Rattle.gt_run.specs.Serving.{counted, AreReady, IsReady};
 
 use crate::fault::RunFault;
 use crate::gate::Gate;
-use crate::lists::{ThreadJob, DomainPart, RunContext};
+use crate::lists::{DomainPart, RunContext, ThreadJob};
 use crate::running::RunningDomain;
 use crate::serving::{Output, work};
 use gt_audit::push_lost;

@@ -4,8 +4,8 @@ ghost use Rattle.gt_script.specs.Blocks.{is_just as says_just, opening as openin
 ghost use Rattle.gt_script.specs.Blocks.{block_text as text_in, IsPolicyOf};
 
 use crate::faults::ScriptError;
-use gt_script_lines::{is_word, line_words};
 use gt_policy::Policy;
+use gt_script_lines::{is_word, line_words};
 use std::alloc::{AllocError, Global};
 
 fn is_just(words: &[&[u8]], word: &str) -> bool

@@ -3,7 +3,7 @@ ghost use Rattle.std.specs.Prelude.{◌≡◌, length, IfOk};
 ghost use Rattle.std.specs.Option.{option_map};
 ghost use Rattle.gt_script.specs.Flags.{flag_in as flag_in_line, flag_names_of as flags_in, flag_number};
 
-use crate::tasks::{RunActionBy, NamedRunTask};
+use crate::tasks::{NamedRunTask, RunActionBy};
 use gt_script_lines::Text;
 use indexmap::IndexSet;
 use std::alloc::{AllocError, Global};

@@ -12,10 +12,10 @@ ghost use Rattle.gt_script.specs.Laws.{IsScriptFor, IsScriptOf, StandsFor, Error
 use crate::blocks::{closing, opening, read_policy};
 use crate::command::ScriptCommand;
 use crate::faults::{ScriptError, ScriptFault, ScriptFaultKind};
-use gt_script_lines::{text_lines};
-use gt_types::{LONGEST_TEXT};
-use std::alloc::{Global};
-use crate::script::{Script};
+use crate::script::Script;
+use gt_script_lines::text_lines;
+use gt_types::LONGEST_TEXT;
+use std::alloc::Global;
 
 // The script of `count` lines that has a policy block, from the lines after the line `policy` with the
 // number `first`.
@@ -61,7 +61,11 @@ fn of_lines<'a>(
     }
 }
 
-fn of_text<'a>(alloc: Global, command: ScriptCommand, text: &'a str) -> Result<Script<'a>, ScriptError>
+fn of_text<'a>(
+    alloc: Global,
+    command: ScriptCommand,
+    text: &'a str,
+) -> Result<Script<'a>, ScriptError>
     ensures { AnswersScript result (TextSays command text.entry.now) }
 {
     let lines = text_lines(alloc, text)?;

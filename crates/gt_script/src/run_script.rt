@@ -9,8 +9,8 @@ ghost use Rattle.gt_script.specs.Stuck.{AreNumbered};
 use crate::command::ScriptCommand;
 use crate::faults::{ScriptError, ScriptFault, ScriptFaultKind};
 use crate::flags::flags_of;
-use crate::script::{Script};
-use crate::parsing::{parse_for};
+use crate::parsing::parse_for;
+use crate::script::Script;
 use crate::stuck::stuck_line;
 use crate::tasks::{RunTask, tasks_for};
 use gt_types::DomId;
@@ -56,7 +56,11 @@ impl<'a> RunScript<'a> {
     }
 
     /// The list of a domain: its own lines, in their order.
-    pub fn list_of<'s>(&'s self, alloc: Global, dom: DomId) -> Result<Vec<&'s RunTask<'a>>, AllocError>
+    pub fn list_of<'s>(
+        &'s self,
+        alloc: Global,
+        dom: DomId,
+    ) -> Result<Vec<&'s RunTask<'a>>, AllocError>
         ensures { IfOk result (λ list. map (λ t. t.now) list.items ≡ list_in self.entry.now.tasks dom) }
     {
         let mut list = Vec::new(alloc);

@@ -6,10 +6,13 @@ ghost use Rattle.gt_script.specs.Contents.{contents_told};
 
 use crate::command::ScriptCommand;
 use crate::faults::{ScriptError, ScriptFault, ScriptFaultKind};
-use crate::tasks::{RunActionBy, NamedRunTask};
+use crate::tasks::{NamedRunTask, RunActionBy};
 use crate::types::TypeNames;
-use gt_script_lines::{BodyLine, DomainLine, ScriptLine, Number, ScriptAction, FlagLine, Text, TripleLine, line_words, read_line};
 use gt_policy::Policy;
+use gt_script_lines::{
+    BodyLine, DomainLine, FlagLine, Number, ScriptAction, ScriptLine, Text, TripleLine, line_words,
+    read_line,
+};
 use gt_types::{DomId, DomainConfig, Triple, TypeId};
 use std::alloc::{AllocError, Global};
 use std::marker::Model;

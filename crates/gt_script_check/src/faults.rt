@@ -5,7 +5,7 @@ ghost use Rattle.gt_script_check.specs.Judging.{error_line, IsAtEither};
 
 use crate::warning::{column_number, push_warning};
 use gt_policy_check::{Finding, FindingKind};
-use gt_reasons::{ReasonNote, Reason, block_reason, script_reason};
+use gt_reasons::{Reason, ReasonNote, block_reason, script_reason};
 use gt_script::{ScriptError, ScriptFaultKind};
 use gt_types::Memory;
 use std::alloc::{AllocError, Global};

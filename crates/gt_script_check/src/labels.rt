@@ -4,8 +4,10 @@ ghost use Rattle.gt_policy_check.specs.Check.{error_lines};
 
 use crate::warning::{column_number, push_warning};
 use gt_policy_check::{Finding, FindingKind, push_hint, said_of};
-use gt_script_lines::{BodyLine, ScriptLine, Number, ScriptAction, ScriptCall, line_words, read_line};
 use gt_reasons::column_of;
+use gt_script_lines::{
+    BodyLine, Number, ScriptAction, ScriptCall, ScriptLine, line_words, read_line,
+};
 use gt_text::text_of;
 use std::alloc::{AllocError, Global};
 

@@ -4,8 +4,8 @@ ghost use Rattle.gt_policy_check.specs.Check.{error_lines};
 
 use crate::warning::{column_number, push_warning};
 use gt_policy_check::{Finding, FindingKind, said_of};
-use gt_script_lines::{ScriptLine, line_words, read_line};
 use gt_reasons::column_of;
+use gt_script_lines::{ScriptLine, line_words, read_line};
 use gt_text::text_of;
 use std::alloc::{AllocError, Global};
 

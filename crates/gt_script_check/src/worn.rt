@@ -1,6 +1,6 @@
 //! The types that the domains of a script have.
-use gt_script_lines::{ScriptLine, line_words, read_line};
 use gt_reasons::has_policy;
+use gt_script_lines::{ScriptLine, line_words, read_line};
 use gt_text::text_of;
 use std::alloc::{AllocError, Global};
 

@@ -10,7 +10,9 @@ ghost use Rattle.gt_words.specs.declared.view.FrameStep.TheVariants as access;
 ghost use Rattle.gt_shared_frames.specs.Rule.{HoldsAll, IsNamed, IsSlotOf, name_of, places_of};
 ghost use Rattle.gt_shared_frames.specs.Telling.{Accessed, CopiedBy, Frees, HasBoth, IsOut, Returns, left_by};
 
-use crate::table::{FrameCells, FrameSeat, OfAccess, FrameSlot, free_lock, lock, return_lock, try_lock};
+use crate::table::{
+    FrameCells, FrameSeat, FrameSlot, OfAccess, free_lock, lock, return_lock, try_lock,
+};
 use gt_frames::{Copied, Filled, Frame, Writ, Written};
 use gt_types::{Memory, Range};
 use std::marker::Brand;
@@ -91,7 +93,12 @@ fn free_copied<J: OfAccess>(
 }
 
 // Frees a frame as it was taken: nothing is told.
-fn return_as_taken<J: OfAccess>(cells: &FrameCells, seat: &mut FrameSeat, slot: FrameSlot, last: bool)
+fn return_as_taken<J: OfAccess>(
+    cells: &FrameCells,
+    seat: &mut FrameSeat,
+    slot: FrameSlot,
+    last: bool,
+)
     requires fits { (seat.old.table_id ≡ cells.now.table_id)
         × IsSlotOf (places_of cells.now.key) cells.now.table_id slot }
     requires allowed { Allows (HoldsAll (places_of cells.now.key)) cells.now.table_id.slots seat.old.id seat.old.me

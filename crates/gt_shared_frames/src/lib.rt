@@ -21,4 +21,4 @@ pub use laws::{
     every_access_is_a_step, every_frame_has_one_slot, every_frame_is_kept, every_step_is_allowed,
     every_table_opens, seats_come_and_go,
 };
-pub use table::{FrameCells, FrameSeat, FrameTableRule, FrameHolder, FrameSlot, lock, try_lock};
+pub use table::{FrameCells, FrameHolder, FrameSeat, FrameSlot, FrameTableRule, lock, try_lock};

@@ -1,5 +1,5 @@
 //! What a seat knows, as plain data for contracts. No value of it is made when the program runs.
-use gt_entry::{EntryChange, Entry, BodyWord};
+use gt_entry::{BodyWord, Entry, EntryChange};
 use gt_frames::{FrameBytes, WriteRecord};
 use gt_types::{Dir, DomId};
 use std::collections::LinkedList;

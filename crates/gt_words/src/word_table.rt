@@ -22,7 +22,7 @@ ghost use Rattle.gt_words.specs.Joining.{own_part, tells_own_stored, took};
 
 use crate::view::{Outlook, Purpose};
 use atomic_table::{Join, Play, Seat, Shared, Table, TableRule};
-use gt_entry::{EntryChange, Control, Entry, BodyWord, Header, pin_unit};
+use gt_entry::{BodyWord, Control, Entry, EntryChange, Header, pin_unit};
 use gt_types::{Config, Dir, LAST_GENERATION, TABLE_ENTRIES};
 use std::alloc::Global;
 use std::marker::{Brand, PhantomData};
@@ -335,7 +335,13 @@ impl WordTable {
     }
 
     /// A look at a body word of an entry.
-    pub(crate) fn load_body(&self, seat: &mut TableSeat, at: usize, gref: usize, half: BodyWord) -> u64
+    pub(crate) fn load_body(
+        &self,
+        seat: &mut TableSeat,
+        at: usize,
+        gref: usize,
+        half: BodyWord,
+    ) -> u64
         requires mine { seat.old.table_id ≡ self.now.table.shared.table_id }
         requires entry { (at < length self.now.table.shared.key.domains.items) × (gref < TABLE_ENTRIES) }
         requires here { seat.old.me.0.gone ≡ false }

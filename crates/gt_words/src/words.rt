@@ -18,7 +18,7 @@ ghost use Rattle.gt_words.specs.Answers.{Demotes, Publishes};
 use crate::start::{deal_seats, first_words};
 use crate::word_table::{TableSeat, WordTable};
 use atomic_table::Table;
-use gt_entry::{EntryChange, Control, Entry, BodyWord, Header};
+use gt_entry::{BodyWord, Control, Entry, EntryChange, Header};
 use gt_roster::Positions;
 use gt_types::{Config, Dir, DomId, GrantRef, MAX_TABLE_FRAMES, StartFault, TABLE_ENTRIES};
 use std::alloc::{AllocError, Global};

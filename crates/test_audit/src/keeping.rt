@@ -1,5 +1,5 @@
 //! Trails, and a log that threads share.
-use gt_audit::{Hypercall, MOST_RESERVED, Record, Reply, SharedLog, DomainLog, Trail};
+use gt_audit::{DomainLog, Hypercall, MOST_RESERVED, Record, Reply, SharedLog, Trail};
 use gt_types::DomId;
 use std::sync::Wait;
 use std::test::Fail;

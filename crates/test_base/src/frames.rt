@@ -1,6 +1,6 @@
 //! Frames: what is written is read, and a refused call can be made again.
 use gt_entry::Entry;
-use gt_frames::{Copied, Frame, WriteBasis, Read, Writ, WriteRecord, Written};
+use gt_frames::{Copied, Frame, Read, Writ, WriteBasis, WriteRecord, Written};
 use gt_types::{DomId, GrantRef, Memory, Range};
 use std::alloc::Global;
 use std::process::Abort;

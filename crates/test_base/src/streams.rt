@@ -1,9 +1,9 @@
 //! Streams in memory, and streams that fail.
-use test_failing::{FailingReader, FailingWriter};
 use gt_text::{ReadFault, WriteFault, finish, push_text, read_text, send, text_of, write_text};
 use std::alloc::Global;
 use std::io::ErrorKind;
 use std::test::Fail;
+use test_failing::{FailingReader, FailingWriter};
 
 const TEXT: &[u8] = b"one line\nand another\n";
 

@@ -37,7 +37,10 @@ fn calls_go_by_their_scripts(rt: HostRuntime) -> Result<(), Fail> {
     let alloc = rt.alloc();
     let config = three_domains(alloc)?;
     let mappings = mappings(&rt, alloc)?;
-    let own = [OwnerEntry::new(0), OwnerEntry::new(0).after(EntryChange::Publish(PAGE))];
+    let own = [
+        OwnerEntry::new(0),
+        OwnerEntry::new(0).after(EntryChange::Publish(PAGE)),
+    ];
     for (perms, pairs, rows) in GROUPS {
         let rights = rights(alloc, perms, pairs)?;
         let known = known(&config, &rights, &own, &mappings);

@@ -2,10 +2,10 @@
 use crate::script::Part::{Body, Control, Header, Leg, LongLeg, Refused, RefusedAt, Try, Unpin};
 use crate::script::{CALLER, GRANTED, HEADER, MIDDLE, OWNER, Part, Row, pin, unseen};
 use gt_calls::Request::Copy;
-use gt_calls::{CopyArgs, End, HeldPin, Request, Observation, Spot, Step as CallStep};
+use gt_calls::{CopyArgs, End, HeldPin, Observation, Request, Spot, Step as CallStep};
 use gt_entry::Entry;
-use test_rows::{copy, end, page, spot, sub, via};
 use gt_types::{Dir, DomId, Facts, FrameName, GrantRef, Perms, Rule, TypeId};
+use test_rows::{copy, end, page, spot, sub, via};
 
 const SELF: DomId = DomId(0x7FF0);
 
@@ -83,7 +83,13 @@ const VIA_BEHIND_SOURCE: HeldPin = HeldPin {
 
 const PAGE_FOR_CALLER: HeldPin = pin!(OWNER, 4, Read, page!(CALLER, false, 6), 0x1000_3000_0001);
 
-const READ_ONLY_BEHIND_DEST: HeldPin = pin!(OWNER, 5, Write, page!(MIDDLE, true, 7), 0x1000_2000_0005);
+const READ_ONLY_BEHIND_DEST: HeldPin = pin!(
+    OWNER,
+    5,
+    Write,
+    page!(MIDDLE, true, 7),
+    0x1000_2000_0005
+);
 
 const SUB_AT_SOURCE: HeldPin = pin!(MIDDLE, 0, Read, SUB_FOR_CALLER, 0x1000_3000_0009);
 

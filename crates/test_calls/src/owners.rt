@@ -1,10 +1,13 @@
 //! Maps, owners' calls and calls by a handle: what is asked, and the parts of each call.
 use crate::script::Part::{self, Ends, Header, Leg, Refused, RefusedAt, Step, Try};
 use crate::script::{CALLER, GRANTED, OWNER, Row, pin, unseen};
-use gt_calls::{EntryChange, BodyWord, Handle, HeldPin, PinHolder, Request, Observation, Step as CallStep, CallResult};
+use gt_calls::{
+    BodyWord, CallResult, EntryChange, Handle, HeldPin, Observation, PinHolder, Request,
+    Step as CallStep,
+};
 use gt_entry::Entry;
-use test_rows::page;
 use gt_types::{Dir, Facts, GrantRef, Rule};
+use test_rows::page;
 
 /// The entry of the owner's page.
 pub const PAGE: Entry = page!(CALLER, false, 5);
@@ -89,7 +92,12 @@ const WITHDRAWAL_LOOKS: Part = Step(
     Observation::Word(PINNED),
 );
 
-const WITHDRAWAL_MISSES: Part = exchange!(1, PINNED, EntryChange::Withdraw, Observation::Missed(IDLE));
+const WITHDRAWAL_MISSES: Part = exchange!(
+    1,
+    PINNED,
+    EntryChange::Withdraw,
+    Observation::Missed(IDLE)
+);
 
 /// An owner that grants or revokes looks at nothing: its entry 0 was never granted, and its entry 1 is of the page.
 pub const OWNERS: [Row; 5] = [

@@ -1,6 +1,7 @@
 //! A call driven by a script of what its steps see.
 use gt_calls::{
-    Action, Call, BodyWord, Handles, HeldPin, PinHolder, CallerState, OwnerEntry, Request, Observation, CallStart, Step, CallResult,
+    Action, BodyWord, Call, CallResult, CallStart, CallerState, Handles, HeldPin, Observation,
+    OwnerEntry, PinHolder, Request, Step,
 };
 use gt_entry::{Entry, Header};
 use gt_roster::Roster;
@@ -145,7 +146,11 @@ impl Script {
         self.half(held, BodyWord::First, first_body(held.entry))?;
         match held.entry {
             Entry::Sub { off, len, .. } => {
-                self.half(held, BodyWord::Second, u64::from(off) + u64::from(len) * 65_536)
+                self.half(
+                    held,
+                    BodyWord::Second,
+                    u64::from(off) + u64::from(len) * 65_536,
+                )
             }
             _ => Ok(()),
         }

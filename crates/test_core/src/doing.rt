@@ -1,7 +1,7 @@
 //! What is done to a machine in a test, and what comes of it, in words.
 use gt_core::{
-    Answer, Begun, Core, Element, Event, Handle, ItemEvent, Item, Request, Observation, EntryView, Spot, Step,
-    Ticked,
+    Answer, Begun, Core, Element, EntryView, Event, Handle, Item, ItemEvent, Observation, Request,
+    Spot, Step, Ticked,
 };
 use gt_entry::{Control, status_word};
 use gt_types::{

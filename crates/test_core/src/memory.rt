@@ -5,11 +5,11 @@ use crate::runs::{FIRST_HANDLE, GRANT, MAP_RO, MAP_RW, REVOKE};
 use gt_core::{
     Answer, Begun, CopyArgs, Core, Element, End, Event, Handle, Item, Request, Ticked, play,
 };
-use test_rows::{copy, end};
 use gt_types::{DomId, GrantRef, Memory, Rule, StartFault, Triples};
 use std::alloc::Global;
 use std::process::Abort;
 use std::test::Fail;
+use test_rows::{copy, end};
 
 // A machine of three domains in which bytes may be copied between these pairs. It is asked for twice if memory was
 // refused.

@@ -16,11 +16,11 @@ use crate::doing::Doing::{self, Begin, Do, Show, Tick};
 use crate::doing::{OTHER, OWNER, PEER, READ_ONLY, Row, WRITABLE, grant, load, map, said, start};
 use gt_core::{Core, Handle, Request};
 use gt_entry::Entry;
-use test_rows::page;
 use gt_types::{DomId, GrantRef, Triples};
 use std::alloc::Global;
 use std::process::Abort;
 use std::test::Fail;
+use test_rows::page;
 
 /// The version of the tables, the pairs of domains that may be copied from and to, what is done first, and what then.
 pub type Run = (

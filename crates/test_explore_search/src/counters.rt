@@ -2,7 +2,7 @@
 ghost use Rattle.test_explore_search.specs.Counters.{counters_ways};
 
 use gt_explore_replay::Turn;
-use gt_explore_search::{TurnResult, SearchFault, TransitionSystem};
+use gt_explore_search::{SearchFault, TransitionSystem, TurnResult};
 use std::alloc::{AllocError, Global};
 
 /// Two counters that count up to a limit.

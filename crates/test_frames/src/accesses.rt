@@ -3,9 +3,9 @@ ghost use Rattle.std.specs.Prelude.{◌≡◌, IfOk};
 ghost use Rattle.gt_words.specs.Conditions.{IsSeatOf};
 
 use crate::places::{BYTES, config, text};
-use gt_access::{AccessContext, copy_by, read_by, write_by};
-use gt_calls::{CallPins, AccessPath};
-use gt_frames::{FrameName, Pool, Read, Spot, FrameAccesses};
+use gt_access::{AccessContext, FrameAccesses, Pool, copy_by, read_by, write_by};
+use gt_calls::{AccessPath, CallPins};
+use gt_frames::{FrameName, Read, Spot};
 use gt_roster::Roster;
 use gt_types::{Allows, Config, Perms, Range, StartFault, TypeId};
 use gt_words::{Seat, Words};

@@ -1,10 +1,10 @@
 //! The frames of a run, found by owner and number.
 use crate::places::{BYTES, at, config, text};
-use gt_frames::{FrameName, Frames, WriteBasis, Read, Spot, Writ};
-use test_rows::spot;
+use gt_frames::{FrameName, Frames, Read, Spot, Writ, WriteBasis};
 use gt_types::{DomId, Range};
 use std::alloc::{AllocError, Global};
 use std::test::Fail;
+use test_rows::spot;
 
 fn writ(of: Spot) -> Writ {
     Writ {

@@ -1,7 +1,7 @@
 //! Frames under locks, in threads.
 use crate::places::{BYTES, at, config, text};
-use gt_frames::{FrameName, WriteBasis, Pool, Read, Spot, FrameAccesses, Writ};
-use test_rows::spot;
+use gt_access::{FrameAccesses, Pool};
+use gt_frames::{FrameName, Read, Spot, Writ, WriteBasis};
 use gt_types::{DomId, Range};
 use std::alloc::{AllocError, Global};
 use std::process::Abort;
@@ -9,6 +9,7 @@ use std::sync::Wait;
 use std::test::Fail;
 use std::thread;
 use std::thread::Threads;
+use test_rows::spot;
 
 // The first six bytes of a frame.
 fn first_bytes<R: Wait>(
@@ -30,7 +31,13 @@ fn first_bytes<R: Wait>(
 }
 
 // Writes these bytes as the owner, if there is such a frame.
-fn wrote<R: Wait>(rt: &R, pool: &Pool, visits: &mut FrameAccesses, to: FrameName, bytes: &[u8]) -> bool {
+fn wrote<R: Wait>(
+    rt: &R,
+    pool: &Pool,
+    visits: &mut FrameAccesses,
+    to: FrameName,
+    bytes: &[u8],
+) -> bool {
     let writ = Writ {
         writer: to.owner,
         basis: WriteBasis::Owned,

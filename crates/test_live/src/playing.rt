@@ -1,11 +1,11 @@
 //! Runs of a table: lines that domains are asked, with what they must answer, and then threads.
 use crate::working::{Behind, Part, work_at_once};
-use test_monitor::{TestCall, READ_ONLY, TestDomain, TestReply, all_running, rights, start, text};
 use gt_types::{Allows, Memory, Rule, StartFault};
 use std::alloc::Global;
 use std::process::Abort;
 use std::sync::Wait;
 use std::thread::Threads;
+use test_monitor::{READ_ONLY, TestCall, TestDomain, TestReply, all_running, rights, start, text};
 
 /// Who asks, counted from 0, what, and the answer.
 pub type Line<'a> = (usize, TestCall<'a>, &'a str);

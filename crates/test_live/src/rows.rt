@@ -3,14 +3,14 @@
 use crate::playing::{Line, ONE, Row, Stage, THREE, TWO, play_row};
 use gt_calls::{CopyArgs, End};
 use gt_entry::Entry;
-use test_rows::{copy, end, page, sub, via};
+use gt_types::{DOMID_SELF, DomId, GrantRef};
+use std::test::Fail;
 use test_monitor::TestCall::{
     self, Bytes, Copy, Demote, GetVersion, Grant, Load, Map, Peek, Poke, Promote, Revoke, Setup,
     Size, Store, Unmap, Version, Withdraw,
 };
 use test_monitor::{READ_ONLY, WRITABLE};
-use gt_types::{DOMID_SELF, DomId, GrantRef};
-use std::test::Fail;
+use test_rows::{copy, end, page, sub, via};
 
 // The writable page with frame 5, for domain 2.
 const PAGE: Entry = page!(DomId(2), false, 5);

@@ -3,13 +3,13 @@ use crate::playing::{Line, ONE, Row, Stage, THREE, TWO, play_row};
 use crate::working::{Access, LEN, Part, UNUSED};
 use gt_calls::{CopyArgs, End};
 use gt_entry::Entry;
-use test_rows::{copy, end, page};
+use gt_types::{ConfigFault, DOMID_SELF, DomId, StartFault};
+use std::test::Fail;
 use test_monitor::TestCall::{
     self, Demote, GetVersion, Grant, Load, Map, Peek, Poke, Revoke, Store, Unmap,
 };
 use test_monitor::{READ_ONLY, WRITABLE};
-use gt_types::{ConfigFault, DOMID_SELF, DomId, StartFault};
-use std::test::Fail;
+use test_rows::{copy, end, page};
 
 // A run of two domains of which nothing is asked.
 const QUIET: Row = Row {

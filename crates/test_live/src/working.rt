@@ -1,12 +1,12 @@
 //! What domains do at once, each in a thread of its own.
 use gt_calls::{CopyArgs, End};
 use gt_entry::{Control, Entry, EntryKind};
-use test_rows::{copy, end};
-use test_monitor::{TestCall, READ_ONLY, TestDomain, TestReply, WRITABLE};
 use gt_types::{Allows, DOMID_SELF, Denial, DomId, Facts, GrantRef, Memory, Rule};
 use std::alloc::{AllocError, Global};
 use std::sync::Wait;
 use std::thread::{self, Threads};
+use test_monitor::{READ_ONLY, TestCall, TestDomain, TestReply, WRITABLE};
+use test_rows::{copy, end};
 
 /// So many bytes go with one access.
 pub const LEN: u16 = 64;
@@ -121,9 +121,12 @@ fn stands(denial: Denial) -> bool {
         return false;
     };
     match denial.rule {
-        Rule::N10 => control.kind == EntryKind::Invalid && control.reads == 0 && control.writes == 0,
+        Rule::N10 => control.kind == EntryKind::Invalid
+            && control.reads == 0
+            && control.writes == 0,
         Rule::N13 => control.kind == EntryKind::Page && control.ro,
-        Rule::N19 => control.kind != EntryKind::Invalid && (control.reads > 0 || control.writes > 0),
+        Rule::N19 => control.kind != EntryKind::Invalid
+            && (control.reads > 0 || control.writes > 0),
         Rule::N18 => true,
         _ => false,
     }
@@ -320,7 +323,11 @@ fn forward_once<P: Allows>(
 
 // One round of a domain that copies through an entry which leads on. Either of the two entries may be invalid then, or
 // change its pins in each try.
-fn follow_once<R: Wait, P: Allows>(rt: &R, domain: &mut TestDomain<'_, P>, asks: TestCall<'_>) -> bool {
+fn follow_once<R: Wait, P: Allows>(
+    rt: &R,
+    domain: &mut TestDomain<'_, P>,
+    asks: TestCall<'_>,
+) -> bool {
     match domain.ask(rt, asks) {
         TestReply::Done => true,
         TestReply::Denied(denial) => stands_by(denial, Rule::N10, Rule::N18),

@@ -17,6 +17,6 @@ mod asking;
 mod running;
 mod starting;
 
-pub use asking::{TestCall, READ_ONLY, TestReply, WRITABLE, text};
+pub use asking::{READ_ONLY, TestCall, TestReply, WRITABLE, text};
 pub use running::{TestDomain, all_running};
 pub use starting::{numbered, rights, start};

@@ -8,7 +8,7 @@ use gt_calls::{CopyArgs, Handle, Request};
 use gt_core::{Answer, Bytes};
 use gt_entry::Entry;
 use gt_frames::Read;
-use gt_live::{Domain, Departed, Monitor};
+use gt_live::{Departed, Domain, Monitor};
 use gt_types::{Allows, Denial, DomId, GrantRef, Memory, Size};
 use std::alloc::Global;
 use std::marker::Model;

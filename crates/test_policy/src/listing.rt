@@ -1,10 +1,10 @@
 //! Listings of texts at the limits and of texts that are cut off, and over readers and writers that fail.
 use crate::texts::{GUESTS, TAKEN_OUT, declarations};
-use test_failing::{FailingReader, FailingWriter};
 use gt_policy_list::{ListingFault, policy};
 use std::alloc::Global;
 use std::process::Abort;
 use std::test::Fail;
+use test_failing::{FailingReader, FailingWriter};
 
 const TAKEN_OUT_LINES: &str = "a_t a_t copy\na_t b_t copy\nb_t b_t copy\n";
 

@@ -7,7 +7,7 @@ ghost use Rattle.test_words.specs.Rows.{HasRow, HasRowStill, IsRowOf};
 ghost use Rattle.gt_words.specs.Conditions.{KeepsPins, IsSeatOf, IsSameSeat, HasLooked, HasDomain, IsEntryOf};
 ghost use Rattle.gt_words.specs.Conditions.{position_at};
 
-use gt_entry::{Control, Entry, BodyWord, EntryKind};
+use gt_entry::{BodyWord, Control, Entry, EntryKind};
 use gt_types::{
     Config, Dir, DomId, DomainConfig, GrantRef, LAST_GENERATION, MAX_PINS, Range, StartFault,
     TABLE_ENTRIES, TypeId, Use,

@@ -5,8 +5,8 @@ ghost use Rattle.gt_explore_moves.specs.Ends.{choices, disturbs_none};
 use super::is_told;
 use crate::actor::Actor;
 use crate::scene::{SearchContext, SearchState};
-use gt_script::{RunAction, RunTask};
 use gt_explore_replay::Turn;
+use gt_script::{RunAction, RunTask};
 use std::alloc::AllocError;
 
 // So many moves of a domain, each with its own choice.

@@ -12,9 +12,9 @@ ghost use Rattle.gt_live.specs.Visiting.{HasVisited, WasRead, WasWritten};
 
 use super::{Domain, refusal_of};
 use crate::monitor::Monitor;
-use gt_access::{AccessFault, AccessContext, fill_by, read_by, write_by};
-use gt_calls::{Handle, AccessPath, judge_load, judge_own_access, judge_store};
-use gt_frames::{Filled, FrameName, Read, FrameAccesses, Written};
+use gt_access::{AccessContext, AccessFault, FrameAccesses, fill_by, read_by, write_by};
+use gt_calls::{AccessPath, Handle, judge_load, judge_own_access, judge_store};
+use gt_frames::{Filled, FrameName, Read, Written};
 use gt_types::{Allows, Denial, FRAME_SIZE, Facts, Range, Rule};
 use gt_words::Seat;
 use std::alloc::Global;
@@ -272,7 +272,16 @@ impl Domain {
             number: frame,
         };
         let (seat, visits) = (&self.seat, &mut self.visits);
-        fill_through(rt, monitor, seat, visits, &AccessPath::Own, name, off, buffer)
+        fill_through(
+            rt,
+            monitor,
+            seat,
+            visits,
+            &AccessPath::Own,
+            name,
+            off,
+            buffer,
+        )
     }
 
     /// Writes `bytes` from the offset `off` on through a mapping.
@@ -334,6 +343,15 @@ impl Domain {
             number: frame,
         };
         let (seat, visits) = (&self.seat, &mut self.visits);
-        write_through(rt, monitor, seat, visits, &AccessPath::Own, name, off, bytes)
+        write_through(
+            rt,
+            monitor,
+            seat,
+            visits,
+            &AccessPath::Own,
+            name,
+            off,
+            bytes,
+        )
     }
 }

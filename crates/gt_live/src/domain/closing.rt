@@ -7,7 +7,7 @@ ghost use Rattle.gt_live.specs.Closing.{is_in_use};
 use super::{Domain, change_row, done};
 use crate::monitor::Monitor;
 use gt_calls::OwnerEntry;
-use gt_entry::{EntryChange, Control, Entry, EntryKind};
+use gt_entry::{Control, Entry, EntryChange, EntryKind};
 use gt_types::{Allows, Denial, GrantRef};
 
 // How often the withdrawal of an entry is asked. Each time makes up to four tries.

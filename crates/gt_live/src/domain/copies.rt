@@ -24,10 +24,13 @@ use super::bytes::{not_made, run_of};
 use super::{Domain, known_with, refusal_of, tell_done, tell_refusal};
 use crate::monitor::Monitor;
 use crate::routes::{drive_copy, give_back};
-use gt_access::copy_by;
+use gt_access::{FrameAccesses, copy_by};
 use gt_audit::{Hypercall, Record, Reply};
-use gt_calls::{OpenRequest, Call, CopyArgs, Phase, CallPins, AccessPath, Spot, CallResult, judge_copy, place_of};
-use gt_frames::{Copied, FrameAccesses};
+use gt_calls::{
+    AccessPath, Call, CallPins, CallResult, CopyArgs, OpenRequest, Phase, Spot, judge_copy,
+    place_of,
+};
+use gt_frames::Copied;
 use gt_types::{Allows, Denial, DomId, FRAME_SIZE};
 use gt_words::Seat;
 use std::sync::Wait;

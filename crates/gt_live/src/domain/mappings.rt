@@ -3,7 +3,7 @@ use super::{Domain, known_with, outcome_reply, refusal_of};
 use crate::driving::{drive_map, pin_of};
 use crate::monitor::Monitor;
 use gt_audit::{Hypercall, Record};
-use gt_calls::{Handle, HeldPin, CallResult, judge_map, judge_unmap};
+use gt_calls::{CallResult, Handle, HeldPin, judge_map, judge_unmap};
 use gt_types::{Allows, Denial, DomId, Facts, GrantRef, Rule};
 
 impl Domain {
@@ -109,7 +109,12 @@ impl Domain {
     }
 
     // The verdict at the beginning of a map, if one is given there.
-    fn judge_map<P: Allows>(&self, monitor: &Monitor<P>, dom: DomId, flags: u32) -> Option<CallResult>
+    fn judge_map<P: Allows>(
+        &self,
+        monitor: &Monitor<P>,
+        dom: DomId,
+        flags: u32,
+    ) -> Option<CallResult>
         requires mine { BelongsTo P.may monitor.now self.now }
         ensures { result ≡ map_begun (known_on P.may monitor.now self.now) self.now.seat.dom dom flags }
     {
@@ -126,7 +131,11 @@ impl Domain {
     }
 
     // Gives a mapping up, without a record.
-    fn unmap_unrecorded<P: Allows>(&mut self, monitor: &Monitor<P>, handle: Handle) -> Result<(), Denial>
+    fn unmap_unrecorded<P: Allows>(
+        &mut self,
+        monitor: &Monitor<P>,
+        handle: Handle,
+    ) -> Result<(), Denial>
         requires mine { BelongsTo P.may monitor.now self.old }
         ensures mine { BelongsTo P.may monitor.now self.new }
         ensures seat { IsSameSeat self.old.seat self.new.seat }

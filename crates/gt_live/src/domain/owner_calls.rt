@@ -2,8 +2,8 @@
 use super::{Domain, change_row, done, known_with};
 use crate::monitor::Monitor;
 use crate::owning::{drive_change, judge_own};
-use gt_calls::{OwnerEntry, CallResult, judge_bytes, own_entry};
-use gt_entry::{EntryChange, Entry};
+use gt_calls::{CallResult, OwnerEntry, judge_bytes, own_entry};
+use gt_entry::{Entry, EntryChange};
 use gt_types::{Allows, Denial, GrantRef};
 
 impl Domain {

@@ -1,8 +1,11 @@
 //! Calls on headers: version, size, and questions about a table.
-use super::{Domain, done, frames_granted, frames_reply, known_with, outcome_reply, refusal_of, size_by, size_reply, version_by, version_reply};
+use super::{
+    Domain, done, frames_granted, frames_reply, known_with, outcome_reply, refusal_of, size_by,
+    size_reply, version_by, version_reply,
+};
 use crate::headers::{drive_query, drive_setup, drive_version};
 use crate::monitor::Monitor;
-use gt_audit::{Hypercall};
+use gt_audit::Hypercall;
 use gt_calls::{judge_query, judge_setup, judge_version};
 use gt_types::{Allows, Denial, DomId, Size};
 

@@ -10,8 +10,8 @@ use crate::doing::{OTHER, OWNER, PEER, Row, grant, peek, poke};
 use gt_core::Request::Copy;
 use gt_core::{CopyArgs, End, Request};
 use gt_entry::Entry;
-use test_rows::{copy, end, page};
 use gt_types::{DomId, GrantRef};
+use test_rows::{copy, end, page};
 
 // The caller's own domain, in a request.
 pub const SELF: DomId = DomId(0x7FF0);

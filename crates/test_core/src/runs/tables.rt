@@ -4,8 +4,8 @@ use crate::doing::Doing::{Begin, Do, Steps, Tick};
 use crate::doing::{OTHER, OWNER, PEER, READ_ONLY, Row, grant, map};
 use gt_core::Request;
 use gt_entry::Entry;
-use test_rows::{sub, via};
 use gt_types::{DomId, GrantRef};
+use test_rows::{sub, via};
 
 // Part of a page.
 pub const GRANT_PART: Request = grant!(0, sub!(PEER, 5, 100, 50));

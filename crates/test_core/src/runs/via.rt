@@ -6,8 +6,8 @@ use crate::doing::{OTHER, OWNER, PEER, Row, grant, peek, poke};
 use gt_core::Request::Copy;
 use gt_core::{CopyArgs, End, Request};
 use gt_entry::Entry;
-use test_rows::{copy, end, page, via};
 use gt_types::{DomId, GrantRef};
+use test_rows::{copy, end, page, via};
 
 // The owner's entry 4.
 const GRANT_PAGE: Request = grant!(4, page!(PEER, false, 6));

@@ -3,7 +3,7 @@ use Rattle.std.proofs.Common.{Global}
 use Rattle.std.proofs.lemmas.List.Elements.{All-head, All-push, All-tail}
 use Rattle.std.specs.Vec.Iter.{into_iter_items}
 use Rattle.gt_calls.specs.declared.known.OwnerEntry.{OwnerEntry}
-use Rattle.gt_frames.specs.Visits.{FrameAccess}
+use Rattle.gt_access.specs.Visits.{FrameAccess}
 use Rattle.gt_live.specs.Starting.{first_rows}
 use Rattle.gt_live.proofs.start.all_rows.Goals as goal
 

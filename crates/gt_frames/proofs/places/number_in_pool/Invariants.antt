@@ -1,6 +1,6 @@
 use Rattle.std.proofs.Common.{◌≡◌, ◌+◌, drop}
 use Rattle.gt_frames.specs.Places.{pool_number, frames_of}
-use Rattle.gt_frames.proofs.places.find.Given as goal
+use Rattle.gt_frames.proofs.places.number_in_pool.Given as goal
 
 abbrev pub invariant-domains : goal.invariant-domains
 invariant-domains l =

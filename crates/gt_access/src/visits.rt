@@ -2,8 +2,7 @@
 ghost use Rattle.std.specs.Prelude.{◌≡◌, ◌+◌, ◌≤◌, ◌++◌, [], ◌∷◌, length, vec_capacity, vec_len, IfOk, OnOk, OnErr};
 ghost use Rattle.std.specs.Prelude.{IsTrue};
 
-use crate::{Copied, Filled, Frame, FrameName, Read, Writ, Written};
-use crate::history::History;
+use gt_frames::{Copied, Filled, Frame, FrameName, History, Read, Writ, Written};
 use gt_types::{FRAME_SIZE, Memory, Range};
 use std::marker::Model;
 use std::snapshot::Snapshot;
@@ -18,7 +17,7 @@ pub struct FrameAccesses {
 
 impl Model for FrameAccesses {
     ghost use Rattle.std.specs.Prelude.{List, map};
-    ghost use Rattle.gt_frames.specs.Visits.{FrameAccess};
+    ghost use Rattle.gt_access.specs.Visits.{FrameAccess};
 
     ghost Value = { List FrameAccess };
 
@@ -33,7 +32,7 @@ pub struct LockedFrame<'p> {
 
 impl<'p> Model for LockedFrame<'p> {
     ghost use Rattle.std.specs.Sync.Mutex.{mutex_guard_value};
-    ghost use Rattle.gt_frames.specs.Visits.{FrameAccess};
+    ghost use Rattle.gt_access.specs.Visits.{FrameAccess};
 
     ghost Value = { FrameAccess };
 

@@ -5,14 +5,15 @@ ghost use Rattle.std.specs.Sync.Mutex.{mutex_guard_value};
 ghost use Rattle.gt_frames.specs.Copies.{CanCopy, IsCopy};
 ghost use Rattle.gt_frames.specs.Frames.{contents, IsKept};
 ghost use Rattle.gt_frames.specs.Places.{frame_counts, frames_of, pool_number};
-ghost use Rattle.gt_frames.specs.Pool.{source_of, dest_of, visits_of, AreLocked, GoesOn, KeepsSource};
+ghost use Rattle.gt_access.specs.Pool.{source_of, dest_of, visits_of, AreLocked, GoesOn, KeepsSource};
 ghost use Rattle.gt_frames.specs.Sets.{name_of};
-ghost use Rattle.gt_frames.specs.Visits.{IsFresh};
+ghost use Rattle.gt_access.specs.Visits.{IsFresh};
 
-use crate::frames::frames_of_zeros;
-use crate::places::{find, frame_counts};
-use crate::{Copied, Frame, FrameCount, FrameName, LockedFrame, FrameAccesses, Writ};
+use crate::visits::{FrameAccesses, LockedFrame};
 use crossbeam_utils::CachePadded;
+use gt_frames::{
+    Copied, Frame, FrameCount, FrameName, Writ, frame_counts, frames_of_zeros, number_in_pool,
+};
 use gt_types::{Config, FRAME_SIZE, Memory, Range};
 use std::alloc::Global;
 use std::marker::Model;
@@ -114,7 +115,7 @@ impl Pool {
     fn place(&self, name: FrameName) -> Option<usize>
         ensures { result ≡ pool_number self.now name.owner name.number 0 }
     {
-        find(&self.domains, name)
+        number_in_pool(&self.domains, name)
     }
 
     // Locks the frame at this place, which is above each place that was locked for this access: two copies between
@@ -156,7 +157,12 @@ impl Pool {
 
     /// Locks the frames at both ends of a copy: the one with the lower pool number first, and one
     /// lock if both are one frame. `None` if there is no such frame, or another one is in its place.
-    pub fn lock_both(&self, rt: &impl Wait, source: FrameName, dest: FrameName) -> Option<LockedPair<'_>>
+    pub fn lock_both(
+        &self,
+        rt: &impl Wait,
+        source: FrameName,
+        dest: FrameName,
+    ) -> Option<LockedPair<'_>>
         ensures { IfSome result (AreLocked source dest) }
     {
         let from = self.place(source)?;
@@ -178,7 +184,11 @@ impl Pool {
 
 impl<'p> LockedPair<'p> {
     // Both ends are this frame, if it has both names.
-    fn same(frame: MutexGuard<'p, Frame>, source: FrameName, dest: FrameName) -> Option<LockedPair<'p>>
+    fn same(
+        frame: MutexGuard<'p, Frame>,
+        source: FrameName,
+        dest: FrameName,
+    ) -> Option<LockedPair<'p>>
         ensures { IfSome result (AreLocked source dest) }
     {
         if is_named(&frame, source) && is_named(&frame, dest) {

@@ -4,7 +4,7 @@ use Rattle.gt_frames.specs.declared.places.FrameCount.{FrameCount}
 use Rattle.gt_frames.specs.Frames.{FrameState}
 use Rattle.gt_frames.specs.Sets.{zero_frames}
 use Rattle.gt_frames.proofs.Laying.{laid_new}
-use Rattle.gt_frames.proofs.pool.Pool.new.Goals as goal
+use Rattle.gt_access.proofs.pool.Pool.new.Goals as goal
 
 pub invariant_of-result : goal.invariant_of-result
 invariant_of-result c =

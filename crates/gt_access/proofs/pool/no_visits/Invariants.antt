@@ -1,5 +1,5 @@
 use Rattle.std.proofs.Common.{◌≡◌, [], length, All}
-use Rattle.gt_frames.proofs.pool.no_visits.Given as goal
+use Rattle.gt_access.proofs.pool.no_visits.Given as goal
 
 abbrev pub invariant-domains : goal.invariant-domains
 invariant-domains l = record {

@@ -1,11 +1,11 @@
 -- Locked frames at the two ends of a copy.
 use Rattle.std.specs.Prelude.{◌≡◌, false, Option, Some, None, List, ◌∷◌}
 use Rattle.gt_types.specs.declared.places.FrameName.{FrameName}
-use Rattle.gt_frames.specs.declared.pool.LockedPair.{LockedPair}
+use Rattle.gt_access.specs.declared.pool.LockedPair.{LockedPair}
 use Rattle.gt_frames.specs.Frames.{FrameState, IsKept}
 use Rattle.gt_frames.specs.Places.{is_name}
 use Rattle.gt_frames.specs.Sets.{name_of}
-use Rattle.gt_frames.specs.Visits.{FrameAccess, IsFresh, visit_in}
+use Rattle.gt_access.specs.Visits.{FrameAccess, IsFresh, visit_in}
 
 -- the frame that the bytes go to
 abbrev pub dest_of : LockedPair → FrameState
