@@ -1,6 +1,6 @@
 //! Records that domains share while they run.
 use crate::compact::Compact;
-use crate::record::EncodedRecord;
+use crate::record::Record;
 use boxcar::Vec;
 use gt_types::DomId;
 use std::alloc::{AllocError, Global};

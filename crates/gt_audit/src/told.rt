@@ -1,5 +1,5 @@
 //! What one domain pushed into a shared log.
-use crate::record::EncodedRecord;
+use crate::record::Record;
 use crate::shared::{Pushed, SharedLog};
 use gt_types::DomId;
 use std::alloc::{AllocError, Global};

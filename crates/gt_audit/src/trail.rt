@@ -1,6 +1,6 @@
 //! A domain's own list of records.
 use crate::pieces::Pieces;
-use crate::record::EncodedRecord;
+use crate::record::Record;
 use gt_types::Memory;
 use std::alloc::Global;
 use std::marker::Model;

@@ -27,4 +27,4 @@ pub use commands::Work;
 pub use failure::{Failure, exit_status};
 pub use obeying::obey;
 pub use system::{System, run};
-pub use texts::FoundTexts;
+pub use texts::TextSource;

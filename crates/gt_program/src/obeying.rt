@@ -10,7 +10,7 @@ use crate::commands::{Context, Work, run_asked, work_asked};
 use crate::failure::{Failure, exit_status};
 use crate::reasons::Reasons;
 use crate::rules::tell_rules;
-use crate::texts::FoundTexts;
+use crate::texts::TextSource;
 use clap::Error;
 use clap::error::ErrorKind;
 use gt_commands::{Format, Invocation, plan, with_long_flags};

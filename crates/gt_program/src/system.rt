@@ -1,7 +1,7 @@
 //! The program over the system's files, words and streams.
 use crate::failure::Failure;
 use crate::obeying::{obey, report};
-use crate::texts::FoundTexts;
+use crate::texts::TextSource;
 use std::alloc::Global;
 use std::fs::File;
 use std::io::{self, ErrorKind};
