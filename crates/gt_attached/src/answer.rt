@@ -59,7 +59,7 @@ pub enum AttachedOutcome {
     /// Ok: the domain has left its place, and this remains.
     Left(Departure),
     /// Ok: its records were taken.
-    TakenCounts(TakenCounts),
+    Taken(TakenCounts),
 }
 
 /// What a call answered, in a layout that C reads. A field that says nothing is 0.

@@ -47,7 +47,7 @@ pub enum FindingKind {
     /// A label of a script that no map before it has.
     NeverMapped,
     /// What is said beside the error or the warning before it.
-    FindingNote,
+    Note,
 }
 
 /// Something in a text that is wrong or useless. Lines and columns are counted from 1.

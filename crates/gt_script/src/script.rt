@@ -420,7 +420,7 @@ impl<'a> Script<'a> {
         }
     }
 
-    pub(crate) fn with_text_line(
+    fn with_text_line(
         self,
         alloc: Global,
         number: usize,

@@ -33,7 +33,7 @@ pub enum BodyLine<'a> {
     /// `do`, `begin`, `tick` or `show`.
     Action(ScriptAction<'a>),
     /// `tell` or `await`.
-    FlagLine(FlagLine<'a>),
+    Signal(FlagLine<'a>),
 }
 
 /// A line of a script, with what its words say.

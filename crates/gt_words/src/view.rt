@@ -86,7 +86,7 @@ pub enum SeatStep {
 #[derive(Clone, Copy)]
 pub enum Purpose {
     Pin(Dir),
-    EntryChange(EntryChange),
+    Change(EntryChange),
 }
 
 /// What a seat knows: which domain's it is, by its position among those of the run, and its own steps, the last first.
