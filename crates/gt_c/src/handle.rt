@@ -2,7 +2,7 @@
 ghost use Rattle.std.specs.Prelude.{◌≡◌, Some, None, IsSome, true, false};
 ghost use Rattle.std.specs.Option.{option_map};
 
-use crate::held::HeldPin;
+use crate::held::RawBox;
 use crate::here::CDomain;
 use crate::parts::BoxParts;
 use std::alloc::Global;

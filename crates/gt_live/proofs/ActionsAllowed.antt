@@ -23,7 +23,7 @@ use Rattle.gt_words.specs.Conditions.{CanTurn, HasDomain, Holds, IsIdleOf, IsWor
 use Rattle.gt_words.specs.Answers.{Changes, Pins}
 use Rattle.gt_words.specs.Controls.{generation_of, pins_in}
 use Rattle.gt_words.specs.Rule.{IsKeptHeader, Layout, id_at, position_in}
-use Rattle.gt_words.specs.Views.{HasBody, is_pin, pins_like, IsAmong, LivePin, Observation as Looks, last_of, last_seen}
+use Rattle.gt_words.specs.Views.{HasBody, is_pin, pins_like, IsAmong, LivePin, Seen as Looks, last_of, last_seen}
 use Rattle.gt_words.specs.Views.{own_body}
 use Rattle.gt_words.specs.Views.{live_pins, record_seen, seen, seen_or_none, steps_on}
 use Rattle.gt_entry.specs.declared.change.BodyWord.TheVariants.{First as FirstHalf, Second as SecondHalf}

@@ -32,7 +32,7 @@ use Rattle.gt_words.specs.Controls.{ForwardsPin, LeadsTo, PermitsPin, generation
 use Rattle.gt_words.specs.Keeping.{SeesNoEarlier}
 use Rattle.gt_words.specs.Laws.{domain_at}
 use Rattle.gt_words.specs.Rule.{Layout, id_at, position_in}
-use Rattle.gt_words.specs.Views.{HasBody, Observation as Looks, last_seen, record_seen, seen, seen_or_none, steps_on}
+use Rattle.gt_words.specs.Views.{HasBody, Seen as Looks, last_seen, record_seen, seen, seen_or_none, steps_on}
 use Rattle.gt_words.specs.Views.{value_or_zero, with_body}
 use Rattle.gt_words.specs.declared.view.EntryRecord.{EntryRecord}
 use Rattle.gt_words.specs.History.{Moment}
