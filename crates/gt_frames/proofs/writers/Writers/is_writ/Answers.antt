@@ -11,5 +11,5 @@ returns c = λ is.
     slice_get_read writs c.len.result (c.from-number.result - 1) c.index.result.now (omega arith) (omega arith) c.index.ensures in (
       omega arith,
       omega arith,
-      ap (λ (n : ℕ). slice_get writs (n - 1)) (sym number) ∙ read ∙ ap (λ (w : Writ). Some w) (c.is.ensures is),
+      ap (λ (n : ℕ). slice_get writs (n - 1)) (sym number) ∙ read ∙ ap (λ (w : Writ). Some w) (c.equals.ensures is),
     )
