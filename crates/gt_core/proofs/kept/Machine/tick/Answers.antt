@@ -83,7 +83,7 @@ returns-clause-stands g c = let s = setting_by g.P.Allows.may c.args.self.now in
     let p : position (has_id c.args.dom.0) xs ≡ Some at = ap (λ (l : List State). position (has_id c.args.dom.0) l) (sym c.deref.ensures.value) ∙ sym c.find.ensures ∙ c.in-Some.is in
     let seen = c.in_ok-seen.seen in let new = c.advance-action.result.0 in let action = c.advance-action.result.1 in
     let ws = c.perform.new.self.domains.items in let applied = c.in_ok-seen.ensures.applied in
-    tick-does s c.args.self.now.frames c.perform.new.self.frames c.settle-answer.new.self.frames xs c.settle-answer.new.self.domains.items c.args.dom at x o seen new action c.settle-answer.result c.told.result c.told.ensures
+    tick-does s c.args.self.now.frames c.perform.new.self.frames c.settle-answer.new.self.frames xs c.settle-answer.new.self.domains.items c.args.dom at x o seen new action c.settle-answer.result c.ticked_as.result c.ticked_as.ensures
     (begins-after s c.requires.0 xs ws c.args.self.now.frames c.args.dom at x o seen new action c.requires.1 p c.index.ensures (sym c.underway.ensures ∙ c.in-Some-underway.is)
     c.in_ok-seen.ensures.sees applied c.advance-action.ensures.caller c.advance-action.ensures.request
     (λ d there k alike. c.advance-action.ensures.goes d there k
