@@ -7,7 +7,7 @@
     tools/json_lines.py program GTHOST   runs GTHOST on the examples, on the dumps of crates/cases_entries and on dumps of
                                    drawn bytes, with --format json and without, and compares
 
-Exit status: 0 if all is the same. docs/FORMATS.md has the form, from which this is written.
+Exit status: 0 if all is the same. docs/FORMATS_SCRIPTS.md has the form, from which this is written.
 """
 import glob
 import json

@@ -3,7 +3,7 @@
 //! `data/cases.txt` has the scripts, each after a line `== play NAME` or `== run NAME`, which says the command that the
 //! script is given to. `stdout` has what must be printed under that line: the fixed line of the fault, and the reason
 //! that `gt_reasons` adds; or the reasons alone, for a script that was played. The lines of `stdout` were
-//! written by hand, from docs/FORMATS.md. A case is added to both files; that costs no proof.
+//! written by hand, from docs/FORMATS_SCRIPTS.md. A case is added to both files; that costs no proof.
 #![tactic(auto)]
 
 use anyhow::bail;

@@ -1,7 +1,7 @@
 //! The forms of a script's lines, and what stands at each of their words.
 use gt_script_lines::is_word;
 
-/// The form of each line, as docs/FORMATS.md writes it. A word in capitals is a part, and any other stands for itself.
+/// The form of each line, as docs/FORMATS_SCRIPTS.md writes it. A word in capitals is a part, and any other stands for itself.
 pub const FORMS: [&str; 30] = [
     "triple TYPE TYPE PERMISSION",
     "wear GENERATION",

@@ -35,7 +35,7 @@ fn refusal_with<'t>(
     })
 }
 
-// The refusal that the object of an answer line tells (docs/FORMATS.md, 'JSON Lines').
+// The refusal that the object of an answer line tells (docs/FORMATS_SCRIPTS.md, 'JSON Lines').
 fn refusal_of_object<'t>(line: &'t str) -> Option<RefusedCall<'t>> {
     let members = line.strip_prefix("{\"line\":")?.strip_suffix("\"}")?;
     let (number, rest) = members.split_once(",\"domain\":")?;
