@@ -17,7 +17,7 @@ use Rattle.gt_calls.specs.Machine.{standing_after}
 use Rattle.gt_frames.specs.declared.places.FrameCount.{FrameCount}
 use Rattle.gt_calls.specs.Asking.{FitsAsked, judged_as}
 use Rattle.gt_calls.proofs.Advancing.{continues, opens as starts-open}
-use Rattle.gt_calls.specs.declared.call.CallStart.TheVariants.{OpenCall as StartOpen}
+use Rattle.gt_calls.specs.declared.call.CallStart.TheVariants.{Open as StartOpen}
 use Rattle.gt_core.specs.GoingOn.{AccessAnsweredSo, AnsweredSo, CallsCanBegin, IsAccess, IsOnWords, CanBeReached}
 use Rattle.gt_core.specs.GoingOn.{OpenCallsCanAccess, OpenCallsCanGoOn, RunsStart}
 use Rattle.gt_core.specs.GoingOn.{begin_answer, beginning, step_after}
@@ -38,7 +38,7 @@ use Rattle.gt_core.specs.History.{contents_at}
 use Rattle.gt_core.specs.declared.trace.Answer.TheVariants.{Bytes as BytesAnswer}
 use Rattle.gt_core.specs.declared.trace.Bytes.{Bytes}
 use Rattle.gt_core.specs.Acting.{answer_of, IsOpenCall}
-use Rattle.gt_core.specs.declared.core_state.Begun.TheVariants.{OpenCall as BegunOpen, Done as BegunDone}
+use Rattle.gt_core.specs.declared.core_state.Begun.TheVariants.{Open as BegunOpen, Done as BegunDone}
 use Rattle.gt_core.proofs.{Beginning.begin-answers, Beginning.begin-opened, Beginning.not-done, Beginning.opened}
 use Rattle.gt_core.proofs.{AgreementKept.known-same, Performing.kept-part, Performing.stepped-state}
 use Rattle.gt_core.proofs.{Playing.core-starts}

@@ -50,7 +50,7 @@ pub use Rattle.gt_calls.specs.declared.request.PinHolder.TheVariants.{Leg as ByL
 pub use Rattle.gt_calls.specs.declared.request.Request.{Request}
 pub use Rattle.gt_core.specs.declared.core_state.Begun.{Begun}
 pub use Rattle.gt_core.specs.declared.core_state.Begun.TheVariants.{Busy as BegunBusy, Done as BegunDone}
-pub use Rattle.gt_core.specs.declared.core_state.Begun.TheVariants.{NoDomain as BegunNoDomain, OpenCall as BegunOpen}
+pub use Rattle.gt_core.specs.declared.core_state.Begun.TheVariants.{NoDomain as BegunNoDomain, Open as BegunOpen}
 pub use Rattle.gt_core.specs.declared.core_state.Ticked.{Ticked}
 pub use Rattle.gt_core.specs.declared.core_state.Ticked.TheVariants.{Done as TickedDone, Idle as TickedIdle}
 pub use Rattle.gt_core.specs.declared.core_state.Ticked.TheVariants.{NoDomain as TickedNoDomain, Step as TickedStep}

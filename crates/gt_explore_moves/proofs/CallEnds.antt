@@ -15,7 +15,7 @@ use Rattle.gt_calls.specs.declared.action.Observation.TheVariants.{Taken}
 use Rattle.gt_calls.specs.declared.action.Step.{Step}
 use Rattle.gt_calls.specs.declared.action.Step.TheVariants.{Exchange, Pin as PinStep, Unpin}
 use Rattle.gt_calls.specs.declared.held.HeldPin.{HeldPin}
-use Rattle.gt_calls.specs.declared.request.PinHolder.TheVariants.{Leg as ByLeg, LabelledMapping as ByHandle}
+use Rattle.gt_calls.specs.declared.request.PinHolder.TheVariants.{Leg as ByLeg, Mapping as ByHandle}
 use Rattle.gt_core.specs.Alike.{IsRun}
 use Rattle.gt_core.specs.History.{History, Pin, Setting, Underway, entry_at, gather, holder_after, legs_at, live}
 use Rattle.gt_core.specs.History.{mapping_named, mappings_at, maps_answered_at}

@@ -4,7 +4,7 @@ use Rattle.std.specs.Borrow.{Bor}
 use Rattle.std.specs.Option.{option_map}
 use Rattle.gt_calls.specs.declared.held.HeldPin.{HeldPin}
 use Rattle.gt_calls.specs.declared.request.PinHolder.{PinHolder}
-use Rattle.gt_calls.specs.declared.request.PinHolder.TheVariants.{LabelledMapping as ByHandle, Leg as ByLeg}
+use Rattle.gt_calls.specs.declared.request.PinHolder.TheVariants.{Mapping as ByHandle, Leg as ByLeg}
 use Rattle.gt_explore_moves.specs.declared.actor.LabelledMapping.{LabelledMapping}
 
 -- the bytes of a label, if there is one
