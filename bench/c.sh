@@ -1,11 +1,11 @@
 #!/usr/bin/env bash
 # bench/c.sh [LISTS [SEED]]: builds the static library for C, and tries it in C, C++ and Rust.
 #
-#   header    gthost.h compiles as C99 and C++, and says what the exports say (tools/header.py); the proofs of the
-#             exports are those that tools/walks.py writes
+#   header    gthost.h compiles as C99 and C++, says what the exports say, and tests each pointer before it passes it on
+#             (tools/header.py)
 #   vmm       the program of crates/gt_c/README.md, linked as pkg-config says; the C of README.md, in a function
 #   rules     gthost_rule_text gives the lines of `gthost rules`
-#   smoke     each answer of a short run is as the rules give it; each call of a handle of no domain
+#   smoke     each answer of a short run is as the rules give it; each call of a handle of no domain and of a null pointer
 #   memory    which calls take memory, and each allocation of a start failing in turn
 #   blk       the split block driver of examples/blk, with its hostile back end (where Xen's headers are installed)
 #   threads   four threads on one monitor
@@ -31,7 +31,6 @@ if [ -z "$library" ]; then
   ./tools/library.sh "$library" >"$work/log" 2>&1 || { cat "$work/log"; exit 1; }
 fi
 archive="$library/libgthost.a"
-python3 tools/walks.py --check
 xen=no
 ! printf '#include <xen/io/blkif.h>\n' | "${CC:-cc}" -include stdint.h -include string.h -E - >/dev/null 2>&1 || xen=yes
 

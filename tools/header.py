@@ -1,10 +1,11 @@
 #!/usr/bin/env python3
-"""header.py: writes a C program that compiles only if include/gthost.h says what the Rattle side says.
+"""header.py: writes a C program that compiles only if the headers of include/ say what the Rattle side says.
 
 It reads the `#[repr(C)]` structs, the exports and the numbers of gt_c and of the crates below it, and declares and
 asserts them again, by the layout rules of C with pointers of 8 bytes: each export with its types, the size of each struct and the offset of each
 field, and the number of each name. A declaration that differs from the header's is an error of the compiler. What the
-one side has and the other has not is an error here. The same is done for the structs and functions of contrib/rust.
+one side has and the other has not is an error here, and so is an export of a pointer without a function of the header
+in front of it that tests the pointer. The same is done for the structs and functions of contrib/rust.
 """
 
 import pathlib
@@ -35,10 +36,11 @@ SCALARS = {
 EMPTY = {"Global"}  # the allocator: it takes no bytes
 KINDS = {"Version": "TABLE_VERSION"}  # a name of the header, where it is no other spelling of the Rattle side's word
 ZEROS = {"GTHOST_OK", "GTHOST_NOTHING", "GTHOST_FAULT_NONE"}
-# Functions that the header has itself: each tests pointers, and makes the call of the export beside it.
-INLINE = {"gthost_start": "gthost_start_at"}
-# Functions that the header has itself, which call nothing.
-OWN = {"gthost_handle_of"}
+# Functions of the header that call no export.
+OWN = {
+    "gthost_handle_of", "gthost_null_answer", "gthost_null_mapping", "gthost_null_entry", "gthost_null_record",
+    "gthost_null_copy",
+}
 # The limits of gt_types that the header names.
 LIMITS = {
     "MAX_DOMAINS", "MAX_FRAMES", "FRAME_SIZE", "MAX_TABLE_FRAMES", "LAST_VERSION", "MAX_MAPPINGS", "MAX_PINS",
@@ -131,6 +133,27 @@ def compare_order(header, made):
             raise SystemExit(f"header: {name} takes {told}, and the Rattle side {scalars(declaration)}")
 
 
+def parameters(declaration):
+    inside = declaration[declaration.index("(") + 1 : declaration.rindex(")")]
+    return [" ".join(one.split()) for one in inside.split(",")]
+
+
+def compare_inline(header, exports):
+    """The function in front of each export tests each pointer, and passes on what it was passed."""
+    for name, export in exports.items():
+        found = re.search(rf"static inline struct \w+ ({name}\([^;{{}}]*\))\s*\{{(.*?)\n\}}", header, re.S)
+        if not found:
+            raise SystemExit(f"header: there is no function {name} in front of {export}")
+        params, body = parameters(found.group(1)), found.group(2)
+        if params != parameters(re.search(rf"\b{export}\(.*?\);", header, re.S).group()):
+            raise SystemExit(f"header: {name} takes other parameters than {export}")
+        names = [re.search(r"\w+$", one).group() for one in params]
+        pointers = [word for word, one in zip(names, params) if "*" in one]
+        untested = [word for word in pointers if not re.search(rf"return {word} \?|!{word}\b", body)]
+        if untested or f"{export}({', '.join(names)})" not in body:
+            raise SystemExit(f"header: {name} does not test its pointers, or passes {export} something else")
+
+
 def declarations(found, names):
     for name, params, result in found:
         told = []
@@ -143,7 +166,7 @@ def declarations(found, names):
 
 
 def exports(text):
-    found = re.findall(r'pub (?:unsafe )?extern "C" fn (\w+)\((.*?)\) -> (\w+)\s*(?=\{|ensures|ghost)', text, re.S)
+    found = re.findall(r'pub extern "C" fn (\w+)\((.*?)\) -> (\w+)\s*(?=\{|ensures)', text, re.S)
     return dict(declarations(found, STRUCTS))
 
 
@@ -212,13 +235,13 @@ def compare_names(what, declared, made):
 
 def main():
     text = sources()
-    header = re.sub(r"/\*.*?\*/", "", (TOP / "include" / "gthost.h").read_text(encoding="utf-8"), flags=re.S)
+    header = "\n".join((TOP / "include" / name).read_text(encoding="utf-8") for name in ("gthost_types.h", "gthost.h"))
+    header = re.sub(r"/\*.*?\*/", "", header, flags=re.S)
     made, said, of_status = exports(text), dict(numbers(text)), dict(statuses(text))
     rust_structs, rust_made = rust()
-    compare_names("exports", set(re.findall(r"\b(gthost_\w+)\(", header)), set(made) | set(INLINE) | OWN)
-    for name, export in INLINE.items():
-        if not re.search(rf"static inline [^;{{}}]*\b{name}\([^;{{}}]*\)\s*\{{.*?return {export}\(", header, re.S):
-            raise SystemExit(f"header: {name} is no function of the header that calls {export}")
+    in_front = {export.removesuffix("_at"): export for export in made if export.endswith("_at")}
+    compare_names("exports", set(re.findall(r"\b(gthost_\w+)\(", header)), set(made) | set(in_front) | OWN)
+    compare_inline(header, in_front)
     compare_names("structs", set(re.findall(r"^struct (\w+) \{", header, re.M)), set(STRUCTS.values()))
     compare_names("numbers", set(re.findall(r"\b(GTHOST_\w+) =", header)), set(said) | ZEROS | set(OF_XEN))
     compare_versions(header, text)

@@ -317,6 +317,34 @@ static void copies(void)
     HOLDS(gthost_finish(&domain[0]).value == 0);
 }
 
+static bool is_nothing(struct gthost_answer a)
+{
+    return !a.status && !a.kind && !a.dom && !a.gref && !a.source && !a.target && !a.detail && !a.word && !a.value &&
+           !a.more;
+}
+
+static bool is_no_end(struct gthost_end end)
+{
+    return !end.ptr && !end.dom && !end.off;
+}
+
+/* What is told beside the answer to a null pointer is zero. */
+static void nothing_is_told(void)
+{
+    const struct gthost_handle name = {0, 0, 0, 0};
+    const struct gthost_copy copy = {{0, 0, 0}, {0, 0, 0}, 0, 0};
+    const struct gthost_mapping mapping = gthost_mapping(NULL, name).mapping;
+    HOLDS(!mapping.frame && !mapping.gref && !mapping.owner && !mapping.writes);
+    const struct gthost_entry_status entry = gthost_entry(NULL, 0).entry;
+    HOLDS(!entry.kind && !entry.generation && !entry.reads && !entry.writes && !entry.to && !entry.read_only);
+    const struct gthost_record kept = gthost_record(NULL, 0).kept;
+    HOLDS(!kept.call && !kept.caller && !kept.dom && !kept.gref && !kept.flags && !kept.len);
+    HOLDS(is_no_end(kept.source) && is_no_end(kept.dest) && !kept.reply.rule && is_nothing(kept.reply));
+    const struct gthost_places places = gthost_copy_begin(NULL, copy).places;
+    HOLDS(!places.from.frame && !places.from.owner && !places.from.off && !places.len);
+    HOLDS(!places.to.frame && !places.to.owner && !places.to.off);
+}
+
 /* Each call of a null pointer. */
 static void nulls(void)
 {
@@ -340,7 +368,9 @@ static void nulls(void)
     for (size_t i = 0; i < COUNT(answers); i++) {
         struct gthost_answer answer = answers[i];
         WANT(GTHOST_NULL_POINTER, 0, GTHOST_NOTHING);
+        HOLDS(is_nothing(answer));
     }
+    nothing_is_told();
 }
 
 int main(void)

@@ -14,7 +14,7 @@ enum {
     LINE = 128 /* what two threads should not share */
 };
 
-/* A handle on cache lines of its own, since each call writes it. */
+/* A handle, on cache lines of its own. */
 struct seat {
     _Alignas(LINE) struct gthost_domain domain;
 };

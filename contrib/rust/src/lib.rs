@@ -336,62 +336,62 @@ fn status(entry: raw::EntryStatus) -> Status {
 /// Each call is refused by the rules that `gthost.h` names beside it.
 impl Domain {
     // SAFETY of each call below: `raw` is what the library wrote, and `&mut self` makes it the only call.
-    fn call(&mut self, what: impl FnOnce(*mut raw::Domain) -> raw::Answer) -> Result<raw::Answer, Refusal> {
+    fn call(&mut self, what: impl FnOnce(&mut raw::Domain) -> raw::Answer) -> Result<raw::Answer, Refusal> {
         judged(what(&mut self.raw))
     }
 
     pub fn grant(&mut self, gref: u32, entry: Entry<'_>) -> Result<(), Refusal> {
         self.call(|d| unsafe {
             match entry {
-                Entry::Page { to, frame, read_only } => raw::gthost_grant_page(d, gref, to, frame, read_only.into()),
+                Entry::Page { to, frame, read_only } => raw::gthost_grant_page_at(d, gref, to, frame, read_only.into()),
                 Entry::Sub { to, frame, off, len, read_only } => {
-                    raw::gthost_grant_sub(d, gref, to, frame, off, len, read_only.into())
+                    raw::gthost_grant_sub_at(d, gref, to, frame, off, len, read_only.into())
                 }
                 Entry::Via { to, dom, gref: onward, read_only } => {
-                    raw::gthost_grant_via(d, gref, to, dom, onward, read_only.into())
+                    raw::gthost_grant_via_at(d, gref, to, dom, onward, read_only.into())
                 }
-                Entry::Bytes(bytes) => raw::gthost_grant_bytes(d, gref, spelled(bytes)),
+                Entry::Bytes(bytes) => raw::gthost_grant_bytes_at(d, gref, spelled(bytes)),
             }
         })
         .map(drop)
     }
 
     pub fn revoke(&mut self, gref: u32) -> Result<(), Refusal> {
-        self.call(|d| unsafe { raw::gthost_revoke(d, gref) }).map(drop)
+        self.call(|d| unsafe { raw::gthost_revoke_at(d, gref) }).map(drop)
     }
 
     pub fn withdraw(&mut self, gref: u32) -> Result<(), Refusal> {
-        self.call(|d| unsafe { raw::gthost_withdraw(d, gref) }).map(drop)
+        self.call(|d| unsafe { raw::gthost_withdraw_at(d, gref) }).map(drop)
     }
 
     pub fn demote(&mut self, gref: u32) -> Result<(), Refusal> {
-        self.call(|d| unsafe { raw::gthost_demote(d, gref) }).map(drop)
+        self.call(|d| unsafe { raw::gthost_demote_at(d, gref) }).map(drop)
     }
 
     pub fn promote(&mut self, gref: u32) -> Result<(), Refusal> {
-        self.call(|d| unsafe { raw::gthost_promote(d, gref) }).map(drop)
+        self.call(|d| unsafe { raw::gthost_promote_at(d, gref) }).map(drop)
     }
 
     /// One look at an entry of its own. `ABSENT` past the table.
     pub fn entry(&mut self, gref: u32) -> Result<Status, Refusal> {
-        let found = unsafe { raw::gthost_entry(&mut self.raw, gref) };
+        let found = unsafe { raw::gthost_entry_at(&mut self.raw, gref) };
         judged(found.answer).map(|_| status(found.entry))
     }
 
     pub fn map(&mut self, dom: u16, gref: u32, access: Access) -> Result<Handle, Refusal> {
         let flags = if access == Access::Write { 2 } else { 6 };
-        let answer = self.call(|d| unsafe { raw::gthost_map(d, dom, gref, flags) })?;
+        let answer = self.call(|d| unsafe { raw::gthost_map_at(d, dom, gref, flags) })?;
         let (key, dom) = (answer.more as usize, answer.dom as u16);
         Ok(Handle { serial: answer.value, key, run: answer.detail, dom })
     }
 
     pub fn unmap(&mut self, handle: Handle) -> Result<(), Refusal> {
-        self.call(|d| unsafe { raw::gthost_unmap(d, handle) }).map(drop)
+        self.call(|d| unsafe { raw::gthost_unmap_at(d, handle) }).map(drop)
     }
 
     /// What is mapped under a handle. `ABSENT` if it is no mapping of this domain.
     pub fn mapping(&mut self, handle: Handle) -> Result<Mapping, Refusal> {
-        let found = unsafe { raw::gthost_mapping(&mut self.raw, handle) };
+        let found = unsafe { raw::gthost_mapping_at(&mut self.raw, handle) };
         judged(found.answer).map(|_| found.mapping)
     }
 
@@ -403,68 +403,68 @@ impl Domain {
         };
         let ((source, by_source), (dest, by_dest)) = (end(from), end(to));
         let asked = raw::Copying { source, dest, len, flags: u16::from(by_source) | u16::from(by_dest) << 1 };
-        let begun = unsafe { raw::gthost_copy_begin(&mut self.raw, asked) };
+        let begun = unsafe { raw::gthost_copy_begin_at(&mut self.raw, asked) };
         judged(begun.answer)?;
         Ok(Copying { domain: self, places: begun.places })
     }
 
     pub fn set_version(&mut self, version: u32) -> Result<(), Refusal> {
-        self.call(|d| unsafe { raw::gthost_set_version(d, version) }).map(drop)
+        self.call(|d| unsafe { raw::gthost_set_version_at(d, version) }).map(drop)
     }
 
     /// How many frames the table then has.
     pub fn setup_table(&mut self, frames: u32) -> Result<u64, Refusal> {
-        self.call(|d| unsafe { raw::gthost_setup_table(d, frames) }).map(|answer| answer.value)
+        self.call(|d| unsafe { raw::gthost_setup_table_at(d, frames) }).map(|answer| answer.value)
     }
 
     pub fn query_size(&mut self, dom: u16) -> Result<Size, Refusal> {
-        let answer = self.call(|d| unsafe { raw::gthost_query_size(d, dom) })?;
+        let answer = self.call(|d| unsafe { raw::gthost_query_size_at(d, dom) })?;
         Ok(Size { frames: answer.value, most: answer.more })
     }
 
     pub fn get_version(&mut self, dom: u16) -> Result<u64, Refusal> {
-        self.call(|d| unsafe { raw::gthost_get_version(d, dom) }).map(|answer| answer.value)
+        self.call(|d| unsafe { raw::gthost_get_version_at(d, dom) }).map(|answer| answer.value)
     }
 
     /// The record of its calls at this place, from 0 on. `ABSENT` past the last one.
     pub fn record(&mut self, index: usize) -> Result<Record, Refusal> {
-        let raw::FoundRecord { answer, kept } = unsafe { raw::gthost_record(&mut self.raw, index) };
+        let raw::FoundRecord { answer, kept } = unsafe { raw::gthost_record_at(&mut self.raw, index) };
         judged(answer)?;
         Ok(Record { caller: kept.caller, call: called(&kept), reply: judged(kept.reply).map(drop) })
     }
 
     /// Lets all records go, and keeps their room.
     pub fn take_records(&mut self) -> Result<Taken, Refusal> {
-        let answer = self.call(|d| unsafe { raw::gthost_take_records(d) })?;
+        let answer = self.call(|d| unsafe { raw::gthost_take_records_at(d) })?;
         Ok(Taken { records: answer.value, lost: answer.more })
     }
 
     /// From now on it keeps a record only while it has fewer than `records`.
     pub fn keep_at_most(&mut self, records: usize) -> Result<(), Refusal> {
-        self.call(|d| unsafe { raw::gthost_keep_at_most(d, records) }).map(drop)
+        self.call(|d| unsafe { raw::gthost_keep_at_most_at(d, records) }).map(drop)
     }
 
     /// Makes room for this many more records, at most 2^24. `NO_MEMORY` for more, or if memory is refused.
     pub fn reserve_records(&mut self, records: usize) -> Result<(), Refusal> {
-        self.call(|d| unsafe { raw::gthost_reserve_records(d, records) }).map(drop)
+        self.call(|d| unsafe { raw::gthost_reserve_records_at(d, records) }).map(drop)
     }
 
     /// Gives up its mappings and closes its table, for the next guest in its place.
     pub fn reset(&mut self) -> Remains {
-        let answer = unsafe { raw::gthost_reset(&mut self.raw) };
+        let answer = unsafe { raw::gthost_reset_at(&mut self.raw) };
         Remains { lost: answer.value, in_use: answer.more }
     }
 
     /// Closes its table, and leaves the run.
     pub fn finish(mut self) -> Remains {
-        let answer = unsafe { raw::gthost_finish(&mut self.raw) }; // and the drop that follows finds no domain
+        let answer = unsafe { raw::gthost_finish_at(&mut self.raw) }; // and the drop that follows finds no domain
         Remains { lost: answer.value, in_use: answer.more }
     }
 }
 
 impl Drop for Domain {
     fn drop(&mut self) {
-        unsafe { raw::gthost_finish(&mut self.raw) };
+        unsafe { raw::gthost_finish_at(&mut self.raw) };
     }
 }
 
@@ -476,6 +476,6 @@ impl Copying<'_> {
 
 impl Drop for Copying<'_> {
     fn drop(&mut self) {
-        let _ = self.domain.call(|d| unsafe { raw::gthost_copy_end(d) });
+        let _ = self.domain.call(|d| unsafe { raw::gthost_copy_end_at(d) });
     }
 }

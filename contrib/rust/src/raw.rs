@@ -1,4 +1,4 @@
-//! What `gthost.h` declares; `tools/header.py` compares the two.
+//! What `gthost.h` declares; `tools/header.py` compares the two. The pointer of a `&mut` is never null.
 use std::os::raw::c_void;
 
 #[repr(C)]
@@ -131,28 +131,30 @@ extern "C" {
     pub fn gthost_fault_text(kind: u32) -> Text;
     pub fn gthost_rule_text(rule: u32) -> RuleLine;
     pub fn gthost_version() -> u32;
-    pub fn gthost_reset(d: *mut Domain) -> Answer;
-    pub fn gthost_entry(d: *mut Domain, gref: u32) -> FoundEntry;
-    pub fn gthost_take_records(d: *mut Domain) -> Answer;
-    pub fn gthost_finish(d: *mut Domain) -> Answer;
-    pub fn gthost_grant_page(d: *mut Domain, gref: u32, to: u16, frame: u64, ro: u32) -> Answer;
-    pub fn gthost_grant_sub(d: *mut Domain, gref: u32, to: u16, frame: u64, off: u16, len: u16, ro: u32) -> Answer;
-    pub fn gthost_grant_via(d: *mut Domain, gref: u32, to: u16, dom2: u16, ref2: u32, ro: u32) -> Answer;
-    pub fn gthost_grant_bytes(d: *mut Domain, gref: u32, bytes: EntryBytes) -> Answer;
-    pub fn gthost_revoke(d: *mut Domain, gref: u32) -> Answer;
-    pub fn gthost_withdraw(d: *mut Domain, gref: u32) -> Answer;
-    pub fn gthost_demote(d: *mut Domain, gref: u32) -> Answer;
-    pub fn gthost_promote(d: *mut Domain, gref: u32) -> Answer;
-    pub fn gthost_map(d: *mut Domain, dom: u16, gref: u32, flags: u32) -> Answer;
-    pub fn gthost_unmap(d: *mut Domain, name: super::Handle) -> Answer;
-    pub fn gthost_mapping(d: *mut Domain, name: super::Handle) -> FoundMapping;
-    pub fn gthost_copy_begin(d: *mut Domain, copy: Copying) -> BegunCopy;
-    pub fn gthost_copy_end(d: *mut Domain) -> Answer;
-    pub fn gthost_set_version(d: *mut Domain, version: u32) -> Answer;
-    pub fn gthost_setup_table(d: *mut Domain, frames: u32) -> Answer;
-    pub fn gthost_query_size(d: *mut Domain, dom: u16) -> Answer;
-    pub fn gthost_get_version(d: *mut Domain, dom: u16) -> Answer;
-    pub fn gthost_record(d: *mut Domain, index: usize) -> FoundRecord;
-    pub fn gthost_keep_at_most(d: *mut Domain, records: usize) -> Answer;
-    pub fn gthost_reserve_records(d: *mut Domain, records: usize) -> Answer;
+    pub fn gthost_reset_at(domain: &mut Domain) -> Answer;
+    pub fn gthost_entry_at(domain: &mut Domain, gref: u32) -> FoundEntry;
+    pub fn gthost_take_records_at(domain: &mut Domain) -> Answer;
+    pub fn gthost_finish_at(domain: &mut Domain) -> Answer;
+    pub fn gthost_grant_page_at(domain: &mut Domain, gref: u32, to: u16, frame: u64, ro: u32) -> Answer;
+    pub fn gthost_grant_sub_at(
+        domain: &mut Domain, gref: u32, to: u16, frame: u64, off: u16, len: u16, ro: u32,
+    ) -> Answer;
+    pub fn gthost_grant_via_at(domain: &mut Domain, gref: u32, to: u16, dom2: u16, ref2: u32, ro: u32) -> Answer;
+    pub fn gthost_grant_bytes_at(domain: &mut Domain, gref: u32, bytes: EntryBytes) -> Answer;
+    pub fn gthost_revoke_at(domain: &mut Domain, gref: u32) -> Answer;
+    pub fn gthost_withdraw_at(domain: &mut Domain, gref: u32) -> Answer;
+    pub fn gthost_demote_at(domain: &mut Domain, gref: u32) -> Answer;
+    pub fn gthost_promote_at(domain: &mut Domain, gref: u32) -> Answer;
+    pub fn gthost_map_at(domain: &mut Domain, dom: u16, gref: u32, flags: u32) -> Answer;
+    pub fn gthost_unmap_at(domain: &mut Domain, name: super::Handle) -> Answer;
+    pub fn gthost_mapping_at(domain: &mut Domain, name: super::Handle) -> FoundMapping;
+    pub fn gthost_copy_begin_at(domain: &mut Domain, copy: Copying) -> BegunCopy;
+    pub fn gthost_copy_end_at(domain: &mut Domain) -> Answer;
+    pub fn gthost_set_version_at(domain: &mut Domain, version: u32) -> Answer;
+    pub fn gthost_setup_table_at(domain: &mut Domain, frames: u32) -> Answer;
+    pub fn gthost_query_size_at(domain: &mut Domain, dom: u16) -> Answer;
+    pub fn gthost_get_version_at(domain: &mut Domain, dom: u16) -> Answer;
+    pub fn gthost_record_at(domain: &mut Domain, index: usize) -> FoundRecord;
+    pub fn gthost_keep_at_most_at(domain: &mut Domain, records: usize) -> Answer;
+    pub fn gthost_reserve_records_at(domain: &mut Domain, records: usize) -> Answer;
 }

@@ -2,23 +2,43 @@
 use Rattle.std.proofs.Common.{◌≡◌, ◌∙◌, ap, refl, subst, inr, Option, Some, None}
 use Rattle.std.specs.Prelude.{is_some, false}
 use mathlib.Core.Bool.{true≢false}
+use Rattle.std.proofs.lemmas.Option.{same_Some}
 use Rattle.gt_attached.specs.declared.answer.EncodedAnswer.{EncodedAnswer}
 use Rattle.gt_c.specs.declared.here.CDomain.{CDomain}
-use Rattle.gt_c.specs.Calling.{CallsGuest, CallsTelling}
+use Rattle.gt_c.specs.Calling.{CallsGuest, CallsTelling, MayBeCalled}
 
-pub made : {before after : Option CDomain} {x d e : CDomain} (answer : EncodedAnswer) (Q : CDomain → CDomain → Type 0)
-    → x ≡ d → before ≡ Some d → after ≡ Some e → d.guest.copying ≡ None → Q x e → CallsGuest before after answer Q
-made {before} {after} {x} {d} {e} answer Q same p q none holds =
-    inr (record { was = d; is = e; before_is = p; after_is = q; idle = none; holds = subst (λ (y : CDomain). Q y e) same holds })
+-- the call is made on the domain x that the handle lends, which is e afterwards
+pub made : {before between : Option CDomain} {x e : CDomain} (answer : EncodedAnswer) (Q : CDomain → CDomain → Type 0)
+    → MayBeCalled before between → Some x ≡ between → Q x e → CallsGuest before (Some e) answer Q
+made {before = None} answer Q may lent holds = absurd may
+made {before = Some d} {between} {x} {e} answer Q may lent holds =
+    inr (record {
+      was = d;
+      is = e;
+      before_is = refl;
+      after_is = refl;
+      idle = may.1;
+      holds = subst (λ (y : CDomain). Q y e) (same_Some x d (lent ∙ may.0)) holds;
+    })
 
 -- the same of a call that tells more than its answer
-pub made-telling : {before after : Option CDomain} {x d e : CDomain} (answer : EncodedAnswer) (N : Type 0) (Q : CDomain → CDomain → Type 0)
-    → x ≡ d → before ≡ Some d → after ≡ Some e → d.guest.copying ≡ None → Q x e → CallsTelling before after answer N Q
-made-telling {before} {after} {x} {d} {e} answer N Q same p q none holds =
-    inr (record { was = d; is = e; before_is = p; after_is = q; idle = none; holds = subst (λ (y : CDomain). Q y e) same holds })
+pub made-telling : {before between : Option CDomain} {x e : CDomain} (answer : EncodedAnswer) (N : Type 0) (Q : CDomain → CDomain → Type 0)
+    → MayBeCalled before between → Some x ≡ between → Q x e → CallsTelling before (Some e) answer N Q
+made-telling {before = None} answer N Q may lent holds = absurd may
+made-telling {before = Some d} {between} {x} {e} answer N Q may lent holds =
+    inr (record {
+      was = d;
+      is = e;
+      before_is = refl;
+      after_is = refl;
+      idle = may.1;
+      holds = subst (λ (y : CDomain). Q y e) (same_Some x d (lent ∙ may.0)) holds;
+    })
 
-pub idle-there : {x d : CDomain} → x ≡ d → d.guest.copying ≡ None → x.guest.copying ≡ None
-idle-there {x} {d} same none = ap (λ (y : CDomain). y.guest.copying) same ∙ none
+pub idle-there : (before : Option CDomain) {between : Option CDomain} {x : CDomain} → MayBeCalled before between → Some x ≡ between
+    → x.guest.copying ≡ None
+idle-there None may lent = absurd may
+idle-there (Some d) {between} {x} may lent = ap (λ (y : CDomain). y.guest.copying) (same_Some x d (lent ∙ may.0)) ∙ may.1
 
 pub none-of : {A : Type 0} (o : Option A) → is_some o ≡ false → o ≡ None
 none-of None e = refl

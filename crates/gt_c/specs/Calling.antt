@@ -14,9 +14,10 @@ TurnedAway None after answer = (after ≡ None) × (answer ≡ encoded outcomes.
 TurnedAway (Some d) after answer =
     (after ≡ Some d) × IsSome d.guest.copying × (answer ≡ encoded outcomes.Busy)
 
--- a handle's domain was taken for a call; it is in no copy
-abbrev pub Enters : Option CDomain → Option CDomain → CDomain → Type 0
-Enters before after d = (before ≡ Some d) × (after ≡ None) × (d.guest.copying ≡ None)
+-- a handle has a domain, which is in no copy and as it was
+abbrev pub MayBeCalled : Option CDomain → Option CDomain → Type 0
+MayBeCalled None after = ⊥
+MayBeCalled (Some d) after = (after ≡ Some d) × (d.guest.copying ≡ None)
 
 -- a call was made on the handle's domain, which was in no copy: the handle has it afterwards, and this holds of it
 -- before and after

@@ -1,8 +1,8 @@
 pub mod Asking
 pub mod Calling
 pub mod Faults
+pub mod Lending
 pub mod Owning
-pub mod Pointing
 pub mod Prelude
 pub mod Promises
 pub mod Rules

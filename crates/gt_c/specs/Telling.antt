@@ -6,11 +6,6 @@ use Rattle.gt_c.specs.Prelude.{CopyPlaces, CopyEnd, may, Control, EntryKind, Ent
 use Rattle.gt_entry.specs.declared.control.EntryKind.TheVariants.{Invalid, Page, Sub, Via}
 use Rattle.gt_c.specs.Prelude.{EncodedRecord, CopySettings, PlaceReport, PlacesReport, MappedFrame, CDomain}
 use Rattle.gt_attached.specs.declared.answer.AttachedOutcome.TheVariants as outcomes
-use Rattle.gt_c.specs.declared.copies.BegunReport.{BegunReport}
-use Rattle.gt_c.specs.declared.telling.EntryReport.{EntryReport}
-use Rattle.gt_c.specs.declared.telling.MappingReport.{MappingReport}
-use Rattle.gt_c.specs.declared.telling.RecordReport.{RecordReport}
-use Rattle.gt_c.specs.Pointing.{nowhere}
 
 -- an end of a copy as C asks it
 abbrev pub end_asked : CopyEnd → End
@@ -145,16 +140,3 @@ pub record SaysEntry (gref : GrantRef) (entry : EntryStatus) (answer : EncodedAn
   pub told : entry ≡ entry_status found
   pub stays : StaysIdle d.guest e.guest
   pub looks : LooksAtOwn d.guest.monitor.words.layout d.guest.domain gref found e.guest.domain
-
--- what is told of a null pointer
-abbrev pub mapping_nowhere : MappingReport
-mapping_nowhere = record { answer = nowhere; mapping = no_mapping }
-
-abbrev pub entry_nowhere : EntryReport
-entry_nowhere = record { answer = nowhere; entry = no_entry }
-
-abbrev pub record_nowhere : RecordReport
-record_nowhere = record { answer = nowhere; kept = no_record }
-
-abbrev pub begun_nowhere : BegunReport
-begun_nowhere = record { answer = nowhere; places = no_places }

@@ -6,9 +6,10 @@ ghost use Rattle.gt_c.specs.Starting.{StartsWith, TellsType, domain_of_handle, h
 
 use crate::handle::DomainHandle;
 use crate::here::CDomain;
+use crate::lending::here_mut;
 use gt_allow::AllowTable;
-use gt_attached::{AttachedDomain, AttachedOutcome, EncodedAnswer};
 use gt_start::{DomainSettings, EncodedFault, HANDLES, MEMORY, NONE, begin, type_of};
+use gt_attached::{EncodedAnswer, AttachedDomain, AttachedOutcome};
 use std::alloc::{AllocError, Global};
 
 // A box for each guest of the run of this number, in order.
@@ -47,9 +48,9 @@ fn hand_out(all: Vec<Box<CDomain>>, out: &mut [DomainHandle])
 }
 
 /// Starts a run of these domains, in order, under a policy's text. Each handle of `out` has to be one of none, and
-/// there have to be as many as domains: the handle at each place gets the guest of the domain at that place. The names
-/// of the run's mappings carry the number `run`. Answers no fault if the run started; otherwise why not, and `out` is as
-/// it was.
+/// there have to be as many as domains: the handle at each place gets the guest of the domain at that place. The
+/// names of the run's mappings carry the number `run`. Answers no fault if the run started; otherwise why not, and
+/// `out` is as it was.
 #[unsafe(no_mangle)]
 pub extern "C" fn gthost_start_at(
     alloc: Global,
@@ -95,9 +96,11 @@ fn left(guest: AttachedDomain<AllowTable>) -> EncodedAnswer
     EncodedAnswer::of(AttachedOutcome::Left(remains))
 }
 
-/// The domain leaves its run: its mappings and their pins are given up, its entries are withdrawn, and the handle is one
-/// of none. The last one frees the monitor. Answers how many records were lost, and how many entries are still in use.
-pub(crate) fn finish_on(alloc: Global, domain: &mut DomainHandle) -> EncodedAnswer
+/// The domain leaves its run: its mappings and their pins are given up, its entries are withdrawn, and the handle is
+/// one of none. The last one frees the monitor. Answers how many records were lost, and how many entries are still in
+/// use.
+#[unsafe(no_mangle)]
+pub extern "C" fn gthost_finish_at(alloc: Global, domain: &mut DomainHandle) -> EncodedAnswer
     ensures { Finishes result domain.old.held.value domain.new.held.value }
 {
     let Some(here) = domain.take(alloc) else {
@@ -118,15 +121,15 @@ fn made_ready(guest: &mut AttachedDomain<AllowTable>) -> EncodedAnswer
 
 /// The domain ends its copy, gives up its mappings and closes its table, for the next guest in its place. Answers how
 /// many records were lost, and how many entries are still in use.
-pub(crate) fn reset_on(alloc: Global, domain: &mut DomainHandle) -> EncodedAnswer
+#[unsafe(no_mangle)]
+pub extern "C" fn gthost_reset_at(domain: &mut DomainHandle) -> EncodedAnswer
     ensures { ResetsGuest result domain.old.held.value domain.new.held.value }
 {
-    let Some(mut here) = domain.take(alloc) else {
+    if !domain.is_live {
         return EncodedAnswer::of(AttachedOutcome::NoDomain);
-    };
-    let answer = made_ready(&mut here.guest);
-    domain.put(here);
-    answer
+    }
+    let here = here_mut(&mut domain.held);
+    made_ready(&mut here.guest)
 }
 
 /// A type's label, or why it was not found.

@@ -1,9 +1,7 @@
-//! The calls of a domain on the entries of its table, and on those of others.
-ghost use Rattle.std.specs.Prelude.{◌≡◌, IfOk, IfErr};
-ghost use Rattle.gt_attached.specs.Encoding.{encoded};
-ghost use Rattle.gt_attached.specs.declared.answer.AttachedOutcome.TheVariants as outcomes;
+//! The exports for a domain's own entries and table, and for its mappings of other domains' pages.
+ghost use Rattle.std.specs.Prelude.{◌≡◌, IfSome, None};
 ghost use Rattle.gt_c.specs.Asking.{handle_named, page, spelled, sub, via};
-ghost use Rattle.gt_c.specs.Calling.{Enters, TurnedAway, outcome, outcome_frames, outcome_mapped, outcome_size};
+ghost use Rattle.gt_c.specs.Calling.{MayBeCalled, TurnedAway, outcome, outcome_frames, outcome_mapped, outcome_size};
 ghost use Rattle.gt_c.specs.Calling.{outcome_version};
 ghost use Rattle.gt_c.specs.Promises.{AsksSize, AsksVersion, DemotesEntry, GrantsBytes, GrantsPage, GrantsSub};
 ghost use Rattle.gt_c.specs.Promises.{GrantsVia};
@@ -11,11 +9,11 @@ ghost use Rattle.gt_c.specs.Promises.{Maps, Promotes, RevokesEntry, SetsUp, Sets
 
 use crate::handle::DomainHandle;
 use crate::here::CDomain;
-use gt_attached::{AttachedOutcome, EncodedAnswer, MappingName as Named};
+use crate::lending::here_mut;
 use gt_calls::Handle as Name;
 use gt_entry::Entry;
+use gt_attached::{EncodedAnswer, MappingName as Named, AttachedOutcome};
 use gt_types::{Denial, DomId, GrantRef, Size};
-use std::alloc::Global;
 
 /// The name of a mapping: its handle, the number of its run, and the domain that has it.
 #[repr(C)]
@@ -33,8 +31,8 @@ const NO_HANDLE: Name = Name {
     key: usize::MAX,
 };
 
-// The handle that a name stands for in a call of this domain: that of no mapping, if it is a name of another domain or
-// of another run.
+// The handle in a name, for a call of this domain. A name of another domain or of another run gives the handle of no
+// mapping.
 pub(crate) fn handle_named(here: &CDomain, name: MapHandle) -> Name
     ensures { result ≡ handle_named here.now name }
 {
@@ -65,28 +63,19 @@ fn spelled(bytes: &EntryBytes) -> &[u8]
     }
 }
 
-// Takes the domain of a handle for a call. If it has none, or one in a copy, the answer says so, and the handle stays
-// as it was.
+// Why no call is made on a handle: it has no domain, or one in a copy.
 #[inline(always)]
-pub(crate) fn enter(alloc: Global, domain: &mut DomainHandle) -> Result<Box<CDomain>, EncodedAnswer>
-    ensures ok { IfOk result (λ b. Enters domain.old.held.value domain.new.held.value b.value) }
-    ensures turned_away { IfErr result (λ a. TurnedAway domain.old.held.value domain.new.held.value a) }
+pub(crate) fn turned_away(domain: &mut DomainHandle) -> Option<EncodedAnswer>
+    ensures away { IfSome result (λ a. TurnedAway domain.old.held.value domain.new.held.value a) }
+    ensures may { result ≡ None → MayBeCalled domain.old.held.value domain.new.held.value }
 {
-    let Some(here) = domain.take(alloc) else {
-        return Err(EncodedAnswer::of(AttachedOutcome::NoDomain));
-    };
-    if here.guest.is_copying() {
-        domain.put(here);
-        return Err(EncodedAnswer::of(AttachedOutcome::Busy));
+    if !domain.is_live {
+        return Some(EncodedAnswer::of(AttachedOutcome::NoDomain));
     }
-    Ok(here)
-}
-
-// The answer to a null pointer.
-pub(crate) fn nowhere() -> EncodedAnswer
-    ensures { result ≡ encoded outcomes.NullPointer }
-{
-    EncodedAnswer::of(AttachedOutcome::NullPointer)
+    if here_mut(&mut domain.held).guest.is_copying() {
+        return Some(EncodedAnswer::of(AttachedOutcome::Busy));
+    }
+    None
 }
 
 #[inline(always)]
@@ -170,9 +159,9 @@ fn via(to: u16, dom2: u16, ref2: u32, ro: u32) -> Entry
     }
 }
 
-/// Grants a page of its own to a domain, for reading if `ro` is not 0.
-pub(crate) fn grant_page_on(
-    alloc: Global,
+/// Grants a page of the caller to a domain, for reading only if `ro` is not 0.
+#[unsafe(no_mangle)]
+pub extern "C" fn gthost_grant_page_at(
     domain: &mut DomainHandle,
     gref: u32,
     to: u16,
@@ -181,18 +170,16 @@ pub(crate) fn grant_page_on(
 ) -> EncodedAnswer
     ensures { GrantsPage gref to frame ro result domain.old.held.value domain.new.held.value }
 {
-    let mut here = match enter(alloc, domain) {
-        Ok(here) => here,
-        Err(turned_away) => return turned_away,
-    };
-    let answer = EncodedAnswer::of(done(here.guest.grant(GrantRef(gref), &page(to, frame, ro))));
-    domain.put(here);
-    answer
+    if let Some(answer) = turned_away(domain) {
+        return answer;
+    }
+    let here = here_mut(&mut domain.held);
+    EncodedAnswer::of(done(here.guest.grant(GrantRef(gref), &page(to, frame, ro))))
 }
 
-/// Grants bytes of a page of its own to a domain, for copies only.
-pub(crate) fn grant_sub_on(
-    alloc: Global,
+/// Grants bytes of a page of the caller to a domain, for copies only.
+#[unsafe(no_mangle)]
+pub extern "C" fn gthost_grant_sub_at(
     domain: &mut DomainHandle,
     gref: u32,
     to: u16,
@@ -203,21 +190,19 @@ pub(crate) fn grant_sub_on(
 ) -> EncodedAnswer
     ensures { GrantsSub gref to frame off len ro result domain.old.held.value domain.new.held.value }
 {
-    let mut here = match enter(alloc, domain) {
-        Ok(here) => here,
-        Err(turned_away) => return turned_away,
-    };
-    let answer = EncodedAnswer::of(done(
+    if let Some(answer) = turned_away(domain) {
+        return answer;
+    }
+    let here = here_mut(&mut domain.held);
+    EncodedAnswer::of(done(
         here.guest
             .grant(GrantRef(gref), &sub(to, frame, off, len, ro)),
-    ));
-    domain.put(here);
-    answer
+    ))
 }
 
 /// Lets a domain copy by the grant `ref2` of the domain `dom2`.
-pub(crate) fn grant_via_on(
-    alloc: Global,
+#[unsafe(no_mangle)]
+pub extern "C" fn gthost_grant_via_at(
     domain: &mut DomainHandle,
     gref: u32,
     to: u16,
@@ -227,173 +212,144 @@ pub(crate) fn grant_via_on(
 ) -> EncodedAnswer
     ensures { GrantsVia gref to dom2 ref2 ro result domain.old.held.value domain.new.held.value }
 {
-    let mut here = match enter(alloc, domain) {
-        Ok(here) => here,
-        Err(turned_away) => return turned_away,
-    };
-    let answer = EncodedAnswer::of(done(
-        here.guest.grant(GrantRef(gref), &via(to, dom2, ref2, ro)),
-    ));
-    domain.put(here);
-    answer
+    if let Some(answer) = turned_away(domain) {
+        return answer;
+    }
+    let here = here_mut(&mut domain.held);
+    EncodedAnswer::of(done(here.guest.grant(GrantRef(gref), &via(to, dom2, ref2, ro))))
 }
 
-/// Grants what the entry's bytes spell.
-pub(crate) fn grant_bytes_on(
-    alloc: Global,
-    domain: &mut DomainHandle,
-    gref: u32,
-    bytes: EntryBytes,
-) -> EncodedAnswer
+/// Grants what the bytes of an entry spell.
+#[unsafe(no_mangle)]
+pub extern "C" fn gthost_grant_bytes_at(domain: &mut DomainHandle, gref: u32, bytes: EntryBytes) -> EncodedAnswer
     ensures { GrantsBytes gref bytes result domain.old.held.value domain.new.held.value }
 {
-    let mut here = match enter(alloc, domain) {
-        Ok(here) => here,
-        Err(turned_away) => return turned_away,
-    };
-    let answer = EncodedAnswer::of(done(here.guest.grant_bytes(GrantRef(gref), spelled(&bytes))));
-    domain.put(here);
-    answer
+    if let Some(answer) = turned_away(domain) {
+        return answer;
+    }
+    let here = here_mut(&mut domain.held);
+    EncodedAnswer::of(done(here.guest.grant_bytes(GrantRef(gref), spelled(&bytes))))
 }
 
-/// Makes an entry of its own invalid, where it has no pins.
-pub(crate) fn revoke_on(alloc: Global, domain: &mut DomainHandle, gref: u32) -> EncodedAnswer
+/// Makes an entry of the caller invalid, if it has no pins.
+#[unsafe(no_mangle)]
+pub extern "C" fn gthost_revoke_at(domain: &mut DomainHandle, gref: u32) -> EncodedAnswer
     ensures { RevokesEntry gref result domain.old.held.value domain.new.held.value }
 {
-    let mut here = match enter(alloc, domain) {
-        Ok(here) => here,
-        Err(turned_away) => return turned_away,
-    };
-    let answer = EncodedAnswer::of(done(here.guest.revoke(GrantRef(gref))));
-    domain.put(here);
-    answer
+    if let Some(answer) = turned_away(domain) {
+        return answer;
+    }
+    let here = here_mut(&mut domain.held);
+    EncodedAnswer::of(done(here.guest.revoke(GrantRef(gref))))
 }
 
-/// Makes an entry of its own invalid, with or without pins.
-pub(crate) fn withdraw_on(alloc: Global, domain: &mut DomainHandle, gref: u32) -> EncodedAnswer
+/// Makes an entry of the caller invalid, with or without pins.
+#[unsafe(no_mangle)]
+pub extern "C" fn gthost_withdraw_at(domain: &mut DomainHandle, gref: u32) -> EncodedAnswer
     ensures { Withdraws gref result domain.old.held.value domain.new.held.value }
 {
-    let mut here = match enter(alloc, domain) {
-        Ok(here) => here,
-        Err(turned_away) => return turned_away,
-    };
-    let answer = EncodedAnswer::of(done(here.guest.withdraw(GrantRef(gref))));
-    domain.put(here);
-    answer
+    if let Some(answer) = turned_away(domain) {
+        return answer;
+    }
+    let here = here_mut(&mut domain.held);
+    EncodedAnswer::of(done(here.guest.withdraw(GrantRef(gref))))
 }
 
-/// Makes an entry of its own read-only, where it has no write pins.
-pub(crate) fn demote_on(alloc: Global, domain: &mut DomainHandle, gref: u32) -> EncodedAnswer
+/// Makes an entry of the caller read-only, if it has no write pins.
+#[unsafe(no_mangle)]
+pub extern "C" fn gthost_demote_at(domain: &mut DomainHandle, gref: u32) -> EncodedAnswer
     ensures { DemotesEntry gref result domain.old.held.value domain.new.held.value }
 {
-    let mut here = match enter(alloc, domain) {
-        Ok(here) => here,
-        Err(turned_away) => return turned_away,
-    };
-    let answer = EncodedAnswer::of(done(here.guest.demote(GrantRef(gref))));
-    domain.put(here);
-    answer
+    if let Some(answer) = turned_away(domain) {
+        return answer;
+    }
+    let here = here_mut(&mut domain.held);
+    EncodedAnswer::of(done(here.guest.demote(GrantRef(gref))))
 }
 
-/// Makes an entry of its own writable.
-pub(crate) fn promote_on(alloc: Global, domain: &mut DomainHandle, gref: u32) -> EncodedAnswer
+/// Makes an entry of the caller writable.
+#[unsafe(no_mangle)]
+pub extern "C" fn gthost_promote_at(domain: &mut DomainHandle, gref: u32) -> EncodedAnswer
     ensures { Promotes gref result domain.old.held.value domain.new.held.value }
 {
-    let mut here = match enter(alloc, domain) {
-        Ok(here) => here,
-        Err(turned_away) => return turned_away,
-    };
-    let answer = EncodedAnswer::of(done(here.guest.promote(GrantRef(gref))));
-    domain.put(here);
-    answer
+    if let Some(answer) = turned_away(domain) {
+        return answer;
+    }
+    let here = here_mut(&mut domain.held);
+    EncodedAnswer::of(done(here.guest.promote(GrantRef(gref))))
 }
 
 /// Maps an entry of a domain: flags 2 for reading and writing, 6 for reading.
-pub(crate) fn map_on(
-    alloc: Global,
-    domain: &mut DomainHandle,
-    dom: u16,
-    gref: u32,
-    flags: u32,
-) -> EncodedAnswer
+#[unsafe(no_mangle)]
+pub extern "C" fn gthost_map_at(domain: &mut DomainHandle, dom: u16, gref: u32, flags: u32) -> EncodedAnswer
     ensures { Maps dom gref flags result domain.old.held.value domain.new.held.value }
 {
-    let mut here = match enter(alloc, domain) {
-        Ok(here) => here,
-        Err(turned_away) => return turned_away,
-    };
+    if let Some(answer) = turned_away(domain) {
+        return answer;
+    }
+    let here = here_mut(&mut domain.held);
     let (caller, run) = (here.guest.dom(), here.run);
     let told = here.guest.map(DomId(dom), GrantRef(gref), flags);
-    domain.put(here);
     EncodedAnswer::of(mapped(told, caller, run))
 }
 
 /// Gives a mapping up.
-pub(crate) fn unmap_on(alloc: Global, domain: &mut DomainHandle, name: MapHandle) -> EncodedAnswer
+#[unsafe(no_mangle)]
+pub extern "C" fn gthost_unmap_at(domain: &mut DomainHandle, name: MapHandle) -> EncodedAnswer
     ensures { Unmaps name result domain.old.held.value domain.new.held.value }
 {
-    let mut here = match enter(alloc, domain) {
-        Ok(here) => here,
-        Err(turned_away) => return turned_away,
-    };
-    let handle = handle_named(&here, name);
-    let told = here.guest.unmap(handle);
-    domain.put(here);
-    EncodedAnswer::of(done(told))
+    if let Some(answer) = turned_away(domain) {
+        return answer;
+    }
+    let here = here_mut(&mut domain.held);
+    let handle = handle_named(here, name);
+    EncodedAnswer::of(done(here.guest.unmap(handle)))
 }
 
-/// Gives its table this version, 1 or 2.
-pub(crate) fn set_version_on(
-    alloc: Global,
-    domain: &mut DomainHandle,
-    version: u32,
-) -> EncodedAnswer
+/// Gives the caller's table this version, 1 or 2.
+#[unsafe(no_mangle)]
+pub extern "C" fn gthost_set_version_at(domain: &mut DomainHandle, version: u32) -> EncodedAnswer
     ensures { SetsVersion version result domain.old.held.value domain.new.held.value }
 {
-    let mut here = match enter(alloc, domain) {
-        Ok(here) => here,
-        Err(turned_away) => return turned_away,
-    };
-    let answer = EncodedAnswer::of(done(here.guest.set_version(version)));
-    domain.put(here);
-    answer
+    if let Some(answer) = turned_away(domain) {
+        return answer;
+    }
+    let here = here_mut(&mut domain.held);
+    EncodedAnswer::of(done(here.guest.set_version(version)))
 }
 
-/// Gives its table so many frames, where it has fewer.
-pub(crate) fn setup_table_on(alloc: Global, domain: &mut DomainHandle, frames: u32) -> EncodedAnswer
+/// Gives the caller's table this many frames, if it has fewer.
+#[unsafe(no_mangle)]
+pub extern "C" fn gthost_setup_table_at(domain: &mut DomainHandle, frames: u32) -> EncodedAnswer
     ensures { SetsUp frames result domain.old.held.value domain.new.held.value }
 {
-    let mut here = match enter(alloc, domain) {
-        Ok(here) => here,
-        Err(turned_away) => return turned_away,
-    };
-    let answer = EncodedAnswer::of(frames_outcome(here.guest.setup_table(frames)));
-    domain.put(here);
-    answer
+    if let Some(answer) = turned_away(domain) {
+        return answer;
+    }
+    let here = here_mut(&mut domain.held);
+    EncodedAnswer::of(frames_outcome(here.guest.setup_table(frames)))
 }
 
-/// The size of the table of a domain.
-pub(crate) fn query_size_on(alloc: Global, domain: &mut DomainHandle, dom: u16) -> EncodedAnswer
+/// Answers the size of the table of a domain.
+#[unsafe(no_mangle)]
+pub extern "C" fn gthost_query_size_at(domain: &mut DomainHandle, dom: u16) -> EncodedAnswer
     ensures { AsksSize dom result domain.old.held.value domain.new.held.value }
 {
-    let mut here = match enter(alloc, domain) {
-        Ok(here) => here,
-        Err(turned_away) => return turned_away,
-    };
-    let answer = EncodedAnswer::of(size_outcome(here.guest.query_size(DomId(dom))));
-    domain.put(here);
-    answer
+    if let Some(answer) = turned_away(domain) {
+        return answer;
+    }
+    let here = here_mut(&mut domain.held);
+    EncodedAnswer::of(size_outcome(here.guest.query_size(DomId(dom))))
 }
 
-/// The version of the table of a domain.
-pub(crate) fn get_version_on(alloc: Global, domain: &mut DomainHandle, dom: u16) -> EncodedAnswer
+/// Answers the version of the table of a domain.
+#[unsafe(no_mangle)]
+pub extern "C" fn gthost_get_version_at(domain: &mut DomainHandle, dom: u16) -> EncodedAnswer
     ensures { AsksVersion dom result domain.old.held.value domain.new.held.value }
 {
-    let mut here = match enter(alloc, domain) {
-        Ok(here) => here,
-        Err(turned_away) => return turned_away,
-    };
-    let answer = EncodedAnswer::of(version_outcome(here.guest.get_version(DomId(dom))));
-    domain.put(here);
-    answer
+    if let Some(answer) = turned_away(domain) {
+        return answer;
+    }
+    let here = here_mut(&mut domain.held);
+    EncodedAnswer::of(version_outcome(here.guest.get_version(DomId(dom))))
 }

@@ -1,17 +1,17 @@
 //! A copy in two halves, for a program that keeps the frames: its beginning and its end.
 ghost use Rattle.std.specs.Prelude.{◌≡◌};
 ghost use Rattle.gt_c.specs.Promises.{BeginsCopy};
-ghost use Rattle.gt_c.specs.Telling.{CopyEnds, begun_nowhere, copy_asked, end_asked, no_places, outcome_begun};
-ghost use Rattle.gt_c.specs.Telling.{place_report, places_report};
+ghost use Rattle.gt_c.specs.Telling.{CopyEnds, copy_asked, end_asked, no_places, outcome_begun, place_report};
+ghost use Rattle.gt_c.specs.Telling.{places_report};
 
-use crate::calls::{enter, nowhere};
+use crate::calls::turned_away;
 use crate::handle::DomainHandle;
-use gt_attached::{AttachedOutcome, CopyEnd, CopyPlaces, EncodedAnswer};
+use crate::lending::here_mut;
 use gt_calls::{CopyArgs, End, Spot};
+use gt_attached::{EncodedAnswer, CopyEnd, AttachedOutcome, CopyPlaces};
 use gt_types::{Denial, DomId};
-use std::alloc::Global;
 
-/// What a copy is asked. Bit 0 of the flags says that the source is a reference, bit 1 the same of the destination.
+/// The arguments of a copy. Bit 0 of the flags is set if the source is a reference, bit 1 if the destination is one.
 #[repr(C)]
 #[derive(Clone, Copy)]
 pub struct CopySettings {
@@ -30,7 +30,7 @@ pub struct PlaceReport {
     pub off: u16,
 }
 
-/// Where a copy may read and write: so many bytes, from the one place to the other.
+/// Where a copy may read and write: `len` bytes, from the one place to the other.
 #[repr(C)]
 #[derive(Clone, Copy)]
 pub struct PlacesReport {
@@ -118,53 +118,35 @@ fn begun(answer: Result<CopyPlaces, Denial>) -> AttachedOutcome
     }
 }
 
-// The answer to a null pointer.
-pub(crate) fn begun_nowhere() -> BegunReport
-    ensures { result ≡ begun_nowhere }
-{
-    BegunReport {
-        answer: nowhere(),
-        places: no_places(),
-    }
-}
-
-/// Begins a copy: the domain's pins for it are taken, and `places` says what may be touched until it ends. Refused, no
-/// pin is kept.
-pub(crate) fn copy_begin_on(
-    alloc: Global,
-    domain: &mut DomainHandle,
-    copy: CopySettings,
-) -> BegunReport
+/// Begins a copy: takes its pins, and answers the two places that may be touched until it ends. If it is refused, no
+/// pin is kept and the places are all zeros.
+#[unsafe(no_mangle)]
+pub extern "C" fn gthost_copy_begin_at(domain: &mut DomainHandle, copy: CopySettings) -> BegunReport
     ensures { BeginsCopy copy result domain.old.held.value domain.new.held.value }
 {
-    let mut here = match enter(alloc, domain) {
-        Ok(here) => here,
-        Err(answer) => {
-            return BegunReport {
-                answer,
-                places: no_places(),
-            };
-        }
-    };
+    if let Some(answer) = turned_away(domain) {
+        let places = no_places();
+        return BegunReport { answer, places };
+    }
+    let here = here_mut(&mut domain.held);
     let result = here.guest.copy_begin(&copy_asked(copy));
     let answer = EncodedAnswer::of(begun(result));
     let places = places_report(result);
-    domain.put(here);
     BegunReport { answer, places }
 }
 
 /// Ends the copy that the domain is in: its pins are given back, the last one first.
-pub(crate) fn copy_end_on(alloc: Global, domain: &mut DomainHandle) -> EncodedAnswer
+#[unsafe(no_mangle)]
+pub extern "C" fn gthost_copy_end_at(domain: &mut DomainHandle) -> EncodedAnswer
     ensures { CopyEnds result domain.old.held.value domain.new.held.value }
 {
-    let Some(mut here) = domain.take(alloc) else {
+    if !domain.is_live {
         return EncodedAnswer::of(AttachedOutcome::NoDomain);
-    };
+    }
+    let here = here_mut(&mut domain.held);
     if !here.guest.is_copying() {
-        domain.put(here);
         return EncodedAnswer::of(AttachedOutcome::NoCopy);
     }
     here.guest.copy_end();
-    domain.put(here);
     EncodedAnswer::of(AttachedOutcome::Done)
 }

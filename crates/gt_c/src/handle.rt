@@ -22,37 +22,20 @@ impl DomainHandle {
     ghost use Rattle.std.specs.Prelude.{◌≡◌, Some, None, true, false};
     ghost use Rattle.std.specs.Option.{option_map};
 
-    // A handle of no domain.
-    fn none(alloc: Global) -> DomainHandle
-        ensures { (result.is_live ≡ false) × (result.held.value ≡ None) }
-    {
-        DomainHandle {
-            held: RawBox::none(alloc),
-            is_live: false,
-        }
-    }
-
-    // A handle of this domain.
-    fn of(here: Box<CDomain>) -> DomainHandle
-        ensures { (result.is_live ≡ true) × (result.held.value ≡ Some here.value) }
-    {
-        DomainHandle {
-            held: RawBox::of_parts(BoxParts::of(here)),
-            is_live: true,
-        }
-    }
-
-    /// Takes the domain for a call, and leaves a handle of none in its place. None if the handle has no domain.
+    /// Takes the domain out, and leaves a handle of none. None if the handle has no domain.
     pub fn take(&mut self, alloc: Global) -> Option<Box<CDomain>>
         ensures taken { option_map (λ b. b.value) result ≡ self.old.held.value }
         ensures gone { (self.new.is_live ≡ false) × (self.new.held.value ≡ None) }
     {
-        if self.is_live {
-            let DomainHandle { held, .. } = mem::replace(self, DomainHandle::none(alloc));
-            Some(held.into_parts().into_box())
-        } else {
-            None
+        if !self.is_live {
+            return None;
         }
+        let none = DomainHandle {
+            held: RawBox::none(alloc),
+            is_live: false,
+        };
+        let DomainHandle { held, .. } = mem::replace(self, none);
+        Some(held.into_parts().into_box())
     }
 
     /// Puts a domain into a handle of none.
@@ -60,6 +43,9 @@ impl DomainHandle {
         requires { self.old.held.value ≡ None }
         ensures { (self.new.is_live ≡ true) × (self.new.held.value ≡ Some here.value) }
     {
-        let _none = mem::replace(self, DomainHandle::of(here));
+        *self = DomainHandle {
+            held: RawBox::of_parts(BoxParts::of(here)),
+            is_live: true,
+        };
     }
 }

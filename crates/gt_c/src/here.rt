@@ -1,4 +1,4 @@
-//! A domain of this run, as a handle stands for it.
+//! What a handle holds: a domain, and the number of its run.
 
 use gt_allow::AllowTable;
 use gt_attached::AttachedDomain;

@@ -1,6 +1,6 @@
 //! What each rule of an answer means, and the version.
 ghost use Rattle.std.specs.Prelude.{◌≡◌, ◌<◌, ◌-◌, ◌++◌, length, replicate};
-ghost use Rattle.gt_c.specs.Rules.{rule_bytes};
+ghost use Rattle.gt_c.specs.Rules.{rule_bytes, unmade_bytes};
 
 /// A line of `len` bytes, and zeros after them.
 #[repr(C)]
@@ -13,106 +13,53 @@ pub struct RuleText {
 /// The version of the library: 65,536 times the first number, and 256 times the second, and the third.
 const VERSION: u32 = 0x0001_0000;
 
-fn text_of(rule: u32) -> &'static str
-    ensures says { result.now ≡ rule_bytes rule }
+// The lines of the rules, at their numbers: 0 is no rule, but Ok.
+const LINES: [&str; 27] = [
+    "ok",
+    "N1 -2 GNTST_bad_domain: a domain named, or the one that a transitive entry leads to, is not of the run; \
+     name a domain of the run",
+    "N2 -1 GNTST_general_error: the flags of the map or copy, or the version, are not among those taken; use \
+     flags 2 or 6 for a map, 0 to 3 for a copy, version 1 or 2",
+    "N3 -10 GNTST_bad_copy_arg: offset plus length is above 4096; ask for a range inside the page",
+    "N4 -8 GNTST_permission_denied: the copy names a frame of another domain by its number; name an own frame, \
+     or a grant of that domain",
+    "N5 -8 GNTST_permission_denied: the policy has no allow rule for these types and this permission; ask for \
+     a rule in the policy",
+    "N6 -4 GNTST_bad_handle: the caller has no mapping with this handle; map first",
+    "N7 -8 GNTST_permission_denied: the store goes through a read-only mapping; map the entry for writing",
+    "N8 -1 GNTST_general_error: the caller has 8192 mappings, or has used up its handles; unmap some",
+    "N9 -3 GNTST_bad_gntref: the reference is past the table; ask the owner to set up more table frames",
+    "N10 -1 GNTST_general_error: the entry is invalid; wait for the owner's grant",
+    "N11 -1 GNTST_general_error: the entry names another domain; ask the owner for a grant of its own",
+    "N12 -1 GNTST_general_error: the map is of a sub-page or transitive entry; copy instead",
+    "N13 -1 GNTST_general_error: the entry is read-only, and the call writes; only read, or ask the owner to \
+     promote the entry",
+    "N14 -1 GNTST_general_error: the range is not inside the sub-page; ask for a range inside the sub-page",
+    "N15 -1 GNTST_general_error: a transitive entry leads to another one; ask the middle domain for a grant of \
+     its own page",
+    "N16 -9 GNTST_bad_page: the frame number is not one of its owner's frames; name a frame that the owner has",
+    "N17 -1 GNTST_general_error: 4095 pins of that kind are live on the entry; try again after others have \
+     unmapped",
+    "N18 -12 GNTST_eagain: the entry changed during all four tries of a pin, demotion, promotion or \
+     withdrawal; try again",
+    "N19 -1 GNTST_general_error: the entry to be revoked or granted has live pins, or the one to be demoted \
+     live write pins; withdraw it to close it now, or try again after the other domains have unmapped",
+    "N20 -1 GNTST_general_error: the entry is valid already; revoke it first, or use another reference",
+    "N21 -1 GNTST_general_error: the entry given is invalid, or needs a table of version 2; set version 2, or \
+     grant a whole page",
+    "N22 -1 GNTST_general_error: the entry is at its last generation; use another reference",
+    "N23 -1 GNTST_general_error: more than 16 table frames are asked; ask for at most 16",
+    "N24 -1 GNTST_general_error: the table has valid entries; revoke or withdraw all entries first",
+    "N25 -1 GNTST_general_error: the bytes are no entry of a table of this version; fix the field named",
+    "N26 -1 GNTST_general_error: memory was refused; try again when there is memory",
+];
+
+// Why a call was not made.
+fn unmade(rule: u32) -> &'static str
+    ensures says { result.now ≡ unmade_bytes rule }
     ensures fits { length result.now < 240 }
 {
     match rule {
-        0 => "ok",
-        1 => {
-            "N1 -2 GNTST_bad_domain: a domain named, or the one that a transitive entry \
-             leads to, is not of the run; name a domain of the run"
-        }
-        2 => {
-            "N2 -1 GNTST_general_error: the flags of the map or copy, or the version, are \
-             not among those taken; use flags 2 or 6 for a map, 0 to 3 for a copy, version 1 \
-             or 2"
-        }
-        3 => {
-            "N3 -10 GNTST_bad_copy_arg: offset plus length is above 4096; ask for a range \
-             inside the page"
-        }
-        4 => {
-            "N4 -8 GNTST_permission_denied: the copy names a frame of another domain by its \
-             number; name an own frame, or a grant of that domain"
-        }
-        5 => {
-            "N5 -8 GNTST_permission_denied: the policy has no allow rule for these types and \
-             this permission; ask for a rule in the policy"
-        }
-        6 => "N6 -4 GNTST_bad_handle: the caller has no mapping with this handle; map first",
-        7 => {
-            "N7 -8 GNTST_permission_denied: the store goes through a read-only mapping; map \
-             the entry for writing"
-        }
-        8 => {
-            "N8 -1 GNTST_general_error: the caller has 8192 mappings, or has used up its \
-             handles; unmap some"
-        }
-        9 => {
-            "N9 -3 GNTST_bad_gntref: the reference is past the table; ask the owner to set \
-             up more table frames"
-        }
-        10 => "N10 -1 GNTST_general_error: the entry is invalid; wait for the owner's grant",
-        11 => {
-            "N11 -1 GNTST_general_error: the entry names another domain; ask the owner for a \
-             grant of its own"
-        }
-        12 => {
-            "N12 -1 GNTST_general_error: the map is of a sub-page or transitive entry; copy \
-             instead"
-        }
-        13 => {
-            "N13 -1 GNTST_general_error: the entry is read-only, and the call writes; only \
-             read, or ask the owner to promote the entry"
-        }
-        14 => {
-            "N14 -1 GNTST_general_error: the range is not inside the sub-page; ask for a \
-             range inside the sub-page"
-        }
-        15 => {
-            "N15 -1 GNTST_general_error: a transitive entry leads to another one; ask the \
-             middle domain for a grant of its own page"
-        }
-        16 => {
-            "N16 -9 GNTST_bad_page: the frame number is not one of its owner's frames; name \
-             a frame that the owner has"
-        }
-        17 => {
-            "N17 -1 GNTST_general_error: 4095 pins of that kind are live on the entry; try \
-             again after others have unmapped"
-        }
-        18 => {
-            "N18 -12 GNTST_eagain: the entry changed during all four tries of a pin, \
-             demotion, promotion or withdrawal; try again"
-        }
-        19 => {
-            "N19 -1 GNTST_general_error: the entry to be revoked or granted has live pins, \
-             or the one to be demoted live write pins; withdraw it to close it now, or try \
-             again after the other domains have unmapped"
-        }
-        20 => {
-            "N20 -1 GNTST_general_error: the entry is valid already; revoke it first, or use \
-             another reference"
-        }
-        21 => {
-            "N21 -1 GNTST_general_error: the entry given is invalid, or needs a table of \
-             version 2; set version 2, or grant a whole page"
-        }
-        22 => {
-            "N22 -1 GNTST_general_error: the entry is at its last generation; use another \
-             reference"
-        }
-        23 => "N23 -1 GNTST_general_error: more than 16 table frames are asked; ask for at most 16",
-        24 => {
-            "N24 -1 GNTST_general_error: the table has valid entries; revoke or withdraw all \
-             entries first"
-        }
-        25 => {
-            "N25 -1 GNTST_general_error: the bytes are no entry of a table of this version; \
-             fix the field named"
-        }
-        26 => "N26 -1 GNTST_general_error: memory was refused; try again when there is memory",
         256 => "the handle has no domain",
         257 => "the domain is in a copy",
         258 => "memory was refused for records",
@@ -120,6 +67,18 @@ fn text_of(rule: u32) -> &'static str
         260 => "there is no such mapping, record or entry",
         261 => "the pointer to the handle is null",
         _ => "no such rule",
+    }
+}
+
+fn text_of(rule: u32) -> &'static str
+    ensures says { result.now ≡ rule_bytes rule }
+    ensures fits { length result.now < 240 }
+{
+    let number = rule as usize;
+    if number < LINES.len() {
+        LINES[number]
+    } else {
+        unmade(rule)
     }
 }
 
@@ -133,8 +92,8 @@ fn padded(text: &[u8]) -> [u8; 240]
     all
 }
 
-/// What the rule of an answer means: its name, its status, why it refuses, and what the caller may do, as `gthost rules`
-/// prints it.
+/// What the rule of an answer means: its name, its status, why it refuses, and what the caller may do, as `gthost
+/// rules` prints it.
 #[unsafe(no_mangle)]
 pub extern "C" fn gthost_rule_text(rule: u32) -> RuleText
     ensures len { result.len ≡ length (rule_bytes rule) }

@@ -2,15 +2,15 @@
 ghost use Rattle.std.specs.Prelude.{◌≡◌};
 ghost use Rattle.gt_c.specs.Calling.{outcome_reserved};
 ghost use Rattle.gt_c.specs.Promises.{Bounds, MakesRoom, TakesRecords, TellsEntry, TellsMapping, TellsRecord};
-ghost use Rattle.gt_c.specs.Telling.{entry_nowhere, entry_status, kind_code, no_entry, read_only_code};
-ghost use Rattle.gt_c.specs.Telling.{mapping_nowhere, mapping_report, no_mapping, no_record, outcome_present, kept_record};
-ghost use Rattle.gt_c.specs.Telling.{record_nowhere, writes};
+ghost use Rattle.gt_c.specs.Telling.{entry_status, kept_record, kind_code, mapping_report, no_entry, no_mapping, no_record};
+ghost use Rattle.gt_c.specs.Telling.{outcome_present, read_only_code, writes};
 
-use crate::calls::{MapHandle, enter, handle_named, nowhere};
+use crate::calls::{MapHandle, handle_named, turned_away};
 use crate::handle::DomainHandle;
-use gt_attached::{AttachedOutcome, CopyEnd, EncodedAnswer, EncodedRecord};
+use crate::lending::here_mut;
 use gt_calls::HeldPin;
 use gt_entry::{Control, EntryKind};
+use gt_attached::{EncodedAnswer, CopyEnd, AttachedOutcome, EncodedRecord};
 use gt_types::{Dir, GrantRef, Memory};
 use std::alloc::Global;
 
@@ -32,8 +32,8 @@ pub struct MappingReport {
     pub mapping: MappedFrame,
 }
 
-/// What one look at an entry found: its kind (0 Invalid, 1 a page, 2 bytes of one, 3 another grant), its generation, its
-/// pins, whom it permits, and 1 if it only lets read.
+/// What one look at an entry found: its kind (0 Invalid, 1 a page, 2 bytes of one, 3 another grant), its generation,
+/// its pins, whom it permits, and 1 if it only lets read.
 #[repr(C)]
 #[derive(Clone, Copy)]
 pub struct EntryStatus {
@@ -196,140 +196,89 @@ fn reserved(answer: Result<(), Memory>) -> AttachedOutcome
     }
 }
 
-// The answers to a null pointer.
-pub(crate) fn mapping_nowhere() -> MappingReport
-    ensures { result ≡ mapping_nowhere }
-{
-    MappingReport {
-        answer: nowhere(),
-        mapping: no_mapping(),
-    }
-}
-
-pub(crate) fn entry_nowhere() -> EntryReport
-    ensures { result ≡ entry_nowhere }
-{
-    EntryReport {
-        answer: nowhere(),
-        entry: no_entry(),
-    }
-}
-
-pub(crate) fn record_nowhere() -> RecordReport
-    ensures { result ≡ record_nowhere }
-{
-    RecordReport {
-        answer: nowhere(),
-        kept: no_record(),
-    }
-}
-
-/// The mapping under a handle.
-pub(crate) fn mapping_on(alloc: Global, domain: &mut DomainHandle, name: MapHandle) -> MappingReport
+/// Answers the mapping of this name: all zeros if there is none.
+#[unsafe(no_mangle)]
+pub extern "C" fn gthost_mapping_at(domain: &mut DomainHandle, name: MapHandle) -> MappingReport
     ensures { TellsMapping name result domain.old.held.value domain.new.held.value }
 {
-    let here = match enter(alloc, domain) {
-        Ok(here) => here,
-        Err(answer) => {
-            return MappingReport {
-                answer,
-                mapping: no_mapping(),
-            };
-        }
-    };
-    let handle = handle_named(&here, name);
+    if let Some(answer) = turned_away(domain) {
+        let mapping = no_mapping();
+        return MappingReport { answer, mapping };
+    }
+    let here = here_mut(&mut domain.held);
+    let handle = handle_named(here, name);
     let found = here.guest.mapping(handle);
     let answer = EncodedAnswer::of(present(&found));
     let mapping = mapping_report(found);
-    domain.put(here);
     MappingReport { answer, mapping }
 }
 
-/// One look at an entry of the domain's own.
-pub(crate) fn entry_on(alloc: Global, domain: &mut DomainHandle, gref: u32) -> EntryReport
+/// Looks once at an entry of the caller, and answers its kind, its generation and its pins.
+#[unsafe(no_mangle)]
+pub extern "C" fn gthost_entry_at(domain: &mut DomainHandle, gref: u32) -> EntryReport
     ensures { TellsEntry gref result domain.old.held.value domain.new.held.value }
 {
-    let mut here = match enter(alloc, domain) {
-        Ok(here) => here,
-        Err(answer) => {
-            return EntryReport {
-                answer,
-                entry: no_entry(),
-            };
-        }
-    };
+    if let Some(answer) = turned_away(domain) {
+        let entry = no_entry();
+        return EntryReport { answer, entry };
+    }
+    let here = here_mut(&mut domain.held);
     let found = here.guest.status(GrantRef(gref));
     let answer = EncodedAnswer::of(present(&found));
     let entry = entry_status(found);
-    domain.put(here);
     EntryReport { answer, entry }
 }
 
-/// The record at a place, counted from 0, in the order of the calls.
-pub(crate) fn record_on(alloc: Global, domain: &mut DomainHandle, index: usize) -> RecordReport
+/// Answers the record at a place, counted from 0, in the order of the calls: all zeros if there is none.
+#[unsafe(no_mangle)]
+pub extern "C" fn gthost_record_at(domain: &mut DomainHandle, index: usize) -> RecordReport
     ensures { TellsRecord index result domain.old.held.value domain.new.held.value }
 {
-    let here = match enter(alloc, domain) {
-        Ok(here) => here,
-        Err(answer) => {
-            return RecordReport {
-                answer,
-                kept: no_record(),
-            };
-        }
-    };
+    if let Some(answer) = turned_away(domain) {
+        let kept = no_record();
+        return RecordReport { answer, kept };
+    }
+    let here = here_mut(&mut domain.held);
     let found = here.guest.record_at(index);
     let answer = EncodedAnswer::of(present(&found));
     let kept = encoded_record(found);
-    domain.put(here);
     RecordReport { answer, kept }
 }
 
-/// From now on the domain keeps a record only while it has fewer than so many; with 0 its calls are not recorded.
-pub(crate) fn keep_at_most_on(
-    alloc: Global,
-    domain: &mut DomainHandle,
-    records: usize,
-) -> EncodedAnswer
+/// Lets the domain keep a record from now on only while it has fewer than `records`; with 0 it keeps none.
+#[unsafe(no_mangle)]
+pub extern "C" fn gthost_keep_at_most_at(domain: &mut DomainHandle, records: usize) -> EncodedAnswer
     ensures { Bounds records result domain.old.held.value domain.new.held.value }
 {
-    let mut here = match enter(alloc, domain) {
-        Ok(here) => here,
-        Err(turned_away) => return turned_away,
-    };
+    if let Some(answer) = turned_away(domain) {
+        return answer;
+    }
+    let here = here_mut(&mut domain.held);
     here.guest.keep_at_most(records);
-    let answer = EncodedAnswer::of(AttachedOutcome::Done);
-    domain.put(here);
-    answer
+    EncodedAnswer::of(AttachedOutcome::Done)
 }
 
 /// Lets the records go, and keeps their room. Answers how many there were, and how many were lost before.
-pub(crate) fn take_records_on(alloc: Global, domain: &mut DomainHandle) -> EncodedAnswer
+#[unsafe(no_mangle)]
+pub extern "C" fn gthost_take_records_at(alloc: Global, domain: &mut DomainHandle) -> EncodedAnswer
     ensures { TakesRecords result domain.old.held.value domain.new.held.value }
 {
-    let mut here = match enter(alloc, domain) {
-        Ok(here) => here,
-        Err(turned_away) => return turned_away,
-    };
+    if let Some(answer) = turned_away(domain) {
+        return answer;
+    }
+    let here = here_mut(&mut domain.held);
     let taken = here.guest.take_records(alloc);
-    let answer = EncodedAnswer::of(AttachedOutcome::Taken(taken));
-    domain.put(here);
-    answer
+    EncodedAnswer::of(AttachedOutcome::Taken(taken))
 }
 
-/// Makes room for so many more records, which then take no memory.
-pub(crate) fn reserve_records_on(
-    alloc: Global,
-    domain: &mut DomainHandle,
-    records: usize,
-) -> EncodedAnswer
+/// Makes room for this many more records, which then take no memory.
+#[unsafe(no_mangle)]
+pub extern "C" fn gthost_reserve_records_at(domain: &mut DomainHandle, records: usize) -> EncodedAnswer
     ensures { MakesRoom records result domain.old.held.value domain.new.held.value }
 {
-    let mut here = match enter(alloc, domain) {
-        Ok(here) => here,
-        Err(turned_away) => return turned_away,
-    };
-    let answer = EncodedAnswer::of(reserved(here.guest.reserve_records(records)));
-    domain.put(here);
-    answer
+    if let Some(answer) = turned_away(domain) {
+        return answer;
+    }
+    let here = here_mut(&mut domain.held);
+    EncodedAnswer::of(reserved(here.guest.reserve_records(records)))
 }

@@ -1,0 +1,21 @@
+use Rattle.std.proofs.Common.{ap, ◌∙◌}
+use Rattle.gt_attached.specs.Encoding.{encoded}
+use Rattle.gt_calls.specs.declared.request.Request.TheVariants as requests
+use Rattle.gt_audit.specs.declared.record.Hypercall.TheVariants as hypercalls
+use Rattle.gt_live.specs.Domains.{verdict_of_version}
+use Rattle.gt_c.specs.Calling.{SaysTold, dom_of, outcome_version}
+use Rattle.gt_c.proofs.Made.{idle-there, made}
+use Rattle.gt_c.proofs.calls.gthost_get_version_at.Goals as goal
+
+pub get_version-requires : goal.get_version-requires
+get_version-requires c = record { idle = idle-there c.args.domain.now.held.value (c.turned_away.ensures.may c.in_default.is) c.here_mut-here.ensures.value }
+
+pub returns : goal.returns
+returns c =
+    made c.of.result (SaysTold outcome_version verdict_of_version (requests.GetVersion (dom_of c.args.dom)) (hypercalls.GetVersion (dom_of c.args.dom)) c.of.result) (c.turned_away.ensures.may c.in_default.is) c.here_mut-here.ensures.value
+    (record {
+      result = c.get_version.result;
+      encodes = c.of.ensures ∙ ap encoded c.version_outcome.ensures;
+      stays = c.get_version.ensures.stays;
+      holds = c.get_version.ensures.answers;
+    })

@@ -1,0 +1,21 @@
+use Rattle.std.proofs.Common.{ap, ◌∙◌}
+use Rattle.gt_attached.specs.Encoding.{encoded}
+use Rattle.gt_calls.specs.declared.request.Request.TheVariants as requests
+use Rattle.gt_audit.specs.declared.record.Hypercall.TheVariants as hypercalls
+use Rattle.gt_live.specs.Domains.{verdict_of_size}
+use Rattle.gt_c.specs.Calling.{SaysTold, dom_of, outcome_size}
+use Rattle.gt_c.proofs.Made.{idle-there, made}
+use Rattle.gt_c.proofs.calls.gthost_query_size_at.Goals as goal
+
+pub query_size-requires : goal.query_size-requires
+query_size-requires c = record { idle = idle-there c.args.domain.now.held.value (c.turned_away.ensures.may c.in_default.is) c.here_mut-here.ensures.value }
+
+pub returns : goal.returns
+returns c =
+    made c.of.result (SaysTold outcome_size verdict_of_size (requests.QuerySize (dom_of c.args.dom)) (hypercalls.QuerySize (dom_of c.args.dom)) c.of.result) (c.turned_away.ensures.may c.in_default.is) c.here_mut-here.ensures.value
+    (record {
+      result = c.query_size.result;
+      encodes = c.of.ensures ∙ ap encoded c.size_outcome.ensures;
+      stays = c.query_size.ensures.stays;
+      holds = c.query_size.ensures.answers;
+    })
