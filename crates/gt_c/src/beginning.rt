@@ -8,8 +8,8 @@ use crate::handle::DomainHandle;
 use crate::here::CDomain;
 use crate::lending::here_mut;
 use gt_allow::AllowTable;
+use gt_attached::{AttachedDomain, AttachedOutcome, EncodedAnswer};
 use gt_start::{DomainSettings, EncodedFault, HANDLES, MEMORY, NONE, begin, type_of};
-use gt_attached::{EncodedAnswer, AttachedDomain, AttachedOutcome};
 use std::alloc::{AllocError, Global};
 
 // A box for each guest of the run of this number, in order.

@@ -10,9 +10,9 @@ ghost use Rattle.gt_c.specs.Promises.{Maps, Promotes, RevokesEntry, SetsUp, Sets
 use crate::handle::DomainHandle;
 use crate::here::CDomain;
 use crate::lending::here_mut;
+use gt_attached::{AttachedOutcome, EncodedAnswer, MappingName as Named};
 use gt_calls::Handle as Name;
 use gt_entry::Entry;
-use gt_attached::{EncodedAnswer, MappingName as Named, AttachedOutcome};
 use gt_types::{Denial, DomId, GrantRef, Size};
 
 /// The name of a mapping: its handle, the number of its run, and the domain that has it.
@@ -221,7 +221,11 @@ pub extern "C" fn gthost_grant_via_at(
 
 /// Grants what the bytes of an entry spell.
 #[unsafe(no_mangle)]
-pub extern "C" fn gthost_grant_bytes_at(domain: &mut DomainHandle, gref: u32, bytes: EntryBytes) -> EncodedAnswer
+pub extern "C" fn gthost_grant_bytes_at(
+    domain: &mut DomainHandle,
+    gref: u32,
+    bytes: EntryBytes,
+) -> EncodedAnswer
     ensures { GrantsBytes gref bytes result domain.old.held.value domain.new.held.value }
 {
     if let Some(answer) = turned_away(domain) {
@@ -281,7 +285,12 @@ pub extern "C" fn gthost_promote_at(domain: &mut DomainHandle, gref: u32) -> Enc
 
 /// Maps an entry of a domain: flags 2 for reading and writing, 6 for reading.
 #[unsafe(no_mangle)]
-pub extern "C" fn gthost_map_at(domain: &mut DomainHandle, dom: u16, gref: u32, flags: u32) -> EncodedAnswer
+pub extern "C" fn gthost_map_at(
+    domain: &mut DomainHandle,
+    dom: u16,
+    gref: u32,
+    flags: u32,
+) -> EncodedAnswer
     ensures { Maps dom gref flags result domain.old.held.value domain.new.held.value }
 {
     if let Some(answer) = turned_away(domain) {

@@ -7,8 +7,8 @@ ghost use Rattle.gt_c.specs.Telling.{places_report};
 use crate::calls::turned_away;
 use crate::handle::DomainHandle;
 use crate::lending::here_mut;
+use gt_attached::{AttachedOutcome, CopyEnd, CopyPlaces, EncodedAnswer};
 use gt_calls::{CopyArgs, End, Spot};
-use gt_attached::{EncodedAnswer, CopyEnd, AttachedOutcome, CopyPlaces};
 use gt_types::{Denial, DomId};
 
 /// The arguments of a copy. Bit 0 of the flags is set if the source is a reference, bit 1 if the destination is one.

@@ -8,9 +8,9 @@ ghost use Rattle.gt_c.specs.Telling.{outcome_present, read_only_code, writes};
 use crate::calls::{MapHandle, handle_named, turned_away};
 use crate::handle::DomainHandle;
 use crate::lending::here_mut;
+use gt_attached::{AttachedOutcome, CopyEnd, EncodedAnswer, EncodedRecord};
 use gt_calls::HeldPin;
 use gt_entry::{Control, EntryKind};
-use gt_attached::{EncodedAnswer, CopyEnd, AttachedOutcome, EncodedRecord};
 use gt_types::{Dir, GrantRef, Memory};
 use std::alloc::Global;
 
@@ -273,7 +273,10 @@ pub extern "C" fn gthost_take_records_at(alloc: Global, domain: &mut DomainHandl
 
 /// Makes room for this many more records, which then take no memory.
 #[unsafe(no_mangle)]
-pub extern "C" fn gthost_reserve_records_at(domain: &mut DomainHandle, records: usize) -> EncodedAnswer
+pub extern "C" fn gthost_reserve_records_at(
+    domain: &mut DomainHandle,
+    records: usize,
+) -> EncodedAnswer
     ensures { MakesRoom records result domain.old.held.value domain.new.held.value }
 {
     if let Some(answer) = turned_away(domain) {
