@@ -6,9 +6,9 @@ use Rattle.gt_entry.specs.declared.header.Header.{Header}
 use Rattle.gt_types.specs.Config.{IsWithinLimits}
 use Rattle.gt_words.specs.Conditions.{Board, HasDomain}
 use Rattle.gt_words.specs.Laws.{domain_of_run, seat_at}
-use Rattle.gt_words.specs.Rule.{IsKeptHeader, Layout, layout_of}
-use Rattle.gt_words.specs.Views.{own_table}
-use Rattle.gt_words.specs.declared.view.View.{View}
+use Rattle.gt_word_table.specs.Rule.{IsKeptHeader, Layout, layout_of}
+use Rattle.gt_word_table.specs.Views.{own_table}
+use Rattle.gt_word_table.specs.declared.view.View.{View}
 use Rattle.gt_handles.specs.declared.handles.Handle.{Handle}
 use Rattle.gt_handles.specs.Handles.{HandleMap}
 use Rattle.gt_handles.specs.Listing.{IsInserted}

@@ -9,9 +9,9 @@ use Rattle.gt_types.specs.declared.config.Config.{Config}
 use Rattle.gt_entry.specs.declared.entry.Entry.TheVariants.{Invalid}
 use Rattle.gt_words.specs.Conditions.{Board}
 use Rattle.gt_words.specs.Answers.{IsNewSeat}
-use Rattle.gt_words.specs.Rule.{Layout, layout_of}
-use Rattle.gt_words.specs.Views.{LivePin, pins_like, entry_steps, invalid_at, last_record, live_pins}
-use Rattle.gt_words.specs.declared.view.SeatStep.{SeatStep}
+use Rattle.gt_word_table.specs.Rule.{Layout, layout_of}
+use Rattle.gt_word_table.specs.Views.{LivePin, pins_like, entry_steps, invalid_at, last_record, live_pins}
+use Rattle.gt_word_table.specs.declared.view.SeatStep.{SeatStep}
 use Rattle.gt_handles.specs.Handles.{HandleMap, under, value_of}
 use Rattle.gt_handles.specs.Listing.{has_passing}
 use Rattle.gt_handles.specs.declared.handles.Handle.{Handle}

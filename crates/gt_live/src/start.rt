@@ -1,7 +1,7 @@
 //! How a run starts.
 ghost use Rattle.std.specs.Prelude.{◌≡◌, ◌+◌, ◌<◌, ◌≤◌, ℕ, length, replicate, All, HoldsAt, IfOk, IfErr, OnOk, []};
 ghost use Rattle.gt_types.specs.Config.{IsWithinLimits};
-ghost use Rattle.gt_words.specs.Rule.{layout_of};
+ghost use Rattle.gt_word_table.specs.Rule.{layout_of};
 ghost use Rattle.gt_words.specs.Answers.{IsNewSeat, IsStartFault};
 ghost use Rattle.gt_live.specs.Starting.{first_rows, IsNewDomain};
 

@@ -9,11 +9,11 @@ use Rattle.atomic_table.specs.Table.{State}
 use Rattle.gt_types.specs.declared.DomId.{DomId}
 use Rattle.gt_types.specs.declared.Size.{Size}
 use Rattle.gt_types.specs.declared.denial.Denial.{Denial}
-use Rattle.gt_words.specs.History.{Layout, Moment}
+use Rattle.gt_word_table.specs.History.{Layout, Moment}
 use Rattle.gt_words.specs.Laws.{length-ids, own_position}
-use Rattle.gt_words.specs.Rule.{Shows, id_at}
-use Rattle.gt_words.specs.Views.{IsAmong}
-use Rattle.gt_words.specs.declared.view.View.{View}
+use Rattle.gt_word_table.specs.Rule.{Shows, id_at}
+use Rattle.gt_word_table.specs.Views.{IsAmong}
+use Rattle.gt_word_table.specs.declared.view.View.{View}
 use Rattle.gt_handles.specs.declared.handles.Handle.{Handle}
 use Rattle.gt_calls.specs.declared.action.CallResult.{CallResult}
 use Rattle.gt_calls.specs.Asking.{asked}

@@ -9,14 +9,14 @@ use Rattle.gt_types.specs.Names.{domain_of}
 use Rattle.gt_types.specs.declared.DomId.{DomId}
 use Rattle.gt_types.specs.declared.config.Config.{Config}
 use Rattle.gt_types.specs.declared.config.DomainConfig.{DomainConfig}
-use Rattle.gt_words.proofs.Order.{part_else, part_here, up_else}
+use Rattle.gt_word_table.proofs.Order.{part_else, part_here, up_else}
 use Rattle.gt_words.specs.Conditions.{Board, HasDomain, SeatOf}
-use Rattle.gt_words.specs.History.{StepHistory, Layout, Moment, part_of, up_to}
+use Rattle.gt_word_table.specs.History.{StepHistory, Layout, Moment, part_of, up_to}
 use Rattle.gt_words.specs.Laws.{domain_of_run, seat_at}
-use Rattle.gt_words.specs.Rule.{layout_of, position_in}
-use Rattle.gt_words.specs.Views.{with_step}
-use Rattle.gt_words.specs.declared.view.SeatStep.{SeatStep}
-use Rattle.gt_words.specs.declared.view.View.{View}
+use Rattle.gt_word_table.specs.Rule.{layout_of, position_in}
+use Rattle.gt_word_table.specs.Views.{with_step}
+use Rattle.gt_word_table.specs.declared.view.SeatStep.{SeatStep}
+use Rattle.gt_word_table.specs.declared.view.View.{View}
 use Rattle.gt_calls.specs.Asking.{SpellsItsEntry, asked, begun_of}
 use Rattle.gt_calls.specs.Path.{path, steps_of}
 use Rattle.gt_calls.specs.Rules.{CallerKnowledge}

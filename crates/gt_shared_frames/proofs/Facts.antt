@@ -1,21 +1,23 @@
 -- What the calls know between their steps.
-use Rattle.std.proofs.Common.{◌≡◌, ℕ, ◌+◌, ◌-◌, ◌≤◌, inl, length-take, length-drop, List, [], ◌∷◌, arith, drop, take, Bool, true, false, length, sym, refl, ap, ◌∙◌, subst}
+use Rattle.std.proofs.Common.{◌≡◌, ℕ, ◌+◌, ◌-◌, ◌≤◌, inl, length-take, length-drop, List, [], ◌∷◌, arith, drop, take}
+use Rattle.std.proofs.Common.{Bool, true, false, length, sym, refl, ap, ◌∙◌, subst}
 use Rattle.std.specs.Prelude.{IsTrue, Some, None, ◌&&◌, ◌++◌}
 use Rattle.atomic_table.specs.Table.{Allows, Me, rest}
 use Rattle.gt_frames.specs.Frames.{FrameState, IsKept, all_rightful, bytes_at, contents, is_rightful, recorded}
 use Rattle.gt_frames.specs.declared.writ.WriteRecord.{WriteRecord}
 use Rattle.gt_types.specs.declared.DomId.{DomId}
 use Rattle.gt_frames.specs.declared.writ.Writ.{Writ}
-use Rattle.gt_words.specs.Views.{IsAmong}
-use Rattle.gt_words.specs.declared.view.FrameStep.TheVariants.{Copied}
+use Rattle.gt_word_table.specs.Views.{IsAmong}
+use Rattle.gt_word_table.specs.declared.view.FrameStep.TheVariants.{Copied}
 use Rattle.gt_shared_frames.specs.declared.table.FrameHolder.{FrameHolder}
 use Rattle.gt_shared_frames.specs.Rule.{Cell, HoldsAll, IsSlotOf, Places, name_of}
 use Rattle.gt_shared_frames.specs.declared.table.FrameSlot.{FrameSlot}
 use Rattle.atomic_table.specs.Seated.{TableId}
-use Rattle.gt_shared_frames.specs.Telling.{Accessed, AreLeft, Frees, IsByHeld, IsOut, Returns, Took, held_first, holding, left_by, rest_held}
+use Rattle.gt_shared_frames.specs.Telling.{Accessed, AreLeft, Frees, IsByHeld, IsOut, Returns, Took, held_first}
+use Rattle.gt_shared_frames.specs.Telling.{holding, left_by, rest_held}
 use Rattle.gt_shared_frames.specs.Bytes.{journal_by}
-use Rattle.gt_words.specs.History.{Layout}
-use Rattle.gt_words.specs.declared.view.FrameStep.{FrameStep}
+use Rattle.gt_word_table.specs.History.{Layout}
+use Rattle.gt_word_table.specs.declared.view.FrameStep.{FrameStep}
 use Rattle.gt_shared_frames.proofs.Steps.{frees, returns}
 use Rattle.gt_types.specs.declared.limits.TheConstants.{FRAME_SIZE}
 

@@ -1,5 +1,7 @@
 -- Taking a frame, giving it back, and a step on words keep what the rule says of frames.
-use Rattle.std.proofs.Common.{◌≡◌, ◌≢◌, inl, inr, ⊎_elim, ℕ, ◌+◌, ◌*◌, ◌<◌, Bool, true, cond, ◌==◌, ◌&&◌, List, [], ◌∷◌, get_or, set, length, sym, refl, ap, ◌∙◌, subst, arith, length-set, eq-eqb, get_or-set_other, get_or-set_same}
+use Rattle.std.proofs.Common.{◌≡◌, ◌≢◌, inl, inr, ⊎_elim, ℕ, ◌+◌, ◌*◌, ◌<◌, Bool, true, cond, ◌==◌, ◌&&◌, List, [], ◌∷◌}
+use Rattle.std.proofs.Common.{get_or, set, length, sym, refl, ap, ◌∙◌, subst, arith, length-set, eq-eqb}
+use Rattle.std.proofs.Common.{get_or-set_other, get_or-set_same}
 use Rattle.std.specs.Prelude.{Some}
 use mathlib.Core.Option.{Option as Maybe, some, none, some-injective, some-ne-none}
 use mathlib.Core.Logic.{dite}
@@ -9,13 +11,13 @@ use Rattle.atomic_table.specs.Table.{State, stepped, keeps, takes, gives}
 use Rattle.atomic_table.proofs.Lists.{at_set, set_else, set_here}
 use Rattle.gt_frames.specs.Frames.{FrameState}
 use Rattle.gt_frames.specs.declared.writ.WriteRecord.{WriteRecord}
-use Rattle.gt_words.proofs.Lifts.{apart_test}
-use Rattle.gt_words.proofs.Order.{within}
-use Rattle.gt_words.specs.History.{Layout, StepHistory, header_place}
-use Rattle.gt_words.specs.Views.{IsAmong}
-use Rattle.gt_words.specs.declared.view.FrameStep.{FrameStep}
-use Rattle.gt_words.specs.declared.view.SeatStep.{SeatStep}
-use Rattle.gt_words.specs.declared.view.SeatStep.TheVariants.{Entry, Frame, Header}
+use Rattle.gt_word_table.proofs.Order.{apart_test}
+use Rattle.gt_word_table.proofs.Order.{within}
+use Rattle.gt_word_table.specs.History.{Layout, StepHistory, header_place}
+use Rattle.gt_word_table.specs.Views.{IsAmong}
+use Rattle.gt_word_table.specs.declared.view.FrameStep.{FrameStep}
+use Rattle.gt_word_table.specs.declared.view.SeatStep.{SeatStep}
+use Rattle.gt_word_table.specs.declared.view.SeatStep.TheVariants.{Entry, Frame, Header}
 use Rattle.gt_shared_frames.specs.declared.table.FrameHolder.{FrameHolder}
 use Rattle.gt_shared_frames.specs.Bytes.{IsOnWords, SaysBytes, journal_after, journal_by, journal_made}
 use Rattle.gt_shared_frames.specs.Rule.{AreOnce, Cell, FrameAt, Has, IsNamed, FramesAreKept, Places, lock_place, made}

@@ -1,25 +1,26 @@
 -- An access to a frame is a step of the one history: words and views go on showing a state.
-use Rattle.std.proofs.Common.{◌≡◌, ◌≢◌, ⊎_elim, ℕ, zero, suc, ◌<◌, false, List, [], ◌∷◌, map, set, sym, refl, ap, ◌∙◌, subst, arith, length-set}
+use Rattle.std.proofs.Common.{◌≡◌, ◌≢◌, ⊎_elim, ℕ, zero, suc, ◌<◌, false, List, [], ◌∷◌, map, set, sym, refl, ap, ◌∙◌}
+use Rattle.std.proofs.Common.{subst, arith, length-set}
 use mathlib.Core.Option.{some}
 use lib.ListN.{get_elem?}
 use lib.Seq.{map-set}
 use Rattle.std.specs.Prelude.{slice_index}
 use Rattle.atomic_table.specs.Table.{State, keeps, stepped}
 use Rattle.atomic_table.proofs.Lists.{at_map, at_set, set_again}
-use Rattle.gt_words.specs.History.{HasLedTo, Layout, header_place, place}
-use Rattle.gt_words.specs.Joining.{TableHolds, whole, whole_views}
-use Rattle.gt_words.specs.Rule.{Shows, ShowsEntry, Stands, header_now}
-use Rattle.gt_words.specs.Views.{steps_on, steps_on_header, with_step}
-use Rattle.gt_words.specs.declared.view.EntryStep.{EntryStep}
-use Rattle.gt_words.specs.declared.view.FrameStep.{FrameStep}
-use Rattle.gt_words.specs.declared.view.HeaderStep.{HeaderStep}
-use Rattle.gt_words.specs.declared.view.Outlook.{Outlook}
-use Rattle.gt_words.specs.declared.view.SeatStep.{SeatStep}
-use Rattle.gt_words.specs.declared.view.SeatStep.TheVariants.{Frame}
-use Rattle.gt_words.specs.declared.view.View.{View}
-use Rattle.gt_words.proofs.Joining.{holds_after, there, views_after}
-use Rattle.gt_words.proofs.Moments.{one_history}
-use Rattle.gt_words.proofs.Order.{leads_on}
+use Rattle.gt_word_table.specs.History.{HasLedTo, Layout, header_place, place}
+use Rattle.gt_word_table.specs.Joining.{TableHolds, whole, whole_views}
+use Rattle.gt_word_table.specs.Rule.{Shows, ShowsEntry, Stands, header_now}
+use Rattle.gt_word_table.specs.Views.{steps_on, steps_on_header, with_step}
+use Rattle.gt_word_table.specs.declared.view.EntryStep.{EntryStep}
+use Rattle.gt_word_table.specs.declared.view.FrameStep.{FrameStep}
+use Rattle.gt_word_table.specs.declared.view.HeaderStep.{HeaderStep}
+use Rattle.gt_word_table.specs.declared.view.Outlook.{Outlook}
+use Rattle.gt_word_table.specs.declared.view.SeatStep.{SeatStep}
+use Rattle.gt_word_table.specs.declared.view.SeatStep.TheVariants.{Frame}
+use Rattle.gt_word_table.specs.declared.view.View.{View}
+use Rattle.gt_word_table.proofs.Joining.{holds_after, there, views_after}
+use Rattle.gt_word_table.proofs.Moments.{one_history}
+use Rattle.gt_word_table.proofs.Order.{leads_on}
 use Rattle.gt_shared_frames.specs.Telling.{outlook_after}
 
 pub word_again : (ws : List ℕ) (i : ℕ) → set ws i (slice_index ws i) ≡ ws

@@ -5,11 +5,11 @@ use mathlib.Core.Option.{Option as Maybe, some, some-injective, some-ne-none}
 use lib.ListN.{get_elem?}
 use Rattle.atomic_table.specs.Table.{State, opening}
 use Rattle.atomic_table.proofs.Lists.{at_map, some_there}
-use Rattle.gt_words.specs.History.{Layout, StepHistory}
-use Rattle.gt_words.specs.Rule.{Stands}
-use Rattle.gt_words.specs.Views.{IsAmong}
-use Rattle.gt_words.specs.declared.view.Outlook.{Outlook}
-use Rattle.gt_words.specs.declared.view.View.{View}
+use Rattle.gt_word_table.specs.History.{Layout, StepHistory}
+use Rattle.gt_word_table.specs.Rule.{Stands}
+use Rattle.gt_word_table.specs.Views.{IsAmong}
+use Rattle.gt_word_table.specs.declared.view.Outlook.{Outlook}
+use Rattle.gt_word_table.specs.declared.view.View.{View}
 use Rattle.gt_shared_frames.specs.declared.table.FrameHolder.{FrameHolder}
 use Rattle.gt_shared_frames.specs.Laws.{FramesOpen}
 use Rattle.gt_shared_frames.specs.Rule.{AreOnce, Has, FramesAreKept, hidden, made, newcomer}

@@ -1,20 +1,21 @@
 -- Dealing a seat and taking one in leave words, frames and history as they are.
-use Rattle.std.proofs.Common.{◌≡◌, ◌≢◌, ◌⊎◌, inl, inr, ⊎_elim, ℕ, zero, suc, ◌<◌, ◌≤◌, List, [], ◌∷◌, ◌++◌, map, set, length, true, false, sym, refl, ap, ◌∙◌, subst, arith}
+use Rattle.std.proofs.Common.{◌≡◌, ◌≢◌, ◌⊎◌, inl, inr, ⊎_elim, ℕ, zero, suc, ◌<◌, ◌≤◌, List, [], ◌∷◌, ◌++◌, map, set}
+use Rattle.std.proofs.Common.{length, true, false, sym, refl, ap, ◌∙◌, subst, arith}
 use mathlib.Core.Option.{Option as Maybe, some, none, some-injective, some-ne-none}
 use lib.ListN.{get_elem?}
 use lib.Seq.{map-set}
 use Rattle.atomic_table.specs.Table.{State}
 use Rattle.atomic_table.proofs.Lists.{at_map, at_set}
-use Rattle.gt_words.proofs.Joining.{dealt_views, deals_so, first_id, join_any, same_views, there}
-use Rattle.gt_words.proofs.Moments.{beyond, one_history, one_order}
-use Rattle.gt_words.proofs.Order.{nothing_yet}
-use Rattle.gt_words.specs.History.{Layout, StepHistory, part_of, up_to}
-use Rattle.gt_words.specs.Joining.{TableHolds, took, whole, whole_views}
-use Rattle.gt_words.specs.Places.{dealer_after, dealing, dealt_outlook, dealt_to}
-use Rattle.gt_words.specs.Rule.{Shows}
-use Rattle.gt_words.specs.Views.{IsAmong}
-use Rattle.gt_words.specs.declared.view.Outlook.{Outlook}
-use Rattle.gt_words.specs.declared.view.View.{View}
+use Rattle.gt_word_table.proofs.Joining.{dealt_views, deals_so, first_id, join_any, same_views, there}
+use Rattle.gt_word_table.proofs.Moments.{beyond, one_history, one_order}
+use Rattle.gt_word_table.proofs.Order.{nothing_yet}
+use Rattle.gt_word_table.specs.History.{Layout, StepHistory, part_of, up_to}
+use Rattle.gt_word_table.specs.Joining.{TableHolds, took, whole, whole_views}
+use Rattle.gt_word_table.specs.Places.{dealer_after, dealing, dealt_outlook, dealt_to}
+use Rattle.gt_word_table.specs.Rule.{Shows}
+use Rattle.gt_word_table.specs.Views.{IsAmong}
+use Rattle.gt_word_table.specs.declared.view.Outlook.{Outlook}
+use Rattle.gt_word_table.specs.declared.view.View.{View}
 use Rattle.gt_shared_frames.specs.declared.table.FrameHolder.{FrameHolder}
 use Rattle.gt_shared_frames.specs.Rule.{AreOnce, Cell, Has, HoldsAll, FramesAreKept, Places, inner, newcomer, own_of}
 use Rattle.gt_shared_frames.specs.Seats.{SeatsAreDealt, SeatsAreTakenIn, dealer}

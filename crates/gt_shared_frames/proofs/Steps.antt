@@ -1,5 +1,6 @@
 -- The steps on the whole table: those on words as they were, a lock, and an access.
-use Rattle.std.proofs.Common.{◌≡◌, ℕ, zero, suc, ◌+◌, ◌*◌, ◌<◌, ◌≤◌, Bool, true, false, ◌==◌, List, [], ◌∷◌, map, take, set, length, sym, refl, ap, ◌∙◌, subst, arith}
+use Rattle.std.proofs.Common.{◌≡◌, ℕ, zero, suc, ◌+◌, ◌*◌, ◌<◌, ◌≤◌, Bool, true, false, ◌==◌, List, [], ◌∷◌, map, take}
+use Rattle.std.proofs.Common.{set, length, sym, refl, ap, ◌∙◌, subst, arith}
 use Rattle.std.proofs.lemmas.Bool.Decides.{nat_tests}
 use Rattle.std.specs.Prelude.{IsTrue, slice_index, Some, MatchBool}
 use mathlib.Core.Option.{Option as Maybe, some, none, some-injective, some-ne-none}
@@ -7,28 +8,31 @@ use lib.ListN.{get_elem?, length-map}
 use lib.Seq.{map-set, take-set-le}
 use Rattle.std.proofs.Math.Seq.{take-set-lt}
 use prog.Atomic.{either}
-use Rattle.atomic_table.specs.Table.{State, Me, Act, Valid, carried_after, homes_after, stepped, keeps, takes, gives, chain}
+use Rattle.atomic_table.specs.Table.{State, Me, Act, Valid, carried_after, homes_after, stepped, keeps, takes, gives}
+use Rattle.atomic_table.specs.Table.{chain}
 use Rattle.atomic_table.proofs.Lists.{at_map, set_again, set_here}
 use Rattle.gt_frames.specs.Frames.{FrameState, bytes_at, is_rightful}
-use Rattle.gt_words.proofs.Joining.{there as there_own, views_after}
-use Rattle.gt_words.proofs.Order.{within}
-use Rattle.gt_words.proofs.Moments.{one_history, taken_then}
-use Rattle.gt_words.specs.History.{StepHistory, header_place}
-use Rattle.gt_words.specs.Joining.{TableHolds, tells_own, whole, whole_views}
-use Rattle.gt_words.specs.Rule.{Shows, Stands}
-use Rattle.gt_words.specs.Views.{with_step}
-use Rattle.gt_words.specs.declared.view.FrameStep.{FrameStep}
-use Rattle.gt_words.specs.declared.view.FrameStep.TheVariants.{Read, Wrote, Copied}
-use Rattle.gt_words.specs.declared.view.Outlook.{Outlook}
-use Rattle.gt_words.specs.declared.view.SeatStep.{SeatStep}
-use Rattle.gt_words.specs.declared.view.SeatStep.TheVariants.{Frame}
-use Rattle.gt_words.specs.declared.view.View.{View}
+use Rattle.gt_word_table.proofs.Joining.{there as there_own, views_after}
+use Rattle.gt_word_table.proofs.Order.{within}
+use Rattle.gt_word_table.proofs.Moments.{one_history, taken_then}
+use Rattle.gt_word_table.specs.History.{StepHistory, header_place}
+use Rattle.gt_word_table.specs.Joining.{TableHolds, tells_own, whole, whole_views}
+use Rattle.gt_word_table.specs.Rule.{Shows, Stands}
+use Rattle.gt_word_table.specs.Views.{with_step}
+use Rattle.gt_word_table.specs.declared.view.FrameStep.{FrameStep}
+use Rattle.gt_word_table.specs.declared.view.FrameStep.TheVariants.{Read, Wrote, Copied}
+use Rattle.gt_word_table.specs.declared.view.Outlook.{Outlook}
+use Rattle.gt_word_table.specs.declared.view.SeatStep.{SeatStep}
+use Rattle.gt_word_table.specs.declared.view.SeatStep.TheVariants.{Frame}
+use Rattle.gt_word_table.specs.declared.view.View.{View}
 use Rattle.gt_shared_frames.specs.declared.table.FrameHolder.{FrameHolder}
 use Rattle.gt_shared_frames.specs.Bytes.{IsOnWords, SaysBytes, journal_by}
-use Rattle.gt_shared_frames.specs.Rule.{Cell, FrameAt, HoldsAll, IsNamed, FramesAreKept, Places, hidden, inner, lock_place, made, own_of}
+use Rattle.gt_shared_frames.specs.Rule.{Cell, FrameAt, HoldsAll, IsNamed, FramesAreKept, Places, hidden, inner, lock_place, made}
+use Rattle.gt_shared_frames.specs.Rule.{own_of}
 use Rattle.gt_shared_frames.specs.Telling.{Accesses, IsByHeld, TookAt, AreLeft, holder_after, holding, outlook_after}
 use Rattle.gt_shared_frames.specs.Laws.{FramesAreFreed, FramesAreLocked, FramesAreReturned, WordsAreStepped}
-use Rattle.gt_shared_frames.proofs.OneStep.{access_stands, history_goes_on, holds_access, own_place, seen_there, word_again}
+use Rattle.gt_shared_frames.proofs.OneStep.{access_stands, history_goes_on, holds_access, own_place, seen_there}
+use Rattle.gt_shared_frames.proofs.OneStep.{word_again}
 use Rattle.gt_shared_frames.proofs.Keeping.{gives_keep, returns_keep, takes_keep, was_mine, words_keep}
 
 hidden_set : (hs : List (Maybe Cell)) (q : ℕ) (m : Maybe Cell) → map hidden (set hs q m) ≡ map hidden hs

@@ -2,12 +2,12 @@
 use Rattle.std.specs.Prelude.{◌≡◌, ℕ, cond, ◌==◌, ◌&&◌, List, [], ◌∷◌, ◌++◌, length, IsTrue}
 use Rattle.gt_frames.specs.Frames.{FrameState, bytes_at, is_rightful}
 use Rattle.gt_frames.specs.declared.writ.WriteRecord.{WriteRecord}
-use Rattle.gt_words.specs.History.{Layout, StepHistory}
-use Rattle.gt_words.specs.Rule.{id_at}
-use Rattle.gt_words.specs.declared.view.FrameStep.{FrameStep}
-use Rattle.gt_words.specs.declared.view.FrameStep.TheVariants.{Read, Wrote, Copied}
-use Rattle.gt_words.specs.declared.view.SeatStep.{SeatStep}
-use Rattle.gt_words.specs.declared.view.SeatStep.TheVariants.{Entry, Frame, Header}
+use Rattle.gt_word_table.specs.History.{Layout, StepHistory}
+use Rattle.gt_word_table.specs.Rule.{id_at}
+use Rattle.gt_word_table.specs.declared.view.FrameStep.{FrameStep}
+use Rattle.gt_word_table.specs.declared.view.FrameStep.TheVariants.{Read, Wrote, Copied}
+use Rattle.gt_word_table.specs.declared.view.SeatStep.{SeatStep}
+use Rattle.gt_word_table.specs.declared.view.SeatStep.TheVariants.{Entry, Frame, Header}
 
 -- the journal of a frame after an access to it
 abbrev pub journal_by : FrameStep → List WriteRecord → List WriteRecord

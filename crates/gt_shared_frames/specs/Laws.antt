@@ -4,13 +4,13 @@ use mathlib.Core.Option.{some}
 use prog.Atomic.{either}
 use lib.ListN.{get_elem?}
 use Rattle.atomic_table.specs.Table.{State, Me, Allows, opening, Step as TableStep, stepped, keeps, takes, gives, rest}
-use Rattle.gt_words.specs.History.{Layout, StepHistory, header_place}
-use Rattle.gt_words.specs.Joining.{TableHolds, tells_own}
-use Rattle.gt_words.specs.Steps.{StepKind}
-use Rattle.gt_words.specs.declared.view.FrameStep.{FrameStep}
-use Rattle.gt_words.specs.declared.view.Outlook.{Outlook}
-use Rattle.gt_words.specs.declared.view.SeatStep.TheVariants.{Frame}
-use Rattle.gt_words.specs.declared.view.SeatStep.{SeatStep}
+use Rattle.gt_word_table.specs.History.{Layout, StepHistory, header_place}
+use Rattle.gt_word_table.specs.Joining.{TableHolds, tells_own}
+use Rattle.gt_word_table.specs.Steps.{StepKind}
+use Rattle.gt_word_table.specs.declared.view.FrameStep.{FrameStep}
+use Rattle.gt_word_table.specs.declared.view.Outlook.{Outlook}
+use Rattle.gt_word_table.specs.declared.view.SeatStep.TheVariants.{Frame}
+use Rattle.gt_word_table.specs.declared.view.SeatStep.{SeatStep}
 use Rattle.gt_frames.specs.Frames.{FrameState}
 use Rattle.gt_types.specs.declared.config.Config.{Config}
 use Rattle.gt_shared_frames.specs.declared.table.FrameHolder.{FrameHolder}

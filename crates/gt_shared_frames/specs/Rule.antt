@@ -5,14 +5,14 @@ use mathlib.Core.Option.{Option as Maybe, some, none}
 use lib.ListN.{get_elem?}
 use Rattle.atomic_table.specs.Table.{State}
 use Rattle.gt_frames.specs.Frames.{FrameState}
-use Rattle.gt_words.specs.declared.view.Outlook.{Outlook}
-use Rattle.gt_words.specs.History.{Layout, StepHistory, header_place}
-use Rattle.gt_words.specs.Joining.{TableHolds}
-use Rattle.gt_words.specs.Rule.{layout_of}
+use Rattle.gt_word_table.specs.declared.view.Outlook.{Outlook}
+use Rattle.gt_word_table.specs.History.{Layout, StepHistory, header_place}
+use Rattle.gt_word_table.specs.Joining.{TableHolds}
+use Rattle.gt_word_table.specs.Rule.{layout_of}
 use Rattle.gt_types.specs.declared.config.Config.{Config}
 use Rattle.gt_types.specs.declared.config.DomainConfig.{DomainConfig}
 use Rattle.std.specs.List.{range_with_len}
-use Rattle.gt_words.specs.Views.{IsAmong}
+use Rattle.gt_word_table.specs.Views.{IsAmong}
 use Rattle.gt_shared_frames.specs.declared.table.FrameHolder.{FrameHolder}
 use Rattle.gt_shared_frames.specs.declared.table.FrameSlot.{FrameSlot}
 use Rattle.atomic_table.specs.Seated.{TableId}

@@ -1,8 +1,8 @@
 -- The seats of this table: dealing one, and taking one in.
 use Rattle.std.specs.Prelude.{◌≡◌, ℕ, ◌<◌, [], true, false}
 use Rattle.atomic_table.specs.Table.{Joins, Splits}
-use Rattle.gt_words.specs.Joining.{took}
-use Rattle.gt_words.specs.Places.{dealing, dealt_outlook}
+use Rattle.gt_word_table.specs.Joining.{took}
+use Rattle.gt_word_table.specs.Places.{dealing, dealt_outlook}
 use Rattle.gt_shared_frames.specs.declared.table.FrameHolder.{FrameHolder}
 use Rattle.gt_shared_frames.specs.Rule.{HoldsAll, Places, newcomer}
 

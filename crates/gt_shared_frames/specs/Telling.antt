@@ -5,16 +5,16 @@ use Rattle.atomic_table.specs.Table.{Me, rest}
 use Rattle.atomic_table.specs.Seated.{TableId}
 use Rattle.atomic_table.specs.declared.shared.Seat.{Seat}
 use Rattle.gt_frames.specs.Frames.{FrameState, bytes_at, is_rightful}
-use Rattle.gt_words.specs.History.{Layout, StepHistory}
-use Rattle.gt_words.specs.Rule.{HasStood, id_at}
-use Rattle.gt_words.specs.Steps.{StoodWith}
-use Rattle.gt_words.specs.Views.{IsAmong, with_step}
-use Rattle.gt_words.specs.declared.view.FrameStep.{FrameStep}
-use Rattle.gt_words.specs.declared.view.FrameStep.TheVariants.{Read, Wrote, Copied}
-use Rattle.gt_words.specs.declared.view.SeatStep.{SeatStep}
-use Rattle.gt_words.specs.declared.view.SeatStep.TheVariants.{Frame}
-use Rattle.gt_words.specs.declared.view.Outlook.{Outlook}
-use Rattle.gt_words.specs.declared.view.View.{View}
+use Rattle.gt_word_table.specs.History.{Layout, StepHistory}
+use Rattle.gt_word_table.specs.Rule.{HasStood, id_at}
+use Rattle.gt_word_table.specs.Steps.{StoodWith}
+use Rattle.gt_word_table.specs.Views.{IsAmong, with_step}
+use Rattle.gt_word_table.specs.declared.view.FrameStep.{FrameStep}
+use Rattle.gt_word_table.specs.declared.view.FrameStep.TheVariants.{Read, Wrote, Copied}
+use Rattle.gt_word_table.specs.declared.view.SeatStep.{SeatStep}
+use Rattle.gt_word_table.specs.declared.view.SeatStep.TheVariants.{Frame}
+use Rattle.gt_word_table.specs.declared.view.Outlook.{Outlook}
+use Rattle.gt_word_table.specs.declared.view.View.{View}
 use Rattle.gt_shared_frames.specs.declared.table.FrameHolder.{FrameHolder}
 use Rattle.gt_shared_frames.specs.Bytes.{AreTrueBytes, SaysBytes, frame_made}
 use Rattle.gt_shared_frames.specs.Rule.{Cell, FrameAt, IsNamed, Places, name_of}

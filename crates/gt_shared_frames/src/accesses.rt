@@ -4,9 +4,9 @@ ghost use Rattle.std.specs.Prelude.{IsTrue, OnOk, OnErr, Some, None};
 ghost use Rattle.atomic_table.specs.Table.{Allows, rest};
 ghost use Rattle.gt_frames.specs.Frames.{FrameState, bytes_at, covers};
 ghost use Rattle.gt_types.specs.declared.limits.TheConstants.{FRAME_SIZE};
-ghost use Rattle.gt_words.specs.Rule.{layout_of, id_at};
-ghost use Rattle.gt_words.specs.Views.{IsAmong};
-ghost use Rattle.gt_words.specs.declared.view.FrameStep.TheVariants as access;
+ghost use Rattle.gt_word_table.specs.Rule.{layout_of, id_at};
+ghost use Rattle.gt_word_table.specs.Views.{IsAmong};
+ghost use Rattle.gt_word_table.specs.declared.view.FrameStep.TheVariants as access;
 ghost use Rattle.gt_shared_frames.specs.Rule.{HoldsAll, IsNamed, IsSlotOf, name_of, places_of};
 ghost use Rattle.gt_shared_frames.specs.Telling.{Accessed, CopiedBy, Frees, HasBoth, IsOut, Returns, left_by};
 

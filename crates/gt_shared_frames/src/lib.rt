@@ -8,7 +8,7 @@
 //! of the table is `HoldsAll` (specs/Rule.antt): words and views show a state of the core, a frame in its slot is what
 //! the history makes of it, and one seat has each frame that is out, unchanged since it took it.
 //!
-//! It stands on `gt_words` (steps, views and the rule of the words), `gt_frames` (frames and their journals) and
+//! It stands on `gt_word_table` (steps, views and the rule of the words), `gt_frames` (frames and their journals) and
 //! `atomic_table`. The running monitor keeps its frames in `gt_frames`' pool and does not use this crate yet.
 #![tactic(auto)]
 

@@ -3,19 +3,19 @@ ghost use Rattle.std.specs.Prelude.{◌≡◌, ℕ, List, ◌<◌, ◌==◌, [],
 ghost use prog.Atomic.{either};
 ghost use Rattle.atomic_table.specs.Table.{Allows};
 ghost use Rattle.gt_frames.specs.Frames.{FrameState};
-ghost use Rattle.gt_words.specs.History.{Layout};
-ghost use Rattle.gt_words.specs.Joining.{outlook_of};
-ghost use Rattle.gt_words.specs.Places.{new_view};
-ghost use Rattle.gt_words.specs.Rule.{layout_of};
-ghost use Rattle.gt_words.specs.declared.view.FrameStep.{FrameStep};
-ghost use Rattle.gt_words.specs.declared.view.FrameStep.TheVariants as access;
+ghost use Rattle.gt_word_table.specs.History.{Layout};
+ghost use Rattle.gt_word_table.specs.Joining.{outlook_of};
+ghost use Rattle.gt_word_table.specs.Places.{new_view};
+ghost use Rattle.gt_word_table.specs.Rule.{layout_of};
+ghost use Rattle.gt_word_table.specs.declared.view.FrameStep.{FrameStep};
+ghost use Rattle.gt_word_table.specs.declared.view.FrameStep.TheVariants as access;
 ghost use Rattle.gt_shared_frames.specs.Rule.{FrameAt, HoldsAll, IsSlotOf, Places, name_of, newcomer, places_of};
 ghost use Rattle.gt_shared_frames.specs.Telling.{Frees, Locks, Returns, Took, no_places};
 
 use atomic_table::{Play, Seat, Shared, TableRule};
 use gt_frames::Frame;
 use gt_types::Config;
-use gt_words::Outlook;
+use gt_word_table::Outlook;
 use std::collections::LinkedList;
 use std::marker::{Brand, PhantomData};
 use std::sync::Wait;

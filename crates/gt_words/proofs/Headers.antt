@@ -12,23 +12,23 @@ use Rattle.atomic_table.proofs.Lists.{set_again, at_map}
 use Rattle.gt_words.proofs.Lists.{whose_at, whose_here}
 use Rattle.gt_words.proofs.SeatsKept.{header_keeps, header_keeps_pins, header_keeps_rows, header_sees}
 use Rattle.gt_words.proofs.Lifts.{still_dealt, still_seated}
-use Rattle.gt_words.proofs.StepDuties.{kind_owes, stored_owes}
+use Rattle.gt_words.proofs.StepDuties.{kind_owes}
 use Rattle.gt_entry.specs.Laws.{header-round}
 use Rattle.gt_entry.specs.Words.{header_of, header_word, size_of}
 use Rattle.gt_entry.specs.declared.header.Header.{Header}
 use Rattle.gt_types.specs.declared.limits.TheConstants.{ENTRIES_V1, ENTRIES_V2, TABLE_ENTRIES}
 use Rattle.gt_words.specs.Answers.{AddsToHeader, LooksAtHeader, StepsOnHeader, StoresHeader}
-use Rattle.gt_words.specs.Events.{HeaderByOwner, header_after}
-use Rattle.gt_words.proofs.Order.{leads_on}
-use Rattle.gt_words.specs.History.{StepHistory, SaysWord, left_by}
-use Rattle.gt_words.specs.Rule.{IsHeader, IsKeptHeader, Layout, Shows, HasStood, Stands, ShowsEntry, header_now}
-use Rattle.gt_words.specs.Rule.{header_place, place}
-use Rattle.gt_words.specs.Steps.{TakesStep, looking_at_header, on_header, storing_header, tells, tells_stored}
-use Rattle.gt_words.specs.Views.{own, own_header, steps_on, steps_on_header, stored_header, with_step}
-use Rattle.gt_words.specs.declared.view.EntryStep.{EntryStep}
-use Rattle.gt_words.specs.declared.view.HeaderStep.{HeaderStep}
-use Rattle.gt_words.specs.declared.view.View.{View}
-use Rattle.gt_words.specs.declared.view.HeaderStep.TheVariants as header
+use Rattle.gt_word_table.specs.Events.{HeaderByOwner, header_after}
+use Rattle.gt_word_table.proofs.Order.{leads_on}
+use Rattle.gt_word_table.specs.History.{StepHistory, SaysWord, left_by}
+use Rattle.gt_word_table.specs.Rule.{IsHeader, IsKeptHeader, Layout, Shows, HasStood, Stands, ShowsEntry, header_now}
+use Rattle.gt_word_table.specs.Rule.{header_place, place}
+use Rattle.gt_word_table.specs.Steps.{TakesStep, looking_at_header, on_header, storing_header, tells}
+use Rattle.gt_word_table.specs.Views.{own, own_header, steps_on, steps_on_header, stored_header, with_step}
+use Rattle.gt_word_table.specs.declared.view.EntryStep.{EntryStep}
+use Rattle.gt_word_table.specs.declared.view.HeaderStep.{HeaderStep}
+use Rattle.gt_word_table.specs.declared.view.View.{View}
+use Rattle.gt_word_table.specs.declared.view.HeaderStep.TheVariants as header
 
 header_here : (past : StepHistory) (t : ℕ) (m : HeaderStep) (v : View) → steps_on_header t (with_step past (on_header t m) v) ≡ m ∷ steps_on_header t v
 header_here past t m v = ap (λ (b : Bool). cond b (m ∷ steps_on_header t v) (steps_on_header t v)) (eq-eqb t t refl)
@@ -111,9 +111,8 @@ module _ {S : Type 0} (k : Layout) (slots id : ℕ) (me : Me S View) (t : ℕ) (
   pub look_header_owes : Allows (Shows k) slots id me (header_place t) (λ n. n) (tells (looking_at_header k t) (step slots (header_place t) 0 0 none) me)
   look_header_owes = header_owes (λ n. header.Looked n) (λ n. n) 0 (λ s shown at. tt) (λ n. refl) (λ n. refl) (λ n h. h)
 
-  pub store_header_owes : (y : ℕ) → me.0.position ≡ t → IsHeader y → Allows (Shows k) slots id me (header_place t) (λ _. y) (λ _. tells_stored (storing_header k t y) (step slots (header_place t) y 0 none) me)
-  store_header_owes y own ok = stored_owes (storing_header k t y) (header_place t) (λ _. y) (step slots (header_place t) y 0 none)
-      (header_owes (λ n. header.Stored y) (λ n. y) y (λ s shown at. sym (shown.now.seats id me.0 at).0 ∙ own) (λ n. tt) (λ n. refl) (λ n h. ok))
+  pub store_header_owes : (y : ℕ) → me.0.position ≡ t → IsHeader y → Allows (Shows k) slots id me (header_place t) (λ _. y) (tells (storing_header k t y) (step slots (header_place t) y 0 none) me)
+  store_header_owes y own ok = header_owes (λ n. header.Stored y) (λ n. y) y (λ s shown at. sym (shown.now.seats id me.0 at).0 ∙ own) (λ n. tt) (λ n. refl) (λ n h. ok)
 
 -- one more step on a header
 pub adds_to_header : (past : StepHistory) (t : ℕ) (m : HeaderStep) (v w : View) → w ≡ with_step past (on_header t m) v → AddsToHeader past t m v w

@@ -1,5 +1,4 @@
 pub mod Lists
-pub mod Order
 pub mod Records
 pub mod Looking
 pub mod EarlierRecords
@@ -12,9 +11,6 @@ pub mod StepDuties
 pub mod Headers
 pub mod StepFacts
 pub mod PinsGone
-pub mod Opens
 pub mod SeatsDealt
 pub mod Past
-pub mod Moments
 pub mod HistorySteps
-pub mod Joining

@@ -1,8 +1,8 @@
 -- A step on one entry keeps the rule of the table, where it keeps the rule of that entry.
-use Rattle.gt_words.specs.declared.word_table.TheConstants.{DOMAIN_WORDS}
-use Rattle.std.proofs.Common.{◌≡◌, ◌≢◌, ⊎_elim, ℕ, zero, suc, ◌+◌, ◌*◌, ◌<◌, ◌≤◌, Bool, true, false, cond, ◌==◌, ◌&&◌}
+use Rattle.gt_word_table.specs.declared.rule.TheConstants.{DOMAIN_WORDS}
+use Rattle.std.proofs.Common.{◌≡◌, ◌≢◌, ⊎_elim, ℕ, zero, suc, ◌+◌, ◌*◌, ◌<◌, ◌≤◌, Bool, true, cond, ◌==◌, ◌&&◌}
 use Rattle.std.proofs.Common.{List, [], ◌∷◌, map, get_or, set, length, sym, refl, ap, ◌∙◌, subst, arith, length-set}
-use Rattle.std.proofs.Common.{get_or-set_other, eq-eqb, ne_eqb}
+use Rattle.std.proofs.Common.{get_or-set_other, eq-eqb}
 use mathlib.Core.Option.{Option as Maybe, none, some, some-ne-none}
 use mathlib.Core.Logic.{dite}
 use native.Mathlib.Decide.{ℕ_discrete}
@@ -11,16 +11,17 @@ use lib.Seq.{map-set}
 use Rattle.atomic_table.specs.Table.{State, stepped, keeps}
 use Rattle.atomic_table.proofs.Lists.{at_set, set_again, at_map}
 use Rattle.gt_words.proofs.Lists.{whose_at}
-use Rattle.gt_words.proofs.Moments.{beyond}
-use Rattle.gt_words.proofs.Order.{leads_on}
-use Rattle.gt_words.specs.History.{HasLedTo, StepHistory, IsByOwner, IsOfRecord, SaysFound, left_on_entry, owner_steps}
-use Rattle.gt_words.specs.History.{part_of, parts_on, word_on}
-use Rattle.gt_words.specs.Rule.{IsHeader, Layout, Shows, ShowsEntry, header_now, header_place, place}
-use Rattle.gt_words.specs.Steps.{on_entry}
-use Rattle.gt_words.specs.Views.{entry_steps, last_record, steps_on, steps_on_header, with_step}
-use Rattle.gt_words.specs.declared.view.EntryStep.{EntryStep}
-use Rattle.gt_words.specs.declared.view.SeatStep.{SeatStep}
-use Rattle.gt_words.specs.declared.view.View.{View}
+use Rattle.gt_word_table.proofs.Moments.{beyond}
+use Rattle.gt_word_table.proofs.Order.{apart_test, leads_on}
+use Rattle.gt_word_table.specs.History.{HasLedTo, StepHistory, IsByOwner, IsOfRecord, SaysFound, left_on_entry}
+use Rattle.gt_word_table.specs.History.{owner_steps}
+use Rattle.gt_word_table.specs.History.{part_of, parts_on, word_on}
+use Rattle.gt_word_table.specs.Rule.{IsHeader, Layout, Shows, ShowsEntry, header_now, header_place, place}
+use Rattle.gt_word_table.specs.Steps.{on_entry}
+use Rattle.gt_word_table.specs.Views.{entry_steps, last_record, steps_on, steps_on_header, with_step}
+use Rattle.gt_word_table.specs.declared.view.EntryStep.{EntryStep}
+use Rattle.gt_word_table.specs.declared.view.SeatStep.{SeatStep}
+use Rattle.gt_word_table.specs.declared.view.View.{View}
 use Rattle.gt_types.specs.declared.limits.TheConstants.{TABLE_ENTRIES}
 
 -- the view after one more step on an entry
@@ -35,10 +36,6 @@ inside n t r j a b c = omega arith
 
 pub steps_on-added : (past : StepHistory) (t r : ℕ) (m : EntryStep) (v : View) → steps_on t r (added past t r m v) ≡ m ∷ steps_on t r v
 steps_on-added past t r m v = let b : ((t == t) && (r == r)) ≡ true = λ i. eq-eqb t t refl i && eq-eqb r r refl i in ap (λ (z : Bool). cond z (m ∷ steps_on t r v) (steps_on t r v)) b
-
--- another entry
-pub apart_test : (t r t' r' : ℕ) → (t ≡ t' → r ≡ r' → ⊥) → ((t == t') && (r == r')) ≡ false
-apart_test t r t' r' n = dite (ℕ_discrete t t') (λ e. let f : r ≢ r' = n e in λ i. eq-eqb t t' e i && ne_eqb r r' f i) (λ e. λ i. ne_eqb t t' e i && (r == r'))
 
 pub steps_on-added-else : (past : StepHistory) (t r : ℕ) (m : EntryStep) (v : View) (t' r' : ℕ) → (t ≡ t' → r ≡ r' → ⊥) → steps_on t' r' (added past t r m v) ≡ steps_on t' r' v
 steps_on-added-else past t r m v t' r' n = ap (λ (z : Bool). cond z (m ∷ steps_on t' r' v) (steps_on t' r' v)) (apart_test t r t' r' n)

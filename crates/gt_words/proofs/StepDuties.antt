@@ -29,28 +29,29 @@ use Rattle.gt_words.specs.Conditions.{HasLooked, Holds, IsIdleOf, MayPin}
 use Rattle.gt_entry.specs.Permits.{is_copying}
 use Rattle.gt_types.specs.declared.DomId.{DomId}
 use Rattle.std.proofs.lemmas.Bool.{and_parts}
-use Rattle.gt_words.specs.Controls.{ForwardsPin, IsValid, PermitsPin, demoted_word, generation_of, invalid_word}
-use Rattle.gt_words.specs.Controls.{pins_in, promoted_word, withdrawn_word}
-use Rattle.gt_words.specs.Events.{IsByOwner}
-use Rattle.gt_words.specs.History.{IsOfRecord, SaysFound, owner_steps, left_on_entry, word_place_of, word_on}
-use Rattle.gt_words.specs.Rule.{id_at, IsRecord, Layout, Shows, ShowsEntry, place, total_pins}
-use Rattle.gt_words.specs.Steps.{StepKind, TakesStep, changed, entry_kind, exchanging, half_index, half_of, looking}
-use Rattle.gt_words.specs.Steps.{missed, reading, storing, taken, tells, tells_stored, unpinning}
+use Rattle.gt_word_table.specs.Controls.{ForwardsPin, IsValid, PermitsPin, demoted_word, generation_of, invalid_word}
+use Rattle.gt_word_table.specs.Controls.{pins_in, promoted_word, withdrawn_word}
+use Rattle.gt_word_table.specs.Events.{IsByOwner}
+use Rattle.gt_word_table.specs.History.{IsOfRecord, SaysFound, owner_steps, left_on_entry, word_place_of, word_on}
+use Rattle.gt_word_table.specs.Rule.{id_at, IsRecord, Layout, Shows, ShowsEntry, place, total_pins}
+use Rattle.gt_word_table.specs.Steps.{StepKind, TakesStep, changed, entry_kind, exchanging, half_index, looking}
+use Rattle.gt_word_table.specs.Steps.{missed, reading, storing, taken, tells, unpinning}
 use Rattle.gt_words.specs.Sight.{SawRecord}
-use Rattle.gt_words.specs.Views.{earlier_records, invalid_at, last_of, last_record, last_seen, live_pins, record_seen}
-use Rattle.gt_words.specs.Views.{seen}
-use Rattle.gt_words.specs.Views.{steps_on, stored_body, with_step}
+use Rattle.gt_word_table.specs.Views.{earlier_records, invalid_at, last_of, last_record, last_seen, live_pins}
+use Rattle.gt_word_table.specs.Views.{record_seen}
+use Rattle.gt_word_table.specs.Views.{seen}
+use Rattle.gt_word_table.specs.Views.{steps_on, stored_body, with_step}
 use Rattle.gt_entry.specs.declared.change.EntryChange.{EntryChange}
-use Rattle.gt_words.specs.declared.view.EntryStep.{EntryStep}
-use Rattle.gt_words.specs.declared.view.EntryStep.TheVariants.{Changed, Looked, ReadBody, StoredBody, Unpinned}
+use Rattle.gt_word_table.specs.declared.view.EntryStep.{EntryStep}
+use Rattle.gt_word_table.specs.declared.view.EntryStep.TheVariants.{Changed, Looked, ReadBody, StoredBody, Unpinned}
 use Rattle.gt_entry.specs.declared.change.BodyWord.{BodyWord}
 use Rattle.gt_entry.specs.declared.change.BodyWord.TheVariants.{First, Second}
-use Rattle.gt_words.specs.declared.view.Purpose.{Purpose}
-use Rattle.gt_words.specs.declared.view.EntryRecord.{EntryRecord}
-use Rattle.gt_words.specs.declared.view.View.{View}
-use Rattle.gt_words.specs.declared.word_table.TheConstants.{DOMAIN_WORDS}
+use Rattle.gt_word_table.specs.declared.view.Purpose.{Purpose}
+use Rattle.gt_word_table.specs.declared.view.EntryRecord.{EntryRecord}
+use Rattle.gt_word_table.specs.declared.view.View.{View}
+use Rattle.gt_word_table.specs.declared.rule.TheConstants.{DOMAIN_WORDS}
 use Rattle.gt_entry.specs.declared.change.EntryChange.TheVariants as change
-use Rattle.gt_words.specs.declared.view.Purpose.TheVariants as purpose
+use Rattle.gt_word_table.specs.declared.view.Purpose.TheVariants as purpose
 use Rattle.gt_types.specs.declared.limits.TheConstants.{LAST_GENERATION, MAX_PINS, TABLE_ENTRIES}
 
 -- a step is allowed that leaves words and views which show the state that its event makes
@@ -171,9 +172,6 @@ may_write k t r v x (inr (inr o)) = permits_write x.entry (id_at k.ids o.owner) 
 by_cases : (n old : ℕ) (F : Bool → Type 0) → (n ≡ old → F true) → (n ≢ old → F false) → F (n == old)
 by_cases n old F hit miss = dite (ℕ_discrete n old) (λ e. subst F (sym (eq-eqb n old e)) (hit e)) (λ ne. subst F (sym (ne_eqb n old ne)) (miss ne))
 
-pub stored_owes : {S : Type 0} {k : Layout} {slots id : ℕ} {me : Me S View} (d : StepKind) (i : ℕ) (f : ℕ → ℕ) (st : TableStep S) → Allows (Shows k) slots id me i f (tells d st me) → Allows (Shows k) slots id me i f (λ _. tells_stored d st me)
-stored_owes d i f st owed s shown len at fits = let z = owed s shown len at fits in (z.0, z.1, z.2, z.3, (get_or s.words i 0, z.4))
-
 -- the generation in the control word of a record in range
 pub spelled_generation : (x : EntryRecord) (word reads writes : ℕ) → IsRecord x → (reads < 4096) × (writes < 4096) → word ≡ word_of x.entry x.generation reads writes → word / 17592186044416 ≡ x.generation
 spelled_generation x word reads writes ok in_range is = ap generation_of is ∙ (spelled_parts x.entry x.generation reads writes ok.0 in_range).generation
@@ -188,12 +186,9 @@ module _ {S : Type 0} (k : Layout) (slots id : ℕ) (me : Me S View) (t r : ℕ)
   read_second_owes : Allows (Shows k) slots id me (place t r 2) (λ n. n) (tells (reading k t r Second) (step slots (place t r 2) 0 0 none) me)
   read_second_owes = second_owes k t r (λ n. ReadBody Second n) (λ n. n) slots id me (λ n. n) (step slots (place t r 2) 0 0 none) tn rn refl (λ n. refl) (λ n. (refl, refl, refl)) (λ w a b hs z. (entry_reads k.first t hs id _ z.1 w a b z.0 Second b, tt, tt))
 
-  pub read_owes : (h : BodyWord) (i : ℕ) → i ≡ half_index h → Allows (Shows k) slots id me (place t r i) (λ n. n) (tells (reading k t r (half_of i)) (step slots (place t r i) 0 0 none) me)
-  read_owes h i e = subst (λ (u : ℕ). Allows (Shows k) slots id me (place t r u) (λ n. n) (tells (reading k t r (half_of u)) (step slots (place t r u) 0 0 none) me)) (sym e) (at_half h)
-    where
-      at_half : (h : BodyWord) → Allows (Shows k) slots id me (place t r (half_index h)) (λ n. n) (tells (reading k t r (half_of (half_index h))) (step slots (place t r (half_index h)) 0 0 none) me)
-      at_half First = read_first_owes
-      at_half Second = read_second_owes
+  pub read_owes : (h : BodyWord) → Allows (Shows k) slots id me (place t r (half_index h)) (λ n. n) (tells (reading k t r h) (step slots (place t r (half_index h)) 0 0 none) me)
+  read_owes First = read_first_owes
+  read_owes Second = read_second_owes
 
   -- a pin stores one more
   abbrev StoresPin : Purpose → ℕ → ℕ → Type 0
@@ -232,9 +227,9 @@ module _ {S : Type 0} (k : Layout) (slots id : ℕ) (me : Me S View) (t r : ℕ)
   lowered Read w a b = omega arith
   lowered Write w a b = omega arith
 
-  pub unpin_owes : (d : Dir) (g one : ℕ) → one ≡ unit_of d → Holds t r d g me.0
-      → Allows (Shows k) slots id me (place t r 0) (λ n. (n + (2 ^ 64 - one)) % 2 ^ 64) (tells (unpinning k t r d g) (step slots (place t r 0) one 0 none) me)
-  unpin_owes d g one is holds = control_owes k t r (λ n. Unpinned d g) (λ n. (n + (2 ^ 64 - unit_of d)) % 2 ^ 64) slots id me (λ n. (n + (2 ^ 64 - one)) % 2 ^ 64) (step slots (place t r 0) one 0 none) tn rn refl (λ n. ap (λ (u : ℕ). (n + (2 ^ 64 - u)) % 2 ^ 64) is) (λ n. (refl, refl, tt))
+  pub unpin_owes : (d : Dir) (g : ℕ) → Holds t r d g me.0
+      → Allows (Shows k) slots id me (place t r 0) (λ n. (n + (2 ^ 64 - unit_of d)) % 2 ^ 64) (tells (unpinning k t r d g) (step slots (place t r 0) 0 0 none) me)
+  unpin_owes d g holds = control_owes k t r (λ n. Unpinned d g) (λ n. (n + (2 ^ 64 - unit_of d)) % 2 ^ 64) slots id me (λ n. (n + (2 ^ 64 - unit_of d)) % 2 ^ 64) (step slots (place t r 0) 0 0 none) tn rn refl (λ n. refl) (λ n. (refl, refl, tt))
       (λ w a b hs z fits. let p = there_is d g (live_pins (steps_on t r me.0)) holds in (
         subst (λ (u : ℕ × ℕ). ShowsEntry k.first t u.0 a b (set hs id (Unpinned d u.1 ∷ steps_on t r me.0)))
             (λ i. (lowered d w (pin_counted k.first t hs id (steps_on t r me.0) z.1 w a b z.0 d p.0 p.1 p.2) fits i, p.3 i))
@@ -255,20 +250,17 @@ module _ {S : Type 0} (k : Layout) (slots id : ℕ) (me : Me S View) (t r : ℕ)
     last_is : me.0.first ≡ k.first → last_of r me.0 ≡ last_record k.first (steps_on t r me.0)
     last_is e = λ i. last_record (e i) (steps_on (own i) r me.0)
 
-    store_first_owes : (v : ℕ) → (last_of r me.0).entry ≡ Invalid → Allows (Shows k) slots id me (place t r 1) (λ _. v) (λ _. tells_stored (storing k t r First v) (step slots (place t r 1) v 0 none) me)
-    store_first_owes v none_yet = stored_owes (storing k t r First v) (place t r 1) (λ _. v) (step slots (place t r 1) v 0 none) (first_owes k t r (λ n. StoredBody First v) (λ n. v) slots id me (λ _. v) (step slots (place t r 1) v 0 none) tn rn refl (λ n. refl) (λ n. (refl, refl, tt))
-        (λ w a b hs z. (to_seat w v b hs (StoredBody First v) z.2 (entry_stores_first k.first t hs (steps_on t r me.0) (at_home hs z.1 z.2) w a b z.0 v (ap (λ (x : EntryRecord). x.entry) (sym (last_is z.3)) ∙ none_yet)), sym z.2 ∙ own, tt)))
+    store_first_owes : (v : ℕ) → (last_of r me.0).entry ≡ Invalid → Allows (Shows k) slots id me (place t r 1) (λ _. v) (tells (storing k t r First v) (step slots (place t r 1) v 0 none) me)
+    store_first_owes v none_yet = first_owes k t r (λ n. StoredBody First v) (λ n. v) slots id me (λ _. v) (step slots (place t r 1) v 0 none) tn rn refl (λ n. refl) (λ n. (refl, refl, tt))
+        (λ w a b hs z. (to_seat w v b hs (StoredBody First v) z.2 (entry_stores_first k.first t hs (steps_on t r me.0) (at_home hs z.1 z.2) w a b z.0 v (ap (λ (x : EntryRecord). x.entry) (sym (last_is z.3)) ∙ none_yet)), sym z.2 ∙ own, tt))
 
-    store_second_owes : (v : ℕ) → (last_of r me.0).entry ≡ Invalid → Allows (Shows k) slots id me (place t r 2) (λ _. v) (λ _. tells_stored (storing k t r Second v) (step slots (place t r 2) v 0 none) me)
-    store_second_owes v none_yet = stored_owes (storing k t r Second v) (place t r 2) (λ _. v) (step slots (place t r 2) v 0 none) (second_owes k t r (λ n. StoredBody Second v) (λ n. v) slots id me (λ _. v) (step slots (place t r 2) v 0 none) tn rn refl (λ n. refl) (λ n. (refl, refl, tt))
-        (λ w a b hs z. (to_seat w a v hs (StoredBody Second v) z.2 (entry_stores_second k.first t hs (steps_on t r me.0) (at_home hs z.1 z.2) w a b z.0 v (ap (λ (x : EntryRecord). x.entry) (sym (last_is z.3)) ∙ none_yet)), sym z.2 ∙ own, tt)))
+    store_second_owes : (v : ℕ) → (last_of r me.0).entry ≡ Invalid → Allows (Shows k) slots id me (place t r 2) (λ _. v) (tells (storing k t r Second v) (step slots (place t r 2) v 0 none) me)
+    store_second_owes v none_yet = second_owes k t r (λ n. StoredBody Second v) (λ n. v) slots id me (λ _. v) (step slots (place t r 2) v 0 none) tn rn refl (λ n. refl) (λ n. (refl, refl, tt))
+        (λ w a b hs z. (to_seat w a v hs (StoredBody Second v) z.2 (entry_stores_second k.first t hs (steps_on t r me.0) (at_home hs z.1 z.2) w a b z.0 v (ap (λ (x : EntryRecord). x.entry) (sym (last_is z.3)) ∙ none_yet)), sym z.2 ∙ own, tt))
 
-    pub store_owes : (h : BodyWord) (i v : ℕ) → i ≡ half_index h → (last_of r me.0).entry ≡ Invalid → Allows (Shows k) slots id me (place t r i) (λ _. v) (λ _. tells_stored (storing k t r (half_of i) v) (step slots (place t r i) v 0 none) me)
-    store_owes h i v e none_yet = subst (λ (u : ℕ). Allows (Shows k) slots id me (place t r u) (λ _. v) (λ _. tells_stored (storing k t r (half_of u) v) (step slots (place t r u) v 0 none) me)) (sym e) (at_half h)
-      where
-        at_half : (h : BodyWord) → Allows (Shows k) slots id me (place t r (half_index h)) (λ _. v) (λ _. tells_stored (storing k t r (half_of (half_index h)) v) (step slots (place t r (half_index h)) v 0 none) me)
-        at_half First = store_first_owes v none_yet
-        at_half Second = store_second_owes v none_yet
+    pub store_owes : (h : BodyWord) (v : ℕ) → (last_of r me.0).entry ≡ Invalid → Allows (Shows k) slots id me (place t r (half_index h)) (λ _. v) (tells (storing k t r h v) (step slots (place t r (half_index h)) v 0 none) me)
+    store_owes First v none_yet = store_first_owes v none_yet
+    store_owes Second v none_yet = store_second_owes v none_yet
 
     -- an exchange by the owner
     change_owes : (c : EntryChange) (old new : ℕ)

@@ -36,24 +36,25 @@ use Rattle.gt_words.specs.Answers.{LooksAtBody, LooksAtControl}
 use Rattle.gt_words.specs.Conditions.{MayPin}
 use Rattle.gt_words.specs.Answers.{MissesBusy, MissesChange, MissesPin, Pins, Publishes, Revokes}
 use Rattle.gt_words.specs.Answers.{StepsOnControl, StoresBody, Unpins}
-use Rattle.gt_words.specs.Controls.{IsTurnable, IsValid, generation_of, pins_in}
-use Rattle.gt_words.specs.History.{StepHistory, part_of}
-use Rattle.gt_words.specs.Rule.{IsRecord, Layout, ShowsEntry, ShowsRecord, Stands, owner_steps, place, total_pins}
+use Rattle.gt_word_table.specs.Controls.{IsTurnable, IsValid, generation_of, pins_in}
+use Rattle.gt_word_table.specs.History.{StepHistory, part_of}
+use Rattle.gt_word_table.specs.Rule.{IsRecord, Layout, ShowsEntry, ShowsRecord, Stands, owner_steps, place, total_pins}
 use Rattle.gt_words.specs.Sight.{SawRecord}
-use Rattle.gt_words.specs.Steps.{TakesStep, changed, changed_word, exchanging, half_index, half_of, missed, on_entry}
-use Rattle.gt_words.specs.Steps.{taken}
-use Rattle.gt_words.specs.Views.{IsAmong, LivePin, Seen, earlier_records, entry_steps, is_half, last_of, last_record}
-use Rattle.gt_words.specs.Views.{last_seen, own, own_body, pin_count, live_pins, record_seen, seen, steps_on}
-use Rattle.gt_words.specs.Views.{steps_on_header, stored_body, with_step}
+use Rattle.gt_word_table.specs.Steps.{TakesStep, changed, changed_word, exchanging, half_index, missed, on_entry}
+use Rattle.gt_word_table.specs.Steps.{taken}
+use Rattle.gt_word_table.specs.Views.{IsAmong, LivePin, Seen, earlier_records, entry_steps, is_half, last_of}
+use Rattle.gt_word_table.specs.Views.{last_record}
+use Rattle.gt_word_table.specs.Views.{last_seen, own, own_body, pin_count, live_pins, record_seen, seen, steps_on}
+use Rattle.gt_word_table.specs.Views.{steps_on_header, stored_body, with_step}
 use Rattle.gt_entry.specs.declared.change.EntryChange.{EntryChange}
-use Rattle.gt_words.specs.declared.view.EntryStep.{EntryStep}
-use Rattle.gt_words.specs.declared.view.EntryStep.TheVariants.{ChangeMissed, Changed, Looked, PinMissed, Pinned}
-use Rattle.gt_words.specs.declared.view.EntryStep.TheVariants.{ReadBody, StoredBody, Unpinned}
+use Rattle.gt_word_table.specs.declared.view.EntryStep.{EntryStep}
+use Rattle.gt_word_table.specs.declared.view.EntryStep.TheVariants.{ChangeMissed, Changed, Looked, PinMissed, Pinned}
+use Rattle.gt_word_table.specs.declared.view.EntryStep.TheVariants.{ReadBody, StoredBody, Unpinned}
 use Rattle.gt_entry.specs.declared.change.BodyWord.{BodyWord}
 use Rattle.gt_entry.specs.declared.change.BodyWord.TheVariants.{First, Second}
-use Rattle.gt_words.specs.declared.view.Purpose.{Purpose}
-use Rattle.gt_words.specs.declared.view.EntryRecord.{EntryRecord}
-use Rattle.gt_words.specs.declared.view.View.{View}
+use Rattle.gt_word_table.specs.declared.view.Purpose.{Purpose}
+use Rattle.gt_word_table.specs.declared.view.EntryRecord.{EntryRecord}
+use Rattle.gt_word_table.specs.declared.view.View.{View}
 use Rattle.gt_entry.specs.declared.change.EntryChange.TheVariants.{Demote, Publish, Revoke}
 use Rattle.gt_types.specs.declared.limits.TheConstants.{TABLE_ENTRIES}
 
@@ -329,27 +330,23 @@ word_generation x word h = ap (λ (c : Control). c.generation) h.control ∙ of_
     of_entry (Sub d o f a n) = refl
     of_entry (Via d o t r) = refl
 
-half_is : (h : BodyWord) → half_of (half_index h) ≡ h
-half_is First = refl
-half_is Second = refl
-
 -- a body word was read
-pub reads_body : (k : Layout) (t r i : ℕ) (h : BodyWord) (n : ℕ) (v w : View) → i ≡ half_index h → (past : StepHistory) → w ≡ with_step past (on_entry t r (ReadBody (half_of i) n)) v
-    → TakesStep (Unit {0}) k v past (on_entry t r (ReadBody (half_of i) n)) (place t r i) n n → LooksAtBody k t r h n v w
-reads_body k t r i h n v w e past view step = let f : half_of i ≡ h = ap half_of e ∙ half_is h in let a = adds_to_entry past t r (ReadBody h n) v w (view ∙ ap (λ (u : BodyWord). with_step past (on_entry t r (ReadBody u n)) v) f) in
+pub reads_body : (k : Layout) (t r : ℕ) (h : BodyWord) (n : ℕ) (v w : View) → (past : StepHistory) → w ≡ with_step past (on_entry t r (ReadBody h n)) v
+    → TakesStep (Unit {0}) k v past (on_entry t r (ReadBody h n)) (place t r (half_index h)) n n → LooksAtBody k t r h n v w
+reads_body k t r h n v w past view step = let a = adds_to_entry past t r (ReadBody h n) v w view in
     let same = body_generation h n (seen (steps_on t r v)) in record {
-      steps = record { past = past; adds = a; step = subst (λ (u : ℕ × BodyWord). TakesStep (Unit {0}) k v past (on_entry t r (ReadBody u.1 n)) (place t r u.0) n n) (λ j. (e j, f j)) step };
+      steps = record { past = past; adds = a; step = step };
       keeps = keeps t r (ReadBody h n) v w a (record { lists = λ g ms. refl; last = λ g ms. refl; bodies = λ i ms. refl }) refl (omega (arith, same));
     }
 
 -- the owner stored a body word
-pub stores_body : (k : Layout) (t r i : ℕ) (h : BodyWord) (value found : ℕ) (v w : View) → v.position ≡ t → i ≡ half_index h → (past : StepHistory) → w ≡ with_step past (on_entry t r (StoredBody (half_of i) value)) v
-    → TakesStep (Unit {0}) k v past (on_entry t r (StoredBody (half_of i) value)) (place t r i) found value → StoresBody k r h value v w
-stores_body k t r i h value found v w own_is e past view step = let m : EntryStep = StoredBody h value in let f : half_of i ≡ h = ap half_of e ∙ half_is h in
-    let a : AddsToEntry past v.position r m v w = subst (λ (u : ℕ × BodyWord). AddsToEntry past u.0 r (StoredBody u.1 value) v w) (λ j. (sym own_is j, f j)) (adds_to_entry past t r (StoredBody (half_of i) value) v w view) in
+pub stores_body : (k : Layout) (t r : ℕ) (h : BodyWord) (value found : ℕ) (v w : View) → v.position ≡ t → (past : StepHistory) → w ≡ with_step past (on_entry t r (StoredBody h value)) v
+    → TakesStep (Unit {0}) k v past (on_entry t r (StoredBody h value)) (place t r (half_index h)) found value → StoresBody k r h value v w
+stores_body k t r h value found v w own_is past view step = let m : EntryStep = StoredBody h value in
+    let a : AddsToEntry past v.position r m v w = subst (λ (u : ℕ). AddsToEntry past u r m v w) (sym own_is) (adds_to_entry past t r m v w view) in
     let here : steps_on w.position r w ≡ m ∷ steps_on v.position r v = ap (λ (u : View). steps_on u.position r w) view ∙ a.here in record {
       found = found;
-      steps = record { past = past; adds = a; step = subst (λ (u : ℕ × ℕ × BodyWord). TakesStep (Unit {0}) k v past (on_entry u.0 r (StoredBody u.2 value)) (place u.0 r u.1) found value) (λ j. (sym own_is j, e j, f j)) step };
+      steps = record { past = past; adds = a; step = subst (λ (u : ℕ). TakesStep (Unit {0}) k v past (on_entry u r m) (place u r (half_index h)) found value) (sym own_is) step };
       stored = ap (stored_body h) here ∙ same h;
       other_half = λ i n. ap (stored_body i) here ∙ ap (λ (b : Bool). cond b value (stored_body i (steps_on v.position r v))) (not_same i h n);
       unchanged = ap (λ (u : View). own u.first (steps_on w.position r w)) view ∙ ap (own v.first) here;

@@ -1,23 +1,20 @@
 -- What calls ask of their caller.
-use Rattle.std.specs.Prelude.{◌≡◌, ◌≢◌, ◌⊎◌, ℕ, ◌*◌, ◌<◌, ◌≤◌, Bool, true, false, [], length, Some, slice_index}
+use Rattle.std.specs.Prelude.{◌≡◌, ◌≢◌, ◌⊎◌, ℕ, ◌<◌, ◌≤◌, Bool, true, false, [], length, Some, slice_index}
 use Rattle.gt_words.specs.Prelude.{some, get_elem?, State, TableId, is_read_only, IsSpelled, control_with, idle_word_of}
 use Rattle.gt_words.specs.Prelude.{word_of, control_of, Entry, Invalid, Header, Dir, Read, Write, DomId, GrantRef}
-use Rattle.gt_words.specs.Prelude.{LAST_GENERATION, MAX_DOMAINS, MAX_PINS, TABLE_ENTRIES, DOMAIN_WORDS, EntryChange, First}
+use Rattle.gt_words.specs.Prelude.{Config, IsWithinLimits, LAST_GENERATION, MAX_PINS, TABLE_ENTRIES}
+use Rattle.gt_words.specs.Prelude.{EntryChange, First}
 use Rattle.gt_words.specs.Prelude.{Second, EntryRecord, View, Demote, Promote, Publish, Revoke, Withdraw}
-use Rattle.gt_words.specs.Controls.{ForwardsPin, IsValid, LeadsTo, PermitsPin, generation_of, pins_in}
+use Rattle.gt_word_table.specs.Controls.{ForwardsPin, IsValid, LeadsTo, PermitsPin, generation_of, pins_in}
 pub use Rattle.gt_words.specs.Keeping.{Holds, HoldsOneMore, Keeps, KeepsOtherRows, KeepsPins, KeepsRecords, KeepsRows}
 pub use Rattle.gt_words.specs.Keeping.{SeesNoEarlier, seen_generation}
-use Rattle.gt_words.specs.History.{StepHistory, part_of}
-use Rattle.gt_words.specs.Rule.{Layout, Shows, id_at, place, position_in}
-pub use Rattle.gt_words.specs.Rule.{initial}
-use Rattle.gt_words.specs.Views.{HasBody, IsAmong, entry_steps, LivePin, last_of, last_seen, own_body, pin_count}
-use Rattle.gt_words.specs.Views.{live_pins}
-use Rattle.gt_words.specs.Views.{record_seen, seen, steps_on}
-
--- what clauses see of the words: which table of words it is, and the run that it serves
-pub record Board : Type 0 where
-  pub table : TableId
-  pub layout : Layout
+use Rattle.gt_word_table.specs.History.{StepHistory, part_of}
+use Rattle.gt_word_table.specs.Rule.{Layout, Shows, id_at, layout_of, place, position_in}
+pub use Rattle.gt_word_table.specs.Rule.{initial}
+pub use Rattle.gt_word_table.specs.Places.{Board, IsWide}
+use Rattle.gt_word_table.specs.Views.{HasBody, IsAmong, entry_steps, LivePin, last_of, last_seen, own_body, pin_count}
+use Rattle.gt_word_table.specs.Views.{live_pins}
+use Rattle.gt_word_table.specs.Views.{record_seen, seen, steps_on}
 
 -- what clauses see of a seat: the table of words that it is of, its domain and its view
 pub record SeatOf : Type 0 where
@@ -31,6 +28,10 @@ pub record IsSeatOf (b : Board) (s : SeatOf) : Type 0 where
   pub inside : s.view.position < length b.layout.ids
   pub named : id_at b.layout.ids s.view.position ≡ s.dom
   pub ids : s.view.ids ≡ b.layout.ids
+
+-- the run is that of a configuration within the limits
+abbrev pub IsOfRun : Layout → Type 0
+IsOfRun k = (c : Config) × IsWithinLimits c × (k ≡ layout_of c)
 
 -- the place of the domain among those of the run
 abbrev pub position_at : Board → DomId → ℕ
@@ -60,10 +61,6 @@ pub record IsSameSeat (s s' : SeatOf) : Type 0 where
   pub first : s'.view.first ≡ s.view.first
   pub headers : s'.view.headers ≡ s.view.headers
   pub ids : s'.view.ids ≡ s.view.ids
-
--- there are so many words for each domain, and no more domains than there may be
-abbrev pub IsWide : ℕ → Layout → Type 0
-IsWide words k = (words ≡ k.domains * DOMAIN_WORDS) × (k.domains ≤ MAX_DOMAINS)
 
 -- the word has the owner's part and the generation of this record, and some pins:
 -- so it says kind, readonly, domain, generation and counts

@@ -1,24 +1,26 @@
 -- What follows from the definitions, for callers.
-use Rattle.std.specs.Prelude.{◌≡◌, ◌≢◌, ◌⊎◌, ℕ, ◌+◌, ◌*◌, ◌<◌, ◌≤◌, AllPairs, ◌==◌, not, cond, Bool, true, false, List}
+use Rattle.std.specs.Prelude.{◌≡◌, ◌≢◌, ◌⊎◌, ℕ, ◌+◌, ◌<◌, ◌≤◌, AllPairs, ◌==◌, not, cond, Bool, true, false, List}
 use Rattle.std.specs.Prelude.{[], ◌∷◌, ◌++◌, map, length, zero, suc, Option, Some, None, position, unwrap_or, nat_lt}
 use Rattle.std.specs.Prelude.{IsSome, slice_index}
 use Rattle.gt_words.specs.Prelude.{arith, inl, inr, ⊎_elim, get_or, eq-eqb, ne_eqb, refl, sym, ap, ◌∙◌, subst}
-use Rattle.gt_words.specs.Prelude.{position_or_len, lt-ltb, nat_tests, position-Some, some, get_elem?, Allows, Me}
+use Rattle.gt_words.specs.Prelude.{position_or_len, lt-ltb, nat_tests, position-Some, some, get_elem?}
 use Rattle.gt_words.specs.Prelude.{State, keeps, stepped, at_map, Entry, Invalid, IsWithinLimits, domain_of, DomId}
 use Rattle.gt_words.specs.Prelude.{Config, DomainConfig, TABLE_ENTRIES, Dir, EntryRecord, EntryStep, Pinned, SeatStep}
-use Rattle.gt_words.specs.Prelude.{View, DOMAIN_WORDS}
+use Rattle.gt_words.specs.Prelude.{View}
 use Rattle.gt_words.specs.Conditions.{Board, HasDomain, IsSeatOf, SeatOf, position_at}
 use Rattle.gt_words.specs.Answers.{Publishes, Revokes}
-use Rattle.gt_words.specs.Controls.{generation_of, pins_in}
-use Rattle.gt_words.specs.Events.{TookPlace}
-use Rattle.gt_words.specs.History.{StepHistory, IsOwners, PinsLast, SaysWord, word_place_of}
-use Rattle.gt_words.specs.Rule.{IsLawful, IsNextEntry, IsRevocation, Layout, Shows, header_place, id_at}
-use Rattle.gt_words.specs.Rule.{layout_of, owner_steps, place, position_in}
+use Rattle.gt_word_table.specs.Controls.{generation_of, pins_in}
+use Rattle.gt_word_table.specs.Events.{TookPlace}
+use Rattle.gt_word_table.specs.History.{StepHistory}
+pub use Rattle.gt_word_table.specs.Order.{AllowedStepsSayWhatIsThere, HistoryIsOne, StepsAreTakenThen}
+use Rattle.gt_word_table.specs.Rule.{IsLawful, IsNextEntry, IsRevocation, Layout, Shows, header_place, id_at}
+use Rattle.gt_word_table.specs.Rule.{layout_of, owner_steps, place, position_in}
 use Rattle.gt_words.specs.Sight.{SawRecord}
-use Rattle.gt_words.specs.Steps.{on_entry}
-use Rattle.gt_words.specs.Views.{IsAmong, LivePin, earlier_records, exchanged, last_of, last_record, live_pins, seen}
-use Rattle.gt_words.specs.Views.{steps_on}
-use Rattle.gt_words.specs.Views.{with_step}
+use Rattle.gt_word_table.specs.Steps.{on_entry}
+use Rattle.gt_word_table.specs.Views.{IsAmong, LivePin, earlier_records, exchanged, last_of, last_record, live_pins}
+use Rattle.gt_word_table.specs.Views.{seen}
+use Rattle.gt_word_table.specs.Views.{steps_on}
+use Rattle.gt_word_table.specs.Views.{with_step}
 
 -- a domain is one of the run exactly if the configuration has it
 abbrev pub DomainsAreOfRun : Type 0
@@ -100,41 +102,12 @@ WordsFollowViews = (k : Layout) (s z : State (Unit {0}) View) → Shows k s → 
     → slice_index s.words (place t r j) ≡ slice_index z.words (place t r j))
     × ((t : ℕ) → t < k.domains → slice_index s.words (header_place t) ≡ slice_index z.words (header_place t))
 
--- a step that leads from a state that words and views show to another such state is taken then: it comes right after all
--- steps before it, its seat knows them, it says the word that is there, it stores or changes only its own,
--- and it takes a pin only of the last record
-abbrev pub StepsAreTakenThen : Type 0
-StepsAreTakenThen =
-    (k : Layout) (s : State (Unit {0}) View) (i : ℕ) (v : View) (x : SeatStep) (past : StepHistory) (at left : ℕ)
-    (shown : Shows k s) (after : Shows k (stepped s at left i [] (with_step past x v) keeps))
-    → get_elem? s.views i ≡ some v
-    → (past ≡ shown.history) × (after.history ≡ (i, x) ∷ shown.history) × IsOwners i x
-    × PinsLast k shown.history x × (word_place_of x < k.domains * DOMAIN_WORDS
-    → SaysWord x (slice_index s.words (word_place_of x)))
-
--- if a raw step of the table is allowed that adds the step x to its seat's view, by the number found, x says the word
--- that is there, in every state that words and views show: so no body tells a step of a word that it did not find
-abbrev pub AllowedStepsSayWhatIsThere : Type 0
-AllowedStepsSayWhatIsThere =
-    (k : Layout) (slots id : ℕ) (me : Me (Unit {0}) View) (at : ℕ) (f : ℕ → ℕ) (x : ℕ → SeatStep)
-    (s : State (Unit {0}) View) → Shows k s
-    → Allows (Shows k) slots id me at f (λ n m. (past : StepHistory) × (m.0 ≡ with_step past (x n) me.0))
-    → length s.homes ≡ slots → get_elem? s.views id ≡ some me.0 → slice_index s.words at < 18446744073709551616
-    → let step : SeatStep = x (slice_index s.words at) in
-    word_place_of step < k.domains * DOMAIN_WORDS → SaysWord step (slice_index s.words (word_place_of step))
-
 -- each step x of the history, by the seat i after the steps h, was taken at that moment
 abbrev pub EachStepHappened : Type 0
 EachStepHappened =
     (k : Layout) (s : State (Unit {0}) View) (later h : StepHistory) (i : ℕ) (x : SeatStep) (shown : Shows k s)
     → shown.history ≡ later ++ (i, x) ∷ h
     → TookPlace k i (h, x)
-
--- what words and views show has one history, by the views only
-abbrev pub HistoryIsOne : Type 0
-HistoryIsOne =
-    (k : Layout) (s z : State (Unit {0}) View) (shown : Shows k s) (also : Shows k z) → s.views ≡ z.views
-    → shown.history ≡ also.history
 
 -- the list of records
 

@@ -1,14 +1,6 @@
-pub mod Controls
-pub mod Views
-pub mod History
 pub mod Sight
-pub mod Rule
-pub mod Events
-pub mod Steps
-pub mod Joining
 pub mod Keeping
 pub mod Answers
 pub mod Conditions
-pub mod Places
 pub mod Laws
 pub mod Prelude

@@ -1,7 +1,7 @@
 //! What follows from the definitions, for callers.
 ghost use Rattle.gt_words.specs.Laws.{DomainsAreOfRun, DomainsStandThere, PastPinsAreRefused, PinsAreOfEntries};
 ghost use Rattle.gt_words.specs.Laws.{AllowedStepsSayWhatIsThere, EachStepHappened, HistoryIsOne};
-ghost use Rattle.gt_words.specs.Joining.{HoldersLearn, SeatsJoin, StepsLift};
+ghost use Rattle.gt_word_table.specs.Joining.{HoldersLearn, SeatsJoin, StepsLift};
 ghost use Rattle.gt_words.specs.Laws.{NoPinOutlivesItsRecord, PinsHaveOneRecord};
 ghost use Rattle.gt_words.specs.Laws.{PinsLeftAreCounted, SeatPositionIsItsDomains};
 ghost use Rattle.gt_words.specs.Laws.{StepsAreTakenThen, WhatWasSeenIsListed, WordsFollowViews};

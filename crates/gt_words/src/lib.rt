@@ -9,16 +9,18 @@
 //! of all domains have one order. At run time views and steps cost nothing. No call but `Words::new` takes memory, and
 //! none waits.
 //!
-//! It uses `atomic_table`, whose rule is `Shows` of specs/Rule.antt, the words of `gt_entry`, and
+//! It uses `gt_word_table`, which has the table and its single steps, the words of `gt_entry`, and
 //! `gt_roster`, which finds domains by their numbers.
 #![tactic(auto)]
 
+mod calls;
 mod laws;
 mod start;
-mod view;
-mod word_table;
 mod words;
 
+pub use gt_word_table::{
+    EntryRecord, EntryStep, FrameStep, Gathered, HeaderStep, Outlook, Purpose, SeatStep, View,
+};
 pub use laws::{
     every_allowed_step_says_what_is_there, every_domain_has_its_position,
     every_domain_is_of_the_run, every_history_follows_from_the_views, every_pin_is_of_an_entry,
@@ -27,5 +29,4 @@ pub use laws::{
     no_pin_is_taken_of_a_past_record, no_pin_outlives_its_record,
     pins_of_one_generation_have_one_record,
 };
-pub use view::{EntryRecord, EntryStep, FrameStep, HeaderStep, Outlook, Purpose, SeatStep, View};
-pub use words::{Gathered, Pin, Seat, Words};
+pub use words::{Pin, Seat, Words};

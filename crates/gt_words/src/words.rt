@@ -4,10 +4,10 @@ ghost use Rattle.std.specs.Prelude.{position, ◌==◌, true};
 ghost use Rattle.gt_types.specs.Config.{IsWithinLimits};
 ghost use Rattle.gt_entry.specs.Words.{header_word};
 ghost use Rattle.gt_entry.specs.Entries.{IsEntry};
-ghost use Rattle.gt_words.specs.Controls.{generation_of};
-ghost use Rattle.gt_words.specs.Views.{own_header, own_table, last_of};
-ghost use Rattle.gt_words.specs.Rule.{layout_of, position_in, IsKeptHeader};
-ghost use Rattle.gt_words.specs.Conditions.{Board, SeatOf, IsSeatOf, IsSameSeat, HasDomain};
+ghost use Rattle.gt_word_table.specs.Controls.{generation_of};
+ghost use Rattle.gt_word_table.specs.Views.{own_header, own_table, last_of};
+ghost use Rattle.gt_word_table.specs.Rule.{layout_of, position_in, IsKeptHeader};
+ghost use Rattle.gt_words.specs.Conditions.{Board, SeatOf, IsOfRun, IsSeatOf, IsSameSeat, HasDomain};
 ghost use Rattle.gt_words.specs.Answers.{IsNewSeat, IsStartFault};
 ghost use Rattle.gt_words.specs.Conditions.{IsEntryOf, position_at, with_version, with_frames, IsWordOf, Holds};
 ghost use Rattle.gt_words.specs.Conditions.{CanPin, CanPublish, CanRevoke, CanWithdraw, CanDemote, CanTurn, CountsPins};
@@ -15,12 +15,12 @@ ghost use Rattle.gt_words.specs.Answers.{LooksAtHeader, LooksAtControl, LooksAtB
 ghost use Rattle.gt_words.specs.Answers.{UnpinsPin, Pins, MissesPin, Changes, MissesChange, MissesBusy, Revokes};
 ghost use Rattle.gt_words.specs.Answers.{Demotes, Publishes};
 
-use crate::start::{deal_seats, first_words};
-use crate::word_table::{TableSeat, WordTable};
-use atomic_table::Table;
-use gt_entry::{BodyWord, Control, Entry, EntryChange, Header};
+use crate::calls;
+use crate::start::deal_seats;
+use gt_entry::{EntryChange, Control, Entry, BodyWord, Header};
 use gt_roster::Positions;
 use gt_types::{Config, Dir, DomId, GrantRef, MAX_TABLE_FRAMES, StartFault, TABLE_ENTRIES};
+use gt_word_table::{EntryAt, Gathered, TableSeat, WordTable};
 use std::alloc::{AllocError, Global};
 use std::marker::Model;
 
@@ -45,12 +45,11 @@ pub struct Seat {
 impl Model for Seat {
     ghost Value = { SeatOf };
 
-    ghost view = { λ s. record { table = s.place.table_id; dom = s.dom; view = s.place.me.0.own } };
+    ghost view = { λ s. record { table = s.place.table; dom = s.dom; view = s.place.view } };
 
-    ghost invariant = { λ s. (s.place.me.1 ≡ []) × (s.place.me.0.gone ≡ false) × (s.place.me.0.taken ≡ [])
-        × (s.place.me.0.own.position ≡ s.position)
-        × (own_header s.place.me.0.own ≡ header_word s.header) × IsKeptHeader s.header
-        × (s.found.position ≡ position_in s.place.me.0.own.ids s.found.dom) };
+    ghost invariant = { λ s. (s.place.view.position ≡ s.position)
+        × (own_header s.place.view ≡ header_word s.header) × IsKeptHeader s.header
+        × (s.found.position ≡ position_in s.place.view.ids s.found.dom) };
 }
 
 impl Seat {
@@ -78,24 +77,6 @@ impl Seat {
     }
 }
 
-/// Seats whose steps are all made, of one run, the first domain's among them.
-#[derive(Drop)]
-pub struct Gathered {
-    pub(crate) place: TableSeat,
-}
-
-impl Model for Gathered {
-    ghost use Rattle.std.specs.Prelude.{◌≡◌, ◌∷◌, [], false};
-    ghost use Rattle.gt_words.specs.Joining.{GatheredOf};
-
-    ghost Value = { GatheredOf };
-
-    ghost view = { λ g. record { table = g.place.table_id; views = g.place.me.0.own ∷ g.place.me.0.taken } };
-
-    ghost invariant = { λ g. (g.place.me.1 ≡ []) × (g.place.me.0.gone ≡ false)
-        × (g.place.me.0.own.position ≡ 0) };
-}
-
 /// The words of all entries and headers of a run.
 #[derive(Drop)]
 pub struct Words {
@@ -106,13 +87,9 @@ pub struct Words {
 impl Model for Words {
     ghost Value = { Board };
 
-    ghost view = { λ w. record {
-      table = w.words.table.shared.table_id;
-      layout = layout_of w.words.table.shared.key;
-    } };
+    ghost view = { λ w. w.words };
 
-    ghost invariant = { λ w. (w.ids ≡ (layout_of w.words.table.shared.key).ids)
-        × IsWithinLimits w.words.table.shared.key };
+    ghost invariant = { λ w. (w.ids ≡ w.words.layout.ids) × IsOfRun w.words.layout };
 }
 
 /// A pin that a seat holds: of which entry, the control word that was looked at, and its kind.
@@ -182,7 +159,7 @@ impl Words {
         ensures look { LooksAtHeader self.now.layout (position_at self.now dom) result seat.old.view seat.new.view }
     {
         let at = self.position(seat, dom);
-        self.words.load_header(&mut seat.place, at)
+        calls::load_header(&self.words, &mut seat.place, at)
     }
 
     /// The owner stores its header.
@@ -194,7 +171,7 @@ impl Words {
         ensures step { StoresHeader self.now.layout header seat.old.view seat.new.view }
     {
         let at = seat.position;
-        self.words.store_header(&mut seat.place, at, header);
+        calls::store_header(&self.words, &mut seat.place, at, header);
         seat.header = header;
     }
 
@@ -240,9 +217,11 @@ impl Words {
             seat.old.view seat.new.view }
         ensures own { dom ≡ seat.old.dom → IsWordOf (last_of gref.0 seat.new.view) result }
     {
-        let at = self.position(seat, dom);
-        self.words
-            .load_control(&mut seat.place, at, gref.0 as usize)
+        let at = EntryAt {
+            position: self.position(seat, dom),
+            gref: gref.0 as usize,
+        };
+        calls::load_control(&self.words, &mut seat.place, at)
     }
 
     /// A look at a body word of an entry.
@@ -254,9 +233,11 @@ impl Words {
         ensures look { LooksAtBody self.now.layout (position_at self.now dom) gref.0 half result
             seat.old.view seat.new.view }
     {
-        let at = self.position(seat, dom);
-        self.words
-            .load_body(&mut seat.place, at, gref.0 as usize, half)
+        let at = EntryAt {
+            position: self.position(seat, dom),
+            gref: gref.0 as usize,
+        };
+        calls::load_body(&self.words, &mut seat.place, at, half)
     }
 
     /// Takes a pin by one exchange from the control word of the last look, whose body words were read since.
@@ -283,9 +264,11 @@ impl Words {
             seat.old.view seat.new.view) }
         ensures counted { CountsPins self.now.layout (position_at self.now dom) gref.0 dir }
     {
-        let at = self.position(seat, dom);
-        self.words
-            .pin(&mut seat.place, at, gref.0 as usize, looked, dir)?;
+        let at = EntryAt {
+            position: self.position(seat, dom),
+            gref: gref.0 as usize,
+        };
+        calls::pin(&self.words, &mut seat.place, at, looked, dir)?;
         Ok(Pin {
             dom,
             gref,
@@ -303,15 +286,12 @@ impl Words {
         ensures fits { IsSeatOf self.now seat.new }
         ensures step { UnpinsPin self.now pin seat.old.view seat.new.view }
     {
-        let at = self.position(seat, pin.dom);
+        let at = EntryAt {
+            position: self.position(seat, pin.dom),
+            gref: pin.gref.0 as usize,
+        };
         let generation = u64::from(Control::unpack(pin.word).generation);
-        self.words.unpin(
-            &mut seat.place,
-            at,
-            pin.gref.0 as usize,
-            pin.dir,
-            generation,
-        );
+        calls::unpin(&self.words, &mut seat.place, at, pin.dir, generation);
     }
 
     /// The owner stores a body word of its invalid entry.
@@ -323,9 +303,11 @@ impl Words {
         ensures fits { IsSeatOf self.now seat.new }
         ensures step { StoresBody self.now.layout gref.0 half value seat.old.view seat.new.view }
     {
-        let at = seat.position;
-        self.words
-            .store_body(&mut seat.place, at, gref.0 as usize, half, value);
+        let at = EntryAt {
+            position: seat.position,
+            gref: gref.0 as usize,
+        };
+        calls::store_body(&self.words, &mut seat.place, at, half, value);
     }
 
     /// The owner publishes an entry whose body words it has stored, at the next generation, by one exchange from
@@ -344,9 +326,11 @@ impl Words {
             (λ _. Publishes self.now.layout gref.0 entry word seat.old.view seat.new.view)
             (λ n. MissesBusy self.now.layout gref.0 (EntryChange.Publish entry) word n seat.old.view seat.new.view) }
     {
-        let at = seat.position;
-        self.words
-            .grant(&mut seat.place, at, gref.0 as usize, word, entry)
+        let at = EntryAt {
+            position: seat.position,
+            gref: gref.0 as usize,
+        };
+        calls::grant(&self.words, &mut seat.place, at, word, entry)
     }
 
     /// The owner makes its entry invalid by one exchange from its idle word.
@@ -363,9 +347,11 @@ impl Words {
             (λ _. Revokes self.now.layout gref.0 word seat.old.view seat.new.view)
             (λ n. MissesBusy self.now.layout gref.0 EntryChange.Revoke word n seat.old.view seat.new.view) }
     {
-        let at = seat.position;
-        self.words
-            .revoke(&mut seat.place, at, gref.0 as usize, word)
+        let at = EntryAt {
+            position: seat.position,
+            gref: gref.0 as usize,
+        };
+        calls::revoke(&self.words, &mut seat.place, at, word)
     }
 
     /// The owner makes its entry invalid by one exchange from the word handed in, and leaves its pins: no more are
@@ -383,9 +369,11 @@ impl Words {
             (λ _. Changes self.now.layout gref.0 EntryChange.Withdraw word seat.old.view seat.new.view)
             (λ n. MissesChange self.now.layout gref.0 EntryChange.Withdraw word n seat.old.view seat.new.view) }
     {
-        let at = seat.position;
-        self.words
-            .withdraw(&mut seat.place, at, gref.0 as usize, word)
+        let at = EntryAt {
+            position: seat.position,
+            gref: gref.0 as usize,
+        };
+        calls::withdraw(&self.words, &mut seat.place, at, word)
     }
 
     /// The owner makes its writable entry read-only at the next generation, by one exchange from a
@@ -403,9 +391,11 @@ impl Words {
             (λ _. Demotes self.now.layout gref.0 word seat.old.view seat.new.view)
             (λ n. MissesChange self.now.layout gref.0 EntryChange.Demote word n seat.old.view seat.new.view) }
     {
-        let at = seat.position;
-        self.words
-            .demote(&mut seat.place, at, gref.0 as usize, word)
+        let at = EntryAt {
+            position: seat.position,
+            gref: gref.0 as usize,
+        };
+        calls::demote(&self.words, &mut seat.place, at, word)
     }
 
     /// The owner makes its read-only entry writable at the next generation, by one exchange from the word handed in.
@@ -422,15 +412,17 @@ impl Words {
             (λ _. Changes self.now.layout gref.0 EntryChange.Promote word seat.old.view seat.new.view)
             (λ n. MissesChange self.now.layout gref.0 EntryChange.Promote word n seat.old.view seat.new.view) }
     {
-        let at = seat.position;
-        self.words
-            .promote(&mut seat.place, at, gref.0 as usize, word)
+        let at = EntryAt {
+            position: seat.position,
+            gref: gref.0 as usize,
+        };
+        calls::promote(&self.words, &mut seat.place, at, word)
     }
 }
 
 impl Words {
     ghost use Rattle.std.specs.Prelude.{◌≡◌, ◌∷◌, []};
-    ghost use Rattle.gt_words.specs.Joining.{StandTogether, with_view};
+    ghost use Rattle.gt_word_table.specs.Joining.{StandTogether, with_view};
 
     /// Begins to gather the seats of a run, with the first domain's. A seat that is gathered makes no more steps.
     pub fn gather(&self, first: Seat) -> Gathered
@@ -438,7 +430,7 @@ impl Words {
         ensures { (result.table ≡ self.now.table) × (result.views ≡ first.view ∷ []) }
     {
         let Seat { place, .. } = first;
-        Gathered { place }
+        Gathered::new(place)
     }
 
     /// Adds a seat to those that are gathered.
@@ -447,7 +439,7 @@ impl Words {
         ensures { (all.new.table ≡ all.old.table) × (all.new.views ≡ with_view other.view all.old.views) }
     {
         let Seat { place, .. } = other;
-        self.words.take_in(&mut all.place, place);
+        self.words.take_in(all, place);
     }
 
     /// Looks at the table with all seats that are gathered: words and views show one state that has the views of them
@@ -457,7 +449,7 @@ impl Words {
         ensures same { all.new.views ≡ all.old.views }
         ensures together { StandTogether self.now.layout all.old.views }
     {
-        self.words.tell_views(&mut all.place);
+        self.words.tell_of_all(all);
     }
 }
 
@@ -469,10 +461,8 @@ fn make_words(alloc: Global, config: &Config) -> Result<(Words, Vec<Seat>), Allo
     ensures seats { IfOk result (λ r. (i : ℕ) → i < length config.now.domains.items
         → HoldsAt (λ s. IsNewSeat r.0 i s) r.1.items i) }
 {
-    let start = first_words(alloc, config)?;
+    let (words, first) = WordTable::new(alloc, config)?;
     let ids = Positions::new(alloc, config)?;
-    let (table, first) = Table::of_words(alloc, &start, config)?;
-    let words = WordTable { table };
     let seats = deal_seats(alloc, &words, config, first)?;
     Ok((Words { words, ids }, seats))
 }

@@ -1,6 +1,6 @@
 use Rattle.gt_frames.specs.Frames.{bytes_at}
-use Rattle.gt_words.specs.declared.view.FrameStep.{FrameStep}
-use Rattle.gt_words.specs.declared.view.FrameStep.TheVariants.{Copied}
+use Rattle.gt_word_table.specs.declared.view.FrameStep.{FrameStep}
+use Rattle.gt_word_table.specs.declared.view.FrameStep.TheVariants.{Copied}
 use Rattle.gt_shared_frames.specs.Rule.{places_of}
 use Rattle.gt_shared_frames.proofs.Facts.{bytes_again, frees_before, frees_out, is_right, returns_out}
 use Rattle.gt_shared_frames.proofs.accesses.copy_out.Goals as goal

@@ -2,7 +2,7 @@ use Rattle.gt_shared_frames.specs.Rule.{name_of, places_of}
 use Rattle.gt_shared_frames.specs.Telling.{left_by}
 use Rattle.std.proofs.Common.{[]}
 use Rattle.gt_frames.specs.Frames.{bytes_at}
-use Rattle.gt_words.specs.declared.view.FrameStep.TheVariants.{Copied, Read}
+use Rattle.gt_word_table.specs.declared.view.FrameStep.TheVariants.{Copied, Read}
 use Rattle.gt_shared_frames.proofs.accesses.copy_out.Given as goal
 
 abbrev pub ghosts-free_copied : goal.ghosts-free_copied

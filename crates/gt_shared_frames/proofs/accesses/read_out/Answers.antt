@@ -1,6 +1,6 @@
 use Rattle.std.proofs.Common.{ℕ, List, refl, ap, subst}
 use Rattle.gt_frames.specs.Receipts.{Reading}
-use Rattle.gt_words.specs.declared.view.FrameStep.TheVariants.{Read}
+use Rattle.gt_word_table.specs.declared.view.FrameStep.TheVariants.{Read}
 use Rattle.gt_shared_frames.specs.Rule.{name_of, places_of}
 use Rattle.gt_shared_frames.specs.Telling.{Frees, left_by}
 use Rattle.gt_shared_frames.proofs.Facts.{bytes_are, frees_before, frees_out}

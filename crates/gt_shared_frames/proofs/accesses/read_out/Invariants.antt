@@ -1,6 +1,6 @@
 use Rattle.gt_shared_frames.specs.Rule.{name_of, places_of}
 use Rattle.gt_shared_frames.specs.Telling.{left_by}
-use Rattle.gt_words.specs.declared.view.FrameStep.TheVariants.{Read}
+use Rattle.gt_word_table.specs.declared.view.FrameStep.TheVariants.{Read}
 use Rattle.gt_shared_frames.proofs.accesses.read_out.Given as goal
 
 abbrev pub ghosts-free_read : goal.ghosts-free_read

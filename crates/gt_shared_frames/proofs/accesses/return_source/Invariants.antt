@@ -1,7 +1,7 @@
 use Rattle.gt_shared_frames.specs.Rule.{name_of, places_of}
 use Rattle.gt_shared_frames.specs.Telling.{left_by}
 use Rattle.std.proofs.Common.{[]}
-use Rattle.gt_words.specs.declared.view.FrameStep.TheVariants.{Read}
+use Rattle.gt_word_table.specs.declared.view.FrameStep.TheVariants.{Read}
 use Rattle.gt_shared_frames.proofs.accesses.return_source.Given as goal
 
 abbrev pub ghosts-return_as_taken : goal.ghosts-return_as_taken

@@ -1,4 +1,4 @@
-use Rattle.gt_words.specs.declared.view.FrameStep.TheVariants.{Wrote}
+use Rattle.gt_word_table.specs.declared.view.FrameStep.TheVariants.{Wrote}
 use Rattle.gt_shared_frames.specs.Rule.{places_of}
 use Rattle.gt_shared_frames.proofs.Facts.{frees_before, frees_out, is_right, returns_out}
 use Rattle.gt_shared_frames.proofs.accesses.write_out.Goals as goal

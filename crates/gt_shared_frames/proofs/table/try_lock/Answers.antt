@@ -1,7 +1,7 @@
 use Rattle.std.proofs.Common.{ℕ, ◌==◌, sym, subst}
 use prog.Atomic.{either}
 use Rattle.atomic_table.specs.Table.{Allows}
-use Rattle.gt_words.proofs.Order.{within}
+use Rattle.gt_word_table.proofs.Order.{within}
 use Rattle.gt_shared_frames.specs.Rule.{HoldsAll, name_of, places_of}
 use Rattle.gt_shared_frames.specs.Telling.{Locks}
 use Rattle.gt_shared_frames.proofs.Steps.{locks}

@@ -1,4 +1,4 @@
-use Rattle.gt_words.specs.Rule.{layout_of}
+use Rattle.gt_word_table.specs.Rule.{layout_of}
 use Rattle.gt_shared_frames.specs.Rule.{name_of}
 use Rattle.gt_shared_frames.proofs.table.try_lock.Given as goal
 

@@ -1,15 +1,11 @@
 use Rattle.std.proofs.Common.{◌≡◌, ℕ, ◌+◌, ◌<◌, List, arith, length, get_or, ap, ◌∙◌, sym, refl, subst}
 use Rattle.atomic_table.specs.Seated.{TableId}
-use Rattle.atomic_table.specs.Table.{Me}
-use Rattle.gt_types.specs.declared.config.Config.{Config}
 use Rattle.gt_words.specs.Answers.{IsNewSeat}
 use Rattle.gt_words.specs.Conditions.{SeatOf}
-use Rattle.gt_words.specs.Places.{IsNewPlace}
-use Rattle.gt_words.specs.Rule.{layout_of}
-use Rattle.gt_words.specs.declared.view.Outlook.{Outlook}
+use Rattle.gt_word_table.specs.Places.{IsNewPlace, SeatAt}
+use Rattle.gt_word_table.specs.Rule.{Layout, layout_of}
 use Rattle.gt_words.proofs.SeatsDealt.{dealer_stays, dealt_is_new}
 use Rattle.gt_words.proofs.Lists.{one_behind, one_in_front}
-use Rattle.gt_words.proofs.Joining.{deals_so}
 use Rattle.gt_words.proofs.start.deal_seats.Goals as goal
 
 pub loop-at-init : goal.loop-at-init
@@ -20,22 +16,21 @@ loop-at-init c = let none = c.in_ok-seats.ensures.items in record {
   each = λ i inside. absurd (let e : length c.in_ok-seats.seats.items ≡ 0 = ap length none in omega arith);
 }
 
-pub split_seat-place-requires : goal.split_seat-place-requires
-split_seat-place-requires c = let i = c.loop-at.invariant in let b = c.args.words.now.table.shared in let wide = c.args.words.now.wide.0 in let test = c.loop-at-test.true in let len = c.len-count.ensures in
-    let same : length b.key.domains.items ≡ length c.args.config.now.domains.items = ap (λ (k : Config). length k.domains.items) c.requires.config.1 in
-    let dealt = i.dealt in (i.first.table, omega arith, deals_so (layout_of b.key) _ _ i.first.here i.first.taken i.first.position (omega arith))
+pub deal-place-requires-clause-room : goal.deal-place-requires-clause-room
+deal-place-requires-clause-room c = let i = c.loop-at.invariant in let test = c.loop-at-test.true in let len = c.len-count.ensures in
+    let same = ap (λ (k : Layout). k.domains) c.requires.config.1 in let dealt = i.dealt in omega arith
 
 pub new_seat-requires-clause-place : goal.new_seat-requires-clause-place
-new_seat-requires-clause-place c = let i = c.loop-at.invariant in dealt_is_new _ (layout_of c.args.config.now) 0 c.loop-at.at c.loop-at.first c.split_seat-place.result i.first i.dealt c.split_seat-place.ensures.4
+new_seat-requires-clause-place c = let i = c.loop-at.invariant in dealt_is_new _ (layout_of c.args.config.now) 0 c.loop-at.at c.loop-at.first c.deal-place.result i.first i.dealt c.deal-place.ensures.dealt
 
 pub loop-at-preserved : goal.loop-at-preserved
-loop-at-preserved c = let i = c.loop-at.invariant in let e = c.split_seat-place.ensures in let id = c.args.words.now.table.shared.table_id in let k = layout_of c.args.config.now in let seats = c.loop-at.seats.items in let seat = c.new_seat.result in
+loop-at-preserved c = let i = c.loop-at.invariant in let e = c.deal-place.ensures in let id = c.args.words.now.table in let k = layout_of c.args.config.now in let seats = c.loop-at.seats.items in let seat = c.new_seat.result in
     let items = c.in_ok-push.ensures.items in let len = c.in_ok-push.ensures.len in
-    let here = subst (λ (z : TableId). IsNewSeat (record { table = z; layout = k }) c.loop-at.at seat) (e.3 ∙ i.first.table) c.new_seat.ensures in
+    let here = subst (λ (z : TableId). IsNewSeat (record { table = z; layout = k }) c.loop-at.at seat) (ap (λ (s : SeatAt). s.table) e.dealt ∙ i.first.table) c.new_seat.ensures in
     let last = subst (λ (n : ℕ). IsNewSeat (record { table = id; layout = k }) n seat) (sym i.many) here in
     record {
-      first = dealer_stays id k 0 c.loop-at.first c.split_seat-place.new.seat i.first e.0 e.2;
-      dealt = ap (λ (m : Me (Unit {0}) Outlook). m.0.own.dealt) e.2 ∙ ap (λ (n : ℕ). n + 1) i.dealt;
+      first = dealer_stays id k 0 c.loop-at.first c.deal-place.new.first i.first e.dealer;
+      dealt = ap (λ (s : SeatAt). s.view.dealt) e.dealer ∙ ap (λ (n : ℕ). n + 1) i.dealt;
       many = let m = i.many in omega (arith, len);
       each = subst (λ (xs : List SeatOf). (j : ℕ) → j < length xs → (d : SeatOf) → IsNewSeat (record { table = id; layout = k }) (j + 1) (get_or xs j d)) (sym items) (λ j inside d. one_behind (λ n. IsNewSeat (record { table = id; layout = k }) (n + 1)) seat seats d (λ n l. i.each n l d) last j inside);
     }
@@ -44,7 +39,7 @@ pub new_seat-requires-2-clause-place : goal.new_seat-requires-2-clause-place
 new_seat-requires-2-clause-place c = let first = c.loop-at.invariant.first in subst (λ (z : TableId). IsNewPlace z (layout_of c.args.config.now) 0 c.loop-at.first) (sym first.table) first
 
 pub returns-clause-seats : goal.returns-clause-seats
-returns-clause-seats c = let k = layout_of c.args.config.now in let id = c.args.words.now.table.shared.table_id in let inv = c.loop-at.invariant in
+returns-clause-seats c = let k = layout_of c.args.config.now in let id = c.args.words.now.table in let inv = c.loop-at.invariant in
     let ended = c.loop-at-test.false in let len = c.len-count.ensures in let many = inv.many in let placed = c.in_ok-insert.ensures.by_index in
     let first = subst (λ (z : TableId). IsNewSeat (record { table = z; layout = k }) 0 c.new_seat-2.result) inv.first.table c.new_seat-2.ensures in
     one_in_front (IsNewSeat (record { table = id; layout = k })) c.new_seat-2.result c.loop-at.seats.items c.insert.new.self.items (length c.args.config.now.domains.items) first inv.each (omega arith) (λ d. placed.0 d refl) (λ j d more. placed.2 j d refl more)

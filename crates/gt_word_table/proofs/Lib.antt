@@ -1,0 +1,5 @@
+pub mod Order
+pub mod Moments
+pub mod Opens
+pub mod Joining
+pub mod Moving

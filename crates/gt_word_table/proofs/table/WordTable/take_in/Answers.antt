@@ -1,0 +1,16 @@
+use Rattle.std.proofs.Common.{sym, ap, ◌∙◌, refl, arith}
+use Rattle.gt_word_table.specs.Joining.{GatheredOf, gone_outlook}
+use Rattle.gt_word_table.specs.Places.{Board, SeatAt}
+use Rattle.gt_word_table.specs.Rule.{layout_of}
+use Rattle.gt_word_table.proofs.Joining.{join_any}
+use Rattle.gt_word_table.proofs.table.WordTable.take_in.Goals as goal
+
+pub join_seat-requires : goal.join_seat-requires
+join_seat-requires c = let wide = c.self.invariant.0 in let limits = c.self.invariant.1 in let some = limits.some in let all = c.all.invariant in let alone = c.other.invariant in
+    let table = sym (ap (λ (b : Board). b.table) c.self.view_is) in (
+      ap (λ (g : GatheredOf). g.table) c.all.view_is ∙ (c.requires.0 ∙ table),
+      ap (λ (s : SeatAt). s.table) c.other.view_is ∙ (c.requires.1 ∙ table),
+      alone.0,
+      omega arith,
+      join_any (layout_of c.self.inside.table.shared.key) _ _ _ _ gone_outlook all.2 all.1 alone.2 refl,
+    )

@@ -1,0 +1,11 @@
+pub mod Controls
+pub mod Views
+pub mod History
+pub mod Rule
+pub mod Events
+pub mod Steps
+pub mod Joining
+pub mod Places
+pub mod Moves
+pub mod Order
+pub mod Prelude

@@ -1,6 +1,0 @@
-use Rattle.gt_words.specs.Rule.{layout_of}
-use Rattle.gt_words.specs.Steps.{looking}
-use Rattle.gt_words.proofs.word_table.WordTable.load_control.Given as goal
-
-abbrev pub ghosts-load_word : goal.ghosts-load_word
-ghosts-load_word a = record { kind = looking (layout_of a.cells.now.key) a.at a.gref }

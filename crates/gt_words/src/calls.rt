@@ -1,0 +1,245 @@
+//! The calls by the positions of the domains. Each is one step of the table, and says what the step found.
+ghost use Rattle.std.specs.Prelude.{◌≡◌, ◌<◌, true, MatchResult};
+ghost use Rattle.gt_entry.specs.Entries.{IsEntry};
+ghost use Rattle.gt_words.specs.Answers.{Changes, Demotes, LooksAtBody, LooksAtControl, LooksAtHeader, MissesBusy};
+ghost use Rattle.gt_words.specs.Answers.{MissesChange, MissesPin, Pins, Publishes, Revokes, StoresBody, StoresHeader};
+ghost use Rattle.gt_words.specs.Answers.{Unpins};
+ghost use Rattle.gt_words.specs.Conditions.{CanDemote, CanPin, CanPublish, CanRevoke, CanTurn, CanWithdraw};
+ghost use Rattle.gt_words.specs.Conditions.{CountsPins, Holds, IsWordOf};
+ghost use Rattle.gt_word_table.specs.Controls.{IsTurnable, generation_of, turned_word, withdrawn_word};
+ghost use Rattle.gt_word_table.specs.Places.{IsInside, IsSamePlace};
+ghost use Rattle.gt_word_table.specs.Rule.{IsKeptHeader};
+ghost use Rattle.gt_word_table.specs.Views.{last_of};
+
+use gt_entry::{EntryChange, Control, Entry, BodyWord, Header, pin_unit};
+use gt_types::{Dir, LAST_GENERATION};
+use gt_word_table::{EntryAt, Purpose, TableSeat, WordTable, idle_word};
+
+/// Looks at a domain's header.
+pub(crate) fn load_header(words: &WordTable, seat: &mut TableSeat, at: usize) -> u64
+    requires mine { seat.old.table ≡ words.now.table }
+    requires domain { at < words.now.layout.domains }
+    ensures seat { IsSamePlace seat.old seat.new }
+    ensures look { LooksAtHeader words.now.layout at result seat.old.view seat.new.view }
+{
+    words.load_header(seat, at)
+}
+
+/// Stores the owner's header.
+pub(crate) fn store_header(words: &WordTable, seat: &mut TableSeat, at: usize, header: Header)
+    requires mine { (seat.old.table ≡ words.now.table) × (seat.old.view.position ≡ at) }
+    requires domain { at < words.now.layout.domains }
+    requires header { IsKeptHeader header }
+    ensures seat { IsSamePlace seat.old seat.new }
+    ensures step { StoresHeader words.now.layout header seat.old.view seat.new.view }
+{
+    words.store_header(seat, at, header.pack());
+}
+
+/// Looks at the control word of an entry.
+pub(crate) fn load_control(words: &WordTable, seat: &mut TableSeat, at: EntryAt) -> u64
+    requires mine { seat.old.table ≡ words.now.table }
+    requires entry { IsInside words.now.layout at }
+    ensures seat { IsSamePlace seat.old seat.new }
+    ensures look { LooksAtControl words.now.layout at.position at.gref result seat.old.view seat.new.view }
+    ensures own { seat.old.view.position ≡ at.position → IsWordOf (last_of at.gref seat.new.view) result }
+{
+    words.load_control(seat, at)
+}
+
+/// Looks at a body word of an entry.
+pub(crate) fn load_body(words: &WordTable, seat: &mut TableSeat, at: EntryAt, half: BodyWord) -> u64
+    requires mine { seat.old.table ≡ words.now.table }
+    requires entry { IsInside words.now.layout at }
+    ensures seat { IsSamePlace seat.old seat.new }
+    ensures look { LooksAtBody words.now.layout at.position at.gref half result seat.old.view seat.new.view }
+{
+    words.load_body(seat, at, half)
+}
+
+/// Takes a pin, if the control word still is the one looked at. Answers the word found if it is another.
+pub(crate) fn pin(
+    words: &WordTable,
+    seat: &mut TableSeat,
+    at: EntryAt,
+    looked: u64,
+    dir: Dir,
+) -> Result<(), u64>
+    requires mine { seat.old.table ≡ words.now.table }
+    requires entry { IsInside words.now.layout at }
+    requires can { CanPin words.now.layout at.position at.gref dir looked seat.old.view }
+    ensures seat { IsSamePlace seat.old seat.new }
+    ensures step { MatchResult result
+        (λ _. Pins words.now.layout at.position at.gref dir looked seat.old.view seat.new.view)
+        (λ n. MissesPin words.now.layout at.position at.gref dir looked n seat.old.view seat.new.view) }
+    ensures counted { CountsPins words.now.layout at.position at.gref dir }
+{
+    let new = looked + pin_unit(dir);
+    let purpose = Purpose::Pin(dir);
+    let found = words.exchange(seat, at, looked, new, purpose);
+    if found == looked { Ok(()) } else { Err(found) }
+}
+
+/// Gives a pin back.
+pub(crate) fn unpin(words: &WordTable, seat: &mut TableSeat, at: EntryAt, dir: Dir, generation: u64)
+    requires mine { seat.old.table ≡ words.now.table }
+    requires entry { IsInside words.now.layout at }
+    requires held { Holds at.position at.gref dir generation seat.old.view }
+    ensures seat { IsSamePlace seat.old seat.new }
+    ensures step { Unpins words.now.layout at.position at.gref dir generation seat.old.view seat.new.view }
+{
+    words.subtract_pin(seat, at, dir, generation);
+}
+
+/// Stores a body word of the owner's invalid entry.
+pub(crate) fn store_body(
+    words: &WordTable,
+    seat: &mut TableSeat,
+    at: EntryAt,
+    half: BodyWord,
+    value: u64,
+)
+    requires mine { (seat.old.table ≡ words.now.table) × (seat.old.view.position ≡ at.position) }
+    requires entry { IsInside words.now.layout at }
+    requires invalid { (last_of at.gref seat.old.view).entry ≡ Entry.Invalid }
+    ensures seat { IsSamePlace seat.old seat.new }
+    ensures step { StoresBody words.now.layout at.gref half value seat.old.view seat.new.view }
+{
+    words.store_body(seat, at, half, value);
+}
+
+/// Publishes an entry whose body the owner has stored, if the invalid one has no pins. Answers the word found if it
+/// has some.
+pub(crate) fn grant(
+    words: &WordTable,
+    seat: &mut TableSeat,
+    at: EntryAt,
+    word: u64,
+    entry: Entry,
+) -> Result<(), u64>
+    requires mine { (seat.old.table ≡ words.now.table) × (seat.old.view.position ≡ at.position) }
+    requires entry { IsInside words.now.layout at }
+    requires given { IsEntry entry }
+    requires can { CanPublish entry at.gref word seat.old.view }
+    ensures seat { IsSamePlace seat.old seat.new }
+    ensures step { MatchResult result
+        (λ _. Publishes words.now.layout at.gref entry word seat.old.view seat.new.view)
+        (λ n. MissesBusy words.now.layout at.gref (EntryChange.Publish entry) word n seat.old.view seat.new.view) }
+{
+    let new = idle_word(entry, Control::unpack(word).generation + 1);
+    let purpose = Purpose::Change(EntryChange::Publish(entry));
+    let found = words.exchange(seat, at, word, new, purpose);
+    if found == word { Ok(()) } else { Err(found) }
+}
+
+/// Makes the owner's entry invalid, if it has no pins. Answers the word found if it has some.
+pub(crate) fn revoke(
+    words: &WordTable,
+    seat: &mut TableSeat,
+    at: EntryAt,
+    word: u64,
+) -> Result<(), u64>
+    requires mine { (seat.old.table ≡ words.now.table) × (seat.old.view.position ≡ at.position) }
+    requires entry { IsInside words.now.layout at }
+    requires can { CanRevoke at.gref word seat.old.view }
+    ensures seat { IsSamePlace seat.old seat.new }
+    ensures step { MatchResult result
+        (λ _. Revokes words.now.layout at.gref word seat.old.view seat.new.view)
+        (λ n. MissesBusy words.now.layout at.gref EntryChange.Revoke word n seat.old.view seat.new.view) }
+{
+    let new = idle_word(Entry::Invalid, Control::unpack(word).generation);
+    let purpose = Purpose::Change(EntryChange::Revoke);
+    let found = words.exchange(seat, at, word, new, purpose);
+    if found == word { Ok(()) } else { Err(found) }
+}
+
+/// Makes the owner's entry invalid and leaves its pins, if its word still is the one handed in.
+pub(crate) fn withdraw(
+    words: &WordTable,
+    seat: &mut TableSeat,
+    at: EntryAt,
+    word: u64,
+) -> Result<(), u64>
+    requires mine { (seat.old.table ≡ words.now.table) × (seat.old.view.position ≡ at.position) }
+    requires entry { IsInside words.now.layout at }
+    requires can { CanWithdraw at.gref word seat.old.view }
+    ensures seat { IsSamePlace seat.old seat.new }
+    ensures step { MatchResult result
+        (λ _. Changes words.now.layout at.gref EntryChange.Withdraw word seat.old.view seat.new.view)
+        (λ n. MissesChange words.now.layout at.gref EntryChange.Withdraw word n seat.old.view seat.new.view) }
+{
+    let new = withdrawn(word);
+    let purpose = Purpose::Change(EntryChange::Withdraw);
+    let found = words.exchange(seat, at, word, new, purpose);
+    if found == word { Ok(()) } else { Err(found) }
+}
+
+/// Makes the owner's entry read-only, if its word still is the one handed in, which has no write pins.
+pub(crate) fn demote(
+    words: &WordTable,
+    seat: &mut TableSeat,
+    at: EntryAt,
+    word: u64,
+) -> Result<(), u64>
+    requires mine { (seat.old.table ≡ words.now.table) × (seat.old.view.position ≡ at.position) }
+    requires entry { IsInside words.now.layout at }
+    requires can { CanDemote at.gref word seat.old.view }
+    ensures seat { IsSamePlace seat.old seat.new }
+    ensures step { MatchResult result
+        (λ _. Demotes words.now.layout at.gref word seat.old.view seat.new.view)
+        (λ n. MissesChange words.now.layout at.gref EntryChange.Demote word n seat.old.view seat.new.view) }
+{
+    let new = turned_over(word, true);
+    let purpose = Purpose::Change(EntryChange::Demote);
+    let found = words.exchange(seat, at, word, new, purpose);
+    if found == word { Ok(()) } else { Err(found) }
+}
+
+/// Makes the owner's entry writable, if its word still is the one handed in.
+pub(crate) fn promote(
+    words: &WordTable,
+    seat: &mut TableSeat,
+    at: EntryAt,
+    word: u64,
+) -> Result<(), u64>
+    requires mine { (seat.old.table ≡ words.now.table) × (seat.old.view.position ≡ at.position) }
+    requires entry { IsInside words.now.layout at }
+    requires can { CanTurn true at.gref word seat.old.view }
+    ensures seat { IsSamePlace seat.old seat.new }
+    ensures step { MatchResult result
+        (λ _. Changes words.now.layout at.gref EntryChange.Promote word seat.old.view seat.new.view)
+        (λ n. MissesChange words.now.layout at.gref EntryChange.Promote word n seat.old.view seat.new.view) }
+{
+    let new = turned_over(word, false);
+    let purpose = Purpose::Change(EntryChange::Promote);
+    let found = words.exchange(seat, at, word, new, purpose);
+    if found == word { Ok(()) } else { Err(found) }
+}
+
+// The invalid word of the same generation, with the same pins.
+fn withdrawn(word: u64) -> u64
+    ensures { result ≡ withdrawn_word word }
+{
+    let control = Control::unpack(word);
+    Control::of_entry(
+        Entry::Invalid,
+        control.generation,
+        control.reads,
+        control.writes,
+    )
+    .pack()
+}
+
+// The same word read-only or writable, at the next generation.
+fn turned_over(word: u64, readonly: bool) -> u64
+    requires { (generation_of word < LAST_GENERATION) × IsTurnable readonly word }
+    ensures { result ≡ turned_word readonly word }
+{
+    let control = Control::unpack(word);
+    let next = Control {
+        ro: readonly,
+        generation: control.generation + 1,
+        ..control
+    };
+    next.pack()
+}
