@@ -9,8 +9,8 @@ ghost use Rattle.gt_word_table.specs.Rule.{header_place, layout_of, place};
 ghost use Rattle.gt_word_table.specs.Steps.{half_index};
 
 use crate::rule::{
-    CellSeat, WordCells, DOMAIN_ROWS, DOMAIN_WORDS, ENTRY_WORDS, EntryAt, OfKind, Tells, TellsAll,
-    TellsStore,
+    CellSeat, DOMAIN_ROWS, DOMAIN_WORDS, ENTRY_WORDS, EntryAt, OfKind, Tells, TellsAll, TellsStore,
+    WordCells,
 };
 use crate::view::Purpose;
 use gt_entry::{BodyWord, pin_unit};
@@ -170,7 +170,12 @@ pub(crate) fn load_header_word<J: OfKind>(cells: &WordCells, seat: &mut CellSeat
 }
 
 // One store of a header word.
-pub(crate) fn store_header_word<J: OfKind>(cells: &WordCells, seat: &mut CellSeat, at: usize, new: u64)
+pub(crate) fn store_header_word<J: OfKind>(
+    cells: &WordCells,
+    seat: &mut CellSeat,
+    at: usize,
+    new: u64,
+)
     requires table { (seat.old.table_id ≡ cells.now.table_id)
         × IsWide cells.now.table_id.words (layout_of cells.now.key) }
     requires inside { at < (layout_of cells.now.key).domains }

@@ -11,7 +11,7 @@ ghost use Rattle.gt_word_table.specs.Places.{IsInside, IsSamePlace};
 ghost use Rattle.gt_word_table.specs.Rule.{IsKeptHeader};
 ghost use Rattle.gt_word_table.specs.Views.{last_of};
 
-use gt_entry::{EntryChange, Control, Entry, BodyWord, Header, pin_unit};
+use gt_entry::{BodyWord, Control, Entry, EntryChange, Header, pin_unit};
 use gt_types::{Dir, LAST_GENERATION};
 use gt_word_table::{EntryAt, Purpose, TableSeat, WordTable, idle_word};
 

@@ -17,7 +17,7 @@ ghost use Rattle.gt_words.specs.Answers.{Demotes, Publishes};
 
 use crate::calls;
 use crate::start::deal_seats;
-use gt_entry::{EntryChange, Control, Entry, BodyWord, Header};
+use gt_entry::{BodyWord, Control, Entry, EntryChange, Header};
 use gt_roster::Positions;
 use gt_types::{Config, Dir, DomId, GrantRef, MAX_TABLE_FRAMES, StartFault, TABLE_ENTRIES};
 use gt_word_table::{EntryAt, Gathered, TableSeat, WordTable};
