@@ -5,7 +5,7 @@ use Rattle.std.proofs.lemmas.Bool.Decides.{nat_tests}
 use Rattle.gt_policy.specs.declared.fault.TokenFault.{TokenFault}
 use Rattle.gt_policy.specs.declared.fault.TokenFaultKind.TheVariants.{Limit}
 use Rattle.gt_policy.specs.declared.statements.Statement.{Statement}
-use Rattle.gt_policy.specs.Lexing.{lexemes_of}
+use Rattle.gt_policy_text.specs.Lexing.{lexemes_of}
 use Rattle.gt_policy.specs.Names.{Names, no_names}
 use Rattle.gt_policy.specs.Grammar.{Lexemes, statement, at, ◌>>=◌}
 use Rattle.gt_policy.specs.Spelling.{declared_names}

@@ -5,13 +5,13 @@ use Rattle.std.proofs.lemmas.List.{append-nil}
 use Rattle.gt_policy.specs.declared.fault.ReadError.{ReadError}
 use Rattle.gt_policy.specs.declared.fault.ReadError.TheVariants as read
 use Rattle.gt_policy.specs.declared.fault.TokenFault.{TokenFault}
-use Rattle.gt_policy.specs.declared.lexer.Token.{Token}
-use Rattle.gt_policy.specs.declared.lexer.Token.TheVariants.{Name, TypeWord, AttributeWord, TypeattributeWord}
-use Rattle.gt_policy.specs.declared.lexer.Token.TheVariants.{AllowWord, Semicolon, End}
+use Rattle.gt_policy_text.specs.declared.lexer.Token.{Token}
+use Rattle.gt_policy_text.specs.declared.lexer.Token.TheVariants.{Name, TypeWord, AttributeWord, TypeattributeWord}
+use Rattle.gt_policy_text.specs.declared.lexer.Token.TheVariants.{AllowWord, Semicolon, End}
 use Rattle.gt_policy.specs.declared.lined.LinedStatement.{LinedStatement}
 use Rattle.gt_policy.specs.declared.statements.Statement.{Statement}
 use Rattle.gt_policy.specs.Grammar.{Lexemes, GivesNext, statement}
-use Rattle.gt_policy.specs.Lexing.{lexemes_of}
+use Rattle.gt_policy_text.specs.Lexing.{lexemes_of}
 use Rattle.gt_policy.specs.Lined.{SpellsLined, lined_end, lined_more, statements_in, HeedsLined, LinedIs}
 use Rattle.gt_policy.specs.Names.{Names, no_names}
 use Rattle.gt_policy.specs.Spelling.{SpellsStatement, type_of, attribute_of, attributes_of, allow_of, SpellsText}

@@ -3,7 +3,7 @@ use Rattle.std.proofs.Common.{◌≡◌, ◌<◌, ℕ, Bool, true, false, List, 
 use Rattle.std.proofs.Common.{◌∙◌, subst, arith}
 use Rattle.std.specs.Prelude.{if◌then◌else◌}
 use Rattle.std.specs.List.{list_any}
-use Rattle.gt_policy.specs.declared.lexer.Token.TheVariants.{Name, SelfWord, Open, Close, Semicolon, Comma, Minus, Star}
+use Rattle.gt_policy_text.specs.declared.lexer.Token.TheVariants.{Name, SelfWord, Open, Close, Semicolon, Comma, Minus, Star}
 use Rattle.gt_policy.specs.declared.fault.TokenFault.{TokenFault}
 use Rattle.gt_policy.specs.declared.fault.TokenFaultKind.TheVariants.{Syntax, Outside, Permission}
 use Rattle.gt_policy.specs.declared.statements.Mention.{Mention}

@@ -3,7 +3,7 @@ use Rattle.std.specs.Prelude.{◌≡◌, ℕ, ◌≤◌, List, [], ◌∷◌, le
 use Rattle.gt_types.specs.declared.limits.TheConstants.{LONGEST_TEXT}
 use Rattle.gt_policy.specs.declared.fault.TokenFault.{TokenFault}
 use Rattle.gt_policy.specs.declared.statements.Statement.{Statement}
-use Rattle.gt_policy.specs.Lexing.{lexemes_of}
+use Rattle.gt_policy_text.specs.Lexing.{lexemes_of}
 use Rattle.gt_policy.specs.Grammar.{Lexemes, statement}
 use Rattle.gt_policy.specs.Spelling.{SpellsStatement, SpellsText, AreClean, declared_names}
 use Rattle.gt_policy.specs.Allowing.{Meaning}

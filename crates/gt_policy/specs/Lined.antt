@@ -3,14 +3,14 @@ use Rattle.std.specs.Prelude.{◌≡◌, ℕ, List, [], ◌∷◌, map, Result, 
 use Rattle.gt_types.specs.Memory.{UnlessMemory}
 use Rattle.gt_policy.specs.declared.fault.ReadError.{ReadError}
 use Rattle.gt_policy.specs.declared.fault.TokenFault.{TokenFault}
-use Rattle.gt_policy.specs.declared.lexer.Token.{Token}
-use Rattle.gt_policy.specs.declared.lexer.Token.TheVariants.{End}
+use Rattle.gt_policy_text.specs.declared.lexer.Token.{Token}
+use Rattle.gt_policy_text.specs.declared.lexer.Token.TheVariants.{End}
 use Rattle.gt_policy.specs.declared.lined.LinedStatement.{LinedStatement}
 use Rattle.gt_policy.specs.declared.statements.Statement.{Statement}
 use Rattle.gt_policy.specs.Accepting.{IsWritten}
 use Rattle.gt_policy.specs.Errors.{fault_in}
 use Rattle.gt_policy.specs.Grammar.{Lexemes}
-use Rattle.gt_policy.specs.Lexing.{lexemes_of}
+use Rattle.gt_policy_text.specs.Lexing.{lexemes_of}
 use Rattle.gt_policy.specs.Names.{Names}
 use Rattle.gt_policy.specs.Spelling.{SpellsStatement}
 use Rattle.gt_policy.specs.Whole.{Follows, Says}

@@ -3,10 +3,10 @@ pub use Rattle.gt_policy.specs.declared.fault.ReadError.{ReadError}
 pub use Rattle.gt_policy.specs.declared.fault.TokenFault.{TokenFault}
 pub use Rattle.gt_policy.specs.declared.fault.TokenFaultKind.{TokenFaultKind}
 pub use Rattle.gt_policy.specs.declared.fault.TokenFaultKind.TheVariants.{Outside, Permission, Syntax, Unknown}
-pub use Rattle.gt_policy.specs.declared.lexer.Token.{Token}
-pub use Rattle.gt_policy.specs.declared.lexer.Token.TheVariants.{AllowWord, AttributeWord, Close, Colon, Comma, End}
-pub use Rattle.gt_policy.specs.declared.lexer.Token.TheVariants.{Minus, Name, Open, SelfWord, Semicolon, Star, Tilde}
-pub use Rattle.gt_policy.specs.declared.lexer.Token.TheVariants.{TypeWord, TypeattributeWord}
+pub use Rattle.gt_policy_text.specs.declared.lexer.Token.{Token}
+pub use Rattle.gt_policy_text.specs.declared.lexer.Token.TheVariants.{AllowWord, AttributeWord, Close, Colon, Comma}
+pub use Rattle.gt_policy_text.specs.declared.lexer.Token.TheVariants.{End, Minus, Name, Open, SelfWord, Semicolon, Star}
+pub use Rattle.gt_policy_text.specs.declared.lexer.Token.TheVariants.{Tilde, TypeWord, TypeattributeWord}
 pub use Rattle.gt_policy.specs.declared.resolve.Draft.{Draft}
 pub use Rattle.gt_policy.specs.declared.resolve.DraftElement.{DraftElement}
 pub use Rattle.gt_policy.specs.declared.statements.Allowance.{Allowance}

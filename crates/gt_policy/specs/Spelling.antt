@@ -3,9 +3,9 @@
 use Rattle.std.specs.Prelude.{◌≡◌, ◌≤◌, ℕ, ◌+◌, Bool, true, false, List, [], ◌∷◌, length}
 use Rattle.std.specs.List.{list_any}
 use Rattle.std.specs.Str.{bytes_eq}
-use Rattle.gt_policy.specs.declared.lexer.Token.TheVariants.{Name, TypeWord, AttributeWord, TypeattributeWord}
-use Rattle.gt_policy.specs.declared.lexer.Token.TheVariants.{AllowWord, SelfWord, Open, Close, Colon, Semicolon, Comma}
-use Rattle.gt_policy.specs.declared.lexer.Token.TheVariants.{Minus, Star, End}
+use Rattle.gt_policy_text.specs.declared.lexer.Token.TheVariants.{Name, TypeWord, AttributeWord, TypeattributeWord}
+use Rattle.gt_policy_text.specs.declared.lexer.Token.TheVariants.{AllowWord, SelfWord, Open, Close, Colon, Semicolon}
+use Rattle.gt_policy_text.specs.declared.lexer.Token.TheVariants.{Comma, Minus, Star, End}
 use Rattle.gt_policy.specs.declared.statements.Mention.{Mention}
 use Rattle.gt_policy.specs.declared.statements.SetElement.{SetElement}
 use Rattle.gt_policy.specs.declared.statements.SetElement.TheVariants.{With, Without, Itself}

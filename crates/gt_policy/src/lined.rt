@@ -6,11 +6,10 @@ ghost use Rattle.gt_policy.specs.Whole.{Says};
 ghost use Rattle.gt_policy.specs.declared.fault.TokenFault.{TokenFault};
 
 use crate::fault::ReadError;
-use crate::items::Items;
-use crate::lexer::Lexer;
 use crate::parse::{PolicyFault, PolicyFaultKind, fault_of};
-use crate::statements::Statement;
+use crate::statements::{Parser, Statement};
 use crate::symbols::SymbolTable;
+use gt_policy_text::Items;
 use gt_types::LONGEST_TEXT;
 use std::alloc::Global;
 
@@ -24,16 +23,16 @@ pub struct LinedStatement<'a> {
 // The statements that are left, each with its line.
 fn lined<'a>(
     alloc: Global,
-    lexer: &mut Lexer<'a>,
+    parser: &mut Parser<'a>,
     seen: &mut SymbolTable<'a>,
 ) -> Result<Items<LinedStatement<'a>>, ReadError<'a>>
-    ensures { HeedsLined result seen.new seen.old lexer.old }
+    ensures { HeedsLined result seen.new seen.old parser.old }
 {
     let mut read = Items::new(alloc);
-    let mut line = lexer.line();
-    'text: while let Some(statement) = lexer.statement(alloc, seen)? {
+    let mut line = parser.line();
+    'text: while let Some(statement) = parser.statement(alloc, seen)? {
         read.push(LinedStatement { line, statement })?;
-        line = lexer.line();
+        line = parser.line();
     }
     Ok(read)
 }
@@ -43,8 +42,8 @@ fn lined_of<'a>(alloc: Global, text: &'a [u8]) -> Result<Items<LinedStatement<'a
     ensures { LinedIs result text.entry.now }
 {
     let mut seen = SymbolTable::new(alloc);
-    let mut lexer = Lexer::new(text);
-    lined(alloc, &mut lexer, &mut seen)
+    let mut parser = Parser::new(text);
+    lined(alloc, &mut parser, &mut seen)
 }
 
 /// The statements of a text, each with the line that it begins on, or the text's first fault. A name that is not

@@ -14,7 +14,7 @@ use std::marker::Model;
 
 /// What one type may do to each type. A contract sees a lane for each permission: the types on which it
 /// has it.
-#[derive(Debug, Drop)]
+#[derive(Drop)]
 pub struct TypeRow {
     map_read: TypeSet,
     map_write: TypeSet,

@@ -8,7 +8,7 @@ ghost use Rattle.gt_policy.specs.Members.{has};
 ghost use Rattle.gt_policy.specs.Rows.{is_reached};
 ghost use Rattle.gt_policy.specs.TypeSets.{holds};
 
-use crate::resolve::{DraftElement, DraftRule, TypeAttribute};
+use crate::resolve::{Draft, DraftElement, DraftRule, TypeAttribute};
 use crate::symbols::Symbol;
 use crate::types::TypeSet;
 use bitflags::Flags;
@@ -16,7 +16,7 @@ use gt_types::{Perms, TypeId};
 use std::alloc::{AllocError, Global};
 
 /// The permissions that the types of a set have on those of another.
-#[derive(Clone, Copy, Debug, PartialEq, Eq)]
+#[derive(Clone, Copy)]
 pub struct AllowRule {
     pub source: TypeSet,
     pub target: TypeSet,
@@ -53,7 +53,12 @@ impl AllowRule {
 fn says_itself(set: &[DraftElement]) -> bool
     ensures { result ≡ says_itself set.now }
 {
-    set.iter().any(|e| matches!(e, DraftElement::Itself))
+    for element in set {
+        if let DraftElement::Itself = element {
+            return true;
+        }
+    }
+    false
 }
 
 /// The types of each attribute, by its number.
@@ -148,4 +153,13 @@ impl Members {
         }
         Ok(rules)
     }
+}
+
+/// The allow statements of a draft, with their sets as sets of types.
+pub(crate) fn rules_of(alloc: Global, draft: &Draft) -> Result<Vec<AllowRule>, AllocError>
+    ensures { IfOk result (λ rules. (s t : ℕ) (perm : Perms) → some_grants rules.items s t perm
+        ≡ list_any (λ rule. is_granted_by (was_given draft.now.given) s t perm rule) draft.now.rules) }
+{
+    let members = Members::new(draft.given.as_slice());
+    members.rules(alloc, draft.rules.as_slice())
 }

@@ -5,7 +5,7 @@ ghost use Rattle.gt_policy.specs.TypeSets.{holds};
 use gt_types::TypeId;
 
 /// A set of types of a policy. Their numbers are below 256.
-#[derive(Clone, Copy, Debug, PartialEq, Eq)]
+#[derive(Clone, Copy)]
 pub struct TypeSet {
     low: u128,
     high: u128,

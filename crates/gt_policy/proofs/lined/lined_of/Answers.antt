@@ -3,4 +3,4 @@ use Rattle.gt_policy.proofs.lined.lined_of.Goals as goal
 
 pub returns : goal.returns
 returns c =
-    lined_is c.lined.result c.args.text.now c.new-seen.result c.lined.new.seen c.new-lexer.result c.requires c.new-seen.ensures c.new-lexer.ensures c.lined.ensures
+    lined_is c.lined.result c.args.text.now c.new-seen.result c.lined.new.seen c.new-parser.result c.requires c.new-seen.ensures c.new-parser.ensures c.lined.ensures
