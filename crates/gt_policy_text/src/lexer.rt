@@ -96,7 +96,7 @@ fn mark_of<'a>(byte: u8) -> Token<'a>
 }
 
 /// Whether the bytes are these.
-pub fn is(bytes: &[u8], wanted: &[u8]) -> bool
+pub fn is_text(bytes: &[u8], wanted: &[u8]) -> bool
     ensures { result ≡ bytes_eq bytes.now wanted.now }
 {
     bytes == wanted
@@ -108,15 +108,15 @@ fn word_of<'a>(word: &'a [u8]) -> Token<'a>
     ensures value { result ≡ word_at word.entry.now }
     ensures inner { (rest : List (Token × ℕ)) → behind result rest ≡ rest }
 {
-    if is(word, b"type") {
+    if is_text(word, b"type") {
         Token::TypeWord
-    } else if is(word, b"attribute") {
+    } else if is_text(word, b"attribute") {
         Token::AttributeWord
-    } else if is(word, b"typeattribute") {
+    } else if is_text(word, b"typeattribute") {
         Token::TypeattributeWord
-    } else if is(word, b"allow") {
+    } else if is_text(word, b"allow") {
         Token::AllowWord
-    } else if is(word, b"self") {
+    } else if is_text(word, b"self") {
         Token::SelfWord
     } else {
         Token::Name(TextPiece::new(word))

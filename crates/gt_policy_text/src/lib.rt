@@ -10,5 +10,5 @@ mod lexer;
 mod text;
 
 pub use items::Items;
-pub use lexer::{Lexeme, Lexer, Token, is};
+pub use lexer::{Lexeme, Lexer, Token, is_text};
 pub use text::TextPiece;
