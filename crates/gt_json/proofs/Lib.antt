@@ -1,3 +1,1 @@
-pub mod JsonLemmas
-pub mod PieceLemmas
 pub mod ToldLemmas

@@ -1,6 +1,4 @@
-pub mod AsJson
-pub mod Lines
-pub mod Places
-pub mod Prelude
-pub mod Strings
 pub mod Words
+pub mod Places
+pub mod Strings
+pub mod Lines

@@ -1,6 +1,7 @@
 -- Findings as text.
 use Rattle.std.specs.Prelude.{ℕ, List, ◌++◌, codes}
 use Rattle.std.specs.Fmt.{decimal}
+use Rattle.gt_json.specs.Strings.{quoted}
 use Rattle.gt_policy_check.specs.declared.findings.Finding.{Finding}
 use Rattle.gt_policy_check.specs.declared.findings.FindingKind.{FindingKind}
 use Rattle.gt_policy_check.specs.declared.findings.FindingKind.TheVariants.{Fault, OtherClass, OtherPermission, AllowsNothing}
@@ -26,3 +27,9 @@ severity_text Note = codes "note"
 abbrev pub heading_text : List ℕ → Finding → List ℕ
 heading_text file x = file ++ codes ":" ++ decimal x.line ++ codes ":" ++ decimal x.column ++ codes ": "
     ++ severity_text x.kind ++ codes ": " ++ x.message.items ++ codes "\n"
+
+-- a finding as an object on a line of its own (JSON Lines)
+abbrev pub object_text : List ℕ → Finding → List ℕ
+object_text file x = codes "{\"file\":" ++ quoted file ++ codes ",\"line\":" ++ decimal x.line
+    ++ codes ",\"column\":" ++ decimal x.column ++ codes ",\"severity\":\"" ++ severity_text x.kind
+    ++ codes "\",\"message\":" ++ quoted x.message.items ++ codes "}\n"

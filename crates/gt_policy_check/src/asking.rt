@@ -13,8 +13,9 @@ ghost use Rattle.gt_policy_check.specs.Why.{entries_if, is_listed_under, answer_
 
 use crate::granting::{gives_some, near_some};
 use crate::members::{Member, members_of};
+use crate::reading::read_policy;
 use crate::texts::push_entry;
-use gt_policy::{LinedStatement, Policy, PolicyFault, PolicyFaultKind, Statement, statements_of};
+use gt_policy::{LinedStatement, PolicyFault, PolicyFaultKind, Statement};
 use gt_text::push_text;
 use gt_types::Perms;
 use std::alloc::{AllocError, Global};
@@ -28,15 +29,15 @@ pub struct WhyQuestion<'q> {
 }
 
 /// What a policy answers.
-#[derive(Clone, Copy, Debug, PartialEq, Eq)]
+#[derive(Clone, Copy)]
 pub enum WhyAnswer {
     /// Some statement grants it.
     Allowed,
     /// No statement does.
     Denied,
-    /// The source is no declared type.
+    /// The source isn't a declared type.
     NoSource,
-    /// The target is no declared type.
+    /// The target isn't a declared type.
     NoTarget,
     /// The word is none of the seven permissions.
     NoPermission,
@@ -44,39 +45,44 @@ pub enum WhyAnswer {
 
 /// An answer, with the lines of the statements that give it, or of those that come near. A question with a name that
 /// is not there has no line.
-#[derive(Debug, Drop)]
+#[derive(Drop)]
 pub struct Explanation {
     pub answer: WhyAnswer,
     pub lines: Vec<u8>,
 }
 
-// Whether some statement grants the permission to some of the sources on some of the targets.
-fn is_allowed(
-    statements: &[LinedStatement],
-    sources: &[Member],
-    targets: &[Member],
-    perm: &str,
-) -> bool
-    ensures { result ≡ list_any (λ x. gives_some perm.now sources.now targets.now x.statement) statements.now }
-{
-    statements.iter().any(|stated| gives_some(&stated.statement, sources, targets, perm))
+// The types that are asked for, and the permission.
+#[derive(Clone, Copy)]
+struct Asked<'m, 'a> {
+    sources: &'m [Member<'a>],
+    targets: &'m [Member<'a>],
+    perm: &'m str,
 }
 
-fn answer_with(
-    statements: &[LinedStatement],
-    sources: &[Member],
-    targets: &[Member],
-    perm: &str,
-) -> WhyAnswer
-    ensures { result ≡ answer_by perm.now sources.now targets.now statements.now }
+// Whether some statement grants what is asked.
+fn is_allowed(statements: &[LinedStatement], asked: &Asked) -> bool
+    ensures { result ≡ list_any
+        (λ x. gives_some asked.now.perm.now asked.now.sources.now asked.now.targets.now x.statement) statements.now }
 {
-    if Perms::named(perm.as_bytes()).is_none() {
+    'statements: for stated in statements {
+        if gives_some(&stated.statement, asked.sources, asked.targets, asked.perm) {
+            return true;
+        }
+    }
+    false
+}
+
+// What these statements answer.
+fn answer_with(statements: &[LinedStatement], asked: &Asked) -> WhyAnswer
+    ensures { result ≡ answer_by asked.now.perm.now asked.now.sources.now asked.now.targets.now statements.now }
+{
+    if Perms::named(asked.perm.as_bytes()).is_none() {
         WhyAnswer::NoPermission
-    } else if sources.is_empty() {
+    } else if asked.sources.is_empty() {
         WhyAnswer::NoSource
-    } else if targets.is_empty() {
+    } else if asked.targets.is_empty() {
         WhyAnswer::NoTarget
-    } else if is_allowed(statements, sources, targets, perm) {
+    } else if is_allowed(statements, asked) {
         WhyAnswer::Allowed
     } else {
         WhyAnswer::Denied
@@ -84,18 +90,13 @@ fn answer_with(
 }
 
 // Whether a statement is listed under an answer: it grants the permission if that is allowed, and else comes near.
-fn is_listed(
-    answer: WhyAnswer,
-    statement: &Statement,
-    sources: &[Member],
-    targets: &[Member],
-    perm: &str,
-) -> bool
-    ensures { result ≡ is_listed_under answer perm.now sources.now targets.now statement.now }
+fn is_listed(answer: WhyAnswer, statement: &Statement, asked: &Asked) -> bool
+    ensures { result ≡ is_listed_under answer asked.now.perm.now asked.now.sources.now asked.now.targets.now
+        statement.now }
 {
     match answer {
-        WhyAnswer::Allowed => gives_some(statement, sources, targets, perm),
-        _ => near_some(statement, sources, targets, perm),
+        WhyAnswer::Allowed => gives_some(statement, asked.sources, asked.targets, asked.perm),
+        _ => near_some(statement, asked.sources, asked.targets, asked.perm),
     }
 }
 
@@ -105,16 +106,15 @@ fn push_listed(
     answer: WhyAnswer,
     file: &str,
     statements: &[LinedStatement],
-    sources: &[Member],
-    targets: &[Member],
-    perm: &str,
+    asked: &Asked,
 ) -> Result<(), AllocError>
     ensures { OnOk result (out.new.items ≡ out.old.items ++ entries_if
-        (is_listed_under answer perm.now sources.now targets.now) file.now sources.now targets.now statements.now) }
+        (is_listed_under answer asked.now.perm.now asked.now.sources.now asked.now.targets.now)
+        file.now asked.now.sources.now asked.now.targets.now statements.now) }
 {
     'statements: for stated in statements {
-        if is_listed(answer, &stated.statement, sources, targets, perm) {
-            push_entry(out, file, stated, sources, targets)?;
+        if is_listed(answer, &stated.statement, asked) {
+            push_entry(out, file, stated, asked.sources, asked.targets)?;
         }
     }
     Ok(())
@@ -126,27 +126,43 @@ fn push_lines(
     answer: WhyAnswer,
     file: &str,
     statements: &[LinedStatement],
-    sources: &[Member],
-    targets: &[Member],
-    perm: &str,
+    asked: &Asked,
 ) -> Result<(), AllocError>
-    ensures { OnOk result (out.new.items ≡ out.old.items
-        ++ lines_with answer file.now perm.now sources.now targets.now statements.now) }
+    ensures { OnOk result (out.new.items ≡ out.old.items ++ lines_with answer
+        file.now asked.now.perm.now asked.now.sources.now asked.now.targets.now statements.now) }
 {
     match answer {
         WhyAnswer::Allowed => {
             push_text(out, "allowed\n")?;
-            push_listed(out, answer, file, statements, sources, targets, perm)
+            push_listed(out, answer, file, statements, asked)
         }
         WhyAnswer::Denied => {
             push_text(out, "denied\n")?;
-            push_listed(out, answer, file, statements, sources, targets, perm)
+            push_listed(out, answer, file, statements, asked)
         }
         _ => Ok(()),
     }
 }
 
-// The answer of these statements.
+// What these statements answer, with its lines.
+fn answered(
+    alloc: Global,
+    file: &str,
+    statements: &[LinedStatement],
+    asked: &Asked,
+) -> Result<Explanation, AllocError>
+    ensures answer { IfOk result (λ e. e.answer
+        ≡ answer_by asked.now.perm.now asked.now.sources.now asked.now.targets.now statements.now) }
+    ensures lines { IfOk result (λ e. e.lines.items ≡ lines_with e.answer
+        file.now asked.now.perm.now asked.now.sources.now asked.now.targets.now statements.now) }
+{
+    let answer = answer_with(statements, asked);
+    let mut lines = Vec::new(alloc);
+    push_lines(&mut lines, answer, file, statements, asked)?;
+    Ok(Explanation { answer, lines })
+}
+
+// What these statements answer to a question.
 fn explained(
     alloc: Global,
     file: &str,
@@ -157,29 +173,19 @@ fn explained(
 {
     let sources = members_of(alloc, statements, question.source)?;
     let targets = members_of(alloc, statements, question.target)?;
-    let answer = answer_with(
-        statements,
-        sources.as_slice(),
-        targets.as_slice(),
-        question.perm,
-    );
-    let mut lines = Vec::new(alloc);
-    push_lines(
-        &mut lines,
-        answer,
-        file,
-        statements,
-        sources.as_slice(),
-        targets.as_slice(),
-        question.perm,
-    )?;
-    Ok(Explanation { answer, lines })
+    let asked = Asked {
+        sources: sources.as_slice(),
+        targets: targets.as_slice(),
+        perm: question.perm,
+    };
+    let explanation = answered(alloc, file, statements, &asked)?;
+    Ok(explanation)
 }
 
 /// Whether the policy of a text allows what is asked, with a line for each allow statement that grants it: `FILE:LINE:
 /// STATEMENT  # SOURCES -> TARGETS`, with the types asked for that its sets hold, and the attribute by which each came
 /// there. For a denied question the lines are those of the statements that have the target, and the permission or the
-/// source. A text that is no policy answers its first fault, and refused memory the fault
+/// source. A text that isn't a policy answers its first fault, and refused memory the fault
 /// [`PolicyFaultKind::Memory`], with line 0.
 pub fn why(
     alloc: Global,
@@ -192,10 +198,7 @@ pub fn why(
     ensures fault { IfErr result (λ e. (f : TokenFault) → fault_shown e ≡ Some f → Says text.now (Err f)) }
     ensures memory { IfErr result (λ e. fault_shown e ≡ None → e ≡ out_of_memory) }
 {
-    if let Err(fault) = Policy::parse(alloc, text) {
-        return Err(fault);
-    }
-    let statements = match statements_of(alloc, text) {
+    let statements = match read_policy(alloc, text) {
         Ok(statements) => statements,
         Err(fault) => return Err(fault),
     };

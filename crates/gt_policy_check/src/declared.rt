@@ -1,5 +1,5 @@
 //! The declarations of a text's names, with their lines and columns.
-use crate::places::{bytes_of, column_of, line_tokens};
+use crate::places::{bytes_of, column_of, tokens_in};
 use gt_text::text_of;
 use std::alloc::{AllocError, Global};
 
@@ -23,6 +23,25 @@ fn declares(word: &[u8]) -> Option<bool> {
     None
 }
 
+// Adds a name, if the word before it declares it as something.
+fn push_name<'a>(
+    names: &mut Vec<Declared<'a>>,
+    before: Option<bool>,
+    word: &'a [u8],
+    line: u32,
+    column: u32,
+) -> Result<(), AllocError> {
+    if let (Some(is_type), Ok(name)) = (before, text_of(word)) {
+        names.push(Declared {
+            name,
+            is_type,
+            line,
+            column,
+        })?;
+    }
+    Ok(())
+}
+
 // Adds the names that a line declares, after what the word before it declares, and answers what its last word does.
 fn push_declared<'a>(
     alloc: Global,
@@ -32,17 +51,10 @@ fn push_declared<'a>(
     before: Option<bool>,
 ) -> Result<Option<bool>, AllocError> {
     let mut before = before;
-    let tokens = line_tokens(alloc, text.as_bytes(), 1)?;
-    for token in &tokens.tokens {
+    let tokens = tokens_in(alloc, text.as_bytes())?;
+    for token in &tokens {
         let word = bytes_of(text.as_bytes(), *token);
-        if let (Some(is_type), Ok(name)) = (before, text_of(word)) {
-            names.push(Declared {
-                name,
-                is_type,
-                line,
-                column: column_of(token.start),
-            })?;
-        }
+        push_name(names, before, word, line, column_of(token.start))?;
         before = declares(word);
     }
     Ok(before)

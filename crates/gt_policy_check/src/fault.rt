@@ -1,16 +1,17 @@
-//! Where a fault of a text stands, and what would fit there.
+//! Where the fault of a text is, and what would fit there.
 use crate::declared::{Declared, declared_in};
 use crate::nearest::nearest;
-use crate::places::{LineTokens, bytes_of, column_of, column_of_word, front_of, line_tokens};
-use crate::report::push_shown;
+use crate::places::{
+    LineTokens, bytes_of, column_of, column_of_word, front_of, line_tokens, tokens_in,
+};
+use crate::report::push_all_shown;
+use crate::texts::{push_both, push_number};
 use gt_policy::{Policy, PolicyFault, PolicyFaultKind};
 use gt_text::{push_text, text_of};
-use gt_types::Memory;
-use itoa::Buffer;
 use std::alloc::{AllocError, Global};
 
-/// What a statement may go on with. A permission stands for any name, since it is one in each place of a name.
-const CANDIDATES: [(&str, &str); 10] = [
+/// What a statement may go on with. A permission serves for any name, since it is one wherever a name fits.
+const CANDIDATES: &[(&str, &str)] = &[
     ("allow", "a statement"),
     (";", "\";\""),
     (",", "\",\""),
@@ -42,7 +43,7 @@ pub(crate) struct FindingNote {
     pub message: Vec<u8>,
 }
 
-/// Where a fault stands in its line, and what is said of it.
+/// Where a fault is in its line, and what is said of it.
 #[derive(Drop)]
 pub(crate) struct Explained {
     pub column: u32,
@@ -51,38 +52,46 @@ pub(crate) struct Explained {
 }
 
 // The line on which a text stops.
-fn last_line(bytes: &[u8]) -> usize {
-    let ends = bytes.iter().filter(|b| **b == b'\n').count();
-    ends.saturating_add(1)
+fn last_line(bytes: &[u8]) -> u32 {
+    let mut line: u32 = 1;
+    for byte in bytes {
+        if *byte == b'\n' {
+            line = line.saturating_add(1);
+        }
+    }
+    line
 }
 
-// Whether a text that is cut off here, and goes on with a token, has no fault up to that token.
-fn fits(alloc: Global, front: &[u8], token: &str) -> Result<bool, Memory> {
-    let mut bytes = Vec::from_slice(alloc, front)?;
-    bytes.extend_from_slice(b"\n")?;
-    bytes.extend_from_slice(token.as_bytes())?;
-    fits_so_far(alloc, bytes.as_slice())
+// Whether a fault is past a line. A name that is not declared yet is none.
+fn is_past(fault: &PolicyFault, last: u32) -> Result<bool, AllocError> {
+    match fault.kind {
+        PolicyFaultKind::Memory => Err(AllocError),
+        PolicyFaultKind::Unknown(_) => Ok(true),
+        _ => Ok(fault.line > last),
+    }
 }
 
-// Whether a text that is cut off here has no fault so far. A name that is not declared yet is none.
-fn fits_so_far(alloc: Global, front: &[u8]) -> Result<bool, Memory> {
-    let last = last_line(front);
+// Whether a text that is cut off here has no fault so far.
+fn fits_so_far(alloc: Global, front: &[u8]) -> Result<bool, AllocError> {
     let Ok(text) = text_of(front) else {
         return Ok(false);
     };
     match Policy::parse(alloc, text) {
         Ok(_) => Ok(true),
-        Err(fault) => match fault.kind {
-            PolicyFaultKind::Memory => Err(Memory),
-            PolicyFaultKind::Unknown(_) => Ok(true),
-            _ => Ok(fault.line as usize > last),
-        },
+        Err(fault) => is_past(&fault, last_line(front)),
     }
+}
+
+// Whether a text that is cut off here, and goes on with a token on the next line, has no fault up to that token.
+fn fits(alloc: Global, front: &[u8], token: &str) -> Result<bool, AllocError> {
+    let mut bytes = Vec::from_slice(alloc, front)?;
+    push_both(&mut bytes, "\n", token)?;
+    fits_so_far(alloc, bytes.as_slice())
 }
 
 // Which of a line's tokens is the first that does not fit. A text with no fault up to a token has none up to the tokens
 // before it.
-fn misfit(alloc: Global, bytes: &[u8], line: &LineTokens) -> Result<usize, Memory> {
+fn misfit(alloc: Global, bytes: &[u8], line: &LineTokens) -> Result<usize, AllocError> {
     let mut low = 0;
     let mut high = line.tokens.len();
     for _ in 0..64 {
@@ -105,32 +114,26 @@ fn misfit(alloc: Global, bytes: &[u8], line: &LineTokens) -> Result<usize, Memor
 // Appends one more of the things that are expected, after the others.
 fn push_expected(out: &mut Vec<u8>, shown: &str) -> Result<(), AllocError> {
     if out.is_empty() {
-        push_text(out, "expected ")?;
+        push_both(out, "expected ", shown)
     } else {
-        push_text(out, " or ")?;
+        push_both(out, " or ", shown)
     }
-    push_text(out, shown)
 }
 
-// What a text that is cut off here may go on with, in words.
-fn expected(alloc: Global, front: &[u8]) -> Result<Vec<u8>, Memory> {
-    let mut out = Vec::new(alloc);
+// Appends in words what a text that is cut off here may go on with.
+fn push_all_expected(alloc: Global, out: &mut Vec<u8>, front: &[u8]) -> Result<(), AllocError> {
     for (token, shown) in CANDIDATES {
         if fits(alloc, front, token)? {
-            push_expected(&mut out, shown)?;
+            push_expected(out, shown)?;
         }
     }
-    Ok(out)
+    Ok(())
 }
 
 // Appends a word in quotes, as its line is shown.
-fn push_quoted(out: &mut Vec<u8>, word: &[u8]) -> Result<(), AllocError> {
+fn push_quoted(out: &mut Vec<u8>, word: &str) -> Result<(), AllocError> {
     push_text(out, "\"")?;
-    if let Ok(text) = text_of(word) {
-        for letter in text.chars() {
-            push_shown(out, letter)?;
-        }
-    }
+    push_all_shown(out, word)?;
     push_text(out, "\"")
 }
 
@@ -140,7 +143,7 @@ fn push_meant(out: &mut Vec<u8>, meant: Option<&str>) -> Result<(), AllocError> 
         return Ok(());
     };
     push_text(out, "; did you mean ")?;
-    push_quoted(out, name.as_bytes())?;
+    push_quoted(out, name)?;
     push_text(out, "?")
 }
 
@@ -155,12 +158,49 @@ pub fn push_hint(
     push_meant(out, meant)
 }
 
+// Appends a word in quotes, and what is said of it.
+fn push_said(out: &mut Vec<u8>, word: &str, said: &str) -> Result<(), AllocError> {
+    push_quoted(out, word)?;
+    push_text(out, said)
+}
+
 /// A word in quotes, and what is said of it.
 pub fn said_of(alloc: Global, word: &str, said: &str) -> Result<Vec<u8>, AllocError> {
     let mut out = Vec::new(alloc);
-    push_quoted(&mut out, word.as_bytes())?;
-    push_text(&mut out, said)?;
+    push_said(&mut out, word, said)?;
     Ok(out)
+}
+
+/// A text as a message.
+pub(crate) fn message_of(alloc: Global, text: &str) -> Result<Vec<u8>, AllocError> {
+    let mut message = Vec::new(alloc);
+    push_text(&mut message, text)?;
+    Ok(message)
+}
+
+// Appends the last token of a text, as what a fault comes after.
+fn push_after(out: &mut Vec<u8>, last: &[u8]) -> Result<(), AllocError> {
+    let Ok(word) = text_of(last) else {
+        return Ok(());
+    };
+    if word.is_empty() {
+        return Ok(());
+    }
+    push_text(out, " after ")?;
+    push_quoted(out, word)
+}
+
+// The last token of a line; the one before if it has none.
+fn last_token_in<'a>(
+    alloc: Global,
+    line: &'a [u8],
+    before: &'a [u8],
+) -> Result<&'a [u8], AllocError> {
+    let tokens = tokens_in(alloc, line)?;
+    match tokens.last() {
+        Some(token) => Ok(bytes_of(line, *token)),
+        None => Ok(before),
+    }
 }
 
 // The last token of a text.
@@ -170,44 +210,41 @@ fn last_token<'a>(alloc: Global, text: &'a [u8]) -> Result<&'a [u8], AllocError>
         return Ok(last);
     };
     for line in text.lines() {
-        let tokens = line_tokens(alloc, line.as_bytes(), 1)?;
-        if let Some(token) = tokens.tokens.last() {
-            last = bytes_of(line.as_bytes(), *token);
-        }
+        last = last_token_in(alloc, line.as_bytes(), last)?;
     }
     Ok(last)
 }
 
-// A token that fits nowhere: what was expected, at the end of the token before, if that is on the same line.
-fn explain_syntax(alloc: Global, bytes: &[u8], line: &LineTokens) -> Result<Explained, Memory> {
-    let place = misfit(alloc, bytes, line)?;
-    let mut end = 0;
-    let mut column = 1;
-    if let Some(token) = line.tokens.first() {
-        column = column_of(token.start);
-    }
-    if place > 0 {
-        if let Some(token) = line.tokens.get(place - 1) {
-            end = token.end;
-            column = column_of(token.end);
+// Where a text ends in front of a token that fits nowhere, and the column of that: the end of the token before it, if
+// that is on the same line.
+fn end_before(line: &LineTokens, misfit: usize) -> (usize, u32) {
+    if misfit > 0 {
+        if let Some(token) = line.tokens.get(misfit - 1) {
+            return (token.end, column_of(token.end));
         }
     }
-    let front = front_of(bytes, line, end);
-    let mut message = expected(alloc, front)?;
-    let last = last_token(alloc, front)?;
-    if !last.is_empty() {
-        push_text(&mut message, " after ")?;
-        push_quoted(&mut message, last)?;
+    match line.tokens.first() {
+        Some(token) => (0, column_of(token.start)),
+        None => (0, 1),
     }
-    Ok(Explained {
-        column,
-        message,
-        note: None,
-    })
+}
+
+// Explains a token that fits nowhere: what was expected, at the end of the token before.
+fn explain_syntax(
+    alloc: Global,
+    explained: &mut Explained,
+    bytes: &[u8],
+    line: &LineTokens,
+) -> Result<(), AllocError> {
+    let (end, column) = end_before(line, misfit(alloc, bytes, line)?);
+    explained.column = column;
+    let front = front_of(bytes, line, end);
+    push_all_expected(alloc, &mut explained.message, front)?;
+    push_after(&mut explained.message, last_token(alloc, front)?)
 }
 
 // The column of the token that does not fit.
-fn misfit_column(alloc: Global, bytes: &[u8], line: &LineTokens) -> Result<u32, Memory> {
+fn misfit_column(alloc: Global, bytes: &[u8], line: &LineTokens) -> Result<u32, AllocError> {
     let place = misfit(alloc, bytes, line)?;
     match line.tokens.get(place) {
         Some(token) => Ok(column_of(token.start)),
@@ -215,38 +252,45 @@ fn misfit_column(alloc: Global, bytes: &[u8], line: &LineTokens) -> Result<u32, 
     }
 }
 
-// Says where a name is declared.
-fn declared_here(
+// Notes where a name is declared.
+fn note_here(
     alloc: Global,
+    explained: &mut Explained,
     declared: &Declared,
     said: &str,
-) -> Result<FindingNote, AllocError> {
-    Ok(FindingNote {
+) -> Result<(), AllocError> {
+    let message = said_of(alloc, declared.name, said)?;
+    explained.note = Some(FindingNote {
         line: declared.line,
         column: declared.column,
-        message: said_of(alloc, declared.name, said)?,
-    })
+        message,
+    });
+    Ok(())
 }
 
 // The declaration of a name, if it has one.
 fn declaration<'d, 'a>(declared: &'d [Declared<'a>], name: &str) -> Option<&'d Declared<'a>> {
-    declared.iter().find(|one| one.name == name)
+    for one in declared {
+        if one.name == name {
+            return Some(one);
+        }
+    }
+    None
 }
 
-// A name that is declared as something else than is needed.
-fn explain_other(alloc: Global, column: u32, declared: &Declared) -> Result<Explained, AllocError> {
+// Explains a name that is declared as something else than is needed.
+fn explain_other(
+    alloc: Global,
+    explained: &mut Explained,
+    declared: &Declared,
+) -> Result<(), AllocError> {
     let said = if declared.is_type {
         " is a type, and an attribute is expected here"
     } else {
         " is an attribute, and a type is expected here"
     };
-    let message = said_of(alloc, declared.name, said)?;
-    let note = declared_here(alloc, declared, " is declared here")?;
-    Ok(Explained {
-        column,
-        message,
-        note: Some(note),
-    })
+    push_said(&mut explained.message, declared.name, said)?;
+    note_here(alloc, explained, declared, " is declared here")
 }
 
 // The name that is declared and nearest to one that is not.
@@ -262,102 +306,136 @@ fn nearest_declared<'a>(
     nearest(alloc, name, names.as_slice())
 }
 
-// A name that is not declared, and the nearest that is.
+// Notes where the name is declared that may be meant, if there is one.
+fn note_meant(
+    alloc: Global,
+    explained: &mut Explained,
+    declared: &[Declared],
+    meant: Option<&str>,
+) -> Result<(), AllocError> {
+    let Some(meant) = meant else {
+        return Ok(());
+    };
+    match declaration(declared, meant) {
+        Some(near) => note_here(alloc, explained, near, " is declared here"),
+        None => Ok(()),
+    }
+}
+
+// Explains a name that is not declared, by the nearest that is.
+fn explain_undeclared(
+    alloc: Global,
+    explained: &mut Explained,
+    declared: &[Declared],
+    name: &str,
+) -> Result<(), AllocError> {
+    push_said(&mut explained.message, name, " is not declared")?;
+    let meant = nearest_declared(alloc, declared, name)?;
+    push_meant(&mut explained.message, meant)?;
+    note_meant(alloc, explained, declared, meant)
+}
+
+// Explains a name that is not declared as what it has to be.
 fn explain_unknown(
     alloc: Global,
+    explained: &mut Explained,
     text: &str,
     line: &LineTokens,
     name: &str,
-) -> Result<Explained, AllocError> {
-    let column = column_of_word(text.as_bytes(), line, name.as_bytes(), 0);
+) -> Result<(), AllocError> {
+    explained.column = column_of_word(text.as_bytes(), line, name.as_bytes(), 0);
     let declared = declared_in(alloc, text)?;
-    if let Some(other) = declaration(declared.as_slice(), name) {
-        return explain_other(alloc, column, other);
+    match declaration(declared.as_slice(), name) {
+        Some(other) => explain_other(alloc, explained, other),
+        None => explain_undeclared(alloc, explained, declared.as_slice(), name),
     }
-    let mut message = said_of(alloc, name, " is not declared")?;
-    let meant = nearest_declared(alloc, declared.as_slice(), name)?;
-    push_meant(&mut message, meant)?;
-    let note = match meant.and_then(|meant| declaration(declared.as_slice(), meant)) {
-        Some(near) => Some(declared_here(alloc, near, " is declared here")?),
-        None => None,
-    };
-    Ok(Explained {
-        column,
-        message,
-        note,
-    })
 }
 
-// A name that is declared twice, with the line where it is first.
+// Appends and notes where a name is first declared.
+fn tell_first(
+    alloc: Global,
+    explained: &mut Explained,
+    first: &Declared,
+) -> Result<(), AllocError> {
+    push_text(&mut explained.message, ", and first on line ")?;
+    push_number(&mut explained.message, first.line)?;
+    note_here(alloc, explained, first, " is first declared here")
+}
+
+// Explains a name that is declared twice, by the line where it is first.
 fn explain_twice(
     alloc: Global,
+    explained: &mut Explained,
     text: &str,
     line: &LineTokens,
     name: &str,
-) -> Result<Explained, Memory> {
-    let mut message = said_of(alloc, name, " is declared twice")?;
-    let mut note = None;
+) -> Result<(), AllocError> {
+    explained.column = misfit_column(alloc, text.as_bytes(), line)?;
+    push_said(&mut explained.message, name, " is declared twice")?;
     let declared = declared_in(alloc, text)?;
-    if let Some(first) = declaration(declared.as_slice(), name) {
-        let mut digits = Buffer::new();
-        push_text(&mut message, ", and first on line ")?;
-        push_text(&mut message, digits.format(first.line))?;
-        note = Some(declared_here(alloc, first, " is first declared here")?);
+    match declaration(declared.as_slice(), name) {
+        Some(first) => tell_first(alloc, explained, first),
+        None => Ok(()),
     }
-    let column = misfit_column(alloc, text.as_bytes(), line)?;
-    Ok(Explained {
-        column,
-        message,
-        note,
-    })
 }
 
-// A word that fits nowhere, and what is said of it.
-fn explain_word(
+// Explains a word that isn't a permission, by the nearest that is one.
+fn explain_permission(
     alloc: Global,
+    explained: &mut Explained,
     bytes: &[u8],
     line: &LineTokens,
-    message: Vec<u8>,
-) -> Result<Explained, Memory> {
-    let column = misfit_column(alloc, bytes, line)?;
-    Ok(Explained {
-        column,
-        message,
-        note: None,
-    })
+    word: &str,
+) -> Result<(), AllocError> {
+    explained.column = misfit_column(alloc, bytes, line)?;
+    push_said(
+        &mut explained.message,
+        word,
+        " is no permission of class grant",
+    )?;
+    push_hint(alloc, &mut explained.message, word, PERMISSIONS.as_slice())
 }
 
-/// Where the fault of a text stands in its line, and what is said of it.
-pub(crate) fn explain(alloc: Global, text: &str, fault: &PolicyFault) -> Result<Explained, Memory> {
+// Explains a word that is not read here.
+fn explain_outside(
+    alloc: Global,
+    explained: &mut Explained,
+    bytes: &[u8],
+    line: &LineTokens,
+    word: &str,
+) -> Result<(), AllocError> {
+    let said = " is outside the part of the policy language that is read here";
+    explained.column = misfit_column(alloc, bytes, line)?;
+    push_said(&mut explained.message, word, said)
+}
+
+/// Explains the fault of a text: where it is in its line, and why.
+pub(crate) fn explain(
+    alloc: Global,
+    explained: &mut Explained,
+    text: &str,
+    fault: &PolicyFault,
+) -> Result<(), AllocError> {
     let bytes = text.as_bytes();
     let line = line_tokens(alloc, bytes, fault.line)?;
     match &fault.kind {
-        PolicyFaultKind::Syntax => explain_syntax(alloc, bytes, &line),
-        PolicyFaultKind::Unknown(name) => {
-            let explained = explain_unknown(alloc, text, &line, name.as_str())?;
-            Ok(explained)
-        }
-        PolicyFaultKind::Twice(name) => explain_twice(alloc, text, &line, name.as_str()),
+        PolicyFaultKind::Syntax => explain_syntax(alloc, explained, bytes, &line),
+        PolicyFaultKind::Unknown(name) => explain_unknown(
+            alloc,
+            explained,
+            text,
+            &line,
+            name.as_str(),
+        ),
+        PolicyFaultKind::Twice(name) => explain_twice(alloc, explained, text, &line, name.as_str()),
         PolicyFaultKind::Permission(name) => {
-            let mut message = said_of(alloc, name.as_str(), " is no permission of class grant")?;
-            push_hint(alloc, &mut message, name.as_str(), PERMISSIONS.as_slice())?;
-            explain_word(alloc, bytes, &line, message)
+            explain_permission(alloc, explained, bytes, &line, name.as_str())
         }
         PolicyFaultKind::Outside(word) => {
-            let said = " is outside the part of the policy language that is read here";
-            let message = said_of(alloc, word.as_str(), said)?;
-            explain_word(alloc, bytes, &line, message)
+            explain_outside(alloc, explained, bytes, &line, word.as_str())
         }
-        PolicyFaultKind::Limit => {
-            let mut message = Vec::new(alloc);
-            push_text(&mut message, LIMITS)?;
-            Ok(Explained {
-                column: 1,
-                message,
-                note: None,
-            })
-        }
-        PolicyFaultKind::Memory => Err(Memory),
+        PolicyFaultKind::Limit => push_text(&mut explained.message, LIMITS),
+        PolicyFaultKind::Memory => Err(AllocError),
     }
 }
 

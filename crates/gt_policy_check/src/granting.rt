@@ -1,5 +1,5 @@
 //! Which types a statement allows what.
-ghost use Rattle.std.specs.Prelude.{◌≡◌, ◌&&◌, not};
+ghost use Rattle.std.specs.Prelude.{◌≡◌, ◌&&◌};
 ghost use Rattle.std.specs.List.{list_any};
 ghost use Rattle.std.specs.Str.{bytes_eq};
 ghost use Rattle.gt_policy.specs.Granting.{lists_word, is_self};
@@ -11,20 +11,23 @@ ghost use Rattle.gt_policy_check.specs.Granting.{is_near_miss, exceeds_on, excee
 use crate::members::{Member, is_same};
 use gt_policy::{Allowance, Permissions, SetElement, Statement, TextPiece};
 
+// Whether a word is among these.
+fn is_among(words: &[TextPiece], word: &[u8]) -> bool
+    ensures { result ≡ list_any (λ v. bytes_eq v word.now) words.now }
+{
+    'words: for listed in words {
+        if listed.as_bytes() == word {
+            return true;
+        }
+    }
+    false
+}
+
 /// Whether class `grant` is among the classes.
 pub(crate) fn has_grant(classes: &[TextPiece]) -> bool
     ensures { result ≡ has_grant classes.now }
 {
-    classes.iter().any(|class| class.as_str() == "grant")
-}
-
-// Whether some of the words is this one.
-fn is_listed(words: &[TextPiece], word: &str) -> bool
-    ensures { result ≡ list_any (λ v. bytes_eq v word.now) words.now }
-{
-    words
-        .iter()
-        .any(|listed| listed.as_bytes() == word.as_bytes())
+    is_among(classes, "grant".as_bytes())
 }
 
 // Whether the permissions list this one.
@@ -33,15 +36,8 @@ fn lists(perms: &Permissions, word: &str) -> bool
 {
     match perms {
         Permissions::Every => true,
-        Permissions::Named(words) => is_listed(words.as_slice(), word),
+        Permissions::Named(words) => is_among(words.as_slice(), word.as_bytes()),
     }
-}
-
-// Whether the word is one of these names.
-fn is_among(names: &[TextPiece], word: &TextPiece) -> bool
-    ensures { result ≡ list_any (λ v. bytes_eq v word.now) names.now }
-{
-    names.iter().any(|name| is_same(name, word))
 }
 
 /// Whether an item puts a type of these names into its set.
@@ -49,7 +45,7 @@ pub(crate) fn puts_in(names: &[TextPiece], item: &SetElement) -> bool
     ensures { result ≡ puts_in names.now item.now }
 {
     match item {
-        SetElement::With(mention) => is_among(names, &mention.name),
+        SetElement::With(mention) => is_among(names, mention.name.as_bytes()),
         SetElement::Without(_) => false,
         SetElement::Itself => false,
     }
@@ -61,7 +57,7 @@ fn takes_out(names: &[TextPiece], item: &SetElement) -> bool
 {
     match item {
         SetElement::With(_) => false,
-        SetElement::Without(mention) => is_among(names, &mention.name),
+        SetElement::Without(mention) => is_among(names, mention.name.as_bytes()),
         SetElement::Itself => false,
     }
 }
@@ -70,14 +66,24 @@ fn takes_out(names: &[TextPiece], item: &SetElement) -> bool
 fn some_puts_in(names: &[TextPiece], items: &[SetElement]) -> bool
     ensures { result ≡ list_any (λ i. puts_in names.now i) items.now }
 {
-    items.iter().any(|item| puts_in(names, item))
+    'items: for item in items {
+        if puts_in(names, item) {
+            return true;
+        }
+    }
+    false
 }
 
 // Whether some item takes such a type out.
 fn some_takes_out(names: &[TextPiece], items: &[SetElement]) -> bool
     ensures { result ≡ list_any (λ i. takes_out names.now i) items.now }
 {
-    items.iter().any(|item| takes_out(names, item))
+    'items: for item in items {
+        if takes_out(names, item) {
+            return true;
+        }
+    }
+    false
 }
 
 /// Whether a set holds a type of these names.
@@ -87,14 +93,26 @@ pub(crate) fn holds(names: &[TextPiece], items: &[SetElement]) -> bool
     some_puts_in(names, items) && !some_takes_out(names, items)
 }
 
-/// Whether a set says `self`.
+// Whether an item is `self`.
+fn is_self(item: &SetElement) -> bool
+    ensures { result ≡ is_self item.now }
+{
+    matches!(item, SetElement::Itself)
+}
+
+/// Whether `self` is in a set.
 pub(crate) fn says_self(items: &[SetElement]) -> bool
     ensures { result ≡ list_any is_self items.now }
 {
-    items.iter().any(|item| matches!(item, SetElement::Itself))
+    'items: for item in items {
+        if is_self(item) {
+            return true;
+        }
+    }
+    false
 }
 
-// Whether a statement's target set holds the target, or says `self` and the two are one.
+// Whether a statement's target set holds the target, or has `self` and the two are one.
 fn reaches(allowed: &Allowance, source: &Member, target: &Member) -> bool
     ensures { result ≡ reaches_by source.now target.now allowed.now }
 {
@@ -106,9 +124,12 @@ fn reaches(allowed: &Allowance, source: &Member, target: &Member) -> bool
 fn reaches_some(allowed: &Allowance, source: &Member, targets: &[Member]) -> bool
     ensures { result ≡ list_any (λ t. reaches_by source.now t allowed.now) targets.now }
 {
-    targets
-        .iter()
-        .any(|target| reaches(allowed, source, target))
+    'targets: for target in targets {
+        if reaches(allowed, source, target) {
+            return true;
+        }
+    }
+    false
 }
 
 // Whether a statement gives the source this permission, on whatever target.
@@ -131,9 +152,12 @@ fn gives(allowed: &Allowance, source: &Member, targets: &[Member], perm: &str) -
 fn gives_any(allowed: &Allowance, sources: &[Member], targets: &[Member], perm: &str) -> bool
     ensures { result ≡ list_any (λ s. gives_by perm.now targets.now s allowed.now) sources.now }
 {
-    sources
-        .iter()
-        .any(|source| gives(allowed, source, targets, perm))
+    'sources: for source in sources {
+        if gives(allowed, source, targets, perm) {
+            return true;
+        }
+    }
+    false
 }
 
 /// Whether a statement grants the permission to some of the sources on some of the targets.
@@ -166,9 +190,12 @@ fn is_near_miss(allowed: &Allowance, source: &Member, targets: &[Member], perm: 
 fn near_any(allowed: &Allowance, sources: &[Member], targets: &[Member], perm: &str) -> bool
     ensures { result ≡ list_any (λ s. is_near_miss perm.now targets.now s allowed.now) sources.now }
 {
-    sources
-        .iter()
-        .any(|source| is_near_miss(allowed, source, targets, perm))
+    'sources: for source in sources {
+        if is_near_miss(allowed, source, targets, perm) {
+            return true;
+        }
+    }
+    false
 }
 
 /// Whether a statement comes near: it has the target and the permission, or the target and the source.
@@ -208,8 +235,12 @@ fn exceeds_on(
 ) -> bool
     ensures { result ≡ exceeds_on perm.now targets.now allowed.now other.now source.now }
 {
-    targets.iter().any(|target| reaches(allowed, source, target)
-        && !gives_one(other, source, target, perm))
+    'targets: for target in targets {
+        if reaches(allowed, source, target) && !gives_one(other, source, target, perm) {
+            return true;
+        }
+    }
+    false
 }
 
 // Whether a statement grants the permission to some source on some target where another does not.
@@ -217,9 +248,14 @@ fn exceeds_any(allowed: &Allowance, other: &Statement, members: &[Member], perm:
     ensures { result ≡ list_any (λ s. gives_source perm.now s allowed.now
         && exceeds_on perm.now members.now allowed.now other.now s) members.now }
 {
-    members.iter().any(|source| {
-        gives_source(allowed, source, perm) && exceeds_on(allowed, other, source, members, perm)
-    })
+    'members: for source in members {
+        if gives_source(allowed, source, perm)
+            && exceeds_on(allowed, other, source, members, perm)
+        {
+            return true;
+        }
+    }
+    false
 }
 
 /// Whether a statement grants the permission to some of the types on some of them where another statement does not.

@@ -1,31 +1,37 @@
 //! Who allows what in a policy text, and what is wrong or useless in it.
 //!
-//! [`why`] answers a question: may a type do this to another, and which allow statements say so. Each
-//! statement is told with its line, and with the attribute by which the types came into its sets.
-//! [`check`] tells a text's first fault, or what is useless in a policy, with hints; [`push_report`]
+//! [`why`] answers a question: may a type do this to another, and by which allow statements? Each
+//! statement is listed with its line, and with the attribute by which the types came into its sets.
+//! [`check`] finds a text's first fault, or what is useless in a policy, with hints; [`push_report`]
 //! and [`push_json`] write it.
 //!
-//! What holds: the statements told are exactly those that grant the permission, by the names in them,
-//! or for a denied question those that come near. An error is told exactly if a text is no policy,
-//! at the line of its first fault, and the statements told to allow nothing, or to repeat an earlier one,
-//! are exactly those that do.
+//! What holds: the statements listed are exactly those that grant the permission, by the names in them,
+//! or for a denied question those that come near. A text has an error exactly if it isn't a policy, at
+//! the line of its first fault. The warnings name exactly the statements that allow nothing, and
+//! exactly those that repeat an earlier one. The JSON of a finding is its members, as RFC 8259 spells them.
 //!
-//! It uses `gt_policy` (the statements of a text), `gt_types` (permissions), `gt_text` (text),
-//! `itoa` (numbers), `strsim` (nearest names) and `unicode_width` (columns of a terminal).
+//! It uses `gt_policy` (the statements of a text), `gt_types` (permissions), `gt_text` (text), `gt_json`
+//! (strings as JSON), `itoa` (numbers), `strsim` (nearest names) and `unicode_width` (columns of a terminal).
 #![tactic(auto)]
 
+mod adding;
 mod asking;
 mod declared;
+mod domains;
 mod fault;
 mod findings;
 mod granting;
+mod judging;
+mod listed;
 mod members;
 mod nearest;
 mod places;
+mod reading;
 mod report;
 mod texts;
+mod useless;
 
-pub use asking::{Explanation, WhyAnswer, WhyQuestion, why};
+pub use asking::{WhyAnswer, Explanation, WhyQuestion, why};
 pub use fault::{push_hint, said_of};
 pub use findings::{Finding, FindingKind, check, check_worn};
 pub use report::{push_json, push_report};

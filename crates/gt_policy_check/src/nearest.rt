@@ -40,5 +40,8 @@ pub(crate) fn nearest<'a>(
             best = Some((distance, name));
         }
     }
-    Ok(best.map(|(_, name)| name))
+    match best {
+        Some((_, name)) => Ok(Some(name)),
+        None => Ok(None),
+    }
 }

@@ -2,7 +2,7 @@
 use std::alloc::{AllocError, Global};
 
 /// Bytes of a text, from one to another.
-#[derive(Clone, Copy, Debug, PartialEq, Eq)]
+#[derive(Clone, Copy)]
 pub struct Span {
     pub start: usize,
     pub end: usize,
@@ -116,8 +116,8 @@ pub(crate) fn front_of<'a>(bytes: &'a [u8], line: &LineTokens, place: usize) -> 
     )
 }
 
-/// The column of a token of a line that is this word, after so many others that are; that of the line's first token if
-/// there is none.
+/// The column of a word among the tokens of a line, with as many of the same word before it as are skipped; without
+/// one, the column of the line's first token.
 pub(crate) fn column_of_word(bytes: &[u8], line: &LineTokens, word: &[u8], skipped: usize) -> u32 {
     let text = bytes_of(bytes, line.span);
     let mut found: usize = 0;

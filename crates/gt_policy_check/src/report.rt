@@ -1,11 +1,15 @@
 //! Findings as text, as compilers print them.
-ghost use Rattle.std.specs.Prelude.{◌≡◌, ◌++◌, OnOk};
-ghost use Rattle.gt_policy_check.specs.Report.{severity_text, heading_text};
+ghost use Rattle.std.specs.Prelude.{◌≡◌, ◌++◌, codes, OnOk};
+ghost use Rattle.std.specs.Fmt.{decimal};
+ghost use Rattle.std.specs.List.{flat_map};
+ghost use Rattle.gt_json.specs.Strings.{quoted};
+ghost use Rattle.gt_policy_check.specs.Report.{heading_text, object_text, severity_text};
 
 use crate::findings::{Finding, FindingKind};
 use crate::places::{bytes_of, line_span};
+use crate::texts::{push_both, push_number};
+use gt_json::push_quoted;
 use gt_text::{push_text, text_of};
-use itoa::Buffer;
 use std::alloc::AllocError;
 use unicode_width::UnicodeWidthChar;
 
@@ -25,25 +29,37 @@ impl FindingKind {
     }
 }
 
-// Appends the first line of a finding: `FILE:LINE:COLUMN: SEVERITY: MESSAGE`.
-fn push_heading(out: &mut Vec<u8>, file: &str, finding: &Finding) -> Result<(), AllocError>
-    ensures { OnOk result (out.new.items ≡ out.old.items ++ heading_text file.now finding.now) }
+// Appends the column of a finding after its line.
+fn push_position(out: &mut Vec<u8>, finding: &Finding, between: &str) -> Result<(), AllocError>
+    ensures { OnOk result (out.new.items ≡ out.old.items
+        ++ decimal finding.now.line ++ between.now ++ decimal finding.now.column) }
 {
-    let mut line = Buffer::new();
-    let mut column = Buffer::new();
-    push_text(out, file)?;
-    push_text(out, ":")?;
-    push_text(out, line.format(finding.line))?;
-    push_text(out, ":")?;
-    push_text(out, column.format(finding.column))?;
-    push_text(out, ": ")?;
-    push_text(out, finding.kind.severity())?;
-    push_text(out, ": ")?;
+    push_number(out, finding.line)?;
+    push_text(out, between)?;
+    push_number(out, finding.column)
+}
+
+// Appends how bad a finding is, and what is said.
+fn push_said(out: &mut Vec<u8>, finding: &Finding) -> Result<(), AllocError>
+    ensures { OnOk result (out.new.items ≡ out.old.items
+        ++ severity_text finding.now.kind ++ codes ": " ++ finding.now.message.items ++ codes "\n") }
+{
+    push_both(out, finding.kind.severity(), ": ")?;
     out.extend_from_slice(finding.message.as_slice())?;
     push_text(out, "\n")
 }
 
-/// Appends a character of a line. A control character could move the terminal's cursor, so another stands for it.
+// Appends the first line of a finding: `FILE:LINE:COLUMN: SEVERITY: MESSAGE`.
+fn push_heading(out: &mut Vec<u8>, file: &str, finding: &Finding) -> Result<(), AllocError>
+    ensures { OnOk result (out.new.items ≡ out.old.items ++ heading_text file.now finding.now) }
+{
+    push_both(out, file, ":")?;
+    push_position(out, finding, ":")?;
+    push_text(out, ": ")?;
+    push_said(out, finding)
+}
+
+/// Appends a character of a line. A control character could move the terminal's cursor, so it is replaced.
 pub(crate) fn push_shown(out: &mut Vec<u8>, letter: char) -> Result<(), AllocError> {
     let mut bytes = [0; 4];
     let shown = if letter.is_control() && letter != '\t' {
@@ -54,7 +70,7 @@ pub(crate) fn push_shown(out: &mut Vec<u8>, letter: char) -> Result<(), AllocErr
     push_text(out, shown.encode_utf8(&mut bytes))
 }
 
-// Appends blanks as wide as a character of a line. A tab stays a tab, so that the caret stands right whatever a tab's
+// Appends blanks as wide as a character of a line. A tab stays a tab, so that the caret is right whatever a tab's
 // width.
 fn push_blank(out: &mut Vec<u8>, letter: char) -> Result<(), AllocError> {
     if letter == '\t' {
@@ -74,22 +90,34 @@ fn line_of<'a>(text: &'a str, line: u32) -> &'a str {
     }
 }
 
+/// Appends the characters of a line.
+pub(crate) fn push_all_shown(out: &mut Vec<u8>, line: &str) -> Result<(), AllocError> {
+    for letter in line.chars() {
+        push_shown(out, letter)?;
+    }
+    Ok(())
+}
+
+// Appends blanks as wide as the characters of a line before a column.
+fn push_blanks(out: &mut Vec<u8>, line: &str, column: u32) -> Result<(), AllocError> {
+    for (place, letter) in line.char_indices() {
+        if place + 1 >= column as usize {
+            break;
+        }
+        push_blank(out, letter)?;
+    }
+    Ok(())
+}
+
 // Appends the line of a finding, and a caret below its column.
 fn push_excerpt(out: &mut Vec<u8>, text: &str, finding: &Finding) -> Result<(), AllocError> {
     let line = line_of(text, finding.line);
     if line.is_empty() {
         return Ok(());
     }
-    for letter in line.chars() {
-        push_shown(out, letter)?;
-    }
+    push_all_shown(out, line)?;
     push_text(out, "\n")?;
-    for (place, letter) in line.char_indices() {
-        if place + 1 >= finding.column as usize {
-            break;
-        }
-        push_blank(out, letter)?;
-    }
+    push_blanks(out, line, finding.column)?;
     push_text(out, "^\n")
 }
 
@@ -107,66 +135,34 @@ pub fn push_report(
     Ok(())
 }
 
-// Appends a byte of a text as JSON writes it in a string.
-fn push_escaped(out: &mut Vec<u8>, byte: u8) -> Result<(), AllocError> {
-    match byte {
-        b'"' => push_text(out, "\\\""),
-        b'\\' => push_text(out, "\\\\"),
-        b'\n' => push_text(out, "\\n"),
-        b'\r' => push_text(out, "\\r"),
-        b'\t' => push_text(out, "\\t"),
-        0..32 | 127 => {
-            push_text(out, "\\u00")?;
-            out.push(hex_digit(byte / 16))?;
-            out.push(hex_digit(byte % 16))?;
-            Ok(())
-        }
-        byte => {
-            out.push(byte)?;
-            Ok(())
-        }
-    }
-}
-
-// The digit of a number below 16.
-fn hex_digit(number: u8) -> u8 {
-    match number {
-        0..10 => b'0' + number,
-        10..16 => b'a' + (number - 10),
-        _ => b'0',
-    }
-}
-
-// Appends a text as a JSON string.
-fn push_string(out: &mut Vec<u8>, text: &[u8]) -> Result<(), AllocError> {
-    push_text(out, "\"")?;
-    for byte in text {
-        push_escaped(out, *byte)?;
-    }
-    push_text(out, "\"")
+// Appends the severity and the message of a JSON object.
+fn push_members(out: &mut Vec<u8>, finding: &Finding) -> Result<(), AllocError>
+    ensures { OnOk result (out.new.items ≡ out.old.items ++ codes ",\"severity\":\""
+        ++ severity_text finding.now.kind ++ codes "\",\"message\":" ++ quoted finding.now.message.items) }
+{
+    push_both(out, ",\"severity\":\"", finding.kind.severity())?;
+    push_text(out, "\",\"message\":")?;
+    push_quoted(out, finding.message.as_slice())
 }
 
 // Appends a finding as one line of JSON.
-fn push_object(out: &mut Vec<u8>, file: &str, finding: &Finding) -> Result<(), AllocError> {
-    let mut line = Buffer::new();
-    let mut column = Buffer::new();
+fn push_object(out: &mut Vec<u8>, file: &str, finding: &Finding) -> Result<(), AllocError>
+    ensures { OnOk result (out.new.items ≡ out.old.items ++ object_text file.now finding.now) }
+{
     push_text(out, "{\"file\":")?;
-    push_string(out, file.as_bytes())?;
+    push_quoted(out, file.as_bytes())?;
     push_text(out, ",\"line\":")?;
-    push_text(out, line.format(finding.line))?;
-    push_text(out, ",\"column\":")?;
-    push_text(out, column.format(finding.column))?;
-    push_text(out, ",\"severity\":\"")?;
-    push_text(out, finding.kind.severity())?;
-    push_text(out, "\",\"message\":")?;
-    push_string(out, finding.message.as_slice())?;
+    push_position(out, finding, ",\"column\":")?;
+    push_members(out, finding)?;
     push_text(out, "}\n")
 }
 
 /// Appends what is found in a text as JSON Lines: for each finding an object with `file`, `line`, `column`, `severity`
 /// and `message`.
-pub fn push_json(out: &mut Vec<u8>, file: &str, found: &[Finding]) -> Result<(), AllocError> {
-    for finding in found {
+pub fn push_json(out: &mut Vec<u8>, file: &str, found: &[Finding]) -> Result<(), AllocError>
+    ensures { OnOk result (out.new.items ≡ out.old.items ++ flat_map (object_text file.now) found.now) }
+{
+    'found: for finding in found {
         push_object(out, file, finding)?;
     }
     Ok(())

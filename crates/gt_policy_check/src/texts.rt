@@ -1,10 +1,11 @@
 //! Allow statements as text.
-ghost use Rattle.std.specs.Prelude.{◌≡◌, ◌++◌, find, OnOk};
-ghost use Rattle.std.specs.List.{list_any, list_all};
+ghost use Rattle.std.specs.Prelude.{◌≡◌, ◌++◌, codes, find, OnOk};
+ghost use Rattle.std.specs.Fmt.{decimal};
+ghost use Rattle.std.specs.List.{list_any};
 ghost use Rattle.std.specs.Option.{option_map};
 ghost use Rattle.gt_policy_check.specs.Texts.{is_plain, item_text, items_text, set_text, words_text, list_text, perms_text};
 ghost use Rattle.gt_policy_check.specs.Texts.{allow_text, names_type, way_text, held_text, all_held_text, self_text};
-ghost use Rattle.gt_policy_check.specs.Texts.{note_text, place_text, report_entry_text, is_kept, by_text, item_by_text};
+ghost use Rattle.gt_policy_check.specs.Texts.{note_text, place_text, report_entry_text, by_text, item_by_text};
 ghost use Rattle.gt_policy_check.specs.Granting.{puts_in};
 
 use crate::granting::{holds, puts_in, says_self};
@@ -14,33 +15,33 @@ use gt_text::push_text;
 use itoa::Buffer;
 use std::alloc::AllocError;
 
+/// Appends two texts, one after the other.
+pub(crate) fn push_both(out: &mut Vec<u8>, first: &str, second: &str) -> Result<(), AllocError>
+    ensures { OnOk result (out.new.items ≡ out.old.items ++ first.now ++ second.now) }
+{
+    push_text(out, first)?;
+    push_text(out, second)
+}
+
 fn push_item(out: &mut Vec<u8>, item: &SetElement) -> Result<(), AllocError>
     ensures { OnOk result (out.new.items ≡ out.old.items ++ item_text item.now) }
 {
     match item {
         SetElement::With(mention) => push_text(out, mention.name.as_str()),
-        SetElement::Without(mention) => {
-            push_text(out, "-")?;
-            push_text(out, mention.name.as_str())
-        }
+        SetElement::Without(mention) => push_both(out, "-", mention.name.as_str()),
         SetElement::Itself => push_text(out, "self"),
     }
-}
-
-// Whether no item is one after `-`.
-fn are_kept(items: &[SetElement]) -> bool
-    ensures { result ≡ list_all is_kept items.now }
-{
-    items
-        .iter()
-        .all(|item| !matches!(item, SetElement::Without(_)))
 }
 
 // Whether the set is one name, or `self`, which needs no braces.
 fn is_plain(items: &[SetElement]) -> bool
     ensures { result ≡ is_plain items.now }
 {
-    items.len() == 1 && are_kept(items)
+    match items {
+        [SetElement::With(_)] => true,
+        [SetElement::Itself] => true,
+        _ => false,
+    }
 }
 
 // Appends the items, each with a space before it.
@@ -71,8 +72,7 @@ fn push_words(out: &mut Vec<u8>, words: &[TextPiece], before: &str) -> Result<()
     ensures { OnOk result (out.new.items ≡ out.old.items ++ words_text before.now words.now) }
 {
     'words: for word in words {
-        push_text(out, before)?;
-        push_text(out, word.as_str())?;
+        push_both(out, before, word.as_str())?;
     }
     Ok(())
 }
@@ -101,13 +101,21 @@ fn push_perms(out: &mut Vec<u8>, perms: &Permissions) -> Result<(), AllocError>
     }
 }
 
+// Appends the sets of an allow statement.
+fn push_sets(out: &mut Vec<u8>, allowed: &Allowance) -> Result<(), AllocError>
+    ensures { OnOk result (out.new.items ≡ out.old.items
+        ++ codes "allow" ++ set_text allowed.now.source ++ set_text allowed.now.target) }
+{
+    push_text(out, "allow")?;
+    push_set(out, allowed.source.as_slice())?;
+    push_set(out, allowed.target.as_slice())
+}
+
 // Appends an allow statement, on one line.
 fn push_allow(out: &mut Vec<u8>, allowed: &Allowance) -> Result<(), AllocError>
     ensures { OnOk result (out.new.items ≡ out.old.items ++ allow_text allowed.now) }
 {
-    push_text(out, "allow")?;
-    push_set(out, allowed.source.as_slice())?;
-    push_set(out, allowed.target.as_slice())?;
+    push_sets(out, allowed)?;
     push_text(out, ":")?;
     push_list(out, allowed.classes.as_slice())?;
     push_perms(out, &allowed.perms)?;
@@ -128,7 +136,12 @@ fn names_type(name: &TextPiece, item: &SetElement) -> bool
 fn is_named(name: &TextPiece, items: &[SetElement]) -> bool
     ensures { result ≡ list_any (λ i. names_type name.now i) items.now }
 {
-    items.iter().any(|item| names_type(name, item))
+    'items: for item in items {
+        if names_type(name, item) {
+            return true;
+        }
+    }
+    false
 }
 
 // Appends that a type came into a set by the attribute of an item.
@@ -136,10 +149,7 @@ fn push_by(out: &mut Vec<u8>, item: &SetElement) -> Result<(), AllocError>
     ensures { OnOk result (out.new.items ≡ out.old.items ++ item_by_text item.now) }
 {
     match item {
-        SetElement::With(mention) => {
-            push_text(out, " by ")?;
-            push_text(out, mention.name.as_str())
-        }
+        SetElement::With(mention) => push_both(out, " by ", mention.name.as_str()),
         _ => Ok(()),
     }
 }
@@ -182,8 +192,7 @@ fn push_held(out: &mut Vec<u8>, member: &Member, items: &[SetElement]) -> Result
     if !holds(member.names.as_slice(), items) {
         return Ok(());
     }
-    push_text(out, " ")?;
-    push_text(out, member.name.as_str())?;
+    push_both(out, " ", member.name.as_str())?;
     push_way(out, member, items)
 }
 
@@ -201,7 +210,7 @@ fn push_all_held(
     Ok(())
 }
 
-// Appends that a target set says `self`, if it does.
+// Appends `self` if a target set has it.
 fn push_self(out: &mut Vec<u8>, items: &[SetElement]) -> Result<(), AllocError>
     ensures { OnOk result (out.new.items ≡ out.old.items ++ self_text items.now) }
 {
@@ -229,19 +238,25 @@ fn push_note(
     push_text(out, "\n")
 }
 
+/// Appends a number, in decimal digits.
+pub(crate) fn push_number(out: &mut Vec<u8>, number: u32) -> Result<(), AllocError>
+    ensures { OnOk result (out.new.items ≡ out.old.items ++ decimal number) }
+{
+    let mut digits = Buffer::new();
+    push_text(out, digits.format(number))
+}
+
 // Appends a place, as compilers write it.
 fn push_place(out: &mut Vec<u8>, file: &str, line: u32) -> Result<(), AllocError>
     ensures { OnOk result (out.new.items ≡ out.old.items ++ place_text file.now line) }
 {
-    let mut digits = Buffer::new();
-    push_text(out, file)?;
-    push_text(out, ":")?;
-    push_text(out, digits.format(line))?;
+    push_both(out, file, ":")?;
+    push_number(out, line)?;
     push_text(out, ": ")
 }
 
-/// Appends the line of an allow statement: where it stands, the statement, and which of these sources and targets its
-/// sets hold.
+/// Appends the line of an allow statement: where it is, the statement, and which of these sources and targets its sets
+/// hold.
 pub(crate) fn push_entry(
     out: &mut Vec<u8>,
     file: &str,

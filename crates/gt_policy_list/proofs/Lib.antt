@@ -1,4 +1,3 @@
 pub mod LineLemmas
 pub mod OrderLemmas
 pub mod ListedLemmas
-pub mod PieceLemmas

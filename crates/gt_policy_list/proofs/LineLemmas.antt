@@ -11,7 +11,7 @@ use Rattle.gt_types.specs.Names.{every_permission}
 use Rattle.gt_policy_list.specs.Listing.{line_of_triple, pair_triples, triples_of, is_allowed_triple, listing}
 use Rattle.gt_policy_list.specs.Lines.{triple_text, pair_text, source_text}
 use Rattle.gt_text.specs.Streams.{AppendsBeginning, Sends}
-use Rattle.gt_policy_list.proofs.PieceLemmas.{sends_all}
+use Rattle.gt_text.proofs.PieceLemmas.{sends_all}
 
 flat_map_same : {X : Type 0} (f g : X → List ℕ) → ((x : X) → f x ≡ g x) → (xs : List X) → flat_map f xs ≡ flat_map g xs
 flat_map_same f g same [] = refl

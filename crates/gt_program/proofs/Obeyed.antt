@@ -22,7 +22,7 @@ use Rattle.gt_commands.specs.declared.invocation.Invocation.{Invocation}
 use Rattle.gt_entries.specs.declared.asked.DumpOptions.{DumpOptions}
 use Rattle.gt_commands.specs.declared.invocation.Format.{Format}
 use Rattle.gt_policy_list.specs.declared.fault.ListingFault.{ListingFault}
-use Rattle.gt_json.specs.AsJson.{Promise}
+use Rattle.gt_json_commands.specs.AsJson.{Promise}
 use Rattle.gt_program.specs.Formats.{CheckedAs, RanAs}
 use Rattle.gt_run.specs.declared.fault.RunFault.{RunFault}
 use Rattle.gt_program.specs.Obeying.{IsSearched, Searches, Seeks}

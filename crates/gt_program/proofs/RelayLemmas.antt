@@ -4,8 +4,8 @@ use Rattle.std.proofs.Common.{inr}
 use Rattle.std.proofs.Common.{arith}
 use Rattle.std.proofs.lemmas.List.{append-nil}
 use Rattle.std.specs.Io.KnownBytes.{Appends, Keeps}
-use Rattle.gt_json.specs.AsJson.{AsJson, Failed, Promise}
-use Rattle.gt_json.specs.Prelude.{Run, json_text}
+use Rattle.gt_json_commands.specs.AsJson.{AsJson, Failed, Promise}
+use Rattle.gt_json_commands.specs.Prelude.{Run, json_text}
 use Rattle.gt_commands.specs.declared.invocation.Format.{Format}
 use Rattle.gt_commands.specs.declared.invocation.Format.TheVariants.{Text, Json}
 use Rattle.gt_host.specs.Rights.{may_by}

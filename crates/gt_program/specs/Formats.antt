@@ -4,7 +4,7 @@ use Rattle.std.specs.Io.KnownBytes.{Appends, Keeps}
 use Rattle.gt_program.specs.Prelude.{DumpOptions, Format, RunTells}
 use Rattle.gt_checks.specs.Checking.{Checked}
 use Rattle.gt_checks.specs.Scripts.{CheckedScript}
-use Rattle.gt_json.specs.AsJson.{Promise, ListedAsJson, PlayedAsJson, RanAsJson, ToldAsJson}
+use Rattle.gt_json_commands.specs.AsJson.{Promise, ListedAsJson, PlayedAsJson, RanAsJson, ToldAsJson}
 use Rattle.gt_commands.specs.declared.invocation.Format.TheVariants.{Text, Json}
 use Rattle.gt_entries.specs.Dumps.{Told}
 use Rattle.gt_entries.specs.declared.fault.DumpFault.{DumpFault}

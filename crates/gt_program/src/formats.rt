@@ -8,7 +8,7 @@ use gt_checks::{check, check_script};
 use gt_commands::Format;
 use gt_entries::{DumpFault, DumpOptions, entries};
 use gt_host::{PlayFault, play};
-use gt_json::{entries_json, play_json, policy_json, run_json};
+use gt_json_commands::{entries_json, play_json, policy_json, run_json};
 use gt_policy_list::{ListingFault, policy};
 use gt_run::{Gate, RunFault, run};
 use std::alloc::Global;

@@ -1,2 +1,3 @@
+pub mod PieceLemmas
 mod StreamLemmas
 pub mod TextLemmas

@@ -1,8 +1,8 @@
 use Rattle.std.proofs.Common.{◌≡◌, ◌<◌, ℕ, List, [], length, refl, arith}
 use Rattle.gt_text.specs.Laws.{OnErr-all}
 use Rattle.gt_json.specs.Lines.{object_line}
-use Rattle.gt_json.proofs.PieceLemmas.{begins_all, begins_pieces, has_begun, sends_all, sends_start, sent_all}
-use Rattle.gt_json.proofs.PieceLemmas.{step_begun, step_sent}
+use Rattle.gt_text.proofs.PieceLemmas.{begins_all, begins_pieces, has_begun, sends_all, sends_start, sent_all}
+use Rattle.gt_text.proofs.PieceLemmas.{step_begun, step_sent}
 use Rattle.gt_json.proofs.lines.write_lines.Goals as goal
 
 pub lines-init : goal.lines-init

@@ -4,7 +4,7 @@ use Rattle.gt_types.specs.Names.{every_permission}
 use Rattle.gt_types.specs.declared.perms.Perms.{Perms}
 use Rattle.gt_allow.specs.Looking.{looks_up}
 use Rattle.gt_policy_list.specs.Lines.{triple_text}
-use Rattle.gt_policy_list.proofs.PieceLemmas.{grows, all_pieces}
+use Rattle.gt_text.proofs.PieceLemmas.{grows, all_pieces}
 use Rattle.gt_policy_list.proofs.lines.push_pair.Goals as goal
 
 pub permissions-init : goal.permissions-init

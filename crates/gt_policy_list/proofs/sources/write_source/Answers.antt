@@ -3,7 +3,7 @@ use Rattle.gt_types.specs.declared.TypeId.{TypeId}
 use Rattle.gt_allow.specs.Looking.{looks_up}
 use Rattle.gt_policy_list.specs.Lines.{pair_text}
 use Rattle.gt_text.specs.Laws.{OnErr-all}
-use Rattle.gt_policy_list.proofs.PieceLemmas.{begins_pieces, has_begun, sends_nothing, sent_all, step_begun, step_sent}
+use Rattle.gt_text.proofs.PieceLemmas.{begins_pieces, has_begun, sends_nothing, sent_all, step_begun, step_sent}
 use Rattle.gt_policy_list.proofs.sources.write_source.Goals as goal
 
 pub targets-init : goal.targets-init

@@ -3,7 +3,7 @@ use Rattle.gt_allow.specs.Looking.{looks_up}
 use Rattle.gt_policy_list.specs.Lines.{source_text}
 use Rattle.gt_policy_list.proofs.LineLemmas.{begins_listing, finished}
 use Rattle.gt_text.specs.Laws.{OnErr-all}
-use Rattle.gt_policy_list.proofs.PieceLemmas.{begins_all, sends_start, sent_all, step_begun, step_sent}
+use Rattle.gt_text.proofs.PieceLemmas.{begins_all, sends_start, sent_all, step_begun, step_sent}
 use Rattle.gt_policy_list.proofs.sources.write_sources.Goals as goal
 
 pub sources-init : goal.sources-init

@@ -1,0 +1,64 @@
+-- What goes out for a command whose text is written as JSON.
+use Rattle.std.specs.Prelude.{◌≡◌, ◌⊎◌, ℕ, Bool, List, [], Option, Some, Result, Ok, Err}
+use Rattle.gt_json_commands.specs.Prelude.{Appends, Keeps, AppendsBeginning, json_text, PrintedText, Run, Policy, Entries}
+use Rattle.gt_json_commands.specs.Prelude.{TellsScript}
+use Rattle.gt_json_commands.specs.Prelude.{RunTells, PlayFault, Played, RunFault, Ran, ListingFault, Listed, DumpOptions, DumpFault}
+use Rattle.gt_json_commands.specs.Prelude.{Told}
+use Rattle.gt_text.specs.Streams.{OfInput}
+use Rattle.gt_host.specs.declared.fault.PlayFault.TheVariants as plays
+use Rattle.gt_run.specs.declared.fault.RunFault.TheVariants as runs
+use Rattle.gt_policy_list.specs.declared.fault.ListingFault.TheVariants as listings
+use Rattle.gt_entries.specs.declared.fault.DumpFault.TheVariants as dumps
+
+-- what a command promises of the bytes that its writer held and holds, and of its answer
+abbrev pub Promise : Type 0 → Type 1
+Promise F = Option (List ℕ) → Option (List ℕ) → Result (Unit {0}) F → Type 0
+
+-- what it promises of whatever a reader has left, where that is known
+abbrev pub ForInput : {F : Type 0} → Option (List ℕ) → (List ℕ → Promise F) → Promise F
+ForInput known promise old new answer = OfInput known (λ input. promise input old new answer)
+
+-- the text is one that the command writes to a writer without bytes, with this answer
+abbrev pub WritesJson : {F : Type 0} → Promise F → Result (Unit {0}) F → List ℕ → Type 0
+WritesJson Wrote answer text = Wrote (Some []) (Some text) answer
+
+-- Why the JSON did not go out whole. It may be that none did: memory was refused, or the command has this fault. Or
+-- memory was refused or a write failed on the way, and a beginning of it did.
+abbrev pub Failed : {F : Type 0} → PrintedText → F → F → Promise F → Option (List ℕ) → Option (List ℕ) → F → Type 0
+Failed printed memory write Wrote old new fault =
+    (Keeps old new × ((fault ≡ memory) ⊎ ((text : List ℕ) × WritesJson Wrote (Err fault) text)))
+    ⊎ (((fault ≡ memory) ⊎ (fault ≡ write))
+    × ((text : List ℕ) × WritesJson Wrote (Ok tt) text × AppendsBeginning old new (json_text printed text)))
+
+-- what goes out: at Ok the JSON of a text that the command writes; after a fault none of it, or a beginning
+abbrev pub AsJson : {F : Type 0} → PrintedText → F → F → Promise F → Promise F
+AsJson printed memory write Wrote old new (Ok done) =
+    (text : List ℕ) × WritesJson Wrote (Ok tt) text × Appends old new (json_text printed text)
+AsJson printed memory write Wrote old new (Err fault) = Failed printed memory write Wrote old new fault
+
+-- What goes out once a command wrote a text to memory, with an answer. At Ok it is the JSON of the text, or a beginning
+-- of it, since memory was refused or a write failed. At a fault nothing does, and the fault is the
+-- command's, or that memory was refused.
+abbrev pub Passes : {F : Type 0} → PrintedText → F → F → List ℕ → Result (Unit {0}) F → Promise F
+Passes printed memory write text (Ok done) old new (Ok passed) = Appends old new (json_text printed text)
+Passes printed memory write text (Ok done) old new (Err fault) =
+    ((fault ≡ memory) ⊎ (fault ≡ write)) × AppendsBeginning old new (json_text printed text)
+Passes printed memory write text (Err why) old new (Ok passed) = ⊥
+Passes printed memory write text (Err why) old new (Err fault) = ((fault ≡ memory) ⊎ (fault ≡ why)) × Keeps old new
+
+-- what `play_json` writes for an input
+abbrev pub PlayedAsJson : List ℕ → Bool → Promise PlayFault
+PlayedAsJson input audit = AsJson Run plays.Memory plays.Write (Played (TellsScript input) audit)
+
+-- what `run_json` writes for an input, with a log or without
+abbrev pub RanAsJson : List ℕ → Bool → Promise RunFault
+RanAsJson input logged =
+    AsJson Run (runs.Play plays.Memory) (runs.Play plays.Write) (Ran logged (RunTells input))
+
+-- what `policy_json` writes for an input
+abbrev pub ListedAsJson : List ℕ → Promise ListingFault
+ListedAsJson input = AsJson Policy listings.Memory listings.Write (Listed input)
+
+-- what `entries_json` writes for an input of which this is asked
+abbrev pub ToldAsJson : DumpOptions → List ℕ → Promise DumpFault
+ToldAsJson asked input = AsJson Entries dumps.Memory dumps.Write (Told asked input)

@@ -1,0 +1,2 @@
+pub mod AsJson
+pub mod Prelude

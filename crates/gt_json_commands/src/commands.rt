@@ -1,0 +1,192 @@
+//! Commands whose text goes out as JSON.
+ghost use Rattle.std.specs.Prelude.{is_some};
+ghost use Rattle.gt_text.specs.Streams.{ConsumesAtMost};
+ghost use Rattle.gt_text.specs.declared.streams.TheConstants.{READ_LIMIT};
+ghost use Rattle.gt_json.specs.declared.places.PrintedText.TheVariants as printed;
+ghost use Rattle.gt_host.specs.declared.fault.PlayFault.TheVariants as plays;
+ghost use Rattle.gt_run.specs.declared.fault.RunFault.TheVariants as runs;
+ghost use Rattle.gt_policy_list.specs.declared.fault.ListingFault.TheVariants as listings;
+ghost use Rattle.gt_entries.specs.declared.fault.DumpFault.TheVariants as dumps;
+ghost use Rattle.gt_json_commands.specs.AsJson.{ForInput, PlayedAsJson, RanAsJson, ListedAsJson, ToldAsJson, Passes};
+
+use gt_audit::SharedLog;
+use gt_entries::{DumpOptions, DumpFault, entries};
+use gt_host::{PlayFault, play};
+use gt_json::{JsonFault, PrintedText, write_json};
+use gt_policy_list::{ListingFault, policy};
+use gt_run::{Gate, RunFault, run};
+use gt_text::every_writer_keeps_what_it_has;
+use std::alloc::Global;
+use std::io::{Read, Write};
+use std::sync::Wait;
+use std::thread::Threads;
+
+// Writes the JSON of the text that `play` wrote with this answer.
+fn pass_play<W: Write>(
+    alloc: Global,
+    text: &[u8],
+    outcome: Result<(), PlayFault>,
+    writer: &mut W,
+) -> Result<(), PlayFault>
+    ensures { Passes printed.Run plays.Memory plays.Write text.now outcome
+        (W.contents writer.old) (W.contents writer.new) result }
+{
+    every_writer_keeps_what_it_has();
+    match outcome {
+        Ok(()) => match write_json(alloc, PrintedText::Run, text, writer) {
+            Ok(()) => Ok(()),
+            Err(JsonFault::Memory) => Err(PlayFault::Memory),
+            Err(JsonFault::Write) => Err(PlayFault::Write),
+        },
+        Err(PlayFault::Write) => Err(PlayFault::Memory),
+        Err(fault) => Err(fault),
+    }
+}
+
+// Writes the JSON of the text that `run` wrote with this answer.
+fn pass_run<W: Write>(
+    alloc: Global,
+    text: &[u8],
+    outcome: Result<(), RunFault>,
+    writer: &mut W,
+) -> Result<(), RunFault>
+    ensures { Passes printed.Run (runs.Play plays.Memory) (runs.Play plays.Write) text.now outcome
+        (W.contents writer.old) (W.contents writer.new) result }
+{
+    every_writer_keeps_what_it_has();
+    match outcome {
+        Ok(()) => match write_json(alloc, PrintedText::Run, text, writer) {
+            Ok(()) => Ok(()),
+            Err(JsonFault::Memory) => Err(RunFault::Play(PlayFault::Memory)),
+            Err(JsonFault::Write) => Err(RunFault::Play(PlayFault::Write)),
+        },
+        Err(RunFault::Play(PlayFault::Write)) => Err(RunFault::Play(PlayFault::Memory)),
+        Err(fault) => Err(fault),
+    }
+}
+
+// Writes the JSON of the text that `policy` wrote with this answer.
+fn pass_policy<W: Write>(
+    alloc: Global,
+    text: &[u8],
+    outcome: Result<(), ListingFault>,
+    writer: &mut W,
+) -> Result<(), ListingFault>
+    ensures { Passes printed.Policy listings.Memory listings.Write text.now outcome
+        (W.contents writer.old) (W.contents writer.new) result }
+{
+    every_writer_keeps_what_it_has();
+    match outcome {
+        Ok(()) => match write_json(alloc, PrintedText::Policy, text, writer) {
+            Ok(()) => Ok(()),
+            Err(JsonFault::Memory) => Err(ListingFault::Memory),
+            Err(JsonFault::Write) => Err(ListingFault::Write),
+        },
+        Err(ListingFault::Write) => Err(ListingFault::Memory),
+        Err(fault) => Err(fault),
+    }
+}
+
+// Writes the JSON of the text that `entries` wrote with this answer.
+fn pass_entries<W: Write>(
+    alloc: Global,
+    text: &[u8],
+    outcome: Result<(), DumpFault>,
+    writer: &mut W,
+) -> Result<(), DumpFault>
+    ensures { Passes printed.Entries dumps.Memory dumps.Write text.now outcome
+        (W.contents writer.old) (W.contents writer.new) result }
+{
+    every_writer_keeps_what_it_has();
+    match outcome {
+        Ok(()) => match write_json(alloc, PrintedText::Entries, text, writer) {
+            Ok(()) => Ok(()),
+            Err(JsonFault::Memory) => Err(DumpFault::Memory),
+            Err(JsonFault::Write) => Err(DumpFault::Write),
+        },
+        Err(DumpFault::Write) => Err(DumpFault::Memory),
+        Err(fault) => Err(fault),
+    }
+}
+
+/// Plays the script that the reader has as [`play`] does, and writes its text as JSON Lines.
+///
+/// # Errors
+/// Those of `play`. At a fault of the script, or where it is not read, nothing was written; after a failed write, or
+/// where memory is refused, a beginning of the JSON or nothing.
+pub fn play_json<R: Read, W: Write>(
+    alloc: Global,
+    reader: &mut R,
+    writer: &mut W,
+    audit: bool,
+) -> Result<(), PlayFault>
+    ensures text { ForInput (R.remaining reader.old) (λ input. PlayedAsJson input audit)
+        (W.contents writer.old) (W.contents writer.new) result }
+    ensures read { ConsumesAtMost READ_LIMIT (R.remaining reader.old) (R.remaining reader.new) }
+{
+    let mut text = Vec::new(alloc);
+    let outcome = play(alloc, reader, &mut text, audit);
+    pass_play(alloc, text.as_slice(), outcome, writer)
+}
+
+/// Runs the script that the reader has as [`run`] does, and writes its text as JSON Lines.
+///
+/// # Errors
+/// Those of `run`. At a fault of the script, where it is not read or a thread was refused, nothing was written; after a
+/// failed write, or where memory is refused, a beginning of the JSON or nothing.
+pub fn run_json<R: Threads + Wait + Sync, I: Read, W: Write, G: Gate + Sync>(
+    rt: &R,
+    alloc: Global,
+    reader: &mut I,
+    writer: &mut W,
+    log: Option<&SharedLog>,
+    gate: &G,
+) -> Result<(), RunFault>
+    ensures text { ForInput (I.remaining reader.old) (λ input. RanAsJson input (is_some log.entry))
+        (W.contents writer.old) (W.contents writer.new) result }
+    ensures read { ConsumesAtMost READ_LIMIT (I.remaining reader.old) (I.remaining reader.new) }
+{
+    let mut text = Vec::new(alloc);
+    let outcome = run(rt, alloc, reader, &mut text, log, gate);
+    pass_run(alloc, text.as_slice(), outcome, writer)
+}
+
+/// Lists the triples of the reader's policy as [`policy`] does, and writes them as JSON Lines.
+///
+/// # Errors
+/// Those of `policy`. At a fault of the policy, or where it is not read, nothing was written; after a failed write, or
+/// where memory is refused, a beginning of the JSON or nothing.
+pub fn policy_json<R: Read, W: Write>(
+    alloc: Global,
+    reader: &mut R,
+    writer: &mut W,
+) -> Result<(), ListingFault>
+    ensures text { ForInput (R.remaining reader.old) ListedAsJson
+        (W.contents writer.old) (W.contents writer.new) result }
+    ensures read { ConsumesAtMost READ_LIMIT (R.remaining reader.old) (R.remaining reader.new) }
+{
+    let mut text = Vec::new(alloc);
+    let outcome = policy(alloc, reader, &mut text);
+    pass_policy(alloc, text.as_slice(), outcome, writer)
+}
+
+/// Tells the entries of the reader's dump as [`entries`] does, and writes them as JSON Lines. The lines of a script,
+/// which `asked` may ask for, are no lines of entries: their objects only part them into words.
+///
+/// # Errors
+/// Those of `entries`. At a fault of the dump, or where it is not read, nothing was written; after a failed write, or
+/// where memory is refused, a beginning of the JSON or nothing.
+pub fn entries_json<R: Read, W: Write>(
+    alloc: Global,
+    asked: DumpOptions,
+    reader: &mut R,
+    writer: &mut W,
+) -> Result<(), DumpFault>
+    ensures text { ForInput (R.remaining reader.old) (ToldAsJson asked)
+        (W.contents writer.old) (W.contents writer.new) result }
+    ensures read { ConsumesAtMost READ_LIMIT (R.remaining reader.old) (R.remaining reader.new) }
+{
+    let mut text = Vec::new(alloc);
+    let outcome = entries(alloc, asked, reader, &mut text);
+    pass_entries(alloc, text.as_slice(), outcome, writer)
+}

@@ -1,5 +1,0 @@
-use Rattle.gt_policy_check.specs.Check.{Quiet}
-use Rattle.gt_policy_check.proofs.findings.warn_perms.Given as goal
-
-abbrev pub invariant-perms : goal.invariant-perms
-invariant-perms l = Quiet l.initial.found.items l.found.items

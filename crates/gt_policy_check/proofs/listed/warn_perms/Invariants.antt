@@ -1,0 +1,5 @@
+use Rattle.gt_policy_check.specs.Check.{Quiet}
+use Rattle.gt_policy_check.proofs.listed.warn_perms.Given as goal
+
+abbrev pub invariant-perms : goal.invariant-perms
+invariant-perms l = Quiet l.initial.found.items l.found.items

@@ -1,0 +1,94 @@
+//! Findings that are added to those before.
+ghost use Rattle.std.specs.Prelude.{◌≡◌, ◌∷◌, [], true, false, OnOk};
+ghost use Rattle.gt_policy_check.specs.Check.{Quiet, TellsUseless, is_error, is_of_nothing, is_of_repeat};
+
+use crate::fault::FindingNote;
+use crate::findings::{Finding, FindingKind};
+use crate::places::{LineTokens, column_of_word};
+use std::alloc::AllocError;
+
+/// Where a finding is: the text, the line with its tokens, and the column at which its statement begins.
+#[derive(Clone, Copy)]
+pub(crate) struct Place<'t> {
+    pub bytes: &'t [u8],
+    pub tokens: &'t LineTokens,
+    pub line: u32,
+    pub column: u32,
+}
+
+/// Adds a finding that isn't an error, nor about a statement that allows nothing or repeats another.
+#[tactic(auto, using(crate::proofs::CheckLemmas::quiet_push))]
+pub(crate) fn push_quiet(found: &mut Vec<Finding>, finding: Finding) -> Result<(), AllocError>
+    requires no_error { is_error finding.kind ≡ false }
+    requires no_statement { is_of_nothing finding.kind ≡ false }
+    requires no_repeat { is_of_repeat finding.kind ≡ false }
+    ensures { OnOk result (Quiet found.old.items found.new.items) }
+{
+    found.push(finding)?;
+    Ok(())
+}
+
+/// Adds a note.
+pub(crate) fn push_note(found: &mut Vec<Finding>, note: FindingNote) -> Result<(), AllocError>
+    ensures { OnOk result (Quiet found.old.items found.new.items) }
+{
+    push_quiet(
+        found,
+        Finding {
+            kind: FindingKind::Note,
+            line: note.line,
+            column: note.column,
+            message: note.message,
+        },
+    )
+}
+
+/// Adds what is found about a word of a line, which isn't an error, nor about a statement that allows nothing or
+/// repeats another.
+pub(crate) fn push_of_word(
+    found: &mut Vec<Finding>,
+    kind: FindingKind,
+    place: &Place,
+    word: &str,
+    message: Vec<u8>,
+) -> Result<(), AllocError>
+    requires no_error { is_error kind ≡ false }
+    requires no_statement { is_of_nothing kind ≡ false }
+    requires no_repeat { is_of_repeat kind ≡ false }
+    ensures { OnOk result (Quiet found.old.items found.new.items) }
+{
+    let column = column_of_word(place.bytes, place.tokens, word.as_bytes(), 0);
+    push_quiet(
+        found,
+        Finding {
+            kind,
+            line: place.line,
+            column,
+            message,
+        },
+    )
+}
+
+/// Adds that a statement allows nothing.
+#[tactic(auto, using(crate::proofs::CheckLemmas::nothing_push))]
+pub(crate) fn push_nothing(found: &mut Vec<Finding>, finding: Finding) -> Result<(), AllocError>
+    requires no_error { is_error finding.kind ≡ false }
+    requires of_statement { is_of_nothing finding.kind ≡ true }
+    requires no_repeat { is_of_repeat finding.kind ≡ false }
+    ensures { OnOk result (TellsUseless found.old.items found.new.items (finding.line ∷ []) []) }
+{
+    found.push(finding)?;
+    Ok(())
+}
+
+/// Adds that a statement repeats another.
+#[tactic(auto, using(crate::proofs::CheckLemmas::repeat_push))]
+pub(crate) fn push_repeat(found: &mut Vec<Finding>, finding: Finding) -> Result<(), AllocError>
+    requires no_error { is_error finding.kind ≡ false }
+    requires no_statement { is_of_nothing finding.kind ≡ false }
+    requires of_repeat { is_of_repeat finding.kind ≡ true }
+    ensures { OnOk result (TellsUseless found.old.items found.new.items [] (finding.line ∷ [])) }
+{
+    found.push(finding)?;
+    Ok(())
+}

@@ -1,0 +1,130 @@
+//! Types that nothing names, and what the domains of a script make of a policy.
+ghost use Rattle.std.specs.Prelude.{OnOk};
+ghost use Rattle.gt_policy_check.specs.Check.{Quiet};
+
+use crate::adding::{Place, push_of_word, push_quiet};
+use crate::fault::{message_of, said_of};
+use crate::findings::{Finding, FindingKind};
+use crate::granting::names_type;
+use crate::members::{Member, is_same, members_of};
+use crate::useless::allows_something;
+use gt_policy::{LinedStatement, Statement, TextPiece};
+use std::alloc::{AllocError, Global};
+
+/// A policy that is judged: its text, its statements and types, and for a script the types that its domains have.
+#[derive(Clone, Copy)]
+pub(crate) struct Judged<'p, 'a> {
+    pub bytes: &'p [u8],
+    pub statements: &'p [LinedStatement<'a>],
+    pub members: &'p [Member<'a>],
+    pub worn: Option<&'p [Member<'a>]>,
+}
+
+/// The types of a policy that domains of a script have, by the names of those types.
+pub(crate) fn worn_members<'a>(
+    alloc: Global,
+    statements: &[LinedStatement<'a>],
+    names: &[&str],
+) -> Result<Vec<Member<'a>>, AllocError> {
+    let mut members = Vec::new(alloc);
+    for name in names {
+        for member in members_of(alloc, statements, Some(*name))? {
+            members.push(member)?;
+        }
+    }
+    Ok(members)
+}
+
+// The type of this name, if it is among these.
+fn member_named<'m, 'a>(members: &'m [Member<'a>], name: &TextPiece) -> Option<&'m Member<'a>> {
+    for member in members {
+        if is_same(&member.name, name) {
+            return Some(member);
+        }
+    }
+    None
+}
+
+// Whether some allow statement has a type in a set.
+fn names_member(statements: &[LinedStatement], member: &Member) -> bool {
+    for stated in statements {
+        if names_type(&stated.statement, member) {
+            return true;
+        }
+    }
+    false
+}
+
+// Whether some allow statement has the type of this name in a set.
+fn is_named(policy: &Judged, name: &TextPiece) -> bool {
+    match member_named(policy.members, name) {
+        Some(member) => names_member(policy.statements, member),
+        None => true,
+    }
+}
+
+// Whether there is a script, and no domain of it has this type.
+fn has_no_domain(policy: &Judged, name: &TextPiece) -> bool {
+    match policy.worn {
+        Some(worn) => member_named(worn, name).is_none(),
+        None => false,
+    }
+}
+
+/// Warns that no allow statement names a type, or that no domain has it.
+pub(crate) fn warn_type(
+    alloc: Global,
+    found: &mut Vec<Finding>,
+    place: &Place,
+    policy: &Judged,
+    name: &TextPiece,
+) -> Result<(), AllocError>
+    ensures { OnOk result (Quiet found.old.items found.new.items) }
+{
+    let word = name.as_str();
+    if !is_named(policy, name) {
+        let message = said_of(alloc, word, " is in no set of an allow statement")?;
+        return push_of_word(found, FindingKind::NeverNamed, place, word, message);
+    }
+    if has_no_domain(policy, name) {
+        let message = said_of(alloc, word, " is the type of no domain of this script")?;
+        return push_of_word(found, FindingKind::NoDomain, place, word, message);
+    }
+    Ok(())
+}
+
+// Whether there is a script, and a statement allows something, but nothing to domains of the script.
+fn never_matters(statement: &Statement, policy: &Judged) -> bool {
+    match policy.worn {
+        Some(worn) => {
+            allows_something(statement, policy.members) && !allows_something(statement, worn)
+        }
+        None => false,
+    }
+}
+
+/// Warns of a statement that allows nothing to domains of the script.
+pub(crate) fn warn_matter(
+    alloc: Global,
+    found: &mut Vec<Finding>,
+    place: &Place,
+    policy: &Judged,
+    statement: &Statement,
+) -> Result<(), AllocError>
+    ensures { OnOk result (Quiet found.old.items found.new.items) }
+{
+    if !never_matters(statement, policy) {
+        return Ok(());
+    }
+    let said = "this statement allows nothing to the domains of this script";
+    let message = message_of(alloc, said)?;
+    push_quiet(
+        found,
+        Finding {
+            kind: FindingKind::NeverMatters,
+            line: place.line,
+            column: place.column,
+            message,
+        },
+    )
+}

@@ -1,0 +1,266 @@
+//! What is useless in the statements of a policy.
+ghost use Rattle.std.specs.Prelude.{◌≡◌, ◌∷◌, [], map, filter, IfOk, OnOk};
+ghost use Rattle.std.specs.List.{flat_map};
+ghost use Rattle.gt_policy_check.specs.Check.{Quiet, TellsUseless, allows_nothing, error_lines, lines_repeated};
+ghost use Rattle.gt_policy_check.specs.Check.{nothing_lines, repeat_line, repeat_lines, repeated_with, useless_line};
+
+use crate::adding::{Place, push_note, push_nothing, push_repeat};
+use crate::domains::{Judged, warn_matter, warn_type, worn_members};
+use crate::fault::{FindingNote, message_of};
+use crate::findings::{Finding, FindingKind};
+use crate::listed::warn_words;
+use crate::members::{Member, members_of};
+use crate::places::{LineTokens, column_of_word, line_tokens};
+use crate::texts::push_number;
+use crate::useless::{is_useless, repeated};
+use gt_policy::{LinedStatement, Statement};
+use gt_text::push_text;
+use std::alloc::{AllocError, Global};
+
+// How many statements at the end of these are allow statements that begin on this line.
+fn allows_on(statements: &[LinedStatement], line: u32) -> usize {
+    let mut count: usize = 0;
+    for stated in statements.iter().rev() {
+        if stated.line != line {
+            break;
+        }
+        if let Statement::Allow(_) = stated.statement {
+            count = count.saturating_add(1);
+        }
+    }
+    count
+}
+
+// Warns of a statement that allows nothing.
+fn warn_nothing(
+    alloc: Global,
+    found: &mut Vec<Finding>,
+    place: &Place,
+    stated: &LinedStatement,
+    members: &[Member],
+) -> Result<(), AllocError>
+    ensures { OnOk result (TellsUseless found.old.items found.new.items (useless_line members.now stated.now) []) }
+{
+    if is_useless(&stated.statement, members) {
+        let said = "this statement allows nothing: its source or target set is empty";
+        let message = message_of(alloc, said)?;
+        return push_nothing(
+            found,
+            Finding {
+                kind: FindingKind::AllowsNothing,
+                line: stated.line,
+                column: place.column,
+                message,
+            },
+        );
+    }
+    Ok(())
+}
+
+// What is said of a statement that repeats the one on this line.
+fn repeat_message(alloc: Global, line: u32) -> Result<Vec<u8>, AllocError> {
+    let mut message = message_of(alloc, "this statement allows only what the one on line ")?;
+    push_number(&mut message, line)?;
+    push_text(&mut message, " allows")?;
+    Ok(message)
+}
+
+// The column at which a statement on this line begins, which comes after these.
+fn column_after(bytes: &[u8], tokens: &LineTokens, before: &[LinedStatement], line: u32) -> u32 {
+    column_of_word(bytes, tokens, b"allow".as_slice(), allows_on(before, line))
+}
+
+// The note of the statement that another repeats, which is on this line and comes after these.
+fn repeat_note(
+    alloc: Global,
+    bytes: &[u8],
+    line: u32,
+    before: &[LinedStatement],
+) -> Result<FindingNote, AllocError> {
+    let tokens = line_tokens(alloc, bytes, line)?;
+    Ok(FindingNote {
+        line,
+        column: column_after(bytes, &tokens, before, line),
+        message: message_of(alloc, "this statement allows it first")?,
+    })
+}
+
+// Adds that the statement on this line repeats the one on another, which comes after these.
+#[tactic(auto, using(crate::proofs::CheckLemmas::repeat_then_note))]
+fn push_repeated(
+    alloc: Global,
+    found: &mut Vec<Finding>,
+    place: &Place,
+    line: u32,
+    first: u32,
+    before: &[LinedStatement],
+) -> Result<(), AllocError>
+    ensures { OnOk result (TellsUseless found.old.items found.new.items [] (line ∷ [])) }
+{
+    let message = repeat_message(alloc, first)?;
+    push_repeat(
+        found,
+        Finding {
+            kind: FindingKind::Repeats,
+            line,
+            column: place.column,
+            message,
+        },
+    )?;
+    let note = repeat_note(alloc, place.bytes, first, before)?;
+    push_note(found, note)
+}
+
+// Warns of a statement that repeats one of those before it.
+fn warn_repeat(
+    alloc: Global,
+    found: &mut Vec<Finding>,
+    place: &Place,
+    stated: &LinedStatement,
+    before: &[LinedStatement],
+    members: &[Member],
+) -> Result<(), AllocError>
+    ensures { OnOk result (TellsUseless found.old.items found.new.items []
+        (repeat_line members.now before.now stated.now)) }
+{
+    match repeated(&stated.statement, before, members) {
+        Some(first) => {
+            let line = before[first].line;
+            push_repeated(alloc, found, place, stated.line, line, &before[..first])
+        }
+        None => Ok(()),
+    }
+}
+
+// Warns of what is useless in the parts of a statement.
+fn warn_parts(
+    alloc: Global,
+    found: &mut Vec<Finding>,
+    place: &Place,
+    policy: &Judged,
+    statement: &Statement,
+) -> Result<(), AllocError>
+    ensures { OnOk result (Quiet found.old.items found.new.items) }
+{
+    match statement {
+        Statement::Allow(allowed) => warn_words(alloc, found, place, allowed),
+        Statement::DeclareType(name, _) => warn_type(alloc, found, place, policy, name),
+        _ => Ok(()),
+    }
+}
+
+// Warns of what is useless in a statement, which is at this place and comes after these.
+#[tactic(auto, using(crate::proofs::CheckLemmas::tells_all))]
+fn warn_at(
+    alloc: Global,
+    found: &mut Vec<Finding>,
+    place: &Place,
+    policy: &Judged,
+    stated: &LinedStatement,
+    before: &[LinedStatement],
+) -> Result<(), AllocError>
+    ensures { OnOk result (TellsUseless found.old.items found.new.items (useless_line policy.now.members.now stated.now)
+        (repeat_line policy.now.members.now before.now stated.now)) }
+{
+    warn_parts(alloc, found, place, policy, &stated.statement)?;
+    warn_nothing(alloc, found, place, stated, policy.members)?;
+    warn_repeat(alloc, found, place, stated, before, policy.members)?;
+    warn_matter(alloc, found, place, policy, &stated.statement)
+}
+
+// Warns of what is useless in a statement, which comes after these.
+fn warn(
+    alloc: Global,
+    found: &mut Vec<Finding>,
+    policy: &Judged,
+    stated: &LinedStatement,
+    before: &[LinedStatement],
+) -> Result<(), AllocError>
+    ensures { OnOk result (TellsUseless found.old.items found.new.items (useless_line policy.now.members.now stated.now)
+        (repeat_line policy.now.members.now before.now stated.now)) }
+{
+    let tokens = line_tokens(alloc, policy.bytes, stated.line)?;
+    let place = Place {
+        bytes: policy.bytes,
+        tokens: &tokens,
+        line: stated.line,
+        column: column_after(policy.bytes, &tokens, before, stated.line),
+    };
+    warn_at(alloc, found, &place, policy, stated, before)
+}
+
+// Warns of what is useless in the statements of a policy.
+fn warn_all(alloc: Global, policy: &Judged) -> Result<Vec<Finding>, AllocError>
+    ensures no_error { IfOk result (λ v. error_lines v.items ≡ []) }
+    ensures nothing { IfOk result (λ v. nothing_lines v.items
+        ≡ flat_map (λ x. useless_line policy.now.members.now x) policy.now.statements.now) }
+    ensures repeated { IfOk result (λ v. repeat_lines v.items
+        ≡ repeated_with policy.now.members.now [] policy.now.statements.now) }
+{
+    let statements = policy.statements;
+    let mut found = Vec::new(alloc);
+    'statements: for (i, stated) in statements.iter().enumerate() {
+        warn(alloc, &mut found, policy, stated, &statements[..i])?;
+    }
+    Ok(found)
+}
+
+// Warns of what is useless in statements with these types, and for a script with these types of its domains.
+fn warn_with(
+    alloc: Global,
+    bytes: &[u8],
+    statements: &[LinedStatement],
+    members: &[Member],
+    worn: Option<&[Member]>,
+) -> Result<Vec<Finding>, AllocError>
+    ensures no_error { IfOk result (λ v. error_lines v.items ≡ []) }
+    ensures nothing { IfOk result (λ v. nothing_lines v.items
+        ≡ flat_map (λ x. useless_line members.now x) statements.now) }
+    ensures repeated { IfOk result (λ v. repeat_lines v.items ≡ repeated_with members.now [] statements.now) }
+{
+    let policy = Judged {
+        bytes,
+        statements,
+        members,
+        worn,
+    };
+    warn_all(alloc, &policy)
+}
+
+// The same, with the names of the types of its domains.
+fn warn_members(
+    alloc: Global,
+    bytes: &[u8],
+    statements: &[LinedStatement],
+    members: &[Member],
+    worn: Option<&[&str]>,
+) -> Result<Vec<Finding>, AllocError>
+    ensures no_error { IfOk result (λ v. error_lines v.items ≡ []) }
+    ensures nothing { IfOk result (λ v. nothing_lines v.items
+        ≡ flat_map (λ x. useless_line members.now x) statements.now) }
+    ensures repeated { IfOk result (λ v. repeat_lines v.items ≡ repeated_with members.now [] statements.now) }
+{
+    let Some(names) = worn else {
+        return warn_with(alloc, bytes, statements, members, None);
+    };
+    let live = worn_members(alloc, statements, names)?;
+    warn_with(alloc, bytes, statements, members, Some(live.as_slice()))
+}
+
+/// Warns of what is useless in statements, and for the domains of a script, which have these types, if there is a
+/// script.
+pub(crate) fn warnings(
+    alloc: Global,
+    bytes: &[u8],
+    statements: &[LinedStatement],
+    worn: Option<&[&str]>,
+) -> Result<Vec<Finding>, AllocError>
+    ensures no_error { IfOk result (λ v. error_lines v.items ≡ []) }
+    ensures nothing { IfOk result (λ v. nothing_lines v.items
+        ≡ map (λ x. x.line) (filter (λ x. allows_nothing statements.now x.statement) statements.now)) }
+    ensures repeated { IfOk result (λ v. repeat_lines v.items ≡ lines_repeated statements.now [] statements.now) }
+{
+    let members = members_of(alloc, statements, None)?;
+    let found = warn_members(alloc, bytes, statements, members.as_slice(), worn)?;
+    Ok(found)
+}

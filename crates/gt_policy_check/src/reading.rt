@@ -1,0 +1,28 @@
+//! The statements of a text that is a policy.
+ghost use Rattle.std.specs.Prelude.{◌≡◌, IfOk, IfErr, None, Some, Ok, Err};
+ghost use Rattle.gt_policy.specs.Allowing.{Meaning};
+ghost use Rattle.gt_policy.specs.Lined.{IsLined};
+ghost use Rattle.gt_policy.specs.Shown.{fault_shown, out_of_memory};
+ghost use Rattle.gt_policy.specs.Whole.{Says};
+ghost use Rattle.gt_policy.specs.declared.fault.TokenFault.{TokenFault};
+
+use gt_policy::{Items, LinedStatement, Policy, PolicyFault, statements_of};
+use std::alloc::Global;
+
+/// The statements of a policy text, each with its line, or the first fault of a text that isn't a policy.
+pub(crate) fn read_policy<'a>(
+    alloc: Global,
+    text: &'a str,
+) -> Result<Items<LinedStatement<'a>>, PolicyFault>
+    ensures ok { IfOk result (λ xs. (m : Meaning) × Says text.entry.now (Ok m) × IsLined text.entry.now xs) }
+    ensures fault { IfErr result (λ e. (f : TokenFault) → fault_shown e ≡ Some f → Says text.entry.now (Err f)) }
+    ensures memory { IfErr result (λ e. fault_shown e ≡ None → e ≡ out_of_memory) }
+{
+    if let Err(fault) = Policy::parse(alloc, text) {
+        return Err(fault);
+    }
+    match statements_of(alloc, text) {
+        Ok(statements) => Ok(statements),
+        Err(fault) => Err(fault),
+    }
+}

@@ -1,0 +1,75 @@
+//! Which statements allow nothing, or only what an earlier one allows.
+ghost use Rattle.std.specs.Prelude.{◌≡◌, ◌<◌, length, is_some, IfSome};
+ghost use Rattle.std.specs.List.{position};
+ghost use Rattle.gt_types.specs.Names.{every_permission, permission_name};
+ghost use Rattle.gt_policy_check.specs.Check.{exceeds_with, grants_with, is_useless_with, no_more_with, repeats_with};
+ghost use Rattle.gt_policy_check.specs.Granting.{exceeds_some, gives_some};
+
+use crate::granting::{exceeds_some, gives_some, has_grant};
+use crate::members::Member;
+use gt_policy::{LinedStatement, Statement};
+use gt_types::Perms;
+
+/// Whether a statement allows something to some of these types.
+pub(crate) fn allows_something(statement: &Statement, members: &[Member]) -> bool
+    ensures { result ≡ grants_with members.now statement.now }
+{
+    Perms::EVERY.iter().any(|perm| gives_some(statement, members, members, perm.name()))
+}
+
+/// Whether a statement of class `grant` allows nothing.
+pub(crate) fn is_useless(statement: &Statement, members: &[Member]) -> bool
+    ensures { result ≡ is_useless_with members.now statement.now }
+{
+    match statement {
+        Statement::Allow(allowed) => {
+            has_grant(allowed.classes.as_slice()) && !allows_something(statement, members)
+        }
+        _ => false,
+    }
+}
+
+// Whether a statement grants something that another does not.
+fn exceeds(statement: &Statement, other: &Statement, members: &[Member]) -> bool
+    ensures { result ≡ exceeds_with members.now statement.now other.now }
+{
+    Perms::EVERY.iter().any(|perm| exceeds_some(statement, other, members, perm.name()))
+}
+
+// Whether a statement grants nothing that another does not.
+fn grants_no_more(statement: &Statement, other: &Statement, members: &[Member]) -> bool
+    ensures { result ≡ no_more_with members.now statement.now other.now }
+{
+    !exceeds(statement, other, members)
+}
+
+// The place of the first of these statements that grants all that this one does.
+#[tactic(auto, using(crate::proofs::CheckLemmas::position_within))]
+fn first_giving(
+    statement: &Statement,
+    before: &[LinedStatement],
+    members: &[Member],
+) -> Option<usize>
+    ensures is { result ≡ position (λ y. no_more_with members.now statement.now y.statement) before.now }
+    ensures within { IfSome result (λ i. i < length before.now) }
+{
+    before.iter().position(|earlier| grants_no_more(statement, &earlier.statement, members))
+}
+
+/// The place of the first statement before one that grants all that it grants. A statement that grants nothing has
+/// none.
+#[tactic(auto, using(crate::proofs::CheckLemmas::some_place))]
+pub(crate) fn repeated(
+    statement: &Statement,
+    before: &[LinedStatement],
+    members: &[Member],
+) -> Option<usize>
+    ensures is { is_some result ≡ repeats_with members.now before.now statement.now }
+    ensures within { IfSome result (λ i. i < length before.now) }
+{
+    if allows_something(statement, members) {
+        first_giving(statement, before, members)
+    } else {
+        None
+    }
+}
