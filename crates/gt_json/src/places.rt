@@ -3,7 +3,7 @@ ghost use Rattle.std.specs.Prelude.{◌≡◌};
 ghost use Rattle.gt_json.specs.Places.{start, after_line, after_kind, after_call, next_place, next, name_at, is_start};
 ghost use Rattle.gt_json.specs.Places.{is_mark};
 
-use crate::words::{is_word, is_rule};
+use crate::words::{is_rule, is_word};
 
 /// Which text it is: that of `play` and `run`, of `policy`, or of `entries`.
 #[derive(Clone, Copy, Debug, PartialEq, Eq)]
@@ -132,7 +132,10 @@ impl WordPlace {
     pub fn is_start(self) -> bool
         ensures { result ≡ is_start self }
     {
-        matches!(self, WordPlace::Line | WordPlace::Source | WordPlace::Dumped)
+        matches!(
+            self,
+            WordPlace::Line | WordPlace::Source | WordPlace::Dumped
+        )
     }
 
     /// Whether it is a fact, which may have its own name.

@@ -2,7 +2,7 @@
 ghost use Rattle.std.specs.Prelude.{◌≡◌, ◌++◌, ◌<◌, OnOk};
 ghost use Rattle.gt_json.specs.Strings.{hex_digit, escaped, quoted, value_text};
 
-use crate::words::{is_word, is_number};
+use crate::words::{is_number, is_word};
 use gt_text::push_text;
 use std::alloc::AllocError;
 

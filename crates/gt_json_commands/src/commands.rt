@@ -10,7 +10,7 @@ ghost use Rattle.gt_entries.specs.declared.fault.DumpFault.TheVariants as dumps;
 ghost use Rattle.gt_json_commands.specs.AsJson.{ForInput, PlayedAsJson, RanAsJson, ListedAsJson, ToldAsJson, Passes};
 
 use gt_audit::SharedLog;
-use gt_entries::{DumpOptions, DumpFault, entries};
+use gt_entries::{DumpFault, DumpOptions, entries};
 use gt_host::{PlayFault, play};
 use gt_json::{JsonFault, PrintedText, write_json};
 use gt_policy_list::{ListingFault, policy};

@@ -31,7 +31,7 @@ mod report;
 mod texts;
 mod useless;
 
-pub use asking::{WhyAnswer, Explanation, WhyQuestion, why};
+pub use asking::{Explanation, WhyAnswer, WhyQuestion, why};
 pub use fault::{push_hint, said_of};
 pub use findings::{Finding, FindingKind, check, check_worn};
 pub use report::{push_json, push_report};
