@@ -6,8 +6,8 @@ use Rattle.gt_word_table.specs.History.{IsOwners, Layout, PinsLast, SaysWord, St
 use Rattle.gt_word_table.specs.Rule.{Shows}
 use Rattle.gt_word_table.specs.Views.{with_step}
 
--- a step that leads from a state that words and views show to another such state is taken then: it comes right after all
--- steps before it, its seat knows them, it says the word that is there, it stores or changes only its own,
+-- a step that leads from a state that words and views show to another such state is taken then: it comes right after
+-- all steps before it, its seat knows them, it says the word that is there, it stores or changes only its own,
 -- and it takes a pin only of the last record
 abbrev pub StepsAreTakenThen : Type 0
 StepsAreTakenThen =

@@ -1,5 +1,5 @@
 //! The words and the seats with nothing in sight but what contracts name.
-ghost use Rattle.std.specs.Prelude.{◌≡◌, ◌⊎◌, ◌<◌, ◌≤◌, [], false, length, MatchResult, IfOk, IfErr, OnOk, HoldsAt, ℕ};
+ghost use Rattle.std.specs.Prelude.{◌≡◌, ◌⊎◌, ◌<◌, ◌≤◌, length, MatchResult, IfOk, IfErr, OnOk, HoldsAt, ℕ};
 ghost use Rattle.std.specs.Prelude.{position, ◌==◌, true};
 ghost use Rattle.gt_types.specs.Config.{IsWithinLimits};
 ghost use Rattle.gt_entry.specs.Words.{header_word};
