@@ -16,8 +16,8 @@
 //! It uses `gt_types` (names), `gt_entry` (entries, and what they permit) and `bytes` (a lemma on lists).
 #![tactic(auto)]
 
-mod bytes;
 mod frame;
+mod frame_bytes;
 mod frames;
 mod history;
 mod journal;
@@ -27,8 +27,8 @@ mod receipts;
 mod writ;
 mod writers;
 
-pub use bytes::FrameBytes;
 pub use frame::Frame;
+pub use frame_bytes::FrameBytes;
 pub use frames::{Frames, frames_of_zeros};
 pub use gt_types::{FrameName, Spot};
 pub use history::History;
