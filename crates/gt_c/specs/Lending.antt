@@ -1,5 +1,5 @@
 -- How a handle lends its domain.
-use Rattle.std.specs.Prelude.{Option, Some}
+use Rattle.std.specs.Prelude.{Some}
 use Rattle.std.specs.Borrow.{MutBor, Fml, Lends}
 use Rattle.gt_c.specs.declared.here.CDomain.{CDomain}
 use Rattle.gt_c.specs.declared.held.RawBox.{RawBox}
