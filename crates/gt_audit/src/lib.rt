@@ -1,4 +1,4 @@
-//! The audit: the records of answered hypercalls, the lines that print them, and the places that keep them.
+//! The audit: the records of answered hypercalls, the lines that print them, and the lists that keep them.
 //!
 //! A [`Record`] is a plain value: the caller, the request and the answer. [`line`] prints it. A domain keeps its
 //! own records in a [`Trail`]. If other threads may read them too, the domain also pushes them into a

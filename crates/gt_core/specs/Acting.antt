@@ -1,4 +1,4 @@
--- What a core does when it begins a call or makes its next step, and when it may allocate.
+-- What a core does when it begins a call or makes its next step, and when it may fail with Memory.
 use Rattle.std.specs.Prelude.{◌≡◌, ◌≢◌, ◌≤◌, ℕ, Bool, true, List, [], Option, Some, None, Result}
 use Rattle.std.specs.Prelude.{Ok, Err}
 use Rattle.gt_core.specs.Prelude.{domain_of, DomId, TypeId, Perms, IsWithinLimits, IsFirstFault, StartFault}
@@ -123,7 +123,7 @@ abbrev pub IsStartFaultOf : Config → StartFault → Type 0
 IsStartFaultOf config (ConfigFault fault) = IsFirstFault config fault
 IsStartFaultOf config NoMemory = IsWithinLimits config
 
--- begin may allocate: a domain of the run, with no open call, begins a map, a load, a store, a peek or a poke to
+-- begin may fail with Memory: a domain of the run, with no open call, begins a map, a load, a store, a peek or a poke to
 -- which no rule applies
 abbrev pub WantsMemory : Setting → History → DomId → Request → Type 0
 WantsMemory s h d request =
@@ -135,7 +135,7 @@ abbrev pub IsWritingNext : Option Action → Type 0
 IsWritingNext (Some (Makes step)) = IsWriting step
 IsWritingNext action = ⊥
 
--- tick may allocate: the domain's open call is about to write bytes, and their frame keeps a record of them
+-- tick may fail with Memory: the domain's open call is about to write bytes, and their frame keeps a record of them
 abbrev pub WantsMemoryNow : Setting → History → DomId → Type 0
 WantsMemoryNow s h d =
     (c : Underway) × (open_call h d.0 ≡ Some c) × IsWritingNext (path (known_at s h d) d c.request (values c))
