@@ -123,8 +123,8 @@ abbrev pub IsStartFaultOf : Config → StartFault → Type 0
 IsStartFaultOf config (ConfigFault fault) = IsFirstFault config fault
 IsStartFaultOf config NoMemory = IsWithinLimits config
 
--- begin may fail with Memory: a domain of the run, with no open call, begins a map, a load, a store, a peek or a poke to
--- which no rule applies
+-- begin may fail with Memory: a domain of the run, with no open call, begins a map, a load, a store, a peek or a poke
+-- to which no rule applies
 abbrev pub WantsMemory : Setting → History → DomId → Request → Type 0
 WantsMemory s h d request =
     (asks_memory (asked request) ≡ true) × (domain_of s.domains d ≢ None) × (open_call h d.0 ≡ None)
