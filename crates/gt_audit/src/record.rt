@@ -4,34 +4,38 @@ use gt_types::{Denial, DomId, End, GrantRef, Size};
 /// The request of a hypercall. A domain named as [`DOMID_SELF`](gt_types::DOMID_SELF) is the caller.
 #[derive(Clone, Copy, Debug, PartialEq, Eq)]
 pub enum Hypercall {
-    /// Maps an entry. The flags are the GNTMAP bits of `grant_table.h`.
+    /// Maps an entry (`GNTTABOP_map_grant_ref`). The flags are the GNTMAP bits of `grant_table.h`.
     Map {
         dom: DomId,
         gref: GrantRef,
         flags: u32,
     },
-    /// Unmaps. The subject is the domain and the reference whose entry was mapped, None if the handle names no
-    /// mapping.
+    /// Unmaps (`GNTTABOP_unmap_grant_ref`). The subject is the domain and the reference whose entry was mapped,
+    /// None if the handle names no mapping.
     Unmap {
         subject: Option<(DomId, GrantRef)>,
     },
-    /// Copies `len` bytes. Bit 0 of the flags is set if a grant reference names the source, bit 1 if one names the
-    /// destination (the GNTCOPY bits of `grant_table.h`).
+    /// Copies `len` bytes (`GNTTABOP_copy`). Bit 0 of the flags is set if a grant reference names the source, bit 1
+    /// if one names the destination.
     Copy {
         source: End,
         dest: End,
         len: u16,
         flags: u16,
     },
+    /// Queries the size of a table (`GNTTABOP_query_size`).
     QuerySize {
         dom: DomId,
     },
+    /// Queries the version of a table (`GNTTABOP_get_version`).
     GetVersion {
         dom: DomId,
     },
+    /// Changes the version of the caller's table (`GNTTABOP_set_version`).
     SetVersion {
         version: u32,
     },
+    /// Changes the number of frames of the caller's table (`GNTTABOP_setup_table`).
     SetupTable {
         frames: u32,
     },
