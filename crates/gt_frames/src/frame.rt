@@ -79,8 +79,7 @@ fn range_of(bytes: &[u8], range: Range) -> &[u8]
     &bytes[start..start + usize::from(range.len)]
 }
 
-// Copies a range of the contents within them. The ranges may overlap, so the bytes are first copied out. Separate,
-// so that only copies within one frame pay for the stack space.
+// Copies a range of the contents within them. The ranges may overlap, so the bytes are first copied out.
 fn store_own(
     writers: &mut Writers,
     journal: &mut Journal,
