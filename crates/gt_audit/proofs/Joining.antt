@@ -20,7 +20,7 @@ place-fits at [] f = omega arith
 place-fits zero (p ∷ ps) f = omega arith
 place-fits (suc at) (p ∷ ps) f = omega (arith, place-fits at ps f.1)
 
--- all pieces are full, if none is left at the place
+-- all pieces are full if there is none at the index
 pub full-joined : (at : ℕ) (ps : List (List Record)) → AreFilled at ps → at ≡ length ps → length (joined ps) ≡ 256 * length ps
 full-joined at [] f e = refl
 full-joined zero (p ∷ ps) f e = absurd (omega (arith, e))
@@ -30,7 +30,7 @@ empty_list : (xs : List Record) → length xs ≡ 0 → xs ≡ []
 empty_list [] e = refl
 empty_list (x ∷ xs) e = absurd (omega (arith, e))
 
--- the place after a full piece
+-- the index after a full piece
 pub filled-next : (at : ℕ) (ps : List (List Record)) (d : List Record) → AreFilled at ps → at < length ps → length (get_or ps at d) ≡ 256 → AreFilled (suc at) ps
 filled-next at [] d f lt full = absurd (omega arith)
 filled-next zero (p ∷ []) d f lt full = (full, refl)
@@ -50,7 +50,7 @@ filled-add (suc at) [] f = absurd (omega (arith, f))
 filled-add zero (p ∷ ps) f = (f.0, joined-add ps ∙ f.1)
 filled-add (suc at) (p ∷ ps) f = (f.0, filled-add at ps f.1)
 
--- one more record
+-- one record more
 pub joined-push : (at : ℕ) (ps : List (List Record)) (d : List Record) (r : Record) → AreFilled at ps → at < length ps → joined (set ps at (get_or ps at d ++ r ∷ [])) ≡ joined ps ++ r ∷ []
 joined-push at [] d r f lt = absurd (omega arith)
 joined-push zero (p ∷ ps) d r f lt =
@@ -63,7 +63,7 @@ filled-push at [] d r f lt room = absurd (omega arith)
 filled-push zero (p ∷ ps) d r f lt room = (omega (arith, length-append p (r ∷ []), room), f.1)
 filled-push (suc at) (p ∷ ps) d r f lt room = (f.0, filled-push at ps d r f.1 (omega (arith, lt)) room)
 
--- no record is left
+-- there is no record
 pub cleared : (ps : List (List Record)) → ((k : ℕ) → k < length ps → get_or ps k [] ≡ []) → joined ps ≡ []
 cleared [] none = refl
 cleared (p ∷ ps) none = ap (λ q. q ++ joined ps) (none 0 (omega arith)) ∙ cleared ps (λ k lt. none (suc k) (omega (arith, lt)))
@@ -99,7 +99,7 @@ slice_get-append_right [] ys i j e = ap (λ n. slice_get ys n) (omega (arith, e)
 slice_get-append_right (x ∷ xs) ys zero j e = absurd (omega (arith, e))
 slice_get-append_right (x ∷ xs) ys (suc i) j e = slice_get-append_right xs ys i j (omega (arith, e))
 
--- the record at a place is in the piece that the place divided by 256 tells
+-- the record at an index is in the piece at the index divided by 256
 pub place-get : (at : ℕ) (ps : List (List Record)) (k i : ℕ) (d : List Record) → AreFilled at ps → i < 256 → k < length ps
     → slice_get (joined ps) (256 * k + i) ≡ slice_get (get_or ps k d) i
 place-get at [] k i d f lt inside = absurd (omega arith)
@@ -124,13 +124,13 @@ added-room n ps f last =
     let room : length (get_or (ps ++ [] ∷ []) n []) < 256 = omega (arith, ap (λ (k : ℕ). length (get_or (ps ++ [] ∷ []) k [])) last, ap (λ (q : List Record). length q) (get_or-append_seam ps [] [] [])) in
     (filled-add n ps f, omega (arith, length-append ps ([] ∷ []), last), room)
 
--- what no piece after the place has
+-- no piece after the index has a record
 pub joined-below : (at : ℕ) (ps : List (List Record)) → AreFilled at ps → length (joined ps) ≤ 256 * (at + 1)
 joined-below at [] f = omega arith
 joined-below zero (p ∷ ps) f = omega (arith, length-append p (joined ps), ap length f.1, f.0)
 joined-below (suc at) (p ∷ ps) f = omega (arith, length-append p (joined ps), joined-below at ps f.1, f.0)
 
--- the default of a read in a list is none of its matter
+-- the default of a read inside a list does not matter
 pub same-read : (ps : List (List Record)) (k : ℕ) (d e : List Record) → k < length ps → get_or ps k e ≡ get_or ps k d
 same-read ps k d e lt = get_or_from_slice_get ps k (get_or ps k d) e (slice_get-get_or ps k d lt)
 
@@ -146,7 +146,7 @@ extends-add ps qs rs e added =
       grows = omega (arith, ap (λ (ts : List (List Record)). length ts) added, length-append qs ([] ∷ []), e.grows);
     }
 
--- so many more empty pieces
+-- `n` empty pieces more
 pub extends-many : (ps : List (List Record)) (n : ℕ) → Extends ps (ps ++ replicate n [])
 extends-many ps zero = subst (λ (qs : List (List Record)). Extends ps qs) (sym (append-nil ps)) (extends-none ps)
 extends-many ps (suc n) =
@@ -163,7 +163,7 @@ extends-many ps (suc n) =
 pub replicate-more : (n : ℕ) (p : List Record) → replicate n p ++ p ∷ [] ≡ replicate (n + 1) p
 replicate-more n p = replicate-append-replicate n 1 p
 
--- so many more, or none
+-- `n` empty pieces more, or none
 pub extends-either : {E : Type 0} (r : Result (Unit {0}) E) (ps qs : List (List Record)) (n : ℕ) → OnOk r (qs ≡ ps ++ replicate n [])
     → OnErr r (qs ≡ ps) → Extends ps qs
 extends-either (Ok u) ps qs n added same = subst (λ (xs : List (List Record)). Extends ps xs) (sym added) (extends-many ps n)

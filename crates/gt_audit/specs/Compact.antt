@@ -1,4 +1,4 @@
--- A record by the parts that are kept of it.
+-- A record as the parts that are kept of it.
 use Rattle.std.specs.Prelude.{◌≡◌, ℕ, ◌<◌, ◌^◌, ◌==◌, Some, None, if◌then◌else◌}
 use Rattle.gt_types.specs.declared.DomId.{DomId}
 use Rattle.gt_types.specs.declared.GrantRef.{GrantRef}
@@ -43,7 +43,7 @@ reference_at n = record { 0 = n }
 abbrev pub type_at : ℕ → TypeId
 type_at n = record { 0 = n }
 
--- what was asked
+-- the request
 abbrev pub called : CallKind → Packed → Hypercall
 called asks.Map p = calls.Map (domain_kept p.dom) (reference_at p.source) p.dest
 called asks.Unmap p = calls.Unmap (Some (domain_kept p.dom, reference_at p.source))
@@ -59,7 +59,7 @@ called asks.GetVersion p = calls.GetVersion (domain_kept p.dom)
 called asks.SetVersion p = calls.SetVersion p.source
 called asks.SetupTable p = calls.SetupTable p.source
 
--- what a refusal rests on
+-- the facts of a refusal
 abbrev pub facts_of : ReplyKind → Packed → Facts
 facts_of answers.ByPolicy p = facts.Policy (type_at p.of) (type_at p.found) (record { 0 = p.word })
 facts_of answers.ForField p = facts.Field (field_at p.word)
@@ -67,7 +67,7 @@ facts_of answers.ForHeader p = facts.Header (domain_kept p.of) p.word
 facts_of answers.ForEntry p = facts.Entry (domain_kept p.of) (reference_at p.found) p.word
 facts_of answered p = facts.None
 
--- what was answered
+-- the answer
 abbrev pub replied : ReplyKind → Packed → Reply
 replied answers.Done p = replies.Done
 replied answers.Frames p = replies.Frames p.word
@@ -79,12 +79,12 @@ replied answered p = replies.Denied (record { rule = p.rule; status = p.status; 
 abbrev pub unpacked : Packed → Record
 unpacked p = record { dom = domain_kept p.caller; call = called p.asked p; reply = replied p.answered p }
 
--- the numbers of a call but a copy are of 32 bits
+-- the numbers of a call other than a copy have 32 bits
 abbrev pub FitsCall : CallKind → Packed → Type 0
 FitsCall asks.Copy p = Unit {0}
 FitsCall asked p = (p.source < 2 ^ 32) × (p.dest < 2 ^ 32)
 
--- the numbers of an answer fit what it says
+-- the numbers of an answer fit their types
 abbrev pub FitsReply : ReplyKind → Packed → Type 0
 FitsReply answers.ByPolicy p = (p.found < 2 ^ 16) × (p.word < 2 ^ 8)
 FitsReply answers.Frames p = p.word < 2 ^ 32
@@ -92,11 +92,11 @@ FitsReply answers.Size p = p.word < 2 ^ 32
 FitsReply answers.Version p = p.word < 2 ^ 32
 FitsReply answered p = Unit {0}
 
--- the numbers fit what the record says
+-- the numbers fit the types of the record
 abbrev pub Fits : Packed → Type 0
 Fits p = FitsCall p.asked p × FitsReply p.answered p
 
--- with this call, and otherwise as before
+-- with this call, and otherwise unchanged
 pub record HasCall (call : Hypercall) (old new : Packed) : Type 0 where
   pub asks : called new.asked new ≡ call
   pub fits : FitsCall new.asked new
@@ -104,7 +104,7 @@ pub record HasCall (call : Hypercall) (old new : Packed) : Type 0 where
   pub reply : replied new.answered new ≡ replied old.answered old
   pub stays : FitsReply old.answered old → FitsReply new.answered new
 
--- with this answer, and the caller as before
+-- with this answer, and the caller unchanged
 pub record HasReply (reply : Reply) (old new : Packed) : Type 0 where
   pub answers : replied new.answered new ≡ reply
   pub fits : FitsReply new.answered new

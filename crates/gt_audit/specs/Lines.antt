@@ -13,7 +13,7 @@ use Rattle.gt_audit.specs.declared.record.Reply.{Reply}
 use Rattle.gt_audit.specs.declared.record.Reply.TheVariants.{Done, Frames, Size, Version, Denied}
 use Rattle.gt_audit.specs.declared.record.Record.{Record}
 
--- the domain that a call names, by its number: DOMID_SELF is the caller (grant_table.h)
+-- the domain that a call names, by its number: DOMID_SELF is the caller (xen.h)
 abbrev pub domain_text : DomId → DomId → List ℕ
 domain_text caller dom = decimal (resolved caller dom).0
 
@@ -21,7 +21,7 @@ domain_text caller dom = decimal (resolved caller dom).0
 abbrev pub reference_text : DomId → DomId → GrantRef → List ℕ
 reference_text caller dom gref = codes " " ++ domain_text caller dom ++ codes " " ++ decimal gref.0
 
--- what an end of a copy is given by: a grant reference or a frame
+-- what names an end of a copy: a grant reference or a frame number
 abbrev pub copy_kind_text : Bool → List ℕ
 copy_kind_text is_reference = if is_reference then codes "gref" else codes "frame"
 
@@ -31,14 +31,14 @@ end_text caller is_reference end =
     codes " " ++ copy_kind_text is_reference ++ codes " " ++ domain_text caller end.domid ++ codes " "
     ++ decimal end.ptr ++ codes " " ++ decimal end.offset
 
--- `copy`, its ends, source first, its length and its flags: bit 0 is the
--- source's kind, bit 1 the destination's (GNTCOPY of grant_table.h)
+-- `copy`, its ends, the source first, its length and its flags: bit 0 gives the kind of the source, bit 1 that of the
+-- destination (GNTCOPY of grant_table.h)
 abbrev pub copy_text : DomId → End → End → ℕ → ℕ → List ℕ
 copy_text caller source dest len flags =
     codes "copy" ++ end_text caller (bit_and flags 1 == 1) source ++ end_text caller (bit_and flags 2 == 2) dest
     ++ codes " " ++ decimal len ++ codes " " ++ decimal flags
 
--- what was asked
+-- the request
 abbrev pub hypercall_text : DomId → Hypercall → List ℕ
 hypercall_text caller (Map dom gref flags) = codes "map" ++ reference_text caller dom gref ++ codes " " ++ decimal flags
 hypercall_text caller (Unmap None) = codes "unmap - -"
@@ -53,7 +53,7 @@ hypercall_text caller (SetupTable frames) = codes "setup" ++ codes " " ++ decima
 abbrev pub asked_text : DomId → Hypercall → List ℕ
 asked_text caller call = codes "audit " ++ decimal caller.0 ++ codes " " ++ hypercall_text caller call ++ codes " : "
 
--- what was answered; `called` is what types are called
+-- the answer; `called` gives the names of types
 abbrev pub reply_text : (TypeId → List ℕ) → Reply → List ℕ
 reply_text called Done = codes "ok"
 reply_text called (Frames frames) = frames_text frames
@@ -65,6 +65,6 @@ reply_text called (Denied d) = denial_text called d
 abbrev pub line_text : (TypeId → List ℕ) → Record → List ℕ
 line_text called r = asked_text r.dom r.call ++ reply_text called r.reply ++ codes "\n"
 
--- `lost K`, if some record was lost
+-- `lost K`, if a record was lost
 abbrev pub lost_text : ℕ → List ℕ
 lost_text lost = if lost == 0 then [] else codes "lost " ++ decimal lost ++ codes "\n"

@@ -1,8 +1,8 @@
--- Records by pieces.
+-- Records in pieces.
 use Rattle.std.specs.Prelude.{◌≡◌, ℕ, zero, suc, ◌*◌, ◌-◌, ◌<◌, ◌≤◌, List, [], ◌∷◌, ◌++◌, length, slice_index_or}
 use Rattle.gt_audit.specs.declared.record.Record.{Record}
 
--- the records, in order, and for how many more there is room
+-- the records, in order, and the number of further records that there is room for
 pub record Filling : Type 0 where
   pub records : List Record
   pub room : ℕ
@@ -12,7 +12,7 @@ abbrev pub joined : List (List Record) → List Record
 joined [] = []
 joined (p ∷ ps) = p ++ joined ps
 
--- for how many more records there is room
+-- the number of further records that there is room for
 abbrev pub room_of : List (List Record) → ℕ
 room_of ps = 256 * length ps - length (joined ps)
 
@@ -20,13 +20,13 @@ room_of ps = 256 * length ps - length (joined ps)
 abbrev pub filling_of : List (List Record) → Filling
 filling_of ps = record { records = joined ps; room = room_of ps }
 
--- the pieces before this place are full, and those after it have no record
+-- the pieces before this index are full, and those after it are empty
 abbrev pub AreFilled : ℕ → List (List Record) → Type 0
 AreFilled at [] = at ≡ 0
 AreFilled zero (p ∷ ps) = (length p ≤ 256) × (joined ps ≡ [])
 AreFilled (suc at) (p ∷ ps) = (length p ≡ 256) × AreFilled at ps
 
--- the piece at this place has room, and those before it none
+-- the piece at this index has room, and those before it are full
 abbrev pub HasRoomAt : ℕ → List (List Record) → Type 0
 HasRoomAt n ps = AreFilled n ps × (n < length ps) × (length (slice_index_or ps n []) < 256)
 

@@ -1,4 +1,4 @@
-//! A record as it is kept: 48 bytes, half of what a [`Record`] takes.
+//! A record in the form in which it is kept: 48 bytes, half the size of a [`Record`].
 ghost use Rattle.std.specs.Prelude.{◌≡◌};
 ghost use Rattle.gt_audit.specs.Compact.{FitsCall, FitsReply, HasCall, HasReply};
 ghost use Rattle.gt_audit.specs.Compact.{called, facts_of, field_at, replied};
@@ -10,7 +10,7 @@ use bitflags::Flags;
 use gt_types::{Denial, DomId, End, Facts, Field, GrantRef, Perms, Rule, Size, Status, TypeId};
 use std::marker::Model;
 
-// What was asked, without its numbers.
+// The kind of a request, without its numbers.
 #[derive(Clone, Copy)]
 enum CallKind {
     Map,
@@ -23,7 +23,7 @@ enum CallKind {
     SetupTable,
 }
 
-// What was answered, and what a refusal rests on, without the numbers.
+// The kind of an answer and of the facts of a refusal, without the numbers.
 #[derive(Clone, Copy)]
 enum ReplyKind {
     Done,
@@ -40,24 +40,24 @@ enum ReplyKind {
 // The parts of a record. A number that its call or its answer doesn't have is 0.
 #[derive(Clone, Copy)]
 struct Packed {
-    // The frame or the reference that a copy reads; an entry's reference; the version or the frames wanted.
+    // The frame or the reference that a copy reads; an entry's reference; the version or the frames requested.
     source: u64,
     // The frame or the reference that a copy writes; the flags of a map.
     dest: u64,
-    // The word, the field or the permission that a refusal rests on; the frames, the version or a size's limit
-    // answered.
+    // The word, the field or the permission among the facts of a refusal; the frames, the version or the maximum
+    // size in an answer.
     word: u64,
-    // The reference or the target's type that a refusal rests on; the size answered.
+    // The reference or the target's type among the facts of a refusal; the present size in an answer.
     found: u32,
     caller: u16,
-    // The domain that the call names; the source's, for a copy.
+    // The domain that the call names; of a copy, that of the source.
     dom: u16,
     dest_dom: u16,
     source_off: u16,
     dest_off: u16,
     len: u16,
     flags: u16,
-    // The domain or the source's type that a refusal rests on.
+    // The domain or the source's type among the facts of a refusal.
     of: u16,
     asked: CallKind,
     answered: ReplyKind,
@@ -86,7 +86,6 @@ const BLANK: Packed = Packed {
     status: Status::GeneralError,
 };
 
-// The field with this number.
 fn field_at(number: u64) -> Field
     ensures { result ≡ field_at number }
 {
@@ -103,7 +102,6 @@ fn field_at(number: u64) -> Field
     }
 }
 
-// The number of a field.
 fn number_of(field: Field) -> u64
     ensures { field_at result ≡ field }
 {
@@ -120,7 +118,6 @@ fn number_of(field: Field) -> u64
     }
 }
 
-// The parts with this copy.
 #[inline(always)]
 fn with_copy(source: End, dest: End, len: u16, flags: u16, rest: Packed) -> Packed
     ensures { HasCall (Copy source dest len flags) rest result }
@@ -139,7 +136,6 @@ fn with_copy(source: End, dest: End, len: u16, flags: u16, rest: Packed) -> Pack
     }
 }
 
-// The parts with this call.
 #[inline(always)]
 fn with_call(call: Hypercall, rest: Packed) -> Packed
     ensures { HasCall call rest result }
@@ -198,7 +194,6 @@ fn with_call(call: Hypercall, rest: Packed) -> Packed
     }
 }
 
-// The parts with this refusal.
 #[inline(always)]
 fn with_refusal(denial: Denial, rest: Packed) -> Packed
     ensures { HasReply (Denied denial) rest result }
@@ -243,7 +238,6 @@ fn with_refusal(denial: Denial, rest: Packed) -> Packed
     }
 }
 
-// The parts with this answer.
 #[inline(always)]
 fn with_reply(reply: Reply, rest: Packed) -> Packed
     ensures { HasReply reply rest result }
@@ -273,7 +267,6 @@ fn with_reply(reply: Reply, rest: Packed) -> Packed
     }
 }
 
-// What was asked.
 fn called(parts: &Packed) -> Hypercall
     requires { FitsCall parts.now.asked parts.now }
     ensures { result ≡ called parts.now.asked parts.now }
@@ -314,7 +307,6 @@ fn called(parts: &Packed) -> Hypercall
     }
 }
 
-// What a refusal rests on.
 fn facts(parts: &Packed) -> Facts
     requires { FitsReply parts.now.answered parts.now }
     ensures { result ≡ facts_of parts.now.answered parts.now }
@@ -339,7 +331,6 @@ fn facts(parts: &Packed) -> Facts
     }
 }
 
-// What was answered.
 fn replied(parts: &Packed) -> Reply
     requires { FitsReply parts.now.answered parts.now }
     ensures { result ≡ replied parts.now.answered parts.now }
@@ -360,7 +351,7 @@ fn replied(parts: &Packed) -> Reply
     }
 }
 
-/// A record as it is kept. A contract sees the [`Record`].
+/// A record in the form in which it is kept. A contract sees the [`Record`].
 #[derive(Drop)]
 pub(crate) struct Compact {
     parts: Packed,
@@ -381,7 +372,7 @@ impl Model for Compact {
 impl Compact {
     ghost use Rattle.std.specs.Prelude.{◌≡◌};
 
-    /// The record, to be kept.
+    /// Packs a record.
     #[inline(always)]
     pub(crate) fn of(told: Record) -> Compact
         ensures { result ≡ told }
@@ -395,7 +386,7 @@ impl Compact {
         }
     }
 
-    /// The record that is kept.
+    /// Unpacks the record.
     pub(crate) fn record(&self) -> Record
         ensures { result ≡ self.now }
     {

@@ -13,7 +13,7 @@ use gt_types::{DOMID_SELF, DomId, End, GrantRef, Memory};
 use std::alloc::{AllocError, Global};
 use std::convert::AsSlice;
 
-// The domain that a call names: DOMID_SELF is the caller.
+// Resolves the domain that a call names: DOMID_SELF is the caller.
 fn resolved(caller: DomId, dom: DomId) -> DomId
     ensures { result ≡ resolved_in caller dom }
 {
@@ -27,7 +27,7 @@ fn push_domain(out: &mut Vec<u8>, caller: DomId, dom: DomId) -> Result<(), Alloc
     push_number(out, resolved(caller, dom).0)
 }
 
-// A call by its word, and the domain that it names.
+// Appends the word of a call, and the domain that it names.
 fn push_with_domain(
     out: &mut Vec<u8>,
     word: &str,
@@ -42,7 +42,7 @@ fn push_with_domain(
     push_domain(out, caller, dom)
 }
 
-// A call by its word, and a number.
+// Appends the word of a call, and a number.
 fn push_with_number(out: &mut Vec<u8>, word: &str, number: u32) -> Result<(), AllocError>
     ensures text { OnOk result (out.new.items ≡ out.old.items ++ word.now ++ codes " " ++ decimal number) }
     ensures stays { OnOk result (StaysText out.old.items out.new.items) }
@@ -52,7 +52,7 @@ fn push_with_number(out: &mut Vec<u8>, word: &str, number: u32) -> Result<(), Al
     push_number(out, number)
 }
 
-// An entry, after a blank.
+// Appends an entry, after a blank.
 fn push_entry(
     out: &mut Vec<u8>,
     caller: DomId,
@@ -74,7 +74,7 @@ fn kind(is_reference: bool) -> &'static str
     if is_reference { "gref" } else { "frame" }
 }
 
-// An end of a copy, after a blank.
+// Appends an end of a copy, after a blank.
 fn push_end(
     out: &mut Vec<u8>,
     caller: DomId,
@@ -162,7 +162,7 @@ fn push_reply<N: AsSlice<u8>>(
     }
 }
 
-// What comes before the answer.
+// Appends the part of a line before the answer.
 fn push_asked(out: &mut Vec<u8>, caller: DomId, call: Hypercall) -> Result<(), AllocError>
     ensures text { OnOk result (out.new.items ≡ out.old.items ++ asked_text caller call) }
     ensures stays { OnOk result (StaysText out.old.items out.new.items) }
@@ -174,8 +174,8 @@ fn push_asked(out: &mut Vec<u8>, caller: DomId, call: Hypercall) -> Result<(), A
     push_text(out, " : ")
 }
 
-/// Appends the line of a record. The name of a type is at its number in `names`; a type without one
-/// prints no name. After an Err a part of the line may be there.
+/// Appends the line of a record, with its LF. `names` has the name of each type at the type's index; a type without
+/// one prints no name. After an Err, `out` may end in a part of the line.
 pub fn push_line<N: AsSlice<u8>>(
     out: &mut Vec<u8>,
     told: &Record,
@@ -189,7 +189,8 @@ pub fn push_line<N: AsSlice<u8>>(
     push_text(out, "\n")
 }
 
-/// The line of a record, with its LF. The name of a type is at its number in `names`.
+/// Returns the line of a record, with its LF. `names` has the name of each type at the type's index; a type without
+/// one prints no name.
 pub fn line(alloc: Global, told: &Record, names: &[String]) -> Result<String, Memory>
     ensures { IfOk result (λ text. string_bytes text ≡ line_text (type_text string_bytes names.now) told.now) }
 {
@@ -201,8 +202,8 @@ pub fn line(alloc: Global, told: &Record, names: &[String]) -> Result<String, Me
     }
 }
 
-/// Appends the line that says how many records were lost; nothing if none was. After an Err a part of
-/// the line may be there.
+/// Appends the line with the number of lost records; nothing if none was lost. After an Err, `out` may end in a
+/// part of the line.
 pub fn push_lost(out: &mut Vec<u8>, lost: u64) -> Result<(), AllocError>
     ensures text { OnOk result (out.new.items ≡ out.old.items ++ lost_text lost) }
     ensures stays { OnOk result (StaysText out.old.items out.new.items) }

@@ -1,4 +1,4 @@
-//! A list of records that grows by pieces. A record stays where it was put.
+//! A list of records that grows by pieces, so that no record ever moves.
 ghost use Rattle.std.specs.Prelude.{◌≡◌, ◌<◌, ◌≤◌, ◌+◌, ◌++◌, ◌∷◌, [], IfOk, OnErr, OnOk, length, slice_index_or};
 ghost use Rattle.std.specs.Prelude.{replicate};
 ghost use Rattle.gt_audit.specs.Pieces.{AreFilled, HasRoomAt, joined, room_of};
@@ -9,20 +9,20 @@ use gt_types::DomId;
 use std::alloc::{AllocError, Global};
 use std::marker::Model;
 
-/// How many records a piece has room for: it takes 12 KiB.
+/// The number of records that a piece has room for. A piece takes 12 KiB.
 pub(crate) const PIECE: usize = 256;
 
-/// The most records that room is made for at once: 2^24, which take 768 MiB.
+/// The maximum number of records that one reservation makes room for: 2^24, which take 768 MiB.
 pub const MOST_RESERVED: usize = 16_777_216;
 
-// What room for records is filled with while it is made.
+// The filling of room for records while it is made.
 const BLANK: Record = Record {
     dom: DomId(0),
     call: Hypercall::Unmap { subject: None },
     reply: Reply::Done,
 };
 
-// Some records, and room for the others of a piece.
+// Some records, and room for the rest of a piece.
 #[derive(Drop)]
 struct Piece {
     records: Vec<Compact>,
@@ -51,7 +51,7 @@ impl Piece {
         })
     }
 
-    // A piece whose room was written once.
+    // Makes a piece, and writes all its room once.
     fn written(alloc: Global) -> Result<Piece, AllocError>
         ensures { IfOk result (λ p. p ≡ []) }
     {
@@ -95,7 +95,7 @@ impl Piece {
     }
 }
 
-// Adds a piece with no records.
+// Adds an empty piece.
 #[cold]
 fn add_piece(alloc: Global, pieces: &mut Vec<Piece>) -> Result<(), AllocError>
     ensures added { OnOk result (pieces.new.items ≡ pieces.old.items ++ [] ∷ []) }
@@ -106,7 +106,7 @@ fn add_piece(alloc: Global, pieces: &mut Vec<Piece>) -> Result<(), AllocError>
     Ok(())
 }
 
-// Adds a piece with no records, whose room was written once.
+// Adds an empty piece whose room was written once.
 fn add_written(alloc: Global, pieces: &mut Vec<Piece>) -> Result<(), AllocError>
     ensures added { OnOk result (pieces.new.items ≡ pieces.old.items ++ [] ∷ []) }
     ensures kept { OnErr result (pieces.new.items ≡ pieces.old.items) }
@@ -116,7 +116,7 @@ fn add_written(alloc: Global, pieces: &mut Vec<Piece>) -> Result<(), AllocError>
     Ok(())
 }
 
-// Adds `count` of them, or none if memory is refused.
+// Adds `count` empty pieces, or none if an allocation fails.
 fn add_pieces(alloc: Global, pieces: &mut Vec<Piece>, count: usize) -> Result<(), AllocError>
     ensures added { OnOk result (pieces.new.items ≡ pieces.old.items ++ replicate count []) }
     ensures refused { OnErr result (pieces.new.items ≡ pieces.old.items) }
@@ -134,7 +134,7 @@ fn add_pieces(alloc: Global, pieces: &mut Vec<Piece>, count: usize) -> Result<()
     Ok(())
 }
 
-// The place of the first piece that has room; how many there are, if none has.
+// Returns the index of the first piece that has room, and the number of pieces if none has.
 #[inline(always)]
 fn place_of_room(pieces: &[Piece], at: usize) -> usize
     requires { AreFilled at pieces.now }
@@ -148,7 +148,7 @@ fn place_of_room(pieces: &[Piece], at: usize) -> usize
     }
 }
 
-// The place of the first piece that has room. It is added if there is none.
+// Returns the index of the first piece that has room, and adds a piece if none has.
 #[inline(always)]
 fn make_room(alloc: Global, pieces: &mut Vec<Piece>, at: usize) -> Result<usize, AllocError>
     requires { AreFilled at pieces.old.items }
@@ -168,7 +168,6 @@ fn make_room(alloc: Global, pieces: &mut Vec<Piece>, at: usize) -> Result<usize,
     }
 }
 
-// Puts a record into the piece that has room.
 #[inline(always)]
 fn put(pieces: &mut Vec<Piece>, at: usize, told: Record)
     requires { HasRoomAt at pieces.old.items }
@@ -179,7 +178,6 @@ fn put(pieces: &mut Vec<Piece>, at: usize, told: Record)
     pieces[at].push(told);
 }
 
-// Lets the records of all pieces go.
 fn empty(pieces: &mut Vec<Piece>)
     ensures filled { AreFilled 0 pieces.new.items }
     ensures records { joined pieces.new.items ≡ [] }
@@ -190,7 +188,7 @@ fn empty(pieces: &mut Vec<Piece>)
     }
 }
 
-/// Records in order, by pieces: those before the one at `at` are full, and those after it have none.
+/// Records in order, in pieces. The pieces before the one at `at` are full, and those after it are empty.
 #[derive(Drop)]
 pub(crate) struct Pieces {
     alloc: Global,
@@ -214,7 +212,7 @@ impl Pieces {
     ghost use Rattle.std.specs.Prelude.{◌≡◌, ◌≤◌, ◌+◌, ◌++◌, ◌∷◌, [], OnErr, OnOk, slice_get};
     ghost use Rattle.gt_audit.specs.declared.pieces.TheConstants.{MOST_RESERVED};
 
-    /// No records. It takes no memory.
+    /// Returns an empty list. It does not allocate.
     pub(crate) fn new(alloc: Global) -> Pieces
         ensures records { result.records ≡ [] }
         ensures room { result.room ≡ 0 }
@@ -226,7 +224,7 @@ impl Pieces {
         }
     }
 
-    /// Appends a record. None of the others is moved.
+    /// Appends a record. No other record moves.
     #[inline(always)]
     pub(crate) fn push(&mut self, told: Record) -> Result<(), AllocError>
         ensures kept { OnOk result (self.new.records ≡ self.old.records ++ told ∷ []) }
@@ -239,7 +237,7 @@ impl Pieces {
         Ok(())
     }
 
-    /// The record at this place.
+    /// Returns the record at this index.
     pub(crate) fn get(&self, index: usize) -> Option<Record>
         ensures { result ≡ slice_get self.now.records index }
     {
@@ -251,7 +249,7 @@ impl Pieces {
         }
     }
 
-    /// Lets all records go, and keeps their room.
+    /// Drops all records, and keeps their room.
     pub(crate) fn clear(&mut self)
         ensures records { self.new.records ≡ [] }
         ensures room { self.old.room ≤ self.new.room }
@@ -260,8 +258,8 @@ impl Pieces {
         self.at = 0;
     }
 
-    /// Makes room for this many more records, and writes it once. If memory is refused, what was taken for it goes
-    /// back. More than [`MOST_RESERVED`] are refused before any memory is taken.
+    /// Makes room for this many more records, and writes it once. If an allocation fails, all memory taken for the
+    /// room is released. For more than [`MOST_RESERVED`] it fails without any allocation.
     pub(crate) fn reserve(&mut self, records: usize) -> Result<(), AllocError>
         ensures records { self.new.records ≡ self.old.records }
         ensures grows { self.old.room ≤ self.new.room }

@@ -1,60 +1,65 @@
-//! What is recorded of a hypercall.
+//! Audit records of hypercalls.
 use gt_types::{Denial, DomId, End, GrantRef, Size};
 
-/// What a domain asked. A domain named as [`DOMID_SELF`](gt_types::DOMID_SELF) is the caller.
+/// The request of a hypercall. A domain named as [`DOMID_SELF`](gt_types::DOMID_SELF) is the caller.
 #[derive(Clone, Copy, Debug, PartialEq, Eq)]
 pub enum Hypercall {
-    /// The flags are GNTMAP bits of the public header `grant_table.h`.
+    /// Maps an entry (`GNTTABOP_map_grant_ref`). The flags are the GNTMAP bits of `grant_table.h`.
     Map {
         dom: DomId,
         gref: GrantRef,
         flags: u32,
     },
-    /// The domain and the reference whose entry was mapped; None if the handle names no mapping.
+    /// Unmaps (`GNTTABOP_unmap_grant_ref`). The subject is the domain and the reference whose entry was mapped,
+    /// None if the handle names no mapping.
     Unmap {
         subject: Option<(DomId, GrantRef)>,
     },
-    /// Bit 0 of the flags says that the source is a grant reference, bit 1 the same of the destination
-    /// (GNTCOPY of the public header).
+    /// Copies `len` bytes (`GNTTABOP_copy`). Bit 0 of the flags is set if a grant reference names the source, bit 1
+    /// if one names the destination.
     Copy {
         source: End,
         dest: End,
         len: u16,
         flags: u16,
     },
+    /// Queries the size of a table (`GNTTABOP_query_size`).
     QuerySize {
         dom: DomId,
     },
+    /// Queries the version of a table (`GNTTABOP_get_version`).
     GetVersion {
         dom: DomId,
     },
+    /// Changes the version of the caller's table (`GNTTABOP_set_version`).
     SetVersion {
         version: u32,
     },
+    /// Changes the number of frames of the caller's table (`GNTTABOP_setup_table`).
     SetupTable {
         frames: u32,
     },
 }
 
-/// What was answered, as far as a line prints it.
+/// The answer of a hypercall, as far as a line prints it.
 #[derive(Clone, Copy, Debug, PartialEq, Eq)]
 pub enum Reply {
-    /// Ok without a value that a line prints; a map's handle is none.
+    /// Ok, without a value that a line prints. The handle of a map is not printed.
     Done,
-    /// The frames that a table has.
+    /// The number of frames of a table.
     Frames(u32),
     /// The size of a table.
     Size(Size),
     /// The version of a table.
     Version(u32),
-    /// Refused.
+    /// A refusal.
     Denied(Denial),
 }
 
 /// The record of one answered hypercall.
 #[derive(Clone, Copy, Debug, PartialEq, Eq)]
 pub struct Record {
-    /// The domain that called.
+    /// The caller.
     pub dom: DomId,
     pub call: Hypercall,
     pub reply: Reply,

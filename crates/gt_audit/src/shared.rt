@@ -1,4 +1,4 @@
-//! Records that domains share while they run.
+//! A log that domains share while they run.
 use crate::compact::Compact;
 use crate::record::Record;
 use boxcar::Vec;
@@ -6,7 +6,7 @@ use gt_types::DomId;
 use std::alloc::{AllocError, Global};
 use std::sync::Wait;
 
-// A record as the log has it.
+// A record as the log keeps it.
 #[derive(Drop)]
 struct LogEntry {
     told: Compact,
@@ -14,13 +14,13 @@ struct LogEntry {
     dom: DomId,
 }
 
-/// Records of domains, each with its number among its domain's. Threads push and read it side by side.
+/// Records of domains, each with its number among its domain's. Threads push and read them at the same time.
 #[derive(Drop)]
 pub struct SharedLog {
     entries: Vec<LogEntry>,
 }
 
-/// What shows that a log has a record.
+/// A token: evidence that a log has a record.
 #[derive(Drop)]
 pub struct Pushed {
     token: boxcar::Pushed<LogEntry>,
@@ -31,15 +31,18 @@ impl SharedLog {
     ghost use Rattle.gt_audit.specs.Log.{IsIn, IsFor, pushed_record};
     ghost use Rattle.gt_audit.specs.declared.shared.Pushed.{Pushed};
 
-    /// An empty log.
+    /// Returns an empty log.
     pub fn new(alloc: Global) -> Result<SharedLog, AllocError> {
         Ok(SharedLog {
             entries: Vec::new(alloc)?,
         })
     }
 
-    /// Adds a record of this domain under this number. If memory is refused it comes back. It may wait
-    /// while another thread makes room.
+    /// Adds a record of this domain under this number, and returns its token. May wait while another thread makes
+    /// room.
+    ///
+    /// # Errors
+    /// The record, if an allocation fails.
     pub fn push(
         &self,
         rt: &impl Wait,
@@ -57,7 +60,7 @@ impl SharedLog {
         }
     }
 
-    /// The record that was pushed.
+    /// Returns the record that was pushed for this token.
     pub fn get(&self, pushed: &Pushed) -> Record
         requires { IsIn self.now pushed.now }
         ensures { result ≡ pushed_record pushed.now }
@@ -65,13 +68,13 @@ impl SharedLog {
         self.entries.value(&pushed.token).told.record()
     }
 
-    /// How many records are there by now.
+    /// Returns the number of records at present.
     pub fn count(&self) -> usize {
         self.entries.count()
     }
 
-    /// A record of this domain under this number, if one is there by now: it walks over all records, the
-    /// first pushed first.
+    /// Returns a record that was pushed for this domain under this number, the first one found. None if it finds
+    /// none. The search looks at each record of the log, in the order of their indices.
     pub fn find(&self, dom: DomId, number: u64) -> Option<Record>
         ensures { IfSome result (λ r. (p : Pushed) × IsIn self.now p × IsFor p dom number r) }
     {

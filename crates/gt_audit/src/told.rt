@@ -1,4 +1,4 @@
-//! What one domain pushed into a shared log.
+//! The records that one domain pushed into a shared log.
 use crate::record::Record;
 use crate::shared::{Pushed, SharedLog};
 use gt_types::DomId;
@@ -6,7 +6,7 @@ use std::alloc::{AllocError, Global};
 use std::marker::Model;
 use std::sync::Wait;
 
-/// What one domain pushed into a log: its records, each under its number, in order, and how many were lost.
+/// The records that one domain pushed into a log, each with its number, in order, and how many were lost.
 #[derive(Drop)]
 pub struct DomainLog<'l> {
     log: &'l SharedLog,
@@ -31,7 +31,7 @@ impl<'l> DomainLog<'l> {
     ghost use Rattle.std.specs.Prelude.{◌≡◌, IfOk, map};
     ghost use Rattle.gt_audit.specs.Telling.{nothing_told, TellsUnder};
 
-    /// Nothing was pushed yet.
+    /// Returns the log of a domain that has pushed nothing yet.
     pub fn new(alloc: Global, log: &'l SharedLog, dom: DomId) -> Self
         ensures { result ≡ nothing_told dom }
     {
@@ -43,8 +43,8 @@ impl<'l> DomainLog<'l> {
         }
     }
 
-    /// Pushes a record under this number. If memory is refused, here or by the log, it is lost; the count
-    /// of those stops at [`u64::MAX`].
+    /// Pushes a record under this number. If an allocation fails, here or in the log, the record is lost. The count
+    /// of lost records stops at [`u64::MAX`].
     pub fn tell(&mut self, rt: &impl Wait, number: u64, told: Record)
         ensures { TellsUnder self.old number told self.new }
     {
@@ -58,14 +58,14 @@ impl<'l> DomainLog<'l> {
         }
     }
 
-    /// How many were lost.
+    /// Returns the number of lost records.
     pub fn lost(&self) -> u64
         ensures { result ≡ self.now.lost }
     {
         self.lost
     }
 
-    /// The records pushed, as the log has them, in order.
+    /// Returns the records pushed, in order, as the log has them.
     pub fn records(&self, alloc: Global) -> Result<Vec<Record>, AllocError>
         ensures { IfOk result (λ v. v.items ≡ map (λ e. e.1) self.now.told) }
     {

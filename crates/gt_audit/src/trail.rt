@@ -5,8 +5,8 @@ use gt_types::Memory;
 use std::alloc::Global;
 use std::marker::Model;
 
-/// The records of one domain, in order, and how many were lost: because memory was refused, or because the trail keeps
-/// no more. Each takes 48 bytes, and stays where it is when the trail grows.
+/// The records of one domain, in order, and how many were lost: because an allocation failed, or because the trail
+/// was at its bound. Each record takes 48 bytes. It does not move when the trail grows.
 #[derive(Drop)]
 pub struct Trail {
     alloc: Global,
@@ -37,7 +37,7 @@ impl Trail {
     ghost use Rattle.gt_audit.specs.Telling.{silent, ArePartsOf, HasNone, Tells};
     ghost use Rattle.gt_audit.specs.declared.pieces.TheConstants.{MOST_RESERVED};
 
-    /// No records, and as many may come as memory gives. It takes no memory.
+    /// Returns a trail with no records and no bound. It does not allocate.
     pub fn new(alloc: Global) -> Trail
         ensures { result ≡ silent }
     {
@@ -50,20 +50,21 @@ impl Trail {
         }
     }
 
-    /// From now on it keeps a record only while it has fewer than so many; each further one is lost. None of those that
-    /// it has goes.
+    /// Sets the bound. A later record is kept only if the trail has fewer than `records` then, and is otherwise
+    /// lost. The trail keeps all records that it has.
     pub fn keep_at_most(&mut self, records: usize)
         ensures { self.new ≡ record self.old { most = records } }
     {
         self.most = records;
     }
 
-    /// Makes room for this many more records, and writes it once, so that the pages are there before the records come.
+    /// Makes room for this many more records. Writes the room once, so that its pages are there before the records
+    /// are.
     ///
     /// # Errors
     ///
-    /// `Memory` if memory is refused, and for more than [`MOST_RESERVED`] records, before any memory is taken. The trail
-    /// is then as it was: what was taken for the room has gone back.
+    /// `Memory` if an allocation fails. Also for more than [`MOST_RESERVED`] records, without any allocation. The
+    /// trail is then unchanged, and all memory taken for the room is released.
     pub fn reserve(&mut self, records: usize) -> Result<(), Memory>
         ensures bound { OnOk result (records ≤ MOST_RESERVED) }
         ensures refused { OnErr result (self.new ≡ self.old) }
@@ -75,8 +76,8 @@ impl Trail {
         Ok(())
     }
 
-    /// Appends a record. If memory is refused, or the trail keeps no more, the list stays, and one more is lost; the
-    /// count stops at [`u64::MAX`].
+    /// Appends a record. If an allocation fails or the trail is at its bound, the records stay unchanged and the
+    /// count of lost ones rises by one. The count stops at [`u64::MAX`].
     #[inline(always)]
     pub fn push(&mut self, told: Record)
         ensures { Tells self.old told self.new }
@@ -88,28 +89,28 @@ impl Trail {
         }
     }
 
-    /// How many records it has.
+    /// Returns the number of records.
     pub fn len(&self) -> usize
         ensures { result ≡ length self.now.records }
     {
         self.len
     }
 
-    /// Whether it has no record.
+    /// Returns true if the trail has no record.
     pub fn is_empty(&self) -> bool
         ensures { result ≡ (length self.now.records == 0) }
     {
         self.len == 0
     }
 
-    /// The record at this place, counted from 0.
+    /// Returns the record at this index, from 0.
     pub fn get(&self, index: usize) -> Option<Record>
         ensures { result ≡ slice_get self.now.records index }
     {
         self.pieces.get(index)
     }
 
-    /// The records, in order.
+    /// Returns a list of the records, in order.
     pub fn records(&self) -> Result<Vec<Record>, Memory>
         ensures { IfOk result (λ v. v.items ≡ self.now.records) }
     {
@@ -122,14 +123,14 @@ impl Trail {
         Ok(records)
     }
 
-    /// How many were lost.
+    /// Returns the number of lost records.
     pub fn lost(&self) -> u64
         ensures { result ≡ self.now.lost }
     {
         self.lost
     }
 
-    /// Lets all records go, and the count of those lost, and keeps their room.
+    /// Drops all records and the count of lost ones, and keeps the room.
     pub fn clear(&mut self)
         ensures emptied { HasNone self.new }
         ensures bound { self.new.most ≡ self.old.most }
@@ -140,8 +141,8 @@ impl Trail {
         self.lost = 0;
     }
 
-    /// Hands out all that it has, and goes on with no records in the room of `next`, under its own bound. So an owner
-    /// who hands in by turns what was handed out before, and was cleared, takes no memory.
+    /// Swaps in `next`, which is empty, and returns the records so far. The bound stays. An owner who takes turns
+    /// with two trails, clearing the one returned, does not allocate.
     pub fn take(&mut self, next: Trail) -> Trail
         requires empty { HasNone next }
         ensures parts { ArePartsOf self.old result self.new }

@@ -1,4 +1,4 @@
--- A call before its first step: what is so of each, by what it asks.
+-- A call before its first step: what holds for each request.
 use Rattle.gt_calls.proofs.Words.{◌≡◌, ◌≤◌, ℕ, refl, [], Option, Some, None, sym, ap, ◌∙◌, subst, arith, DomId}
 use Rattle.gt_calls.proofs.Words.{GrantRef, Request, bytes_of, OpenRequest, Copy, CopyArgs, CallResult, Phase, Ending}
 use Rattle.gt_calls.proofs.Words.{CallerKnowledge, begun, opens, Continuation, path, after_beginning, steps_of, remains}
@@ -7,13 +7,13 @@ use Rattle.gt_calls.{specs.Path.most_steps, proofs.Calls.at-source, proofs.Calls
 use Rattle.gt_calls.{proofs.Shown.shown-source, proofs.Holds.held-source, proofs.Counts.at-source-left}
 use Rattle.gt_calls.specs.declared.request.Request.TheVariants as requests
 
--- a step is to be made here, whatever is held
+-- the phase makes a step, whatever pins are held
 abbrev pub IsMoving : Phase → Type 0
 IsMoving (Ending pins verdict) = ⊥
 IsMoving phase = Unit {0}
 
--- a call that stands here has this to come, has shown nothing yet and holds nothing, and makes a step, with so many to
--- come at the most
+-- a call in this phase has this left, has shown nothing and holds nothing, and makes a step, with at most this many
+-- steps left
 pub record Begins (k : CallerKnowledge) (grammar : Continuation) (caller : DomId) (request : OpenRequest) (steps : Continuation) (phase : Phase) (most : ℕ) : Type 0 where
   pub same : remains k caller phase ≡ steps
   pub shown : HasShown k grammar caller request [] phase
@@ -35,7 +35,7 @@ begins k grammar caller (Copy c) none = record {
 }
 begins k grammar caller r none = grind (arith, opens)
 
--- a call makes a step where it doesn't give its pins back
+-- a call makes a step unless it only releases its pins
 moving-step : (caller : DomId) (phase : Phase) → IsMoving phase → IsStepAction (Some (action_at caller phase))
 moving-step caller phase m = grind arith
 
@@ -45,7 +45,7 @@ makes-step k caller r none = let b = begins k (path k caller r) caller r none in
     sym (ap (λ (t : Continuation). t []) b.same) ∙ wants-action k caller (first_phase k caller r) in
     subst IsStepAction (sym (ap (λ (o : Option CallResult). after_beginning o (steps_of k caller r) []) none ∙ steps)) (moving-step caller (first_phase k caller r) b.moves)
 
--- a request that grants by bytes is told from all others
+-- a request that grants by bytes differs from all others
 abbrev pub HasNoBytes : Request → Type 0
 HasNoBytes request = (gref : GrantRef) (bytes : _) → request ≡ requests.GrantBytes gref bytes → ⊥
 

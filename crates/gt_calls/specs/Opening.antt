@@ -1,4 +1,4 @@
--- What is so of a call that no rule answers at its beginning.
+-- What holds for a call that no rule answers at its beginning.
 use Rattle.std.specs.Prelude.{◌≡◌, ◌≢◌, ◌⊎◌, ◌+◌, ◌<◌, ◌≤◌, ℕ, Bool, true, false, List, [], ◌∷◌, Some, zero, suc}
 use Rattle.std.specs.Prelude.{Option, None}
 use Rattle.gt_calls.specs.Prelude.{arith, FRAME_SIZE, LAST_GENERATION, MAX_MAPPINGS, MAX_TABLE_FRAMES, DomId, GrantRef}
@@ -23,7 +23,7 @@ IsAllowed may (t ∷ ts) = (may t.source t.target t.perm ≡ true) × IsAllowed 
 abbrev pub IsInTable : CallerKnowledge → GrantRef → Type 0
 IsInTable k gref = gref.0 < size_of k.header
 
--- a grant: the reference holds no entry and is not worn, and the table may have the entry given
+-- a grant: the reference has no entry and is not worn, and the table may have the entry given
 pub record OpensGrant (k : CallerKnowledge) (gref : GrantRef) (entry : Entry) : Type 0 where
   pub in_table : IsInTable k gref
   pub free : is_invalid (k.entry gref.0) ≡ true
@@ -31,12 +31,12 @@ pub record OpensGrant (k : CallerKnowledge) (gref : GrantRef) (entry : Entry) : 
   pub may_stand : cannot_stand entry k.header.version ≡ false
   pub not_worn : k.generation gref.0 ≢ LAST_GENERATION
 
--- a revocation or withdrawal: the reference holds an entry
+-- a revocation or withdrawal: the reference has an entry
 pub record OpensRevoke (k : CallerKnowledge) (gref : GrantRef) : Type 0 where
   pub in_table : IsInTable k gref
   pub valid : is_invalid (k.entry gref.0) ≡ false
 
--- a demotion or promotion: the reference holds an entry that is not so already and not worn
+-- a demotion or promotion: the reference has an entry, which the change would change, and is not worn
 pub record OpensTurn (k : CallerKnowledge) (change : EntryChange) (gref : GrantRef) : Type 0 where
   pub in_table : IsInTable k gref
   pub valid : is_invalid (k.entry gref.0) ≡ false
@@ -51,7 +51,7 @@ pub record OpensMap (k : CallerKnowledge) (caller dom : DomId) (flags : ℕ) : T
   pub room : k.in_use < MAX_MAPPINGS
   pub serials_left : k.maps_answered < SERIAL_LIMIT
 
--- an unmap: the handle has this mapping, which the policy allows to give up
+-- an unmap: the handle has this mapping, and the policy allows to unmap it
 pub record OpensUnmap (k : CallerKnowledge) (caller : DomId) (handle : Handle) : Type 0 where
   pub mapping : HeldPin
   pub found : k.mapping handle ≡ Some mapping
@@ -63,7 +63,7 @@ pub record OpensLoad (k : CallerKnowledge) (handle : Handle) (off len : ℕ) : T
   pub found : k.mapping handle ≡ Some mapping
   pub range : off + len ≤ FRAME_SIZE
 
--- a store: the same, and the mapping lets write
+-- a store: the same, and the mapping allows writing
 pub record OpensStore (k : CallerKnowledge) (handle : Handle) (off len : ℕ) : Type 0 where
   pub mapping : HeldPin
   pub found : k.mapping handle ≡ Some mapping
@@ -75,13 +75,13 @@ pub record OpensOwn (k : CallerKnowledge) (caller : DomId) (frame off len : ℕ)
   pub range : off + len ≤ FRAME_SIZE
   pub framed : frame < frame_count_of k.domains caller
 
--- an end of a copy by a frame number is the caller's own, and a frame that it has
+-- an end of a copy that a frame number names: the domain is the caller, and has that frame
 pub record IsOwnEnd (k : CallerKnowledge) (caller : DomId) (end : End) : Type 0 where
   pub owned : (resolved caller end.domid).0 ≡ caller.0
   pub framed : end.ptr < frame_count_of k.domains caller
 
--- a copy: its domains are of the run, its flags are known, its ranges are inside frames, its frame numbers are the
--- caller's, and the policy allows it for the domains named
+-- a copy: its domains are of the run, its flags are known, its ranges are inside frames, its frame numbers are of the
+-- caller's frames, and the policy allows it for the domains named
 pub record OpensCopy (k : CallerKnowledge) (caller : DomId) (c : CopyArgs) : Type 0 where
   pub source_of_run : IsOfRun k (resolved caller c.source.domid)
   pub dest_of_run : IsOfRun k (resolved caller c.dest.domid)
@@ -92,24 +92,24 @@ pub record OpensCopy (k : CallerKnowledge) (caller : DomId) (c : CopyArgs) : Typ
   pub own_dest : is_dest_granted c ≡ false → IsOwnEnd k caller c.dest
   pub allowed : IsAllowed k.may (rights_to_copy k (resolved caller c.source.domid) (resolved caller c.dest.domid))
 
--- a new version: it is 1 or 2 and another than the table's, whose entries are all invalid
+-- a new version: it is 1 or 2 and not the table's, and all entries of the table are invalid
 pub record OpensVersion (k : CallerKnowledge) (version : ℕ) : Type 0 where
   pub version_known : (version ≡ 1) ⊎ (version ≡ 2)
   pub another : version ≢ k.header.version
   pub empty : (r : ℕ) → r < size_of k.header → is_invalid (k.entry r) ≡ true
 
--- a larger table: the policy allows it, and it has more frames than now and not too many
+-- a larger table: the policy allows it, and it has more frames than now and at most MAX_TABLE_FRAMES
 pub record OpensSetup (k : CallerKnowledge) (caller : DomId) (frames : ℕ) : Type 0 where
   pub allowed : IsAllowed k.may (rights_to_setup k caller)
   pub larger : k.header.frames < frames
   pub within : frames ≤ MAX_TABLE_FRAMES
 
--- a question of a table: its domain is of the run, and the policy allows it
+-- a query of a table: its domain is of the run, and the policy allows it
 pub record OpensQuery (k : CallerKnowledge) (caller dom : DomId) : Type 0 where
   pub of_run : IsOfRun k (resolved caller dom)
   pub allowed : IsAllowed k.may (rights_to_query k caller (resolved caller dom))
 
--- what is so of each call that no rule answers at its beginning
+-- what holds for each call that no rule answers at its beginning
 abbrev pub Opens : CallerKnowledge → DomId → OpenRequest → Type 0
 Opens k caller (Grant gref entry) = OpensGrant k gref entry
 Opens k caller (Revoke gref) = OpensRevoke k gref
@@ -128,12 +128,12 @@ Opens k caller (SetupTable frames) = OpensSetup k caller frames
 Opens k caller (QuerySize dom) = OpensQuery k caller dom
 Opens k caller (GetVersion dom) = OpensQuery k caller dom
 
--- the first rule of a list does not stand
+-- the first rule of a list does not apply
 pub holds-first : (b : Bool) (rule : Rule) (rest : List (Option CallResult)) → first (refused_when b rule ∷ rest) ≡ None
     → b ≡ false
 holds-first b rule rest h = grind arith
 
--- the policy allows all that is asked
+-- the policy allows everything in the list
 pub allowed : (may : TypeId → TypeId → Perms → Bool) (ts : List Triple) → denied may ts ≡ None → IsAllowed may ts
 allowed may [] h = tt
 allowed may (t ∷ ts) h = grind (arith, allowed may ts)
@@ -144,12 +144,12 @@ unfolding has_valid
 none-valid entry zero r h lt = absurd (omega arith)
 none-valid entry (suc n) r h lt = grind (arith, none-valid entry n r)
 
--- a frame number that is given is the caller's, and of a frame that it has
+-- a frame number that is given is of the caller's frames
 own-end : (k : CallerKnowledge) (caller : DomId) (granted : Bool) (end : End) → is_foreign caller granted end ≡ false
     → is_past_frames k caller granted end ≡ false → granted ≡ false → IsOwnEnd k caller end
 own-end k caller granted end foreign past g = grind arith
 
--- none of the five parts of a copy's rules answers
+-- none of the five parts of a copy's rules gives an answer
 none-of : (a b c d e : Option CallResult) → first (a ∷ b ∷ c ∷ d ∷ e ∷ []) ≡ None
     → (a ≡ None) × (b ≡ None) × (c ≡ None) × (d ≡ None) × (e ≡ None)
 none-of a b c d e h = grind arith
@@ -170,7 +170,7 @@ opens-copy k caller c h =
       allowed = grind (arith, allowed);
     }
 
--- what is so of a call that no rule answers at its beginning
+-- what holds for a call that no rule answers at its beginning
 pub opens : (k : CallerKnowledge) (caller : DomId) (request : OpenRequest) → begun k caller request ≡ None
     → Opens k caller request
 opens k caller (Copy c) h = opens-copy k caller c (none-of _ _ _ _ _ h)

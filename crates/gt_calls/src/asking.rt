@@ -1,4 +1,4 @@
-//! What a request asks, and how it is judged at its beginning.
+//! Requests at the beginning of their calls.
 ghost use Rattle.std.specs.Prelude.{◌≡◌, IfOk, Option};
 ghost use Rattle.gt_calls.specs.Asking.{asked, plainly_asked, begun_of, judged_as, bytes_begun, JudgesBytes};
 ghost use Rattle.gt_calls.specs.Asking.{SpellsItsEntry};
@@ -16,7 +16,7 @@ use crate::request::{OpenRequest, Request};
 use gt_entry::{Entry, EntryChange, Header, decode};
 use gt_types::{Allows, Denial, DomId, Facts, GrantRef, LAST_GENERATION, Rule};
 
-// The verdict at the beginning of a demotion or promotion by the entry's owner.
+// Checks the beginning of a demotion or promotion by the entry's owner.
 fn judge_own_change<P: Allows>(
     known: &CallerState<'_, P>,
     change: EntryChange,
@@ -28,7 +28,7 @@ fn judge_own_change<P: Allows>(
     judge_change(change, known.header, own_entry(known, gref), gref)
 }
 
-// The answer at the beginning of a call, if it is answered there.
+// Returns the answer at the beginning of a call, if it is answered there.
 fn judge_beginning<P: Allows>(
     known: &CallerState<'_, P>,
     caller: DomId,
@@ -79,7 +79,7 @@ fn judge_beginning<P: Allows>(
     }
 }
 
-/// The entry that the bytes of a grant spell in a table of this header.
+/// Returns the entry that the bytes of a grant encode in a table with this header.
 ///
 /// # Errors
 ///
@@ -110,7 +110,7 @@ pub fn judge_bytes(
     }
 }
 
-// What a request without bytes asks.
+// Returns what a call keeps of a request that grants by no bytes.
 #[tactic(auto, unfolding(crate::specs::Asking::plainly_asked))]
 fn plainly_asked(request: Request<'_>) -> OpenRequest
     ensures { result ≡ plainly_asked request.entry }
@@ -147,11 +147,11 @@ fn plainly_asked(request: Request<'_>) -> OpenRequest
     }
 }
 
-/// What a request asks.
+/// Returns what the call keeps of a request.
 ///
 /// # Errors
 ///
-/// How it is answered at its beginning, if it is: a verdict that is Ok too.
+/// The answer at the beginning of the call, if it is answered there. It can be Ok.
 pub fn judge_request<P: Allows>(
     known: &CallerState<'_, P>,
     caller: DomId,
@@ -174,7 +174,7 @@ pub fn judge_request<P: Allows>(
     }
 }
 
-/// A law: what holds of each call that no rule answers at its beginning.
+/// Proves what holds for each call that no rule answers at its beginning (`Opens`).
 pub fn every_open_call_is_in_order()
     ensures { (k : CallerKnowledge) (caller : DomId) (request : OpenRequest) → begun k caller request ≡ None
         → Opens k caller request }

@@ -1,4 +1,4 @@
-//! The phases in which calls begin: all that a call has to do if no rule answers it at its beginning.
+//! The first phases of calls: all that a call has to do if no rule answers it at its beginning.
 ghost use Rattle.std.specs.Prelude.{◌≡◌};
 ghost use Rattle.gt_types.specs.Names.{resolved};
 ghost use Rattle.gt_handles.specs.Handles.{value_of};
@@ -19,7 +19,7 @@ use gt_entry::{Entry, EntryChange, Header};
 use gt_handles::Handle;
 use gt_types::{Allows, CopyArgs, Denial, DomId, Facts, GrantRef, Range, Rule, Size, Use};
 
-// The end of a call that gives these pins back.
+// Builds the end of a call that releases these pins.
 pub(crate) fn ending(pins: CallPins, verdict: CallResult) -> Phase
     ensures { result ≡ Phase.Ending pins verdict }
 {
@@ -32,21 +32,21 @@ pub(crate) fn ended(verdict: CallResult) -> Phase
     ending(NO_PINS, verdict)
 }
 
-// The end of a call by a word that it found in an entry of the caller's own.
+// Builds the end of a call by a word that it found in an entry of the caller's own.
 pub(crate) fn refused_at(caller: DomId, gref: GrantRef, rule: Rule, word: u64) -> Phase
     ensures { result ≡ refused_as caller gref rule word }
 {
     ended(CallResult::Refused(entry_refusal(caller, gref, rule, word)))
 }
 
-// The end of a call whose handle has no mapping.
+// Builds the end of a call whose handle has no mapping.
 fn refused_handle() -> Phase
     ensures { result ≡ handle_refused }
 {
     ended(CallResult::Refused(Denial::new(Rule::N6, Facts::None)))
 }
 
-/// The leg of a map.
+/// Builds the leg of a map.
 pub fn map_leg<P: Allows>(
     known: &CallerState<'_, P>,
     caller: DomId,
@@ -66,7 +66,7 @@ fn idle_word<P: Allows>(known: &CallerState<'_, P>, gref: GrantRef) -> u64
     own_entry(known, gref).idle_word()
 }
 
-// One step that sees nothing, and Ok.
+// Builds a phase of one step that sees nothing, and then Ok.
 fn one_step(step: Step) -> Phase
     ensures { result ≡ Phase.Last step CallResult.Granted }
 {
@@ -98,14 +98,14 @@ fn writing(dom: DomId, frame: u64, off: u16, len: usize) -> Phase
     })
 }
 
-// The mapping under this handle.
+// Returns the mapping under this handle.
 fn held_at<P: Allows>(known: &CallerState<'_, P>, handle: Handle) -> Option<HeldPin>
     ensures { result ≡ value_of known.now.mappings.now handle }
 {
     known.mappings.get(handle).copied()
 }
 
-// The one step of a call through a mapping, which begins in its place.
+// Writes the phase of a call through a mapping: its one step, or the refusal if there is no mapping.
 fn begin_unmap(mapping: Option<HeldPin>, handle: Handle, phase: &mut Phase)
     ensures { phase.new ≡ unmap_phase handle mapping }
 {
@@ -136,7 +136,7 @@ fn begin_store(mapping: Option<HeldPin>, off: u16, len: usize, phase: &mut Phase
     }
 }
 
-// A demotion, promotion or withdrawal before its first turn.
+// Builds a demotion, promotion or withdrawal before its first turn.
 fn turning(gref: GrantRef, change: EntryChange) -> Phase
     ensures { result ≡ Phase.Looking gref change MORE_TRIES }
 {
@@ -144,7 +144,7 @@ fn turning(gref: GrantRef, change: EntryChange) -> Phase
     Phase::Looking { gref, change, more }
 }
 
-// A revocation before its one exchange.
+// Builds a revocation before its one exchange.
 fn revoking<P: Allows>(known: &CallerState<'_, P>, gref: GrantRef) -> Phase
     ensures { result ≡ Phase.Exchanging gref (idle_word (knows P.may known.now) gref) EntryChange.Revoke }
 {
@@ -155,7 +155,7 @@ fn revoking<P: Allows>(known: &CallerState<'_, P>, gref: GrantRef) -> Phase
     }
 }
 
-// Another size of the caller's table, and the answer that tells it.
+// Builds the step that gives the caller's table another size, with the answer.
 fn resizing(version: u8, frames: u32) -> Phase
     ensures { result ≡ Phase.Last (Step.StoreHeader version frames) (CallResult.Given (CallValue.Frames frames)) }
 {
@@ -177,7 +177,7 @@ fn asking(caller: DomId, dom: DomId, question: HeaderQuery) -> Phase
     }
 }
 
-// A map before its leg.
+// Builds a map before its leg.
 fn mapping<P: Allows>(
     known: &CallerState<'_, P>,
     caller: DomId,
@@ -194,7 +194,7 @@ fn mapping<P: Allows>(
     }
 }
 
-// A copy at its beginning. It is a function of its own since only a copy needs the room.
+// Writes the first phase of a copy. Separate, so that only copies pay for the stack space.
 #[inline(never)]
 fn begin_copy<P: Allows>(
     known: &CallerState<'_, P>,
@@ -207,7 +207,7 @@ fn begin_copy<P: Allows>(
     *phase = at_source(known, caller, copy);
 }
 
-// All that a call has to do if it was not answered at its beginning.
+// Writes the first phase of a call that was not answered at its beginning.
 pub(crate) fn set_first<P: Allows>(
     known: &CallerState<'_, P>,
     caller: DomId,

@@ -1,5 +1,5 @@
-//! Laws of calls: the numbers that their paths and bounds rest on, and how a call goes on. A law is a function that
-//! does nothing, whose contract is the law.
+//! Laws of calls: the numbers in their paths and bounds, and how a call continues. A law is a function with an
+//! empty body, whose contract is the law.
 ghost use Rattle.std.specs.Prelude.{◌≡◌, ◌+◌};
 ghost use Rattle.gt_types.specs.declared.limits.TheConstants.{FRAME_SIZE, MAX_TRIES, TABLE_ENTRIES};
 ghost use Rattle.gt_calls.specs.Following.{GoesByPhase};
@@ -12,8 +12,8 @@ use crate::judging::SERIAL_LIMIT;
 use crate::known::{ENTRIES, FRAME_LEN};
 use crate::leg::MORE_TRIES;
 
-/// The limits of calls, by number: a copy's steps, the serials of handles and the tries of a pin, and the
-/// entries and bytes that a caller's tables and frames have.
+/// States the limits of calls as numbers: the steps of a copy, the serials of handles, the tries of a pin, and the
+/// sizes of a caller's tables and frames.
 pub fn the_limits_of_calls()
     ensures steps { MAX_STEPS ≡ 71 }
     ensures serials { SERIAL_LIMIT ≡ 18446744073709551615 }
@@ -21,8 +21,8 @@ pub fn the_limits_of_calls()
     ensures rooms { (ENTRIES ≡ TABLE_ENTRIES) × (FRAME_LEN ≡ FRAME_SIZE) }
 {}
 
-/// A law: a call goes on by its phase. Before its first step it comes to its first phase, and after a step to the phase
-/// that follows what the step saw; its next action is that phase's.
+/// Proves that a call continues by its phase. Before its first step this is the first phase, and after a step the
+/// phase that follows what the step saw. Its next action is that of the phase.
 pub fn every_call_goes_on_by_its_phase()
     ensures { (k : CallerKnowledge) (call : Call) (seen : Observation) → GoesByPhase k call seen }
 {}

@@ -1,4 +1,4 @@
--- What stays of a core's agreement with a history after one item more.
+-- What stays of a core's agreement with a history after one more item.
 use Rattle.gt_core.proofs.Words.{◌≡◌, ◌≢◌, ◌<◌, ◌+◌, ℕ, refl, Bool, true, false, List, ◌∷◌, length, Option, Some, None}
 use Rattle.gt_core.proofs.Words.{cond, sym, ap, ◌∙◌, subst, eqb-true, eq-eqb, none-some, domain_of, ◌==◌, ◌&&◌, All}
 use Rattle.gt_core.proofs.Words.{count_by, slice_get, option_map, fun_ext, DomId, Read, Write, TABLE_ENTRIES, Entry}
@@ -20,7 +20,7 @@ use Rattle.gt_core.proofs.{Steps.Observers.kept-raises, Steps.Observers.other-en
 use Rattle.gt_core.proofs.{Steps.Observers.other-maps, Steps.Observers.other-raises, Steps.Observers.other-pins}
 use Rattle.gt_core.proofs.{Steps.Observers.other-table, Steps.Observers.other-known, CallsStand.place-stays}
 
--- what a domain itself knows is what the core keeps of it
+-- what the core keeps of a domain is what the domain itself knows
 pub known-same : (s : Setting) (h : History) (d : State) → StateStands s h d
     → knowledge_of s.domains s.first_generation s.may d.own d.header d.mappings ≡ known_at s h d.id
 known-same s h d a = let m = a.mappings in cc
@@ -46,11 +46,11 @@ pub stood-own : (s : Setting) (i : Item) (h : History) → stood s (i ∷ h) i.a
 unfolding stood
 stood-own s i h = grind arith
 
--- there is none to have bytes
+-- there is no call to have bytes
 pub given-none : (h : History) (d : ℕ) (given : List ℕ) → open_call h d ≡ None → GivenAgrees h d given
 given-none h d given none = λ c call. absurd (none-some c (sym none ∙ call))
 
--- the call of another domain stands where it stood
+-- the call of another domain keeps its phase
 call-stays : (s : Setting) (i : Item) (h : History) (d : DomId) (o : Option OpenCall) (c : Option Underway) → (i.actor.0 == d.0) ≡ false → CallAgrees s h d o c → CallAgrees s (i ∷ h) d o c
 call-stays s i h d o c apart a = grind (arith, other-pins, other-known, place-stays, other-body, stood-other)
 
@@ -59,7 +59,7 @@ call-stays s i h d o c apart a = grind (arith, other-pins, other-known, place-st
 abbrev pub SlotsAgree : History → ℕ → List PinCounts → Type 0
 SlotsAgree h q slots = (r : ℕ) (slot : PinCounts) → slice_get slots r ≡ Some slot → SlotAgrees h q r slot
 
--- each slot is as the change of that of entry r of domain t leaves it
+-- each slot is as the change of the one of entry r of domain t leaves it
 abbrev pub Moves : History → History → ℕ → ℕ → CountsChange → Type 0
 Moves h new t r change = (q k : ℕ) (old : PinCounts) → SlotAgrees h q k old → SlotAgrees new q k (cond ((t == q) && (r == k)) (slot_after change old) old)
 
@@ -71,12 +71,12 @@ slots-agree h new t r q change slots moves was k slot e = grind (arith, get-chan
 length-slots : (r : ℕ) (f : PinCounts → PinCounts) (slots : List PinCounts) (b : Bool) → length slots ≡ TABLE_ENTRIES → length (cond b (changed_at r f slots) slots) ≡ TABLE_ENTRIES
 length-slots r f slots b e = cond_both b (changed_at r f slots) slots (λ l. length l ≡ TABLE_ENTRIES) (λ is. length-changed slots r f ∙ e) (λ is. e)
 
--- they agree still, where the live pins and the body words are the same
+-- the slots still agree if the live pins and the body words are the same
 pub slots-kept : (i : Item) (h : History) (q : ℕ) (slots : List PinCounts) → live (i ∷ h) ≡ live h → ((r : ℕ) (which : BodyWord) → body_at (i ∷ h) q r which ≡ body_at h q r which)
     → SlotsAgree h q slots → SlotsAgree (i ∷ h) q slots
 slots-kept i h q slots same bodies was r slot e = grind arith
 
--- a domain that doesn't act: its pins may have changed, its call stands where it stood
+-- a domain that doesn't act: its pins may have changed, its call keeps its phase
 other-agrees : (s : Setting) (i : Item) (h : History) (x : State) (slots : List PinCounts) → (i.actor.0 == x.id.0) ≡ false → StateStands s h x
     → length slots ≡ TABLE_ENTRIES → SlotsAgree (i ∷ h) x.id.0 slots → StateStands s (i ∷ h) (record x { slots = slots })
 other-agrees s i h x slots apart a len agree = record {
@@ -119,7 +119,7 @@ actor-agrees s i h x header slots mappings o given q a head len agree same call 
 
 -- entries
 
--- what there is of an entry: its parts, and its live pins
+-- an entry: its parts, and its live pins
 pub record Facts : Type 0 where
   pub entry : Entry
   pub generation : ℕ
@@ -134,7 +134,7 @@ facts_at s h t r = record {
   writes = writes_at h t r;
 }
 
--- they fit: the control word has room for them
+-- the control word has room for them
 pub record Fits (place : ℕ) (f : Facts) : Type 0 where
   pub word : place < TABLE_ENTRIES → FitsWord (control_with f.entry f.generation f.reads f.writes)
   pub entry : IsEntry f.entry
@@ -150,16 +150,16 @@ counts-fit s h t r f = grind arith
 fits-with : (e : Entry) (g r w r' w' : ℕ) → r' < MAX_PINS + 1 → w' < MAX_PINS + 1 → FitsWord (control_with e g r w) → FitsWord (control_with e g r' w')
 fits-with e g r w r' w' a b f = grind arith
 
--- the states
+-- the states after a change
 
 abbrev pub after_change : Bool → (State → State) → Option State → Option State
 after_change b f o = cond b (option_map f o) o
 
--- the states after an item, where the actor's is new and a step changes the state of domain t
+-- the states after an item: the actor's is new, and a step changes the state of domain t
 abbrev pub Becomes : List State → List State → State → State → ℕ → (State → State) → Type 0
 Becomes xs zs x new t g = (q : ℕ) → state_of zs q ≡ after_change (t == q) g (cond (x.id.0 == q) (Some new) (state_of xs q))
 
--- each domain agrees after an item, where the actor does, and each other one
+-- each domain agrees after an item if the actor does and each other domain does
 each-stands : (s : Setting) (i : Item) (h : History) (xs zs : List State) (x new : State) (t : ℕ) (g : State → State) → DomainsStand s h xs → state_of xs x.id.0 ≡ Some x
     → Becomes xs zs x new t g → new.id ≡ x.id → ((y : State) → (g y).id ≡ y.id) → StateStands s (i ∷ h) (cond (t == new.id.0) (g new) new)
     → ((y : State) → (x.id.0 == y.id.0) ≡ false → StateStands s h y → StateStands s (i ∷ h) (cond (t == y.id.0) (g y) y)) → (dom : DomId) → StateAgrees s (i ∷ h) dom (state_of zs dom.0)
@@ -178,7 +178,7 @@ each-stands s i h xs zs x new t g st here becomes same keeps mine others dom =
     by false apart None a = subst (StateAgrees s (i ∷ h) dom) (sym (cond-same (t == dom.0) None)) a
     by false apart (Some y) a = moved y a.1 a.0 (others y (ap (λ (z : DomId). x.id.0 == z.0) a.1 ∙ apart) a.2)
 
--- the same, where no step changes another state
+-- the same if no step changes another state
 pub each-stays : (s : Setting) (i : Item) (h : History) (xs zs : List State) (x new : State) → DomainsStand s h xs → state_of xs x.id.0 ≡ Some x → i.actor ≡ x.id
     → ((q : ℕ) → state_of zs q ≡ cond (x.id.0 == q) (Some new) (state_of xs q)) → new.id ≡ x.id → StateStands s (i ∷ h) new
     → ((y : State) → (x.id.0 == y.id.0) ≡ false → SlotsAgree h y.id.0 y.slots → SlotsAgree (i ∷ h) y.id.0 y.slots) → (dom : DomId) → StateAgrees s (i ∷ h) dom (state_of zs dom.0)
@@ -192,12 +192,12 @@ each-stays s i h xs zs x new st here own becomes same mine slots =
     plain true None = refl
     plain b o = refl
 
--- the domains stand for one item more, where each agrees and each entry's facts fit
+-- the domains represent one more item if each agrees and each entry's facts fit
 pub all-stand : (s : Setting) (h : History) (xs : List State) → ((dom : DomId) → StateAgrees s h dom (state_of xs dom.0)) → ((dom : DomId) → FitsTable (table_at s h dom)) → All (IsLawfulPin s) (live h)
     → ((t r : ℕ) → Fits r (facts_at s h t r)) → DomainsStand s h xs
 all-stand s h xs each tables lawful fit = grind arith
 
--- for one that changes no entry and stores no word
+-- for an item that changes no entry and stores no word
 pub keeps-stands : (s : Setting) (i : Item) (h : History) (xs zs : List State) → KeepsEntries i → DomainsStand s h xs → ((dom : DomId) → StateAgrees s (i ∷ h) dom (state_of zs dom.0)) → All (IsLawfulPin s) (live (i ∷ h))
     → ((t r : ℕ) (k : Dir) → r < TABLE_ENTRIES → count_by (is_pin_on t r k) (live (i ∷ h)) < MAX_PINS + 1) → DomainsStand s (i ∷ h) zs
 keeps-stands s i h xs zs q st each lawful counts = all-stand s (i ∷ h) zs each (λ dom. subst FitsTable (sym (kept-table s i h dom q.header)) (st.tables dom)) lawful
@@ -209,16 +209,16 @@ keeps-stands s i h xs zs q st each lawful counts = all-stand s (i ∷ h) zs each
     same : (t r : ℕ) → facts_at s (i ∷ h) t r ≡ record (facts_at s h t r) { reads = reads_at (i ∷ h) t r; writes = writes_at (i ∷ h) t r }
     same t r = let e = kept-entry i h t r q.changes in let n = kept-raises i h t r q.changes in cc
 
--- for one that changes no entry and no pin, where the tables fit
+-- for an item that changes no entry and no pin, if the tables fit
 pub kept-stands : (s : Setting) (i : Item) (h : History) (xs zs : List State) → KeepsKnown i → DomainsStand s h xs → ((dom : DomId) → StateAgrees s (i ∷ h) dom (state_of zs dom.0)) → ((dom : DomId) → FitsTable (table_at s (i ∷ h) dom))
     → DomainsStand s (i ∷ h) zs
 kept-stands s i h xs zs k st each tables = grind (arith, all-stand, kept-live, facts-fit, kept-entry, kept-raises)
 
--- the mappings of a domain stay, where no pin is taken or given back
+-- the mappings of a domain stay if no pin is taken or released
 pub mappings-stay : (i : Item) (h : History) (q : ℕ) (kept : HandleMap HeldPin) → KeepsKnown i → MappingsAgree kept (mappings_at h q) (maps_answered_at h q) → MappingsAgree kept (mappings_at (i ∷ h) q) (maps_answered_at (i ∷ h) q)
 mappings-stay i h q kept k a = grind (arith, mappings-same, kept-live, answered-stays)
 
--- the domains stand for one item more that leaves all words and pins as they are
+-- the domains represent one more item that leaves all words and pins unchanged
 pub quiet-stands : (s : Setting) (i : Item) (h : History) (xs zs : List State) (x : State) (o : Option OpenCall) (given : List ℕ) → KeepsEntries i → KeepsKnown i → i.actor ≡ x.id → DomainsStand s h xs
     → state_of xs x.id.0 ≡ Some x → StateStands s h x → ((q : ℕ) → state_of zs q ≡ cond (x.id.0 == q) (Some (record x { underway = o; given = given })) (state_of xs q))
     → CallAgrees s (i ∷ h) x.id o (open_call (i ∷ h) x.id.0) → GivenAgrees (i ∷ h) x.id.0 given → DomainsStand s (i ∷ h) zs
@@ -229,7 +229,7 @@ quiet-stands s i h xs zs x o given e k own st here a becomes call bytes = kept-s
     stay : (y : State) → SlotsAgree h y.id.0 y.slots → SlotsAgree (i ∷ h) y.id.0 y.slots
     stay y b = slots-kept i h y.id.0 y.slots (kept-live i h k) (λ r which. same-body i h y.id.0 r which e) b
 
--- the states after one change more
+-- the states after one more change
 pub becomes-changed : (xs ys : List State) (x new : State) (t : ℕ) (g : State → State) → ((y : State) → (g y).id ≡ y.id) → ((q : ℕ) → state_of ys q ≡ cond (x.id.0 == q) (Some new) (state_of xs q))
     → Becomes xs (changed_in t g ys) x new t g
 becomes-changed xs ys x new t g keeps was = λ q. state-changed ys t q g keeps ∙ ap (λ (o : Option State). after_change (t == q) g o) (was q)

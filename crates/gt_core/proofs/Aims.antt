@@ -1,4 +1,4 @@
--- The leg that an open call walks is the one that its pins tell.
+-- The leg that an open call makes is the one that its pins determine.
 use Rattle.gt_core.proofs.Words.{◌≡◌, ◌+◌, ℕ, refl, Bool, true, List, [], ◌∷◌, ◌++◌, map, reverse, Option, Some, None}
 use Rattle.gt_core.proofs.Words.{cond, sym, ap, ◌∙◌, false≢true, DomId, Dir, Read, Write, ForCopy, Entry, Page, Sub}
 use Rattle.gt_core.proofs.Words.{Via, permits, OpenRequest, CopyArgs, HeldPin, AccessPath, Direct, Through, PinPurpose, Mapping, Source}
@@ -10,7 +10,7 @@ use Rattle.gt_core.proofs.Words.{toward_source, from_source, after_source, sourc
 use Rattle.gt_core.proofs.{Legs.IsLegOf}
 use Rattle.gt_calls.specs.declared.held.AccessPath.TheVariants.{Own}
 
--- whose right to copy to whom a Via of this leg asks
+-- the pair whose right to copy a Via of this leg needs
 abbrev pub pair_of : DomId → PinPurpose → DomId → DomId × DomId
 pair_of d Mapping owner = (d, owner)
 pair_of d (Source c via) owner = source_pair d c owner
@@ -41,7 +41,7 @@ past-direct k d judged dir off len c p e more may = absurd (false≢true may)
 granted-source : (k : CallerKnowledge) (d : DomId) (c : CopyArgs) (held : List HeldPin) → is_source_granted c ≡ true → copy_now k d c held ≡ toward_source k d c held
 granted-source k d c held e = ap (λ (b : Bool). cond b (toward_source k d c held) (after_source k d c Own held)) e
 
--- once the source is reached, the leg is the destination's
+-- after the source is reached, the leg is that of the destination
 reached-source : (k : CallerKnowledge) (d : DomId) (c : CopyArgs) (source : AccessPath) (held : List HeldPin) → IsReached k d (is_source_granted c) c.source Read c.len (source_pair d c) source
     → copy_now k d c (reverse (held_by source) ++ held) ≡ after_source k d c source held
 reached-source k d c Own held is = ap (λ (b : Bool). cond b (toward_source k d c held) (after_source k d c Own held)) is.0
@@ -81,7 +81,7 @@ walks k d r (Dest c source via) l is =
     ap (λ (z : OpenRequest). leg_now k d z (reverse (last_first (pins_so_far (Dest c source via))))) is.0
     ∙ ap (copy_now k d c) (first-dest source via) ∙ reached-source k d c source (held_by (begun_route via)) is.1 ∙ toward-dest k d c source via l is.2
 
--- the leg of a call is the one that its steps so far tell
+-- the leg of a call is the one that its steps so far determine
 pub leg-here : (s : Setting) (h : History) (d : DomId) (r : OpenRequest) (aim : PinPurpose) (l : Leg) → IsLegFor (known_at s h d) d r aim l → legs_at h d.0 ≡ numbered 0 (reverse (last_first (pins_so_far aim)))
     → IsLegOf s h d r l (pair_of d aim)
 leg-here s h d r aim l is held =

@@ -1,5 +1,5 @@
--- What an event does after a history, but for keys, is a function of the history. It is the same without keys. So runs
--- that are alike stay so.
+-- What an event does after a history, except for keys, is a function of the history. It is the same without keys. So
+-- runs that are alike stay so.
 use Rattle.gt_core.proofs.Words.{◌≡◌, ◌≢◌, ◌⊎◌, inl, inr, ℕ, refl, Bool, List, [], ◌∷◌, ◌++◌, Option, Some, None, sym}
 use Rattle.gt_core.proofs.Words.{ap, ◌∙◌, take, drop, option_map, domain_of, DomId, DomainConfig, Denial}
 use Rattle.gt_core.proofs.Words.{MAX_TABLE_FRAMES, Header, header_word, Handle, asked, begun_of, CallerKnowledge, path}
@@ -26,7 +26,7 @@ abbrev pub bare_action : Action → Action
 bare_action (Makes step) = Makes (bare_step step)
 bare_action (Ends verdict) = Ends verdict
 
--- the handle that is asked for finds the same mapping without its key
+-- the handle that is named finds the same mapping without its key
 abbrev FindsSame : (Handle → Option HeldPin) → (Handle → Option HeldPin) → OpenRequest → Type 0
 FindsSame bared found (Unmap a) = bared (bare_handle a) ≡ found a
 FindsSame bared found (Load a off len) = bared (bare_handle a) ≡ found a
@@ -62,7 +62,7 @@ seen-at s h d step run = refl
 
 -- answers
 
--- what the value tells of a call that is answered Ok after this step, or at its beginning
+-- the value of a call that is answered Ok after this step, or at its beginning
 abbrev value_told : Setting → History → DomId → OpenRequest → Option Step → Option (Answer ⊎ List ℕ)
 value_told s h d (Map dom gref flags) (Some (PinStep p)) = Some (inl (answers.Mapped (record { serial = maps_answered_at h d.0; key = 0 })))
 value_told s h d (Load a off len) (Some (ReadBytes t frame o n)) = Some (inr (take n (drop o (contents_at h t.0 frame))))
@@ -86,7 +86,7 @@ abbrev told_by : Option Denial → Option (Answer ⊎ List ℕ) → Option (Answ
 told_by (Some denial) value = Some (inl (answers.Denied denial))
 told_by None value = value
 
--- what the answer tells of a call with this verdict
+-- the answer of a call with this result
 abbrev answer_told : Setting → History → DomId → OpenRequest → Option Step → Option CallResult → Option (Answer ⊎ List ℕ)
 answer_told s h d r step None = None
 answer_told s h d r step (Some v) = told_by (refusal_in (Some v)) (value_told s h d r step)
@@ -165,7 +165,7 @@ tick-item : (s : Setting) (h : History) (d : DomId) (actor : DomId) (x : ItemEve
     → element_told (Did (record { actor = actor; happened = x; answer = a })) ≡ tick_told s h d (open_call h d.0)
 tick-item s h d actor x a m = grind (arith, is-stepped)
 
--- an event does what this function tells
+-- an event does what this function gives
 pub does : (s : Setting) (h : History) (e : Event) (x : Element) → MayDo s h e x → element_told x ≡ doing s h e
 does s h (Begin d q) NoDomain m = ap (λ (o : Option DomainConfig). within o (begin_told s h d q (open_call h d.0))) (sym m)
 does s h (Tick d) NoDomain m = ap (λ (o : Option DomainConfig). within o (tick_told s h d (open_call h d.0))) (sym m)
@@ -195,7 +195,7 @@ does-bare s h (Tick d) run k =
 pub same-element : (x y : Element) → element_told x ≡ element_told y → SameElement x y
 same-element x y e = grind arith
 
--- what alike events do in runs that are alike
+-- alike events do the same in alike runs
 pub does-alike : (s : Setting) (g h : History) (e f : Event) (one other : Element) → AreAlike s g h → SameEvent e f → IsOfKnown g e → IsOfKnown h f → MayDo s g e one → MayDo s h f other → SameElement one other
 does-alike s g h e f one other alike same j k m n = same-element one other
     (does s g e one m ∙ sym (does-bare s g e alike.first j)

@@ -1,4 +1,4 @@
--- A beginning keeps what a core stands for.
+-- After a beginning the core still represents a history.
 use Rattle.gt_core.proofs.Words.{arith, ◌≤◌, ◌≡◌, ◌≢◌, ◌<◌, ◌+◌, inl, ℕ, refl, true, false, List, [], ◌∷◌, length}
 use Rattle.gt_core.proofs.Words.{Option, Some, None, sym, ap, ◌∙◌, subst, get_or, set, reverse, eqb-true}
 use Rattle.gt_core.proofs.Words.{slice_get_read, position-Some, ◌==◌, is_some, position, slice_get, domain_of, DomId}
@@ -42,7 +42,7 @@ call-some s h id o c e a n = grind arith
 
 -- an opened call
 
--- holding nothing, and with no rule against it where it then stands
+-- the call holds nothing, and no rule applies to it in this phase
 first-fine : (k : CallerKnowledge) (d : DomId) (r : OpenRequest) → begun k d r ≡ None → (held_in (first_phase k d r) ≡ []) × (phase_refusal (first_phase k d r) ≡ None)
 first-fine k d r e = grind arith
 
@@ -53,11 +53,11 @@ first-place s h d r e = grind arith
 clean-nothing : (p : Phase) → IsClean p []
 clean-nothing p = grind arith
 
--- a call keeps the bytes that are given to it
+-- a call keeps the bytes that its request passes
 kept-given : (request : Request) → kept_by (asked request) (bytes_given_by request) ≡ bytes_given_by request
 kept-given request = grind arith
 
--- where nothing stands against it, they end inside a frame
+-- if no rule applies to it, they end inside a frame
 given-fits : (k : CallerKnowledge) (d : DomId) (request : Request) → begun_of k d request ≡ None → FitsGiven (asked request) (bytes_given_by request)
 given-fits k d request e = grind arith
 
@@ -67,7 +67,7 @@ given-begins : (i : Item) (h : History) (d : DomId) (request : Request) (given :
     → GivenAgrees (i ∷ h) d.0 given
 given-begins i h d request given now same fits = grind arith
 
--- where a call stands, by its phase
+-- the phase of a call
 pub is-at : (k : CallerKnowledge) (call : Call) (shown : List Observation) (p : Phase) → call.phase ≡ Some p → IsAt k call shown → StandsAt k call.caller call.request shown p
 is-at k call shown p e a = subst (λ (c : Call). IsAt k c shown) (ap (λ (o : Option Phase). record call { phase = o }) e) a
 
@@ -122,13 +122,13 @@ plain-unmapped v = grind arith
 pub plain-refusal : (v : CallResult) → refusal_of (answer_of v) ≡ refusal_in (Some v)
 plain-refusal v = grind arith
 
--- what holds of a verdict, if there is one
+-- what holds for a result, if there is one
 
 abbrev OnVerdict : (CallResult → Type 0) → Option CallResult → Type 0
 OnVerdict Q None = Unit {0}
 OnVerdict Q (Some v) = Q v
 
--- a value that is given at a beginning, or nothing, for a call that is asked so
+-- the value of a call at its beginning, or none, by its request
 abbrev Fits : Setting → History → DomId → OpenRequest → CallResult → Type 0
 Fits s h d r v = GivesValue s h d r None (answer_of v)
 
@@ -160,7 +160,7 @@ begin-done s h d request v a closed op = let i = began d.id request (Some (answe
       given-none (i ∷ h) d.id.0 d.given now,
     )
 
--- the four ways that the core begins
+-- the four results that a beginning can have
 
 pub begin-nowhere : (s : Setting) (h : History) (domains : List State) (dom : DomId) → position (has_id dom.0) domains ≡ None → DomainsStand s h domains → domain_of s.domains dom ≡ None
 begin-nowhere s h domains dom p st = subst (λ (o : Option State). StateAgrees s h dom o) (not-found domains dom.0 p) (st.each dom)
@@ -218,7 +218,7 @@ pub tick-idle : (s : Setting) (h : History) (domains : List State) (dom : DomId)
 tick-idle s h domains dom at x p here closed st = let a = agrees-found s h domains dom at x p here st in
     (a.0, subst (λ (d : DomId). open_call h d.0 ≡ None) a.1 (call-none s h x.id x.underway (open_call h x.id.0) closed a.2.call).0)
 
--- a beginning for which memory is wanted
+-- a beginning that may fail with Memory
 pub begin-wants : (s : Setting) (h : History) (domains : List State) (dom : DomId) (at : ℕ) (x : State) (request : Request) (o : OpenCall)
     → asks_memory o.call.request ≡ true → position (has_id dom.0) domains ≡ Some at → x ≡ get_or domains at x → is_some x.underway ≡ false
     → OpensAs (knowledge_of s.domains s.first_generation s.may x.own x.header x.mappings) dom request (Ok o) → DomainsStand s h domains → WantsMemory s h dom request
@@ -234,7 +234,7 @@ begin-wants s h domains dom at x request o asks p here idle op st =
 pub serial-left : (k : CallerKnowledge) (d : DomId) (request : Request) (r : OpenRequest) → r ≡ asked request → begun k d (asked request) ≡ None → IsMapping (Some r) → k.maps_answered + 1 < 2 ^ 64
 serial-left k d request r same none m = grind arith
 
--- a call that starts, and makes its first step, is opened
+-- a call that starts and makes its first step is open
 pub opened : (k : CallerKnowledge) (dom : DomId) (request : Request) (first new : Call) (action : Action) (step : Step) → Starts k dom request (StartOpen first) → Goes k first Nothing new action → action ≡ Makes step → new.caller ≡ first.caller → new.request ≡ first.request
     → IsOpenCall k dom request (record { call = new; step = step })
 opened k dom request first new action step starts goes is by asked_as = grind arith

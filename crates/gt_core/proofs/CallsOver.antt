@@ -1,4 +1,4 @@
--- How a call that nothing stood against is over, and how long the states are after a step.
+-- The end of a call that no rule refused, and the number of states after a step.
 use Rattle.gt_core.proofs.Words.{◌≡◌, ◌++◌, ℕ, refl, List, length, take, ap, ◌∙◌, DomId, Step, PinStep, Unpin}
 use Rattle.gt_core.proofs.Words.{StoreBody, StoreHeader, Exchange, Observation, Taken, Unpinned, Stored, State, changed_in}
 use Rattle.gt_core.proofs.Words.{applied, with_slot, with_own, with_header, without_holder, take_more, map-append, ◌<◌}
@@ -18,34 +18,34 @@ length-applied d (StoreBody gref half word) seen xs = length-changed_in xs d.0 (
 length-applied d (StoreHeader version frames) seen xs = length-changed_in xs d.0 (with_header version frames)
 length-applied d step seen xs = refl
 
--- the room of a load is as long as what it asks
+-- the room of a load is as long as its request
 pub loaded : (r : OpenRequest) (m n : ℕ) → IsLoading (Some r) m → IsLoadOf r n → m ≡ n
 loaded (Load handle off len) m n a b = a ∙ b
 loaded (Peek frame off len) m n a b = a ∙ b
 loaded r m n a b = absurd b
 
--- a domain at rest, by its parts
+-- a domain with no open call, by its parts
 pub at-rest : (d : DomainConfig) (first_gen n : ℕ) (own : List OwnerEntry) (slots : List PinCounts) (mappings : HandleMap HeldPin) (given : List ℕ)
     → n ≡ ENTRIES → own ≡ replicate n (record { entry = Invalid; generation = min first_gen LAST_GENERATION })
     → slots ≡ replicate n (record { reads = 0; writes = 0; first = 0; second = 0 }) → mappings ≡ record { slots = []; given = 0; room = 0 } → given ≡ []
     → ◌≡◌ {A = State} (record { id = d.id; header = record { version = d.version % 4; frames = d.table_frames % 256 }; own = own; slots = slots; mappings = mappings; underway = None; given = given }) (first_state first_gen d)
 at-rest d first_gen n own slots mappings given en eo es ep eg = rw (eg, eo, es, ep, en)
 
--- one domain more at rest
+-- one more domain with no open call
 pub rest-more : (first_gen : ℕ) (items : List DomainConfig) (i : ℕ) (d : DomainConfig) (old new : List State) (x : State) → i < length items
     → old ≡ map (first_state first_gen) (take i items) → x ≡ first_state first_gen (get_or items i d) → new ≡ old ++ x ∷ [] → new ≡ map (first_state first_gen) (take (i + 1) items)
 rest-more first_gen items i d old new x within so_far made pushed =
     pushed ∙ ap (λ (l : List State). l ++ x ∷ []) so_far ∙ ap (λ (y : State). map (first_state first_gen) (take i items) ++ y ∷ []) made
     ∙ sym (map-append (first_state first_gen) (take i items) (get_or items i d ∷ [])) ∙ ap (λ (l : List DomainConfig). map (first_state first_gen) l) (sym (take_more items i d within))
 
--- a call that reads no bytes is over
+-- the end of a call that reads no bytes
 pub closed-plain : (fs : FrameSet) (xs new : List State) (at : ℕ) (d : State) (step : Step)
     → ((dom : DomId) (frame off len : ℕ) → step ≡ ReadBytes dom frame off len → ⊥)
     → new ≡ set xs at (with_underway None d) → Closed fs xs at d step AnswerDone new
 closed-plain fs xs new at d (ReadBytes dom frame off len) r e = absurd (r dom frame off len refl)
 closed-plain fs xs new at d step r e = (refl, e)
 
--- a call that gives no bytes and no mapping is over
+-- the end of a call that gives no bytes and no mapping
 pub ended-plain : (fs : FrameSet) (xs new : List State) (at : ℕ) (d : State) (step : Step) (call : Call) (v : CallResult) (a : Answer)
     → (v ≡ Granted → ⊥) → ((p : HeldPin) → v ≡ KeptPin p → ⊥) → a ≡ answer_of v
     → new ≡ set xs at (with_underway None d) → Settled fs xs at d step call (Ends v) (Some a) new

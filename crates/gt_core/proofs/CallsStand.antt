@@ -1,4 +1,4 @@
--- Where a call stands, it stands after an item of another domain, and after one that leaves its body words.
+-- A call keeps its phase after an item of another domain, and after one that leaves its body words unchanged.
 use Rattle.gt_core.proofs.Words.{ℕ, None, Option, Some, arith, refl, subst, sym, ◌+◌, ◌∙◌, ◌∷◌, ◌≡◌, ◌≢◌, ◌≤◌, DomId}
 use Rattle.gt_core.proofs.Words.{Rule, entry_of, first_body, control_of, EntryChange, Publish, ToInvalid, ToWithdrawn, BodyWord}
 use Rattle.gt_core.proofs.Words.{FirstHalf, SecondHalf, Entry, Invalid, first, Phase, Accessing, Exchanging, Storing}
@@ -37,7 +37,7 @@ read-keeps : (s : Setting) (i : Item) (h : History) (l : Leg) (so_far : StepsSoF
 read-keeps s i h l so_far word body second rule le a =
     record { in_body = a.in_body; judged = a.judged; spelled = same-keeps s i h l word (λ (e : Entry). entry_of (control_of word) body second ≡ e) le a.spelled }
 
--- where a leg stands, it stands after each item of another
+-- a leg keeps its phase after each item of another domain
 pub leg-keeps : (s : Setting) (i : Item) (h : History) (l : Leg) (so_far : StepsSoFar) (phase : LegPhase) → LegStands s h l so_far phase → LegStands s (i ∷ h) l so_far phase
 leg-keeps s i h l so_far AtHeader a = tt
 leg-keeps s i h l so_far (Look more) a = a
@@ -48,7 +48,7 @@ leg-keeps s i h l so_far (Pinning more word body second) a =
 leg-keeps s i h l so_far (Relook more word rule) a =
     (looked-keeps s i h l so_far more word a.0, (a.1.0, a.1.1, read-keeps s i h l so_far word a.1.0 a.1.1 (Some rule) a.0.reached a.1.2))
 
--- the domain's own body words are as they were
+-- the domain's own body words are unchanged
 abbrev pub BodyStays : Item → History → ℕ → Type 0
 BodyStays i h d = (r : ℕ) (which : BodyWord) → body_at (i ∷ h) d r which ≡ body_at h d r which
 
@@ -58,7 +58,7 @@ spelled-stays i h t r entry b a =
     subst (λ (n : ℕ). IsSpelled entry n (body_at (i ∷ h) t r SecondHalf)) (sym (b r FirstHalf))
     (subst (λ (n : ℕ). IsSpelled entry (body_at h t r FirstHalf) n) (sym (b r SecondHalf)) a)
 
--- where a call stands, it stands after an item that leaves its domain's body words
+-- a call keeps its phase after an item that leaves its domain's body words unchanged
 pub place-stays : (s : Setting) (i : Item) (h : History) (d : DomId) (r : OpenRequest) (so_far : StepsSoFar) (phase : Phase) → BodyStays i h d.0 → PhaseStands s h d r so_far phase → PhaseStands s (i ∷ h) d r so_far phase
 place-stays s i h d r so_far (Storing gref entry) b a = tt
 place-stays s i h d r so_far (StoringSecond gref entry) b a = b gref.0 FirstHalf ∙ a

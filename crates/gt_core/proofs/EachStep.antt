@@ -1,4 +1,4 @@
--- What holds of each step of an open call: a line for each phase, by the file of the step that it makes.
+-- What holds for each step of an open call: a line for each phase, from the file of the step that it makes.
 use Rattle.gt_core.proofs.Words.{◌≡◌, ◌≢◌, ◌⊎◌, inl, inr, ℕ, refl, false, List, [], ◌∷◌, Option, Some, None, sym, ap}
 use Rattle.gt_core.proofs.Words.{subst, ◌==◌, domain_of, DomId, GrantRef, EntryChange, control_of, OpenRequest, Copy, CopyArgs}
 use Rattle.gt_core.proofs.Words.{Step, Exchange, Observation, Taken, Missed, Makes, PinPurpose, Mapping, Source, Dest, Phase, Storing}
@@ -18,7 +18,7 @@ use Rattle.gt_core.proofs.{Phases.LeavesOrEnds, Phases.Leads, Steps.Exchange.tur
 use Rattle.gt_core.proofs.{Phases.Placed, Steps.Unpin.give-placed, Steps.Pin.missed-comes, Steps.Look.looks-come}
 use Rattle.gt_core.proofs.{Steps.Store.IsStore, Steps.Pin.taken-leads, Steps.Look.look-placed}
 
--- the pins of a walk that ends are a copy's, or none
+-- the pins of a leg that ends are those of a copy, or none
 walk-over : (k : CallerKnowledge) (d : DomId) (r : OpenRequest) (aim : PinPurpose) (l : Leg) → IsLegFor k d r aim l → (last_first (pins_so_far aim) ≡ []) ⊎ ((copy : CopyArgs) × (r ≡ Copy copy) × Unit {0})
 walk-over k d r Mapping l is = inl refl
 walk-over k d r (Source c via) l is = inr (c, is.0, tt)
@@ -31,7 +31,7 @@ abbrev pub TakesNone : Setting → History → DomId → Leg → LegPhase → Ty
 TakesNone s h d l (Pinning more word body second) = (word_at s h l.dom.0 l.gref.0 == word) ≡ false
 TakesNone s h d l phase = Unit {0}
 
--- the aim is not a call for a leg: no demote walks one
+-- the purpose is not a demotion: a demotion makes no leg
 plain-leg : (k : CallerKnowledge) (d : DomId) (r : OpenRequest) (aim : PinPurpose) (l : Leg) → IsLegFor k d r aim l → is_demote r ≡ false
 plain-leg k d r Mapping l is = ap is_demote is.of_map
 plain-leg k d r aim l is = ap is_demote is.0
@@ -62,9 +62,9 @@ module _ (s : Setting) (h : History) (d : DomId) (r : OpenRequest) where
           (as-tried s h l so_far more word body second None a.1.0 a.1.1 ws (eqb-true (word_at s h l.dom.0 l.gref.0) word e))
   walk-leads so_far aim l at ws is leg none a = leg-leads aim l _ _ (leg_after l at (seen_by s h d (leg_step l at))) is a.0 (walk-comes s h d r so_far aim l at ws is leg a.1 tt)
 
--- at each step: it is on words that there are. It leaves all as it was or ends its call with
--- Ok. The first rule that stands, here or before, is the refusal that its words lead to. Each step but a store leads
--- where the next phase says
+-- At each step: it is on words that exist. It leaves everything unchanged or ends its call with Ok. The first rule
+-- that applies, here or before, is the refusal that its words lead to. Each step except a store leads to its next
+-- phase.
 abbrev pub OfStep : Setting → History → List State → DomId → OpenRequest → StepsSoFar → Phase → Step → Type 0
 OfStep s h xs d r so_far p z = IsWithin xs d z × LeavesOrEnds s h d p z × Judged s h d r so_far p z × ((IsStore z → ⊥) → Placed s h d r so_far p z)
 

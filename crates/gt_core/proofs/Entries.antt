@@ -1,4 +1,4 @@
--- What a legal history leaves of each entry: the body words of each spell it.
+-- What a legal history leaves of each entry: its body words encode it.
 use Rattle.gt_core.proofs.Words.{ℕ, Bool, None, Option, Some, [], arith, cond, refl, subst, sym}
 use Rattle.gt_core.proofs.Words.{◌∷◌, ◌≡◌, eqb-true, ◌==◌}
 use Rattle.gt_core.proofs.Words.{DomId, GrantRef, EntryChange, Publish, ToInvalid, ToWithdrawn, BodyWord, FirstHalf}
@@ -12,13 +12,13 @@ use Rattle.gt_core.proofs.{Steps.Observers.unstored, CallsStand.spelled-stays}
 use Rattle.gt_core.proofs.{Steps.Observers.kept-entry, Steps.Observers.stepped}
 use Rattle.gt_core.proofs.{Steps.Observers.exchanged}
 
--- what holds of a step that was right in its call
+-- what holds for a step that was right in its call
 
 pub of-safe : (s : Setting) (h : History) (i : Item) (step : Step) (seen : Observation) (o : Option Underway) → StepsRightIn s h i step seen o → IsSafe s h i
 of-safe s h i step seen None a = absurd a
 of-safe s h i step seen (Some c) a = a.safe
 
--- what holds of each entry after a change of one
+-- what holds for each entry after a change of one
 pub at-change : (P : ℕ → ℕ → Option EntryChange → Type 0) (u g : ℕ) (change : EntryChange) (t r : ℕ) → P u g (Some change) → P t r None → P t r (cond (u == t) (cond (g == r) (Some change) None) None)
 at-change P u g change t r here other = grind (arith, eqb-true)
 
@@ -54,7 +54,7 @@ spelled-after s h d (Stepped (StoreBody gref half word) seen) a t r right was = 
 spelled-after s h d x a t r right was = let i : Item = record { actor = d; happened = x; answer = a } in
     subst (Spells (i ∷ h) t r) (sym (kept-entry i h t r (λ r. refl))) (spelled-stays i h t r (entry_at h t r) (λ r which. unstored i h t r which refl) (was t r))
 
--- the body words of an entry spell it
+-- the body words of an entry encode it
 pub spelled : (s : Setting) (h : History) (t r : ℕ) → IsLegalHistory s h → IsSpelled (entry_at h t r) (body_at h t r FirstHalf) (body_at h t r SecondHalf)
 unfolding IsLegalHistory entry_at
 spelled s [] t r legal = tt

@@ -1,4 +1,4 @@
--- Every legal history can go on.
+-- Every legal history can continue.
 use Rattle.gt_core.proofs.Words.{◌≡◌, ◌≢◌, ◌==◌, ℕ, refl, false, List, [], ◌∷◌, ◌++◌, length, Option, Some}
 use Rattle.gt_core.proofs.Words.{None, Bool, cond, cond_both, sym, ap, ◌∙◌, subst, reverse, same_Some, none-some}
 use Rattle.gt_core.proofs.Words.{eqb-true, position-Some, position, get_or, set, slice_get, is_some, DomId, domain_of}
@@ -148,7 +148,7 @@ no-bytes-changed x call (WriteBytes dom frame off len) fs quiet = absurd quiet
 no-bytes-changed x call (CopyBytes from to len) fs quiet = absurd quiet
 no-bytes-changed x call step fs quiet = refl
 
--- what a call is told in these frames that is over with this step
+-- the answer in these frames of a call that ends with this step
 abbrev IsToldBy : FrameSet → Step → Answer → Type 0
 IsToldBy fs (ReadBytes dom frame off len) answer = (b : Bytes) × (answer ≡ BytesAnswer b) × (b.bytes.items ≡ bytes_at (frame_at fs (record { owner = dom; number = frame })) off len)
 IsToldBy fs step answer = answer ≡ AnswerDone
@@ -161,7 +161,7 @@ told-words : (fs : FrameSet) (step : Step) → IsOnWords step → IsToldBy fs st
 told-words fs (ReadBytes dom frame off len) quiet = absurd quiet
 told-words fs step quiet = refl
 
--- how the call is answered in a state, whose mappings are kept so
+-- the answer of the call in a state with these mappings
 abbrev EndsIn : FrameSet → Step → State → Action → Option Answer → Type 0
 EndsIn fs step x (Makes next) answer = answer ≡ None
 EndsIn fs step x (Done (KeptPin held)) answer = (handle : Handle) × (answer ≡ Some (Mapped handle)) × ((new : HandleMap HeldPin) × Adds x.mappings new handle held)
@@ -172,7 +172,7 @@ EndsIn fs step x (Done verdict) answer = answer ≡ Some (answer_of verdict)
 abbrev Gives : Setting → History → DomId → Step → Option Answer → Type 0
 Gives s h d step answer = IsRight s h (step_after s h d step answer) × CanBeReached s (step_after s h d step answer ∷ h)
 
--- where the call is after its step, and the call there
+-- the phase of the call after its step, and the call there
 abbrev moved : Setting → List State → State → OpenCall → Phase
 moved s xs x o = standing_after (knowledge_of s.domains s.first_generation s.may x.own x.header x.mappings) o.call.caller o.call.request o.call.phase (sees xs x.id o.step)
 
@@ -195,7 +195,7 @@ module _ (s : Setting) (h : History) (xs : List State) (fs : FrameSet) (x : Stat
   same-action : action_then s xs x o ≡ action
   same-action = same_Some _ _ (sym ticked.1.on.follows ∙ next)
 
-  -- what is left of the states
+  -- what the step leaves of the states
   left-by : (at : ℕ) (y : State) → slice_get xs at ≡ Some x → slice_get (applied x.id o.step (sees xs x.id o.step) xs) at ≡ Some y → (z : Action) → action_then s xs x o ≡ z → EndsIn gs o.step x z answer
       → (ys : List State) × Settled gs (applied x.id o.step (sees xs x.id o.step) xs) at y o.step (call_then s xs x o) z answer ys
   left-by at y was now (Makes z) e end = (set (applied x.id o.step (sees xs x.id o.step) xs) at (with_underway (Some (record { call = call_then s xs x o; step = z })) y), (end, refl))
@@ -250,7 +250,7 @@ same-step : (a b : Step) → Makes a ≡ Makes b → a ≡ b
 same-step a b e = cc
 
 module _ (s : Setting) (h : History) (core : CoreState) (c : Underway) (step : Step) (action : Action) (answer : Option Answer) (st : CoreStands s h core) (quiet : IsOnWords step) where
-  -- what the call of a domain needs, to go on so
+  -- what the call of a domain needs to continue like this
   abbrev Needs : DomId → Type 0
   Needs d = (domain_of s.domains d ≢ None) × (open_call h d.0 ≡ Some c) × (path (known_at s h d) d c.request (values c) ≡ Some (Makes step))
       × (path (known_at s h d) d c.request (values c ++ seen_by s h d step ∷ []) ≡ Some action) × AnsweredSo h d action answer
@@ -290,7 +290,7 @@ seen-nothing s h d (CopyBytes from to len) is = refl
 seen-nothing s h d step is = absurd is
 
 module _ (s : Setting) (h : History) (fs : FrameSet) (fr : FramesStand s h fs) where
-  -- a frame holds what the history says
+  -- a frame holds what the history gives
   holds : (name : FrameName) → contents (frame_at fs name) ≡ contents_at h name.owner.0 name.number
   holds name = ap (λ (ps : List Patch). written ps) (fr.writes name)
 
@@ -298,7 +298,7 @@ module _ (s : Setting) (h : History) (fs : FrameSet) (fr : FramesStand s h fs) w
   filled name = ap (λ (bytes : List ℕ). length bytes) (holds name) ∙ fr.filled name.owner.0 name.number
 
   module _ (x : State) (call : Call) where
-    -- the access is made, and the call goes on or is told so
+    -- the access is made, and the call continues or is answered
     abbrev Made : Step → Action → Option Answer → Type 0
     Made step action answer = (gs : FrameSet) × AccessedBy x call step fs gs × EndsIn gs step x action answer
 
@@ -323,7 +323,7 @@ module _ (s : Setting) (h : History) (fs : FrameSet) (fr : FramesStand s h fs) w
     copy-ends gs from to len (Done (KeptPin held)) answer so = absurd so
     copy-ends gs from to len (Done (Refused denial)) answer so = absurd so
 
-    -- so many bytes of a range that is there
+    -- the bytes of a range that exists are as many as its length
     long : (from : Spot) (len : ℕ) → IsTrue (has_range fs from.frame from.off len) → length (bytes_at (frame_at fs from.frame) from.off len) ≡ len
     long from len is = let full = filled from.frame in let fits : from.off + len ≤ FRAME_SIZE = grind (arith, nat_tests) in
         let xs : List ℕ = contents (frame_at fs from.frame) in let left = length-drop from.off xs in
@@ -344,7 +344,7 @@ module _ (s : Setting) (h : History) (fs : FrameSet) (fr : FramesStand s h fs) w
     can-access step action answer is may so = absurd is
 
 module _ (s : Setting) (h : History) (core : CoreState) (c : Underway) (step : Step) (action : Action) (answer : Option Answer) (st : CoreStands s h core) (access : IsAccess step) where
-  -- what the call of a domain needs, to make its access so
+  -- what the call of a domain needs to make its access like this
   abbrev Comes : DomId → Type 0
   Comes d = (domain_of s.domains d ≢ None) × (open_call h d.0 ≡ Some c) × (path (known_at s h d) d c.request (values c) ≡ Some (Makes step))
       × (path (known_at s h d) d c.request (values c ++ Nothing ∷ []) ≡ Some action) × AccessAnsweredSo h step action answer

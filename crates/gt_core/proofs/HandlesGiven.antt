@@ -1,4 +1,4 @@
--- The handles that domains were answered: each serial once, and each mapping under one of them.
+-- The handles that domains were answered with: each serial once, and each mapping under one of them.
 use Rattle.gt_core.proofs.Words.{◌≡◌, ◌≤◌, ◌<◌, ◌+◌, inl, inr, ℕ, refl, Bool, true, false, List, [], ◌∷◌, Option, Some}
 use Rattle.gt_core.proofs.Words.{None, cond, sym, ap, ◌∙◌, subst, arith, ◌==◌, ◌&&◌, eqb-true, eq-eqb, DomId, Denial}
 use Rattle.gt_core.proofs.Words.{Handle, SERIAL_LIMIT, OpenRequest, PinHolder, ByMapping, ByLeg, HeldPin, Observation, Step, Unpin}
@@ -13,7 +13,7 @@ use Rattle.gt_core.specs.declared.trace.Answer.TheVariants as answers
 
 -- a map that is answered
 
--- only a map's pin is answered a mapping, under the next serial of its domain
+-- only a map's pin is answered with a handle, with the next serial of its domain
 abbrev pub IsNext : History → DomId → OpenRequest → Option Step → Handle → Type 0
 IsNext before d r None handle = ⊥
 IsNext before d r (Some step) handle = IsMapping (Some r) × (handle.serial ≡ maps_answered_at before d.0)
@@ -28,7 +28,7 @@ none-begun v c vs step e = grind arith
 few-answered : (k : CallerKnowledge) (d : DomId) (r : OpenRequest) → begun k d r ≡ None → IsMapping (Some r) → k.maps_answered < SERIAL_LIMIT
 few-answered k d r e m = grind arith
 
--- a handle has the next serial of its domain, which is none past the last
+-- a handle has the next serial of its domain, which is below the limit
 abbrev pub IsFresh : History → DomId → Handle → Type 0
 IsFresh h d handle = (handle.serial ≡ maps_answered_at h d.0) × (handle.serial < SERIAL_LIMIT)
 
@@ -55,7 +55,7 @@ maps-one : (i : Item) (h : History) (d : ℕ) (handle : Handle) → i.actor.0 �
 unfolding maps_answered_at
 maps-one i h d handle own e = grind arith
 
--- a handle that was answered has a serial below the number of its domain's maps, and below the last
+-- a handle that was an answer has a serial below the number of its domain's maps, and below the limit
 record IsBelow (h : History) (d : ℕ) (handle : Handle) : Type 0 where
   pub count : handle.serial < maps_answered_at h d
   pub end : handle.serial < SERIAL_LIMIT
@@ -72,7 +72,7 @@ given-below s (i ∷ h) d handle run (inr g) = let b = given-below s h d handle 
     let le : maps_answered_at h d ≤ maps_answered_at (i ∷ h) d = maps-grow i h d in
     record { count = omega arith; end = b.end }
 
--- a serial is answered once
+-- a serial is in only one answer
 given-once : (s : Setting) (h : History) (d : ℕ) (a b : Handle) → IsRun s h → IsGiven h d a → IsGiven h d b → a.serial ≡ b.serial → a ≡ b
 unfolding IsRun IsGiven
 given-once s [] d a b run f g e = absurd f
@@ -85,7 +85,7 @@ given-once s (i ∷ h) d a b run (inr f) (inl g) e =
     let lt : a.serial < maps_answered_at h d = (given-below s h d a run.2 f).count in absurd (omega arith)
 given-once s (i ∷ h) d a b run (inr f) (inr g) e = given-once s h d a b run.2 f g e
 
--- a handle that is known is told from the ones answered by its serial
+-- the serial of a known handle distinguishes it from the ones in other answers
 known-serial : (s : Setting) (h : History) (d : ℕ) (a b : Handle) → IsRun s h → IsGiven h d b → IsKnown h d a → b.serial ≡ a.serial → b ≡ a
 known-serial s h d a b run g k e = grind (arith, given-once, given-below)
 
@@ -101,7 +101,7 @@ abbrev pub HeldGiven : History → ℕ → PinHolder → Type 0
 HeldGiven h d (ByMapping handle) = IsGiven h d handle
 HeldGiven h d (ByLeg number) = Unit {0}
 
--- each mapping is under a handle that its domain was answered
+-- each mapping has a handle that its domain was answered with
 abbrev pub PinsGiven : History → List Pin → Type 0
 PinsGiven h ps = All (λ p. HeldGiven h p.actor p.holder) ps
 
@@ -125,7 +125,7 @@ pins-given (i ∷ h) = let P : Pin → Type 0 = λ q. HeldGiven (i ∷ h) q.acto
     (All-weaker (λ q. HeldGiven h q.actor q.holder) P (λ q g. held-later i h q.actor q.holder g) _ (unpinned-given h i.actor i.happened (live h) (pins-given h)))
     (pinned-given i h (live h))
 
--- what open calls ask
+-- the handles that open calls name
 
 asks-later : (i : Item) (h : History) (d : ℕ) (r : OpenRequest) → AsksKnown h d r → AsksKnown (i ∷ h) d r
 unfolding IsGiven
@@ -152,7 +152,7 @@ open-known s (i ∷ h) d run = cond_both (i.actor.0 == d) (underway_after i (ope
 unpin-in : (s : Setting) (h : History) (i : Item) (p : HeldPin) (handle : Handle) (seen : Observation) (c : Option Underway) → StepsRightIn s h i (Unpin p (ByMapping handle)) seen c → CallKnown h i.actor.0 c → IsKnown h i.actor.0 handle
 unpin-in s h i p handle seen c right k = grind arith
 
--- a mapping that is given up is one under a known handle
+-- a mapping that is dropped has a known handle
 pub unpin-known : (s : Setting) (h : History) (i : Item) (p : HeldPin) (handle : Handle) (seen : Observation) → i.happened ≡ Stepped (Unpin p (ByMapping handle)) seen → IsRight s h i → IsRun s h → IsKnown h i.actor.0 handle
 unpin-known s h i p handle seen e right run =
     unpin-in s h (record i { happened = Stepped (Unpin p (ByMapping handle)) seen }) p handle seen (open_call h i.actor.0) (subst (λ (x : ItemEvent). IsRight s h (record i { happened = x })) e right) (open-known s h i.actor.0 run)

@@ -16,7 +16,7 @@ handle-back a b e = grind arith
 swap-handles : (a b : Handle) → same_handle a b ≡ same_handle b a
 swap-handles a b = both_ways (same_handle a b) (same_handle b a) (handle-back a b) (handle-back b a)
 
--- a list of mappings, and one more
+-- a list of mappings with one more
 
 none-of : (x : Handle × HeldPin) (ms : List (Handle × HeldPin)) (handle : Handle) → mapping_of (x ∷ ms) handle ≡ None → (same_handle x.0 handle ≡ false) × (mapping_of ms handle ≡ None)
 none-of x ms handle e = grind arith
@@ -34,7 +34,7 @@ apart-push [] handle m a none = (refl, tt)
 apart-push (x ∷ ms) handle m a none = let n = none-of x ms handle none in
     (push-of ms handle m x.0 n.1 ∙ ap (λ (b : Bool). cond b (Some m) (mapping_of ms x.0)) n.0 ∙ a.0, apart-push ms handle m a.1 n.1)
 
--- the handles with one mapping more are those of the mappings with one more
+-- the handles with one more mapping are those of the mappings with one more
 pub mappings-added : (old new : HandleMap HeldPin) (handle : Handle) (m : HeldPin) (ms : List (Handle × HeldPin)) (n : ℕ) → Adds old new handle m → MappingsAgree old ms n
     → MappingsAgree new (ms ++ (handle, m) ∷ []) (n + 1)
 mappings-added old new handle m ms n d a =
@@ -46,9 +46,9 @@ mappings-added old new handle m ms n d a =
       apart = apart-push ms handle m a.apart none;
     }
 
--- a list of mappings, and one less
+-- a list of mappings with one less
 
--- without the first one under a key, by a test of keys; and under this handle
+-- the list without the first mapping under a key, by a test of keys, and under this handle
 abbrev pub less_of : {K : Type 0} → (K → Bool) → List (K × HeldPin) → List (K × HeldPin)
 less_of test [] = []
 less_of test (m ∷ ms) = cond (test m.0) ms (m ∷ less_of test ms)
@@ -72,7 +72,7 @@ apart-less : (ms : List (Handle × HeldPin)) (handle : Handle) → AreMappingsAp
 apart-less [] handle a = tt
 apart-less (x ∷ ms) handle a = grind (arith, apart-less ms handle a.1, less-of, cond-same)
 
--- the slots of the handles, and one less
+-- the slots of the handles with one less
 
 set-none : (slots : List (Option (HandleSlot HeldPin))) (key at : ℕ) → slice_index_or (slice_set slots key None) at None ≡ cond (at == key) None (slice_index_or slots at None)
 set-none [] key at = grind arith
@@ -107,7 +107,7 @@ mappings-taken kept handle m ms n found a =
       sums : (now was all left : ℕ) → now + 1 ≡ was → was ≡ all → all ≡ left + 1 → now ≡ left
       sums now was all left a b c = omega arith
 
--- the same handles stand for the same mappings
+-- the same handles name the same mappings
 pub mappings-same : (kept : HandleMap HeldPin) (ms ms' : List (Handle × HeldPin)) (n n' : ℕ) → ms ≡ ms' → n ≡ n' → MappingsAgree kept ms n → MappingsAgree kept ms' n'
 mappings-same kept ms ms' n n' e f a = subst (λ (l : List (Handle × HeldPin)). MappingsAgree kept l n') e (subst (λ (k : ℕ). MappingsAgree kept ms k) f a)
 

@@ -1,4 +1,4 @@
--- How a call ends, and what its steps have left as it was.
+-- How a call ends, and what its steps have left unchanged.
 use Rattle.gt_core.proofs.Words.{◌≡◌, ◌⊎◌, inl, inr, ℕ, refl, List, [], ◌∷◌, ◌++◌, Option, Some, None, sym, ap, subst}
 use Rattle.gt_core.proofs.Words.{All-push, All, DomId, Denial, Entry, Via, HeldPin, Direct, Through, CallPins, OpenRequest}
 use Rattle.gt_core.proofs.Words.{ByMapping, ByLeg, Observation, Nothing, CallResult, Refused, Step, Unpin, StoreHeader, ReadBytes}
@@ -29,7 +29,7 @@ single-sees s h d (Unpin p (ByMapping handle)) a = refl
 single-sees s h d (Unpin p (ByLeg n)) a = refl
 single-sees s h d step a = absurd a
 
--- the call is over after it
+-- the call ends after it
 pub single-ends : (s : Setting) (h : History) (d : DomId) (r : OpenRequest) (so_far : StepsSoFar) (phase : Phase) (step : Step) → action_at d phase ≡ Makes step → PhaseStands s h d r so_far phase → IsSingle step
     → (verdict : CallResult) × (next_of s h d phase step ≡ Ending no_pins verdict) × EndsAfter r step verdict
 single-ends s h d r so_far (Walking aim l at) step e b a = absurd (by-leg (λ (z : Step). IsSingle z → ⊥) (λ dom n. n) (λ dom gref n. n) (λ dom gref half n. n) (λ p n. n) l at (subst IsSingle (sym (makes-same _ _ e)) a))
@@ -44,13 +44,13 @@ after-plain r (StoreHeader version frames) verdict (inl a) = ap (λ (v : CallRes
 after-plain r (StoreHeader version frames) verdict (inr a) = ap (λ (v : CallResult). refusal_in (Some v)) a.1
 after-plain r step verdict a = ap (λ (v : CallResult). refusal_in (Some v)) a
 
--- the steps so far have left all as it was, unless the call ends with Ok
+-- the steps so far have left everything unchanged, unless the call ends with Ok
 
 clean-all : (p : Phase) (steps : List (Step × Observation)) → All LeavesAll steps → IsClean p steps
 clean-all (Ending pins verdict) steps a = inr a
 clean-all p steps a = a
 
--- so the steps so far do with this one, where the step leaves all as it was or ends its call
+-- the steps with this one have too, if the step leaves everything unchanged or ends its call
 pub clean-next : (s : Setting) (h : History) (d : DomId) (phase : Phase) (step : Step) (steps : List (Step × Observation)) → action_at d phase ≡ Makes step → LeavesOrEnds s h d phase step → IsClean phase steps
     → IsClean (next_of s h d phase step) (steps ++ (step, seen_by s h d step) ∷ [])
 clean-next s h d (Ending pins verdict) step steps e x clean = by-giving (λ (z : Step). IsClean (next_of s h d (Ending pins verdict) z) (steps ++ (z, seen_by s h d z) ∷ [])) (λ p n. by p n clean) (last_first pins) verdict step e
@@ -72,17 +72,17 @@ ends-so d (Ending pins verdict) v e = by (last_first pins) refl e where
   by (p ∷ ps) is f = cc
 ends-so d p v e = cc
 
--- a call that goes on to its destination is not done
+-- a call that continues to its destination has not ended
 dest-not : (k : CallerKnowledge) (d : DomId) (c : CopyArgs) (source : AccessPath) (v : CallResult) → action_at d (at_dest k d c source) ≡ Done v → ⊥
 dest-not k d c source v e =
     cond_both (is_dest_granted c) (Walking (Dest c source None) (end_leg k d c.dest Write c.len) AtHeader) (Accessing c source Own) (λ p. action_at d p ≡ Done v → ⊥) (λ b f. cc) (λ b f. cc) e
 
--- nor one that is judged where a Via leads
+-- nor has one that is checked after a Via
 where-not : (d : DomId) (o : Option CallResult) (aim : PinPurpose) (second : Leg) (v : CallResult) → ((w : CallResult) → next_to_give (last_first (pins_so_far aim)) w ≡ Done v → ⊥) → action_at d (where_via o aim second) ≡ Done v → ⊥
 where-not d None aim second v held e = cc
 where-not d (Some w) aim second v held e = held w e
 
--- how a walk ends: refused, or with the pin of a map
+-- the end of a leg: a refusal, or the pin of a map
 pub walk-done : (k : CallerKnowledge) (d : DomId) (aim : PinPurpose) (l : Leg) (next : LegNext) (v : CallResult) → action_at d (after_leg k d aim l next) ≡ Done v
     → ((denial : Denial) × (v ≡ Refused denial)) ⊎ ((p : HeldPin) × (v ≡ Mapped p) × (next ≡ Pinned p) × (aim ≡ Mapping))
 walk-done k d aim l (LegRefused denial) v e = by (last_first (pins_so_far aim)) e where

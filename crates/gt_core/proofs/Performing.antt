@@ -1,5 +1,5 @@
--- A call goes on from the states as its step left them: it comes to the same as from those before it, and what it leaves
--- is what the step would leave after it.
+-- A call continues from the states that its step left as it would from those before it, and what it leaves is what
+-- the step would leave after it.
 use Rattle.gt_core.proofs.Words.{◌≡◌, ◌<◌, ◌==◌, ℕ, zero, suc, refl, Bool, List, [], ◌∷◌, length, Option, Some, None}
 use Rattle.gt_core.proofs.Words.{cond, ltb, sym, ap, ◌∙◌, subst, arith, same_Some, slice_get, get_or, set, position}
 use Rattle.gt_core.proofs.Words.{position_or_len, DomId, DomainConfig, TypeId, Perms, OwnerEntry, Header, HandleMap, HeldPin}
@@ -48,7 +48,7 @@ mapped-swap : (d : DomId) (p : HeldPin) (seen : Observation) (kept : HandleMap H
 mapped-swap d p Taken kept xs = changed-swap xs d.0 p.dom.0 (with_mapping kept) (with_slot p.gref.0 (PinnedCount p.dir)) (λ x. refl) (λ x. refl) (λ x. refl)
 mapped-swap d p seen kept xs = refl
 
--- the places of domains
+-- the indices of domains
 
 place-changed : (xs : List State) (d t : ℕ) (g : State → State) → ((x : State) → (g x).id ≡ x.id) → position_or_len (has_id d) (changed_in t g xs) ≡ position_or_len (has_id d) xs
 place-changed [] d t g keeps = refl
@@ -63,7 +63,7 @@ place-applied d (StoreBody gref half word) seen xs = place-changed xs d.0 d.0 (w
 place-applied d (StoreHeader version frames) seen xs = place-changed xs d.0 d.0 (with_header version frames) (λ x. refl)
 place-applied d step seen xs = refl
 
--- a domain stands where it stood before the step
+-- a domain keeps its index after the step
 pub still-there : (d : DomId) (step : Step) (seen : Observation) (xs : List State) → position (has_id d.0) (applied d step seen xs) ≡ position (has_id d.0) xs
 still-there d step seen xs = ap (λ (n : ℕ). cond (ltb n (length (applied d step seen xs))) (Some n) None) (place-applied d step seen xs)
     ∙ ap (λ (m : ℕ). cond (ltb (position_or_len (has_id d.0) xs) m) (Some (position_or_len (has_id d.0) xs)) None) (length-applied d step seen xs)
@@ -110,7 +110,7 @@ applied-keeps field d step seen xs k y keeps e = (y, e, refl)
 pub kept-part : {A : Type 0} (field : State → A) (d : DomId) (step : Step) (seen : Observation) (xs : List State) (k : ℕ) (x y : State) → Untouched field step → slice_get xs k ≡ Some x → slice_get (applied d step seen xs) k ≡ Some y → field y ≡ field x
 kept-part field d step seen xs k x y keeps here there = let a = applied-keeps field d step seen xs k y keeps there in a.2 ∙ ap field (same_Some a.0 x (sym a.1 ∙ here))
 
--- the call under way is
+-- the open call is the same
 pub still-underway : (d : DomId) (step : Step) (seen : Observation) (xs : List State) (k : ℕ) (x y : State) → slice_get xs k ≡ Some x → slice_get (applied d step seen xs) k ≡ Some y → y.underway ≡ x.underway
 still-underway d step seen xs k x y = kept-part (λ z. z.underway) d step seen xs k x y (by step) where
   gone : (holder : PinHolder) (z : State) → (without_holder holder z).underway ≡ z.underway
@@ -125,9 +125,9 @@ still-underway d step seen xs k x y = kept-part (λ z. z.underway) d step seen x
   by (Exchange gref looked change) = λ z. refl
   by step = tt
 
--- what is left to do of a call
+-- what a call has left to do
 
--- what the domain's entries, table and mappings are makes no difference once the body words of a grant are stored
+-- after the body words of a grant are stored, the domain's entries, table and mappings make no difference
 module _ (domains : List DomainConfig) (first : ℕ) (may : TypeId → TypeId → Perms → Bool) (own own' : List OwnerEntry) (header header' : Header) (mappings mappings' : HandleMap HeldPin) where
   abbrev Before : CallerKnowledge
   Before = knowledge_of domains first may own header mappings
@@ -152,7 +152,7 @@ module _ (domains : List DomainConfig) (first : ℕ) (may : TypeId → TypeId �
   leg-alike d aim l (Going phase) = refl
   leg-alike d aim l (LegRefused denial) = refl
 
-  -- a grant is to store a body word
+  -- the next step of a grant is a store of a body word
   abbrev pub IsStoring : Phase → Type 0
   IsStoring (Storing gref entry) = Unit {0}
   IsStoring (StoringSecond gref entry) = Unit {0}
@@ -164,7 +164,7 @@ module _ (domains : List DomainConfig) (first : ℕ) (may : TypeId → TypeId �
   phase-alike d (Walking aim l at) seen n = leg-alike d aim l (leg_after l at seen)
   phase-alike d phase seen n = grind arith
 
--- an open call has the same left to do by what its domain knew before its step and by what it knows after it
+-- an open call has the same phase by what its domain knew before its step and by what it knows after it
 pub left-alike : (s : Setting) (h : History) (xs : List State) (k : ℕ) (d : DomId) (x y : State) (o : OpenCall) (c : Underway) (seen : Observation) → OpenAgrees s h x.id o c → slice_get xs k ≡ Some x → slice_get (applied d o.step seen xs) k ≡ Some y
     → IsLeftAlike (knowledge_of s.domains s.first_generation s.may x.own x.header x.mappings) (knowledge_of s.domains s.first_generation s.may y.own y.header y.mappings) o.call seen
 left-alike s h xs k d x y o c seen a here there = rw a.here (by a.phase a.acts) where
@@ -182,9 +182,9 @@ left-alike s h xs k d x y o c seen a here there = rw a.here (by a.phase a.acts) 
   by (StoringSecond gref entry) e = stored gref SecondHalf (second_body entry) (StoringSecond gref entry) (makes-same _ _ e)
   by p e = phase-alike s.domains s.first_generation s.may x.own y.own x.header y.header x.mappings y.mappings o.call.caller p seen (λ n. n)
 
--- what the domain's call comes to
+-- how the domain's call continues
 
--- a new state of the domain, which no step makes, stands after the step as it stood before it
+-- a new state of the domain, which no step makes, has the same index before and after the step
 set-after : (d : DomId) (step : Step) (seen : Observation) (f : State → State) (xs : List State) (at : ℕ) (x y : State) → changed_in d.0 f (applied d step seen xs) ≡ applied d step seen (changed_in d.0 f xs) → position (has_id d.0) xs ≡ Some at
     → x ≡ get_or xs at x → y ≡ get_or (applied d step seen xs) at y → set (applied d step seen xs) at (f y) ≡ applied d step seen (set xs at (f x))
 set-after d step seen f xs at x y swap place here there = set-state (applied d step seen xs) d.0 at f y (f y) (still-there d step seen xs ∙ place) there refl ∙ swap
@@ -195,7 +195,7 @@ abbrev pub EndsByPin : Step → Action → Type 0
 EndsByPin step (Done (KeptPin held)) = (p : HeldPin) × (step ≡ PinStep p)
 EndsByPin step action = Unit {0}
 
--- what the call comes to from the states after its step is what it comes to from those before, and then the step
+-- the call leaves the same states whether the step is applied before or after it
 pub settled-after : (fs : FrameSet) (xs ys : List State) (at : ℕ) (d : DomId) (x y : State) (step : Step) (seen : Observation) (call : Call) (action : Action) (answer : Option Answer) → position (has_id d.0) xs ≡ Some at → x ≡ get_or xs at x
     → y ≡ get_or (applied d step seen xs) at y → slice_get xs at ≡ Some x → slice_get (applied d step seen xs) at ≡ Some y → EndsByPin step action
     → Settled fs (applied d step seen xs) at y step call action answer ys → (zs : List State) × Settled fs xs at x step call action answer zs × (ys ≡ applied d step seen zs)

@@ -1,4 +1,4 @@
--- An open call by its phase: which steps it may make, and what there is to show of each (EachStep does).
+-- An open call by its phase: which steps it may make, and what has to be shown of each (EachStep does).
 use Rattle.gt_core.proofs.Words.{◌≡◌, ◌≢◌, ℕ, refl, false, List, [], ◌∷◌, Option, Some, None, cond, sym, ap, ◌∙◌}
 use Rattle.gt_core.proofs.Words.{subst, reverse, ◌==◌, is_none, eq-eqb, true≢false, none-some, domain_of, DomId}
 use Rattle.gt_core.proofs.Words.{GrantRef, DomainConfig, HeldPin, OpenRequest, CallResult, Step, LookHeader, LookControl}
@@ -21,7 +21,7 @@ call-is call d r p a b e = ap (λ (z : DomId). record { caller = z; request = ca
     ∙ ap (λ (z : OpenRequest). record { caller = d; request = z; phase = call.phase }) b
     ∙ ap (λ (z : Option Phase). record { caller = d; request = r; phase = z }) e
 
--- where a call stands before its next step, in a core that stands for the history
+-- the phase of a call before its next step, in a core that represents the history
 pub record IsHere (s : Setting) (h : History) (xs : List State) (d : DomId) (r : OpenRequest) (shown : List Observation) (so_far : StepsSoFar) (phase : Phase) (step : Step) : Type 0 where
   pub legal : IsLegalHistory s h
   pub st : DomainsStand s h xs
@@ -36,7 +36,7 @@ pub record IsHere (s : Setting) (h : History) (xs : List State) (d : DomId) (r :
 pub makes-same : (a b : Step) → Makes a ≡ Makes b → a ≡ b
 makes-same a b e = cc
 
--- what holds of the step of an action
+-- what holds for the step of an action
 abbrev pub OfAction : (Step → Type 0) → Action → Type 0
 OfAction P (Makes z) = P z
 OfAction P (Done v) = Unit {0}
@@ -51,7 +51,7 @@ by-leg P headers looks bodies pins l (Second more word body) = bodies l.dom l.gr
 by-leg P headers looks bodies pins l (Pinning more word body second) = pins (held_of l word body second)
 by-leg P headers looks bodies pins l (Relook more word rule) = looks l.dom l.gref
 
--- a call that gives its pins back makes a step that gives one back by its place
+-- a call that releases its pins makes a step that releases one by its position
 pub by-giving : (P : Step → Type 0) → ((p : HeldPin) (n : ℕ) → P (Unpin p (ByLeg n))) → (held : List HeldPin) (verdict : CallResult) (step : Step) → next_to_give held verdict ≡ Makes step → P step
 by-giving P each [] verdict step e = absurd (let f : Done verdict ≡ Makes step = e in cc)
 by-giving P each (p ∷ ps) verdict step e = subst P (makes-same _ _ e) (each p (length ps))
@@ -72,7 +72,7 @@ words-of s h xs l legal st = record {
   header = (table-fits _ (st.tables l.dom)).1;
 }
 
--- what holds of each step that a call makes alone
+-- what holds for each step that is a call's only one
 pub by-quiet : (P : Step → Type 0) → ((p : HeldPin) (handle : Handle) → P (Unpin p (ByMapping handle))) → ((gref : GrantRef) (half : BodyWord) (word : ℕ) → P (StoreBody gref half word)) → ((version frames : ℕ) → P (StoreHeader version frames))
     → ((dom : DomId) (frame off len : ℕ) → P (ReadBytes dom frame off len) × P (WriteBytes dom frame off len)) → (step : Step) → IsQuiet step → P step
 by-quiet P unpins bodies headers accesses (Unpin p (ByMapping handle)) q = unpins p handle
@@ -97,15 +97,15 @@ seen-fits s h d step = refl
 
 -- where a step leads
 
--- the first rule that stands at this step, or before it, is the refusal that the call comes to
+-- the first rule that applies at this step, or before it, is the refusal that the call gets
 abbrev pub Judged : Setting → History → DomId → OpenRequest → StepsSoFar → Phase → Step → Type 0
 Judged s h d r so_far phase step = option_or (phase_refusal phase) (first_at s h d r so_far step) ≡ phase_refusal (phase_after (known_at s h d) d phase (seen_by s h d step))
 
--- where a step leads: the first rule that stands is the refusal there, and there the call stands
+-- the step leads to this phase: the refusal there is the first rule that applies, and the call is in that phase
 abbrev pub Leads : Setting → History → DomId → OpenRequest → StepsSoFar → Option Denial → Phase → Type 0
 Leads s h d r now rule next = (rule ≡ phase_refusal next) × PhaseStands s h d r now next
 
--- where a call stands after a step
+-- the phase of a call after a step
 abbrev pub Placed : Setting → History → DomId → OpenRequest → StepsSoFar → Phase → Step → Type 0
 Placed s h d r so_far phase step = PhaseStands s h d r ((step, seen_by s h d step) ∷ so_far) (phase_after (known_at s h d) d phase (seen_by s h d step))
 
@@ -113,6 +113,6 @@ Placed s h d r so_far phase step = PhaseStands s h d r ((step, seen_by s h d ste
 abbrev pub next_of : Setting → History → DomId → Phase → Step → Phase
 next_of s h d phase step = phase_after (known_at s h d) d phase (seen_by s h d step)
 
--- a step of a call that is not at its end leaves all as it was, or ends it with Ok
+-- a step of a call that is not at its end leaves everything unchanged, or ends it with Ok
 abbrev pub LeavesOrEnds : Setting → History → DomId → Phase → Step → Type 0
 LeavesOrEnds s h d phase step = LeavesAll (step, seen_by s h d step) ⊎ ((steps : List (Step × Observation)) → IsClean (next_of s h d phase step) steps)

@@ -1,4 +1,4 @@
--- The live pins and the mappings are the same without keys, where each handle that is named is told by its serial.
+-- The live pins and the mappings are the same without keys, if the serial of each handle that is named identifies it.
 use Rattle.gt_core.proofs.Words.{◌≡◌, ◌+◌, ℕ, refl, Bool, true, List, [], ◌∷◌, ◌++◌, length, Option, Some, cond, sym}
 use Rattle.gt_core.proofs.Words.{ap, ◌∙◌, subst, ◌==◌, count_by, option_map, eqb-true, sum_by-cons, fun_ext, DomId, Dir}
 use Rattle.gt_core.proofs.Words.{Read, Write, Entry, Handle, PinHolder, ByMapping, ByLeg, HeldPin, Observation, Taken, PinStep}
@@ -23,9 +23,9 @@ bare_pin p = record { actor = p.actor; holder = bare_holder p.holder; held = p.h
 abbrev pub bare_pins : List Pin → List Pin
 bare_pins ps = map bare_pin ps
 
--- pins that are given back
+-- pins that are released
 
--- of the domain's pins the holder is told without keys
+-- keys are not needed to identify the holder of the domain's pins
 abbrev Tells : ℕ → PinHolder → Pin → Type 0
 Tells d holder p = p.actor ≡ d → is_holder (bare_holder p.holder) (bare_holder holder) ≡ is_holder p.holder holder
 
@@ -75,7 +75,7 @@ live-bare s (i ∷ h) run = let a = option_map answer_from (option_map told_part
     ∙ ap (λ (ps : List Pin). bare_pins (unpinned_by i.actor i.happened (live h)) ++ ps) (pinned-bare i.actor i.happened i.answer h (live h))
     ∙ sym (map-append bare_pin (unpinned_by i.actor i.happened (live h)) (pinned_by i.actor i.happened i.answer h (live h)))
 
--- how many pins
+-- the number of pins
 
 count-bare : (t r : ℕ) (dir : Dir) (ps : List Pin) → count_by (is_pin_on t r dir) (bare_pins ps) ≡ count_by (is_pin_on t r dir) ps
 count-bare t r dir [] = refl
@@ -120,7 +120,7 @@ found-bare s h d a (p ∷ ps) run k g = let P : Pin → Type 0 = λ q. HeldGiven
 pub mapping-bare : (s : Setting) (h : History) (d : ℕ) (a : Handle) → IsRun s h → IsKnown h d a → mapping_of (mappings_at (bare h) d) (bare_handle a) ≡ mapping_of (mappings_at h d) a
 mapping-bare s h d a run k = ap (λ (ps : List Pin). mapping_of (gather mapping_named d ps) (bare_handle a)) (live-bare s h run) ∙ found-bare s h d a (live h) run k (pins-given h)
 
--- what a domain knows by itself is the same, but for the keys of its mappings
+-- what a domain knows by itself is the same, except for the keys of its mappings
 pub known-bare : (s : Setting) (h : History) (d : DomId) → IsRun s h → known_at s (bare h) d ≡ record (known_at s h d) { mapping = mapping_of (mappings_at (bare h) d.0) }
 known-bare s h d run = let e : ◌≡◌ {A = ℕ → Entry} (λ r. entry_at (bare h) d.0 r) (λ r. entry_at h d.0 r) = fun_ext (λ r. (bared h).entry d.0 r) in
     let g : ◌≡◌ {A = ℕ → ℕ} (λ r. generation_at s (bare h) d.0 r) (λ r. generation_at s h d.0 r) = fun_ext (λ r. ap (λ (n : ℕ). s.first_generation + n) ((bared h).raises d.0 r)) in
@@ -136,7 +136,7 @@ pub shown-alike : (s : Setting) (g h : History) (dom : DomId) (r : ℕ) → AreA
 shown-alike s g h dom r alike =
     sym (shown-bare s g dom r alike.first) ∙ ap (λ (l : History). shown_at s l dom r) (bare-same g h alike.same) ∙ shown-bare s h dom r alike.second
 
--- the entry of which a known handle is a mapping
+-- the entry that a known handle maps
 subject-bare : (s : Setting) (h : History) (dom : DomId) (a : Handle) → IsRun s h → IsKnown h dom.0 a → subject_at s (bare h) dom (bare_handle a) ≡ subject_at s h dom a
 subject-bare s h dom a run k = grind (arith, mapping-bare)
 

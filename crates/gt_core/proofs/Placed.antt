@@ -1,4 +1,4 @@
--- The places of the domains by their numbers, and what is seen of the domain at a place.
+-- The indices of the domains by their numbers, and what is seen of the domain at an index.
 use Rattle.gt_core.proofs.Words.{◌≡◌, ◌==◌, ℕ, zero, suc, refl, Bool, true, false, List, [], ◌∷◌, length, map}
 use Rattle.gt_core.proofs.Words.{Some, None, cond, ltb, sym, ap, ◌∙◌, arith, get_or, set, position, position_or_len}
 use Rattle.gt_core.proofs.Words.{length-map, DomId, DomainConfig, Step, PinStep, Unpin, StoreBody, StoreHeader}
@@ -33,7 +33,7 @@ same-place (x ∷ xs) [] d e = cc
 same-place [] (c ∷ ds) d e = cc
 same-place (x ∷ xs) (c ∷ ds) d e = let first : x.id ≡ c.id = ap (front c.id) e in grind (arith, same-place xs ds d (ap rest e), first)
 
--- the place of a number among the domains configured is that among their states
+-- the index of a number among the domains configured is that among their states
 pub place-by-id : (xs : List State) (ds : List DomainConfig) (d : ℕ) → ids_in xs ≡ numbers ds → position (has_number d) ds ≡ position (has_id d) xs
 place-by-id xs ds d e = ap (λ (n : ℕ). cond (ltb n (length ds)) (Some n) None) (same-place xs ds d e)
     ∙ ap (λ (m : ℕ). cond (ltb (position_or_len (has_id d) xs) m) (Some (position_or_len (has_id d) xs)) None)
@@ -60,12 +60,12 @@ ids-set [] i y x here same = refl
 ids-set (z ∷ zs) zero y x here same = ap (λ (d : DomId). d ∷ ids_in zs) (same ∙ ap (λ (s : State). s.id) here)
 ids-set (z ∷ zs) (suc i) y x here same = ap (λ (l : List DomId). z.id ∷ l) (ids-set zs i y x here same)
 
--- the states at rest are those of the domains configured
+-- the first states are those of the domains configured
 pub ids-first : (first : ℕ) (ds : List DomainConfig) → ids_in (map (first_state first) ds) ≡ numbers ds
 ids-first first [] = refl
 ids-first first (d ∷ ds) = ap (λ (l : List DomId). d.id ∷ l) (ids-first first ds)
 
--- what follows from what a call promises on Ok and on Err
+-- what follows both from Ok and from Err
 pub either-way : {A E : Type 0} (r : Result A E) (P Q Z : Type 0) → OnOk r P → OnErr r Q → (P → Z) → (Q → Z) → Z
 either-way (Ok a) P Q Z p q f g = f p
 either-way (Err e) P Q Z p q f g = g q
@@ -77,7 +77,7 @@ written-back n ws xs same all =
     ap (λ (l : List State). take n (ws ++ l)) none ∙ ap (take n) (append-nil ws) ∙ take_all n ws (omega arith)
 
 module _ {A : Type 0} (seen : List State → A) (of : State → A) (d : ℕ) (more : (y : State) (ys : List State) → seen (y ∷ ys) ≡ cond (y.id.0 == d) (of y) (seen ys)) where
-  -- what is seen of the domain at the place of its number
+  -- what is seen of the domain at the index of its number
   pub seen-there : (xs : List State) (at : ℕ) (x : State) → position (has_id d) xs ≡ Some at → x ≡ get_or xs at x → seen xs ≡ of x
   seen-there xs at x p here = seen-state seen of d x more xs (found xs d at x p ∙ ap (λ (z : State). Some z) (sym here))
 

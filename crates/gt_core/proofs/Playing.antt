@@ -1,4 +1,4 @@
--- One event more, and what stands for each event.
+-- One more event, and what the core represents after each event.
 use Rattle.gt_core.proofs.Words.{◌≡◌, ◌<◌, ◌+◌, ℕ, refl, length, get_or, take, List, [], ◌∷◌, ◌++◌, sym, ap, ◌∙◌, subst}
 use Rattle.gt_core.proofs.Words.{take_more, Event, Element, Result, OnErr, DomId, TypeId, Perms, Config, Request}
 use Rattle.gt_core.proofs.Words.{frame_counts, FrameSet, all_zeros, AreKept, Begin, Tick, Begun, State, DomainsStand}
@@ -8,7 +8,7 @@ use Rattle.gt_core.proofs.Words.{StandsForSome, DomainsDo, Memory, Bool, zeros, 
 use Rattle.gt_core.proofs.{Steps.Write.frames-begun, Steps.Write.frames-start}
 use Rattle.gt_core.specs.States.{core_of}
 
--- one event more
+-- one more event
 pub legal-more : (s : Setting) (h : History) (es : List Event) (xs : List Element) (e : Event) (x : Element) → LegalAfter s h es xs → MayDo s (history_after h xs) e x
     → LegalAfter s h (es ++ e ∷ []) (xs ++ x ∷ [])
 legal-more s h [] [] e x a m = (m, tt)
@@ -23,7 +23,7 @@ pub record PlaysOn (s : Setting) (es : List Event) (i : ℕ) (trace : List Eleme
   pub legal : LegalAfter s [] (take i es) trace
   pub stands : CoreStands s (history_after [] trace) core
 
--- a turn of the loop
+-- an iteration of the loop
 pub plays-on : (s s' : Setting) (es : List Event) (i : ℕ) (e : Event) (trace trace' : List Element) (old new : CoreState) (x : Element)
     → PlaysOn s es i trace old → i < length es → e ≡ get_or es i e → trace' ≡ trace ++ x ∷ [] → s' ≡ s
     → DoesEvent s' old e x new → PlaysOn s es (i + 1) trace' new
@@ -43,7 +43,7 @@ legal-grows s h (Begin d request) (Did i) m legal = (m.2, legal)
 legal-grows s h (Tick d) (Did i) m legal = (m.2, legal)
 legal-grows s h e x m legal = legal
 
--- a core at rest stands for the empty history
+-- a new core represents the empty history
 pub core-starts : (config : Config) (may : TypeId → TypeId → Perms → Bool) (xs : List State) (fs : FrameSet) → DomainsStand (setting_of config may) [] xs → fs ≡ all_zeros (frame_counts config.domains.items) → AreKept fs
     → CoreStands (setting_of config may) [] (core_of xs fs)
 unfolding IsLegalHistory
@@ -62,7 +62,7 @@ pub begin-does : (s : Setting) (xs ys : List State) (fs : FrameSet) (dom : DomId
 begin-does s xs ys fs dom request (Ok b) stands = begun-stands s xs ys fs dom request b stands
 begin-does s xs ys fs dom request (Err e) stands = tt
 
--- after a beginning the core stands for some history, refused memory or not
+-- after a beginning the core represents a history, whether or not it failed with Memory
 pub begun-all : (s : Setting) (xs ys : List State) (fs : FrameSet) (dom : DomId) (request : Request) (r : Result Begun Memory) → StandsForSome s (core_of xs fs)
     → IfOk r (λ b. DomainsDo s xs (Begin dom request) (begun_element dom request b) ys)
     → OnErr r (ys ≡ xs) → StandsForSome s (core_of ys fs)

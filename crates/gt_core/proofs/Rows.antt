@@ -36,7 +36,7 @@ state_of-set [] i old new q within here same apart = absurd (omega arith)
 state_of-set (x ∷ xs) zero old new q within here same apart = grind arith
 state_of-set (x ∷ xs) (suc i) old new q within here same apart = grind (arith, state_of-set xs i old new q (omega arith) here same (λ k h. apart (suc k) (omega arith)), apart 0 (omega arith), eqb-true, eq-eqb)
 
--- what holds anyway holds on an error
+-- what holds in any case holds on an error
 pub on-err : {A E : Type 0} (r : Result A E) (P : Type 0) → P → OnErr r P
 on-err r P p = grind arith
 
@@ -46,7 +46,7 @@ set-changed [] r f y x within e s = grind arith
 set-changed (z ∷ zs) zero f y x within e s = grind arith
 set-changed (z ∷ zs) (suc r) f y x within e s = grind (arith, set-changed zs r f y x (omega arith) e s)
 
--- past the end nothing changes
+-- beyond the end nothing changes
 pub changed-past : {A : Type 0} (xs : List A) (r : ℕ) (f : A → A) → length xs ≤ r → changed_at r f xs ≡ xs
 changed-past [] r f past = refl
 changed-past (z ∷ zs) zero f past = grind arith
@@ -56,7 +56,7 @@ pub length-changed : {A : Type 0} (xs : List A) (r : ℕ) (f : A → A) → leng
 length-changed (z ∷ zs) (suc r) f = grind (arith, length-changed zs r f)
 length-changed xs r f = refl
 
--- what stands at a place after the change
+-- the element at an index after the change
 pub get-changed : {A : Type 0} (xs : List A) (r q : ℕ) (f : A → A) → slice_get (changed_at r f xs) q ≡ cond (r == q) (option_map f (slice_get xs q)) (slice_get xs q)
 get-changed [] r q f = grind arith
 get-changed (z ∷ zs) zero zero f = refl

@@ -35,7 +35,7 @@ shown-in-range : (s : Setting) (h : History) (dom : DomId) (r : ℕ) (b : Bool) 
 shown-in-range s h dom r b some e = ap (λ (c : Bool). cond (c && nat_lt r (size_of (table_at s h dom))) (Some (entry_shown s h dom r)) None) (some-domain (domain_of s.domains dom) some)
     ∙ ap (λ (c : Bool). cond c (Some (entry_shown s h dom r)) None) e
 
--- the reference is past the table
+-- the reference is beyond the table
 pub shown-past : (s : Setting) (h : History) (xs : List State) (dom : DomId) (r at : ℕ) (x : State) → position (has_id dom.0) xs ≡ Some at → x ≡ get_or xs at x → size_of x.header ≤ r → DomainsStand s h xs → None ≡ shown_at s h dom r
 shown-past s h xs dom r at x p here past st = let a = agrees-found s h xs dom at x p here st in
     let size : size_of (table_at s h dom) ≤ r = subst (λ (d : DomId). size_of (table_at s h d) ≤ r) a.1 (subst (λ (z : Header). size_of z ≤ r) a.2.header past) in

@@ -1,4 +1,4 @@
--- A core at rest stands for the empty history.
+-- A new core represents the empty history.
 use Rattle.gt_core.proofs.Words.{◌≡◌, ◌<◌, ◌≤◌, ◌+◌, ℕ, refl, Bool, true, false, List, [], ◌∷◌, Option, Some, None}
 use Rattle.gt_core.proofs.Words.{cond, ltb, sym, ap, ◌∙◌, arith, subst, map, replicate, min, get_or, eqb-true}
 use Rattle.gt_core.proofs.Words.{ltb-false, ltb-true, none-some, same_Some, slice_get-get_or, slice_get_past}
@@ -21,7 +21,7 @@ state-of-map g (d ∷ ds) dom = by (d.id.0 == dom.0) (state-of-map g ds dom) whe
   by true e = refl
   by false e = e
 
--- the domain found has the number, and what all domains have
+-- the domain found has the number, and the property of all domains
 domain-found : (P : DomainConfig → Type 0) (ds : List DomainConfig) (dom : DomId) (d : DomainConfig) → All P ds → domain_of ds dom ≡ Some d → (d.id ≡ dom) × P d
 domain-found P [] dom d a e = absurd (none-some d e)
 domain-found P (x ∷ xs) dom d a e = cond_both (x.id.0 == dom.0) (Some x) (domain_of xs dom) (λ o. o ≡ Some d → (d.id ≡ dom) × P d)
@@ -29,7 +29,7 @@ domain-found P (x ∷ xs) dom d a e = cond_both (x.id.0 == dom.0) (Some x) (doma
     (ap (λ (z : DomainConfig). z.id) (sym same) ∙ ap (λ (n : ℕ). record { 0 = n }) (eqb-true x.id.0 dom.0 t), subst P same (a 0 x (omega arith))))
     (λ t k. domain-found P xs dom d (All-tail P x xs a) k) e
 
--- what stands at a place of a list of one element
+-- the element at an index of a list of one
 pub get-replicate : {A : Type 0} (n r : ℕ) (a : A) → slice_get (replicate n a) r ≡ cond (ltb r n) (Some a) None
 get-replicate {A} n r a = cond_both (ltb r n) (Some a) None (λ o. slice_get (replicate n a) r ≡ o)
     (λ e. let within : r < n = ltb-true r n e in
@@ -41,7 +41,7 @@ get-replicate {A} n r a = cond_both (ltb r n) (Some a) None (λ o. slice_get (re
 row-of : {A : Type 0} (of : Option OwnerEntry → A) (row : OwnerEntry) (a : A) (r : ℕ) → of (Some row) ≡ a → of None ≡ a → of (slice_get (replicate ENTRIES row) r) ≡ a
 row-of of row a r some none = ap of (get-replicate ENTRIES r row) ∙ cond_both (ltb r ENTRIES) (Some row) None (λ o. of o ≡ a) (λ e. some) (λ e. none)
 
--- each domain at rest
+-- each domain with no open call
 
 abbrev Fine : DomainConfig → Type 0
 Fine d = (d.version ≤ LAST_VERSION) × (d.table_frames ≤ MAX_TABLE_FRAMES)
@@ -84,7 +84,7 @@ rest-word : (s : Setting) (t r : ℕ) → s.first_generation ≤ LAST_GENERATION
 unfolding entry_at raises_at live
 rest-word s t r le = record { in_range = record { reads = omega arith; writes = omega arith; generation = omega arith }; domain = omega arith }
 
--- a core at rest stands for the empty history
+-- a new core represents the empty history
 pub starts : (config : Config) (may : TypeId → TypeId → Perms → Bool) → IsWithinLimits config
     → DomainsStand (setting_of config may) [] (map (first_state config.first_gen) config.domains.items)
 unfolding entry_at live table_at

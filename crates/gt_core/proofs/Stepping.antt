@@ -1,4 +1,4 @@
--- What the core does for a step of an open call: it is right, and the core stands for it.
+-- What the core does for a step of an open call: it is right, and the core represents it.
 use Rattle.gt_core.proofs.Words.{slice_get, ◌≡◌, ◌≢◌, inl, inr, ℕ, refl, Bool, List, [], ◌∷◌, ◌++◌, length, Option}
 use Rattle.gt_core.proofs.Words.{Some, None, cond, sym, ap, ◌∙◌, subst, reverse, eqb-true, eq-eqb, length-reverse}
 use Rattle.gt_core.proofs.Words.{reverse_onto, same_Some, ◌==◌, DomId, GrantRef, Entry, Invalid, Handle, HeldPin, OpenRequest}
@@ -38,11 +38,11 @@ use Rattle.gt_core.proofs.{Steps.Exchange.exchange-stands, Beginning.agrees-foun
 use Rattle.gt_core.proofs.{Rows.state_of-set}
 use Rattle.gt_core.specs.declared.trace.Bytes.{Bytes}
 
--- the states where just the actor's call, or its handles or bytes, are others
+-- the states in which only the actor's call, or its handles or bytes, differ
 abbrev Replaced : List State → List State → State → State → Type 0
 Replaced xs ys x new = (q : ℕ) → state_of ys q ≡ cond (x.id.0 == q) (Some new) (state_of xs q)
 
--- each step but the pin of a map
+-- each step except the pin of a map
 module _ (s : Setting) (h : History) (xs ys : List State) (x : State) (c : Underway) (phase : Phase) (answer : Option Answer) (o' : Option OpenCall) (here : state_of xs x.id.0 ≡ Some x) (a : StateStands s h x) (r : Replaced xs ys x (record x { underway = o' }))
     (m : one_if_mapped answer ≡ 0) (leg : (n : ℕ) → holder_after answer n ≡ ByLeg n) where
   abbrev CallThen : Step → Observation → Type 0
@@ -91,7 +91,7 @@ module _ (s : Setting) (h : History) (xs ys : List State) (x : State) (c : Under
 call-over : (s : Setting) (h : History) (d : DomId) (step : Step) (seen : Observation) (answer : Answer) → legs_at (stepped d step seen (Some answer) ∷ h) d.0 ≡ [] → CallAgrees s (stepped d step seen (Some answer) ∷ h) d None (open_call (stepped d step seen (Some answer) ∷ h) d.0)
 call-over s h d step seen answer legs = subst (λ (u : Option Underway). CallAgrees s (stepped d step seen (Some answer) ∷ h) d None u) (sym (open_call-own (stepped d step seen (Some answer)) h)) legs
 
--- what a tick is to do
+-- what a tick has to do
 abbrev pub Ticked : Setting → History → DomId → Step → Observation → Option Answer → List State → Type 0
 Ticked s h d step seen answer zs = IsRight s h (stepped d step seen answer) × DomainsStand s (stepped d step seen answer ∷ h) zs
 
@@ -112,7 +112,7 @@ after-granted k d g v Invalid e = cc
 after-granted k d g v entry e = cc
 
 module _ {s : Setting} {h : History} {xs : List State} {x : State} {o : OpenCall} {c : Underway} {new : Call} where
-  -- a call that goes on
+  -- a call that continues
   goes-core : (ys : List State) {z : Step} (t : Ticks s h xs x o c new (Makes z)) → Replaced xs ys x (record x { underway = Some (record { call = new; step = z }) }) → Ticked s h x.id o.step (seen_in t) None (applied x.id o.step (seen_in t) ys)
   goes-core ys {z} t r = let i = stepped x.id o.step (seen_in t) None in
       let now : open_call (i ∷ h) x.id.0 ≡ Some (record { request = c.request; given = c.given; steps = c.steps ++ (o.step, seen_in t) ∷ [] }) = open_call-own i h ∙ ap (underway_after i) t.call in (
@@ -126,7 +126,7 @@ module _ {s : Setting} {h : History} {xs : List State} {x : State} {o : OpenCall
   store-goes {v} t store = let k = known_at s h x.id in by-storing s h x.id c.request (path k x.id c.request) (values c) (λ (p : Phase) (z : Step). Done v ≡ action_at x.id (next_of s h x.id p z) → ⊥)
       (λ g entry. after-granted k x.id g v entry) (λ g entry e. cc) t.stands.phase o.step t.stands.at.has_shown t.stands.acts store t.acts
 
-  -- a call that is over
+  -- a call that ends
   ends-core : (ys : List State) {v : CallResult} (answer : Answer) (t : Ticks s h xs x o c new (Done v)) → Replaced xs ys x (record x { underway = None }) → IsPlainAnswer answer → ((m : HeldPin) → v ≡ KeptPin m → ⊥)
       → refusal_of answer ≡ refusal_in (Some v) → GivesValue s h x.id c.request (Some o.step) answer → Ticked s h x.id o.step (seen_in t) (Some answer) (applied x.id o.step (seen_in t) ys)
   ends-core ys {v} answer t r is_plain unmapped same value = let q = plain answer is_plain in let e = ends-so x.id (phase_then t) v (sym t.acts) in
@@ -165,10 +165,10 @@ module _ {s : Setting} {h : History} {xs : List State} {x : State} {o : OpenCall
             (subst (λ (z : Step). DomainsStand s (stepped d z Taken answer ∷ h) (applied d z Taken ys)) (sym m.is) stands),
       )
 
--- a call that is answered Ok with no value but bytes
+-- a call that is answered Ok with bytes or no value
 
 module _ {s : Setting} {h : History} {xs : List State} {fs : FrameSet} {x : State} {o : OpenCall} {c : Underway} {new : Call} (t : Ticks s h xs x o c new (Done Granted)) (fr : FramesStand s h fs) where
-  -- what a read gave
+  -- what a read returned
   read-gives : (dom : DomId) (frame off len : ℕ) (b : Bytes) → o.step ≡ ReadBytes dom frame off len → b.bytes.items ≡ bytes_at (frame_at fs (record { owner = dom; number = frame })) off len
       → GivesValue s h x.id c.request (Some (ReadBytes dom frame off len)) (BytesAnswer b)
   read-gives dom frame off len b is gives =
@@ -195,7 +195,7 @@ module _ {s : Setting} {h : History} {xs : List State} {fs : FrameSet} {x : Stat
         (subst (λ (z : Step). GivesValue s h x.id c.request (Some z) (BytesAnswer b)) (sym is) (read-gives dom frame off len b is gives))
     by step is a = over step is a (λ t frame off len e. cc)
 
--- the ways that a tick goes
+-- the cases of a tick
 
 -- a domain's open call
 module _ (s : Setting) (h : History) (xs : List State) (dom : DomId) (at : ℕ) (x : State) (o : OpenCall) (place : position (has_id dom.0) xs ≡ Some at) (here : x ≡ get_or xs at x) (under : x.underway ≡ Some o) where
@@ -206,7 +206,7 @@ module _ (s : Setting) (h : History) (xs : List State) (dom : DomId) (at : ℕ) 
     by (Some z) None e a = absurd a
     by (Some z) (Some c) e a = (c, refl, subst (λ (y : OpenCall). OpenAgrees s h x.id y c) (same_Some _ _ e) a)
 
-  -- memory is wanted for it
+  -- it may fail with Memory
   pub tick-wants : DomainsStand s h xs → IsWriting o.step → WantsMemoryNow s h dom
   tick-wants st writing = let a = open-here st in subst (WantsMemoryNow s h) a.1 (a.3.0, a.3.1, subst IsWritingNext (sym a.3.2.follows) writing)
 
@@ -214,7 +214,7 @@ module _ (s : Setting) (h : History) (xs : List State) (dom : DomId) (at : ℕ) 
   pub tick-admitted : (fs : FrameSet) → CoreStands s h (core_of xs fs) → IsAdmitted fs x o.call o.step
   tick-admitted fs st = let a = open-here st.domains in open-admitted s h xs fs x o a.3.0 st.domains st.frames a.2 a.3.1 a.3.2
 
-  -- and what it reads is there
+  -- what it reads exists
   pub tick-readable : (fs : FrameSet) → CoreStands s h (core_of xs fs) → IsReadable fs o.call o.step
   tick-readable fs st = let a = open-here st.domains in open-readable s h xs fs x o a.3.0 st.domains st.frames a.3.2
 
@@ -223,7 +223,7 @@ module _ (s : Setting) (h : History) (xs : List State) (dom : DomId) (at : ℕ) 
   tick-frames fs gs seen answer st wrote = let a = open-here st.domains in let u = a.3 in
       subst (λ (d : DomId). FramesStand s (stepped d o.step seen answer ∷ h) gs) a.1 (frames-stepped s h fs gs x o.call o.step seen answer u.0 u.1 (a.2.given u.0 u.1).0 st.frames wrote)
 
--- what a domain's tick has to begin with
+-- what a domain's tick starts from
 pub record Begins (s : Setting) (xs : List State) (dom : DomId) (at : ℕ) (x : State) (o : OpenCall) (seen : Observation) (new : Call) (action : Action) : Type 0 where
   pub place : position (has_id dom.0) xs ≡ Some at
   pub here : x ≡ get_or xs at x
@@ -233,7 +233,7 @@ pub record Begins (s : Setting) (xs : List State) (dom : DomId) (at : ℕ) (x : 
   pub asks : new.request ≡ o.call.request
   pub goes : Goes (knowledge_of s.domains s.first_generation s.may x.own x.header x.mappings) o.call seen new action
 
--- the call went on from the states that its step left
+-- the call continued from the states that its step left
 pub begins-after : (s : Setting) (h : History) (xs ws : List State) (fs : FrameSet) (dom : DomId) (at : ℕ) (x : State) (o : OpenCall) (seen : Observation) (new : Call) (action : Action) → CoreStands s h (core_of xs fs) → position (has_id dom.0) xs ≡ Some at → x ≡ get_or xs at x → x.underway ≡ Some o
     → seen ≡ sees xs dom o.step → ws ≡ applied dom o.step seen xs → new.caller ≡ o.call.caller → new.request ≡ o.call.request
     → ((d : State) → slice_get ws at ≡ Some d → (k : CallerKnowledge) → IsLeftAlike k (knowledge_of s.domains s.first_generation s.may d.own d.header d.mappings) o.call seen → Goes k o.call seen new action)
@@ -249,7 +249,7 @@ begins-after s h xs ws fs dom at x o seen new action st place here under saw lef
       goes = goes y.0 (ap (λ (l : List State). slice_get l at) left ∙ y.1) _ (left-alike s h xs at dom x y.0 o a.3.0 seen a.3.2 found y.1);
     }
 
--- what there is of it
+-- the parts of it
 pub record Begun (s : Setting) (h : History) (xs : List State) (dom : DomId) (at : ℕ) (x : State) (o : OpenCall) (seen : Observation) (new : Call) (action : Action) : Type 0 where
   pub named : domain_of s.domains dom ≢ None
   pub is : x.id ≡ dom
@@ -271,7 +271,7 @@ begun s h xs dom at x o seen new action legal st b = let a = open-here s h xs do
       replaced = λ y e q. state_of-set xs at x y q places.0 (sym b.here) e (λ k below. ap (λ (z : DomId). has_id z.0 (get_or xs k x)) a.1 ∙ places.2 k below);
     }
 
--- what the domain's call comes to by its action
+-- how the domain's call continues by its action
 action-core : (s : Setting) (h : History) (fs : FrameSet) (xs zs : List State) (at : ℕ) (x : State) (o : OpenCall) (c : Underway) (new : Call) (action : Action) (answer : Option Answer) → Ticks s h xs x o c new action → FramesStand s h fs
     → ((y : State) → y.id.0 ≡ x.id.0 → Replaced xs (set xs at y) x y) → Settled fs xs at x o.step new action answer zs
     → Ticked s h x.id o.step (seen_by s h x.id o.step) answer (applied x.id o.step (seen_by s h x.id o.step) zs)
@@ -289,7 +289,7 @@ action-core s h fs xs zs at x o c new action answer t fr r settled = by action t
   by (Done (Given value)) t (a, is, (gives, left)) = become (Some (answer_with value)) _ (is ∙ ap (λ (z : Answer). Some z) gives) left (given-core _ t (r (with_underway None x) refl))
   by (Done (Refused denial)) t (a, is, (gives, left)) = become (Some (Denied denial)) _ (is ∙ ap (λ (z : Answer). Some z) gives) left (ends-core _ (Denied denial) t (r (with_underway None x) refl) tt (λ m e. cc) refl tt)
 
--- a map that is over had asked for its room when it began
+-- a map that ends had made its room when it began
 pub room-asked : (s : Setting) (h : History) (xs : List State) (dom : DomId) (at : ℕ) (x : State) (o : OpenCall) (seen : Observation) (new : Call) (action : Action) → IsLegalHistory s h → DomainsStand s h xs → Begins s xs dom at x o seen new action → IsRoomFor o.call.request action
 room-asked s h xs dom at x o seen new (Done (KeptPin held)) legal st b =
     let n = begun s h xs dom at x o seen new (Done (KeptPin held)) legal st b in let t = n.ticks in
@@ -297,12 +297,12 @@ room-asked s h xs dom at x o seen new (Done (KeptPin held)) legal st b =
     subst (λ (q : OpenRequest). IsMapping (Some q)) (sym (t.stands.asks ∙ m.of_map)) tt
 room-asked s h xs dom at x o seen new action legal st b = tt
 
--- a step that reads changes no frame, so that its range is there after it too
+-- a step that reads changes no frame, so its range exists after it too
 pub readable-after : (fs gs : FrameSet) (x : State) (call : Call) (step : Step) → AccessedBy x call step fs gs → IsReadable fs call step → IsReadable gs call step
 readable-after fs gs x call (ReadBytes dom frame off len) wrote a = subst (λ (z : FrameSet). IsReadable z call (ReadBytes dom frame off len)) (sym wrote) a
 readable-after fs gs x call step wrote a = tt
 
--- and it gives what they held before it
+-- it returns what they held before it
 settled-before : (fs gs : FrameSet) (xs new : List State) (at : ℕ) (x d : State) (old call : Call) (step : Step) (action : Action) (answer : Option Answer) → AccessedBy x old step fs gs
     → Settled gs xs at d step call action answer new → Settled fs xs at d step call action answer new
 settled-before fs gs xs new at x d old call (ReadBytes dom frame off len) (Done Granted) answer wrote (a, is, closed) = (a, is, subst (λ (z : FrameSet). Closed z xs at d (ReadBytes dom frame off len) a new) wrote closed)
@@ -313,8 +313,8 @@ ends-by-pin : (s : Setting) (h : History) (xs : List State) (x : State) (o : Ope
 ends-by-pin s h xs x o c new (Done (KeptPin held)) t = (held, (call-ends s h xs x.id c.request (values c) (reverse c.steps) t.stands.phase o.step t.i (KeptPin held) (sym t.acts)).is)
 ends-by-pin s h xs x o c new action t = tt
 
--- what a tick does whose step is told so; the frames and the states then are those that its call's settling left, which
--- began with those that its step left
+-- What a tick does that returns this step; the frames and states are then those that the call's settling left, which
+-- started from those that its step left.
 pub tick-does : (s : Setting) (fs gs ks : FrameSet) (xs ys : List State) (dom : DomId) (at : ℕ) (x : State) (o : OpenCall) (seen : Observation) (new : Call) (action : Action) (answer : Option Answer) (told_part : TickTold) → told_part ≡ ticked_with o.step seen answer
     → Begins s xs dom at x o seen new action → AccessedBy x o.call o.step fs gs → ((d : State) → slice_get (applied dom o.step seen xs) at ≡ Some d → Settled gs (applied dom o.step seen xs) at d o.step new action answer ys) → ks ≡ gs
     → DoesEvent s (core_of xs fs) (Tick dom) (ticked_element dom told_part) (core_of ys ks)

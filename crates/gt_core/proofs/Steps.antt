@@ -1,6 +1,6 @@
--- The steps of calls, one file for each kind: what it changes and what it keeps of what a core stands for, what it
--- rests on, which rule it meets, and where it leads its call. See has what each of them sees, and Observers what each
--- item leaves of what is observed.
+-- The steps of calls, one file for each kind: what it changes and keeps of what a core represents, what it depends
+-- on, which rule it meets, and how its call continues. See has what each of them sees, and Observers what each item
+-- leaves of what is observed.
 pub mod Access
 pub mod Exchange
 pub mod Look

@@ -124,7 +124,7 @@ any-same : (P : Pin → Type 0) (g h : History) (d : ℕ) → own_pins g d ≡ o
 any-same P g h d same own a = any-live P d (live h) (subst (λ xs. Any (λ x. P (pin_of d x)) xs) same
     (any-own P d own (live g) a))
 
--- what a pin that is taken is
+-- the pin that was taken
 
 pinned-same : (s : Setting) (g h : History) (d : DomId) (x : ItemEvent) (a : Option Answer)
     → own_pins g d.0 ≡ own_pins h d.0 → SameSight s g h d x → pinned_by d x a g (live g) ≡ pinned_by d x a h (live h)
@@ -141,7 +141,7 @@ pinned-same s g h d (Stepped (PinStep p) Taken) a own sight =
     } ∷ []) (pins-same by_leg g h d.0 own)
 pinned-same s g h d x a own sight = refl
 
--- the pins of a domain without the first one that is held so
+-- the pins of a domain without the first one with this holder
 unfoldable own_without : PinHolder → List (PinHolder × HeldPin) → List (PinHolder × HeldPin)
 own_without holder [] = []
 own_without holder (x ∷ xs) = cond (is_holder x.0 holder) xs (x ∷ own_without holder xs)
@@ -173,9 +173,9 @@ own-grows g h i d own new =
     ∙ sym (gather-append with_holder d (unpinned_by i.actor i.happened (live h))
     (pinned_by i.actor i.happened i.answer h (live h)))
 
--- how many pins there are on an entry
+-- the number of pins on an entry
 
--- how many of them go with the pin that is held so
+-- how many of them go with the pin of this holder
 unfoldable going : (HeldPin → Bool) → PinHolder → List (PinHolder × HeldPin) → ℕ
 going f holder [] = 0
 going f holder (x ∷ xs) = cond (is_holder x.0 holder) (cond (f x.1) 1 0) (going f holder xs)
@@ -201,7 +201,7 @@ count-append : (f : HeldPin → Bool) (ps qs : List Pin) → count_by (λ (q : P
 count-append f [] qs = omega arith
 count-append f (p ∷ ps) qs = grind (arith, count-append f ps qs, count-cons f p ps, count-cons f p (ps ++ qs))
 
--- what an item takes of the pins, if these are its domain's
+-- what an item removes from the pins, if these are its domain's
 abbrev goes_with : (HeldPin → Bool) → ItemEvent → List (PinHolder × HeldPin) → ℕ
 goes_with f (Stepped (Unpin p holder) seen) own = going f holder own
 goes_with f x own = 0
@@ -555,7 +555,7 @@ right-for : (s : Setting) (g h : History) (i : Item) → SameOwn s g h i.actor �
     → IsRight s g i → IsRight s h i
 right-for s g h i own sight right = right-of s g h i.actor i.happened i.answer own sight right
 
--- all that a step looks at, where all is the same
+-- all that a step looks at, if everything is the same
 look-of : (s : Setting) (g h : History) (d : DomId) (z : Step) → SameSeen s g h → SameLook s g h d z
 look-of s g h d (LookHeader dom) same = (same.own dom).table
 look-of s g h d (LookControl dom gref) same = same.entries dom.0 gref.0
@@ -573,7 +573,7 @@ sight-of s g h d (Stepped z seen) same = look-of s g h d z same
 pub right-same : (s : Setting) (g h : History) (i : Item) → SameSeen s g h → IsRight s g i → IsRight s h i
 right-same s g h i same right = right-for s g h i (same.own i.actor) (sight-of s g h i.actor i.happened same) right
 
--- one item more
+-- one more item
 
 entry-grows : (g h : History) (i : Item) (t r : ℕ) → entry_at g t r ≡ entry_at h t r
     → entry_at (i ∷ g) t r ≡ entry_at (i ∷ h) t r
@@ -891,7 +891,7 @@ call-may s g h (Begin d q) (Did i) call right may = (may.0, may.1, right i may.1
 call-may s g h (Tick d) (Did i) call right may = (may.0, may.1, right i may.1 may.2)
 call-may s g h e x call right may = absurd may
 
--- an event may do the same after histories that look the same, and leaves them so
+-- an event may do the same after histories that look the same, and they look the same after it
 pub may-same : (s : Setting) (g h : History) (e : Event) (x : Element) → SameSeen s g h → MayDo s g e x → MayDo s h e x
 may-same s g h e x same may = call-may s g h e x (same.own (actor_of e)).call
     (λ i is right. right-same s g h i same right) may
@@ -902,7 +902,7 @@ grown-same s g h Busy same = same
 grown-same s g h Idle same = same
 grown-same s g h NoDomain same = same
 
--- two events that come in either order
+-- two events that may come in either order
 abbrev pub ChangePlaces : Setting → History → Event → Element → Event → Element → Type 0
 ChangePlaces s h e x f y = MayDo s h f y × MayDo s (grown h y) e x × SameSeen s (grown (grown h x) y)
     (grown (grown h y) x)
@@ -928,7 +928,7 @@ item-may : (s : Setting) (h : History) (e : Event) (i : Item)
 item-may s h (Begin d q) i may = may
 item-may s h (Tick d) i may = may
 
--- an event of another domain changes nothing of what an event without an item rests on
+-- an event of another domain changes nothing that an event without an item depends on
 idle-may : (s : Setting) (h : History) (i : Item) (f : Event) (y : Element) → (i.actor.0 == (actor_of f).0) ≡ false
     → ((j : Item) → y ≢ Did j) → MayDo s (i ∷ h) f y → MayDo s h f y
 idle-may s h i f (Did j) apart none may = absurd (none j refl)

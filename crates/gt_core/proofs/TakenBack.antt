@@ -1,4 +1,4 @@
--- What an owner has taken back is reached by no earlier pin.
+-- No earlier pin reaches what an owner has taken back.
 use Rattle.gt_core.proofs.Words.{Event, Element, LegalAfter, grown, history_after, slice_index_or, ◌≡◌, ◌≢◌, ◌+◌, ◌⊎◌}
 use Rattle.gt_core.proofs.Words.{inl, inr, ℕ, refl, Bool, true, false, List, [], ◌∷◌, ◌++◌, Option, Some, None, cond}
 use Rattle.gt_core.proofs.Words.{sym, ap, ◌∙◌, subst, arith, All, Any, count_by, sum_by-cons, eq-eqb}
@@ -49,17 +49,17 @@ trace-legal s events trace legal = after-legal s [] events trace tt legal
 
 -- pins
 
--- what held of all pins holds of those that are left
+-- what held for all pins holds for those that are left
 unpinned-all : (P : Pin → Type 0) (d : DomId) (x : ItemEvent) (ps : List Pin) → All P ps → All P (unpinned_by d x ps)
 unpinned-all P d (Stepped (Unpin p holder) seen) ps a = all-without P d.0 holder ps a
 unpinned-all P d x ps a = a
 
--- what is pinned is just one pin
+-- an event takes at most one pin
 pinned-one : (d : DomId) (x : ItemEvent) (a : Option Answer) (h : History) (ps : List Pin) → All (λ p. pinned_by d x a h ps ≡ p ∷ []) (pinned_by d x a h ps)
 pinned-one d (Stepped (PinStep p) Taken) a h ps = let qs = pinned_by d (Stepped (PinStep p) Taken) a h ps in All-cons (λ q. qs ≡ q ∷ []) _ [] refl (All-nil (λ q. qs ≡ q ∷ []))
 pinned-one d x a h ps = All-nil (λ q. [] ≡ q ∷ [])
 
--- the pins after one item more
+-- the pins after one more item
 live-all : (P : Pin → Type 0) (i : Item) (h : History) → All P (live h) → All P (pinned_by i.actor i.happened i.answer h (live h)) → All P (live (i ∷ h))
 unfolding live
 live-all P i h a b = All-append P (unpinned_by i.actor i.happened (live h)) (pinned_by i.actor i.happened i.answer h (live h)) (unpinned-all P i.actor i.happened (live h) a) b
@@ -74,7 +74,7 @@ on-counted t r p on = let a = eq-eqb p.held.dom.0 t on.0 in let b = eq-eqb p.hel
 one-counted : (f : Pin → Bool) (p : Pin) (n : ℕ) → f p ≡ true → cond {A = ℕ} (f p) 1 0 + n ≡ 0 → ⊥
 one-counted f p n y e = let d : 1 + n ≡ 0 = subst (λ (b : Bool). cond {A = ℕ} b 1 0 + n ≡ 0) y e in omega arith
 
--- where none is counted, none is there
+-- if none is counted, there is none
 none-counted : (f : Pin → Bool) (ps : List Pin) → count_by f ps ≡ 0 → All (λ p. f p ≡ true → ⊥) ps
 none-counted f [] e = All-nil (λ p. f p ≡ true → ⊥)
 none-counted f (p ∷ ps) e = let c : count_by f (p ∷ ps) ≡ cond {A = ℕ} (f p) 1 0 + count_by f ps = sum_by-cons (λ (q : Pin). cond (f q) 1 0) p ps in
@@ -135,7 +135,7 @@ ro-frame ro e f = grind arith
 ro-valid : (ro : Bool) (e : Entry) → with_ro ro e ≢ Invalid → e ≢ Invalid
 ro-valid ro e valid = grind arith
 
--- a pin on an entry that is not invalid is of the same frame
+-- a pin on an entry that is not invalid is on the same frame
 abbrev IsOfEntry : Pin → Entry → Type 0
 IsOfEntry p e = e ≢ Invalid → (f : ℕ) → is_of_frame p.held.entry f ≡ is_of_frame e f
 
@@ -161,7 +161,7 @@ kept-fits s h d (Stepped (Exchange gref looked change) Taken) a right was = λ k
 kept-fits s h d x a right was = let i : Item = record { actor = d; happened = x; answer = a } in
     λ k b lt. let p = slice_index_or (live h) k b in subst (IsOfEntry p) (sym (kept-entry i h p.held.dom.0 p.held.gref.0 (λ r. refl))) (was k b lt)
 
--- a new pin is of the entry as it is
+-- a new pin is on the present entry
 new-fits : (d : DomId) (x : ItemEvent) (a : Option Answer) (h : History) → let i : Item = record { actor = d; happened = x; answer = a } in All (Fits (i ∷ h)) (pinned_by d x a h (live h))
 new-fits d (Stepped (PinStep p) Taken) a h = let i : Item = record { actor = d; happened = Stepped (PinStep p) Taken; answer = a } in
     All-cons (Fits (i ∷ h)) _ [] (λ valid f. ap (λ (e : Entry). is_of_frame e f) (sym (kept-entry i h p.dom.0 p.gref.0 (λ r. refl)))) (All-nil (Fits (i ∷ h)))
@@ -173,7 +173,7 @@ fits s [] legal = All-nil (Fits [])
 fits s (i ∷ h) legal =
     live-all (Fits (i ∷ h)) i h (kept-fits s h i.actor i.happened i.answer (last-right s i h legal) (fits s h (legal-before s i h legal))) (new-fits i.actor i.happened i.answer h)
 
--- the frame f of domain t is out of reach: no entry is of it, and no live pin
+-- the frame f of domain t is out of reach: no entry grants it, and no live pin reaches it
 abbrev IsApart : ℕ → ℕ → Pin → Type 0
 IsApart t f p = p.held.dom.0 ≡ t → is_of_frame p.held.entry f ≡ false
 
@@ -204,7 +204,7 @@ change-out ToInvalid e f silent was = refl
 change-out ToWithdrawn e f silent was = refl
 change-out change e f silent was = ro-frame _ e f ∙ was
 
--- no entry is of the frame after one item more
+-- no entry grants the frame after one more item
 entries-out : (d : DomId) (x : ItemEvent) (a : Option Answer) (h : History) (t f r : ℕ) → let i : Item = record { actor = d; happened = x; answer = a } in
     (Grants t f i → ⊥) → ((r : ℕ) → is_of_frame (entry_at h t r) f ≡ false) → is_of_frame (entry_at (i ∷ h) t r) f ≡ false
 unfolding entry_at

@@ -1,4 +1,4 @@
--- A step of an open call is right, and the core stands for it.
+-- A step of an open call is right, and the core represents it.
 use Rattle.gt_core.proofs.Words.{◌≡◌, ◌≢◌, ◌<◌, ◌+◌, ◌⊎◌, inl, inr, ℕ, suc, refl, true, List, [], ◌∷◌, ◌++◌, length}
 use Rattle.gt_core.proofs.Words.{Option, Some, None, sym, ap, ◌∙◌, subst, reverse, arith, eqb-true, map-append}
 use Rattle.gt_core.proofs.Words.{length-append, length-reverse, reverse_onto, none-some, same_Some, ◌==◌, All, DomId}
@@ -68,7 +68,7 @@ ticks s h xs x o c seen new action legal st here agrees call a saw caller asks g
     let l = g2.later (values c) a.at fits in
     (same, record { here = here; agrees = agrees; call = call; stands = a; i = i; new_is = moved; on = l.0; fewer = l.2; acts = g.acts; holds = l.1 (Makes step) a.follows })
 
--- the call with one step more
+-- the call with one more step
 
 pub given-goes-on : (d : DomId) (step : Step) (seen : Observation) (answer : Option Answer) (h : History) (given : List ℕ) → GivenAgrees h d.0 given → GivenAgrees (stepped d step seen answer ∷ h) d.0 given
 given-goes-on d step seen answer h given a = λ c call. by answer (open_call h d.0) refl c (sym (open_call-own (stepped d step seen answer) h) ∙ call)
@@ -89,11 +89,11 @@ length-numbered : (n : ℕ) (ps : List HeldPin) → length (numbered n ps) ≡ l
 length-numbered n [] = refl
 length-numbered n (p ∷ ps) = let e = length-numbered (n + 1) ps in omega arith
 
--- the pin that is taken is of the entry as it is
+-- the pin that is taken is on the present entry
 abbrev PinFact : History → Step → Observation → Type 0
 PinFact h step seen = (p : HeldPin) → step ≡ PinStep p → seen ≡ Taken → record p { entry = entry_at h p.dom.0 p.gref.0 } ≡ p
 
--- the pin that is given back is the last one held
+-- the pin that is released is the last one held
 abbrev pub LastFact : List HeldPin → Step → Type 0
 LastFact old step = (p : HeldPin) (place : ℕ) → step ≡ Unpin p (ByLeg place) → (others : List HeldPin) × (old ≡ p ∷ others) × (place ≡ length others)
 
@@ -120,7 +120,7 @@ legs-by h d answer old new action step seen m leg unmapped held holds pinned las
   by (Exchange gref looked change) Taken e f g = ap (λ (ps : List Pin). gather by_leg d.0 ps) (exchanged-live h d gref looked change answer) ∙ rw e held
   by z v e f g = kept-legs (stepped d z v answer) h d.0 (record { changes = λ r. refl; pins = λ before ps. refl; unpins = λ pins. refl; maps = m }) ∙ rw e held
 
--- what the domain knows stays, where its call goes on
+-- what the domain knows stays if its call continues
 known-by : (s : Setting) (h : History) (d : DomId) (step : Step) (seen : Observation) → (IsSingle step → ⊥) → ((gref : GrantRef) (looked : ℕ) (change : EntryChange) → step ≡ Exchange gref looked change → seen ≡ Taken → ⊥)
     → known_at s (stepped d step seen None ∷ h) d ≡ known_at s h d
 known-by s h d (PinStep p) Taken single exchange = let i = pins d p None in
@@ -150,7 +150,7 @@ module _ {s : Setting} {h : History} {xs : List State} {x : State} {o : OpenCall
   each : OfStep s h xs x.id c.request (reverse c.steps) t.stands.phase o.step
   each = each-step s h xs x.id c.request (values c) (reverse c.steps) t.stands.phase o.step t.i
 
-  -- the first rule that stood at the places of the call, up to this step
+  -- the first rule that applied in the call, up to this step
   pub stood-after : (answer : Option Answer) → stood s (history_then answer) x.id.0 ≡ phase_refusal phase_then
   stood-after answer = let i = stepped x.id o.step seen_in answer in
       stood-own s i h ∙ ap (λ (z : Option Denial). option_or z (first_of_item s h i)) t.stands.fair
@@ -181,7 +181,7 @@ module _ {s : Setting} {h : History} {xs : List State} {x : State} {o : OpenCall
     by step is = place-stays s (stepped x.id step (seen_by s h x.id step) None) h x.id c.request ((step, seen_by s h x.id step) ∷ reverse c.steps) (next_of s h x.id t.stands.phase step)
         (λ r which. unstored (stepped x.id step (seen_by s h x.id step) None) h x.id.0 r which refl) ((subst (OfStep s h xs x.id c.request (reverse c.steps) t.stands.phase) is each).3 (λ n. n))
 
--- a call that goes on
+-- a call that continues
 module _ {s : Setting} {h : History} {xs : List State} {x : State} {o : OpenCall} {c : Underway} {new : Call} {z : Step} (t : Ticks s h xs x o c new (Makes z)) where
   known-after : known_at s (history_then t None) x.id ≡ known_at s h x.id
   known-after = known-by s h x.id o.step (seen_in t)
@@ -190,7 +190,7 @@ module _ {s : Setting} {h : History} {xs : List State} {x : State} {o : OpenCall
       let e = taken-ends (known_at s h x.id) (path (known_at s h x.id) x.id c.request) x.id c.request (values c) t.stands.phase gref looked change t.stands.at.has_shown (t.stands.acts ∙ ap Makes is) in
       goes-not x.id z _ no_pins Granted refl t.acts (ap (phase_after (known_at s h x.id) x.id t.stands.phase) saw ∙ e))
 
-  -- it is where this step has led it
+  -- it has the phase that this step led to
   pub open-after : OpenAgrees s (history_then t None) x.id (record { call = new; step = z }) (record { request = c.request; given = c.given; steps = c.steps ++ (o.step, seen_in t) ∷ [] })
   open-after = let u : Underway = record { request = c.request; given = c.given; steps = c.steps ++ (o.step, seen_in t) ∷ [] } in
       let shown : values c ++ seen_in t ∷ [] ≡ values u = sym (map-append (λ (p : Step × Observation). p.1) c.steps ((o.step, seen_in t) ∷ [])) in
@@ -237,7 +237,7 @@ module _ (s : Setting) (h : History) (xs : List State) (d : DomId) (r : OpenRequ
       (λ is. (can-pin s h xs d r shown so_far phase p i (eqb-true (word_at s h p.dom.0 p.gref.0) p.word is)).sound) (λ is. tt)
   step-sound step i = tt
 
--- a call that goes on gives pins back, or has no rule against it
+-- a call that continues releases pins, or no rule has applied to it
 goes-fair : (d : DomId) (p : Phase) (z : Step) → action_at d p ≡ Makes z → (phase_refusal p ≡ None) ⊎ (gives_back (Some (Makes z)) ≡ true)
 goes-fair d (Ending pins verdict) z e = inr (by-giving (λ (y : Step). gives_back (Some (Makes y)) ≡ true) (λ p n. refl) (last_first pins) verdict z e)
 goes-fair d p z e = inl refl

@@ -1,4 +1,4 @@
--- What an answer of a call is, by its last step.
+-- The answer of a call, by its last step.
 use Rattle.gt_core.proofs.Words.{◌≡◌, ◌⊎◌, inl, inr, ℕ, refl, Bool, true, false, List, [], ◌∷◌, length, Option, Some}
 use Rattle.gt_core.proofs.Words.{cond, sym, ap, ◌∙◌, subst, eqb-true, ◌==◌, nat_lt, DomId, GrantRef, Denial, N18, N19}
 use Rattle.gt_core.proofs.Words.{Entry, Header, EntryChange, control_of, header_of, header_word, HeldPin, OpenRequest, Map, ByLeg}
@@ -19,11 +19,11 @@ use Rattle.gt_core.proofs.{Legs.IsLegOf, Legs.Words, Aims.pair_of, Aims.leg-here
 use Rattle.gt_core.proofs.{Outcomes.walk-done, Steps.See.table-fits}
 use Rattle.gt_calls.specs.{declared.action.CallResult.TheVariants.Mapped, Path.place_of}
 
--- the next phase of a call that stands at a question
+-- the next phase of a call that queries a header
 abbrev Next : Setting → History → DomId → Phase → Step → CallResult → Type 0
 Next s h d p step v = action_at d (next_of s h d p step) ≡ Done v
 
--- a map is over with the pin that it took
+-- a map ends with the pin that it took
 pub record MapEnds (s : Setting) (h : History) (d : DomId) (r : OpenRequest) (phase : Phase) (step : Step) (m : HeldPin) : Type 0 where
   pub is : step ≡ PinStep m
   pub taken : word_at s h m.dom.0 m.gref.0 ≡ m.word
@@ -33,7 +33,7 @@ pub record MapEnds (s : Setting) (h : History) (d : DomId) (r : OpenRequest) (ph
   pub of_map : r ≡ Map dom gref flags
   pub none : held_in phase ≡ []
 
--- what is so of a call that ends with this verdict
+-- what holds for a call that ends with this result
 abbrev pub EndsWith : Setting → History → DomId → OpenRequest → Phase → Step → CallResult → Type 0
 EndsWith s h d r phase step Granted = ((dom : DomId) (frame off len : ℕ) → step ≡ ReadBytes dom frame off len → ⊥) → GivesValue s h d r (Some step) AnswerDone
 EndsWith s h d r phase step (Given value) = GivesValue s h d r (Some step) (answer_with value)
@@ -57,7 +57,7 @@ once-value : (s : Setting) (h : History) (way : Continuation) (d : DomId) (r : O
     → PhaseStands s h d r so_far (Exchanging gref looked change) → GivesValue s h d r step AnswerDone
 once-value s h way d r shown so_far gref looked change step a b = grind arith
 
--- what is so of the end of a phase, if it is one
+-- what holds for the end in a phase, if it is one
 abbrev AtEnd : (CallResult → Type 0) → Action → Type 0
 AtEnd Q (Makes step) = Unit {0}
 AtEnd Q (Done v) = Q v
@@ -95,7 +95,7 @@ pinned-leg s h d r so_far aim l at m ws is leg a e = absurd (subst (ComesTo s h 
 of-map : (k : CallerKnowledge) (d : DomId) (r : OpenRequest) (aim : PinPurpose) (l : Leg) → IsLegFor k d r aim l → aim ≡ Mapping → (dom : DomId) × (gref : GrantRef) × (flags : ℕ) × (r ≡ Map dom gref flags)
 of-map k d r aim l a is = grind arith
 
--- a call that stands here, and is over after its step, ends so
+-- a call in this phase that ends after its step ends like this
 pub call-ends : (s : Setting) (h : History) (xs : List State) (d : DomId) (r : OpenRequest) (shown : List Observation) (so_far : StepsSoFar) (phase : Phase) (step : Step) → IsHere s h xs d r shown so_far phase step
     → (v : CallResult) → Next s h d phase step v → EndsWith s h d r phase step v
 call-ends s h xs d r shown so_far phase step i = subst (OfAction (Led phase)) i.acts (by phase i.at.has_shown i.place i.acts i.held) where

@@ -14,7 +14,7 @@ use Rattle.gt_core.proofs.Words.{HeldPin}
 use Rattle.gt_core.proofs.Words.{Handle, arith}
 use Rattle.gt_core.specs.declared.trace.Answer.TheVariants.{Done}
 
--- an answer that tells this, where bytes are no matter
+-- an answer with this value, whatever its bytes are
 abbrev pub answer_from : Answer ⊎ List ℕ → Answer
 answer_from (inl answer) = answer
 answer_from (inr bytes) = Done
@@ -36,13 +36,13 @@ unfolding bare items_from told_items
 bare-told [] = refl
 bare-told (i ∷ h) = ap (λ (l : History). item_from (told_item i) ∷ l) (bare-told h)
 
--- of histories that are the same but for keys it is one
+-- histories that are equal except for keys have the same one
 pub bare-same : (g h : History) → SameHistory g h → bare g ≡ bare h
 bare-same g h same = bare-told g ∙ ap items_from same ∙ sym (bare-told h)
 
 -- entries and tables
 
--- what tells no request from another, and no handle, is the same of what happened without its key
+-- what distinguishes neither requests nor handles is the same for the event without its key
 happened-bare : {A : Type 0} (f : ItemEvent → A) → ((p : HeldPin) (a b : Handle) (seen : Observation) → f (Stepped (Unpin p (ByMapping a)) seen) ≡ f (Stepped (Unpin p (ByMapping b)) seen)) → ((q r : Request) → f (Began q) ≡ f (Began r))
     → (x : ItemEvent) → f (bare_happened x) ≡ f x
 happened-bare f steps begins x = grind arith
@@ -52,7 +52,7 @@ mapped-bare a = grind arith
 
 -- calls
 
--- what is asked, without the key of a handle
+-- the request without the key of a handle
 abbrev pub bare_asked : OpenRequest → OpenRequest
 bare_asked (Unmap handle) = Unmap (bare_handle handle)
 bare_asked (Load handle off len) = Load (bare_handle handle) off len

@@ -1,4 +1,4 @@
--- Where a write is admitted, there are the frames after it.
+-- If a write is admitted, the frames after it exist.
 use Rattle.std.proofs.Common.{◌≡◌, ◌≢◌, ℕ, zero, suc, ◌+◌, ◌<◌, ◌≤◌, ◌==◌, ◌&&◌, Bool, true, false, IsTrue}
 use Rattle.std.proofs.Common.{List, [], ◌∷◌, length, set, get_or, Option, Some, None, sym, refl, ap, ◌∙◌, subst}
 use Rattle.std.proofs.Common.{arith, eq-eqb}
@@ -20,7 +20,7 @@ use Rattle.gt_frames.specs.declared.writ.Writ.{Writ}
 use Rattle.gt_frames.specs.declared.writ.WriteRecord.{WriteRecord}
 
 module _ (fs : FrameSet) where
-  -- the writes at so many places, from one on
+  -- the writes to n frames, starting at index i
   abbrev journals : ℕ → ℕ → List (List WriteRecord)
   journals zero i = []
   journals (suc n) i = journal_in (Some i) fs.journals ∷ journals n (suc i)
@@ -34,7 +34,7 @@ module _ (fs : FrameSet) where
   stands (suc n) i zero l = let e : i ≡ i + 0 = omega arith in ap (λ (z : ℕ). journal_in (Some z) fs.journals) e
   stands (suc n) i (suc q) l = let e : suc i + q ≡ i + suc q = omega arith in stands n (suc i) q (omega arith) ∙ ap (λ (z : ℕ). journal_in (Some z) fs.journals) e
 
-  -- the frames after a write at a place
+  -- the frames after a write to the one at an index
   abbrev after : ℕ → Writ → ℕ → List ℕ → FrameSet
   after place w off ys = record { domains = fs.domains; journals = set (journals (frames_of fs.domains) 0) place (recorded (journal_in (Some place) fs.journals) w off ys) }
 
@@ -43,7 +43,7 @@ module _ (fs : FrameSet) where
     abbrev gs : FrameSet
     gs = after place w off ys
 
-    -- a place that a frame has
+    -- the index of a frame is below their number
     below : (other : FrameName) (q : ℕ) → place_in fs other ≡ Some q → q < length (journals (frames_of fs.domains) 0)
     below other q e = let p = placed fs.domains other 0 q e in let a = p.place_is in let b = p.stands.below in omega (arith, length-names_of fs.domains, many (frames_of fs.domains) 0)
 
@@ -54,7 +54,7 @@ module _ (fs : FrameSet) where
         let old : v ≡ recorded (journal_in (place_in fs name) fs.journals) w off ys = ap (λ (o : Option ℕ). recorded (journal_in o fs.journals) w off ys) (sym is) in
         λ i. record { owner = name.owner; number = name.number; journal = (new ∙ old) i }
 
-    -- two frames stand at two places
+    -- different frames have different indices
     apart : (other : FrameName) (q : ℕ) → place_in fs other ≡ Some q → is_name other name ≡ false → q ≢ place
     apart other q e n same =
         let a = placed fs.domains other 0 q e in let b = placed fs.domains name 0 place is in let ai = a.place_is in let bi = b.place_is in

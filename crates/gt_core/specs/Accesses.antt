@@ -1,5 +1,5 @@
--- How a call reads and writes bytes in frames: the code's own representation.
--- It is in specs/ because private contracts cite it.
+-- How a call reads and writes bytes in frames: the code's own representation. It is in specs/ because private
+-- contracts cite it.
 use Rattle.std.specs.Prelude.{◌≡◌, ℕ, List, length, IsTrue}
 use Rattle.gt_handles.specs.Handles.{HandleMap, value_of}
 use Rattle.gt_calls.specs.declared.held.HeldPin.{HeldPin}
@@ -20,14 +20,14 @@ use Rattle.gt_frames.specs.Frames.{bytes_at}
 use Rattle.gt_frames.specs.Sets.{FrameSet, frame_at, has_range, admits, AreKept, WritesTo}
 use Rattle.gt_core.specs.States.{State}
 
--- the ground of a write by a route: the frame is the writer's own, or the entries of the route's pins let it
+-- the right of a write by a route: the writer owns the frame, or the entries of the route's pins grant it
 abbrev pub ground_of : AccessPath → WriteBasis
 ground_of Own = Owned
 ground_of (Direct p) = Granted p.entry
 ground_of (Through via p) = Forwarded via.entry via.dom p.entry
 
--- the route by which a call writes: by the pin of a store's mapping, or by those of a copy's destination; else to the
--- caller's own frame
+-- the route by which a call writes: by the pin of a store's mapping, or by those of a copy's destination; otherwise
+-- to the caller's own frame
 abbrev pub route_of : HandleMap HeldPin → Call → AccessPath
 route_of mappings call = by call.request
   where
@@ -36,7 +36,7 @@ route_of mappings call = by call.request
     by (Copy c) = (pins_by_call call).dest
     by request = Own
 
--- the writ is that of a domain's call: the caller writes, by the route of the call
+-- the writ is that of the domain's call: the caller writes, by the route of the call
 abbrev pub IsWritOf : State → Call → Writ → Type 0
 IsWritOf d call w = (w.writer ≡ call.caller) × (w.basis ≡ ground_of (route_of d.mappings call))
 
@@ -46,19 +46,19 @@ IsWriting (WriteBytes dom frame off len) = Unit {0}
 IsWriting (CopyBytes from to len) = Unit {0}
 IsWriting step = ⊥
 
--- a request for so many bytes
+-- the request reads n bytes
 abbrev pub IsLoadOf : OpenRequest → ℕ → Type 0
 IsLoadOf (Load handle off len) n = len ≡ n
 IsLoadOf (Peek frame off len) n = len ≡ n
 IsLoadOf request n = ⊥
 
--- if the step reads, its range is there, and its call asks for as many bytes
+-- if the step reads, its range exists, and its call asks for as many bytes
 abbrev pub IsReadable : FrameSet → Call → Step → Type 0
 IsReadable fs call (ReadBytes dom frame off len) =
     IsTrue (has_range fs (record { owner = dom; number = frame }) off len) × IsLoadOf call.request len
 IsReadable fs call step = Unit {0}
 
--- if the step writes, its ranges are there, and the writ of the domain's call is for the one that it writes
+-- if the step writes, its ranges exist, and the writ of the domain's call covers the range that it writes
 abbrev pub IsAdmitted : FrameSet → State → Call → Step → Type 0
 IsAdmitted fs d call (WriteBytes dom frame off len) =
     (w : Writ) → IsWritOf d call w
@@ -73,7 +73,7 @@ abbrev pub WritesByRight : State → Call → FrameSet → FrameSet → FrameNam
 WritesByRight d call old new name off bytes =
     (w : Writ) × IsWritOf d call w × WritesTo old new name w off bytes × AreKept new
 
--- the frames after a step: it writes what its call was given, or for a copy what the source range held, or changes
+-- the frames after a step: it writes the bytes of its request, or for a copy those of the source range, or changes
 -- none
 abbrev pub AccessedBy : State → Call → Step → FrameSet → FrameSet → Type 0
 AccessedBy d call (WriteBytes dom frame off len) old new =

@@ -1,4 +1,4 @@
--- What a core does when it begins a call or makes its next step, and when memory can be wanted.
+-- What a core does when it begins a call or makes its next step, and when it may fail with Memory.
 use Rattle.std.specs.Prelude.{◌≡◌, ◌≢◌, ◌≤◌, ℕ, Bool, true, List, [], Option, Some, None, Result}
 use Rattle.std.specs.Prelude.{Ok, Err}
 use Rattle.gt_core.specs.Prelude.{domain_of, DomId, TypeId, Perms, IsWithinLimits, IsFirstFault, StartFault}
@@ -17,7 +17,7 @@ use Rattle.gt_core.specs.Accesses.{IsWriting}
 use Rattle.gt_core.specs.States.{State, CoreState, core_of, asks_memory, IsMapping}
 use Rattle.gt_core.specs.History.{History, Setting, known_at, Underway, open_call, values}
 
--- a call opens so: no rule stands at its beginning, and it is about to make its first step
+-- the open call at its start: no rule applies at its beginning, and its first step is next
 pub record IsOpenCall (k : CallerKnowledge) (dom : DomId) (request : Request) (o : OpenCall) : Type 0 where
   pub unanswered : begun_of k dom request ≡ None
   pub said : SpellsItsEntry k.header request
@@ -31,7 +31,7 @@ pub record IsOpenCall (k : CallerKnowledge) (dom : DomId) (request : Request) (o
   pub rests : Rests k dom (asked request) (pins_by_call o.call) [] (Makes o.step)
   pub few : steps_to_come o.call ≤ most_steps (asked request)
 
--- a call begins so: with an answer, or with a first step
+-- the start of a call: an answer, or a first step
 abbrev pub OpensAs : CallerKnowledge → DomId → Request → Result OpenCall CallResult → Type 0
 OpensAs k dom request (Err verdict) = begun_of k dom request ≡ Some verdict
 OpensAs k dom request (Ok o) = IsOpenCall k dom request o
@@ -42,14 +42,14 @@ answer_with (Frames frames) = FramesAnswer frames
 answer_with (SizeTold size) = SizeAnswer size
 answer_with (VersionTold version) = VersionAnswer version
 
--- the answer of a call that ends so, and gives no mapping and no bytes
+-- the answer of a call with this result, which gives no mapping and no bytes
 abbrev pub answer_of : CallResult → Answer
 answer_of Granted = AnswerDone
 answer_of (KeptPin p) = AnswerDone
 answer_of (Given value) = answer_with value
 answer_of (Refused denial) = Denied denial
 
--- what the trace has for what `begin` did
+-- the element of the trace for a result of `begin`
 abbrev pub begun_element : DomId → Request → Begun → Element
 begun_element dom request BegunOpen = Did (record { actor = dom; happened = Began request; answer = None })
 begun_element dom request (BegunDone answer) =
@@ -57,7 +57,7 @@ begun_element dom request (BegunDone answer) =
 begun_element dom request BegunBusy = Busy
 begun_element dom request BegunNoDomain = NoDomain
 
--- what the trace has for what `tick` did
+-- the element of the trace for a result of `tick`
 abbrev pub ticked_element : DomId → Ticked → Element
 ticked_element dom (TickedStep step seen) = Did (record { actor = dom; happened = Stepped step seen; answer = None })
 ticked_element dom (TickedDone step seen answer) =
@@ -65,7 +65,7 @@ ticked_element dom (TickedDone step seen answer) =
 ticked_element dom TickedIdle = Idle
 ticked_element dom TickedNoDomain = NoDomain
 
--- what a tick answers for a step: with the call's answer, if there is one
+-- the result of a tick for a step: with the call's answer, if there is one
 abbrev pub ticked_with : Step → Observation → Option Answer → Ticked
 ticked_with step seen None = TickedStep step seen
 ticked_with step seen (Some answer) = TickedDone step seen answer
@@ -74,11 +74,11 @@ ticked_with step seen (Some answer) = TickedDone step seen answer
 abbrev pub setting_of : Config → (TypeId → TypeId → Perms → Bool) → Setting
 setting_of config may = record { domains = config.domains.items; first_generation = config.first_gen; may = may }
 
--- the setting of a machine's run, if this is what its policy allows by its rights
+-- the setting of a machine's run, if its policy allows this by its rights
 abbrev pub setting_by : {P : Type 0} → (P → TypeId → TypeId → Perms → Bool) → Machine P → Setting
 setting_by may m = setting_of m.config (may m.rights)
 
--- what a machine keeps
+-- the state that a machine keeps
 abbrev pub state_by : {P : Type 0} → Machine P → CoreState
 state_by m = core_of m.domains.items m.frames
 
@@ -87,15 +87,14 @@ abbrev pub known_by : {P : Type 0} → (P → TypeId → TypeId → Perms → Bo
     → Machine P → State → CallerKnowledge
 known_by may m d = knowledge_of m.config.domains.items m.config.first_gen (may m.rights) d.own d.header d.mappings
 
--- a call that is Ok is over after this last step: its answer, and the states; a read gives what the
--- frame holds
+-- a call that is Ok ends after this last step: its answer, and the states; a read returns what the frame holds
 abbrev pub Closed : FrameSet → List State → ℕ → State → Step → Answer → List State → Type 0
 Closed fs xs at d (ReadBytes dom frame off len) answer new =
     (b : Bytes) × (answer ≡ BytesAnswer b) × (new ≡ set xs at (with_underway None d))
     × (b.bytes.items ≡ bytes_at (frame_at fs (record { owner = dom; number = frame })) off len)
 Closed fs xs at d step answer new = (answer ≡ AnswerDone) × (new ≡ set xs at (with_underway None d))
 
--- a call is over with this verdict: its answer, and the states
+-- a call ends with this result: its answer, and the states
 abbrev pub Ended : FrameSet → List State → ℕ → State → Step → CallResult → Answer → List State → Type 0
 Ended fs xs at d step Granted answer new = Closed fs xs at d step answer new
 Ended fs xs at d step (KeptPin held) answer new =
@@ -106,7 +105,7 @@ Ended fs xs at d step (Given value) answer new =
 Ended fs xs at d step (Refused denial) answer new =
     (answer ≡ Denied denial) × (new ≡ set xs at (with_underway None d))
 
--- a call comes to its next step, or to its end with an answer
+-- a call continues to its next step, or ends with an answer
 abbrev pub Settled : FrameSet → List State → ℕ → State → Step → Call → Action
     → Option Answer → List State → Type 0
 Settled fs xs at d step call (Makes next) answer new =
@@ -114,18 +113,18 @@ Settled fs xs at d step call (Makes next) answer new =
 Settled fs xs at d step call (Ends verdict) answer new =
     (a : Answer) × (answer ≡ Some a) × Ended fs xs at d step verdict a new
 
--- only a map ends with a mapping, for which it made room when it began
+-- only a map ends with a mapping, and it made room for that when it began
 abbrev pub IsRoomFor : OpenRequest → Action → Type 0
 IsRoomFor request (Ends (KeptPin held)) = IsMapping (Some request)
 IsRoomFor request action = Unit {0}
 
--- a run can't start for this reason: the first fault of its configuration, or, if that has none, refused memory
+-- the reason why a run can't start: the first fault of its configuration, or Memory if it has none
 abbrev pub IsStartFaultOf : Config → StartFault → Type 0
 IsStartFaultOf config (ConfigFault fault) = IsFirstFault config fault
 IsStartFaultOf config NoMemory = IsWithinLimits config
 
--- memory can be wanted if a domain of the run, at rest, begins a map, a load, a store, a peek or a poke against
--- which no rule stands
+-- begin may fail with Memory: a domain of the run, with no open call, begins a map, a load, a store, a peek or a poke
+-- to which no rule applies
 abbrev pub WantsMemory : Setting → History → DomId → Request → Type 0
 WantsMemory s h d request =
     (asks_memory (asked request) ≡ true) × (domain_of s.domains d ≢ None) × (open_call h d.0 ≡ None)
@@ -136,7 +135,7 @@ abbrev pub IsWritingNext : Option Action → Type 0
 IsWritingNext (Some (Makes step)) = IsWriting step
 IsWritingNext action = ⊥
 
--- memory can be wanted if the domain's open call is about to write bytes, whose frame keeps a record of them
+-- tick may fail with Memory: the domain's open call is about to write bytes, and their frame keeps a record of them
 abbrev pub WantsMemoryNow : Setting → History → DomId → Type 0
 WantsMemoryNow s h d =
     (c : Underway) × (open_call h d.0 ≡ Some c) × IsWritingNext (path (known_at s h d) d c.request (values c))

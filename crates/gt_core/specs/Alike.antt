@@ -1,4 +1,4 @@
--- When two runs are the same but for the keys of handles, which a run may choose.
+-- Runs that are equal except for the keys of handles, which a run may choose.
 use Rattle.std.specs.Prelude.{◌≡◌, ◌≤◌, ◌⊎◌, ℕ, List, [], ◌∷◌, Option, Some}
 use Rattle.gt_core.specs.Prelude.{option_map, Bor, inl, inr, DomId, Handle, SERIAL_LIMIT, Request, OpenRequest, Unmap, Load}
 use Rattle.gt_core.specs.Prelude.{Store, ByMapping, Step, Unpin, asked, Answer, Mapped, Bytes, Event, Begin, Tick}
@@ -7,13 +7,13 @@ use Rattle.gt_calls.specs.declared.request.Request.TheVariants as requests
 use Rattle.gt_core.specs.History.{History, Setting}
 use Rattle.gt_core.specs.Legal.{IsRight}
 
--- the same but for keys
+-- equal except for keys
 
 -- a handle without its key
 abbrev pub bare_handle : Handle → Handle
 bare_handle handle = record { serial = handle.serial; key = 0 }
 
--- bytes lent, wherever they are in memory
+-- borrowed bytes, wherever they are in memory
 abbrev pub bare_bytes : Bor (List ℕ) → Bor (List ℕ)
 bare_bytes bytes = record { ref_ptr = (0, 0); now = bytes.now }
 
@@ -31,74 +31,74 @@ abbrev pub bare_event : Event → Event
 bare_event (Begin d request) = Begin d (bare_request request)
 bare_event (Tick d) = Tick d
 
--- a step without the key of the handle whose mapping it gives up
+-- a step without the key of the handle whose mapping it drops
 abbrev pub bare_step : Step → Step
 bare_step (Unpin p (ByMapping handle)) = Unpin p (ByMapping (bare_handle handle))
 bare_step step = step
 
--- what happened, without a key
+-- an item's event without keys
 abbrev pub bare_happened : ItemEvent → ItemEvent
 bare_happened (Began request) = Began (bare_request request)
 bare_happened (Stepped step seen) = Stepped (bare_step step) seen
 
--- what an answer says: its bytes, or the answer itself, without a key
+-- the value of an answer: its bytes, or the answer itself without a key
 abbrev pub told_part : Answer → Answer ⊎ List ℕ
 told_part (Mapped handle) = inl (Mapped (bare_handle handle))
 told_part (Bytes b) = inr b.bytes.items
 told_part answer = inl answer
 
--- what an item says but for keys: its domain, what happened, and what its answer says
+-- an item without keys: its domain, its event, and the value of its answer
 pub record ToldItem : Type 0 where
   pub actor : DomId
   pub happened : ItemEvent
   pub answer : Option (Answer ⊎ List ℕ)
 
--- that of this item
+-- this item without keys
 abbrev pub told_item : Item → ToldItem
 told_item i = record { actor = i.actor; happened = bare_happened i.happened; answer = option_map told_part i.answer }
 
--- what the items say, each
+-- the items without keys
 unfoldable pub told_items : History → List ToldItem
 told_items [] = []
 told_items (i ∷ before) = told_item i ∷ told_items before
 
--- the histories are the same but for keys, item by item
+-- the histories are equal except for keys, item by item
 abbrev pub SameHistory : History → History → Type 0
 SameHistory one other = told_items one ≡ told_items other
 
--- the events are the same but for keys
+-- the events are equal except for keys
 abbrev pub SameEvent : Event → Event → Type 0
 SameEvent one other = bare_event one ≡ bare_event other
 
--- the elements are the same but for keys
+-- the elements are equal except for keys
 abbrev pub SameElement : Element → Element → Type 0
 SameElement (Did i) (Did j) = told_item i ≡ told_item j
 SameElement one other = one ≡ other
 
 -- handles that were answered
 
--- a map of the domain was answered this handle
+-- a map of the domain was answered with this handle
 unfoldable pub IsGiven : History → ℕ → Handle → Type 0
 IsGiven [] d handle = ⊥
 IsGiven (i ∷ before) d handle = ((i.actor.0 ≡ d) × (i.answer ≡ Some (Mapped handle))) ⊎ IsGiven before d handle
 
--- the handle is one that the domain was answered, or its serial is one that no map is answered
+-- a map of the domain was answered with this handle, or its serial is one that no map is answered with
 abbrev pub IsKnown : History → ℕ → Handle → Type 0
 IsKnown h d handle = IsGiven h d handle ⊎ (SERIAL_LIMIT ≤ handle.serial)
 
--- a handle that is asked for is known
+-- the handle that the request names is known
 abbrev pub AsksKnown : History → ℕ → OpenRequest → Type 0
 AsksKnown h d (Unmap handle) = IsKnown h d handle
 AsksKnown h d (Load handle off len) = IsKnown h d handle
 AsksKnown h d (Store handle off len) = IsKnown h d handle
 AsksKnown h d request = Unit {0}
 
--- an event asks for no handle but one that is known to its domain
+-- the event names only a handle that is known to its domain
 abbrev pub IsOfKnown : History → Event → Type 0
 IsOfKnown h (Begin d request) = AsksKnown h d.0 (asked request)
 IsOfKnown h (Tick d) = Unit {0}
 
--- an item asks so
+-- the item names only a known handle
 abbrev pub HappensKnown : History → Item → Type 0
 HappensKnown h i = IsOfHappened i.happened
   where
@@ -106,12 +106,12 @@ HappensKnown h i = IsOfHappened i.happened
     IsOfHappened (Began request) = AsksKnown h i.actor.0 (asked request)
     IsOfHappened (Stepped step seen) = Unit {0}
 
--- the items came about one after the other by what may happen, and their requests ask only for known handles
+-- the items follow one another by what may happen, and their requests name only known handles
 unfoldable pub IsRun : Setting → History → Type 0
 IsRun s [] = Unit {0}
 IsRun s (i ∷ before) = IsRight s before i × HappensKnown before i × IsRun s before
 
--- two runs have come to the same but for keys
+-- two runs whose histories are equal except for keys
 pub record AreAlike (s : Setting) (one other : History) : Type 0 where
   pub first : IsRun s one
   pub second : IsRun s other

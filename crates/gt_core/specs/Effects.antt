@@ -1,4 +1,4 @@
--- What a step does to the states of the domains: the code's own representation, which is here since private
+-- What a step does to the states of the domains: the code's own representation. It is in specs/ because private
 -- contracts cite it.
 use Rattle.std.specs.Prelude.{ℕ, List, Option, Some, None, if◌then◌else◌, ◌+◌, ◌-◌, ◌%◌, min, is_some, ◌≡◌, slice_set}
 use Rattle.gt_core.specs.Prelude.{DomId, MAX_PINS, Read, Write, Handle, PinHolder, ByMapping, ByLeg, EntryChange, Step, Pin}
@@ -30,15 +30,15 @@ with_own r change x = record x { own = changed_at r (own_after change) x.own }
 abbrev pub with_header : ℕ → ℕ → State → State
 with_header version frames x = record x { header = record { version = version % 4; frames = frames % 256 } }
 
--- the state with this call under way, or none
+-- the state with this open call, or none
 abbrev pub with_underway : Option OpenCall → State → State
 with_underway underway x = record x { underway = underway }
 
--- the state with this call under way, and the bytes given to it
+-- the state with this open call, and the bytes passed to it
 abbrev pub with_open_call : OpenCall → List ℕ → State → State
 with_open_call call given x = record x { underway = Some call; given = given }
 
--- these handles are the old ones and a new one, under the next serial, which names this mapping
+-- the new handles are the old ones and one more, with the next serial, which names this mapping
 pub record Adds (old new : HandleMap HeldPin) (handle : Handle) (m : HeldPin) : Type 0 where
   pub serial : handle.serial ≡ old.given
   pub fresh : value_of old handle ≡ None
@@ -50,13 +50,13 @@ pub record Adds (old new : HandleMap HeldPin) (handle : Handle) (m : HeldPin) : 
 abbrev pub with_mapping : HandleMap HeldPin → State → State
 with_mapping mappings x = record x { mappings = mappings; underway = None }
 
--- the mapping under this handle goes, if there is one
+-- the handles without the mapping under this handle, if there is one
 abbrev pub handle_taken : Handle → HandleMap HeldPin → HandleMap HeldPin
 handle_taken handle mappings =
     if is_some (value_of mappings handle) then record mappings { slots = slice_set mappings.slots handle.key None }
     else mappings
 
--- the state after its holder gave up a pin: a mapping goes, a call has none to lose
+-- the state after the holder of a pin released it: a mapping goes, an open call loses nothing here
 abbrev pub without_holder : PinHolder → State → State
 without_holder (ByMapping handle) x = record x { mappings = handle_taken handle x.mappings }
 without_holder (ByLeg number) x = x

@@ -1,4 +1,4 @@
--- Every legal history can go on: what a run may begin with, and what each of its domains may do next.
+-- Every legal history can continue: how a run may begin, and what each of its domains may do next.
 use Rattle.std.specs.Prelude.{◌≡◌, ◌≢◌, ◌+◌, Bool, [], ◌∷◌, Option, Some, None, slice_range}
 use Rattle.gt_core.specs.Prelude.{IsWithinLimits, domain_of, DomId, TypeId, Config, Perms, HandleMap, Handle, FitsAsked}
 use Rattle.gt_core.specs.Prelude.{SpellsItsEntry, asked, begun_of, path, Action, Makes, Ends, Step, ReadBytes, WriteBytes}
@@ -14,7 +14,7 @@ use Rattle.gt_core.specs.States.{CoreState}
 use Rattle.gt_core.specs.declared.trace.Bytes.{Bytes}
 pub use Rattle.gt_calls.specs.Standing.{IsAccess}
 
--- some core stands for the history, which is a legal one
+-- a core represents the history, which is a legal one
 abbrev pub CanBeReached : Setting → History → Type 0
 CanBeReached s h = (core : CoreState) × CoreStands s h core
 
@@ -26,7 +26,7 @@ beginning d request answer = record { actor = d; happened = Began request; answe
 abbrev pub step_after : Setting → History → DomId → Step → Option Answer → Item
 step_after s h d step answer = record { actor = d; happened = Stepped step (seen_by s h d step); answer = answer }
 
--- how a beginning is answered: by its verdict, if there is one
+-- the answer at a beginning: that of its result, if there is one
 abbrev pub begin_answer : Option CallResult → Option Answer
 begin_answer None = None
 begin_answer (Some verdict) = Some (answer_of verdict)
@@ -38,27 +38,26 @@ IsOnWords (WriteBytes dom frame off len) = ⊥
 IsOnWords (CopyBytes from to len) = ⊥
 IsOnWords step = Unit {0}
 
--- the handle is one that the domain's next mapping may be answered under: some table of handles for its mappings gives it
--- next
+-- the domain's next mapping may get this handle: some table of handles for its mappings gives it next
 pub record MayBeGiven (h : History) (d : DomId) (handle : Handle) (held : HeldPin) : Type 0 where
   pub old : HandleMap HeldPin
   pub new : HandleMap HeldPin
   pub agrees : MappingsAgree old (mappings_at h d.0) (maps_answered_at h d.0)
   pub adds : Adds old new handle held
 
--- how a call is answered that comes to this after its step: not yet, if it goes on; under such a handle, if it keeps
--- its pin; else with its verdict
+-- the answer of a call whose next action is this, after its step: none if it continues; such a handle if it keeps its
+-- pin; and otherwise that of its result
 abbrev pub AnsweredSo : History → DomId → Action → Option Answer → Type 0
 AnsweredSo h d (Makes next) answer = answer ≡ None
 AnsweredSo h d (Ends (KeptPin held)) answer = (handle : Handle) × (answer ≡ Some (Mapped handle)) × MayBeGiven h d handle held
 AnsweredSo h d (Ends verdict) answer = answer ≡ Some (answer_of verdict)
 
--- the empty history is one that a core stands for, in each configuration within the limits
+-- in each configuration within the limits, a core represents the empty history
 abbrev pub RunsStart : Type 0
 RunsStart = (config : Config) (may : TypeId → TypeId → Perms → Bool) → IsWithinLimits config
     → CanBeReached (setting_of config may) []
 
--- a domain of the run that is at rest can begin each call: that is right, and a core stands for it
+-- a domain of the run with no open call can begin each call: that is right, and a core represents the result
 abbrev pub CallsCanBegin : Type 0
 CallsCanBegin =
     (s : Setting) (h : History) (d : DomId) (request : Request) → CanBeReached s h → domain_of s.domains d ≢ None
@@ -66,8 +65,8 @@ CallsCanBegin =
     → let i = beginning d request (begin_answer (begun_of (known_at s h d) d request)) in
     IsRight s h i × CanBeReached s (i ∷ h)
 
--- each open call can make its next step on words, and then comes to what its path gives: that is right, and a core stands
--- for it
+-- each open call can make its next step on words and continue as its path gives: that is right, and a core represents
+-- the result
 abbrev pub OpenCallsCanGoOn : Type 0
 OpenCallsCanGoOn =
     (s : Setting) (h : History) (d : DomId) (c : Underway) (step : Step) (action : Action) (answer : Option Answer)
@@ -76,21 +75,22 @@ OpenCallsCanGoOn =
     → next_in s h d c (seen_by s h d step) ≡ Some action → AnsweredSo h d action answer
     → let i = step_after s h d step answer in IsRight s h i × CanBeReached s (i ∷ h)
 
--- what a call is told that is over with its access: the bytes that the range held, if that was a read
+-- the answer of a call that ends with its access: the bytes that the range held, if it is a read
 abbrev pub TellsAccess : History → Step → Answer → Type 0
 TellsAccess h (ReadBytes dom frame off len) answer =
     (b : Bytes) × (answer ≡ BytesAnswer b)
     × (b.bytes.items ≡ slice_range (contents_at h dom.0 frame) off (off + len))
 TellsAccess h step answer = answer ≡ AnswerDone
 
--- how a call is answered that comes to this after its access: not yet, if it goes on; else so
+-- the answer of a call whose next action is this, after its access: none if it continues, and otherwise that of the
+-- access
 abbrev pub AccessAnsweredSo : History → Step → Action → Option Answer → Type 0
 AccessAnsweredSo h step (Makes next) answer = answer ≡ None
 AccessAnsweredSo h step (Ends Granted) answer = (z : Answer) × (answer ≡ Some z) × TellsAccess h step z
 AccessAnsweredSo h step (Ends verdict) answer = ⊥
 
--- each open call that comes to an access can make it, and then comes to what its path gives: that is right, and a core
--- stands for it
+-- each open call whose next step is an access can make it and continue as its path gives: that is right, and a core
+-- represents the result
 abbrev pub OpenCallsCanAccess : Type 0
 OpenCallsCanAccess =
     (s : Setting) (h : History) (d : DomId) (c : Underway) (step : Step) (action : Action) (answer : Option Answer)

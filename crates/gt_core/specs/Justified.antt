@@ -1,4 +1,4 @@
--- When a domain may reach bytes: what an access, and a change of an entry, must have for it.
+-- When a domain may reach bytes: what an access, and a change of an entry, requires.
 use Rattle.std.specs.Prelude.{◌≡◌, ◌≤◌, ◌⊎◌, ℕ, Bool, true, false, [], Option, Some, None, Any, ◌+◌, ◌<◌}
 use Rattle.gt_core.specs.Prelude.{resolved, IsAllowed, DomId, FRAME_SIZE, Dir, Read, Write, Use, ForMap, ForCopy}
 use Rattle.gt_core.specs.Prelude.{Invalid, permits, forwards, IsSpelled, FirstHalf, SecondHalf, ByMapping, OpenRequest, Unmap}
@@ -9,8 +9,8 @@ use Rattle.gt_core.specs.Prelude.{is_source_granted, is_dest_granted, GivesHeld}
 use Rattle.gt_core.specs.History.{History, Setting, entry_at, body_at, reads_at, writes_at, live, Pin, known_at}
 use Rattle.gt_core.specs.History.{frame_of, mappings_at, mapping_of}
 
--- The live pin lets domain d reach this range of a frame: it was taken from an entry of the frame that permitted the
--- domain judged this direction, purpose and range; for writing it is a write pin
+-- The live pin lets domain d reach this range of a frame. It was taken from an entry that granted the frame and
+-- permitted the domain `judged` this direction, purpose and range. For writing it is a write pin.
 pub record Reaches (d judged : DomId) (dir : Dir) (purpose : Use) (at : Spot) (len : ℕ) (p : Pin) : Type 0 where
   pub of_actor : p.actor ≡ d.0
   pub of_owner : p.held.dom.0 ≡ at.frame.owner.0
@@ -18,8 +18,8 @@ pub record Reaches (d judged : DomId) (dir : Dir) (purpose : Use) (at : Spot) (l
   pub permitted : permits p.held.entry judged dir purpose at.off len ≡ true
   pub writes : (dir ≡ Write) → p.held.dir ≡ Write
 
--- The live pin is of a Via of the domain named, which forwarded domain d in this direction, and leads to the entry of
--- the other pin; for writing it is a write pin
+-- The live pin is on a Via of the domain named, which forwarded domain d in this direction and leads to the entry of
+-- the other pin. For writing it is a write pin.
 pub record Forwards (d : DomId) (dir : Dir) (named : DomId) (p via : Pin) : Type 0 where
   pub of_actor : via.actor ≡ d.0
   pub of_named : via.held.dom ≡ named
@@ -39,41 +39,41 @@ MayCopy s pair = IsAllowed s.may (rights_to_copy (known_at s [] pair.0) pair.0 p
 abbrev pub IsInFrame : Setting → Spot → ℕ → Type 0
 IsInFrame s at len = (at.frame.number < frame_count_of s.domains at.frame.owner) × (at.off + len ≤ FRAME_SIZE)
 
--- the domain's own frame, or a range that a live pin of a mapping's kind reaches
+-- the frame is the domain's own, or a live pin of a mapping's kind reaches the range
 abbrev pub MayAccess : History → DomId → Dir → Spot → ℕ → Type 0
 MayAccess before d dir at len = (at.frame.owner.0 ≡ d.0) ⊎ Any (Reaches d d dir ForMap at len) (live before)
 
--- the policy allows what the pin of this mapping is for; there is such a mapping (XSM FLASK)
+-- there is such a mapping, and the policy allows what its pin is for (XSM FLASK)
 abbrev pub MayUseMapping : Setting → DomId → Option HeldPin → Type 0
 MayUseMapping s d None = ⊥
 MayUseMapping s d (Some m) = MayUse s d m.dom m.dir
 
--- the policy allows what the call asks for its access: a load or store what the pin of its mapping is for, in whichever
--- frame (XSM FLASK)
+-- the policy allows what the call needs for its access: for a load or store, what the pin of its mapping is for, in
+-- any frame (XSM FLASK)
 abbrev pub MayAsk : Setting → History → DomId → OpenRequest → Type 0
 MayAsk s before d (Load handle off len) = MayUseMapping s d (mapping_of (mappings_at before d.0) handle)
 MayAsk s before d (Store handle off len) = MayUseMapping s d (mapping_of (mappings_at before d.0) handle)
 MayAsk s before d request = Unit {0}
 
--- two live pins reach this range: one of a Via of the domain named, and one of the entry that it leads to, which
+-- two live pins reach this range: one on a Via of the domain named, and one on the entry that the Via leads to, which
 -- permitted the Via's owner
 abbrev pub ReachesThrough : History → DomId → Dir → Spot → ℕ → DomId → Type 0
 ReachesThrough before d dir at len named =
     Any (λ p. Any (λ via. Forwards d dir named p via × Reaches d named dir ForCopy at len p) (live before))
     (live before)
 
--- an end of a copy: if it was given by a frame number, in a frame of the domain's own; else reached by a pin on an
--- entry of the domain named, or through a Via of that domain if the policy allows the copy between the owners,
--- whosever the frame is
+-- An end of a copy. If a frame number names it, it is in a frame of the domain's own. Otherwise a pin on an entry of
+-- the domain named reaches it, or two pins through a Via of that domain if the policy allows the copy between the
+-- owners, in any owner's frame.
 abbrev pub EndIsJustified : Setting → History → DomId → Bool → Dir → Spot → ℕ → DomId → DomId × DomId → Type 0
 EndIsJustified s before d granted dir at len named owners =
     ((granted ≡ false) × (at.frame.owner ≡ d))
     ⊎ ((granted ≡ true) × (at.frame.owner ≡ named) × Any (Reaches d d dir ForCopy at len) (live before))
     ⊎ ((granted ≡ true) × ReachesThrough before d dir at len named × MayCopy s owners)
 
--- a copy's access is of the call's two ends, each justified, and the policy allows the copy between the domains named;
--- a Via of the source asks for its owner's domain and the destination named, one of the destination for the owners of
--- both frames
+-- A copy's access is between the call's two ends, each justified, and the policy allows the copy between the domains
+-- named. A Via of the source needs the right of the owner of its frame to copy to the destination named; one of the
+-- destination needs that of the owner of the source's frame to copy to the owner of the destination's.
 abbrev pub CopyIsJustified : Setting → History → DomId → OpenRequest → Spot → Spot → ℕ → Type 0
 CopyIsJustified s before d (Copy c) from to len =
     IsInFrame s from len × IsInFrame s to len × MayCopy s (resolved d c.source.domid, resolved d c.dest.domid)
@@ -83,13 +83,13 @@ CopyIsJustified s before d (Copy c) from to len =
     (from.frame.owner, to.frame.owner)
 CopyIsJustified s before d request from to len = ⊥
 
--- an access of one range is inside a frame, of the domain's own or reached by a pin, and the policy allows what its
--- call asks
+-- an access of one range is inside a frame of the domain's own, or one that a pin reaches, and the policy allows what
+-- its call needs
 abbrev pub AccessIsJustified : Setting → History → DomId → OpenRequest → Dir → Spot → ℕ → Type 0
 AccessIsJustified s before d request dir at len =
     IsInFrame s at len × MayAccess before d dir at len × MayAsk s before d request
 
--- an access is justified, and a mapping is given up only by the unmap that asked for its handle
+-- an access is justified, and only the unmap that names its handle drops a mapping
 abbrev pub Justified : Setting → History → DomId → OpenRequest → Step → Type 0
 Justified s before d request (ReadBytes dom frame off len) =
     AccessIsJustified s before d request Read
@@ -103,8 +103,9 @@ Justified s before d request _ = Unit {0}
 
 -- owners' changes, and pins
 
--- the change is made only of an entry that allows it: a publication on an Invalid one without live pins, spelled by
--- the stored body words; a revocation if no pin is live, a demotion if no write pin is; a withdrawal always
+-- The change is made only to an entry that allows it. A publication: to an Invalid one without live pins, whose
+-- stored body words encode the new entry. A revocation: if no pin is live. A demotion: if no write pin is live. A
+-- withdrawal and a promotion: always.
 abbrev pub IsSafeChange : History → ℕ → ℕ → EntryChange → Type 0
 IsSafeChange before t r (Publish entry) =
     (entry_at before t r ≡ Invalid) × IsSpelled entry (body_at before t r FirstHalf) (body_at before t r SecondHalf)

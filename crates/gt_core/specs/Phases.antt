@@ -12,7 +12,7 @@ use Rattle.gt_core.specs.History.{History, Setting, entry_at, generation_at, bod
 use Rattle.gt_core.specs.Legal.{LeavesAll, IsSpelled}
 use Rattle.gt_core.specs.FirstRule.{StepsSoFar, misses, looked_at, is_in_body, refusal_in}
 
--- while the leg's entry has the generation that was looked at and is valid, this holds of it
+-- if the leg's entry still has the generation that was looked at and is valid, this holds for it
 abbrev pub WhileSame : Setting → History → Leg → ℕ → (Entry → Type 0) → Type 0
 WhileSame s h l word Holds =
     generation_at s h l.dom.0 l.gref.0 ≡ (control_of word).generation → entry_at h l.dom.0 l.gref.0 ≢ Invalid
@@ -22,8 +22,8 @@ WhileSame s h l word Holds =
 abbrev pub IsShown : Control → Entry → Type 0
 IsShown c entry = c ≡ control_with entry c.generation c.reads c.writes
 
--- a control word of the leg's entry was looked at in this try, no rule on the entry stood, and the entry's generation
--- was reached
+-- this try looked at a control word of the leg's entry, to which no rule on the entry applied, and whose generation
+-- the entry has reached
 pub record LegHasLooked (s : Setting) (h : History) (l : Leg) (so_far : StepsSoFar) (more word : ℕ) : Type 0 where
   pub within : l.gref.0 < TABLE_ENTRIES
   pub turn : misses so_far + more ≡ MORE_TRIES
@@ -32,14 +32,14 @@ pub record LegHasLooked (s : Setting) (h : History) (l : Leg) (so_far : StepsSoF
   pub reached : (control_of word).generation ≤ generation_at s h l.dom.0 l.gref.0
   pub shown : WhileSame s h l word (IsShown (control_of word))
 
--- its body words were read too, and this rule stands on them
+-- the try read the body words too, and this is the rule that applies to them
 pub record LegHasRead (s : Setting) (h : History) (l : Leg) (so_far : StepsSoFar) (word body second : ℕ)
     (rule : Option Rule) : Type 0 where
   pub in_body : is_in_body so_far ≡ true
   pub judged : rule_of_try l word body second ≡ rule
   pub spelled : WhileSame s h l word (λ entry. entry_of (control_of word) body second ≡ entry)
 
--- a leg is in this phase, by the steps so far
+-- the steps so far agree with this phase of the leg
 abbrev pub LegStands : Setting → History → Leg → StepsSoFar → LegPhase → Type 0
 LegStands s h l so_far AtHeader = Unit {0}
 LegStands s h l so_far (Look more) =
@@ -54,12 +54,12 @@ LegStands s h l so_far (Relook more word rule) =
     LegHasLooked s h l so_far more word
     × ((body : ℕ) × (second : ℕ) × LegHasRead s h l so_far word body second (Some rule))
 
--- the call asks this of a header
+-- the call is a query that asks this about the header of this domain
 abbrev pub AsksTable : DomId → OpenRequest → DomId → HeaderQuery → Type 0
 AsksTable d request dom AsksSize = (named : DomId) × (request ≡ QuerySize named) × (dom ≡ resolved d named)
 AsksTable d request dom AsksVersion = (named : DomId) × (request ≡ GetVersion named) × (dom ≡ resolved d named)
 
--- the call ends so after its one step: a set up with the frames that it stored, each other one with no value
+-- the result of the call after its one step: for a setup the number of frames that it stored, for all others no value
 abbrev pub EndsAfter : OpenRequest → Step → CallResult → Type 0
 EndsAfter request (StoreHeader version frames) verdict =
     ((request ≡ SetVersion version) × (verdict ≡ Granted))
@@ -72,7 +72,7 @@ EndsCopy Granted = Unit {0}
 EndsCopy (Refused denial) = Unit {0}
 EndsCopy verdict = ⊥
 
--- a call is in this phase, by the steps so far, the newest first
+-- the steps so far, the newest first, agree with this phase of the call
 abbrev pub PhaseStands : Setting → History → DomId → OpenRequest → StepsSoFar → Phase → Type 0
 PhaseStands s h d request so_far (Storing gref entry) = Unit {0}
 PhaseStands s h d request so_far (StoringSecond gref entry) = body_at h d.0 gref.0 FirstHalf ≡ first_body entry
@@ -96,12 +96,12 @@ abbrev pub phase_refusal : Phase → Option Denial
 phase_refusal (Ending pins verdict) = refusal_in (Some verdict)
 phase_refusal phase = None
 
--- the steps so far have left all as it was, unless the call is to end with Ok
+-- the steps so far have left everything unchanged, unless the call is to end with Ok
 abbrev pub IsClean : Phase → List (Step × Observation) → Type 0
 IsClean (Ending pins verdict) steps = (refusal_in (Some verdict) ≡ None) ⊎ All LeavesAll steps
 IsClean phase steps = All LeavesAll steps
 
--- these, each under its place from this one on
+-- these pins, each with its number, starting at n
 abbrev pub numbered : ℕ → List HeldPin → List (ℕ × HeldPin)
 numbered n [] = []
 numbered n (p ∷ ps) = (n, p) ∷ numbered (n + 1) ps

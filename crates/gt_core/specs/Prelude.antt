@@ -1,4 +1,4 @@
--- The names of other crates, and of the code, that the definitions here speak of.
+-- Names of other crates, and of the code, that the definitions here use.
 pub use Rattle.gt_calls.specs.Asking.{FitsAsked, SpellsItsEntry, asked, begun_of, bytes_given_by}
 pub use Rattle.gt_calls.specs.Counting.{most_steps, steps_left, steps_to_come}
 pub use Rattle.gt_calls.specs.Following.{GoesOnWith}

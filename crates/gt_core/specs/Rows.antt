@@ -8,7 +8,7 @@ pub record PinCountsRow : Type 0 where
   pub first : ℕ
   pub second : ℕ
 
--- the element at this place, changed
+-- the list with a change of the element at this index
 abbrev pub changed_at : {A : Type 0} → ℕ → (A → A) → List A → List A
 changed_at r f [] = []
 changed_at zero f (x ∷ xs) = f x ∷ xs

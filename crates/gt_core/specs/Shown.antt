@@ -25,7 +25,7 @@ entry_shown s h dom r =
       writes = writes_at h dom.0 r;
     }
 
--- the same, but nothing past the table, or for no domain of the run
+-- the same, but nothing for a reference beyond the table, or for a number that is not a domain's
 abbrev pub shown_at : Setting → History → DomId → ℕ → Option EntryView
 shown_at s h dom r =
     if is_some (domain_of s.domains dom) && nat_lt r (size_of (table_at s h dom))

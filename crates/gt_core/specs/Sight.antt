@@ -1,5 +1,5 @@
--- What steps see in the states of the domains: the code's own representation.
--- It is in specs/ because private contracts cite it.
+-- What steps see in the states of the domains: the code's own representation. It is in specs/ because private
+-- contracts cite it.
 use Rattle.std.specs.Prelude.{ℕ, ◌==◌, if◌then◌else◌, List, [], ◌∷◌, Option, Some, None, slice_get}
 use Rattle.gt_types.specs.declared.DomId.{DomId}
 use Rattle.gt_entry.specs.declared.change.BodyWord.{BodyWord}
@@ -45,7 +45,7 @@ writes_in slots r = slot_writes (slice_get slots r)
 abbrev pub body_in : List PinCounts → ℕ → BodyWord → ℕ
 body_in slots r which = slot_body (slice_get slots r) which
 
--- the control word made of an owner's row and a slot
+-- the control word of an owner's row and a slot
 abbrev pub control_in : List OwnerEntry → List PinCounts → ℕ → ℕ
 control_in own slots r =
     control_word (control_with (entry_in own r) (own_generation 0 own r) (reads_in slots r) (writes_in slots r))

@@ -1,5 +1,5 @@
--- When a core stands for a history. Most of it describes the code's own representation: its states, handles, pin counts
--- and phases. It is in specs/ because contracts cite it, most of them private.
+-- When a core represents a history. Most of this describes the code's own representation: its states, handles, pin
+-- counts and phases. It is in specs/ because contracts cite it, most of them private.
 use Rattle.std.specs.Prelude.{◌≡◌, ◌≢◌, ◌<◌, ◌≤◌, ◌+◌, reverse, ℕ, Bool, true, List, [], ◌∷◌, Option, Some, None}
 use Rattle.std.specs.Prelude.{slice_get, length, All}
 use Rattle.gt_core.specs.Prelude.{domain_of, DomId, Dir, TypeId, ForMap, TABLE_ENTRIES, MAX_TABLE_FRAMES, LAST_VERSION}
@@ -21,8 +21,8 @@ use Rattle.gt_core.specs.FirstRule.{stood}
 use Rattle.gt_core.specs.Acting.{setting_of}
 use Rattle.gt_core.specs.Phases.{PhaseStands, phase_refusal, IsClean, numbered}
 
--- an open call is where its steps have led it, it holds its live pins, and the first rule that stood so far is the one
--- that it ends with
+-- an open call has the phase that its steps lead to, it holds its live pins, and the first rule that has applied is
+-- the one that it ends with
 pub record OpenAgrees (s : Setting) (h : History) (id : DomId) (o : OpenCall) (c : Underway) : Type 0 where
   pub caller : o.call.caller ≡ id
   pub asks : o.call.request ≡ c.request
@@ -39,21 +39,21 @@ pub record OpenAgrees (s : Setting) (h : History) (id : DomId) (o : OpenCall) (c
   pub held : legs_at h id.0 ≡ numbered 0 (reverse (held_in phase))
   pub few : length c.steps + steps_left phase ≤ most_steps c.request
 
--- the open call is that of the history, and there is one in both or in neither; with none open no pin is held by
--- one
+-- The open call is that of the history, and there is one in both or in neither. If no call is open, no call holds a
+-- pin.
 abbrev pub CallAgrees : Setting → History → DomId → Option OpenCall → Option Underway → Type 0
 CallAgrees s h id None None = legs_at h id.0 ≡ []
 CallAgrees s h id (Some o) (Some c) = OpenAgrees s h id o c
 CallAgrees s h id None (Some c) = ⊥
 CallAgrees s h id (Some o) None = ⊥
 
--- bytes to be written are as many as the call asked, and end inside a frame
+-- the bytes to be written are as many as the call asked for, and end inside a frame
 abbrev pub FitsGiven : OpenRequest → List ℕ → Type 0
 FitsGiven (Store handle off len) given = (length given ≡ len) × (off + len ≤ FRAME_SIZE)
 FitsGiven (Poke frame off len) given = (length given ≡ len) × (off + len ≤ FRAME_SIZE)
 FitsGiven request given = Unit {0}
 
--- the bytes given are those of the open call, if there is one
+-- the bytes are those passed to the open call, if there is one
 abbrev pub GivenAgrees : History → ℕ → List ℕ → Type 0
 GivenAgrees h d given =
     (c : Underway) → open_call h d ≡ Some c → (given ≡ c.given) × FitsGiven c.request c.given
@@ -65,19 +65,19 @@ pub record SlotAgrees (h : History) (t r : ℕ) (slot : PinCounts) : Type 0 wher
   pub first : slot.first ≡ body_at h t r FirstHalf
   pub second : slot.second ≡ body_at h t r SecondHalf
 
--- no two mappings are under one handle
+-- no two mappings have the same handle
 abbrev pub AreMappingsApart : List (Handle × HeldPin) → Type 0
 AreMappingsApart [] = Unit {0}
 AreMappingsApart (m ∷ ms) = (mapping_of ms m.0 ≡ None) × AreMappingsApart ms
 
--- the handles name just these mappings, after so many maps were answered Ok
+-- the handles name exactly these mappings, after this number of maps answered Ok
 pub record MappingsAgree (kept : HandleMap HeldPin) (ms : List (Handle × HeldPin)) (answered : ℕ) : Type 0 where
   pub named : mapping_under kept ≡ mapping_of ms
   pub count : count_of kept ≡ length ms
   pub given : kept.given ≡ answered
   pub apart : AreMappingsApart ms
 
--- a domain is as the history leaves it
+-- a domain has the state that the history leaves
 pub record StateStands (s : Setting) (h : History) (d : State) : Type 0 where
   pub header : d.header ≡ table_at s h d.id
   pub rows : length d.own ≡ TABLE_ENTRIES
@@ -89,7 +89,7 @@ pub record StateStands (s : Setting) (h : History) (d : State) : Type 0 where
   pub call : CallAgrees s h d.id d.underway (open_call h d.id.0)
   pub given : GivenAgrees h d.id.0 d.given
 
--- a domain of the run has a state that agrees, and no other domain has one
+-- a domain of the run has a state that agrees, and there is no state of any other number
 abbrev pub StateAgrees : Setting → History → DomId → Option State → Type 0
 StateAgrees s h dom None = domain_of s.domains dom ≡ None
 StateAgrees s h dom (Some d) = (domain_of s.domains dom ≢ None) × (d.id ≡ dom) × StateStands s h d
@@ -100,18 +100,17 @@ LetsUse s d t dir entry =
     (permits entry d dir ForMap 0 0 ≡ true) × MayUse s d t dir × (frame_of entry < frame_count_of s.domains t)
     × (domain_of s.domains t ≢ None)
 
--- a mapping's pin was taken by right, on a frame of its owner; of a call's own pin nothing is asked
+-- a mapping's pin was taken by right, on a frame of its owner; nothing is required of a call's own pin
 abbrev pub IsLawfullyHeld : Setting → Pin → PinHolder → Type 0
 IsLawfullyHeld s p (ByMapping handle) =
     LetsUse s (record { 0 = p.actor }) p.held.dom p.held.dir p.held.entry
 IsLawfullyHeld s p (ByLeg number) = Unit {0}
 
--- the pin of a mapping was taken on an entry that permitted it, for a frame of its owner, and the policy allows what it
--- is for
+-- if a mapping holds the pin, an entry permitted it, for a frame of its owner, and the policy allows what it is for
 abbrev pub IsLawfulPin : Setting → Pin → Type 0
 IsLawfulPin s p = IsLawfullyHeld s p p.holder
 
--- the header of a table, or of none, is within the limits of a run
+-- the header of a table is within the limits of a run; so is the zero header of no table
 pub record FitsTable (header : Header) : Type 0 where
   pub version : header.version ≤ LAST_VERSION
   pub frames : header.frames ≤ MAX_TABLE_FRAMES
@@ -121,7 +120,7 @@ pub record FitsWord (c : Control) : Type 0 where
   pub in_range : IsInRange c
   pub domain : c.dom.0 < 65536
 
--- the domains of the run are as the history leaves them
+-- the domains of the run have the states that the history leaves
 pub record DomainsStand (s : Setting) (h : History) (domains : List State) : Type 0 where
   pub each : (dom : DomId) → StateAgrees s h dom (state_of domains dom.0)
   pub tables : (dom : DomId) → FitsTable (table_at s h dom)
@@ -129,40 +128,40 @@ pub record DomainsStand (s : Setting) (h : History) (domains : List State) : Typ
   pub entries : (t r : ℕ) → IsEntry (entry_at h t r)
   pub lawful : All (IsLawfulPin s) (live h)
 
--- there are the frames of the run; each was written as in the history, so that it holds what the history left in it,
--- and has its size; and each write to it was by right
+-- These are the frames of the run. Each was written as in the history, so it holds what the history left in it and
+-- has its size. Each write to it was by right.
 pub record FramesStand (s : Setting) (h : History) (fs : FrameSet) : Type 0 where
   pub counts : fs.domains ≡ frame_counts s.domains
   pub writes : (name : FrameName) → patches (frame_at fs name).journal ≡ patches_at h name.owner.0 name.number
   pub kept : AreKept fs
   pub filled : (t f : ℕ) → length (contents_at h t f) ≡ FRAME_SIZE
 
--- the core stands for the history, which is a legal one
+-- the core represents the history, which is a legal one
 pub record CoreStands (s : Setting) (h : History) (core : CoreState) : Type 0 where
   pub legal : IsLegalHistory s h
   pub domains : DomainsStand s h core.domains
   pub frames : FramesStand s h core.frames
 
--- the core stands for some history
+-- the core represents a history
 abbrev pub StandsForSome : Setting → CoreState → Type 0
 StandsForSome s core = (h : History) × CoreStands s h core
 
--- for each history that the core stood for, the event did what it may do after it, and the core stands for that history
--- with this element
+-- for each history that the core represented, the event did what it may do after it, and the core represents that
+-- history with this element
 abbrev pub DoesEvent : Setting → CoreState → Event → Element → CoreState → Type 0
 DoesEvent s old event x new = (h : History) → CoreStands s h old → MayDo s h event x × CoreStands s (grown h x) new
 
--- the same of the domains only
+-- the same for the domains only
 abbrev pub DomainsDo : Setting → List State → Event → Element → List State → Type 0
 DomainsDo s old event x new =
     (h : History) → DomainsStand s h old → MayDo s h event x × DomainsStand s (grown h x) new
 
--- what contracts see of a core: its configuration, what its policy is made of, and what it keeps of the run
+-- what contracts see of a core: its configuration, its rights, and its state
 pub record CoreModel (P : Type 0) : Type 0 where
   pub config : Config
   pub rights : P
   pub state : CoreState
 
--- the setting of a core's run, if this is what its policy allows by its rights
+-- the setting of a core's run, if its policy allows this by its rights
 abbrev pub setting_in : {P : Type 0} → (P → TypeId → TypeId → Perms → Bool) → CoreModel P → Setting
 setting_in may core = setting_of core.config (may core.rights)

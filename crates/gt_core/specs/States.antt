@@ -1,5 +1,5 @@
--- A domain's state, as the core keeps it: the code's own representation.
--- It is in specs/ because private contracts cite it.
+-- A domain's state, as the core keeps it: the code's own representation. It is in specs/ because private contracts
+-- cite it.
 use Rattle.std.specs.Prelude.{Bool, true, false, ℕ, List, [], ◌∷◌, Option, Some, None, ◌==◌, ◌≡◌, ◌<◌, ◌≤◌, ◌+◌, ◌^◌}
 use Rattle.std.specs.Prelude.{◌%◌, min, map, replicate, if◌then◌else◌}
 use Rattle.gt_types.specs.declared.config.DomainConfig.{DomainConfig}
@@ -18,7 +18,7 @@ use Rattle.gt_core.specs.declared.underway.OpenCall.{OpenCall}
 use Rattle.gt_frames.specs.Sets.{FrameSet}
 
 -- what the core keeps of a domain: its header, what its owner knows of each entry, the pins and body words of each
--- entry, its mappings by handle, its call under way, and the bytes given to that call to be written
+-- entry, its mappings by handle, its open call, and the bytes passed to that call to be written
 pub record State : Type 0 where
   pub id : DomId
   pub header : Header
@@ -37,13 +37,13 @@ pub record CoreState : Type 0 where
 abbrev pub core_of : List State → FrameSet → CoreState
 core_of domains frames = record { domains = domains; frames = frames }
 
--- what the call under way asks
+-- the request of the open call
 abbrev pub asked_in : Option OpenCall → Option OpenRequest
 asked_in None = None
 asked_in (Some o) = Some o.call.request
 
--- the calls that ask for memory: a map for its mapping, a load or peek for its answer, a store or poke for what it was
--- given
+-- the calls that may allocate when they begin: a map for its mapping, a load or peek for its answer, a store or poke
+-- for the bytes passed to it
 abbrev pub asks_memory : OpenRequest → Bool
 asks_memory (Map dom gref flags) = true
 asks_memory (Load handle off len) = true
@@ -52,32 +52,32 @@ asks_memory (Peek frame off len) = true
 asks_memory (Poke frame off len) = true
 asks_memory _ = false
 
--- the bytes that a call keeps while it is under way: those given to a store or a poke
+-- the bytes that an open call keeps: those passed to a store or a poke
 abbrev pub kept_by : OpenRequest → List ℕ → List ℕ
 kept_by (Store handle off len) given = given
 kept_by (Poke frame off len) given = given
 kept_by request given = []
 
--- a map is under way
+-- a map is open
 abbrev pub IsMapping : Option OpenRequest → Type 0
 IsMapping (Some (Map dom gref flags)) = Unit {0}
 IsMapping _ = ⊥
 
--- a load or peek under way is of so many bytes
+-- a load or peek of n bytes is open, or another call, or none
 abbrev pub IsLoading : Option OpenRequest → ℕ → Type 0
 IsLoading (Some (Load handle off len)) n = n ≡ len
 IsLoading (Some (Peek frame off len)) n = n ≡ len
 IsLoading _ n = Unit {0}
 
--- the room that a call's answer wants was made when it began: for one more mapping, under a serial that is left, or for
--- the bytes of a load or peek
+-- the room that a call's answer needs was made when it began: for one more mapping, with a serial that is left, or
+-- for the bytes of a load or peek
 abbrev pub HasRoom : Option OpenRequest → HandleMap HeldPin → Option ℕ → Type 0
 HasRoom (Some (Map dom gref flags)) mappings bytes = (1 ≤ mappings.room) × (mappings.given + 1 < 2 ^ 64)
 HasRoom (Some (Load handle off len)) mappings bytes = bytes ≡ Some len
 HasRoom (Some (Peek frame off len)) mappings bytes = bytes ≡ Some len
 HasRoom _ mappings bytes = Unit {0}
 
--- a domain at rest
+-- the first state of a domain: no open call, no mapping, and all entries invalid
 abbrev pub first_state : ℕ → DomainConfig → State
 first_state first_gen d =
     record {
@@ -95,7 +95,7 @@ abbrev pub state_of : List State → ℕ → Option State
 state_of [] d = None
 state_of (x ∷ xs) d = if x.id.0 == d then Some x else state_of xs d
 
--- the first state with this number, changed
+-- the states with a change of the first one with this number
 abbrev pub changed_in : ℕ → (State → State) → List State → List State
 changed_in d f [] = []
 changed_in d f (x ∷ xs) = if x.id.0 == d then f x ∷ xs else x ∷ changed_in d f xs

@@ -11,8 +11,8 @@ use Rattle.gt_core.specs.History.{History, Setting, mapping_of, mappings_at}
 abbrev pub entry_place_of : HeldPin → DomId × GrantRef
 entry_place_of held = (held.dom, held.gref)
 
--- the entry that the domain has mapped under this handle after these items: none if the handle names no mapping of
--- it, or for no domain of the run
+-- the entry that the domain has mapped under this handle after these items: None if the handle names none of its
+-- mappings, or for a number that is not a domain's
 abbrev pub subject_at : Setting → History → DomId → Handle → Option (DomId × GrantRef)
 subject_at s h dom handle =
     if is_some (domain_of s.domains dom)

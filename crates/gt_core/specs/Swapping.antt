@@ -11,11 +11,11 @@ use Rattle.gt_core.specs.Legal.{IsRight}
 
 -- histories that look the same
 
--- a pin with what holds it
+-- a pin with its holder
 abbrev pub with_holder : PinHolder → HeldPin → List (PinHolder × HeldPin)
 with_holder holder held = (holder, held) ∷ []
 
--- the live pins of a domain, each with what holds it, the oldest first
+-- the live pins of a domain, each with its holder, the oldest first
 abbrev pub own_pins : History → ℕ → List (PinHolder × HeldPin)
 own_pins h d = gather with_holder d (live h)
 
@@ -26,8 +26,8 @@ pub record SameEntry (g h : History) (t r : ℕ) : Type 0 where
   pub reads : reads_at g t r ≡ reads_at h t r
   pub writes : writes_at g t r ≡ writes_at h t r
 
--- what no other domain changes is the same: a domain's entries, its table, its pins, its call, and which rule stood
--- against that
+-- what no other domain changes is the same: a domain's entries, its table, its pins, its call, and the rule that
+-- applied to that call
 pub record SameOwn (s : Setting) (g h : History) (d : DomId) : Type 0 where
   pub entries : (r : ℕ) → entry_at g d.0 r ≡ entry_at h d.0 r
   pub raises : (r : ℕ) → raises_at g d.0 r ≡ raises_at h d.0 r
@@ -50,7 +50,7 @@ SameLook s g h d (CopyBytes from to len) =
     patches_at g from.frame.owner.0 from.frame.number ≡ patches_at h from.frame.owner.0 from.frame.number
 SameLook s g h d step = Unit {0}
 
--- the same for what happens: a beginning looks at nothing but what is the domain's own
+-- the same for an event: a beginning looks only at what is the domain's own
 abbrev pub SameSight : Setting → History → History → DomId → ItemEvent → Type 0
 SameSight s g h d (Began request) = Unit {0}
 SameSight s g h d (Stepped step seen) = SameLook s g h d step
@@ -62,7 +62,7 @@ pub record SameSeen (s : Setting) (g h : History) : Type 0 where
   pub bodies : (t r : ℕ) (half : BodyWord) → body_at g t r half ≡ body_at h t r half
   pub patches : (t f : ℕ) → patches_at g t f ≡ patches_at h t f
 
--- the same may follow after both, and leaves them so
+-- the same item may follow both, and they look the same after it too
 abbrev pub LookAlikeGoOn : Type 0
 LookAlikeGoOn =
     (s : Setting) (g h : History) (i : Item) → SameSeen s g h
@@ -74,8 +74,8 @@ LookAlikeGoOn =
 abbrev pub patches_of : History → Item → ℕ → ℕ → List Patch
 patches_of h i t f = patches_by (written_by i.happened (given_in (open_call h i.actor.0)) (contents_at h)) t f
 
--- the items of two domains disturb each other in nothing: neither changes what the other one looks at, and they don't
--- write to one frame
+-- the items of two domains do not disturb each other: neither changes what the other one looks at, and they don't
+-- write to the same frame
 pub record AreApart (s : Setting) (h : History) (i j : Item) : Type 0 where
   pub actors : (i.actor.0 == j.actor.0) ≡ false
   pub first : SameSight s (j ∷ h) h i.actor i.happened
@@ -94,7 +94,7 @@ BeginningsAreApart =
     (s : Setting) (h : History) (i j : Item) (request : Request) → (i.actor.0 == j.actor.0) ≡ false
     → i.happened ≡ Began request → AreApart s h i j
 
--- a step on the control word or on a body word of an entry, but for unpins
+-- a step on the control word or on a body word of an entry, except an unpin
 abbrev pub is_on_entry : Step → Bool
 is_on_entry (LookControl dom gref) = true
 is_on_entry (LookBody dom gref half) = true
@@ -119,7 +119,7 @@ pub record OnOtherEntries (d : DomId) (y : Step) (e : DomId) (z : Step) : Type 0
   pub second : is_on_entry z ≡ true
   pub apart : (t r : ℕ) → on_entry d y t r ≡ true → on_entry e z t r ≡ true → ⊥
 
--- they are apart
+-- such steps are apart
 abbrev pub StepsOnOtherEntriesAreApart : Type 0
 StepsOnOtherEntriesAreApart =
     (s : Setting) (h : History) (i j : Item) (y z : Step) (v w : Observation) → OnOtherEntries i.actor y j.actor z

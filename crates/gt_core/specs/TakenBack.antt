@@ -1,4 +1,4 @@
--- What an owner has taken back: nobody reaches it by an earlier pin, and a page not at all.
+-- What an owner has taken back: no earlier pin reaches the entry, and no other domain reaches the page.
 use Rattle.std.specs.Prelude.{◌≡◌, ◌≢◌, ◌⊎◌, ℕ, true, false, List, [], ◌∷◌, ◌++◌, All}
 use Rattle.gt_entry.specs.declared.entry.Entry.TheVariants.{Invalid}
 use Rattle.gt_entry.specs.Permits.{is_of_frame}
@@ -14,7 +14,8 @@ use Rattle.gt_core.specs.declared.trace.ItemEvent.TheVariants.{Stepped}
 use Rattle.gt_core.specs.History.{History, Setting, Pin, entry_at, live, pinned_by, reads_at, writes_at}
 use Rattle.gt_core.specs.Legal.{IsLegalHistory, Legal, history_after}
 
--- the items of a legal trace are a legal history: so what holds of each of those holds of each run that is played
+-- the items of a legal trace are a legal history, so what holds for each legal history holds for each run that is
+-- played
 abbrev pub LegalTracesAreHistories : Type 0
 LegalTracesAreHistories =
     (s : Setting) (events : List Event) (trace : List Element) → Legal s events trace
@@ -35,14 +36,14 @@ EndsPinsOn t r i = (i.actor.0 ≡ t) × ends i.happened
 abbrev pub IsPinOn : ℕ → ℕ → Pin → Type 0
 IsPinOn t r p = (p.held.dom.0 ≡ t) × (p.held.gref.0 ≡ r)
 
--- one of the later items took the pin, after the items base: of the entry as it was just before it
+-- one of the later items took the pin, after the items `base`, with the entry just before it
 unfoldable pub IsTakenSince : History → History → Pin → Type 0
 IsTakenSince [] base p = ⊥
 IsTakenSince (i ∷ later) base p =
     (pinned_by i.actor i.happened i.answer (later ++ base) (live (later ++ base)) ≡ p ∷ []) ⊎ IsTakenSince later base p
 
--- once a revocation of an entry stood, or a publication, each live pin on that entry was taken since: so no access is
--- justified by a pin of an earlier record of that entry
+-- after a revocation or a publication of an entry, each live pin on that entry was taken later; so no pin of an
+-- earlier record of that entry justifies an access
 abbrev pub PinsAreTakenSince : Type 0
 PinsAreTakenSince =
     (s : Setting) (later before : History) (i : Item) (t r : ℕ) → IsLegalHistory s (later ++ i ∷ before)
@@ -50,7 +51,8 @@ PinsAreTakenSince =
 
 -- pages
 
--- domain t has taken its frame f back: no entry of it is of that frame, and none that is invalid has a live pin
+-- domain t has taken its frame f back: none of its entries grants that frame, and none of its invalid entries has a
+-- live pin
 abbrev pub IsTakenBack : History → ℕ → ℕ → Type 0
 IsTakenBack h t f =
     (r : ℕ) → (is_of_frame (entry_at h t r) f ≡ false)
@@ -64,7 +66,7 @@ Grants t f i = (i.actor.0 ≡ t) × grants i.happened
     grants (Stepped (Exchange gref looked (Publish entry)) Taken) = is_of_frame entry f ≡ true
     grants _ = ⊥
 
--- the item is an access of another domain to frame f of domain t: it reads or writes some of its bytes
+-- the item is an access of another domain to frame f of domain t: it reads or writes bytes of it
 abbrev pub IsForeignAccess : ℕ → ℕ → Item → Type 0
 IsForeignAccess t f i = (i.actor.0 ≢ t) × touches i.happened
   where
@@ -75,7 +77,7 @@ IsForeignAccess t f i = (i.actor.0 ≢ t) × touches i.happened
         ((from.frame.owner.0 ≡ t) × (from.frame.number ≡ f)) ⊎ ((to.frame.owner.0 ≡ t) × (to.frame.number ≡ f))
     touches _ = ⊥
 
--- a page that an owner takes back is not readable by anybody from then on, nor writable, until it grants it again
+-- after an owner takes a page back, no other domain reads or writes it until the owner grants it again
 abbrev pub PagesTakenBackAreOutOfReach : Type 0
 PagesTakenBackAreOutOfReach =
     (s : Setting) (later before : History) (i : Item) (t f : ℕ) → IsLegalHistory s (i ∷ (later ++ before))

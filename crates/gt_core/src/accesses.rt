@@ -10,7 +10,7 @@ use gt_calls::Step;
 use gt_frames::{FrameName, Frames};
 use gt_types::Memory;
 
-/// Reads the bytes of a frame from `off` on over all of `out`.
+/// Reads the bytes of a frame, starting at `off`, over all of `out`.
 pub fn read_bytes(frames: &Frames, name: FrameName, off: u16, out: Vec<u8>) -> Vec<u8>
     requires { IsTrue (has_range frames.now name off (vec_len out)) }
     ensures { result.items ≡ bytes_at (frame_at frames.now name) off (vec_len out) }
@@ -19,12 +19,12 @@ pub fn read_bytes(frames: &Frames, name: FrameName, off: u16, out: Vec<u8>) -> V
     frame.read(off, out).into_bytes()
 }
 
-/// Writes what the domain's call writes in this step: the bytes given to it, or for a copy those of its source. Other
-/// steps write nothing.
+/// Writes what the domain's call writes in this step: the bytes of its request, or for a copy those of its source.
+/// Other steps write nothing.
 ///
 /// # Errors
 ///
-/// `Memory`, only if the step writes, with all frames as they were.
+/// `Memory`, only if the step writes. All frames are then unchanged.
 pub fn write_bytes(
     frames: &mut Frames,
     domain: &DomainState,

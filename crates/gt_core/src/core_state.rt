@@ -13,8 +13,8 @@ use gt_types::{Allows, Config, DomId, GrantRef, Memory, StartFault};
 use std::alloc::Global;
 use std::marker::Model;
 
-/// The grant tables of a run. Its type promises that it stands for a history of items, and that each write to each
-/// frame was by right.
+/// The grant tables of a run. Its type guarantees that it represents a history of items, and that each write to
+/// each frame was by right.
 #[derive(Drop)]
 pub struct Core<P: Allows> {
     machine: Machine<P>,
@@ -35,25 +35,33 @@ impl<P: Allows> Model for Core<P> {
     ghost invariant = { λ c. StandsForSome (setting_by P.may c.machine) (state_by c.machine) };
 }
 
-/// What `begin` did.
+/// The result of `begin`.
 #[derive(Debug, Drop)]
 pub enum Begun {
+    /// The call is open. `tick` makes its steps.
     Open,
+    /// The call was answered at its beginning.
     Done(Answer),
+    /// The domain has a call open. Nothing happened.
     Busy,
+    /// The run has no such domain. Nothing happened.
     NoDomain,
 }
 
-/// What `tick` did.
+/// The result of `tick`.
 #[derive(Debug, Drop)]
 pub enum Ticked {
+    /// The step was made, and saw this. The call is still open.
     Step(Step, Observation),
+    /// The step was made, and saw this. The call ended with this answer.
     Done(Step, Observation, Answer),
+    /// The domain has no call open. Nothing happened.
     Idle,
+    /// The run has no such domain. Nothing happened.
     NoDomain,
 }
 
-/// What an entry shows.
+/// What an entry shows: the entry, its generation, and the number of its live read and write pins.
 #[derive(Clone, Copy, Debug, PartialEq, Eq)]
 pub struct EntryView {
     pub entry: Entry,
@@ -73,12 +81,13 @@ impl<P: Allows> Core<P> {
     ghost use Rattle.gt_core.specs.Acting.{begun_element, ticked_element};
     ghost use Rattle.gt_core.specs.declared.trace.Event.TheVariants.{Begin, Tick};
 
-    /// Begins a call of the domain: judges it, and makes the room that its answer needs. `tick` makes its steps.
+    /// Begins a call of the domain: checks the rules at its beginning, and makes the room that its answer needs.
+    /// `tick` makes its steps.
     ///
     /// # Errors
     ///
-    /// `Memory`, only for a map, a load, a store, a peek or a poke against which no rule stands, of a domain of the run
-    /// that has no call open. The core is as it was then.
+    /// `Memory`, only if a domain of the run, with no open call, begins a map, a load, a store, a peek or a poke to
+    /// which no rule applies. The core is then unchanged.
     pub fn begin(&mut self, dom: DomId, request: Request<'_>) -> Result<Begun, Memory>
         ensures stands { IfOk result (λ b. DoesEvent (setting_in P.may self.old) self.old.state
             (Begin dom request.entry) (begun_element dom request.entry b) self.new.state) }
@@ -92,13 +101,13 @@ impl<P: Allows> Core<P> {
         self.machine.begin(dom, request)
     }
 
-    /// Makes the next step of the domain's open call, with its answer if that is the last one. A refused call has
-    /// left entries, mappings, tables and frames as they were, and holds no pin.
+    /// Makes the next step of the domain's open call. Returns it, with the call's answer if that step is the last
+    /// one. A refused call has left entries, mappings, tables and frames unchanged, and holds no pin.
     ///
     /// # Errors
     ///
     /// `Memory`, only if that step is the access of a store, a poke or a copy, of which its frame keeps a record.
-    /// The core is as it was then, and the next tick tries again.
+    /// The core is then unchanged, and the next tick tries again.
     pub fn tick(&mut self, dom: DomId) -> Result<Ticked, Memory>
         ensures stands { IfOk result (λ t. DoesEvent (setting_in P.may self.old) self.old.state
             (Tick dom) (ticked_element dom t) self.new.state) }
@@ -112,7 +121,8 @@ impl<P: Allows> Core<P> {
         self.machine.tick(dom)
     }
 
-    /// What an entry of a domain shows: None past the table, or for no domain of the run.
+    /// Returns what an entry of a domain shows. None for a reference beyond the table, or if the run has no such
+    /// domain.
     pub fn show(&self, dom: DomId, gref: GrantRef) -> Option<EntryView>
         ensures { (h : History) → CoreStands (setting_in P.may self.now) h self.now.state →
             result ≡ shown_at (setting_in P.may self.now) h dom gref.0 }
@@ -120,8 +130,8 @@ impl<P: Allows> Core<P> {
         self.machine.show(dom, gref)
     }
 
-    /// The domain and the reference of the entry that the domain has mapped under this handle: None if the handle
-    /// names no mapping of it (one that was given up, for example), or for no domain of the run.
+    /// Returns the domain and the reference of the entry that the domain has mapped under this handle. None if the
+    /// handle names none of its mappings (for example after an unmap), or if the run has no such domain.
     pub fn subject(&self, dom: DomId, handle: Handle) -> Option<(DomId, GrantRef)>
         ensures { (h : History) → CoreStands (setting_in P.may self.now) h self.now.state →
             result ≡ subject_at (setting_in P.may self.now) h dom handle }
@@ -168,11 +178,11 @@ fn one_event<'a, P: Allows>(core: &mut Core<P>, event: Event<'a>) -> Result<Elem
     }
 }
 
-/// Plays the events on a new core: one element for each, in order.
+/// Plays the events on a new core. Returns one element for each, in order.
 ///
 /// # Errors
 ///
-/// The first fault of the configuration, or `Memory` if it has none; the trace is lost then.
+/// The first fault of the configuration, or `Memory` if it has none. The trace is then lost.
 pub fn play<'a, P: Allows + Drop>(
     alloc: Global,
     config: Config,
@@ -198,7 +208,8 @@ impl<P: Allows + Drop> Core<P> {
     ghost use Rattle.gt_core.specs.Standing.{CoreStands};
     ghost use Rattle.gt_core.specs.Acting.{IsStartFaultOf, setting_of};
 
-    /// A core at rest: all entries invalid at the first generation, all frames zero, no mapping and no call.
+    /// Returns a new core: all entries are invalid and at the first generation, all frames are zero, and there is
+    /// no mapping and no call.
     ///
     /// # Errors
     ///

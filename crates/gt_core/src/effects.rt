@@ -57,7 +57,7 @@ fn store_header(config: &Roster, domains: &mut [DomainState], dom: DomId, versio
     }
 }
 
-/// What a step of the domain that saw this does to the words, and to the actor's mappings if it gives one up.
+/// Applies a step of the domain that saw this to the words, and to the actor's mappings if it drops one.
 pub fn apply(
     config: &Roster,
     domains: &mut [DomainState],

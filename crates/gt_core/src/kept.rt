@@ -6,7 +6,7 @@ use gt_frames::Frames;
 use gt_roster::Roster;
 use std::alloc::Global;
 
-/// The domains and frames of a run, under its configuration and policy.
+/// The domains and frames of a run, with its configuration and rights.
 #[derive(Drop)]
 pub struct Machine<P> {
     pub(crate) alloc: Global,

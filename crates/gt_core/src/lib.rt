@@ -1,17 +1,17 @@
 //! The grant tables of a run, as a machine over events.
 //!
-//! [`Core`] keeps the tables, mappings and frames of the configured domains. `begin` and `tick` make
-//! one atomic step each: the beginning of a call, a look at a word, an exchange, a store, an unpin or
-//! an access to bytes. [`play`] plays a list of events.
+//! [`Core`] keeps the tables, mappings and frames of the configured domains. `begin` and `tick` make one atomic
+//! step each: the beginning of a call, a look at a word, an exchange, a store, an unpin or an access to bytes.
+//! [`play`] plays a list of events.
 //!
-//! What holds: what it does is a legal trace, for every list of events. Each step shows what the steps
-//! before it left. A foreign byte is read or written only if a live pin lets it and the policy
-//! allows it. A revocation is taken exactly if no pin on its entry is live. A refusal names the
-//! first rule that stood. `specs/Legal.antt` says it, over histories (`specs/History.antt`) and over
-//! the rules and paths of calls, which `gt_calls` judges. `specs/Standing.antt` says when a core stands
-//! for a history.
+//! Proved: for every list of events, what the core does is a legal trace. Each step sees what the steps before it
+//! left. Another domain's byte is read or written only if a live pin reaches it and the policy allows it. A
+//! revocation is taken exactly if no pin on its entry is live. A refusal names the first rule that applied.
 //!
-//! It uses `gt_calls`, `gt_entry`, `gt_frames`, `gt_handles`, `gt_roster` and `gt_types`.
+//! The definitions: `specs/Legal.antt`, over histories (`specs/History.antt`) and over the rules and paths of
+//! calls, which are those of `gt_calls`. `specs/Standing.antt` defines when a core represents a history.
+//!
+//! It stands on `gt_calls`, `gt_entry`, `gt_frames`, `gt_handles`, `gt_roster` and `gt_types`.
 #![tactic(auto)]
 
 mod accesses;

@@ -39,7 +39,7 @@ use gt_roster::Roster;
 use gt_types::{Allows, Config, DomId, GrantRef, Memory, StartFault};
 use std::alloc::Global;
 
-// A call that is open, with its first step, or the verdict at its beginning.
+// Opens a call, with its first step. An error is the answer at its beginning.
 fn open_call<P: Allows>(
     known: &CallerState<'_, P>,
     dom: DomId,
@@ -59,7 +59,6 @@ fn open_call<P: Allows>(
     }
 }
 
-// The answer with this value.
 fn answer_with(value: CallValue) -> Answer
     ensures { result ≡ answer_with value }
 {
@@ -70,7 +69,7 @@ fn answer_with(value: CallValue) -> Answer
     }
 }
 
-/// The answer of a call that ends so, if it gives no mapping and no bytes.
+/// Returns the answer of a call with this result, if it gives no mapping and no bytes.
 pub fn answer_of(verdict: CallResult) -> Answer
     ensures { result ≡ answer_of verdict }
 {
@@ -81,7 +80,7 @@ pub fn answer_of(verdict: CallResult) -> Answer
     }
 }
 
-// What a tick answers for a step that saw this: with the call's answer, if the call is over.
+// Builds the result of a tick.
 fn ticked_as(step: Step, seen: Observation, answer: Option<Answer>) -> Ticked
     ensures { result ≡ ticked_with step seen answer }
 {
@@ -91,7 +90,7 @@ fn ticked_as(step: Step, seen: Observation, answer: Option<Answer>) -> Ticked
     }
 }
 
-// The bytes that a request gives to be written.
+// Returns the bytes that a request passes to be written.
 fn given_by<'a>(request: Request<'a>) -> &'a [u8]
     ensures { result.now ≡ bytes_given_by request.entry }
 {
@@ -102,7 +101,7 @@ fn given_by<'a>(request: Request<'a>) -> &'a [u8]
 }
 
 impl<P: Allows> Machine<P> {
-    // What the domain at this place knows by itself, and what the policy allows.
+    // Returns what the domain at this index knows by itself, and what the policy allows.
     fn known_at(&self, at: usize) -> CallerState<'_, P>
         requires { at < length self.now.domains.items }
         ensures { (d : State) → slice_get self.now.domains.items at ≡ Some d →
@@ -130,7 +129,7 @@ impl<P: Allows> Machine<P> {
     ///
     /// # Errors
     ///
-    /// `Memory`, with the domains as they were.
+    /// `Memory`, if an allocation fails. The domains are then unchanged.
     pub fn begin(&mut self, dom: DomId, request: Request<'_>) -> Result<Begun, Memory>
         ensures stands { IfOk result (λ b. DomainsDo (setting_by P.may self.old) self.old.domains.items
             (Begin dom request.entry) (begun_element dom request.entry b) self.new.domains.items) }
@@ -158,8 +157,8 @@ impl<P: Allows> Machine<P> {
         }
     }
 
-    // Makes the step of the domain's open call: writes the bytes that it writes, and changes words and mappings. It
-    // gives what the step saw.
+    // Makes the step of the domain's open call: writes the bytes that it writes, and changes words and mappings.
+    // Returns what the step saw.
     fn perform(&mut self, at: usize, dom: DomId, open: OpenCall) -> Result<Observation, Memory>
         requires there { at < length self.old.domains.items }
         requires admitted { (d : State) → slice_get self.old.domains.items at ≡ Some d →
@@ -181,7 +180,8 @@ impl<P: Allows> Machine<P> {
         Ok(seen)
     }
 
-    // The call after what its last step saw, and what it does next: by what its domain knew before that step too.
+    // Returns the call after what its last step saw, and its next action. What its domain knew before that step
+    // gives the same.
     fn advance(&self, at: usize, last: OpenCall, seen: Observation) -> (Call, Action)
         requires { at < length self.now.domains.items }
         ensures caller { result.0.caller ≡ last.call.caller }
@@ -194,7 +194,7 @@ impl<P: Allows> Machine<P> {
         (call, action)
     }
 
-    // The answer of a call that is Ok and gives no value: what its last step read, or nothing. The call is over.
+    // Closes a call that is Ok and has no value. The answer is what its last step read, or nothing.
     fn close(&mut self, at: usize, last: OpenCall) -> Answer
         requires there { at < length self.old.domains.items }
         requires under { (d : State) → slice_get self.old.domains.items at ≡ Some d → d.underway ≡ Some last }
@@ -227,7 +227,8 @@ impl<P: Allows> Machine<P> {
         }
     }
 
-    // What the domain's call does by this action: its next step, or its answer, which ends it.
+    // Does what this action requires: keeps the next step of the domain's call, or returns the answer, which ends
+    // the call.
     fn settle(&mut self, at: usize, last: OpenCall, call: Call, action: Action) -> Option<Answer>
         requires there { at < length self.old.domains.items }
         requires under { (d : State) → slice_get self.old.domains.items at ≡ Some d → d.underway ≡ Some last }
@@ -262,7 +263,7 @@ impl<P: Allows> Machine<P> {
     ///
     /// # Errors
     ///
-    /// `Memory`, with the domains and frames as they were.
+    /// `Memory`, if an allocation fails. The domains and frames are then unchanged.
     pub fn tick(&mut self, dom: DomId) -> Result<Ticked, Memory>
         requires { StandsForSome (setting_by P.may self.old) (state_by self.old) }
         ensures stands { IfOk result (λ t. DoesEvent (setting_by P.may self.old) (state_by self.old)
@@ -286,7 +287,8 @@ impl<P: Allows> Machine<P> {
         Ok(ticked_as(open.step, seen, answer))
     }
 
-    /// What an entry of a domain shows: None past the table, or for no domain of the run.
+    /// Returns what an entry of a domain shows. None for a reference beyond the table, or if the run has no such
+    /// domain.
     pub fn show(&self, dom: DomId, gref: GrantRef) -> Option<EntryView>
         ensures { (h : History) → DomainsStand (setting_by P.may self.now) h self.now.domains.items →
             result ≡ shown_at (setting_by P.may self.now) h dom gref.0 }
@@ -311,7 +313,7 @@ fn start_domains(alloc: Global, config: &Config) -> Result<Vec<DomainState>, Mem
 }
 
 impl<P: Allows + Drop> Machine<P> {
-    /// A machine at rest.
+    /// Returns a machine in which no call was made.
     ///
     /// # Errors
     ///

@@ -1,4 +1,4 @@
-//! What is kept of an entry beside what its owner knows.
+//! What the core keeps of an entry, besides what its owner knows.
 ghost use Rattle.std.specs.Prelude.{◌≡◌, ◌≤◌, ◌+◌, min};
 ghost use Rattle.gt_core.specs.Effects.{slot_after};
 
@@ -42,7 +42,7 @@ impl PinCounts {
     ghost use Rattle.gt_core.specs.Effects.{slot_after};
     ghost use Rattle.gt_core.specs.Sight.{slot_body};
 
-    /// No pins, and both body words zero.
+    /// Returns no pins, and zero for both body words.
     pub fn new() -> PinCounts
         ensures { result ≡ record { reads = 0; writes = 0; first = 0; second = 0 } }
     {
@@ -54,7 +54,7 @@ impl PinCounts {
         }
     }
 
-    /// The read pins, at most [`MAX_PINS`].
+    /// Returns the number of read pins, at most [`MAX_PINS`].
     pub fn reads(self) -> u16
         ensures value { result ≡ self.reads }
         ensures bound { result ≤ MAX_PINS }
@@ -62,7 +62,7 @@ impl PinCounts {
         self.reads
     }
 
-    /// The write pins, at most [`MAX_PINS`].
+    /// Returns the number of write pins, at most [`MAX_PINS`].
     pub fn writes(self) -> u16
         ensures value { result ≡ self.writes }
         ensures bound { result ≤ MAX_PINS }
@@ -70,7 +70,7 @@ impl PinCounts {
         self.writes
     }
 
-    /// One of the body words.
+    /// Returns one of the body words.
     pub fn body(self, half: BodyWord) -> u64
         ensures { result ≡ slot_body (Some self) half }
     {
@@ -80,7 +80,7 @@ impl PinCounts {
         }
     }
 
-    /// After a change.
+    /// Returns the pins and body words after a change. A count of pins stays between 0 and [`MAX_PINS`].
     pub fn after(self, change: CountsChange) -> PinCounts
         ensures { result ≡ slot_after change self }
     {
@@ -97,7 +97,7 @@ impl PinCounts {
     }
 }
 
-// One pin more, if there is room.
+// Returns one pin more, but at most [`MAX_PINS`].
 fn more(pins: u16) -> u16
     requires { pins ≤ MAX_PINS }
     ensures value { result ≡ min (pins + 1) MAX_PINS }

@@ -85,7 +85,7 @@ fn look_body(
     }
 }
 
-/// What an exchange sees that looked for one word where there was this one.
+/// Returns what an exchange from `looked` sees if the present word is `word`.
 pub fn exchange_sees(word: u64, looked: u64) -> Observation
     ensures { result ≡ exchange_sees word looked }
 {
@@ -96,7 +96,7 @@ pub fn exchange_sees(word: u64, looked: u64) -> Observation
     }
 }
 
-/// What a step of the domain sees.
+/// Returns what a step of the domain sees.
 pub fn see(config: &Roster, domains: &[DomainState], actor: DomId, step: Step) -> Observation
     requires { IsPlaced config.now.domains.items domains.now }
     ensures { result ≡ sees domains.now actor step }

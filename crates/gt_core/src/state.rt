@@ -51,7 +51,7 @@ impl Model for DomainState {
         (d.header.version < 4) × HasRoom (asked_in d.underway) d.mappings (option_map (λ v. vec_len v) d.room) };
 }
 
-/// The place of the domain with this number, in one look.
+/// Returns the index of the domain with this number, in one look.
 pub fn find(config: &Roster, domains: &[DomainState], dom: DomId) -> Option<usize>
     requires { IsPlaced config.now.domains.items domains.now }
     ensures { result ≡ position (λ d. d.id.0 == dom.0) domains.now }
@@ -60,7 +60,7 @@ pub fn find(config: &Roster, domains: &[DomainState], dom: DomId) -> Option<usiz
     config.position(dom)
 }
 
-// The header of a table, as far as its word has room.
+// Returns the header of a table, as far as its word has room.
 fn table_header(version: u32, frames: u32) -> Header
     ensures { result ≡ record { version = version % 4; frames = frames % 256 } }
 {
@@ -70,7 +70,7 @@ fn table_header(version: u32, frames: u32) -> Header
     }
 }
 
-// The ground of a write by this route.
+// Returns the right of a write by this route.
 fn ground_of(route: AccessPath) -> WriteBasis
     ensures { result ≡ ground_of route }
 {
@@ -93,7 +93,8 @@ impl DomainState {
     ghost use Rattle.gt_core.specs.Effects.{Adds, with_slot, with_own, with_header, with_underway, with_open_call};
     ghost use Rattle.gt_core.specs.Effects.{with_mapping, without_holder};
 
-    /// A domain at rest: all entries invalid and of the first generation.
+    /// Returns the state of a domain in which no call was made: all entries are invalid and at the first
+    /// generation.
     pub fn new(alloc: Global, domain: DomainConfig, first_gen: u32) -> Result<DomainState, Memory>
         ensures { IfOk result (λ d. d ≡ first_state first_gen domain) }
     {
@@ -111,15 +112,15 @@ impl DomainState {
         })
     }
 
-    /// The call under way.
+    /// Returns the open call.
     pub fn underway(&self) -> Option<OpenCall>
         ensures { result ≡ self.now.underway }
     {
         self.underway
     }
 
-    /// A call begins, with the bytes that are to be written. It copies them, and makes the room that its answer needs.
-    /// For a map a serial is left.
+    /// Opens a call. Copies the bytes that it is to write, and makes the room that its answer needs. For a map, a
+    /// serial must be left.
     pub fn begin(&mut self, alloc: Global, call: OpenCall, bytes: &[u8]) -> Result<(), Memory>
         requires { IsMapping (Some call.call.request) → self.old.mappings.given + 1 < 2 ^ 64 }
         ensures opened { OnOk result (self.new ≡ with_open_call call (kept_by call.call.request bytes.now) self.old) }
@@ -144,7 +145,7 @@ impl DomainState {
         Ok(())
     }
 
-    /// The call goes on.
+    /// Keeps the call after a step, with its next one.
     pub fn go_on(&mut self, call: OpenCall)
         requires { asked_in self.old.underway ≡ Some call.call.request }
         ensures { self.new ≡ with_underway (Some call) self.old }
@@ -152,7 +153,7 @@ impl DomainState {
         self.underway = Some(call);
     }
 
-    /// The call is over.
+    /// Closes the call.
     pub fn close(&mut self)
         ensures { self.new ≡ with_underway None self.old }
     {
@@ -160,7 +161,7 @@ impl DomainState {
         self.room = None;
     }
 
-    /// A load is over: the room for its bytes.
+    /// Closes a load, and returns the room for its bytes.
     pub fn close_load(&mut self, alloc: Global) -> Vec<u8>
         ensures closed { self.new ≡ with_underway None self.old }
         ensures room { IsLoading (asked_in self.old.underway) (vec_len result) }
@@ -172,7 +173,7 @@ impl DomainState {
         }
     }
 
-    /// A map is over: its pin is kept as a new mapping, under the next serial. Its room was made when it began.
+    /// Closes a map, and keeps its pin as a new mapping, with the next serial. `begin` made the room for it.
     pub fn add_mapping(&mut self, held: HeldPin) -> Handle
         requires { IsMapping (asked_in self.old.underway) }
         ensures adds { Adds self.old.mappings self.new.mappings result held }
@@ -183,7 +184,7 @@ impl DomainState {
         handle
     }
 
-    // The route by which its call writes.
+    // Returns the route by which its call writes.
     fn route(&self, call: Call) -> AccessPath
         ensures { result ≡ route_of self.now.mappings call }
     {
@@ -197,7 +198,8 @@ impl DomainState {
         }
     }
 
-    /// The writ of its call: the caller writes, by its own frame or by the entries of the pins that it holds for that.
+    /// Returns the writ of its call: the caller writes to its own frame, or by the entries of the pins that it
+    /// holds for that.
     pub fn writ(&self, call: Call) -> Writ
         ensures { IsWritOf self.now call result }
     {
@@ -207,7 +209,7 @@ impl DomainState {
         }
     }
 
-    /// What an entry shows.
+    /// Returns what an entry shows.
     pub fn shown(&self, gref: GrantRef) -> Option<EntryView>
         ensures { result ≡ shown_in (slice_get self.now.own gref.0) (slice_get self.now.slots gref.0) }
     {
@@ -243,14 +245,14 @@ impl DomainState {
         }
     }
 
-    /// Stores the header of the table; its word has room for versions below 4 and 255 frames.
+    /// Stores the header of the table. Its word has room for versions below 4 and at most 255 frames.
     pub fn store_header(&mut self, version: u32, frames: u32)
         ensures { self.new ≡ with_header version frames self.old }
     {
         self.header = table_header(version, frames);
     }
 
-    /// Gives up the mapping under this handle.
+    /// Drops the mapping, if a mapping was the holder.
     pub fn forget(&mut self, holder: PinHolder)
         ensures { self.new ≡ without_holder holder self.old }
     {

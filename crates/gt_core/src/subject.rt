@@ -12,7 +12,6 @@ use gt_calls::{Handle, HeldPin};
 use gt_types::{Allows, DomId, GrantRef};
 
 impl DomainState {
-    // The mapping under this handle.
     fn mapping(&self, handle: Handle) -> Option<&HeldPin>
         ensures { option_copied result ≡ value_of self.now.mappings handle }
     {
@@ -21,7 +20,7 @@ impl DomainState {
 }
 
 impl<P: Allows> Machine<P> {
-    /// The entry that the domain has mapped under this handle.
+    /// Returns the entry that the domain has mapped under this handle.
     pub(crate) fn subject(&self, dom: DomId, handle: Handle) -> Option<(DomId, GrantRef)>
         ensures { (h : History) → DomainsStand (setting_by P.may self.now) h self.now.domains.items →
             result ≡ subject_at (setting_by P.may self.now) h dom handle }

@@ -1,7 +1,7 @@
-//! A call under way.
+//! Open calls.
 use gt_calls::{Call, Step};
 
-/// A call under way, and its next step.
+/// An open call, and its next step.
 #[derive(Clone, Copy)]
 pub struct OpenCall {
     pub call: Call,

@@ -60,7 +60,7 @@ set n e = grind (arith, nat_tests)
 below-512 : (f : ℕ) → nat_lt 0 (f / 512) ≡ false → f < 512
 below-512 f e = let none : f / 512 ≡ 0 = grind (arith, nat_tests) in omega arith
 
--- what is left of the flags is below 8, or below 264 with the sub-page bit
+-- the rest of the flags is below 8, or below 264 with the sub-page bit
 record Small (f : ℕ) : Type 0 where
   plain : is_set f 256 ≡ false → f < 8
   sub : is_set f 256 ≡ true → (256 ≤ f) × (f < 264)
@@ -94,7 +94,7 @@ small version size f n =
         let l264 : f < 264 = omega arith in
         (low, l264)
 
--- the readonly bit is all that the flags add to their type and sub-page bit
+-- the readonly bit is the only addition to the type and the sub-page bit
 readonly-left : (f k : ℕ) → f % 4 ≡ k % 4 → k % 8 < 4 → k ≤ f → f < k + 8 → k % 8 ≡ k % 4 → f ≡ k + flag (is_set f 4)
 readonly-left f k t low least most none = go (is_set f 4) refl
   where
@@ -265,7 +265,7 @@ one-v2 bytes (Via d o e r) (Via d' o' e' r') s t =
     let ref : r.0 ≡ r'.0 = sym s.layout.3 ∙ t.layout.3 in
     λ i. Via (record { 0 = dom i }) (ro i) (record { 0 = next_dom i }) (record { 0 = ref i })
 
--- what the program's arrays know of their bytes
+-- what is known of the bytes of the program's arrays
 pub are-bytes : (n : ℕ) (bytes : List ℕ) → length bytes ≡ n → ((i : ℕ) → get_or bytes i 0 < 256) → AreBytes n bytes
 are-bytes n bytes long fits = (long, λ k d h. subst (λ (b : ℕ). b < 256) (get_or_default bytes k 0 d h) (fits k))
 

@@ -1,4 +1,4 @@
--- What is written into the bytes of an entry.
+-- Writing the bytes of an entry.
 use Rattle.std.proofs.Common.{◌≡◌, ℕ, zero, suc, ◌+◌, ◌-◌, ◌/◌, ◌^◌, ◌<◌, ◌≤◌, Bool, List, [], ◌++◌, length, take, drop}
 use Rattle.std.proofs.Common.{replicate, All, append_assoc, append-nil, refl, sym, ap, ◌∙◌, subst, arith}
 use Rattle.std.specs.Int.{byte_at, bytes_low_first}
@@ -16,7 +16,7 @@ use Rattle.gt_entry.specs.declared.entry.Entry.TheVariants.{Page, Sub, Via}
 use Rattle.gt_entry.specs.Words.{flag}
 use Rattle.gt_entry.specs.Bytes.{field, with_field, AreBytes, SpellsV1, SpellsV2, IsZeroPadded}
 
--- a part up to the end of the bytes is read as the bytes from its place on
+-- a part up to the end of the bytes is read as the bytes starting at its offset
 pub read-part : (bytes : List ℕ) (at n : ℕ) → little_number n (take (length bytes - at) (drop at bytes)) ≡ field bytes at n
 read-part bytes at n = ap (λ (part : List ℕ). little_number n part) (take_rest bytes at)
 
@@ -51,7 +51,7 @@ front xs ys at n h =
     ap (λ (zs : List ℕ). little_number n zs) (drop-append-le at xs ys (omega arith))
     ∙ little_from-append n (drop at xs) ys (omega (arith, length-drop at xs))
 
--- a field in front of it stays
+-- a field before it stays
 field-before : (bytes : List ℕ) (at n number at' n' : ℕ) → at ≤ length bytes → at' + n' ≤ at → field (with_field bytes at n number) at' n' ≡ field bytes at' n'
 field-before bytes at n number at' n' fits before =
     let long : at' + n' ≤ length (take at bytes) = omega (arith, length-take-le at bytes fits) in
@@ -59,7 +59,7 @@ field-before bytes at n number at' n' fits before =
     ap (λ (xs : List ℕ). field xs at' n') (sym (take-append-drop at bytes)) ∙ front (take at bytes) (drop at bytes) at' n' long in
     front (take at bytes) (little_bytes n number ++ drop (at + n) bytes) at' n' long ∙ sym old
 
--- a field behind it stays
+-- a field after it stays
 field-behind : (bytes : List ℕ) (at n number at' n' : ℕ) → at + n ≤ length bytes → at + n ≤ at' → field (with_field bytes at n number) at' n' ≡ field bytes at' n'
 field-behind bytes at n number at' n' fits past =
     let k : ℕ = at' - (at + n) in

@@ -1,4 +1,4 @@
--- The bytes that spell an entry, and the field that is refused of bytes that spell none.
+-- The bytes that encode an entry, and the field that is refused of bytes that encode none.
 use Rattle.std.specs.Prelude.{◌≡◌, ℕ, ◌+◌, ◌/◌, ◌%◌, ◌<◌, Bool, ◌&&◌, ◌||◌, not, ◌==◌, nat_lt, if◌then◌else◌, List, []}
 use Rattle.std.specs.Prelude.{◌∷◌, ◌++◌, length, take, drop, All, find, Option, MatchBool}
 use Rattle.byteorder.specs.Endian.{little_number, little_bytes}
@@ -9,11 +9,11 @@ use Rattle.gt_entry.specs.declared.entry.Entry.{Entry}
 use Rattle.gt_entry.specs.declared.entry.Entry.TheVariants.{Invalid, Page, Sub, Via}
 use Rattle.gt_entry.specs.Words.{flag}
 
--- the number in the n bytes from this place on, the lowest first (own: all numbers are little-endian)
+-- the number in n bytes starting at this offset, the lowest byte first (own: all numbers are little-endian)
 abbrev pub field : List ℕ → ℕ → ℕ → ℕ
 field bytes at n = little_number n (drop at bytes)
 
--- the bytes with a number in the n bytes from this place on
+-- the bytes with a number in n bytes starting at this offset
 abbrev pub with_field : List ℕ → ℕ → ℕ → ℕ → List ℕ
 with_field bytes at n number = take at bytes ++ (little_bytes n number ++ drop (at + n) bytes)
 
@@ -21,7 +21,7 @@ with_field bytes at n number = take at bytes ++ (little_bytes n number ++ drop (
 abbrev pub flags_of : List ℕ → ℕ
 flags_of bytes = field bytes 0 2
 
--- so many bytes
+-- n bytes
 abbrev pub AreBytes : ℕ → List ℕ → Type 0
 AreBytes n bytes = (length bytes ≡ n) × All (λ byte. byte < 256) bytes
 
@@ -33,8 +33,8 @@ IsLaidOutV1 bytes (Page dom ro frame) =
 IsLaidOutV1 bytes (Sub dom ro frame off len) = ⊥
 IsLaidOutV1 bytes (Via dom ro dom2 gref) = ⊥
 
--- version 2: a full page has flags, domain, padding, frame; a sub-page flags, domain, start, length, frame; a
--- transitive entry flags, domain, next domain, padding, reference, padding (grant_table.h, grant_entry_v2)
+-- version 2: a full page has flags, domain, padding, frame; a sub-page has flags, domain, start, length, frame; a
+-- transitive entry has flags, domain, next domain, padding, reference, padding (grant_table.h, grant_entry_v2)
 abbrev pub IsLaidOutV2 : List ℕ → Entry → Type 0
 IsLaidOutV2 bytes Invalid = ⊥
 IsLaidOutV2 bytes (Page dom ro frame) =
@@ -52,36 +52,36 @@ IsZeroPadded bytes (Page dom ro frame) = field bytes 4 4 ≡ 0
 IsZeroPadded bytes (Sub dom ro frame off len) = Unit {0}
 IsZeroPadded bytes (Via dom ro dom2 gref) = (field bytes 6 2 ≡ 0) × (field bytes 12 4 ≡ 0)
 
--- the bytes spell the entry in a table of version 1; padding is ignored (grant_table.h)
+-- the bytes encode the entry in a table of version 1; there is no padding (grant_table.h)
 pub record SpellsV1 (bytes : List ℕ) (entry : Entry) : Type 0 where
   pub size : AreBytes 8 bytes
   pub layout : IsLaidOutV1 bytes entry
 
--- the bytes spell the entry in a table of version 2; padding is ignored (grant_table.h)
+-- the bytes encode the entry in a table of version 2; padding is ignored (grant_table.h)
 pub record SpellsV2 (bytes : List ℕ) (entry : Entry) : Type 0 where
   pub size : AreBytes 16 bytes
   pub layout : IsLaidOutV2 bytes entry
 
--- the bytes spell the entry in a table of this version: 1 or 2, in no other are there entries (grant_table.h)
+-- the bytes encode the entry in a table of this version; only versions 1 and 2 have entries (grant_table.h)
 abbrev pub Spells : ℕ → List ℕ → Entry → Type 0
 Spells version bytes entry = MatchBool (version == 2) (SpellsV2 bytes entry) ((version ≡ 1) × SpellsV1 bytes entry)
 
--- a bit of the flags, by its value, is set
+-- the bit of the flags with this value is set
 abbrev pub is_set : ℕ → ℕ → Bool
 is_set flags bit = flags / bit % 2 == 1
 
--- a table is of version 1 or 2 (grant_table.h)
+-- tables have version 1 or 2 (grant_table.h)
 abbrev pub is_table_version : ℕ → Bool
 is_table_version version = (version == 1) || (version == 2)
 
--- how many bytes an entry has in a table of this version (grant_table.h)
+-- the number of bytes of an entry in a table of this version (grant_table.h)
 abbrev pub entry_size : ℕ → ℕ
 entry_size version = if version == 2 then 16 else 8
 
--- the field is refused of so many bytes with these flags in a table of this version: a length that
--- is not the version's, as is any in a version that no table has; a type that is no page or, in
--- version 2, no transitive entry; a bit of the hypervisor's or of the cache's; the sub-page bit in
--- version 1 or of a transitive entry; a bit that is not defined
+-- A table of this version refuses the field of `size` bytes with these flags. It refuses: a length other than that of
+-- its version, and any length in a version that no table has; a type other than page or, in version 2, transitive; a
+-- bit of the hypervisor or of the cache; the sub-page bit in version 1 or with the transitive type; a bit that is not
+-- defined.
 abbrev pub is_refused : ℕ → ℕ → ℕ → Field → Bool
 is_refused version size flags Length = not (is_table_version version && (size == entry_size version))
 is_refused version size flags Kind = (flags % 4 == 0) || (flags % 4 == 2) || ((flags % 4 == 3) && not (version == 2))
@@ -93,14 +93,14 @@ is_refused version size flags Pat = is_set flags 128
 is_refused version size flags SubPage = is_set flags 256 && (not (version == 2) || (flags % 4 == 3))
 is_refused version size flags Reserved = nat_lt 0 (flags / 512)
 
--- the fields of the flags in the order in which they are looked at
+-- the fields of the flags, in the order in which they are checked
 abbrev pub flag_fields : List Field
 flag_fields = Kind ∷ Reading ∷ Writing ∷ Pwt ∷ Pcd ∷ Pat ∷ SubPage ∷ Reserved ∷ []
 
--- the first field of the flags that is refused in a table of this version
+-- the first field of the flags that a table of this version refuses
 abbrev pub refused_flag : ℕ → ℕ → Option Field
 refused_flag version flags = find (is_refused version (entry_size version) flags) flag_fields
 
--- the first field that is refused of the bytes, the length before all others
+-- the first field of the bytes that is refused; the length is checked first
 abbrev pub first_refused : ℕ → List ℕ → Option Field
 first_refused version bytes = find (is_refused version (length bytes) (flags_of bytes)) (Length ∷ flag_fields)

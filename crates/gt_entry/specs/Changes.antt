@@ -6,7 +6,7 @@ use Rattle.gt_entry.specs.declared.entry.Entry.{Entry}
 use Rattle.gt_entry.specs.declared.entry.Entry.TheVariants.{Invalid}
 use Rattle.gt_entry.specs.Entries.{with_ro}
 
--- the entry after a change: the one published, nothing, or the same with another readonly bit
+-- the entry after a change: the published one, an invalid one, or the same with another readonly bit
 abbrev pub changed_entry : EntryChange → Entry → Entry
 changed_entry (Publish entry) old = entry
 changed_entry Revoke old = Invalid

@@ -1,16 +1,16 @@
--- What an entry is.
+-- The kinds of entries and their parts.
 use Rattle.std.specs.Prelude.{◌^◌, ◌<◌, ℕ, Bool, true, false}
 use Rattle.gt_entry.specs.declared.entry.Entry.{Entry}
 use Rattle.gt_entry.specs.declared.entry.Entry.TheVariants.{Invalid, Page, Sub, Via}
 
--- nothing is granted (grant_table.h)
+-- the entry grants nothing (grant_table.h)
 abbrev pub is_invalid : Entry → Bool
 is_invalid Invalid = true
 is_invalid (Page dom ro frame) = false
 is_invalid (Sub dom ro frame off len) = false
 is_invalid (Via dom ro dom2 gref) = false
 
--- it refuses writing (grant_table.h)
+-- the entry refuses writing (grant_table.h)
 abbrev pub is_read_only : Entry → Bool
 is_read_only Invalid = false
 is_read_only (Page dom ro frame) = ro
@@ -24,14 +24,14 @@ with_ro ro (Page dom old frame) = Page dom ro frame
 with_ro ro (Sub dom old frame off len) = Sub dom ro frame off len
 with_ro ro (Via dom old dom2 gref) = Via dom ro dom2 gref
 
--- the frame of its owner that the entry is of, 0 if it is of none (grant_table.h)
+-- the owner's frame that the entry grants, 0 if it grants none (grant_table.h)
 abbrev pub frame_of : Entry → ℕ
 frame_of Invalid = 0
 frame_of (Page dom ro frame) = frame
 frame_of (Sub dom ro frame off len) = frame
 frame_of (Via dom ro dom2 gref) = 0
 
--- each number of the entry fits its type, as it does in every value of the program
+-- each number of the entry fits its type, as in every value of the program
 abbrev pub IsEntry : Entry → Type 0
 IsEntry Invalid = Unit {0}
 IsEntry (Page dom ro frame) = (dom.0 < 65536) × (frame < 2 ^ 64)

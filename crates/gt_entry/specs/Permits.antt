@@ -13,13 +13,13 @@ abbrev pub allows_direction : Bool → Dir → Bool
 allows_direction ro Read = true
 allows_direction ro Write = not ro
 
--- whether the bytes are wanted for a copy
+-- the bytes are for a copy
 abbrev pub is_copying : Use → Bool
 is_copying ForMap = false
 is_copying ForCopy = true
 
--- the entry permits the domain this direction and use of the len bytes from off on: a page
--- any of its bytes, a sub-page the copying of its own (grant_table.h)
+-- the entry permits the domain this direction and use of len bytes, starting at off: a page permits any of its bytes,
+-- a sub-page only copies of its own (grant_table.h)
 abbrev pub permits : Entry → DomId → Dir → Use → ℕ → ℕ → Bool
 permits Invalid d dir purpose off len = false
 permits (Page dom ro frame) d dir purpose off len = (dom.0 == d.0) && allows_direction ro dir
@@ -28,7 +28,7 @@ permits (Sub dom ro frame start size) d dir purpose off len =
     && nat_le (off + len) (start + size)
 permits (Via dom ro dom2 gref) d dir purpose off len = false
 
--- the entry lets the domain copy by the grant that it leads to (grant_table.h)
+-- the entry is transitive, and lets the domain copy in this direction by the grant that it leads to (grant_table.h)
 abbrev pub forwards : Entry → DomId → Dir → Bool
 forwards (Via dom ro dom2 gref) d dir = (dom.0 == d.0) && allows_direction ro dir
 forwards Invalid d dir = false
@@ -42,7 +42,7 @@ leads_to Invalid owner = false
 leads_to (Page dom ro frame) owner = false
 leads_to (Sub dom ro frame off len) owner = false
 
--- the entry is of this frame of its owner (grant_table.h)
+-- the entry grants this frame of its owner (grant_table.h)
 abbrev pub is_of_frame : Entry → ℕ → Bool
 is_of_frame (Page dom ro frame) number = frame == number
 is_of_frame (Sub dom ro frame off len) number = frame == number

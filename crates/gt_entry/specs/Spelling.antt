@@ -1,4 +1,4 @@
--- The words that spell an entry: its control word and two body words.
+-- The words that encode an entry: its control word and two body words.
 use Rattle.std.specs.Prelude.{◌≡◌, ℕ, ◌+◌, ◌*◌, ◌/◌, ◌%◌, ◌^◌, false}
 use Rattle.gt_entry.specs.declared.entry.Entry.{Entry}
 use Rattle.gt_entry.specs.declared.entry.Entry.TheVariants.{Invalid, Page, Sub, Via}
@@ -8,7 +8,7 @@ use Rattle.gt_entry.specs.declared.control.EntryKind.TheVariants.{Via as KindVia
 use Rattle.gt_entry.specs.declared.control.Control.{Control}
 use Rattle.gt_entry.specs.Words.{flag}
 
--- what the low four bits of the entry's control word are
+-- the low four bits of the entry's control word
 abbrev pub low_bits : Entry → ℕ
 low_bits Invalid = 0
 low_bits (Page dom ro frame) = 1 + flag ro
@@ -22,7 +22,7 @@ named_domain (Page dom ro frame) = dom.0
 named_domain (Sub dom ro frame off len) = dom.0
 named_domain (Via dom ro dom2 gref) = dom.0
 
--- the control word of the entry at a generation, with no pins
+-- the control word of the entry at a generation, without pins
 abbrev pub idle_word_of : Entry → ℕ → ℕ
 idle_word_of e generation = low_bits e + 268435456 * named_domain e + 17592186044416 * generation
 
@@ -55,21 +55,21 @@ first_body (Page dom ro frame) = frame
 first_body (Sub dom ro frame off len) = frame
 first_body (Via dom ro dom2 gref) = dom2.0 + gref.0 * 65536
 
--- body word 1, only of a sub-page: in bits 0 to 15 where it begins, in 16 to 31 its length
+-- body word 1, used only by a sub-page: in bits 0 to 15 its offset, in 16 to 31 its length
 abbrev pub second_body : Entry → ℕ
 second_body (Sub dom ro frame off len) = off + len * 65536
 second_body Invalid = 0
 second_body (Page dom ro frame) = 0
 second_body (Via dom ro dom2 gref) = 0
 
--- the body words spell the entry: the second counts only for a sub-page, and neither for an invalid entry
+-- the body words encode the entry: the second counts only for a sub-page, and neither counts for an invalid entry
 abbrev pub IsSpelled : Entry → ℕ → ℕ → Type 0
 IsSpelled Invalid first second = Unit {0}
 IsSpelled (Page dom ro frame) first second = first ≡ frame
 IsSpelled (Sub dom ro frame off len) first second = (first ≡ frame) × (second ≡ off + len * 65536)
 IsSpelled (Via dom ro dom2 gref) first second = first ≡ dom2.0 + gref.0 * 65536
 
--- the entry that a control of this kind and two body words spell
+-- the entry that a control of this kind and two body words encode
 abbrev pub entry_with : EntryKind → Control → ℕ → ℕ → Entry
 entry_with KindInvalid c first second = Invalid
 entry_with KindPage c first second = Page c.dom c.ro first
@@ -77,6 +77,6 @@ entry_with KindSub c first second = Sub c.dom c.ro first (second % 65536) (secon
 entry_with KindVia c first second =
     Via c.dom c.ro (record { 0 = first % 65536 }) (record { 0 = first / 65536 % 2 ^ 32 })
 
--- the entry that a control and two body words spell
+-- the entry that a control and two body words encode
 abbrev pub entry_of : Control → ℕ → ℕ → Entry
 entry_of c first second = entry_with c.kind c first second

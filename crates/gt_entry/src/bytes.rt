@@ -1,4 +1,4 @@
-//! Entries as guests write them: bytes of versions 1 and 2.
+//! Entries as guests write them: the bytes of versions 1 and 2.
 ghost use Rattle.std.specs.Prelude.{◌≡◌, ◌+◌, ◌<◌, ℕ, List, Some, None, IfOk, IfErr, IfSome, IfNone, MatchResult};
 ghost use Rattle.gt_entry.specs.declared.entry.Entry.{Entry};
 ghost use Rattle.gt_entry.specs.Words.{flag};
@@ -8,34 +8,34 @@ use crate::Entry;
 use crate::fields::{read_u16, read_u32, read_u64, write_u16, write_u32, write_u64};
 use gt_types::{DomId, Field, GrantRef};
 
-/// The type of a page or a sub-page (the header's `GTF_permit_access`).
+/// The type of a page or a sub-page (`GTF_permit_access` of `grant_table.h`).
 const PERMIT_ACCESS: u16 = 1;
 
-/// The type of a transitive entry (the header's `GTF_transitive`).
+/// The type of a transitive entry (`GTF_transitive`).
 const TRANSITIVE: u16 = 3;
 
-/// The owner refuses writing (`GTF_readonly`).
+/// The readonly bit: the owner refuses writing (`GTF_readonly`).
 const READONLY: u16 = 4;
 
-/// The hypervisor's mark of a live pin (`GTF_reading`), which no owner sets.
+/// The hypervisor's mark of a live pin (`GTF_reading`). No owner sets it.
 const READING: u16 = 8;
 
-/// The hypervisor's mark of a live write pin (`GTF_writing`), which no owner sets.
+/// The hypervisor's mark of a live write pin (`GTF_writing`). No owner sets it.
 const WRITING: u16 = 16;
 
-/// A mapping's cache bit (`GTF_PWT`), outside this profile.
+/// A cache bit of mappings (`GTF_PWT`), which this monitor refuses.
 const PWT: u16 = 32;
 
-/// A mapping's cache bit (`GTF_PCD`), outside this profile.
+/// A cache bit of mappings (`GTF_PCD`), which this monitor refuses.
 const PCD: u16 = 64;
 
-/// A mapping's cache bit (`GTF_PAT`), outside this profile.
+/// A cache bit of mappings (`GTF_PAT`), which this monitor refuses.
 const PAT: u16 = 128;
 
-/// With the type of a page: a sub-page (`GTF_sub_page`).
+/// The sub-page bit (`GTF_sub_page`), which goes with the type of a page.
 const SUB_PAGE: u16 = 256;
 
-/// The first bit that is not defined; those above it are not either.
+/// The lowest bit that is not defined. The bits above it are not defined either.
 const FIRST_RESERVED: u16 = 512;
 
 fn is_set(flags: u16, bit: u16) -> bool
@@ -45,7 +45,7 @@ fn is_set(flags: u16, bit: u16) -> bool
     flags / bit % 2 == 1
 }
 
-/// The first field of the flags that a table of this version refuses.
+/// Returns the first field of the flags that a table of this version refuses, None if it refuses none.
 fn refused_field(version: u8, flags: u16) -> Option<Field>
     ensures { result ≡ refused_flag version flags }
 {
@@ -72,7 +72,8 @@ fn refused_field(version: u8, flags: u16) -> Option<Field>
     }
 }
 
-/// The entry that 8 bytes of a table of version 1 spell, or the first field that is refused.
+/// Reads the entry that 8 bytes encode in a table of version 1 (`grant_entry_v1`). An error is the first field that
+/// is refused.
 pub fn decode_v1(bytes: &[u8; 8]) -> Result<Entry, Field>
     ensures ok { IfOk result (SpellsV1 bytes.now) }
     ensures taken { (entry : Entry) → SpellsV1 bytes.now entry → result ≡ Ok entry }
@@ -90,8 +91,8 @@ pub fn decode_v1(bytes: &[u8; 8]) -> Result<Entry, Field>
     })
 }
 
-/// The entry that 16 bytes of a table of version 2 spell, or the first field that is refused.
-/// Padding is ignored.
+/// Reads the entry that 16 bytes encode in a table of version 2 (`grant_entry_v2`). An error is the first field
+/// that is refused. Padding is ignored.
 pub fn decode_v2(bytes: &[u8; 16]) -> Result<Entry, Field>
     ensures ok { IfOk result (SpellsV2 bytes.now) }
     ensures taken { (entry : Entry) → SpellsV2 bytes.now entry → result ≡ Ok entry }
@@ -125,9 +126,9 @@ pub fn decode_v2(bytes: &[u8; 16]) -> Result<Entry, Field>
     })
 }
 
-/// The entry that these bytes spell in a table of this version, or the first field that is
-/// refused, the length before all others. A version other than 1 and 2 has no entries, so there no
-/// length is right.
+/// Reads the entry that these bytes encode in a table of this version. An error is the first field that is refused;
+/// the length is checked first. Only tables of version 1 and 2 have entries, so in any other version every length
+/// is refused.
 pub fn decode(version: u8, bytes: &[u8]) -> Result<Entry, Field>
     ensures ok { IfOk result (Spells version bytes.now) }
     ensures taken { (entry : Entry) → Spells version bytes.now entry → result ≡ Ok entry }
@@ -154,8 +155,8 @@ fn flags_of(kind: u16, ro: bool) -> u16
     if ro { kind + READONLY } else { kind }
 }
 
-/// The 8 bytes that spell the entry in a table of version 1; None if none do: for an invalid
-/// entry, a sub-page, a transitive entry, and a frame number of more than 32 bits.
+/// Returns the 8 bytes that encode the entry in a table of version 1. None for an entry that version 1 can't
+/// encode: an invalid entry, a sub-page, a transitive entry, or a frame number of more than 32 bits.
 pub fn encode_v1(entry: &Entry) -> Option<[u8; 8]>
     ensures spelled { IfSome result (λ bytes. SpellsV1 bytes entry.now) }
     ensures none { IfNone result ((bytes : List ℕ) → SpellsV1 bytes entry.now → ⊥) }
@@ -173,8 +174,8 @@ pub fn encode_v1(entry: &Entry) -> Option<[u8; 8]>
     Some(bytes)
 }
 
-/// The 16 bytes that spell the entry in a table of version 2, with zero padding; None for an
-/// invalid entry, which none do.
+/// Returns the 16 bytes that encode the entry in a table of version 2, with zero padding. None for an invalid
+/// entry, which no bytes encode.
 pub fn encode_v2(entry: &Entry) -> Option<[u8; 16]>
     ensures spelled { IfSome result (λ bytes. SpellsV2 bytes entry.now) }
     ensures padded { IfSome result (λ bytes. IsZeroPadded bytes entry.now) }
@@ -216,7 +217,7 @@ pub fn encode_v2(entry: &Entry) -> Option<[u8; 16]>
     Some(bytes)
 }
 
-/// A law: no bytes spell two entries in tables of one version.
+/// Proves that no bytes encode two entries in tables of one version.
 pub fn every_spelling_is_of_one_entry()
     ensures first { (bytes : List ℕ) (a b : Entry) → SpellsV1 bytes a → SpellsV1 bytes b → a ≡ b }
     ensures second { (bytes : List ℕ) (a b : Entry) → SpellsV2 bytes a → SpellsV2 bytes b → a ≡ b }

@@ -1,27 +1,27 @@
-//! What an owner does to an entry, and the two halves of its body.
+//! What an owner does to an entry, and the two words of its body.
 use crate::entry::Entry;
 
 /// One of the two body words of an entry.
 #[derive(Clone, Copy, Debug, PartialEq, Eq)]
 pub enum BodyWord {
-    /// The frame, or the grant that the entry leads to.
+    /// The frame number, or the grant that a transitive entry leads to.
     First,
-    /// The bytes of a sub-page.
+    /// The offset and length of a sub-page.
     Second,
 }
 
 /// What an owner's exchange of a control word does to its entry.
 #[derive(Clone, Copy, Debug, PartialEq, Eq)]
 pub enum EntryChange {
-    /// It becomes this entry, at the next generation.
+    /// The entry becomes this one, at the next generation.
     Publish(Entry),
-    /// It becomes invalid, from its word without pins, and the generation stays.
+    /// The entry becomes invalid. This succeeds only from a word without pins, and keeps the generation.
     Revoke,
-    /// It becomes invalid, and its pins and the generation stay.
+    /// The entry becomes invalid, and keeps its pins and its generation.
     Withdraw,
-    /// It becomes read-only, at the next generation.
+    /// The entry becomes read-only, at the next generation.
     Demote,
-    /// It becomes writable, at the next generation.
+    /// The entry becomes writable, at the next generation.
     Promote,
 }
 
@@ -29,7 +29,7 @@ impl EntryChange {
     ghost use Rattle.std.specs.Prelude.{◌≡◌};
     ghost use Rattle.gt_entry.specs.Changes.{changed_entry};
 
-    /// The entry that it leaves in place of this one.
+    /// Returns the entry that the change makes of this one.
     pub fn applied(self, entry: Entry) -> Entry
         ensures { result ≡ changed_entry self entry }
     {

@@ -1,4 +1,4 @@
-//! Laws of entries and the words that spell them.
+//! Entries as words, and the laws about them.
 ghost use Rattle.std.specs.Prelude.{◌≡◌, ◌<◌, ◌+◌, ◌*◌, ◌^◌, ℕ};
 ghost use Rattle.gt_entry.specs.declared.entry.Entry.{Entry};
 ghost use Rattle.gt_entry.specs.declared.control.Control.{Control};
@@ -12,7 +12,7 @@ use crate::{Control, Entry, EntryKind};
 use gt_types::{DomId, GrantRef};
 
 impl Entry {
-    /// The first body word: the frame number, or the next domain and its reference.
+    /// Returns the first body word: the frame number, or the next domain and its reference. 0 for an invalid entry.
     pub fn first_body(self) -> u64
         ensures { result ≡ first_body self }
     {
@@ -23,7 +23,7 @@ impl Entry {
         }
     }
 
-    /// The second body word: where a sub-page begins and how long it is; 0 for other entries.
+    /// Returns the second body word: the offset and the length of a sub-page. 0 for other entries.
     pub fn second_body(self) -> u64
         ensures { result ≡ second_body self }
     {
@@ -33,8 +33,7 @@ impl Entry {
         }
     }
 
-    /// The entry that a control and two body words spell. The second word counts for a sub-page
-    /// alone.
+    /// Returns the entry that a control and two body words encode. The second body word counts only for a sub-page.
     pub fn spelled(control: Control, first: u64, second: u64) -> Entry
         ensures { result ≡ entry_of control first second }
     {
@@ -63,37 +62,37 @@ impl Entry {
     }
 }
 
-/// A law: each control in range is what its word says.
+/// Proves that each control in range is read back unchanged from its word.
 pub fn every_control_is_in_its_word()
     ensures { (c : Control) → IsInRange c → c.dom.0 < 65536 → control_of (control_word c) ≡ c }
 {}
 
-/// A law: each header with a version below 4 is what its word says.
+/// Proves that each header with a version below 4 is read back unchanged from its word.
 pub fn every_header_is_in_its_word()
     ensures { (h : Header) → h.version < 4 → h.frames < 256 → header_of (header_word h) ≡ h }
 {}
 
-/// A law: two control words are equal only part by part.
+/// Proves that two control words are equal only part by part.
 pub fn every_word_has_its_own_parts()
     ensures { (l d g r w l' d' g' r' w' : ℕ) → l < 16 → l' < 16 → r < 4096 → r' < 4096 → w < 4096
         → w' < 4096 → d < 65536 → d' < 65536 → word_with l d g r w ≡ word_with l' d' g' r' w'
         → SamePartsOf l d g r w l' d' g' r' w' }
 {}
 
-/// A law: the parts of a control word are read from it by division.
+/// Proves that the parts of a control word are read from it by division.
 pub fn every_part_is_in_its_word()
     ensures { (l d g r w : ℕ) → l < 16 → d < 65536 → r < 4096 → w < 4096
         → PartsOf (word_with l d g r w) l d g r w }
 {}
 
-/// A law: the word of an entry's control is one sum of the entry's parts.
+/// Proves that the word of an entry's control is one sum of the entry's parts.
 pub fn every_entry_has_its_word()
     ensures { (e : Entry) (generation reads writes : ℕ)
         → control_word (control_with e generation reads writes) ≡ word_of e generation reads writes }
 {}
 
-/// A law: an entry is read back from its words. Its own body words spell it, and any words that
-/// spell it give it back.
+/// Proves that an entry is read back from its words: its own body words encode it, and any words that encode it are
+/// read as this entry.
 pub fn every_entry_is_in_its_words()
     ensures own { (e : Entry) → IsSpelled e (first_body e) (second_body e) }
     ensures read { (e : Entry) (generation reads writes first second : ℕ) → IsEntry e → IsSpelled e first second

@@ -40,7 +40,7 @@ module _ (xs : List ℕ) (r : WriteRecord) (size : length xs ≡ FRAME_SIZE) (fi
   read-out at (inl lt) = over.before at lt
   read-out at (inr le) = over.after at le
 
--- after one of the records they differ only at bytes that the others have
+-- after one of the records they differ only at bytes that the other records have
 one-less :
     (q : WriteRecord) (qs : List WriteRecord) (xs ys : List ℕ) → q.off + length q.bytes ≤ FRAME_SIZE → AreSameBut (q ∷ qs) xs ys
     → AreSameBut qs (overlay xs q.off q.bytes) (overlay ys q.off q.bytes)
@@ -57,12 +57,12 @@ one-less q qs xs ys fits same =
       ];
     }
 
--- so their replays are one
+-- so their replays are equal
 same-replay : (rs : List WriteRecord) (xs ys : List ℕ) → LieInside rs → AreSameBut rs xs ys → replay xs (patches rs) ≡ replay ys (patches rs)
 same-replay [] xs ys inside same = ext_get_or 0 xs ys (same.left ∙ sym same.right) (λ at lt. same.same at refl)
 same-replay (q ∷ qs) xs ys inside same = same-replay qs _ _ inside.1 (one-less q qs xs ys inside.0 same)
 
--- the record laid over changes only bytes that later ones have
+-- laying the record over changes only bytes that later records have
 covered-same : (r : WriteRecord) (later : List WriteRecord) (xs : List ℕ) → length xs ≡ FRAME_SIZE → r.off + length r.bytes ≤ FRAME_SIZE → IsCovered r later
     → AreSameBut later (overlay xs r.off r.bytes) xs
 covered-same r later xs size fits covered =
@@ -77,7 +77,7 @@ covered-same r later xs size fits covered =
       ];
     }
 
--- an overlay has as many bytes as a frame
+-- an overlay keeps the size of a frame
 pub size-overlay : (xs : List ℕ) (r : WriteRecord) → length xs ≡ FRAME_SIZE → r.off + length r.bytes ≤ FRAME_SIZE → length (overlay xs r.off r.bytes) ≡ FRAME_SIZE
 size-overlay xs r size fits = (over xs r size fits).len ∙ size
 

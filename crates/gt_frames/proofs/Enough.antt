@@ -1,4 +1,4 @@
--- No more records than a frame has bytes are enough: those that are not covered by later ones.
+-- A frame needs no more records than it has bytes: those that later ones do not cover.
 use Rattle.std.proofs.Common.{◌≡◌, ℕ, zero, suc, ◌+◌, ◌<◌, ◌≤◌, ◌⊎◌, inl, inr, Bool, true, false, ◌||◌, ◌&&◌}
 use Rattle.std.proofs.Common.{if◌then◌else◌, IsTrue, Option, Some, None, List, [], ◌∷◌, length, refl, sym, ◌∙◌, ap}
 use Rattle.std.proofs.Common.{subst, arith}
@@ -14,7 +14,7 @@ use Rattle.gt_frames.specs.Frames.{all_rightful, is_rightful, patches}
 use Rattle.gt_frames.specs.Writers.{has_byte, last_writ}
 use Rattle.gt_frames.proofs.Covered.{left-out-of, size-overlay, zeros-size}
 
--- how many numbers below n pass the test
+-- the number of numbers below n that pass the test
 abbrev counted : (ℕ → Bool) → ℕ → ℕ
 counted test zero = 0
 counted test (suc n) = if test n then suc (counted test n) else counted test n
@@ -58,7 +58,7 @@ counted-more p q (suc n) at h lt fails passes = elim (cases_lt at n) [
       now-more (p n) (q n) (counted p n) (counted q n) (subst (λ (k : ℕ). p k ≡ false) here fails) (subst (λ (k : ℕ). q k ≡ true) here passes) (counted-grows p q n h)
 ]
 
--- each number below n that passes the one test passes the other, or one doesn't
+-- each number below n that passes the one test passes the other, or one of them does not
 all_or_one : (p q : ℕ → Bool) (n : ℕ) → ((at : ℕ) → at < n → p at ≡ true → q at ≡ true) ⊎ ((at : ℕ) × (at < n) × (p at ≡ true) × (q at ≡ false))
 all_or_one p q zero = inl (λ at lt yes. absurd (omega (arith, lt)))
 all_or_one p q (suc n) = elim (all_or_one p q n) [
@@ -103,7 +103,7 @@ last-of-covered r rs at w covered = step (has_byte r at) (covered at) where
   step true has = last-of-some rs at w (Some r.writ) (has refl)
   step false has = refl
 
--- as StandFor, over any bytes and for as many records as bytes that they have
+-- as StandFor, over any bytes, with at most as many records as bytes that they have
 record Shortened (rs ks : List WriteRecord) : Type 0 where
   some : AreSomeOf ks rs
   most : length ks ≤ counted (some_has rs) FRAME_SIZE

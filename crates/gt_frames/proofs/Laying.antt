@@ -1,4 +1,4 @@
--- Frames at the places of their names.
+-- Frames at the pool numbers of their names.
 use Rattle.std.proofs.Common.{◌≡◌, ◌≢◌, ℕ, zero, suc, ◌+◌, ◌<◌, ◌==◌, ◌⊎◌, inl, inr, true, false, IsTrue, List, [], ◌∷◌}
 use Rattle.std.proofs.Common.{◌++◌, map, set, length, replicate, get_or, slice_get, unwrap_or, Option, Some, None, refl}
 use Rattle.std.proofs.Common.{sym, ◌∙◌, ap, subst, arith, append_assoc}
@@ -29,7 +29,7 @@ use Rattle.gt_frames.proofs.Placing.{length-names_of, placed}
 abbrev pub seen : List FrameCount → List FrameState → FrameSet
 seen ds fs = record { domains = ds; journals = map journal_of fs }
 
--- what stands in a list after one element was set: that one, or what stood there
+-- an element of a list after one was set: the one set, or the one that was there
 set_cases : {X : Type 0} (xs : List X) (k j : ℕ) (y x : X) → slice_get (set xs k y) j ≡ Some x → (slice_get xs j ≡ Some x) ⊎ (x ≡ y)
 set_cases [] k j y x h = inl h
 set_cases (z ∷ zs) zero zero y x h = inr (sym (same_Some y x h))
@@ -37,7 +37,7 @@ set_cases (z ∷ zs) zero (suc j) y x h = inl h
 set_cases (z ∷ zs) (suc k) zero y x h = inl h
 set_cases (z ∷ zs) (suc k) (suc j) y x h = set_cases zs k j y x h
 
--- two names at one place are the same
+-- two names with one pool number are the same
 one_name : (ds : List FrameCount) (a b : FrameName) (place : ℕ) → pool_number ds a.owner a.number 0 ≡ Some place → pool_number ds b.owner b.number 0 ≡ Some place → a ≡ b
 one_name ds a b place here there =
     let p = placed ds a 0 place here in
@@ -76,7 +76,7 @@ module _ (ds : List FrameCount) (fs : List FrameState) (out : AreLaidOut ds fs) 
         let at : slice_get (map journal_of fs) place ≡ Some f.journal = slice_get-map journal_of fs place ∙ ap (λ o. option_map journal_of o) here in
         ap (λ (o : Option ℕ). journal_in o (map journal_of fs)) is ∙ ap (λ (o : Option (List WriteRecord)). unwrap_or o []) at
 
-    -- the frame that stands there is the one of this name
+    -- the frame at the pool number is the one of this name
     pub found : f ≡ frame_at (seen ds fs) name
     found =
         let o : f.owner ≡ name.owner = ap (λ (n : FrameName). n.owner) is_named in
@@ -84,7 +84,7 @@ module _ (ds : List FrameCount) (fs : List FrameState) (out : AreLaidOut ds fs) 
         let same : f ≡ record { owner = f.owner; number = f.number; journal = f.journal } = refl in
         same ∙ cc (o, n, journal_here)
 
-  -- each frame is kept
+  -- each frame was written by right
   pub kept_all : AreKept (seen ds fs)
   kept_all name = there (pool_number ds name.owner name.number 0) refl
     where
@@ -100,7 +100,7 @@ module _
     (is : pool_number ds name.owner name.number 0 ≡ Some place) (here : slice_get fs place ≡ Some f)
     (g : FrameState) (w : Writ) (off : ℕ) (ys : List ℕ) (writes : IsWrite f g w off ys) (kept : IsKept g)
   where
-    -- each frame still stands at its place once one was written to
+    -- each frame is still at its pool number after one was written
     pub laid_after : AreLaidOut ds (set fs place g)
     laid_after =
         let same : name_of g ≡ name_of (get_or fs place f) = ap name_of writes.journal ∙ ap name_of (sym (get_or_from_slice_get fs place f f here)) in
@@ -124,7 +124,7 @@ module _
         ∙ get_or-set_other (map journal_of fs) place at g.journal [] away
         ∙ sym (unwrap_or-slice_get (map journal_of fs) at [])
 
-    -- and that is what contracts see
+    -- contracts see the same
     pub writes_after : WritesTo (seen ds fs) (seen ds (set fs place g)) name w off ys
     writes_after =
         let old : f ≡ frame_at (seen ds fs) name = found ds fs out name place f is here in
@@ -185,7 +185,7 @@ laid_new ds =
           subst (λ (j : List WriteRecord). IsTrue (all_rightful f.owner f.number j)) (sym none) refl;
     }
 
--- two frames of a list that is cut in two
+-- two frames of a list that is split in two
 
 get_front : (xs ys : List FrameState) (k : ℕ) → k < length xs → slice_get (xs ++ ys) k ≡ slice_get xs k
 get_front [] ys k below = absurd (omega arith)
@@ -216,7 +216,7 @@ module _ (all front back : List FrameState) (cut : ℕ) (parts : all ≡ front +
   pub set_back_is : (f : FrameState) → front ++ set back 0 f ≡ set all cut f
   set_back_is f = sym (set_back front back f) ∙ ap (λ (n : ℕ). set (front ++ back) n f) len ∙ ap (λ (l : List FrameState). set l cut f) (sym parts)
 
--- what a copy between two frames is among all of them
+-- a copy between two frames, as a change of all of them
 pub copied_among :
     (old new : List FrameState) (source dest : ℕ) (w : Writ) (from_off to_off len : ℕ) (from to after : FrameState)
     → ((g : FrameState) → slice_get old source ≡ Some g → g ≡ from) → ((g : FrameState) → slice_get old dest ≡ Some g → g ≡ to)
@@ -236,7 +236,7 @@ pub receipt_among :
 receipt_among old source dest writer from_off to_off len from to r is_from is_to is f t at_from at_to =
     is ∙ ap (λ (x : FrameState). copying_of x from_off to to_off len writer) (sym (is_from f at_from)) ∙ ap (λ (x : FrameState). copying_of f from_off x to_off len writer) (sym (is_to t at_to))
 
--- a fact that holds whether or not a call was refused
+-- a fact that holds whether a call succeeds or fails
 pub either_way : {T E P : Type 0} (r : Result T E) → OnOk r P → OnErr r P → P
 either_way (Ok x) here there = here
 either_way (Err e) here there = there
@@ -245,14 +245,14 @@ set_as_was : (fs : List FrameState) (place : ℕ) (f g : FrameState) → slice_g
 set_as_was fs place f g here same =
     ap (λ (x : FrameState). set fs place x) (same ∙ sym (get_or_from_slice_get fs place f f here)) ∙ set-get_or fs place f
 
--- the frame that is read at a place is the one of this name
+-- the frame read at a pool number is the one of this name
 pub found_read :
     (ds : List FrameCount) (fs : List FrameState) (out : AreLaidOut ds fs) (name : FrameName) (place : ℕ) (f : FrameState)
     → pool_number ds name.owner name.number 0 ≡ Some place → f ≡ get_or fs place f → f ≡ frame_at (seen ds fs) name
 found_read ds fs out name place f is read =
     found ds fs out name place f is (slice_get_read fs (length fs) place f refl (below ds fs out name place is) read)
 
--- one frame was written to, or the write was refused
+-- one frame was written, or the write failed
 module _
     (ds : List FrameCount) (fs : List FrameState) (out : AreLaidOut ds fs) (name : FrameName) (place : ℕ) (f : FrameState)
     (is : pool_number ds name.owner name.number 0 ≡ Some place) (read : f ≡ get_or fs place f)
@@ -274,7 +274,7 @@ module _
     pub one_written : OnOk r (WritesTo (seen ds fs) (seen ds (set fs place g)) name w off ys)
     one_written = on_ok_weaker r (λ write. writes_after ds fs out name place f is at_place g w off ys write kept) writes
 
--- bytes were copied between two frames, or the copy was refused
+-- bytes were copied between two frames, or the copy failed
 module _
     (ds : List FrameCount) (fs new : List FrameState) (out : AreLaidOut ds fs) (from to : FrameName) (source dest : ℕ)
     (is_source : pool_number ds from.owner from.number 0 ≡ Some source) (is_dest : pool_number ds to.owner to.number 0 ≡ Some dest)

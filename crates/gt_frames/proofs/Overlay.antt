@@ -1,4 +1,4 @@
--- What an overlay is, byte by byte.
+-- Overlays, byte by byte.
 use Rattle.std.proofs.Common.{◌≡◌, ℕ, ◌+◌, ◌-◌, ◌<◌, ◌≤◌, List, ◌++◌, take, drop, length, get_or, sym, ◌∙◌, ap, arith}
 use Rattle.std.proofs.Common.{length-append, length-drop}
 use Rattle.std.proofs.lemmas.List.{length-take-le, get_or-take, get_or-drop, get_or_append_left, get_or-append-add}
@@ -34,6 +34,6 @@ module _ (xs : List ℕ) (off : ℕ) (ys : List ℕ) (fits : off + length ys ≤
       ∙ get_or-drop (off + length ys) xs (at - (off + length ys)) 0
       ∙ ap (λ (n : ℕ). get_or xs n 0) back
 
-  -- an overlay has the bytes laid over where they lie, and elsewhere what was there
+  -- an overlay has the new bytes in its range, and elsewhere the old ones
   pub laid_over : IsLaidOver xs off ys (overlay xs off ys)
   laid_over = record { len = length-overlay; inside = inside; before = before; after = after }

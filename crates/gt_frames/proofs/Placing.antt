@@ -1,4 +1,4 @@
--- The places of frames.
+-- The pool numbers of frames.
 use Rattle.std.proofs.Common.{◌≡◌, ℕ, ◌+◌, ◌<◌, ◌==◌, nat_lt, Bool, true, false, cond, List, [], ◌∷◌, map, length}
 use Rattle.std.proofs.Common.{get_or, Some, None, refl, sym, ◌∙◌, ap, arith, length-append}
 use Rattle.std.specs.List.{range_with_len}
@@ -10,13 +10,13 @@ use Rattle.gt_frames.specs.declared.places.FrameCount.{FrameCount}
 use Rattle.gt_types.specs.declared.places.FrameName.{FrameName}
 use Rattle.gt_frames.specs.Places.{pool_number, frames_of, name_in, names_of}
 
--- how many frames there are, by name
+-- as many names as frames
 pub length-names_of : (ds : List FrameCount) → length (names_of ds) ≡ frames_of ds
 length-names_of [] = refl
 length-names_of (d ∷ ds) =
     omega (arith, length-append (map (name_in d) (range_with_len 0 d.frames)) (names_of ds), length-map-range_with_len (name_in d) 0 d.frames, length-names_of ds)
 
--- a place that is some way into the names of these domains has this name
+-- the name at position `way` among the names of these domains
 pub record StandsAt (ds : List FrameCount) (name : FrameName) (way : ℕ) : Type 0 where
   pub below : way < length (names_of ds)
   pub named : (default : FrameName) → get_or (names_of ds) way default ≡ name
@@ -67,7 +67,7 @@ module _ (d : FrameCount) (ds : List FrameCount) (name : FrameName) (at place : 
   step true false owner below is rest = absurd (none-some place is)
   step false within owner below is rest = there (rest is)
 
--- what stands at a pool number has the name that was looked for
+-- the frame at a pool number has the name that was looked up
 pub placed : (ds : List FrameCount) (name : FrameName) (at place : ℕ) → pool_number ds name.owner name.number at ≡ Some place → IsPlaced ds name at place
 placed [] name at place is = absurd (none-some place is)
 placed (d ∷ ds) name at place is =

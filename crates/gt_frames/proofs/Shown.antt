@@ -1,4 +1,4 @@
--- Who wrote each byte last: the numbers of bytes, and the writs that they are of.
+-- The last writer of each byte: the numbers of bytes, and the writs of the numbers.
 use Rattle.std.proofs.Common.{◌≡◌, ◌≢◌, ℕ, zero, suc, ◌+◌, ◌-◌, ◌<◌, ◌≤◌, ◌⊎◌, inl, inr, Bool, true, false}
 use Rattle.std.proofs.Common.{if◌then◌else◌, ◌&&◌, nat_le, nat_lt, Option, Some, None, ◌++◌, List, [], ◌∷◌, length}
 use Rattle.std.proofs.Common.{replicate, get_or, set, refl, sym, ◌∙◌, ap, subst, arith}
@@ -15,7 +15,7 @@ use Rattle.gt_frames.specs.Writers.{AreWriters, HasWrit, IsUsed, KnowsWriters, S
 use Rattle.gt_frames.specs.Writers.{writ_under, numbers_of, LiesIn, most_writs}
 use Rattle.gt_frames.proofs.Stretches.{length_numbers, no_stretch, range-read, same-read, zero-read}
 
--- a place that is marked is marked whatever else is
+-- a marked slot stays marked when another is marked
 pub used-set : (used : List Bool) (place n : ℕ) → IsUsed used n → IsUsed (set used place true) n
 used-set used place zero is = tt
 used-set [] place (suc m) is = refl
@@ -99,7 +99,7 @@ module _ (w v : Writers) (writs : v.writs ≡ w.writs) (used : v.used ≡ w.used
         looks = still-looks;
       }
 
-  -- the numbers of all bytes were made, where there were none
+  -- the numbers of all bytes were made, and there were none before
   module _ (same : v.latest ≡ w.latest) (zeros : v.below.items ≡ replicate FRAME_SIZE 0) (none : length w.below.items ≡ 0) where
     start : v.latest.off ≡ 0
     start = let e : v.latest.off ≡ w.latest.off = ap (λ s. s.off) same in omega (arith, e, sound.lies, none)
@@ -131,7 +131,7 @@ module _ (w v : Writers) (writs : v.writs ≡ w.writs) (used : v.used ≡ w.used
         ap (λ (ws : List Writ). writ_under ws (get_or (numbers_of v.below.items v.latest) at 0)) same-writs
         ∙ ap (λ (k : ℕ). writ_under w.writs.items k) (no-number at ∙ sym (had-none at))
 
--- the last of one more record
+-- the last writ after one more record
 last_writ-append : (rs : List WriteRecord) (r : WriteRecord) (at : ℕ) (w : Option Writ)
     → last_writ (rs ++ r ∷ []) at w ≡ (if has_byte r at then Some r.writ else last_writ rs at w)
 last_writ-append [] r at w = refl
@@ -145,7 +145,7 @@ out_of_range off len at (inl lt) = grind (arith, nat_tests)
 out_of_range off len at (inr le) = grind (arith, nat_tests)
 
 module _ (w v : Writers) (journal new : List WriteRecord) (writ : Writ) (n off : ℕ) (ys : List ℕ) where
-  -- after a write to a range, its bytes have its writ and all others what they had
+  -- after a write to a range, its bytes have its writ, and all others the writ that they had
   pub knows_after :
       (u : Writers) → AreWriters u → ShowsSame w u → KnowsWriters w journal
       → HasWrit u n writ → length u.below.items ≡ FRAME_SIZE → off + length ys ≤ FRAME_SIZE
@@ -174,6 +174,6 @@ module _ (w v : Writers) (journal new : List WriteRecord) (writ : Writ) (n off :
         ];
       }
 
--- the writers of a frame that shows the same
+-- writers that show the same
 pub knows_same : (w v : Writers) (journal : List WriteRecord) → KnowsWriters w journal → AreWriters v → ShowsSame w v → KnowsWriters v journal
 knows_same w v journal knows sound same = record { sound = sound; shows = λ at. same at ∙ knows.shows at }

@@ -19,7 +19,7 @@ same-read zero v at lt = absurd (omega arith)
 same-read (suc n) v zero lt = refl
 same-read (suc n) v (suc at) lt = same-read n v at (omega (arith, lt))
 
--- what a byte's number is after a range was given one
+-- the number of a byte after a range was given one
 pub range-read :
     (xs : List ℕ) (off len n at : ℕ) → off + len ≤ length xs
     → ((off ≤ at) × (at < off + len) × (get_or (overlay xs off (replicate len n)) at 0 ≡ n))
@@ -78,7 +78,7 @@ number_outside xs s at lies out = elim (number_read xs s at lies) [
 ]
 
 module _ (xs : List ℕ) (s : Stretch) (off len n : ℕ) (lies : LiesIn s xs) (fits : off + len ≤ length xs) where
-  -- numbers that are these in the range, and elsewhere those that were there
+  -- these numbers in the range, and elsewhere those that were there
   laid :
       (zs : List ℕ) → length zs ≡ length xs → ((at : ℕ) → off ≤ at → at < off + len → get_or zs at 0 ≡ n)
       → ((at : ℕ) → (at < off) ⊎ (off + len ≤ at) → get_or zs at 0 ≡ get_or (numbers_of xs s) at 0)
@@ -94,7 +94,7 @@ module _ (xs : List ℕ) (s : Stretch) (off len n : ℕ) (lies : LiesIn s xs) (f
         | inr y ↦ outside at y.0 ∙ sym y.1
       ])
 
-  -- the range has all bytes of the stretch
+  -- the range contains the stretch
   pub covered : (t : Stretch) → t.off ≡ off → t.len ≡ len → t.number ≡ n → off ≤ s.off → s.off + s.len ≤ off + len
       → numbers_of xs t ≡ overlay (numbers_of xs s) off (replicate len n)
   covered t from long is starts ends =
@@ -112,7 +112,7 @@ module _ (xs : List ℕ) (s : Stretch) (off len n : ℕ) (lies : LiesIn s xs) (f
         ]
       ])
 
-  -- the range begins in the stretch, or where it ends, and has its number
+  -- the range begins inside the stretch, or at its end, and has its number
   pub grown : (t : Stretch) → t.off ≡ s.off → t.number ≡ n → s.number ≡ n → s.off ≤ off → off ≤ s.off + s.len
       → s.len ≤ t.len → off + len ≤ t.off + t.len → LiesIn t xs → ((at : ℕ) → at < t.off + t.len → off + len ≤ at → at < s.off + s.len)
       → numbers_of xs t ≡ overlay (numbers_of xs s) off (replicate len n)
@@ -137,7 +137,7 @@ module _ (xs : List ℕ) (s : Stretch) (off len n : ℕ) (lies : LiesIn s xs) (f
       ends-before at (inl below) lt = omega (arith, below, meets)
       ends-before at (inr above) lt = most at lt above
 
--- how many places are marked
+-- the number of marked slots
 
 cleared_more_suc : (us : List Bool) (at : ℕ) → at < length us → count_used (take at us) ≡ 0 → count_used (take (suc at) (set us at false)) ≡ 0
 cleared_more_suc [] at lt none = absurd (omega (arith, lt))

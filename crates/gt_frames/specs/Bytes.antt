@@ -2,11 +2,11 @@
 use Rattle.std.specs.Prelude.{◌≡◌, ℕ, ◌+◌, ◌<◌, ◌≤◌, List, [], ◌∷◌, ◌++◌, take, drop, length, replicate, slice_index}
 use Rattle.gt_types.specs.declared.limits.TheConstants.{FRAME_SIZE}
 
--- the list with ys laid over it from off on
+-- the list xs with ys laid over it, starting at off
 abbrev pub overlay : List ℕ → ℕ → List ℕ → List ℕ
 overlay xs off ys = take off xs ++ ys ++ drop (off + length ys) xs
 
--- zs has ys from off on, and everywhere else what xs has: what an overlay is, byte by byte
+-- zs has ys, starting at off, and elsewhere the bytes of xs: an overlay, byte by byte
 pub record IsLaidOver (xs : List ℕ) (off : ℕ) (ys zs : List ℕ) : Type 0 where
   pub len : length zs ≡ length xs
   pub inside : (at : ℕ) → at < length ys → slice_index zs (off + at) ≡ slice_index ys at
@@ -17,7 +17,7 @@ pub record IsLaidOver (xs : List ℕ) (off : ℕ) (ys zs : List ℕ) : Type 0 wh
 unfoldable pub zeros : List ℕ
 zeros = replicate FRAME_SIZE 0
 
--- a write: if its bytes begin, and the bytes
+-- a write: the offset of its first byte, and its bytes
 pub record Patch : Type 0 where
   pub off : ℕ
   pub bytes : List ℕ

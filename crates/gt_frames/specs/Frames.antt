@@ -1,4 +1,4 @@
--- What a frame holds, and by what right each of its bytes was written.
+-- The contents of a frame, and the right by which each byte was written.
 use Rattle.std.specs.Prelude.{◌≡◌, ℕ, ◌+◌, ◌==◌, Bool, true, ◌&&◌, nat_le, IsTrue, List, [], ◌∷◌, ◌++◌, map, length}
 use Rattle.std.specs.Prelude.{slice_range}
 use Rattle.gt_types.specs.declared.DomId.{DomId}
@@ -29,11 +29,11 @@ patch_of r = record { off = r.off; bytes = r.bytes }
 abbrev pub patches : List WriteRecord → List Patch
 patches rs = map patch_of rs
 
--- the bytes of a frame: the writes of its journal over zeros
+-- the bytes of a frame: the replay of its journal over zeros
 abbrev pub contents : FrameState → List ℕ
 contents f = written (patches f.journal)
 
--- the bytes of a range: so many from an offset on
+-- len bytes of the frame, starting at off
 abbrev pub bytes_at : FrameState → ℕ → ℕ → List ℕ
 bytes_at f off len = slice_range (contents f) off (off + len)
 

@@ -1,4 +1,4 @@
--- The place of a frame among the frames of a run.
+-- Pool numbers: the positions of frames among all frames of a run.
 use Rattle.std.specs.Prelude.{ℕ, ◌+◌, ◌==◌, Bool, ◌&&◌, nat_lt, if◌then◌else◌, List, [], ◌∷◌, map, Option, Some, None}
 use Rattle.std.specs.List.{flat_map, range_with_len}
 use Rattle.gt_types.specs.declared.DomId.{DomId}
@@ -6,12 +6,12 @@ use Rattle.gt_types.specs.declared.config.DomainConfig.{DomainConfig}
 use Rattle.gt_frames.specs.declared.places.FrameCount.{FrameCount}
 use Rattle.gt_types.specs.declared.places.FrameName.{FrameName}
 
--- how many frames each domain has
+-- the number of frames of each domain
 abbrev pub frame_counts : List DomainConfig → List FrameCount
 frame_counts ds = map (λ (d : DomainConfig). record { owner = d.id; frames = d.frames }) ds
 
--- the pool number of a frame, if the frames of these domains begin at this one: they run
--- over the frames of the first domain, then of the second, and so on
+-- the pool number of a frame, if the numbers of these domains' frames begin at `at`; they count the frames of the
+-- first domain, then those of the second, and so on
 abbrev pub pool_number : List FrameCount → DomId → ℕ → ℕ → Option ℕ
 pool_number [] owner number at = None
 pool_number (d ∷ ds) owner number at =
@@ -19,7 +19,7 @@ pool_number (d ∷ ds) owner number at =
     then (if nat_lt number d.frames then Some (at + number) else None)
     else pool_number ds owner number (at + d.frames)
 
--- how many frames these domains have
+-- the number of frames of these domains
 abbrev pub frames_of : List FrameCount → ℕ
 frames_of [] = 0
 frames_of (d ∷ ds) = d.frames + frames_of ds

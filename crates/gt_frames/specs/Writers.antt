@@ -34,22 +34,22 @@ LiesIn s below = s.off + s.len ≤ length below
 abbrev pub shown : Writers → ℕ → Option Writ
 shown w at = writ_under w.writs.items (slice_index_or (numbers_of w.below.items w.latest) at 0)
 
--- the place of this number is marked as used
+-- the slot of this number is marked as used
 abbrev pub IsUsed : List Bool → ℕ → Type 0
 IsUsed used zero = Unit {0}
 IsUsed used (suc place) = slice_index_or used place true ≡ true
 
--- how many places are marked
+-- the number of marked slots
 abbrev pub count_used : List Bool → ℕ
 count_used [] = 0
 count_used (true ∷ used) = suc (count_used used)
 count_used (false ∷ used) = count_used used
 
--- the most writs that a frame keeps
+-- the maximum number of writs that a frame keeps
 abbrev pub most_writs : ℕ
 most_writs = 2 * FRAME_SIZE
 
--- the number of each byte is that of a writ, whose place is marked, and the writs are within their bound
+-- each byte's number is 0 or that of a writ whose slot is marked, and the number of writs is within its bound
 pub record AreWriters (w : Writers) : Type 0 where
   pub size : (length w.below.items ≡ 0) ⊎ (length w.below.items ≡ FRAME_SIZE)
   pub lies : LiesIn w.latest w.below.items
@@ -63,24 +63,24 @@ pub record AreWriters (w : Writers) : Type 0 where
 abbrev pub ShowsSame : Writers → Writers → Type 0
 ShowsSame v w = (at : ℕ) → shown w at ≡ shown v at
 
--- the place is there, and no byte has its writ
+-- the slot exists, and no byte has its writ
 pub record IsFree (w : Writers) (place : ℕ) : Type 0 where
   pub inside : place < length w.writs.items
   pub unused : slice_index_or w.used.items place true ≡ false
 
--- each byte has the writ that it had, and as many bytes have numbers
+-- each byte has the writ that it had, and the list of numbers keeps its length
 pub record KeepsWriters (v w : Writers) : Type 0 where
   pub sound : AreWriters w
   pub same : ShowsSame v w
   pub len : length w.below.items ≡ length v.below.items
 
--- the number is that of this writ, and marked
+-- the number is that of this writ, and its slot is marked
 pub record HasWrit (w : Writers) (n : ℕ) (writ : Writ) : Type 0 where
   pub is : writ_under w.writs.items n ≡ Some writ
   pub within : n ≤ length w.writs.items
   pub used : IsUsed w.used.items n
 
--- for each byte the writ is kept by which this journal's last write to it was made
+-- for each byte, the writ of this journal's last write to it is kept
 pub record KnowsWriters (w : Writers) (journal : List WriteRecord) : Type 0 where
   pub sound : AreWriters w
   pub shows : (at : ℕ) → shown w at ≡ last_writ journal at None

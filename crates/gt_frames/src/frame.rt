@@ -15,7 +15,7 @@ use std::alloc::Global;
 use std::marker::Model;
 use std::snapshot::Snapshot;
 
-/// A frame of 4,096 bytes, with all writes that were made to it.
+/// A frame of 4,096 bytes, with all writes made to it.
 #[derive(Drop)]
 pub struct Frame {
     owner: DomId,
@@ -36,8 +36,8 @@ impl Model for Frame {
     ghost invariant = { λ f. IsSound f.owner f.number f.bytes.items f.journal × KnowsWriters f.writers f.journal };
 }
 
-// Lays the bytes over the contents, and keeps by which writ they were written. Nothing else can fail than to make room
-// for another writ.
+// Lays the bytes over the contents, and keeps by which writ they were written. Fails only if there is no room for a
+// new writ.
 #[inline(always)]
 fn store(
     writers: &mut Writers,
@@ -68,7 +68,7 @@ fn store(
     }
 }
 
-// The bytes of this range.
+// Returns the bytes of this range.
 #[inline(always)]
 fn range_of(bytes: &[u8], range: Range) -> &[u8]
     requires { range.off + range.len ≤ length bytes.now }
@@ -79,7 +79,7 @@ fn range_of(bytes: &[u8], range: Range) -> &[u8]
     &bytes[start..start + usize::from(range.len)]
 }
 
-// The same of a range of the contents themselves, which may overlap the range written: its bytes are taken out first.
+// Copies a range of the contents within them. The ranges may overlap, so the bytes are first copied out.
 fn store_own(
     writers: &mut Writers,
     journal: &mut Journal,
@@ -112,7 +112,7 @@ impl Frame {
     ghost use Rattle.gt_frames.specs.Receipts.{reading_of, writing_of};
     ghost use Rattle.gt_frames.specs.Writers.{last_writ};
 
-    /// A frame of zeros, to which nothing was written.
+    /// Returns a frame of zeros with an empty journal.
     pub fn new(alloc: Global, owner: DomId, number: u64) -> Result<Self, Memory>
         ensures { IfOk result (λ f. f ≡ record { owner = owner; number = number; journal = [] }) }
     {
@@ -125,7 +125,7 @@ impl Frame {
         })
     }
 
-    /// Whose frame it is.
+    /// Returns the owner.
     pub fn owner(&self) -> DomId
         ensures owner { result ≡ self.now.owner }
         ensures kept { IsKept self.now }
@@ -134,22 +134,22 @@ impl Frame {
         self.owner
     }
 
-    /// Its number among the owner's frames.
+    /// Returns the frame's number among the owner's frames.
     pub fn number(&self) -> u64
         ensures { result ≡ self.now.number }
     {
         self.number
     }
 
-    /// By which writ a byte was last written; `None` if it never was.
+    /// Returns the writ by which a byte was last written; `None` if it never was.
     pub fn last_writ(&self, at: u16) -> Option<Writ>
         ensures { result ≡ last_writ self.now.journal at None }
     {
         self.writers.last_writ(usize::from(at))
     }
 
-    /// Reads the bytes from the offset `off` on over all of `out`, whose length is the range's. It
-    /// takes no memory.
+    /// Reads over all of `out`, starting at offset `off`. The length of `out` is the length of the range. It does
+    /// not allocate.
     pub fn read(&self, off: u16, mut out: Vec<u8>) -> Read
         requires { off + vec_len out ≤ FRAME_SIZE }
         ensures read { result ≡ reading_of self.now off (vec_len out) }
@@ -160,8 +160,8 @@ impl Frame {
         self.read_to(off, len, out)
     }
 
-    /// Reads `len` bytes from the offset `off` on into `room`, which is empty and has room for them. It
-    /// takes no memory.
+    /// Reads `len` bytes, starting at offset `off`, into `room`, which is empty and has room for them. It does not
+    /// allocate.
     pub fn read_to(&self, off: u16, len: usize, mut room: Vec<u8>) -> Read
         requires range { off + len ≤ FRAME_SIZE }
         requires room { (vec_len room ≡ 0) × (len ≤ vec_capacity room) }
@@ -178,7 +178,7 @@ impl Frame {
         }
     }
 
-    /// Reads the bytes from the offset `off` on over all of the caller's `out`. It takes no memory.
+    /// Reads over all of the caller's `out`, starting at offset `off`. It does not allocate.
     #[inline(always)]
     pub fn read_into(&self, off: u16, out: &mut [u8]) -> Filled
         requires { off + length out.old ≤ FRAME_SIZE }
@@ -197,11 +197,11 @@ impl Frame {
         }
     }
 
-    /// Writes `bytes` from the offset `off` on.
+    /// Writes `bytes`, starting at offset `off`.
     ///
     /// # Errors
     ///
-    /// `Memory`, with the frame as it was.
+    /// `Memory`, if an allocation fails. The frame is then unchanged.
     pub fn write<'a>(
         &mut self,
         writ: &Writ,
@@ -232,11 +232,11 @@ impl Frame {
         })
     }
 
-    /// Copies a range of another frame, to `to_off` on.
+    /// Copies a range of another frame, to offset `to_off`.
     ///
     /// # Errors
     ///
-    /// `Memory`, with the frame as it was.
+    /// `Memory`, if an allocation fails. The frame is then unchanged.
     pub fn copy_between(
         from: &Frame,
         to: &mut Frame,
@@ -264,12 +264,12 @@ impl Frame {
         })
     }
 
-    /// Copies a range of its own, to `to_off` on. The ranges may overlap: what is written is what the
-    /// source range held before.
+    /// Copies a range of this frame, to offset `to_off`. The ranges may overlap: the bytes written are those that
+    /// the source range held before.
     ///
     /// # Errors
     ///
-    /// `Memory`, with the frame as it was.
+    /// `Memory`, if an allocation fails. The frame is then unchanged.
     pub fn copy_within(&mut self, writ: &Writ, range: Range, to_off: u16) -> Result<Copied, Memory>
         requires { CanCopy writ.now self.old range to_off }
         ensures { IsCopy self.old self.old self.new writ.now range to_off result }

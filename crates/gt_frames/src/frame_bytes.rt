@@ -1,4 +1,4 @@
-//! The bytes of a record, kept if contracts see a list.
+//! Bytes that a contract sees as a list.
 ghost use Rattle.std.specs.Prelude.{◌≡◌};
 
 use std::marker::Model;
@@ -26,7 +26,7 @@ impl From<Vec<u8>> for FrameBytes {
 }
 
 impl FrameBytes {
-    /// Gives the bytes back.
+    /// Returns the bytes.
     pub(crate) fn into_vec(self) -> Vec<u8>
         ensures { result.items ≡ self }
     {

@@ -30,7 +30,7 @@ impl Model for Frames {
     ghost invariant = { λ fs. AreLaidOut fs.domains.items fs.frames.items };
 }
 
-// These frames, and then those of one domain more, all zeros.
+// Appends the frames of one more domain, all zeros.
 fn with_domain(
     alloc: Global,
     frames: Vec<Frame>,
@@ -47,7 +47,7 @@ fn with_domain(
     Ok(all)
 }
 
-/// The frames of these domains, in their order, each of zeros and by its owner and number.
+/// Returns the frames of these domains, in their order, each of zeros and with its owner and number.
 pub fn frames_of_zeros(alloc: Global, domains: &[FrameCount]) -> Result<Vec<Frame>, Memory>
     ensures { IfOk result (λ frames. frames.items ≡ flat_map zero_frames domains.now) }
 {
@@ -98,12 +98,11 @@ impl Frames {
     ghost use Rattle.gt_frames.specs.Sets.{frame_at, place_in, has_frame, has_range, admits, all_zeros};
     ghost use Rattle.gt_frames.specs.Sets.{AreKept, WritesTo};
 
-    /// The frames of all domains, in their order, each of zeros. The bytes of each are made on the
-    /// heap, once.
+    /// Returns the frames of all domains, in their order, each of zeros. The bytes of each are allocated once.
     ///
     /// # Errors
     ///
-    /// `Memory`.
+    /// `Memory`, if an allocation fails.
     pub fn new(alloc: Global, config: &Config) -> Result<Frames, Memory>
         ensures zeros { IfOk result (λ fs. fs ≡ all_zeros (frame_counts config.now.domains.items)) }
         ensures kept { IfOk result AreKept }
@@ -113,7 +112,6 @@ impl Frames {
         Ok(Frames { domains, frames })
     }
 
-    // The place of the frame of this name.
     fn place(&self, name: FrameName) -> Option<usize>
         ensures place { result ≡ place_in self.now name }
         ensures below { IfSome result (λ place. place < length self.now.journals) }
@@ -121,7 +119,7 @@ impl Frames {
         number_in_pool(&self.domains, name)
     }
 
-    /// The frame of this name.
+    /// Returns the frame of this name, None if there is none.
     pub fn get(&self, name: FrameName) -> Option<&Frame>
         ensures some { IsSome result ↔ IsTrue (has_frame self.now name) }
         ensures frame { IfSome result (λ f. f.now ≡ frame_at self.now name) }
@@ -132,7 +130,7 @@ impl Frames {
         Some(frame)
     }
 
-    /// Whether there is a frame of this name, and the range ends inside it.
+    /// Returns true if there is a frame of this name, and the range ends inside it.
     pub fn has_range(&self, name: FrameName, range: Range) -> bool
         ensures { result ≡ has_range self.now name range.off range.len }
     {
@@ -140,19 +138,18 @@ impl Frames {
             && u32::from(range.off) + u32::from(range.len) <= u32::from(FRAME_SIZE)
     }
 
-    /// Whether there is such a range, and the writ is for it: what a write or a copy asks of its
-    /// caller.
+    /// Returns true if there is such a range, and the writ covers it. A write requires this of its caller, and a
+    /// copy requires it of its destination.
     pub fn admits(&self, name: FrameName, writ: &Writ, range: Range) -> bool
         ensures { result ≡ admits self.now name writ.now range.off range.len }
     {
         self.has_range(name, range) && writ.covers(name.owner, name.number, range)
     }
-    /// Writes `bytes` to the frame of this name, from the offset `off` on. All other frames stay as
-    /// they are.
+    /// Writes `bytes` to the frame of this name, starting at offset `off`. All other frames are unchanged.
     ///
     /// # Errors
     ///
-    /// `Memory`, with all frames as they were.
+    /// `Memory`, if an allocation fails. All frames are then unchanged.
     pub fn write<'a>(
         &mut self,
         name: FrameName,
@@ -170,12 +167,12 @@ impl Frames {
         self.frames[place].write(writ, off, bytes)
     }
 
-    /// Copies `len` bytes from one place to another, of one frame or of two. What is written is what
-    /// the source range held before, overlap included. All other frames stay as they are.
+    /// Copies `len` bytes from one position to another, in one frame or between two. The bytes written are those
+    /// that the source range held before, overlap included. All other frames are unchanged.
     ///
     /// # Errors
     ///
-    /// `Memory`, with all frames as they were.
+    /// `Memory`, if an allocation fails. All frames are then unchanged.
     pub fn copy(&mut self, writ: &Writ, from: Spot, to: Spot, len: u16) -> Result<Copied, Memory>
         requires source { IsTrue (has_range self.old from.frame from.off len) }
         requires dest { IsTrue (admits self.old to.frame writ.now to.off len) }

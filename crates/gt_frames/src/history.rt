@@ -15,18 +15,18 @@ impl<A, B> Model for History<A, B> {
     ghost also_owns = { λ _. ftrue };
 }
 
-// It owns nothing.
+// A history owns nothing, so it may go to another thread.
 unsafe impl<A, B> Send for History<A, B> {}
 
 impl<A, B> History<A, B> {
-    /// A history without a pair.
+    /// Returns the empty history.
     pub fn new() -> History<A, B>
         ensures { result.items ≡ [] }
     {
         History { of: PhantomData }
     }
 
-    /// This history with one pair more.
+    /// Returns this history with one more pair at its end.
     pub fn and(&self, first: &A, second: &B) -> History<A, B>
         ensures { result.items ≡ self.now.items ++ (first.now, second.now) ∷ [] }
     {

@@ -6,7 +6,7 @@ use crate::Writ;
 use crate::history::History;
 use std::marker::Model;
 
-// By what a range was written, and which.
+// A range that was written, and its writ.
 #[derive(Clone, Copy)]
 struct WrittenRange {
     writ: Writ,
@@ -17,7 +17,7 @@ struct WrittenRange {
 /// All writes to a frame, the oldest first. Only proofs read it, so it takes no memory.
 #[derive(Drop)]
 pub(crate) struct Journal {
-    // Of each write its range, and the bytes of the frame after it.
+    // For each write, its range and the bytes of the frame after it.
     history: History<WrittenRange, Vec<u8>>,
 }
 
@@ -38,7 +38,7 @@ impl Journal {
     ghost use Rattle.std.specs.Prelude.{◌≡◌, ◌+◌, [], slice_range};
     ghost use Rattle.gt_frames.specs.Frames.{recorded};
 
-    /// Nothing was written yet.
+    /// Returns the empty journal.
     pub(crate) fn new() -> Journal
         ensures { result ≡ [] }
     {
@@ -47,7 +47,7 @@ impl Journal {
         }
     }
 
-    /// One more write: so many bytes were written from this offset on, and the frame has these bytes now.
+    /// Appends a write of `len` bytes, starting at offset `off`. The frame then has the bytes `contents`.
     pub(crate) fn add(&mut self, writ: &Writ, off: u16, len: usize, contents: &Vec<u8>)
         ensures { self.new ≡ recorded self.old writ.now off (slice_range contents.now.items off (off + len)) }
     {

@@ -1,19 +1,18 @@
 //! Frames: the bytes that domains share, each frame with a journal of its writes.
 //!
-//! A [`Frame`] holds 4,096 bytes, all zero at first, and keeps a [`WriteRecord`] of each write to it. Its type promises
-//! that the bytes are the replay of the journal over zeros, and that each record lies in the frame and is by right. The
-//! writer owns the frame. Or an entry of the owner's permits it that range for writing. Or it goes through an entry
-//! that forwards it and one that permits the owner of the first. A [`Writ`] names the writer and that basis.
+//! A [`Frame`] holds 4,096 bytes, all zero at first. Its journal has a [`WriteRecord`] of each write; only proofs
+//! read it. Proved: the bytes are always the replay of the journal over zeros, and each record lies in the frame
+//! and is by right. A [`Writ`] names the writer and its right: the writer owns the frame; or an entry of the
+//! owner's permits it to write that range; or a transitive entry forwards it, and an entry of the owner's permits
+//! the middle domain.
 //!
-//! [`Frame::read`], [`Frame::write`], [`Frame::copy_between`] and [`Frame::copy_within`] do exactly
-//! what their receipts [`Read`], [`Written`] and [`Copied`] say, overlap included. Nothing else makes a
-//! receipt, and none can be cloned. If memory is refused nothing changes; reading takes none. The
-//! caller shows who may write, by a writ that covers the range.
+//! [`Frame::read`], [`Frame::write`], [`Frame::copy_between`] and [`Frame::copy_within`] do exactly what their
+//! receipts [`Read`], [`Written`] and [`Copied`] state, overlap included. Only these calls make receipts, and no
+//! receipt can be cloned. If an allocation fails, nothing changes. Reads do not allocate. A caller that writes
+//! passes a writ that covers the range. [`Frames`] are all frames of a run, for one thread: a write or a copy
+//! changes the frame named and no other.
 //!
-//! [`Frames`] are all frames of a run for one thread: a write or a copy names its frames by owner and
-//! number, changes just the one written, and leaves all others unchanged. No frame has a lock here.
-//!
-//! It uses `gt_types` (names), `gt_entry` (entries, and what they permit) and `bytes` (a lemma on lists).
+//! It stands on `gt_types` (names), `gt_entry` (entries, and what they permit) and `bytes` (a lemma on lists).
 #![tactic(auto)]
 
 mod frame;

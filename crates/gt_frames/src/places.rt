@@ -1,18 +1,18 @@
-//! The place of a frame among the frames of a run.
+//! Pool numbers: the positions of frames among all frames of a run.
 ghost use Rattle.std.specs.Prelude.{◌≡◌, ◌<◌, ◌^◌, IfOk};
 ghost use Rattle.gt_frames.specs.Places.{frame_counts, pool_number, frames_of};
 
 use gt_types::{Config, DomId, FrameName, Memory};
 use std::alloc::Global;
 
-/// How many frames a domain has.
+/// The number of frames of a domain.
 #[derive(Clone, Copy, Debug, PartialEq, Eq)]
 pub struct FrameCount {
     pub owner: DomId,
     pub frames: u32,
 }
 
-/// How many frames each domain has, in the order of the configuration.
+/// Returns the number of frames of each domain, in the order of the configuration.
 pub fn frame_counts(alloc: Global, config: &Config) -> Result<Vec<FrameCount>, Memory>
     ensures { IfOk result (λ counts. counts.items ≡ frame_counts config.now.domains.items) }
 {
@@ -26,8 +26,8 @@ pub fn frame_counts(alloc: Global, config: &Config) -> Result<Vec<FrameCount>, M
     Ok(counts)
 }
 
-/// The pool number of a frame. The numbers run over the frames of the first domain, then of the
-/// second, and so on.
+/// Returns the pool number of a frame, None if the run has no such frame. Pool numbers count the frames of the
+/// first domain, then those of the second, and so on, from 0.
 pub fn number_in_pool(domains: &[FrameCount], name: FrameName) -> Option<usize>
     requires { frames_of domains.now < 2 ^ 64 }
     ensures { result ≡ pool_number domains.now name.owner name.number 0 }

@@ -6,7 +6,7 @@ use gt_types::DomId;
 use std::marker::Model;
 use std::snapshot::Snapshot;
 
-/// Bytes that were read from a frame: its owner and number, the offset of the first byte, the bytes.
+/// The receipt of a read: the frame's owner and number, the offset of the first byte, and the bytes.
 #[derive(Drop)]
 pub struct Read {
     pub(crate) owner: DomId,
@@ -24,7 +24,7 @@ impl Model for Read {
 }
 
 impl Read {
-    /// The bytes read.
+    /// Returns the bytes read.
     pub fn into_bytes(self) -> Vec<u8>
         ensures { result.items ≡ self.bytes }
     {
@@ -32,7 +32,7 @@ impl Read {
     }
 }
 
-/// Bytes that were read from a frame into bytes of the caller's: its owner and number, the offset of the first byte,
+/// The receipt of a read into bytes of the caller's: the frame's owner and number, the offset of the first byte,
 /// and, only for contracts, the bytes.
 #[derive(Drop)]
 pub struct Filled {
@@ -40,7 +40,7 @@ pub struct Filled {
     pub(crate) number: u64,
     pub(crate) off: u16,
     pub(crate) len: usize,
-    // All bytes that the frame had.
+    // All bytes of the frame at the read.
     pub(crate) contents: Snapshot<Vec<u8>>,
 }
 
@@ -58,8 +58,7 @@ impl Model for Filled {
     } };
 }
 
-/// Bytes that were written to a frame: its owner and number, the offset of the first byte, the
-/// bytes, and the writer.
+/// The receipt of a write: the frame's owner and number, the offset of the first byte, the bytes, and the writer.
 #[derive(Drop)]
 pub struct Written<'a> {
     pub(crate) owner: DomId,
@@ -91,7 +90,7 @@ pub(crate) struct CopiedEnd {
     pub(crate) off: u16,
 }
 
-/// Bytes that were copied: the frame and offset of each end, how many bytes, and the writer.
+/// The receipt of a copy: the frame and offset of each end, the number of bytes, and the writer.
 #[derive(Drop)]
 pub struct Copied {
     pub(crate) source: CopiedEnd,

@@ -1,4 +1,4 @@
-//! By what right a range is written.
+//! The right by which a range is written.
 ghost use Rattle.std.specs.Prelude.{◌≡◌, IsTrue};
 ghost use Rattle.gt_entry.specs.Permits.{is_of_frame, leads_to};
 ghost use Rattle.gt_frames.specs.Frames.{permits_writing, covers};
@@ -7,15 +7,15 @@ use crate::FrameBytes;
 use gt_entry::Entry;
 use gt_types::{Dir, DomId, Range, Use};
 
-/// By what a domain may write to a frame.
+/// The right by which a domain writes to a frame.
 #[derive(Clone, Copy, Debug, PartialEq, Eq)]
 pub enum WriteBasis {
-    /// The frame is the writer's own.
+    /// The writer owns the frame.
     Owned,
-    /// An entry of the frame's owner that permits the writer.
+    /// The entry of the frame's owner permits the writer.
     Granted(Entry),
-    /// An entry of `middle` of the transitive kind that forwards the writer to the frame's owner,
-    /// and an entry of the owner's that permits `middle`.
+    /// The transitive entry `via`, of the domain `middle`, forwards the writer to the frame's owner, and `entry`,
+    /// of the owner, permits `middle`.
     Forwarded {
         via: Entry,
         middle: DomId,
@@ -23,15 +23,15 @@ pub enum WriteBasis {
     },
 }
 
-/// Who writes, and by what. It is a plain value that anybody makes; that it covers the range
-/// written is a condition of the writing calls.
+/// The writer, and the right by which it writes. A writ is a plain value that any caller can make. The writing
+/// calls require that it covers the range written.
 #[derive(Clone, Copy, Debug, PartialEq, Eq)]
 pub struct Writ {
     pub writer: DomId,
     pub basis: WriteBasis,
 }
 
-/// One write to a frame: these bytes from the offset `off` on, by this writ.
+/// One write to a frame: these bytes, starting at offset `off`, by this writ.
 #[derive(Drop)]
 pub struct WriteRecord {
     pub writ: Writ,
@@ -39,7 +39,7 @@ pub struct WriteRecord {
     pub bytes: FrameBytes,
 }
 
-// Whether the entry is of this frame of its owner.
+// Returns true if the entry grants this frame of its owner.
 fn is_of_frame(entry: Entry, number: u64) -> bool
     ensures { result ≡ is_of_frame entry number }
 {
@@ -49,7 +49,7 @@ fn is_of_frame(entry: Entry, number: u64) -> bool
     }
 }
 
-// Whether the entry leads to a grant of this domain.
+// Returns true if the entry leads to a grant of this domain.
 fn leads_to(entry: Entry, owner: DomId) -> bool
     ensures { result ≡ leads_to entry owner }
 {
@@ -59,7 +59,7 @@ fn leads_to(entry: Entry, owner: DomId) -> bool
     }
 }
 
-// Whether the entry permits the domain to write this range of this frame.
+// Returns true if the entry permits the domain to write this range of this frame.
 fn permits_writing(entry: Entry, dom: DomId, number: u64, range: Range) -> bool
     ensures { result ≡ permits_writing entry dom number range.off range.len }
 {
@@ -72,7 +72,6 @@ fn is_domain(a: DomId, b: DomId) -> bool
     a.0 == b.0
 }
 
-// Whether both are one entry.
 #[inline(always)]
 fn is_entry(a: &Entry, b: &Entry) -> bool
     ensures { IsTrue result → a.now ≡ b.now }
@@ -80,7 +79,6 @@ fn is_entry(a: &Entry, b: &Entry) -> bool
     a == b
 }
 
-// Whether both are one basis.
 #[inline(always)]
 fn is_ground(a: &WriteBasis, b: &WriteBasis) -> bool
     ensures { IsTrue result → a.now ≡ b.now }
@@ -101,7 +99,7 @@ fn is_ground(a: &WriteBasis, b: &WriteBasis) -> bool
 }
 
 impl Writ {
-    /// Whether both are one writ. False says nothing.
+    /// Returns true only if both writs are equal. False proves nothing.
     #[inline(always)]
     pub(crate) fn equals(&self, other: &Writ) -> bool
         ensures { IsTrue result → self.now ≡ other.now }
@@ -109,7 +107,7 @@ impl Writ {
         is_domain(self.writer, other.writer) && is_ground(&self.basis, &other.basis)
     }
 
-    /// Whether it is for this range of this frame of the owner's.
+    /// Returns true if the writ is for this range of this frame of the owner's.
     pub fn covers(&self, owner: DomId, number: u64, range: Range) -> bool
         ensures { result ≡ covers self.now owner number range.off range.len }
     {

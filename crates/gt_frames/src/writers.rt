@@ -8,7 +8,7 @@ use crate::Writ;
 use gt_types::{FRAME_SIZE, Memory};
 use std::alloc::Global;
 
-// The fewest writs at which unused ones are searched for.
+// The least number of writs at which unused ones are searched for.
 const MIN_LIMIT: usize = 128;
 
 // Consecutive bytes with the same number.
@@ -19,40 +19,39 @@ struct Stretch {
     number: u16,
 }
 
-// A stretch of no bytes.
 const EMPTY: Stretch = Stretch {
     off: 0,
     len: 0,
     number: 0,
 };
 
-/// The writ by which each byte of a frame was last written. Takes no memory before the first write.
+/// The writ by which each byte of a frame was last written. Does not allocate before the first write.
 ///
-/// A writ is kept while a byte has it; later its place is reused. There are at most 128 places, or twice as many as
+/// A writ is kept while a byte has it; later its slot is reused. There are at most 128 slots, or twice as many as
 /// there are writs in use, if that is more.
 #[derive(Drop)]
 pub(crate) struct Writers {
     alloc: Global,
-    // The number of each byte's writ: its place plus one, or 0 if the byte was never written. Empty before the first
+    // The number of each byte's writ: its slot plus one, or 0 if the byte was never written. Empty before the first
     // write. Entries within the latest stretch are stale.
     below: Vec<u16>,
-    // The bytes written last. Their number is copied to `below` only if a write needs another stretch, so writing the
-    // same bytes again takes the same time, however many they are.
+    // The bytes written last. Their number is copied to `below` only if a write needs another stretch. So writing
+    // the same bytes again takes the same time, however many they are.
     latest: Stretch,
     writs: Vec<Writ>,
-    // For each place, whether a byte may have its writ.
+    // For each slot, whether a byte may have its writ.
     used: Vec<bool>,
     // The number of the writ used last, or 0.
     last: u16,
-    // The number of the writ used before that one, or 0. Two writs that alternate keep their places.
+    // The number of the writ used before that one, or 0. Two writs that alternate keep their slots.
     previous: u16,
-    // The place at which the search for a free one begins.
+    // The slot at which the search for a free one begins.
     next: usize,
-    // At this many places, unused ones are searched for before another is added.
+    // With this many slots, unused ones are searched for before another is added.
     limit: usize,
 }
 
-// The first unused place at or after `from`.
+// Returns the first unused slot, starting at `from`.
 fn first_free(used: &[bool], from: usize) -> Option<usize>
     ensures some { IfSome result (λ n. (n < length used.now) × (slice_index_or used.now n true ≡ false)) }
     ensures none { result ≡ None → (at : ℕ) → from ≤ at → slice_index_or used.now at true ≡ true }
@@ -65,7 +64,7 @@ fn first_free(used: &[bool], from: usize) -> Option<usize>
     None
 }
 
-// Marks the places of these numbers, and no others.
+// Marks the slots of these numbers, and no others.
 fn mark(numbers: &[u16], used: &mut [bool])
     requires within { (at : ℕ) → slice_index_or numbers.now at 0 ≤ length used.old }
     ensures marked { (at : ℕ) → IsUsed used.new (slice_index_or numbers.now at 0) }
@@ -90,7 +89,6 @@ fn clear(used: &mut [bool])
     }
 }
 
-// The number of used places.
 fn count(used: &[bool]) -> usize
     ensures { result ≡ count_used used.now }
 {
@@ -103,7 +101,6 @@ fn count(used: &[bool]) -> usize
     count
 }
 
-// Sets the numbers of this range.
 #[inline(always)]
 fn fill(numbers: &mut Vec<u16>, off: usize, len: usize, number: u16)
     requires { off + len ≤ length numbers.old.items }
@@ -136,7 +133,8 @@ fn flush(below: &mut Vec<u16>, latest: &mut Stretch)
     *latest = EMPTY;
 }
 
-// Gives the bytes of this range this number. Copies none if they hold the whole latest stretch, or continue it.
+// Gives this number to the bytes of this range. Copies no number if the range contains the whole latest stretch, or
+// continues it with the same number.
 #[inline(always)]
 fn assign(below: &mut Vec<u16>, latest: &mut Stretch, number: u16, off: usize, len: usize)
     requires lies { LiesIn latest.old below.old.items }
@@ -166,7 +164,7 @@ impl Writers {
     ghost use Rattle.gt_frames.specs.Writers.{AreWriters, HasWrit, IsFree, IsUsed, KeepsWriters, ShowsSame, shown};
     ghost use Rattle.gt_frames.specs.Writers.{count_used, most_writs, numbers_of};
 
-    /// No byte has been written.
+    /// Returns the writers of a frame in which no byte was written.
     pub(crate) fn new(alloc: Global) -> Writers
         ensures sound { AreWriters result }
         ensures none { (at : ℕ) → shown result at ≡ None }
@@ -184,7 +182,7 @@ impl Writers {
         }
     }
 
-    // Makes room for the numbers of all bytes, unless there is.
+    // Makes room for the numbers of all bytes, unless there is room.
     fn make_numbers(&mut self) -> Result<(), Memory>
         requires { AreWriters self.old }
         ensures sound { AreWriters self.new }
@@ -197,7 +195,7 @@ impl Writers {
         Ok(())
     }
 
-    // Adds a place for this writ, which no byte has yet.
+    // Adds a slot for this writ, which no byte has yet.
     fn add(&mut self, writ: &Writ) -> Result<usize, Memory>
         requires sound { AreWriters self.old }
         requires few { length self.old.writs.items < most_writs }
@@ -212,7 +210,7 @@ impl Writers {
         Ok(place)
     }
 
-    // Finds the places that no byte uses.
+    // Finds the slots that no byte uses.
     fn find_unused(&mut self)
         requires { AreWriters self.old }
         ensures same { KeepsWriters self.old self.new }
@@ -223,8 +221,8 @@ impl Writers {
         self.limit = (2 * count(&self.used)).max(MIN_LIMIT);
     }
 
-    // A place whose writ no byte has. If none is known, searches for unused ones once there are enough places, and
-    // otherwise adds one.
+    // Returns a slot whose writ no byte has. If none is known, searches for unused slots once there are enough of
+    // them, and otherwise adds one.
     fn free_place(&mut self, writ: &Writ) -> Result<usize, Memory>
         requires { AreWriters self.old }
         ensures same { KeepsWriters self.old self.new }
@@ -242,7 +240,7 @@ impl Writers {
         self.add(writ)
     }
 
-    // Puts the writ at a place that no byte uses.
+    // Puts the writ into a slot that no byte uses.
     fn put(&mut self, place: usize, writ: &Writ)
         requires sound { AreWriters self.old }
         requires free { IsFree self.old place }
@@ -254,7 +252,7 @@ impl Writers {
         self.next = place + 1;
     }
 
-    // Whether this number is that of this writ.
+    // Returns true only if this number is that of this writ.
     #[inline(always)]
     fn is_writ(&self, number: u16, writ: &Writ) -> bool
         ensures { result ≡ true →
@@ -268,7 +266,7 @@ impl Writers {
         self.writs[number - 1].equals(writ)
     }
 
-    // The number of this byte's writ, or 0.
+    // Returns the number of this byte's writ, or 0.
     fn number_at(&self, at: usize) -> usize
         requires { AreWriters self.now }
         ensures { result ≡ slice_index_or (numbers_of self.now.below.items self.now.latest) at 0 }
@@ -283,7 +281,7 @@ impl Writers {
         }
     }
 
-    /// The writ by which this byte was last written.
+    /// Returns the writ by which this byte was last written.
     pub(crate) fn last_writ(&self, at: usize) -> Option<Writ>
         requires { AreWriters self.now }
         ensures { result ≡ shown self.now at }
@@ -296,11 +294,11 @@ impl Writers {
         }
     }
 
-    /// The number of this writ, for `show`. Adds the writ if it is new.
+    /// Returns the number of this writ, for `show`. Adds the writ if it is new.
     ///
     /// # Errors
     ///
-    /// `Memory`. Each byte then has the writ that it had.
+    /// `Memory`, if an allocation fails. The writ of each byte is then unchanged.
     #[inline(always)]
     pub(crate) fn number_of(&mut self, writ: &Writ) -> Result<u16, Memory>
         requires { AreWriters self.old }
@@ -317,7 +315,7 @@ impl Writers {
         self.number_of_other(*writ)
     }
 
-    // The number of the previous writ, which becomes the last one.
+    // Returns the number of the previous writ, which becomes the last one.
     fn use_previous(&mut self) -> u16
         requires sound { AreWriters self.old }
         requires there { (0 < self.old.previous) × (self.old.previous ≤ length self.old.writs.items) }
@@ -336,8 +334,8 @@ impl Writers {
         number
     }
 
-    // The slow path of `number_of`: another writ than the last, or the frame's first write. Takes the writ by value, so
-    // that the fast path can keep it in registers.
+    // The slow path of `number_of`: a writ other than the last, or the frame's first write. Takes the writ by
+    // value, so that the fast path can keep it in registers.
     #[cold]
     #[inline(never)]
     fn number_of_other(&mut self, writ: Writ) -> Result<u16, Memory>

@@ -1,4 +1,4 @@
--- No slot has a value exactly where none is counted.
+-- No slot has a value exactly if none is counted.
 use Rattle.std.proofs.Common.{◌≡◌, ℕ, zero, suc, ◌<◌, List, [], ◌∷◌, Option, Some, None, is_some, count_by, length}
 use Rattle.std.proofs.Common.{refl, arith, cond, slice_index_or, ap, sym, ◌∙◌, ◌≢◌, inl, inr}
 use Rattle.std.proofs.lemmas.List.Sums.{sum_by-cons}
@@ -8,14 +8,14 @@ use Rattle.gt_handles.specs.declared.handles.HandleSlot.{HandleSlot}
 use Rattle.gt_handles.specs.Handles.{HandleMap, count_of, under, IsEmpty, IsLeast, IsInOrder}
 
 module _ {X : Type 0} where
-  -- where none is counted, no key has a value
+  -- if none is counted, no key has a value
   pub none_of_count : (slots : List (Option X)) → count_by is_some slots ≡ 0 → (key : ℕ) → slice_index_or slots key None ≡ None
   none_of_count [] count key = refl
   none_of_count (Some x ∷ rest) count key = absurd (omega (arith, sum_by-cons (λ (o : Option X). cond (is_some o) 1 0) (Some x) rest))
   none_of_count (None ∷ rest) count zero = refl
   none_of_count (None ∷ rest) count (suc key) = none_of_count rest (omega (arith, sum_by-cons (λ (o : Option X). cond (is_some o) 1 0) None rest)) key
 
-  -- where no key has a value, none is counted
+  -- if no key has a value, none is counted
   pub count_of_none : (slots : List (Option X)) → ((key : ℕ) → key < length slots → slice_index_or slots key None ≡ None) → count_by is_some slots ≡ 0
   count_of_none [] none = refl
   count_of_none (Some x ∷ rest) none = absurd (cc (none 0 (omega arith)))
@@ -51,7 +51,7 @@ module _ {T : Type 0} where
             | inr differs ↦ sym (others k differs) ∙ found
           ]
 
-      -- slots in order stay so where the least key's value is taken
+      -- slots in order stay in order if the value of the least key is taken
       pub in_order_after :
           (next lowest : ℕ) → IsInOrder old next lowest → ((k : ℕ) → k < key → slice_index_or old k None ≡ None) → IsInOrder new next key
       in_order_after next lowest order none =

@@ -5,7 +5,7 @@ use Rattle.std.specs.Coded.{Coded, code_by, coded×, coded_ℕ, coded_list, code
 use Rattle.gt_handles.specs.declared.handles.Handle.{Handle}
 use Rattle.gt_handles.specs.declared.handles.HandleSlot.{HandleSlot}
 
--- what is at each key, how many serials were given, and how many more values fit with no allocation
+-- what each key holds, how many serials were given, and how many more values fit without an allocation
 pub record HandleMap (T : Type 0) : Type 0 where
   pub slots : List (Option (HandleSlot T))
   pub given : ℕ
@@ -27,12 +27,12 @@ kept_code {T} code =
     (λ p. record { slots = p.0; given = p.1.0; room = p.1.1 })
     (λ _. refl)
 
--- both are one handle
+-- both are the same handle
 abbrev pub same_handle : Handle → Handle → Bool
 same_handle a b = (a.serial == b.serial) && (a.key == b.key)
 
 module _ {T : Type 0} where
-  -- the value of a slot under this serial
+  -- the value of a slot, if the slot has this serial
   abbrev pub under : ℕ → Option (HandleSlot T) → Option T
   under serial None = None
   under serial (Some slot) = if slot.serial == serial then Some slot.value else None
@@ -41,21 +41,21 @@ module _ {T : Type 0} where
   abbrev pub value_of : HandleMap T → Handle → Option T
   value_of s h = under h.serial (slice_index_or s.slots h.key None)
 
-  -- how many handles have a value
+  -- the number of values
   abbrev pub count_of : HandleMap T → ℕ
   count_of s = count_by is_some s.slots
 
-  -- the new map has this under the handle, and every other handle keeps what it had
+  -- the new map has `what` under the handle, and is unchanged under every other handle
   abbrev pub Updates : HandleMap T → HandleMap T → Handle → Option T → Type 0
   Updates old new h what =
       (other : Handle) → value_of new other ≡ (if same_handle other h then what else value_of old other)
 
-  -- the handle was given, and has no value: it has none for good
+  -- the handle was given, and has no value; by KeepsSpent it never has one again
   pub record IsSpent (s : HandleMap T) (h : Handle) : Type 0 where
     pub given : h.serial < s.given
     pub gone : value_of s h ≡ None
 
-  -- what was spent stays so
+  -- a spent handle stays spent
   abbrev pub KeepsSpent : HandleMap T → HandleMap T → Type 0
   KeepsSpent old new = (h : Handle) → IsSpent old h → IsSpent new h
 
@@ -68,7 +68,7 @@ module _ {T : Type 0} where
     pub count : count_of s ≡ 0
     pub none : (h : Handle) → value_of s h ≡ None
 
-  -- each handle with a value has a serial that was given, and that no other such handle has
+  -- each handle with a value has a serial that was given, and no other such handle has the same serial
   pub record HasSoundHandles (s : HandleMap T) : Type 0 where
     pub given : (h : Handle) (x : T) → value_of s h ≡ Some x → h.serial < s.given
     pub one : (a b : Handle) (x y : T) → value_of s a ≡ Some x → value_of s b ≡ Some y → a.serial ≡ b.serial

@@ -1,4 +1,4 @@
--- What follows for the values of a map, as a list or counted, from what its calls say of it.
+-- The values of a map as a list and as a count, as the calls change them.
 use Rattle.std.proofs.Common.{◌≡◌, ◌+◌, ◌≤◌, ℕ, zero, suc, refl, Bool, true, false, List, [], ◌∷◌, ◌++◌, length, Option}
 use Rattle.std.proofs.Common.{Some, None, is_some, cond, sym, ap, ◌∙◌, arith, inl, inr}
 use Rattle.std.specs.Prelude.{◌==◌, ◌&&◌, count_by, slice_index_or}
@@ -43,7 +43,7 @@ module _ {T : Type 0} where
   none-both true = refl
   none-both false = refl
 
-  -- a list of values, and one more
+  -- a list of values with one more at its end
 
   none-of : (x : Handle × T) (ms : List (Handle × T)) (handle : Handle) → listed (x ∷ ms) handle ≡ None
       → (same_handle x.0 handle ≡ false) × (listed ms handle ≡ None)
@@ -80,7 +80,7 @@ module _ {T : Type 0} where
         apart-push ms handle m a.1 n.1,
       )
 
-  -- a list of values, and one less
+  -- a list of values with one less
 
   unlisted-of : (ms : List (Handle × T)) (handle other : Handle) → AreApart ms
       → listed (unlisted handle ms) other ≡ cond (same_handle other handle) None (listed ms other)
@@ -144,7 +144,7 @@ module _ {T : Type 0} where
       by true rest = a.1
       by false rest = (unlisted-none ms handle x.0 a.0, rest)
 
-  -- one more value is one more of the list
+  -- an insertion appends to the list
   pub inserted-listed : (old new : HandleMap T) (handle : Handle) (m : T) (ms : List (Handle × T)) (n : ℕ)
       → IsInserted old new handle m → HasJust old ms n
       → HasJust new (ms ++ (handle, m) ∷ []) (n + 1)
@@ -160,7 +160,7 @@ module _ {T : Type 0} where
         apart = apart-push ms handle m a.apart none;
       }
 
-  -- one value less is one less of the list
+  -- a removal removes from the list
   pub taken-listed : (old new : HandleMap T) (handle : Handle) (m : T) (ms : List (Handle × T)) (n : ℕ)
       → IsTaken old new handle m → HasJust old ms n
       → HasJust new (unlisted handle ms) n
@@ -180,7 +180,7 @@ module _ {T : Type 0} where
       sums : (now was all left : ℕ) → now + 1 ≡ was → was ≡ all → all ≡ left + 1 → now ≡ left
       sums now was all left a b c = omega arith
 
-  -- a new map has the values of no list
+  -- a new map has the empty list of values
   pub nothing-listed : HasJust {T = T} (record { slots = []; given = 0; room = 0 }) [] 0
   nothing-listed = record { named = fun_ext (λ handle. refl); count = refl; given_is = refl; apart = tt }
 
@@ -268,7 +268,7 @@ module _ {T : Type 0} where
     and-false true = refl
     and-false false = refl
 
-    -- there was no value if one was inserted
+    -- an inserted value had no value before it
     vacant : (old new : HandleMap T) (h : Handle) (v : T) → value_of old h ≡ None → Updates old new h (Some v)
         → Under h.serial (slice_index_or new.slots h.key None) v → (o : Option (HandleSlot T))
         → slice_index_or old.slots h.key None ≡ o → p (slice_index_or old.slots h.key None) ≡ false
@@ -289,7 +289,7 @@ module _ {T : Type 0} where
               absurd (ne (sym x.named ∙ (ap (λ (z : HandleSlot T). z.serial) (sym one) ∙ u.named)))
         ]
 
-    -- one more value that passes, or none
+    -- an insertion adds one to the count of a test if its value passes
     pub inserted : (old new : HandleMap T) (h : Handle) (v : T) → value_of old h ≡ None → Updates old new h (Some v)
         → count_by p new.slots ≡ count_by p old.slots + cond (q v) 1 0
     inserted old new h v fresh updates =
@@ -313,7 +313,7 @@ module _ {T : Type 0} where
         ap {B = ℕ} (λ (b : Bool). cond b 1 0) passes in
         omega (arith, count, w)
 
-    -- one value less is one that passes less, or none
+    -- a removal subtracts one from the count of a test if its value passes
     pub taken : (old new : HandleMap T) (h : Handle) (v : T) → value_of old h ≡ Some v → Updates old new h None
         → count_by p new.slots + cond (q v) 1 0 ≡ count_by p old.slots
     taken old new h v has updates =
@@ -331,13 +331,13 @@ module _ {T : Type 0} where
             sym (ap (λ (b : Bool). cond b (Some v) (value_of new other)) e
             ∙ (updates other ∙ ap (λ (b : Bool). cond b None (value_of old other)) e))
 
-  -- of the values that pass a test there is one more after an insertion of one that passes, and as many else
+  -- an insertion adds one to the number of values that pass a test if its value passes, and else keeps it
   pub inserted-counted : (passes : T → Bool) (old new : HandleMap T) (h : Handle) (v : T) → IsInserted old new h v
       → count_passing passes new ≡ count_passing passes old + cond (passes v) 1 0
   inserted-counted passes old new h v ins =
       inserted (has_passing passes) passes refl (λ s. refl) old new h v ins.fresh ins.updates
 
-  -- there is one less after one that passes was taken out, and as many else
+  -- a removal subtracts one from that number if its value passes, and else keeps it
   pub taken-counted : (passes : T → Bool) (old new : HandleMap T) (h : Handle) (v : T) → IsTaken old new h v
       → count_passing passes new + cond (passes v) 1 0 ≡ count_passing passes old
   taken-counted passes old new h v out =

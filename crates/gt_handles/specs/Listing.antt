@@ -6,7 +6,7 @@ use Rattle.gt_handles.specs.declared.handles.Handle.{Handle}
 use Rattle.gt_handles.specs.declared.handles.HandleSlot.{HandleSlot}
 
 module _ {T : Type 0} where
-  -- the value that a list has first under a handle
+  -- the first value that the list has under a handle
   abbrev pub listed : List (Handle × T) → Handle → Option T
   listed [] handle = None
   listed (m ∷ ms) handle = if same_handle m.0 handle then Some m.1 else listed ms handle
@@ -16,12 +16,12 @@ module _ {T : Type 0} where
   unlisted handle [] = []
   unlisted handle (m ∷ ms) = if same_handle m.0 handle then ms else m ∷ unlisted handle ms
 
-  -- no two values of the list are under one handle
+  -- no two values of the list have the same handle
   abbrev pub AreApart : List (Handle × T) → Type 0
   AreApart [] = Unit {0}
   AreApart (m ∷ ms) = (listed ms m.0 ≡ None) × AreApart ms
 
-  -- the handles have just the values of this list, after so many serials were given
+  -- the map has exactly the values of this list, and has given this number of serials
   pub record HasJust (kept : HandleMap T) (ms : List (Handle × T)) (given : ℕ) : Type 0 where
     pub named : value_of kept ≡ listed ms
     pub count : count_of kept ≡ length ms
@@ -33,11 +33,11 @@ module _ {T : Type 0} where
   has_passing passes None = false
   has_passing passes (Some slot) = passes slot.value
 
-  -- how many values pass the test
+  -- the number of values that pass the test
   abbrev pub count_passing : (T → Bool) → HandleMap T → ℕ
   count_passing passes kept = count_by (has_passing passes) kept.slots
 
-  -- the new map has one value more, under this handle, which had none
+  -- the new map has one value more, under a handle that had none
   pub record IsInserted (old new : HandleMap T) (h : Handle) (x : T) : Type 0 where
     pub fresh : value_of old h ≡ None
     pub updates : Updates old new h (Some x)
@@ -51,29 +51,29 @@ module _ {T : Type 0} where
     pub count : count_of new + 1 ≡ count_of old
     pub given : new.given ≡ old.given
 
--- a new map has the values of no list
+-- a new map has the empty list of values
 abbrev pub NothingIsListed : Type 0 → Type 0
 NothingIsListed T = HasJust {T = T} (record { slots = []; given = 0; room = 0 }) [] 0
 
--- a value inserted is one more of the list
+-- an insertion appends to the list
 abbrev pub InsertedIsListed : Type 0 → Type 0
 InsertedIsListed T =
     (old new : HandleMap T) (h : Handle) (x : T) (xs : List (Handle × T)) (n : ℕ) → IsInserted old new h x
     → HasJust old xs n → HasJust new (xs ++ (h, x) ∷ []) (n + 1)
 
--- a value taken out is one less of the list
+-- a removal removes from the list
 abbrev pub TakenIsUnlisted : Type 0 → Type 0
 TakenIsUnlisted T =
     (old new : HandleMap T) (h : Handle) (x : T) (xs : List (Handle × T)) (n : ℕ) → IsTaken old new h x
     → HasJust old xs n → HasJust new (unlisted h xs) n
 
--- of the values that pass a test there is one more if one that passes is inserted, and as many else
+-- an insertion adds one to the number of values that pass a test if its value passes, and else keeps it
 abbrev pub InsertedIsCounted : Type 0 → Type 0
 InsertedIsCounted T =
     (passes : T → Bool) (old new : HandleMap T) (h : Handle) (x : T) → IsInserted old new h x
     → count_passing passes new ≡ count_passing passes old + cond (passes x) 1 0
 
--- of the values that pass a test there is one less if one that passes is taken out, and as many else
+-- a removal subtracts one from that number if its value passes, and else keeps it
 abbrev pub TakenIsCounted : Type 0 → Type 0
 TakenIsCounted T =
     (passes : T → Bool) (old new : HandleMap T) (h : Handle) (x : T) → IsTaken old new h x

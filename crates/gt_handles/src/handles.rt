@@ -7,26 +7,26 @@ use slab::Slab;
 use std::alloc::Global;
 use std::marker::Model;
 
-/// The name of a value: its serial is given once, its key may serve again.
+/// The name of a value. Its serial is never given again; its key is used again after the value was taken.
 #[derive(Clone, Copy, Debug, PartialEq, Eq)]
 pub struct Handle {
     pub serial: u64,
     pub key: usize,
 }
 
-/// A value with the serial that it was given.
+/// A value, with the serial of its handle.
 #[derive(Drop)]
 pub struct HandleSlot<T> {
     pub serial: u64,
     pub value: T,
 }
 
-/// A finite map from handles to values, with the count of the serials given.
+/// A finite map from handles to values, with the number of serials given so far.
 #[derive(Drop)]
 pub struct Handles<T> {
     slab: Slab<HandleSlot<T>>,
     given: u64,
-    // No key below it has a value. So a walk of `pop`s looks at each key once.
+    // No key below it has a value. So a run of `pop`s looks at each key once.
     lowest: usize,
 }
 
@@ -49,7 +49,7 @@ impl<T> Handles<T> {
     ghost use Rattle.gt_handles.specs.Handles.{value_of, count_of, Updates, IsSpent, KeepsSpent, IsLeast};
     ghost use Rattle.gt_handles.specs.Handles.{IsEmpty, HasSoundHandles};
 
-    /// No values yet, and no serial given. It takes no memory.
+    /// Returns a map with no values, which has given no serial. It does not allocate.
     pub fn new(alloc: Global) -> Self
         ensures { result ≡ record { slots = []; given = 0; room = 0 } }
     {
@@ -60,7 +60,7 @@ impl<T> Handles<T> {
         }
     }
 
-    /// Makes room for one more value. If memory is refused the map stays as it was.
+    /// Makes room for one more value. If the allocation fails, the map is unchanged.
     pub fn reserve(&mut self) -> Result<(), Memory>
         ensures room { OnOk result (1 ≤ self.new.room) }
         ensures succeeds { 1 ≤ self.old.room → IsOk result }
@@ -71,8 +71,8 @@ impl<T> Handles<T> {
         Ok(())
     }
 
-    /// Keeps a value under a new handle, whose serial is the number of serials given before. The
-    /// caller has reserved room, and a serial is left.
+    /// Keeps a value under a new handle, and returns the handle. Its serial is the number of serials given before.
+    /// The caller has reserved room, and fewer than 2^64 - 1 serials were given.
     pub fn insert(&mut self, value: T) -> Handle
         requires room { 1 ≤ self.old.room }
         requires serial { self.old.given + 1 < 2 ^ 64 }
@@ -93,7 +93,7 @@ impl<T> Handles<T> {
         Handle { serial, key }
     }
 
-    /// The value under a handle; `None` if it was never given here, or was taken.
+    /// Returns the value under a handle. `None` if this map never gave the handle, or its value was taken.
     pub fn get(&self, handle: Handle) -> Option<&T>
         ensures value { option_copied result ≡ value_of self.now handle }
         ensures sound { HasSoundHandles self.now }
@@ -104,7 +104,7 @@ impl<T> Handles<T> {
         }
     }
 
-    /// Takes the value under a handle out; `None`, and nothing changes, if there is none.
+    /// Takes the value under a handle out. `None`, and no change, if there is no value.
     pub fn take(&mut self, handle: Handle) -> Option<T>
         ensures value { result ≡ value_of self.old handle }
         ensures updates { Updates self.old self.new handle None }
@@ -124,7 +124,7 @@ impl<T> Handles<T> {
         Some(slot.value)
     }
 
-    /// Takes the value with the least key out; `None` if there is no value.
+    /// Takes the value with the least key out. `None`, and no change, if the map is empty.
     pub fn pop(&mut self) -> Option<(Handle, T)>
         ensures value { IfSome result (λ r. value_of self.old r.0 ≡ Some r.1) }
         ensures least { IfSome result (λ r. IsLeast self.old r.0.key) }
@@ -147,7 +147,7 @@ impl<T> Handles<T> {
         Some((handle, slot.value))
     }
 
-    // The least key that has a value.
+    // Returns the least key that has a value.
     fn least_key(&self) -> Option<usize>
         ensures found { IfSome result (λ key. IsSome (slice_index_or self.now.slots key None)) }
         ensures least { IfSome result (λ key. IsLeast self.now key) }
@@ -164,21 +164,21 @@ impl<T> Handles<T> {
         None
     }
 
-    /// How many values there are.
+    /// Returns the number of values.
     pub fn len(&self) -> usize
         ensures { result ≡ count_of self.now }
     {
         self.slab.len()
     }
 
-    /// Whether there is no value.
+    /// Returns true if there is no value.
     pub fn is_empty(&self) -> bool
         ensures { result ≡ (count_of self.now == 0) }
     {
         self.len() == 0
     }
 
-    /// How many serials were given.
+    /// Returns the number of serials given so far.
     pub fn given(&self) -> u64
         ensures value { result ≡ self.now.given }
         ensures sound { HasSoundHandles self.now }

@@ -1,4 +1,4 @@
--- The place of a number among the domains, and the domain there.
+-- The position of a number among the domains, and the domain there.
 use Rattle.std.proofs.Common.{◌≡◌, ◌<◌, ◌≤◌, ℕ, refl, Bool, List, [], ◌∷◌, length, map, Option, Some, None, cond, ltb}
 use Rattle.std.proofs.Common.{sym, ap, ◌∙◌, arith, get_or}
 use Rattle.std.proofs.lemmas.List.{length-map}
@@ -25,7 +25,7 @@ same-place : (xs : List DomainConfig) (d : ℕ) → position_or_len (is_number d
 same-place [] d = refl
 same-place (x ∷ xs) d = grind (arith, same-place xs d)
 
--- the place of a number is that of the domain with it
+-- the position of a number is that of the domain with it
 pub place-by-number : (ids : List DomId) (xs : List DomainConfig) (d : ℕ) → numbers xs ≡ ids → position (is_number d) ids ≡ position (has_number d) xs
 place-by-number ids xs d e = ap (λ (l : List DomId). position (is_number d) l) (sym e)
     ∙ ap (λ (n : ℕ). cond (ltb n (length (numbers xs))) (Some n) None) (same-place xs d)

@@ -1,10 +1,10 @@
--- Why the places of a run are not made.
+-- Why a roster can't be made.
 use Rattle.gt_types.specs.Config.{IsFirstFault, IsWithinLimits}
 use Rattle.gt_types.specs.declared.config.Config.{Config}
 use Rattle.gt_types.specs.declared.config.StartFault.{StartFault}
 use Rattle.gt_types.specs.declared.config.StartFault.TheVariants as fault
 
--- the first fault of the configuration, or no memory if it has none
+-- the first fault of the configuration, or Memory if it has none
 abbrev pub IsStartFault : Config → StartFault → Type 0
 IsStartFault c (fault.Config f) = (¬ IsWithinLimits c) × IsFirstFault c f
 IsStartFault c fault.Memory = IsWithinLimits c

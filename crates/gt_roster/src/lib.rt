@@ -1,13 +1,13 @@
 //! The domains of a run, each found by its number in one look.
 //!
-//! [`Positions`] keeps the numbers of the domains in order, and a table that gives the place of each
-//! number up to the highest one. [`Roster`] is the configuration of a run with that table.
+//! [`Positions`] keeps the numbers of the domains in order, and a table that gives the position of each number up
+//! to the highest one. [`Roster`] is the configuration of a run with that table.
 //!
-//! What holds: [`Positions::position`] answers the place of the first domain with a number, or None if
-//! no domain has it. [`Roster::domain`] answers that domain, and a contract sees a [`Roster`] as its
-//! configuration. No call but `new` takes memory.
+//! Proved: [`Positions::position`] returns the position of the first domain with a number, or None if no domain has
+//! it. [`Roster::domain`] returns that domain. A contract sees a [`Roster`] as its configuration. Only the two
+//! `new` allocate.
 //!
-//! It uses `gt_types`.
+//! It stands on `gt_types`.
 #![tactic(auto)]
 
 mod positions;

@@ -1,4 +1,4 @@
-//! A table from the number of a domain to its place.
+//! A table from the number of a domain to its position.
 ghost use Rattle.std.specs.Prelude.{◌≡◌, ◌==◌, ◌<◌, ℕ, All, IfOk, length, map, position};
 ghost use Rattle.gt_types.specs.Config.{IsWithinLimits};
 ghost use Rattle.gt_roster.specs.Places.{HasPlaces};
@@ -7,7 +7,7 @@ use gt_types::{Config, DomId};
 use std::alloc::{AllocError, Global};
 use std::marker::Model;
 
-/// The numbers of the domains of a run, in order, and the place of each among them.
+/// The numbers of the domains of a run, in order, and the position of each.
 ///
 /// A contract sees it as the list of the numbers.
 #[derive(Drop)]
@@ -28,7 +28,6 @@ impl Model for Positions {
     ghost invariant = { λ p. HasPlaces p.ids.items p.table.items };
 }
 
-// The numbers of the domains, in order.
 fn ids_of(alloc: Global, config: &Config) -> Result<Vec<DomId>, AllocError>
     ensures { IfOk result (λ v. v.items ≡ map (λ d. d.id) config.now.domains.items) }
 {
@@ -39,7 +38,7 @@ fn ids_of(alloc: Global, config: &Config) -> Result<Vec<DomId>, AllocError>
     Ok(ids)
 }
 
-// The first number above all of these.
+// Returns the first number above all of these.
 fn end_of(ids: &[DomId]) -> usize
     ensures { All (λ x. x.0 < result) ids.now }
 {
@@ -50,7 +49,8 @@ fn end_of(ids: &[DomId]) -> usize
     end
 }
 
-// The place of each number up to the highest one. A number that no domain has gets the number of domains.
+// Builds the table: at each number up to the highest one, its position. A number that no domain has gets the count
+// of domains.
 fn places_of(alloc: Global, ids: &[DomId]) -> Result<Vec<u8>, AllocError>
     requires { length ids.now < 256 }
     ensures { IfOk result (λ v. HasPlaces ids.now v.items) }
@@ -65,11 +65,11 @@ fn places_of(alloc: Global, ids: &[DomId]) -> Result<Vec<u8>, AllocError>
 }
 
 impl Positions {
-    /// The places of the domains of a configuration. It takes a byte for each number up to the highest one, so at most
-    /// 32 KB.
+    /// Builds the table for the domains of a configuration. It takes a byte for each number up to the highest one,
+    /// so at most 32 KB.
     ///
     /// # Errors
-    /// `AllocError`, if memory is refused.
+    /// `AllocError`, if an allocation fails.
     pub fn new(alloc: Global, config: &Config) -> Result<Positions, AllocError>
         requires { IsWithinLimits config.now }
         ensures { IfOk result (λ p. p ≡ map (λ d. d.id) config.now.domains.items) }
@@ -79,14 +79,14 @@ impl Positions {
         Ok(Positions { ids, table })
     }
 
-    /// How many domains there are.
+    /// Returns the number of domains.
     pub fn count(&self) -> usize
         ensures { result ≡ length self.now }
     {
         self.ids.len()
     }
 
-    /// The place of the first domain with this number: None if there is no such domain.
+    /// Returns the position of the first domain with this number, None if there is none.
     pub fn position(&self, dom: DomId) -> Option<usize>
         ensures { result ≡ position (λ x. x.0 == dom.0) self.now }
     {

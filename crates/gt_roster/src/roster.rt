@@ -9,7 +9,7 @@ use gt_types::{Config, DomId, DomainConfig, StartFault};
 use std::alloc::{AllocError, Global};
 use std::marker::Model;
 
-/// The configuration of a run, with the places of its domains.
+/// The configuration of a run, with the positions of its domains.
 ///
 /// A contract sees it as the configuration.
 #[derive(Drop)]
@@ -30,10 +30,10 @@ impl Model for Roster {
 }
 
 impl Roster {
-    /// The domains of a configuration, with their places.
+    /// Checks a configuration, and builds its table of positions.
     ///
     /// # Errors
-    /// The first fault of the configuration, or `Memory` if it has none and memory is refused.
+    /// The first fault of the configuration, or `Memory` if it has none and an allocation fails.
     pub fn new(alloc: Global, config: Config) -> Result<Roster, StartFault>
         ensures ok { IfOk result (λ r. r ≡ config) }
         ensures fits { IsOk result → IsWithinLimits config }
@@ -48,21 +48,21 @@ impl Roster {
         }
     }
 
-    /// The configuration.
+    /// Returns the configuration.
     pub fn config(&self) -> &Config
         ensures { result.now ≡ self.now }
     {
         &self.config
     }
 
-    /// The place of the first domain with this number: None if there is no such domain.
+    /// Returns the position of the first domain with this number, None if there is none.
     pub fn position(&self, dom: DomId) -> Option<usize>
         ensures { result ≡ position (λ d. d.id.0 == dom.0) self.now.domains.items }
     {
         self.positions.position(dom)
     }
 
-    /// The first domain with this number, if there is one.
+    /// Returns the first domain with this number, None if there is none.
     pub fn domain(&self, dom: DomId) -> Option<DomainConfig>
         ensures { result ≡ domain_of self.now.domains.items dom }
     {

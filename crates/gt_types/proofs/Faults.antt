@@ -21,7 +21,7 @@ use Rattle.gt_types.specs.declared.limits.TheConstants.{LAST_VERSION, LAST_GENER
 use Rattle.gt_types.specs.Config.{IsWithinLimits, fault_when, is_out_of_range, is_taken, domain_fault, AreFaultless}
 use Rattle.gt_types.specs.Config.{IsFirstDomainFault, IsFirstFault}
 
--- the domain keeps every limit behind those before it
+-- the domain keeps every limit, given those before it
 record Fits (before : List DomainConfig) (d : DomainConfig) : Type 0 where
   room : length before < MAX_DOMAINS
   id : d.id.0 < DOMID_SELF
@@ -177,7 +177,7 @@ not-within c fault f w =
 pub none-yet : AreFaultless []
 none-yet = record { each = λ at domain e. absurd (none-some domain e) }
 
--- a beginning of a beginning
+-- a prefix of a prefix
 get-take : (ds : List DomainConfig) (n k : ℕ) (e : DomainConfig) → slice_get (take n ds) k ≡ Some e → (k < n) × (k < length ds) × (slice_get ds k ≡ Some e)
 get-take ds n k e h =
     let short = slice_get_within (take n ds) k e h in
@@ -228,14 +228,14 @@ stops c at shown front other fault s f below so_far here =
       here = ap (λ (xs : List DomainConfig). domain_fault (take at xs) (get_or shown at other)) (sym f) ∙ here;
     }))
 
--- and otherwise goes on
+-- and otherwise continues
 pub goes-on : (c : Config) (at : ℕ) (shown front : List DomainConfig) (other : DomainConfig) → shown ≡ c.domains.items → front ≡ c.domains.items → at < length shown
     → AreFaultless (take at c.domains.items) → domain_fault (take at front) (get_or shown at other) ≡ None → AreFaultless (take (at + 1) c.domains.items)
 goes-on c at shown front other s f below so_far here =
     one-more c.domains.items at (get_or shown at other) (shown-at c.domains.items shown at other s below) so_far
     (ap (λ (xs : List DomainConfig). domain_fault (take at xs) (get_or shown at other)) (sym f) ∙ here)
 
--- all domains were looked at
+-- the loop has checked all domains
 pub ends : (ds : List DomainConfig) (at : ℕ) → length ds ≤ at → AreFaultless (take at ds) → AreFaultless ds
 ends ds at past f = subst AreFaultless (take_all at ds past) f
 

@@ -12,8 +12,9 @@ use Rattle.gt_types.specs.declared.config.ConfigFault.TheVariants.{TableFrames, 
 use Rattle.gt_types.specs.declared.limits.TheConstants.{DOMID_SELF, MAX_DOMAINS, MAX_FRAMES, MAX_TABLE_FRAMES}
 use Rattle.gt_types.specs.declared.limits.TheConstants.{LAST_VERSION, LAST_GENERATION}
 
--- the limits of a run: 1 to MAX_DOMAINS domains with distinct numbers below DOMID_SELF, 1 to MAX_FRAMES
--- frames and 1 to MAX_TABLE_FRAMES table frames each, and a first generation that there is
+-- the limits of a run: 1 to MAX_DOMAINS domains, with distinct numbers below DOMID_SELF; for each of them 1 to
+-- MAX_FRAMES frames, 1 to MAX_TABLE_FRAMES table frames and a version from 1 to LAST_VERSION; and a first generation
+-- of at most LAST_GENERATION
 pub record IsWithinLimits (c : Config) : Type 0 where
   pub some : 1 ≤ length c.domains.items
   pub few : length c.domains.items ≤ MAX_DOMAINS
@@ -29,7 +30,7 @@ abbrev pub fault_when : Bool → ConfigFault → Option ConfigFault
 fault_when true fault = Some fault
 fault_when false fault = None
 
--- the number is outside 1 to the last
+-- the number is 0, or above the last
 abbrev pub is_out_of_range : ℕ → ℕ → Bool
 is_out_of_range last n = not (nat_le 1 n && nat_le n last)
 
@@ -37,8 +38,8 @@ is_out_of_range last n = not (nat_le 1 n && nat_le n last)
 abbrev pub is_taken : List DomainConfig → DomId → Bool
 is_taken domains id = list_any (λ d. d.id.0 == id.0) domains
 
--- the first fault of a domain after those before it, in the order: one domain too
--- many, number, repetition, frames, table frames, version
+-- the first fault of a domain that follows the domains `before`, in this order: one domain too many, number,
+-- repetition, frames, table frames, version
 unfoldable pub domain_fault : List DomainConfig → DomainConfig → Option ConfigFault
 domain_fault before d =
     option_or (fault_when (nat_le MAX_DOMAINS (length before)) (TooMany d.id))
@@ -48,7 +49,7 @@ domain_fault before d =
     (option_or (fault_when (is_out_of_range MAX_TABLE_FRAMES d.table_frames) (TableFrames d.id))
     (fault_when (is_out_of_range LAST_VERSION d.version) (Version d.id))))))
 
--- no domain has a fault after those before it
+-- no domain has a fault, given those before it
 pub record AreFaultless (domains : List DomainConfig) : Type 0 where
   pub each : (at : ℕ) (domain : DomainConfig) → slice_get domains at ≡ Some domain
       → domain_fault (take at domains) domain ≡ None
@@ -61,8 +62,8 @@ pub record IsFirstDomainFault (domains : List DomainConfig) (fault : ConfigFault
   pub earlier : AreFaultless (take at domains)
   pub here : domain_fault (take at domains) domain ≡ Some fault
 
--- the first fault of a configuration: no domain at all comes first, then the
--- first domain with a fault, and the first generation last
+-- the first fault of a configuration: that it has no domain; otherwise that of the first domain with a fault;
+-- otherwise that of the first generation
 abbrev pub IsFirstFault : Config → ConfigFault → Type 0
 IsFirstFault c fault =
     ((fault ≡ NoDomains) × (c.domains.items ≡ []))

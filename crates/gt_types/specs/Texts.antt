@@ -8,7 +8,7 @@ use Rattle.gt_types.specs.declared.config.ConfigFault.TheVariants.{TableFrames, 
 use Rattle.gt_types.specs.declared.config.StartFault.{StartFault}
 use Rattle.gt_types.specs.declared.config.StartFault.TheVariants.{Config, Memory}
 
--- what is wrong with the domain of this number
+-- the text of a fault of the domain with this number
 abbrev pub of_domain : DomId → List ℕ → List ℕ
 of_domain id fault = codes "domain " ++ decimal id.0 ++ fault
 
@@ -23,7 +23,7 @@ config_fault_text (TableFrames id) = of_domain id (codes ": table frames out of 
 config_fault_text (Version id) = of_domain id (codes ": no such version")
 config_fault_text Generation = codes "first generation out of range"
 
--- the text of why a run can't start
+-- the text of the reason why a run can't start
 abbrev pub start_fault_text : StartFault → List ℕ
 start_fault_text (Config fault) = config_fault_text fault
 start_fault_text Memory = codes "memory was refused"

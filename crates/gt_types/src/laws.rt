@@ -1,5 +1,4 @@
-//! What the definitions of this crate come to. Each law is a function that does nothing, whose
-//! contract is the law.
+//! Laws about the definitions of this crate. Each law is a function with an empty body, whose contract is the law.
 ghost use Rattle.std.specs.Prelude.{◌≡◌, ℕ, List, [], ◌∷◌, ◌++◌, Some, None, IsTrue, All};
 ghost use Rattle.gt_types.specs.Config.{domain_fault, AreFaultless, IsFirstFault};
 ghost use Rattle.gt_types.specs.Names.{permission_of, is_permission, every_permission};
@@ -14,7 +13,7 @@ use crate::limits::{
     MAX_DOMAINS, MAX_FRAMES, MAX_MAPPINGS, MAX_PINS, MAX_TABLE_FRAMES, MAX_TRIES, TABLE_ENTRIES,
 };
 
-/// The limits of a run, by number.
+/// States each limit of a run as a number.
 pub fn the_limits()
     ensures domains { (DOMID_SELF ≡ 32752) × (MAX_DOMAINS ≡ 64) }
     ensures frames { (MAX_FRAMES ≡ 64) × (FRAME_SIZE ≡ 4096) }
@@ -25,7 +24,7 @@ pub fn the_limits()
     ensures texts { LONGEST_TEXT ≡ 1048576 }
 {}
 
-/// The permissions by number, one by one, and the words that name them.
+/// States the seven permissions one by one, and that every name is the name of one permission.
 #[tactic(auto, unfolding(crate::specs::Names::permission_of, crate::specs::Names::is_permission))]
 pub fn the_permissions()
     ensures every { EVERY ≡ every_permission }
@@ -34,15 +33,15 @@ pub fn the_permissions()
         permission_of word ≡ Some perm → IsTrue (is_permission perm) }
 {}
 
-/// A list of domains without a fault stays without one when a domain follows that has none
-/// after them. So a configuration can be judged domain by domain as it is read.
+/// Proves that a list of domains without a fault stays without one if it is followed by a domain that has no fault
+/// after them. So a configuration can be checked domain by domain as it is read.
 pub fn every_faultless_list_grows_by_one()
     ensures none { AreFaultless [] }
     ensures more { (ds : List DomainConfig) (d : DomainConfig) →
         AreFaultless ds → domain_fault ds d ≡ None → AreFaultless (ds ++ d ∷ []) }
 {}
 
-/// No configuration has two first faults.
+/// Proves that no configuration has two first faults.
 pub fn every_first_fault_is_one()
     ensures { (c : Config) (f g : ConfigFault) → IsFirstFault c f → IsFirstFault c g → f ≡ g }
 {}

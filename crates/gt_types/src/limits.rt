@@ -1,45 +1,45 @@
-//! The limits of a run, each in one place.
+//! The limits of a run. Each is defined once, here.
 
-/// The domain number that names the caller in every call (`DOMID_SELF` of the public header
-/// `xen.h`). Each domain of a run has a number below it.
+/// The domain number that names the caller in every call (`DOMID_SELF` of the public header `xen.h`). Each domain
+/// of a run has a smaller number.
 pub const DOMID_SELF: u16 = 0x7FF0;
 
-/// The most domains of a run.
+/// The maximum number of domains of a run.
 pub const MAX_DOMAINS: usize = 64;
 
-/// The most frames of a domain.
+/// The maximum number of frames of a domain.
 pub const MAX_FRAMES: u32 = 64;
 
-/// The bytes of a frame.
+/// The size of a frame, in bytes.
 pub const FRAME_SIZE: u16 = 4_096;
 
-/// The most frames of a grant table.
+/// The maximum number of frames of a grant table.
 pub const MAX_TABLE_FRAMES: u32 = 16;
 
-/// The entries of a table frame in version 1, of 8 bytes each.
+/// The number of entries in a table frame of version 1: 8 bytes each (`grant_entry_v1` of `grant_table.h`).
 pub const ENTRIES_V1: u32 = 512;
 
-/// The entries of a table frame in version 2, of 16 bytes each.
+/// The number of entries in a table frame of version 2: 16 bytes each (`grant_entry_v2` of `grant_table.h`).
 pub const ENTRIES_V2: u32 = 256;
 
-/// The most entries of a grant table: those of [`MAX_TABLE_FRAMES`] frames in version 1.
-/// A domain has words for so many entries, whatever the present size of its table.
+/// The maximum number of entries of a grant table: those of [`MAX_TABLE_FRAMES`] frames in version 1. Each domain
+/// has words for this many entries, whatever the present size of its table.
 pub const TABLE_ENTRIES: u32 = 8_192;
 
 /// The last version of grant tables that a domain may have; the first is 1.
 pub const LAST_VERSION: u32 = 2;
 
-/// The most live pins of one kind on one entry.
+/// The maximum number of live pins of one kind on one entry.
 pub const MAX_PINS: u16 = 4_095;
 
-/// The most map handles in use by one domain.
+/// The maximum number of live mappings of one domain.
 pub const MAX_MAPPINGS: usize = 8_192;
 
-/// The last generation of an entry, which is then worn.
+/// The last generation of an entry. An entry at this generation is worn.
 pub const LAST_GENERATION: u32 = 1_048_575;
 
-/// How often a pin, a demotion or a promotion is tried.
+/// The maximum number of tries to pin an entry, and of turns to demote, promote or withdraw one.
 pub const MAX_TRIES: u32 = 4;
 
-/// The most bytes of a policy text, and of a script.
+/// The maximum length of a policy text and of a script, in bytes.
 pub const LONGEST_TEXT: usize = 1_048_576;

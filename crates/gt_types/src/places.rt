@@ -1,7 +1,7 @@
-//! Places in the frames of a run.
+//! Positions in the frames of a run.
 use crate::DomId;
 
-/// A frame, by its owner and its number among the owner's frames.
+/// A frame: its owner, and its number among the owner's frames, from 0.
 #[derive(Clone, Copy, Debug, PartialEq, Eq)]
 pub struct FrameName {
     pub owner: DomId,

@@ -1,4 +1,4 @@
--- What an access to bytes rests on: it is inside a frame, and justified.
+-- What an access to bytes depends on: it is inside a frame, and justified.
 use Rattle.gt_core.proofs.Words.{◌≡◌, ◌≢◌, ◌≤◌, ◌<◌, ◌+◌, ◌⊎◌, inl, inr, ℕ, suc, refl, Bool, true, List, [], ◌∷◌, Some}
 use Rattle.gt_core.proofs.Words.{None, sym, ap, ◌∙◌, arith, subst, reverse, eqb-true, none-some, same_Some, Any}
 use Rattle.gt_core.proofs.Words.{resolved, DomId, Dir, Read, Write, ForMap, ForCopy, FRAME_SIZE, Entry, frame_of}
@@ -16,14 +16,14 @@ use Rattle.gt_core.proofs.{Steps.Observers.leg-keyed}
 use Rattle.gt_calls.specs.{declared.held.AccessPath.TheVariants.Own, Path.place_of}
 use Rattle.gt_core.{specs.Justified.AccessIsJustified, specs.Standing.LetsUse}
 
--- pins among those that a domain's give
+-- pins among those of a domain
 
 -- the pin is one of these
 abbrev pub IsHeldIn : {K : Type 0} → HeldPin → List (K × HeldPin) → Type 0
 IsHeldIn m [] = ⊥
 IsHeldIn m (x ∷ xs) = (x.1 ≡ m) ⊎ IsHeldIn m xs
 
--- the pin is the domain's, and held so that it is given
+-- the pin is the domain's, and its holder gives it
 abbrev IsBy : {K : Type 0} {give : PinHolder → HeldPin → List (K × HeldPin)} → IsKeyed give → ℕ → HeldPin → Pin → Type 0
 IsBy keyed d m p = (p.actor ≡ d) × (p.held ≡ m) × (keyed.key p.holder ≢ None)
 
@@ -45,7 +45,7 @@ found-in [] handle m e = absurd (none-some m e)
 found-in (x ∷ ms) handle m e =
     cond_both (same_handle x.0 handle) (Some x.1) (mapping_of ms handle) (λ o. o ≡ Some m → (x.1 ≡ m) ⊎ IsHeldIn m ms) (λ is f. inl (same_Some _ _ f)) (λ is f. inr (found-in ms handle m f)) e
 
--- a pin that lets its mapping be used lets the domain access any range in that way
+-- a pin whose mapping may be used lets the domain access any range in that direction
 pub permits-as : (e : Entry) (d : DomId) (held dir : Dir) (off len : ℕ) → ((dir ≡ Write) → held ≡ Write) → permits e d held ForMap 0 0 ≡ true → permits e d dir ForMap off len ≡ true
 permits-as e d held dir off len w a = grind arith
 
@@ -75,7 +75,7 @@ mapping-pin s h xs d handle m st found = let a = gathered-any mapping_named mapp
       },
     )
 
--- an access by a mapping, where its kind allows the direction, and one to a frame of the domain's own
+-- an access through a mapping, if its kind allows the direction, and an access to a frame of the domain's own
 access-mapped : (s : Setting) (h : History) (xs : List State) (d : DomId) (r : OpenRequest) (dir : Dir) (handle : Handle) (dom : DomId) (frame off len : ℕ) → DomainsStand s h xs → (a : IsMapped (known_at s h d) handle dom frame)
     → ((dir ≡ Write) → a.mapping.dir ≡ Write) → off + len ≤ FRAME_SIZE → (MayUseMapping s d (mapping_of (mappings_at h d.0) handle) → MayAsk s h d r) → AccessIsJustified s h d r dir (record { frame = record { owner = dom; number = frame }; off = off }) len
 access-mapped s h xs d r dir handle dom frame off len st a writes inside ask = let m = a.mapping in

@@ -1,5 +1,5 @@
--- An owner's exchange: it keeps what a core stands for. What it rests on, which rule it meets, and where it leads its
--- call.
+-- An owner's exchange: what a core represents after it, what it depends on, which rule it meets, and how its call
+-- continues.
 use Rattle.gt_core.proofs.Words.{◌≡◌, ◌≢◌, ◌<◌, ◌≤◌, ◌+◌, ℕ, refl, Bool, true, List, ◌∷◌, length, Option, Some, None}
 use Rattle.gt_core.proofs.Words.{cond, sym, ap, ◌∙◌, arith, subst, get_or, eqb-true, none-some, slice_get-get_or}
 use Rattle.gt_core.proofs.Words.{option_map, ◌==◌, All, slice_get, fun_ext, DomId, GrantRef, TABLE_ENTRIES}
@@ -73,7 +73,7 @@ facts-fit-after : (s : Setting) (h : History) (xs : List State) (d t g r : ℕ) 
     → Fits r (facts_after s h t r (cond (d == t) (cond (g == r) (Some change) None) None))
 facts-fit-after s h xs d t g r change st within safe fits room = grind (arith, facts-fit, eqb-true, counts-fit)
 
--- an owner's change that is safe, and has room, keeps what the core stands for
+-- after an owner's change that is safe, and has room, the core represents the history with it
 pub exchange-stands : (s : Setting) (h : History) (xs ys : List State) (x : State) (gref : GrantRef) (looked : ℕ) (change : EntryChange) (answer : Option Answer) (o : Option OpenCall) → DomainsStand s h xs
     → state_of xs x.id.0 ≡ Some x → StateStands s h x → ((q : ℕ) → state_of ys q ≡ cond (x.id.0 == q) (Some (record x { underway = o })) (state_of xs q))
     → gref.0 < TABLE_ENTRIES → IsSafeChange h x.id.0 gref.0 change → FitsChange change → generation_at s h x.id.0 gref.0 + raise_of change ≤ LAST_GENERATION → one_if_mapped answer ≡ 0
@@ -106,9 +106,9 @@ exchange-stands s h xs ys x gref looked change answer o st here a becomes within
       given = given;
     }
 
--- the owner's word with no pins
+-- the owner's word without pins
 
--- a word with no pins is the idle word, and no other
+-- a word without pins is the idle word, and no other word is
 pub idle-pins : (e : Entry) (g r w : ℕ) → control_word (control_with e g r w) ≡ control_word (control_with e g 0 0) → r + w ≡ 0
 idle-pins Invalid g r w e = omega arith
 idle-pins z g r w e = omega arith
@@ -126,7 +126,7 @@ invalid-is z e = absurd (false≢true e)
 pub grant-invalid : (s : Setting) (h : History) (d : DomId) (gref : GrantRef) (entry : Entry) → begun (known_at s h d) d (Grant gref entry) ≡ None → entry_at h d.0 gref.0 ≡ Invalid
 grant-invalid s h d gref entry none = invalid-is (entry_at h d.0 gref.0) (opens (known_at s h d) d (Grant gref entry) none).free
 
--- an exchange is on an entry that there is
+-- an exchange is on an entry that exists
 
 table-below : (s : Setting) (h : History) (xs : List State) (d : DomId) (gref : GrantRef) → DomainsStand s h xs → gref.0 < size_of (table_at s h d) → gref.0 < TABLE_ENTRIES
 table-below s h xs d gref st lt = let le : size_of (table_at s h d) ≤ TABLE_ENTRIES = (table-fits _ (st.tables d)).0 in omega arith
@@ -146,7 +146,7 @@ turn-below s h xs d r gref ToReadOnly st none is = table-below s h xs d gref st 
 turn-below s h xs d r gref ToWritable st none is = table-below s h xs d gref st (opens (known_at s h d) d (Promote gref) (subst (λ (z : OpenRequest). begun (known_at s h d) d z ≡ None) is none)).in_table
 turn-below s h xs d r gref change st none is = absurd is
 
--- what an exchange that is taken rests on
+-- what an exchange that is taken depends on
 
 -- the change is one that the entry allows and has room for
 pub record CanChange (s : Setting) (h : History) (d : DomId) (gref : GrantRef) (change : EntryChange) : Type 0 where
@@ -155,7 +155,7 @@ pub record CanChange (s : Setting) (h : History) (d : DomId) (gref : GrantRef) (
   pub fits : FitsChange change
   pub room : generation_at s h d.0 gref.0 + raise_of change ≤ LAST_GENERATION
 
--- a publication follows the stores that spell its entry
+-- a publication follows the stores that encode its entry
 publish-spelled : (s : Setting) (h : History) (d : DomId) (r : OpenRequest) (way : Continuation) (shown : List Observation) (so_far : StepsSoFar) (p : Phase) (gref : GrantRef) (looked : ℕ) (entry : Entry) → HasShown (known_at s h d) way d r shown p → PhaseStands s h d r so_far p
     → action_at d p ≡ Makes (Exchange gref looked (Publish entry)) → IsSpelled entry (body_at h d.0 gref.0 FirstHalf) (body_at h d.0 gref.0 SecondHalf)
 publish-spelled s h d r way shown so_far (Exchanging g w (Publish e)) gref looked entry a b acts = let same : e ≡ entry = cc in let at : g ≡ gref = cc in rw (← same, ← at) b
@@ -207,7 +207,7 @@ can-change s h xs d r shown so_far phase gref looked change i same = by change i
   by ToWritable rests acts =
       record { within = below; safe = tt; fits = tt; room = not-last (generation_at s h d.0 gref.0) fits-now (opens k d (Promote gref) (none-of k d r (Promote gref) rests.0 i.rests.0)).not_worn }
 
--- the rule at an exchange, and where it leads
+-- the rule at an exchange, and how the call continues
 
 busy-refusal : (k : CallerKnowledge) (d : DomId) (gref : GrantRef) (looked w : ℕ) (change : EntryChange) (pins : ℕ) (b : Bool) → (b ≡ true → pins ≡ 0) → (b ≡ false → pins ≡ 0 → ⊥)
     → at_entry d gref w (stands (nat_lt 0 pins) N19) ≡ phase_refusal (phase_after k d (Exchanging gref looked change) (cond b Taken (Missed w)))
@@ -215,7 +215,7 @@ busy-refusal k d gref looked w change pins true free held = ap (λ (n : ℕ). at
 busy-refusal k d gref looked w change zero false free held = absurd (held refl refl)
 busy-refusal k d gref looked w change (suc pins) false free held = ap (λ (b : Bool). at_entry d gref w (stands b N19)) (lt-ltb 0 (suc pins) (omega arith))
 
--- an exchange from the owner's word without pins is refused exactly where its entry has pins
+-- an exchange from the owner's word without pins is refused exactly if its entry has pins
 idle-judged : (s : Setting) (h : History) (d : DomId) (gref : GrantRef) (looked : ℕ) (change : EntryChange) → looked ≡ idle_word (known_at s h d) gref → let w = word_at s h d.0 gref.0 in
     at_entry d gref w (stands (nat_lt 0 (reads_at h d.0 gref.0 + writes_at h d.0 gref.0)) N19) ≡ phase_refusal (phase_after (known_at s h d) d (Exchanging gref looked change) (cond (w == looked) Taken (Missed w)))
 idle-judged s h d gref looked change is = let w = word_at s h d.0 gref.0 in

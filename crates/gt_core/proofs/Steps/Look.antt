@@ -1,5 +1,5 @@
--- A look at a header, a control word or a body word: the refusal that it leads to is the first rule that stands, and
--- where the call stands next. What it sees is in See.
+-- A look at a header, a control word or a body word: the refusal that it leads to is the first rule that applies, and
+-- the phase of the call after it. What it sees is in See.
 use Rattle.gt_core.proofs.Words.{ℕ, Bool, List, None, Option, Some, [], ap, arith, cond, false, inl, refl, subst, sym}
 use Rattle.gt_core.proofs.Words.{true, ◌+◌, ◌<◌, ◌∙◌, ◌∷◌, ◌≡◌, ◌≢◌, ◌≤◌, eqb-true, ltb-true, true≢false, nat_le}
 use Rattle.gt_core.proofs.Words.{nat_lt, not, ◌&&◌, ◌==◌, denial_of, domain_of, DomId, GrantRef, Denial, HeaderFacts}
@@ -26,7 +26,7 @@ abbrev pub IsLooking : LegPhase → Type 0
 IsLooking (Pinning more word body second) = ⊥
 IsLooking phase = Unit {0}
 
--- the rules at a look at the control word, but for a demote
+-- the rules at a look at the control word, except for a demotion
 control-rules : (dom : DomId) (gref : GrantRef) (w : ℕ) (demoted x late late' : Bool) (rule rule' : Option Rule) → demoted ≡ false → rule ≡ rule' → late ≡ late'
     → at_entry dom gref w (first (stands (demoted && x) N19 ∷ rule ∷ stands late N18 ∷ [])) ≡ at_entry dom gref w (first (rule' ∷ stands late' N18 ∷ []))
 control-rules dom gref w demoted x late late' rule rule' d e m = cc
@@ -35,7 +35,7 @@ own-shown : (e : Entry) (g r w : ℕ) → IsShown (control_with e g r w) e
 own-shown Invalid g r w = refl
 own-shown e g r w = refl
 
--- what body words spell
+-- what body words encode
 
 spelled-first : (e : Entry) (first second : ℕ) → e ≢ Invalid → IsSpelled e first second → first_body e ≡ first
 spelled-first Invalid first second valid a = absurd (valid refl)
@@ -51,7 +51,7 @@ spelled-sub c Invalid first body second shown sub same a = a
 spelled-sub c (Sub dom ro frame off len) first body second shown sub same a = (sym same, a.1)
 spelled-sub c e first body second shown sub same a = sym same
 
--- the words of a try spell the entry that they show
+-- the words of a try encode the entry that they show
 read-entry : (c : Control) (e : Entry) (first second : ℕ) → c ≡ control_with e c.generation c.reads c.writes → IsEntry e → IsSpelled e first second → entry_of c first second ≡ e
 read-entry c e first second shown is a = ap (λ (z : Control). entry_of z first second) shown ∙ entry-read e c.generation c.reads c.writes first second is a
 
@@ -130,8 +130,8 @@ module _ (s : Setting) (h : History) (l : Leg) (ws : Words s h l) where
         judged true f = still-judged s h l word body second (as-tried s h l so_far more word body second (Some rule) looked read ws (eqb-true (word_at s h l.dom.0 l.gref.0) word f)) ∙ read.judged
         judged false f = refl
 
-    -- at each look of a leg the refusal that its words lead to is the first rule that stands, and it stands where its
-    -- next phase says
+    -- at each look of a leg the refusal that its words lead to is the first rule that applies, and the leg is in its
+    -- next phase
     pub looks-come : (so_far : StepsSoFar) (phase : LegPhase) → LegStands s h l so_far phase → IsLooking phase → let v = seen_by s h d (leg_step l phase) in
         ComesTo s h l ((leg_step l phase, v) ∷ so_far) (first_at s h d r so_far (leg_step l phase)) (leg_after l phase v)
     looks-come so_far AtHeader a none = let w = header_word (table_at s h l.dom) in
@@ -185,7 +185,7 @@ unfolding looked_at
 look-placed s h d r gref change more w so_far true a = inl refl
 look-placed s h d r gref change more w so_far false a = (ap (λ (n : ℕ). n + more) (misses-look d gref w so_far a.1) ∙ a.0, refl)
 
--- a question
+-- a query
 
 pub asks-run : (s : Setting) (h : History) (d : DomId) (r : OpenRequest) (dom : DomId) (question : HeaderQuery) → begun (known_at s h d) d r ≡ None → AsksTable d r dom question → domain_of s.domains dom ≢ None
 asks-run s h d r dom AsksSize none a = rw a.2 (of-run _ (opens (known_at s h d) d (QuerySize a.0) (none-of (known_at s h d) d r (QuerySize a.0) a.1 none)).of_run)
@@ -195,7 +195,7 @@ pub asked-judged : (s : Setting) (h : History) (d : DomId) (r : OpenRequest) (so
 asked-judged s h d r so_far dom AsksSize a = subst (λ (z : OpenRequest). Judged s h d z so_far (Asking dom AsksSize) (LookHeader dom)) (sym a.1) refl
 asked-judged s h d r so_far dom AsksVersion a = subst (λ (z : OpenRequest). Judged s h d z so_far (Asking dom AsksVersion) (LookHeader dom)) (sym a.1) refl
 
--- each look is on words that there are
+-- each look is at words that exist
 
 pub leg-within : (s : Setting) (h : History) (xs : List State) (d : DomId) (l : Leg) (so_far : StepsSoFar) (p : LegPhase) → state_of xs l.dom.0 ≢ None → LegStands s h l so_far p → IsWithin xs d (leg_step l p)
 leg-within s h xs d l so_far AtHeader some a = some

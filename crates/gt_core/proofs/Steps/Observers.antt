@@ -53,7 +53,7 @@ pub kept-table : (s : Setting) (i : Item) (h : History) (t : DomId) → header_s
 unfolding table_at
 kept-table s i h t e = ap (λ (o : Option Header). header_or o (table_at s h t)) (ap (λ (o : Option Header). cond (i.actor.0 == t.0) o None) e ∙ cond-same (i.actor.0 == t.0) None)
 
--- a domain knows the same, where its entries, table and mappings are the same
+-- a domain knows the same if its entries, table and mappings are the same
 pub known-as : (s : Setting) (h new : History) (d : DomId) → ((r : ℕ) → entry_at new d.0 r ≡ entry_at h d.0 r) → ((r : ℕ) → raises_at new d.0 r ≡ raises_at h d.0 r) → table_at s new d ≡ table_at s h d
     → mappings_at new d.0 ≡ mappings_at h d.0 → maps_answered_at new d.0 ≡ maps_answered_at h d.0 → known_at s new d ≡ known_at s h d
 known-as s h new d entries raises table maps answered = grind arith
@@ -90,14 +90,14 @@ unfolding gather
 gather-append give d [] qs = refl
 gather-append give d (p ∷ ps) qs = grind (arith, gather-append give d ps qs, append_assoc)
 
--- a pin that is given back, where it gave nothing to this domain
+-- a pin that is released, if it gave nothing to this domain
 pub without-kept : {A : Type 0} (give : PinHolder → HeldPin → List A) (d actor : ℕ) (holder : PinHolder) (ps : List Pin)
     → ((p : Pin) → p.actor ≡ actor → is_holder p.holder holder ≡ true → cond (p.actor == d) (give p.holder p.held) [] ≡ []) → gather give d (without actor holder ps) ≡ gather give d ps
 unfolding gather without
 without-kept give d actor holder [] none = refl
 without-kept {A} give d actor holder (p ∷ ps) none = grind (arith, without-kept give d actor holder ps none)
 
--- what held of all pins holds of those that are left
+-- what held for all pins holds for those that are left
 pub all-without : (P : Pin → Type 0) (d : ℕ) (holder : PinHolder) (ps : List Pin) → All P ps → All P (without d holder ps)
 unfolding without
 all-without P d holder [] a = a
@@ -109,15 +109,15 @@ pub other-pins : {A : Type 0} (give : PinHolder → HeldPin → List A) (i : Ite
 unfolding gather live
 other-pins give i h d apart = grind (arith, gather-append, append-nil, without-kept)
 
--- no domain but the actor knows another thing by itself
+-- what each domain but the actor knows by itself stays
 pub other-known : (s : Setting) (i : Item) (h : History) (d : DomId) → (i.actor.0 == d.0) ≡ false → known_at s (i ∷ h) d ≡ known_at s h d
 other-known s i h d apart = grind (arith, known-as, other-entry, other-raises, other-table, other-pins, other-maps)
 
--- a test above a function stands outside it too
+-- a function of a conditional is the conditional of the function
 pub pulled : {A B : Type 0} (f : A → B) (b : Bool) (x y : A) → f (cond b x y) ≡ cond b (f x) (f y)
 pulled f b x y = grind arith
 
--- a way to give pins by keys: each holder gives under one key, or nothing
+-- a function that gives pins by keys: each holder gives under one key, or nothing
 abbrev pub listed : {K : Type 0} → Option K → HeldPin → List (K × HeldPin)
 listed None p = []
 listed (Some k) p = (k, p) ∷ []
@@ -191,7 +191,7 @@ pub exchanged-live : (h : History) (d : DomId) (gref : GrantRef) (looked : ℕ) 
 unfolding live
 exchanged-live h d gref looked change answer = append-nil (live h)
 
--- a history that has one pin more
+-- a history that has one more pin
 
 abbrev pub Grows : History → Item → Pin → Type 0
 Grows h i p = live (i ∷ h) ≡ live h ++ p ∷ []
@@ -200,6 +200,6 @@ pub grown-count : (h : History) (i : Item) (p : Pin) (t r : ℕ) (k : Dir) → G
     → pins_at (i ∷ h) t r k ≡ pins_at h t r k + cond (is_pin_on t r k p) 1 0
 grown-count h i p t r k e = ap (λ (ps : List Pin). count_by (is_pin_on t r k) ps) e ∙ sum_by_push (λ (x : Pin). cond (is_pin_on t r k x) 1 0) (live h) p
 
--- what holds at the place of a pin
+-- what holds for a pin
 pub at-place : (P : ℕ → ℕ → Dir → Type 0) (p : Pin) (t r : ℕ) (k : Dir) → P p.held.dom.0 p.held.gref.0 p.held.dir → is_pin_on t r k p ≡ true → P t r k
 at-place P p t r k a e = grind arith

@@ -1,4 +1,4 @@
--- A pin: it keeps what a core stands for. What a pin that is taken rests on, and where a pin leads its call.
+-- A pin: what a core represents after it, what a pin that is taken depends on, and how its call continues.
 use Rattle.gt_core.proofs.Words.{◌≡◌, ◌<◌, ◌+◌, ℕ, refl, Bool, true, List, [], ◌∷◌, ◌++◌, length, Option, Some, cond}
 use Rattle.gt_core.proofs.Words.{sym, ap, ◌∙◌, arith, subst, ◌==◌, ◌&&◌, All, All-push, append-nil, DomId, Dir, Read}
 use Rattle.gt_core.proofs.Words.{Write, MAX_PINS, BodyWord, FirstHalf, SecondHalf, HandleMap, Handle, HeldPin, PinHolder, ByLeg}
@@ -36,7 +36,7 @@ use Rattle.gt_core.proofs.{Legs.IsLegOf, Legs.ComesTo, Legs.miss-comes, Aims.pai
 use Rattle.gt_core.specs.declared.pin_counts.CountsChange.TheVariants.{Pinned}
 use Rattle.gt_calls.specs.declared.held.AccessPath.TheVariants.{Own}
 
--- the pin may be counted
+-- the pin can be counted
 abbrev pub IsFew : History → Pin → Type 0
 IsFew h p = pins_at h p.held.dom.0 p.held.gref.0 p.held.dir < MAX_PINS
 
@@ -75,8 +75,7 @@ answered-up : (h : History) (d : DomId) (p : HeldPin) (handle : Handle) → maps
 unfolding maps_answered_at
 answered-up h d p handle = rw (same-number d.0) (omega arith)
 
--- a lawful pin keeps what the core stands for, where the domain's mappings are those that it
--- then has
+-- after a lawful pin the core represents the history with it, if the domain's mappings are those that it then has
 pub pin-stands : (s : Setting) (h : History) (xs ys : List State) (x : State) (p : HeldPin) (answer : Option Answer) (kept : HandleMap HeldPin) (o : Option OpenCall) → DomainsStand s h xs → state_of xs x.id.0 ≡ Some x → StateStands s h x
     → ((q : ℕ) → state_of ys q ≡ cond (x.id.0 == q) (Some (record x { mappings = kept; underway = o })) (state_of xs q))
     → IsFew h (new_pin h x.id p answer) → IsLawfulPin s (new_pin h x.id p answer)
@@ -105,9 +104,9 @@ pub leg-agrees : (h : History) (d : DomId) (p : HeldPin) (answer : Option Answer
     → MappingsAgree kept (mappings_at h d.0) (maps_answered_at h d.0) → MappingsAgree kept (mappings_at (pins d p answer ∷ h) d.0) (maps_answered_at (pins d p answer ∷ h) d.0)
 leg-agrees h d p answer kept leg m a = mappings-same kept _ _ _ _ (sym (leg-maps h d p answer leg)) (sym (answered-stays h (pins d p answer) d.0 m)) a
 
--- what a pin that is taken rests on
+-- what a pin that is taken depends on
 
--- the pin that is taken is of the entry as it is, on which no rule of its leg stands, and it may be counted
+-- the pin that is taken is of the present entry, to which no rule of its leg applies, and it can be counted
 pub record CanPin (s : Setting) (h : History) (d : DomId) (r : OpenRequest) (p : HeldPin) : Type 0 where
   pub is : record p { entry = entry_at h p.dom.0 p.gref.0 } ≡ p
   pub valid : entry_at h p.dom.0 p.gref.0 ≢ Invalid
@@ -178,7 +177,7 @@ map-lawful s h d r p shown pins none t dom gref flags is = by t.aim t.aimed wher
   by (Source c via) a = absurd (let f : Map dom gref flags ≡ Copy c = sym is ∙ a.0 in cc)
   by (Dest c source via) a = absurd (let f : Map dom gref flags ≡ Copy c = sym is ∙ a.0 in cc)
 
--- where a pin leads, missed or taken
+-- what follows a pin, missed or taken
 
 -- a try whose exchange found another word
 pub missed-comes : (s : Setting) (h : History) (l : Leg) (d : DomId) (r : OpenRequest) (more word body second : ℕ) (so_far : StepsSoFar) (b : Bool) → b ≡ false → LegHasLooked s h l so_far more word → let p = held_of l word body second in let v = cond b Taken (Missed (word_at s h l.dom.0 l.gref.0)) in
@@ -207,7 +206,7 @@ passed : (b c d e : Bool) → first (stands b N11 ∷ stands (not (c || false)) 
 passed false true false false h = (refl, refl)
 passed b c d e h = cc
 
--- a Via is met in a copy's first legs alone
+-- only the first legs of a copy meet a Via
 via-passed : (l : Leg) (dom : DomId) (ro : Bool) (dom2 : DomId) (gref : GrantRef) (g r w : ℕ) → first_look l (control_with (Via dom ro dom2 gref) g r w) ≡ None → (is_copying l.purpose ≡ true) × (l.beyond_via ≡ false)
 via-passed l dom ro dom2 gref g r w e = passed (not (dom.0 == l.grantee.0)) (is_copying l.purpose) (not (allows_direction ro l.dir)) l.beyond_via e
 
@@ -225,7 +224,7 @@ pub met-first : (k : CallerKnowledge) (d : DomId) (r : OpenRequest) (aim : PinPu
 met-first k d r aim l (Via dom ro dom2 gref) g n m is passed v = let f = via-passed l dom ro dom2 gref g n m passed in first-leg-of k d r aim l is f.0 f.1
 met-first k d r aim l e g n m is passed v = absurd v
 
--- what stands at a Via ends the copy with a refusal
+-- the rule that applies at a Via ends the copy with a refusal
 denied-ends : (may : TypeId → TypeId → Perms → Bool) (ts : List Triple) (v : CallResult) → denied may ts ≡ Some v → EndsCopy v
 denied-ends may [] v e = cc
 denied-ends may (t ∷ ts) v e =
@@ -237,7 +236,7 @@ via-ends k pair dom v e = by (is_none (domain_of k.domains dom)) e where
   by true f = subst EndsCopy (same_Some _ _ f) tt
   by false f = denied-ends k.may (rights_to_copy k pair.0 pair.1) v (alone (copy_denied k pair.0 pair.1) ∙ f)
 
--- on to the next leg, to the access, or to the end
+-- the next leg, the access, or the end
 module _ (s : Setting) (h : History) (d : DomId) (r : OpenRequest) where
   where-leads : (c : CopyArgs) (now : StepsSoFar) (aim : PinPurpose) (l : Leg) (pair : DomId × DomId) (o : Option CallResult) → r ≡ Copy c → via_judged (known_at s h d) pair l.dom ≡ o
       → Leads s h d r now (refusal_in o) (where_via o aim l)

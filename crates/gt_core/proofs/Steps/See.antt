@@ -23,7 +23,7 @@ table-fits x f = let v = f.version in let few = f.frames in
     by true le = omega arith
     by false le = omega arith
 
--- what is seen of the states is of the first one with the number
+-- what is seen in the states is of the first one with the number
 pub seen-state : {A : Type 0} (seen : List State → A) (of : State → A) (d : ℕ) (x : State) → ((y : State) (ys : List State) → seen (y ∷ ys) ≡ cond (y.id.0 == d) (of y) (seen ys))
     → (xs : List State) → state_of xs d ≡ Some x → seen xs ≡ of x
 seen-state seen of d x more [] e = cc
@@ -37,7 +37,7 @@ some-at [] r within = absurd (omega arith)
 some-at (x ∷ xs) zero within = (x, refl)
 some-at (x ∷ xs) (suc r) within = some-at xs r (omega arith)
 
--- where there is a row, its generation is the entry's
+-- if there is a row, its generation is the entry's
 generation-there : (a b : ℕ) (own : List OwnerEntry) (r : ℕ) → r < length own → own_generation a own r ≡ own_generation b own r
 generation-there a b [] r within = absurd (omega arith)
 generation-there a b (x ∷ xs) zero within = refl
@@ -55,7 +55,7 @@ body-agrees : (s : Setting) (h : History) (x : State) (r : ℕ) (which : BodyWor
 body-agrees s h x r SecondHalf a within = let here = some-at x.slots r (let room : length x.slots ≡ TABLE_ENTRIES = a.room in omega arith) in ap (λ (o : Option PinCounts). slot_body o SecondHalf) here.1 ∙ (a.slots r here.0 here.1).second
 body-agrees s h x r FirstHalf a within = let here = some-at x.slots r (let room : length x.slots ≡ TABLE_ENTRIES = a.room in omega arith) in ap (λ (o : Option PinCounts). slot_body o FirstHalf) here.1 ∙ (a.slots r here.0 here.1).first
 
--- the step is on an entry that there is
+-- the step is on an entry that exists
 abbrev pub IsWithin : List State → DomId → Step → Type 0
 IsWithin xs d (LookHeader dom) = state_of xs dom.0 ≢ None
 IsWithin xs d (LookControl dom gref) = (state_of xs dom.0 ≢ None) × (gref.0 < TABLE_ENTRIES)

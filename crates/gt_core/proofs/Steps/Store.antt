@@ -1,5 +1,5 @@
--- A header, or a body word of an invalid entry, that its owner stores: it keeps what a core stands for. What it rests
--- on, and where it leads its call.
+-- A store of a header, or of a body word of an invalid entry: what a core represents after it, what it depends on,
+-- and how its call continues.
 use Rattle.gt_core.proofs.Words.{◌≡◌, ◌%◌, ℕ, refl, Bool, true, List, ◌∷◌, Option, Some, None, cond, sym, ap, ◌∙◌}
 use Rattle.gt_core.proofs.Words.{arith, subst, ◌==◌, DomId, Header, StoreHeader, Nothing, OpenCall, Item, Answer, State}
 use Rattle.gt_core.proofs.Words.{state_of, changed_in, with_header, History, Setting, header_or, table_at}
@@ -41,7 +41,7 @@ headed-fits s h d version frames answer t b own new old = grind (arith, headed-t
 pub room-there : (version frames : ℕ) → FitsTable (record { version = version; frames = frames }) → ◌≡◌ {A = Header} (record { version = version % 4; frames = frames % 256 }) (record { version = version; frames = frames })
 room-there version frames f = grind arith
 
--- a header within the limits that its owner stores keeps what the core stands for
+-- after a store of a header within the limits the core represents the history with it
 pub header-stands : (s : Setting) (h : History) (xs ys : List State) (x : State) (version frames : ℕ) (answer : Option Answer) (o : Option OpenCall) → DomainsStand s h xs → state_of xs x.id.0 ≡ Some x → StateStands s h x
     → ((q : ℕ) → state_of ys q ≡ cond (x.id.0 == q) (Some (record x { underway = o })) (state_of xs q)) → one_if_mapped answer ≡ 0 → FitsTable (record { version = version; frames = frames })
     → CallAgrees s (headed x.id version frames answer ∷ h) x.id o (open_call (headed x.id version frames answer ∷ h) x.id.0) → GivenAgrees (headed x.id version frames answer ∷ h) x.id.0 x.given
@@ -63,7 +63,7 @@ stores d gref half word = stepped d (StoreBody gref half word) Nothing None
 pub store-keeps : (d : DomId) (gref : GrantRef) (half : BodyWord) (word : ℕ) → KeepsKnown (stores d gref half word)
 store-keeps d gref half word = record { changes = λ r. refl; pins = λ before ps. refl; unpins = λ pins. refl; maps = refl }
 
--- the half that is stored is the word, and the first one stays where it is the second
+-- the body word that is stored is the word, and the first one stays if it is the second
 pub half-stored : (d : DomId) (gref : GrantRef) (half : BodyWord) (word : ℕ) (h : History) → body_at (stores d gref half word ∷ h) d.0 gref.0 half ≡ word
 unfolding body_at
 half-stored d gref half word h = grind arith
@@ -77,7 +77,7 @@ moves-stored : (d : DomId) (gref : GrantRef) (half : BodyWord) (word : ℕ) (h :
 unfolding body_at
 moves-stored d gref half word h q r old a = grind (arith, kept-live, store-keeps)
 
--- a body word that is stored keeps what the core stands for
+-- after a store of a body word the core represents the history with it
 pub store-stands : (s : Setting) (h : History) (xs ys : List State) (x : State) (gref : GrantRef) (half : BodyWord) (word : ℕ) (o : Option OpenCall) → DomainsStand s h xs
     → state_of xs x.id.0 ≡ Some x → StateStands s h x → ((q : ℕ) → state_of ys q ≡ cond (x.id.0 == q) (Some (record x { underway = o })) (state_of xs q))
     → CallAgrees s (stores x.id gref half word ∷ h) x.id o (open_call (stores x.id gref half word ∷ h) x.id.0) → GivenAgrees (stores x.id gref half word ∷ h) x.id.0 x.given
@@ -88,7 +88,7 @@ store-stands s h xs ys x gref half word o st here a becomes call given = let i =
     (moves-stored x.id gref half word h) (mappings-stay i h x.id.0 x.mappings k a.mappings) call given)
     (λ dom. subst FitsTable (sym (kept-table s i h dom refl)) (st.tables dom))
 
--- what a store rests on
+-- what a store depends on
 
 -- a body word is stored on an invalid entry
 pub store-invalid : (s : Setting) (h : History) (d : DomId) (r : OpenRequest) (gref : GrantRef) (half : BodyWord) (word : ℕ) → begun (known_at s h d) d r ≡ None → RestsOnGrant r gref half word → entry_at h d.0 gref.0 ≡ Invalid
@@ -107,7 +107,7 @@ header-fits s h xs d r version frames st none (inl a) =
 header-fits s h xs d r version frames st none (inr a) =
     record { version = rw a.1 (st.tables d).version; frames = (opens (known_at s h d) d (SetupTable frames) (none-of (known_at s h d) d r (SetupTable frames) a.0 none)).within }
 
--- where a store leads
+-- what follows a store
 
 -- a step that stores a body word
 abbrev pub IsStore : Step → Type 0
@@ -118,7 +118,7 @@ pub stored-refusal : (k : CallerKnowledge) (gref : GrantRef) (entry : Entry) →
 stored-refusal k gref Invalid = refl
 stored-refusal k gref entry = refl
 
--- what holds of each call that is about to store a body word
+-- what holds for each call that is about to store a body word
 pub by-storing : (s : Setting) (h : History) (d : DomId) (r : OpenRequest) (way : Continuation) (shown : List Observation) (P : Phase → Step → Type 0) → ((g : GrantRef) (entry : Entry) → P (Storing g entry) (StoreBody g FirstHalf (first_body entry)))
     → ((g : GrantRef) (entry : Entry) → P (StoringSecond g entry) (StoreBody g SecondHalf (second_body entry))) → (phase : Phase) (step : Step) → HasShown (known_at s h d) way d r shown phase → action_at d phase ≡ Makes step → IsStore step → P phase step
 by-storing s h d r way shown P first second (Storing g entry) step a e n = subst (P (Storing g entry)) (makes-same _ _ e) (first g entry)

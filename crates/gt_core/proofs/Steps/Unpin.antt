@@ -1,4 +1,4 @@
--- An unpin: it keeps what a core stands for, and where it leads its call.
+-- An unpin: what a core represents after it, and how its call continues.
 use Rattle.gt_core.proofs.Words.{◌≡◌, ◌+◌, ℕ, refl, Bool, false, List, [], ◌∷◌, ◌++◌, length, Option, Some, None, cond}
 use Rattle.gt_core.proofs.Words.{sym, ap, ◌∙◌, arith, subst, ◌==◌, ◌&&◌, All, count_by, none-some, sum_by-cons, DomId}
 use Rattle.gt_core.proofs.Words.{Dir, Read, Write, BodyWord, FirstHalf, SecondHalf, Handle, HandleMap, HeldPin, PinHolder}
@@ -20,12 +20,12 @@ use Rattle.gt_core.proofs.{Mappings.mappings-taken, Mappings.mappings-same, Rows
 use Rattle.gt_core.proofs.{Steps.Pin.pins-fit, Steps.Observers.all-without, Steps.Observers.unpinned-live}
 use Rattle.gt_core.proofs.{Steps.Observers.unpins, Phases.by-giving, Phases.Placed}
 
--- what an unpin takes from the live pins
+-- what an unpin removes from the live pins
 
 abbrev hits : HeldPin → ℕ → ℕ → Dir → Bool
 hits m t r k = (m.dom.0 == t) && (m.gref.0 == r) && same_dir m.dir k
 
--- the count of one kind on one entry falls by one, where the pin is of that
+-- the count of one kind on one entry falls by one, if the pin is of that kind
 abbrev pub Loses : HeldPin → List Pin → List Pin → Type 0
 Loses m whole less = (t r : ℕ) (k : Dir) → count_by (is_pin_on t r k) whole ≡ cond (hits m t r k) 1 0 + count_by (is_pin_on t r k) less
 
@@ -43,7 +43,7 @@ record Tells {K : Type 0} (give : PinHolder → HeldPin → List (K × HeldPin))
   pub keyed : IsKeyed give
   pub tells : (x : PinHolder) → is_holder x holder ≡ passes test (keyed.key x)
 
--- what the others give stays, and the first of these pins that is held so is gone, if there is one
+-- what the others give stays, and the first of these pins with that holder is gone, if there is one
 without-one : {K : Type 0} (give : PinHolder → HeldPin → List (K × HeldPin)) (test : K → Bool) (holder : PinHolder) (d : ℕ) (ps : List Pin) → Tells give test holder
     → (gather give d (without d holder ps) ≡ less_of test (gather give d ps)) × ((m : HeldPin) → one_of test (gather give d ps) ≡ Some m → Loses m ps (without d holder ps))
 unfolding without gather
@@ -53,7 +53,7 @@ without-one {K} give test holder d (p ∷ ps) t = let was = without-one give tes
   λ m e u r k. grind (arith, t.keyed.gives p.holder p.held, t.tells p.holder, was.1 m, sum_by-cons (λ (q : Pin). cond (is_pin_on u r k q) 1 0) p ps, sum_by-cons (λ (q : Pin). cond (is_pin_on u r k q) 1 0) p (without d holder ps)),
 )
 
--- the tests that there are
+-- the tests that exist
 
 mapping-tells : (handle : Handle) → Tells mapping_named (λ (k : Handle). same_handle k handle) (ByMapping handle)
 mapping-tells handle = record { keyed = mapping-keyed; tells = by } where
@@ -67,7 +67,7 @@ leg-tells number = record { keyed = leg-keyed; tells = by } where
   by (ByMapping k) = refl
   by (ByLeg n) = refl
 
--- by a mapping's handle
+-- by the handle of a mapping
 
 one-mapping : (ms : List (Handle × HeldPin)) (handle : Handle) → one_of (λ (k : Handle). same_handle k handle) ms ≡ mapping_of ms handle
 one-mapping [] handle = refl
@@ -92,7 +92,7 @@ mapping-agrees h d p handle seen answer kept m found a =
     mappings-same (handle_taken handle kept) _ _ _ _ (sym (mapping-left h d p handle seen answer)) (sym (answered-stays h (unpins d p (ByMapping handle) seen answer) d.0 m))
     (mappings-taken kept handle p (mappings_at h d.0) (maps_answered_at h d.0) found a)
 
--- by the place of a call's own pin, the last one
+-- by the position of a call's own pin, the last one
 
 last-leg : (m n : ℕ) (ps : List HeldPin) (p : HeldPin) → n ≡ m + length ps
     → (one_of (λ (k : ℕ). k == n) (numbered m (ps ++ p ∷ [])) ≡ Some p) × (less_of (λ (k : ℕ). k == n) (numbered m (ps ++ p ∷ [])) ≡ numbered m ps)
@@ -124,7 +124,8 @@ counted-down : (h new : History) (q r : ℕ) (dir : Dir) (b : Bool) (old : PinCo
     → ((k : Dir) → pins_at h q r k ≡ cond (b && same_dir dir k) 1 0 + pins_at new q r k) → SlotAgrees new q r (cond b (slot_after (Unpinned dir) old) old)
 counted-down h new q r dir b old a body now = grind (arith, now Read, now Write, body FirstHalf, body SecondHalf)
 
--- a live pin that is given back keeps what the core stands for, where the domain's mappings are those that it then has
+-- after a live pin is released the core represents the history with it, if the domain's mappings are those that it
+-- then has
 pub unpin-stands : (s : Setting) (h : History) (xs zs : List State) (x : State) (p : HeldPin) (holder : PinHolder) (seen : Observation) (answer : Option Answer) (kept : HandleMap HeldPin) (o : Option OpenCall) → DomainsStand s h xs
     → state_of xs x.id.0 ≡ Some x → StateStands s h x → Becomes xs zs x (record x { mappings = kept; underway = o }) p.dom.0 (with_slot p.gref.0 (Unpinned p.dir)) → Loses p (live h) (without x.id.0 holder (live h))
     → MappingsAgree kept (mappings_at (unpins x.id p holder seen answer ∷ h) x.id.0) (maps_answered_at (unpins x.id p holder seen answer ∷ h) x.id.0)
@@ -149,12 +150,12 @@ unpin-stands s h xs zs x p holder seen answer kept o st here a becomes loses map
     shrinks : (t r : ℕ) (k : Dir) → pins_at h t r k ≡ cond (hits p t r k) 1 0 + pins_at (i ∷ h) t r k
     shrinks t r k = loses t r k ∙ ap (λ (ps : List Pin). cond (hits p t r k) 1 0 + count_by (is_pin_on t r k) ps) (sym now)
 
--- the states after an unpin: the mapping goes too, where it is of one
+-- the states after an unpin: the mapping goes too, if the pin was of one
 pub becomes-unpinned : (xs ys : List State) (x : State) (p : HeldPin) (holder : PinHolder) (o : Option OpenCall) → ((q : ℕ) → state_of ys q ≡ cond (x.id.0 == q) (Some (record x { underway = o })) (state_of xs q))
     → Becomes xs (changed_in x.id.0 (without_holder holder) (changed_in p.dom.0 (with_slot p.gref.0 (Unpinned p.dir)) ys)) x (without_holder holder (record x { underway = o })) p.dom.0 (with_slot p.gref.0 (Unpinned p.dir))
 becomes-unpinned xs ys x p holder o was = grind (arith, state-changed, becomes-changed)
 
--- where giving a pin back leads
+-- what follows the release of a pin
 
 pub then-none : (o : Option Denial) → option_or o None ≡ o
 then-none None = refl

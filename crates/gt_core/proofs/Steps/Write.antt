@@ -1,4 +1,4 @@
--- The frames of a core: what a step of a call writes to them is by right, and leaves them as the history tells.
+-- The frames of a core: what a step of a call writes to them is by right, and leaves them as the history does.
 use Rattle.gt_core.proofs.Words.{◌≡◌, ◌≤◌, ◌<◌, ◌+◌, ◌-◌, inl, inr, ℕ, refl, Bool, true, false, List, [], ◌∷◌, ◌++◌}
 use Rattle.gt_core.proofs.Words.{replicate, length, take, drop, Option, Some, None, cond, sym, ap, ◌∙◌, arith, subst}
 use Rattle.gt_core.proofs.Words.{eqb-true, eq-eqb, and_parts, and_from, append-nil, map-append, length-append}
@@ -23,7 +23,7 @@ use Rattle.gt_core.proofs.{Steps.Access.read-justified, Steps.Access.copy-justif
 use Rattle.gt_calls.specs.{declared.held.AccessPath.TheVariants.Own, Path.place_of}
 use Rattle.std.specs.Cmp.{both_ways}
 
--- what a frame holds, and which frames there are
+-- what a frame holds, and which frames exist
 
 -- a range of a frame holds what the history left in it
 pub bytes-held : (s : Setting) (h : History) (fs : FrameSet) (dom : DomId) (frame off len : ℕ) → FramesStand s h fs
@@ -44,11 +44,11 @@ range-there s h fs at len fr a = and_from _ _ (frame-there s h fs at.frame fr a.
 
 -- writs
 
--- an entry that lets a mapping write lets any range of its frame be written
+-- an entry that permits a mapping to write permits any range of its frame to be written
 map-writes : (e : Entry) (d : DomId) (frame off len : ℕ) → frame ≡ frame_of e → permits e d Write ForMap off len ≡ true → permits_writing e d frame off len ≡ true
 map-writes e d frame off len is a = grind arith
 
--- the entries of a copy's pins let it write
+-- the entries of a copy's pins permit it to write
 way-covers : (k : CallerKnowledge) (d : DomId) (granted : Bool) (end : End) (len : ℕ) (pair : DomId → DomId × DomId) (route : AccessPath) → IsReached k d granted end Write len pair route
     → suffices (ground_of route) d (place_of d end route).frame.owner (place_of d end route).frame.number end.offset len ≡ true
 way-covers k d granted end len pair route a = grind arith
@@ -109,7 +109,7 @@ open-admitted s h xs fs x o c st fr a call here = subst (λ (z : Call). IsAdmitt
   by (CopyBytes from to len) r = copies from to len r.0 r.1
   by step r = tt
 
--- what it reads is there
+-- what it reads exists
 pub open-readable : (s : Setting) (h : History) (xs : List State) (fs : FrameSet) (x : State) (o : OpenCall) (c : Underway) → DomainsStand s h xs → FramesStand s h fs → OpenAgrees s h x.id o c → IsReadable fs o.call o.step
 open-readable s h xs fs x o c st fr here = by o.step here.rests where
   long : (dom : DomId) (frame off len : ℕ) → RestsOnRequest (known_at s h x.id) x.id c.request (ReadBytes dom frame off len) → IsLoadOf o.call.request len
@@ -123,7 +123,7 @@ open-readable s h xs fs x o c st fr here = by o.step here.rests where
 
 -- the size of a frame
 
--- bytes that are laid over others inside them leave them as many as they were
+-- laying bytes over others inside them keeps their number
 length-overlay : (xs : List ℕ) (off : ℕ) (ys : List ℕ) → off + length ys ≤ length xs → length (overlay xs off ys) ≡ length xs
 length-overlay xs off ys within = grind (arith, length-take-le, length-append, length-drop)
 
@@ -139,7 +139,7 @@ filled-by : (h : History) (fs : FrameSet) → ((name : FrameName) → patches (f
 filled-by h fs writes kept t f = let name : FrameName = record { owner = record { 0 = t }; number = f } in
     ap (λ (ps : List Patch). length (written ps)) (sym (writes name)) ∙ length-replay name.owner f (frame_at fs name).journal zeros length-zeros (kept name)
 
--- one item more
+-- one more item
 
 -- what the item writes
 abbrev WritingOf : Item → History → Option WriteMade
@@ -183,7 +183,7 @@ written-once s h fs gs i at w bytes wrote fr to kept = record { counts = to.doma
         (λ off. elsewhere name (ap (λ (b : Bool). b && (name.number == at.frame.number)) (swap name.owner.0 at.frame.owner.0) ∙ ap (λ (b : Bool). (at.frame.owner.0 == name.owner.0) && b) (swap name.number at.frame.number) ∙ off))
         ∙ ap (λ (z : Option WriteMade). was ++ patches_by z name.owner.0 name.number) (sym wrote) ∙ sym (patches-more i h name.owner.0 name.number)
 
--- the frames after a step, which wrote what its call was given or what its source held
+-- the frames after a step, which wrote the bytes of its request or those of its source
 pub frames-stepped : (s : Setting) (h : History) (fs gs : FrameSet) (x : State) (call : Call) (step : Step) (seen : Observation) (answer : Option Answer) (c : Underway) → open_call h x.id.0 ≡ Some c → x.given ≡ c.given → FramesStand s h fs → AccessedBy x call step fs gs
     → FramesStand s (stepped x.id step seen answer ∷ h) gs
 frames-stepped s h fs gs x call step seen answer c under given fr = by step where
@@ -202,7 +202,7 @@ frames-begun s h fs dom request BegunBusy fr = fr
 frames-begun s h fs dom request BegunNoDomain fr = fr
 frames-begun s h fs dom request b fr = nothing-written s h fs _ refl fr
 
--- frames at rest
+-- new frames
 
 no-patches : (t f : ℕ) → patches_at [] t f ≡ []
 unfolding patches_at

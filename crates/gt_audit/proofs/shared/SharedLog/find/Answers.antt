@@ -4,7 +4,7 @@ use Rattle.gt_types.specs.declared.DomId.{DomId}
 use Rattle.gt_audit.specs.declared.shared.LogEntry.{LogEntry}
 use Rattle.gt_audit.proofs.shared.SharedLog.find.Goals as goal
 
--- two domains of one number are one
+-- two domains with the same number are the same
 one_domain : (a b : DomId) → a.0 ≡ b.0 → a ≡ b
 one_domain a b same = let of_number : ℕ → DomId = λ n. record { 0 = n } in ap of_number same
 
