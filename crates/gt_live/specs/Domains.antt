@@ -53,7 +53,7 @@ abbrev pub Answered : {P : Type 0} → (P → AllowRelation) → Monitor P → D
 Answered may m d request verdict e =
     Called m.words.layout (path_of (known_on may m d) d.seat.dom request) verdict d.seat.view e.seat.view
 
--- the same for a call with an access, whose value agrees with it by tells
+-- the same for a call with an access, whose value agrees with that access (tells)
 abbrev pub Accesses : {P R : Type 0} → (P → AllowRelation) → Monitor P → Domain → Request → (Step → R → Type 0)
     → Result R Denial → Domain → Type 0
 Accesses may m d request tells result e =

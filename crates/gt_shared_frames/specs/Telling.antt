@@ -63,8 +63,8 @@ AreLeft q x held hs =
     (held ≡ (q, x) ∷ hs)
     ⊎ ((p : ℕ × FrameState) × (ps : List (ℕ × FrameState)) × (held ≡ p ∷ (q, x) ∷ ps) × (hs ≡ p ∷ ps))
 
--- the step was taken after the steps past of all seats. Words and views showed a state before each of them, before it
--- and after it, and each access, this one too, has the bytes that the steps before it make
+-- the step was taken after the history past. Words and views showed a state before each step of that history, before
+-- this step and after it, and each access, this one too, has the bytes that the steps before it make
 pub record Accesses (k : Layout) (v : View) (past : StepHistory) (x : SeatStep) : Type 0 where
   pub stood : StoodWith (Unit {0}) k past v
   pub still_stands : StoodWith (Unit {0}) k ((v.position, x) ∷ past) (with_step past x v)
@@ -104,7 +104,7 @@ IsByHeld b held x (Copied d f off r) =
 abbrev pub IsOf : TableId → Seat Cell FrameHolder → Type 0
 IsOf z s = s.table_id ≡ z
 
--- the seat made this access to the frame, and nothing else: it is the step of the history right after the steps past
+-- the seat made this access to the frame, and nothing else: it is one step, right after the history past
 abbrev pub Accessed : Layout → FrameAt → FrameStep → Me Cell FrameHolder → Me Cell FrameHolder → Type 0
 Accessed k n m me me' =
     (past : StepHistory)

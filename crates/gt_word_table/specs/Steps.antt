@@ -21,10 +21,10 @@ use Rattle.gt_word_table.specs.declared.view.SeatStep.TheVariants as step_of
 abbrev pub StoodWith : Type 0 → Layout → StepHistory → View → Type 0
 StoodWith S k past v = (z : State S View) × Stands k past z × (get_elem? z.views v.position ≡ some v)
 
--- the seat with the view v takes the step x on this word, after the steps past of all seats. Words and views showed a
--- state before each of those steps, before this one and after it. The step finds the number that the steps before it
--- make of the word, records it, and leaves the other. A pin is of the last record then. The step takes the state that
--- they make to what the core's event gives
+-- the seat with the view v takes the step x on this word, after the history past. Words and views showed a state before
+-- each step of that history, before this step and after it. The step finds the number that the history makes of the
+-- word, records it, and leaves the other. A pin is of the last record then. The step takes the state that the history
+-- makes to what the core's event gives
 pub record TakesStep (S : Type 0) (k : Layout) (v : View) (past : StepHistory) (x : SeatStep)
     (word found left : ℕ) : Type 0 where
   pub stood : StoodWith S k past v

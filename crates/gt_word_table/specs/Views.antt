@@ -37,7 +37,7 @@ header_steps t (Frame d q m ∷ xs) = header_steps t xs
 abbrev pub steps_on_header : ℕ → View → List HeaderStep
 steps_on_header t v = header_steps t v.steps
 
--- the view after one more step, taken after the steps past of all seats
+-- the view after one more step, taken after the history past
 abbrev pub with_step : List (ℕ × SeatStep) → SeatStep → View → View
 with_step past x v = record v { steps = x ∷ v.steps; past = (v.position, x) ∷ past }
 

@@ -18,16 +18,14 @@ use Rattle.gt_words.specs.Conditions.{Board, SeatOf, IsSeatOf, position_at, IsWo
 use Rattle.gt_words.specs.Conditions.{HasNoWritePins, IsNotEarlier}
 pub use Rattle.gt_roster.specs.Starting.{IsStartFault}
 
--- the seat added the step m on the entry r of the domain t, taken after the steps past of all seats, to its view, and
--- nothing else
+-- the seat added the step m on the entry r of the domain t, taken after the history past, to its view, and nothing else
 pub record AddsToEntry (past : StepHistory) (t r : ℕ) (m : EntryStep) (v w : View) : Type 0 where
   pub view : w ≡ with_step past (on_entry t r m) v
   pub here : steps_on t r w ≡ m ∷ steps_on t r v
   pub others : (t' r' : ℕ) → (t ≡ t' → r ≡ r' → ⊥) → steps_on t' r' w ≡ steps_on t' r' v
   pub headers : (t' : ℕ) → steps_on_header t' w ≡ steps_on_header t' v
 
--- the seat added the step m on the header of the domain t, taken after the steps past of all seats, to its view, and
--- nothing else
+-- the seat added the step m on the header of the domain t, taken after the history past, to its view, and nothing else
 pub record AddsToHeader (past : StepHistory) (t : ℕ) (m : HeaderStep) (v w : View) : Type 0 where
   pub view : w ≡ with_step past (on_header t m) v
   pub here : steps_on_header t w ≡ m ∷ steps_on_header t v
