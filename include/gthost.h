@@ -159,9 +159,9 @@ static inline struct gthost_begun_copy gthost_null_copy(void)
 }
 
 /*
- * Lets the domain leave its run: ends its copy if it is in one, unmaps its mappings, and withdraws its valid entries.
- * The handle is then all zeros. The last domain of a run frees the monitor. The domain's records are dropped, so read
- * them before, by gthost_record.
+ * Lets the domain leave its run: ends its copy if it is in one, releases its mappings (also if the policy denies an
+ * unmap), and withdraws its valid entries. The handle is then all zeros. The last domain of a run frees the monitor. The
+ * domain's records are dropped, so read them before, by gthost_record.
  *
  * The answer (GTHOST_LEFT) has the number of records that were lost, and in `more` the number of its entries that
  * others still use. If that is 0, no domain maps or copies by any of its entries, now or later, and its memory is free.
@@ -314,7 +314,7 @@ static inline struct gthost_answer gthost_get_version(struct gthost_domain *doma
 /*
  * Returns the record at an index, starting at 0, of the domain's calls in order: maps, unmaps, copies, queries,
  * versions and setups. A copy is recorded at its end, or when it is refused. There is no record of a call that was not
- * made (GTHOST_BUSY and so on), of an owner's call on an entry, or of what gthost_finish and gthost_reset unmap.
+ * made (GTHOST_BUSY and so on), of an owner's call on an entry, or of what gthost_finish and gthost_reset release.
  * GTHOST_ABSENT beyond the last record.
  */
 static inline struct gthost_found_record gthost_record(struct gthost_domain *domain, size_t index)

@@ -53,7 +53,7 @@ EndsAccess s t =
     × EndsHalfway s.monitor.words.layout h s.domain t.domain
     × Tells s.domain.trail (done_copy s.domain h.copy) t.domain.trail
 
--- a domain unmapped its mappings, closed its table and left its run, with this many entries still in use and this many
+-- a domain released its mappings, closed its table and left its run, with this many entries still in use and this many
 -- records lost
 pub record Leaves {P : Type 0} (may : P → AllowRelation) (m : Monitor P) (d : Domain) (remains : Departure) : Type 0 where
   pub closed : Domain

@@ -39,7 +39,7 @@ fn settle<P: Allows>(monitor: &Monitor<P>, domain: &mut Domain, copying: Option<
     }
 }
 
-// Unmaps the domain's mappings, closes its table and leaves its run.
+// Releases the domain's mappings, closes its table and leaves its run.
 fn depart<P: Allows>(monitor: &Monitor<P>, domain: Domain) -> Departure
     requires { BelongsTo P.may monitor.now domain }
     ensures { Leaves P.may monitor.now domain result }
@@ -362,7 +362,7 @@ impl<P: Allows + Drop> AttachedDomain<P> {
         }
     }
 
-    /// Leaves the run: unmaps each of the domain's mappings, and withdraws each of its valid entries. Returns the
+    /// Leaves the run: releases each of the domain's mappings, and withdraws each of its valid entries. Returns the
     /// number of records that were lost, and the number of the domain's entries that others still use.
     pub fn finish(self) -> Departure
         requires idle { self.copying ≡ None }
@@ -376,7 +376,7 @@ impl<P: Allows + Drop> AttachedDomain<P> {
         depart(&monitor, domain)
     }
 
-    /// Unmaps each of the domain's mappings and closes its table, for the next guest in its place. Its records stay.
+    /// Releases each of the domain's mappings and closes its table, for the next guest in its place. Its records stay.
     /// Returns the number of records that were lost, and the number of entries still in use.
     pub fn reset(&mut self) -> Departure
         requires idle { self.old.copying ≡ None }

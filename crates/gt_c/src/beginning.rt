@@ -96,7 +96,7 @@ fn left(guest: AttachedDomain<AllowTable>) -> EncodedAnswer
     EncodedAnswer::of(AttachedOutcome::Left(remains))
 }
 
-/// Lets the domain leave its run: ends its copy, unmaps its mappings, withdraws its entries, and leaves the handle
+/// Lets the domain leave its run: ends its copy, releases its mappings, withdraws its entries, and leaves the handle
 /// without a domain. The last domain frees the monitor. Returns the number of records that were lost, and the number of
 /// entries still in use.
 #[unsafe(no_mangle)]
@@ -119,7 +119,7 @@ fn made_ready(guest: &mut AttachedDomain<AllowTable>) -> EncodedAnswer
     EncodedAnswer::of(AttachedOutcome::Left(remains))
 }
 
-/// Ends the domain's copy, unmaps its mappings and closes its table, for the next guest in its place. Returns the
+/// Ends the domain's copy, releases its mappings and closes its table, for the next guest in its place. Returns the
 /// number of records that were lost, and the number of entries still in use.
 #[unsafe(no_mangle)]
 pub extern "C" fn gthost_reset_at(domain: &mut DomainHandle) -> EncodedAnswer

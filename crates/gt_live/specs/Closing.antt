@@ -71,7 +71,7 @@ pub record Closes {P : Type 0} (may : P → AllowRelation) (m : Monitor P) (d : 
   pub left_is : left ≡ count_by is_in_use words
   pub rows : (r : ℕ) → r < TABLE_ENTRIES → HoldsAt (λ word. ClosesRow may m d r word e) words r
 
--- the domain unmapped each of its mappings, and then each of its entries was closed, of which left are still in use
+-- the domain released each of its mappings, and then each of its entries was closed, of which left are still in use
 pub record Resets {P : Type 0} (may : P → AllowRelation) (m : Monitor P) (d : Domain) (left : ℕ) (e : Domain)
     : Type 0 where
   pub between : Domain

@@ -383,7 +383,7 @@ impl Domain {
         }
     }
 
-    /// Leaves the run: unmaps each of the domain's mappings and releases its pin.
+    /// Leaves the run: releases each of the domain's mappings with its pin, also if the policy denies an unmap.
     pub fn finish<P: Allows>(mut self, monitor: &Monitor<P>) -> Departed
         requires mine { BelongsTo P.may monitor.now self }
         ensures left { HasLeft monitor.now.words.layout self result }

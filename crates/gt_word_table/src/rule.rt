@@ -37,7 +37,7 @@ impl TableRule<(), Outlook, Config> for Entries {
     ghost first = { λ c. outlook_of (first_view (layout_of c)) };
 }
 
-/// The kind of a step, which each call of a raw step picks.
+/// The kind of a step. Each raw step picks one.
 pub(crate) trait OfKind {
     ghost kind: { StepKind };
 }

@@ -142,9 +142,9 @@ impl Domain {
         left
     }
 
-    /// Unmaps each of the domain's mappings, and then closes its table as [`Domain::close`] does, for the next guest in
-    /// its place. Returns the number of entries still in use. The domain's records stay, and so do its table's version
-    /// and size and the generation of each entry.
+    /// Releases each of the domain's mappings, and then closes its table as [`Domain::close`] does, for the next guest
+    /// in its place. Returns the number of entries still in use. The domain's records stay, and so do its table's
+    /// version and size and the generation of each entry.
     pub fn reset<P: Allows>(&mut self, monitor: &Monitor<P>) -> usize
         requires mine { BelongsTo P.may monitor.now self.old }
         ensures mine { BelongsTo P.may monitor.now self.new }
