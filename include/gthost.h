@@ -160,8 +160,8 @@ static inline struct gthost_begun_copy gthost_null_copy(void)
 
 /*
  * Lets the domain leave its run: ends its copy if it is in one, releases its mappings (also if the policy denies an
- * unmap), and withdraws its valid entries. The handle is then all zeros. The last domain of a run frees the monitor. The
- * domain's records are dropped, so read them before, by gthost_record.
+ * unmap), and withdraws its valid entries. The handle is then all zeros. The last domain of a run frees the monitor.
+ * The domain's records are dropped, so read them before, by gthost_record.
  *
  * The answer (GTHOST_LEFT) has the number of records that were lost, and in `more` the number of its entries that
  * others still use. If that is 0, no domain maps or copies by any of its entries, now or later, and its memory is free.
