@@ -55,8 +55,8 @@ pub fn no_pin_is_taken_of_a_past_record()
     ensures { PastPinsAreRefused }
 {}
 
-/// A law: the views determine each entry word and each header that they show with the words. So the word that a step
-/// leaves is the one that its view records.
+/// A law: two states that words and views show with the same views have the same words. So the word that a step leaves
+/// is the one that its view records.
 pub fn every_word_follows_from_the_views()
     ensures { WordsFollowViews }
 {}
