@@ -157,7 +157,8 @@ pub(crate) fn walk_leg(words: &Words, seat: &mut Seat, leg: &Leg) -> Result<Held
     }
 }
 
-// Drives a map that is not decided at its beginning to its end, and returns the pin that it took, or its refusal.
+// Drives a map to its end, and returns the pin that it took, or its refusal. Requires that it is not decided at its
+// beginning.
 pub(crate) fn drive_map<P: Allows>(
     words: &Words,
     known: &CallerState<'_, P>,

@@ -40,7 +40,7 @@ fn store_header(words: &Words, seat: &mut Seat, version: u32, frames: u32)
     words.store_header(seat, header_with(version, frames));
 }
 
-// Drives a change of version that is not decided at its beginning to its end, which is Ok.
+// Drives a change of version to its end, which is Ok. Requires that it is not decided at its beginning.
 #[inline(always)]
 pub(crate) fn drive_version<P: Allows>(
     words: &Words,
@@ -61,7 +61,7 @@ pub(crate) fn drive_version<P: Allows>(
     store_header(words, seat, version, u32::from(known.header.frames));
 }
 
-// Drives a setup that is not decided at its beginning to its end, which gives the number of frames.
+// Drives a setup to its end, which gives the number of frames. Requires that it is not decided at its beginning.
 #[inline(always)]
 pub(crate) fn drive_setup<P: Allows>(
     words: &Words,
@@ -82,7 +82,7 @@ pub(crate) fn drive_setup<P: Allows>(
     store_header(words, seat, u32::from(known.header.version), frames);
 }
 
-// Drives a question that is not decided at its beginning to its end, and returns the header's word.
+// Drives a question to its end, and returns the header's word. Requires that it is not decided at its beginning.
 #[inline(always)]
 pub(crate) fn drive_query<P: Allows>(
     words: &Words,

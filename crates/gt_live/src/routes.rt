@@ -216,8 +216,8 @@ fn walk<P: Allows>(
     }
 }
 
-// Drives a copy that is not decided at its beginning to its access, or to its end if it is refused before. Writes the
-// pins that it holds at its access. Its steps are written out, like those of a map.
+// Drives a copy to its access, or to its end if it is refused before. Requires that the copy is not decided at its
+// beginning. Writes the pins that it holds at its access. Its steps are written out, like those of a map.
 pub(crate) fn drive_copy<P: Allows>(
     words: &Words,
     known: &CallerState<'_, P>,

@@ -122,14 +122,15 @@ fn copy_hypercall(copy: CopyArgs) -> Hypercall
 }
 
 impl Domain {
-    // Returns the result of a copy that is decided at its beginning, if it is.
+    // Returns the result of a copy, if it is decided at its beginning.
     fn judge_copy<P: Allows>(&self, monitor: &Monitor<P>, copy: &CopyArgs) -> Option<CallResult>
         ensures { result ≡ copy_begun (known_on P.may monitor.now self.now) self.now.seat.dom copy.now }
     {
         judge_copy(&self.known(monitor), self.seat.dom(), copy)
     }
 
-    // Drives a copy that is not decided at its beginning to its access, or to its end if it is refused before.
+    // Drives a copy to its access, or to its end if it is refused before. Requires that it is not decided at its
+    // beginning.
     fn drive_copy<P: Allows>(
         &mut self,
         monitor: &Monitor<P>,

@@ -20,7 +20,7 @@ impl Domain {
     ghost use Rattle.gt_live.specs.Mappings.{Removes};
     ghost use Rattle.gt_calls.specs.declared.held.HeldPin.{HeldPin};
 
-    // Drives a map that is not decided at its beginning to its end.
+    // Drives a map to its end. Requires that it is not decided at its beginning.
     fn drive_map<P: Allows>(
         &mut self,
         monitor: &Monitor<P>,
@@ -109,7 +109,7 @@ impl Domain {
         result
     }
 
-    // Returns the result of a map that is decided at its beginning, if it is.
+    // Returns the result of a map, if it is decided at its beginning.
     fn judge_map<P: Allows>(
         &self,
         monitor: &Monitor<P>,
@@ -123,7 +123,7 @@ impl Domain {
         judge_map(&self.known(monitor), caller, label, dom, flags)
     }
 
-    // Returns the result of an unmap that is decided at its beginning, if it is.
+    // Returns the result of an unmap, if it is decided at its beginning.
     fn judge_unmap<P: Allows>(&self, monitor: &Monitor<P>, handle: Handle) -> Option<CallResult>
         requires mine { BelongsTo P.may monitor.now self.now }
         ensures { result ≡ unmap_begun (known_on P.may monitor.now self.now) self.now.seat.dom handle }

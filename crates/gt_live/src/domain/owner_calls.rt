@@ -18,7 +18,7 @@ impl Domain {
     ghost use Rattle.gt_calls.specs.declared.request.OpenRequest.TheVariants as asks;
     ghost use Rattle.gt_live.specs.Domains.{known_on, verdict_of};
 
-    // Returns the result of a change of the entry with this row that is decided at its beginning, if it is.
+    // Returns the result of a change of the entry with this row, if it is decided at its beginning.
     #[inline(always)]
     pub(crate) fn judge_own<P: Allows>(
         &self,
@@ -33,8 +33,8 @@ impl Domain {
         judge_own(&self.known(monitor), own, gref, change)
     }
 
-    // Drives an owner's change that is not decided at its beginning to its end. `looked` is the owner's word of the
-    // entry with no pins.
+    // Drives an owner's change to its end. Requires that the change is not decided at its beginning. `looked` is the
+    // owner's word of the entry with no pins.
     #[inline(always)]
     pub(crate) fn drive_change<P: Allows>(
         &mut self,
@@ -68,7 +68,8 @@ impl Domain {
         )
     }
 
-    // Makes a change of the entry with this row that is not decided at its beginning, and keeps it in the row.
+    // Makes a change of the entry with this row, and keeps it in the row. Requires that it is not decided at its
+    // beginning.
     #[inline(always)]
     fn change_own<P: Allows>(
         &mut self,
