@@ -63,7 +63,7 @@ impl WordTable {
     /// Makes the table of a run and its first seat. All entries are invalid, at the first generation.
     ///
     /// # Errors
-    /// `AllocError` if memory is short.
+    /// `AllocError`.
     pub fn new(alloc: Global, config: &Config) -> Result<(WordTable, TableSeat), AllocError>
         requires { IsWithinLimits config.now }
         ensures run { IfOk result (λ r. r.0.layout ≡ layout_of config.now) }

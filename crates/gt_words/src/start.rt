@@ -29,7 +29,7 @@ fn new_seat(config: &Config, place: TableSeat, at: usize) -> Seat
     }
 }
 
-/// Makes the seats of all domains, in order, from the first one. Fails if memory is short.
+/// Makes the seats of all domains, in order, from the first one.
 pub(crate) fn deal_seats(
     alloc: Global,
     words: &WordTable,
