@@ -90,8 +90,8 @@ pub struct EncodedAnswer {
     /// The serial of a handle, a number of frames, a version, the number of records that a departed domain lost, or the
     /// number of records taken.
     pub value: u64,
-    /// The key of a handle, the maximum number of frames of a table, the number of entries of a departed domain that are
-    /// in use, or the number of records lost before those taken.
+    /// The key of a handle, the maximum number of frames of a table, the number of entries of a departed domain that
+    /// are in use, or the number of records lost before those taken.
     pub more: u64,
 }
 
