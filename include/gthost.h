@@ -2,55 +2,55 @@
  * gthost.h: the running monitor of grant tables, for a program in C or C++.
  *
  * Link with libgthost.a. Nothing here prints, waits, takes a lock, or ends the program. The program keeps the guests'
- * memory itself: the monitor says who may touch which bytes, and when.
+ * memory itself: the monitor decides who may touch which bytes, and when.
  *
- * Units. A domain is the number of a domain of the run, or GTHOST_DOMID_SELF for the caller where a call asks about a
- * domain (gthost_map, gthost_query_size, gthost_get_version, the ends of a copy). In a grant GTHOST_DOMID_SELF stands
- * for nobody: the entry permits no domain, the caller neither. A reference is the place of an entry in its owner's
- * table, from 0 on. A frame is the number of a page of GTHOST_FRAME_SIZE bytes of its owner's, from 0 on. Offsets and
- * lengths are in bytes, and end by GTHOST_FRAME_SIZE.
+ * Units. A domain is the number of a domain of the run. In a call about a domain (gthost_map, gthost_query_size,
+ * gthost_get_version, the ends of a copy), GTHOST_DOMID_SELF names the caller. In a grant it names no domain: such an
+ * entry permits no one, not even the caller. A reference is the index of an entry in its owner's table, starting at 0.
+ * A frame is the number of one of its owner's pages of GTHOST_FRAME_SIZE bytes, starting at 0. Offsets and lengths are
+ * in bytes, and a range ends at GTHOST_FRAME_SIZE at most.
  *
  * Generations. Each reference has a generation, which starts at `first_gen`. Each grant, demotion and promotion of the
  * reference raises it by 1. At GTHOST_LAST_GENERATION the reference is worn: these calls are refused by N22 for the
- * rest of the run, also after gthost_set_version and gthost_reset. Revoke, withdraw and unmap work still.
+ * rest of the run, also after gthost_set_version and gthost_reset. Revoke, withdraw and unmap still work.
  *
  * Memory comes from the program's malloc. Only gthost_start, gthost_type_of, gthost_map (for its mapping),
- * gthost_reserve_records and a record that is kept take any. A run of one domain takes 1 MB. One of 64 domains takes
- * 50 MB, and 67 MB while it starts. Records take 48 bytes each, in pieces of 12 KiB; a mapping takes less than 100
- * bytes. gthost_start needs 64 KiB of stack, and every other call 16 KiB.
+ * gthost_reserve_records and the records that are kept allocate. A run of one domain takes 1 MB. A run of 64 domains
+ * takes 50 MB, and 67 MB while it starts. Records take 48 bytes each, in pieces of 12 KiB. A mapping takes less than
+ * 100 bytes. gthost_start needs 64 KiB of stack, and every other call 16 KiB.
  *
- * Threads. A handle may be in one call at a time. The domains of one monitor may be used from different threads at
- * once. A handle goes to another thread by whatever orders the one's last call before the other's next: a lock, the
- * start or the join of a thread, or a store with release and a load with acquire. No call comes from a signal's
- * handler, or from the forked child of a process with threads. gthost_start and gthost_finish write handles, and
- * the other calls only read theirs, so handles of several threads may lie side by side.
+ * Threads. A handle may be in one call at a time. Different threads may call for different domains of a monitor at the
+ * same time. A handle may pass to another thread by anything that orders the last call of one thread before the next
+ * call of the other: a lock, the start or the join of a thread, or a store with release and a load with acquire. Make
+ * no call from a signal handler, or from the forked child of a process with threads. gthost_start and gthost_finish
+ * write handles, and the other calls only read theirs, so handles of several threads may lie next to each other.
  *
- * The order of bytes. All steps of the monitor are sequentially consistent. If gthost_revoke answers GTHOST_OK, every
- * access that another thread made before its unmap (or its gthost_copy_end) comes before that answer, in the sense of
- * C11. The same holds after gthost_withdraw once gthost_entry shows no pins. What the owner wrote before its grant
- * comes before what the mapper reads after its gthost_map. ThreadSanitizer doesn't see steps inside the library. Under
+ * The order of bytes. All steps of the monitor are sequentially consistent. If gthost_revoke returns GTHOST_OK, every
+ * access that another thread made before its unmap (or its gthost_copy_end) happens before that return, in the sense of
+ * C11. The same holds after gthost_withdraw when gthost_entry shows no pins. What the owner wrote before its grant
+ * happens before what the mapper reads after its gthost_map. ThreadSanitizer doesn't see steps inside the library. With
  * it, call __tsan_release(page) before gthost_grant_page, gthost_unmap and gthost_copy_end, and __tsan_acquire(page)
  * after an Ok of gthost_revoke, gthost_map and gthost_copy_begin. MemorySanitizer doesn't see that answers are written:
  * call __msan_unpoison on each.
  *
- * Retries. N18 (missed) and N26 and GTHOST_NO_MEMORY (memory) may go away by themselves. N19 (in use) goes away when
- * the others have unmapped, and N10 when the owner grants. All other rules stand until somebody changes something.
+ * Retries. N18 (missed), N26 and GTHOST_NO_MEMORY (memory) may go away by themselves. N19 (in use) goes away when the
+ * others have unmapped, and N10 when the owner grants. All other rules apply until a call changes something.
  *
- * What a caller owes: a pointer that is not null is valid, and a gthost_domain is all zeros or what gthost_start
- * wrote. A domain has one handle. All else is tested when a call is made. A null pointer is answered
- * GTHOST_NULL_POINTER by the inline functions of this header, which pass the library no null pointer. The library,
- * which is proved, tests the rest: a wrong number is refused by a rule, a handle of no domain is answered
- * GTHOST_NO_DOMAIN, and one in a copy GTHOST_BUSY. A program in another language calls the exports of the library,
- * whose names end in _at, and tests for null itself.
+ * What a caller must do. A pointer that is not null is valid, and a gthost_domain is all zeros or what gthost_start
+ * wrote. A domain has one handle. Everything else is tested when a call is made. The inline functions of this header
+ * return GTHOST_NULL_POINTER for a null pointer, and pass none to the library. The library, which is proved, tests the
+ * rest: a wrong number is refused by a rule, a handle without a domain gives GTHOST_NO_DOMAIN, and one in a copy
+ * GTHOST_BUSY. A program in another language calls the exports of the library, whose names end in _at, and tests for
+ * null itself.
  *
- * After a refusal the domain's mappings, its pins and its table are as they were.
+ * After a refusal the domain's mappings, its pins and its table are unchanged.
  */
 #ifndef GTHOST_H
 #define GTHOST_H
 
 #include "gthost_types.h"
 
-/* The version of this header: 65,536 times the first number, and 256 times the second, and the third. */
+/* The version of this header: 65,536 times the major number, plus 256 times the minor one, plus the patch number. */
 #define GTHOST_VERSION 0x010000
 
 #ifdef __cplusplus
@@ -58,13 +58,14 @@ extern "C" {
 #endif
 
 /*
- * Starts a run of `count` domains, whose entries begin at the generation `first_gen`, under the text of a policy (the
- * subset of FLASK's language that the repository's docs/FORMATS.md gives). `run` is a number of the program's own: the
- * names of the run's mappings carry it, so give each run of a process another one. Each of the `out_count` handles has
- * to be all zeros, and there have to be `count` of them: the handle at each place gets the domain of the settings at
- * that place. Answers GTHOST_FAULT_NONE if the run started. If not, the fault says why, and `out` is as it was: the
+ * Starts a run of `count` domains under the text of a policy (the subset of FLASK's language that the repository's
+ * docs/FORMATS.md defines). All entries begin at the generation `first_gen`. The names of the run's mappings carry the
+ * number `run`, so give each run of a process another one. Each of the `out_count` handles must be all zeros, and there
+ * must be `count` of them: the handle at each index gets the domain of the settings at that index.
+ *
+ * Returns GTHOST_FAULT_NONE if the run started. Otherwise the fault gives the reason, and `out` is unchanged: the
  * handles are tested first, then the policy, the labels, and the other settings in their order. gthost_start is
- * gthost_start_at with a test of its pointers, which may then be null.
+ * gthost_start_at with a test for null pointers.
  */
 struct gthost_fault gthost_start_at(const struct gthost_settings *settings, size_t count, uint32_t first_gen,
                                     uint32_t run, const uint8_t *policy, size_t policy_len,
@@ -81,19 +82,19 @@ static inline struct gthost_fault gthost_start(const struct gthost_settings *set
     return gthost_start_at(settings, count, first_gen, run, policy, policy_len, out, out_count);
 }
 
-/* The label of the type of this name in a policy's text. No pointer may be null. */
+/* Returns the label of the type of this name in a policy's text. No pointer may be null. */
 struct gthost_type gthost_type_of(const uint8_t *policy, size_t policy_len, const uint8_t *name, size_t name_len);
 
-/* What a kind of fault means, in words. */
+/* Returns what a kind of fault means, in words. */
 struct gthost_text gthost_fault_text(uint32_t kind);
-/* What a rule means: its name, its status, why it refuses, and what the caller may do. */
+/* Returns what a rule means: its name, its status, why it refuses, and what the caller may do. */
 struct gthost_rule_line gthost_rule_text(uint32_t rule);
-/* The version of the library. It is GTHOST_VERSION of the header of the same release. */
+/* Returns the version of the library. It is GTHOST_VERSION of the header of the same release. */
 uint32_t gthost_version(void);
 
 /*
- * The calls of a domain as the library exports them, in which `domain` may not be null. The functions below have the
- * same names without _at, and test `domain` first: a program in C or C++ calls those.
+ * The calls of a domain as the library exports them: `domain` may not be null. The functions below have the same names
+ * without _at, and test `domain` first. A program in C or C++ calls those.
  */
 struct gthost_answer gthost_finish_at(struct gthost_domain *domain);
 struct gthost_answer gthost_reset_at(struct gthost_domain *domain);
@@ -124,7 +125,7 @@ struct gthost_answer gthost_take_records_at(struct gthost_domain *domain);
 struct gthost_answer gthost_keep_at_most_at(struct gthost_domain *domain, size_t records);
 struct gthost_answer gthost_reserve_records_at(struct gthost_domain *domain, size_t records);
 
-/* The answers to a null pointer: the call was not made, and all but the rule is zero. */
+/* These functions make the results for a null pointer: the call was not made, and everything but the rule is zero. */
 static inline struct gthost_answer gthost_null_answer(void)
 {
     const struct gthost_answer answer = {GTHOST_NULL_POINTER, 0, GTHOST_NOTHING, 0, 0, 0, 0, 0, 0, 0, 0};
@@ -158,13 +159,15 @@ static inline struct gthost_begun_copy gthost_null_copy(void)
 }
 
 /*
- * The domain leaves its run: its copy is ended if it is in one, its mappings and their pins are given up, its valid
- * entries are withdrawn, and the handle is all zeros again. The last domain of a run frees the monitor. The answer
- * carries how many records were lost, and in `more` how many of its entries others still use. If that is 0, no domain
- * maps or copies by any of its entries, nor can from then on, and its memory is free. Else others still touch it, until
- * they unmap. An entry is in use if it has pins, or if it is still valid: each of the 64 tries to withdraw it was
- * missed, since others took and gave back pins meanwhile. gthost_reset tells the same while the domain stays, so that
- * gthost_entry can show when the last pin went. The records that it kept are gone: gthost_record reads them before.
+ * Lets the domain leave its run: ends its copy if it is in one, releases its mappings (also if the policy denies an
+ * unmap), and withdraws its valid entries. The handle is then all zeros. The last domain of a run frees the monitor.
+ * The domain's records are dropped, so read them before, by gthost_record.
+ *
+ * The answer (GTHOST_LEFT) has the number of records that were lost, and in `more` the number of its entries that
+ * others still use. If that is 0, no domain maps or copies by any of its entries, now or later, and its memory is free.
+ * Otherwise others may still touch it, until they unmap. An entry is in use if it has pins. It is also in use if it is
+ * still valid, since each of the 64 tries to withdraw it was missed: others took or released pins in between.
+ * gthost_reset returns the same while the domain stays, so that gthost_entry can show when the last pin is gone.
  */
 static inline struct gthost_answer gthost_finish(struct gthost_domain *domain)
 {
@@ -174,90 +177,93 @@ static inline struct gthost_answer gthost_finish(struct gthost_domain *domain)
 /*
  * Makes the domain ready for another guest in its place: like gthost_finish, but the domain stays, with no copy, no
  * mapping, and each of its entries withdrawn. The answer is the same. Its records stay. The new guest has the number,
- * the label, the table and the generations of the one before; the memory of that one is free if `more` is 0, and else
- * once gthost_entry shows no pins on any entry.
+ * the label, the table and the generations of the one before. The memory of that one is free if `more` is 0, and
+ * otherwise when gthost_entry shows no pins on any entry.
  */
 static inline struct gthost_answer gthost_reset(struct gthost_domain *domain)
 {
     return domain ? gthost_reset_at(domain) : gthost_null_answer();
 }
 
-/* Publish an entry in place of an invalid one. Refused by N9, N19, N20, N21, N22 (and N25 for bytes). */
+/*
+ * Grants a page to the domain `to`, for reading only if `ro` is not 0: publishes an entry instead of an invalid one
+ * that has no pins left. N9, N19, N20, N21, N22.
+ */
 static inline struct gthost_answer gthost_grant_page(struct gthost_domain *domain, uint32_t gref, uint16_t to,
                                                      uint64_t frame, uint32_t ro)
 {
     return domain ? gthost_grant_page_at(domain, gref, to, frame, ro) : gthost_null_answer();
 }
 
-/* For copies only: `len` bytes from the byte `off` on. In a table of version 2. */
+/* Grants `len` bytes of a page, starting at `off`, for copies only. Needs a table of version 2. N9, N19 to N22. */
 static inline struct gthost_answer gthost_grant_sub(struct gthost_domain *domain, uint32_t gref, uint16_t to,
                                                     uint64_t frame, uint16_t off, uint16_t len, uint32_t ro)
 {
     return domain ? gthost_grant_sub_at(domain, gref, to, frame, off, len, ro) : gthost_null_answer();
 }
 
-/* For copies only, by the entry `ref2` of the domain `dom2`. In a table of version 2. */
+/* Grants the copies that the entry `ref2` of `dom2` permits the caller. Needs a table of version 2. N9, N19 to N22. */
 static inline struct gthost_answer gthost_grant_via(struct gthost_domain *domain, uint32_t gref, uint16_t to,
                                                     uint16_t dom2, uint32_t ref2, uint32_t ro)
 {
     return domain ? gthost_grant_via_at(domain, gref, to, dom2, ref2, ro) : gthost_null_answer();
 }
 
-/* `bytes` are 8 in a table of version 1, 16 in one of version 2. */
+/* Grants the entry that the bytes encode: 8 in a table of version 1, 16 in version 2. N9, N19, N20, N22, N25. */
 static inline struct gthost_answer gthost_grant_bytes(struct gthost_domain *domain, uint32_t gref,
                                                       struct gthost_entry_bytes bytes)
 {
     return domain ? gthost_grant_bytes_at(domain, gref, bytes) : gthost_null_answer();
 }
 
-/* Makes an entry of its own invalid, where it has no pins. N9, N10, N19. */
+/* Makes one of the domain's entries invalid if it has no pins. N9, N10, N19. */
 static inline struct gthost_answer gthost_revoke(struct gthost_domain *domain, uint32_t gref)
 {
     return domain ? gthost_revoke_at(domain, gref) : gthost_null_answer();
 }
 
-/* Makes an entry of its own invalid, with or without pins: those that there are stay. N9, N10, N18. */
+/* Makes one of the domain's entries invalid, with or without pins. Its pins stay. N9, N10, N18. */
 static inline struct gthost_answer gthost_withdraw(struct gthost_domain *domain, uint32_t gref)
 {
     return domain ? gthost_withdraw_at(domain, gref) : gthost_null_answer();
 }
 
-/* Makes an entry of its own read-only, where it has no write pins. N9, N10, N18, N19, N22. */
+/* Makes one of the domain's entries read-only if it has no write pins. N9, N10, N18, N19, N22. */
 static inline struct gthost_answer gthost_demote(struct gthost_domain *domain, uint32_t gref)
 {
     return domain ? gthost_demote_at(domain, gref) : gthost_null_answer();
 }
 
-/* Makes an entry of its own writable. N9, N10, N18, N22. */
+/* Makes one of the domain's entries writable. N9, N10, N18, N22. */
 static inline struct gthost_answer gthost_promote(struct gthost_domain *domain, uint32_t gref)
 {
     return domain ? gthost_promote_at(domain, gref) : gthost_null_answer();
 }
 
 /*
- * One look at an entry of its own: its kind, its generation and its pins, which an entry that was withdrawn keeps until
- * the others give them up. GTHOST_ABSENT past the table.
+ * Looks once at one of the domain's entries: its kind, its generation and its pins. A withdrawn entry keeps its pins
+ * until the others release them. GTHOST_ABSENT if the reference is beyond the table.
  */
 static inline struct gthost_found_entry gthost_entry(struct gthost_domain *domain, uint32_t gref)
 {
     return domain ? gthost_entry_at(domain, gref) : gthost_null_entry();
 }
 
-/* Maps an entry of a domain. N1, N2, N5, N8 to N13, N16 to N18, N26. */
+/* Maps an entry of a domain. The answer is a GTHOST_HANDLE. N1, N2, N5, N8 to N13, N16 to N18, N26. */
 static inline struct gthost_answer gthost_map(struct gthost_domain *domain, uint16_t dom, uint32_t gref, uint32_t flags)
 {
     return domain ? gthost_map_at(domain, dom, gref, flags) : gthost_null_answer();
 }
 
-/* Gives a mapping up. N5, N6. */
+/* Unmaps a mapping. N5, N6. */
 static inline struct gthost_answer gthost_unmap(struct gthost_domain *domain, struct gthost_handle name)
 {
     return domain ? gthost_unmap_at(domain, name) : gthost_null_answer();
 }
 
 /*
- * The mapping of this name, until whose unmap the domain may touch the frame. GTHOST_ABSENT if it is none of the
- * domain's.
+ * Returns the mapping with this name. The domain may touch the frame until it unmaps the mapping. GTHOST_ABSENT if the
+ * domain has no such mapping.
  */
 static inline struct gthost_found_mapping gthost_mapping(struct gthost_domain *domain, struct gthost_handle name)
 {
@@ -265,50 +271,51 @@ static inline struct gthost_found_mapping gthost_mapping(struct gthost_domain *d
 }
 
 /*
- * Begins a copy: its pins are taken, and the places say what may be touched until gthost_copy_end. Until then every
- * other call on this handle is GTHOST_BUSY, but gthost_finish, which ends the copy. Not promised: that the program
- * touches just these bytes, and only until the end. `len` may be 0. Refused by N1 to N5, N9 to N11, or N13 to N18, no
- * pin is kept.
+ * Begins a copy: takes its pins, and returns the places that may be touched until gthost_copy_end. Until then every
+ * other call on this handle gives GTHOST_BUSY, except gthost_finish and gthost_reset, which end the copy. The program
+ * must touch only these bytes, and only until the end; the library can't check it. `len` may be 0. After a refusal, by
+ * N1 to N5, N9 to N11, or N13 to N18, no pin is kept.
  */
 static inline struct gthost_begun_copy gthost_copy_begin(struct gthost_domain *domain, struct gthost_copy copy)
 {
     return domain ? gthost_copy_begin_at(domain, copy) : gthost_null_copy();
 }
 
-/* Ends it: the pins are given back, the last one first. GTHOST_NO_COPY if there is none. */
+/* Ends the copy: releases its pins, the last one first. GTHOST_NO_COPY if there is none. */
 static inline struct gthost_answer gthost_copy_end(struct gthost_domain *domain)
 {
     return domain ? gthost_copy_end_at(domain) : gthost_null_answer();
 }
 
-/* Gives its table this version, 1 or 2, while all its entries are invalid. N2, N24. */
+/* Gives the domain's table this version, 1 or 2, while all its entries are invalid. N2, N24. */
 static inline struct gthost_answer gthost_set_version(struct gthost_domain *domain, uint32_t version)
 {
     return domain ? gthost_set_version_at(domain, version) : gthost_null_answer();
 }
 
-/* Gives its table this many frames, if it has fewer; the answer carries how many it then has. N5, N23. */
+/* Grows the domain's table to this many frames, if it has fewer. The answer has their number then. N5, N23. */
 static inline struct gthost_answer gthost_setup_table(struct gthost_domain *domain, uint32_t frames)
 {
     return domain ? gthost_setup_table_at(domain, frames) : gthost_null_answer();
 }
 
-/* The size of the table of a domain. N1, N5. */
+/* Returns the size of a domain's table. N1, N5. */
 static inline struct gthost_answer gthost_query_size(struct gthost_domain *domain, uint16_t dom)
 {
     return domain ? gthost_query_size_at(domain, dom) : gthost_null_answer();
 }
 
-/* The version of the table of a domain. N1, N5. */
+/* Returns the version of a domain's table. N1, N5. */
 static inline struct gthost_answer gthost_get_version(struct gthost_domain *domain, uint16_t dom)
 {
     return domain ? gthost_get_version_at(domain, dom) : gthost_null_answer();
 }
 
 /*
- * The record at a place, counted from 0, of the domain's calls in order: maps, unmaps, copies, queries, versions and
- * setups. A copy is recorded at its end, or when it is refused. Calls that were not made (GTHOST_BUSY and so on),
- * grants and their like, and what gthost_finish and gthost_reset give up leave none. GTHOST_ABSENT past the last one.
+ * Returns the record at an index, starting at 0, of the domain's calls in order: maps, unmaps, copies, queries,
+ * versions and setups. A copy is recorded at its end, or when it is refused. There is no record of a call that was not
+ * made (GTHOST_BUSY and so on), of an owner's call on an entry, or of what gthost_finish and gthost_reset release.
+ * GTHOST_ABSENT beyond the last record.
  */
 static inline struct gthost_found_record gthost_record(struct gthost_domain *domain, size_t index)
 {
@@ -316,23 +323,23 @@ static inline struct gthost_found_record gthost_record(struct gthost_domain *dom
 }
 
 /*
- * Lets all its records go, and keeps their room: call it when gthost_record has read them. The answer carries how many
- * there were, and how many were lost before; both counts begin again at 0.
+ * Drops all records of the domain, and keeps their room: call it when gthost_record has read them. The answer has the
+ * number of records, and the number lost before. Both counts begin again at 0.
  */
 static inline struct gthost_answer gthost_take_records(struct gthost_domain *domain)
 {
     return domain ? gthost_take_records_at(domain) : gthost_null_answer();
 }
 
-/* From now on a record is kept only while there are fewer than `records`, and else lost; with 0 none is kept. */
+/* Bounds the records: a call is recorded while there are fewer than `records`, otherwise its record is lost. */
 static inline struct gthost_answer gthost_keep_at_most(struct gthost_domain *domain, size_t records)
 {
     return domain ? gthost_keep_at_most_at(domain, records) : gthost_null_answer();
 }
 
 /*
- * Makes room for this many more records, which then take no memory. GTHOST_NO_MEMORY if memory is refused, and for more
- * than GTHOST_MOST_RESERVED before any is taken: what was taken goes back.
+ * Makes room for this many more records, which then need no allocation. GTHOST_NO_MEMORY if allocation fails, or for
+ * more than GTHOST_MOST_RESERVED; then no room is made.
  */
 static inline struct gthost_answer gthost_reserve_records(struct gthost_domain *domain, size_t records)
 {

@@ -1,4 +1,4 @@
-/* gthost_types.h: the structs and the numbers of gthost.h, which includes it. */
+/* gthost_types.h: the structs and numbers of gthost.h, which includes this file. */
 #ifndef GTHOST_TYPES_H
 #define GTHOST_TYPES_H
 
@@ -6,7 +6,7 @@
 #include <stddef.h>
 #include <stdint.h>
 
-/* A handle of a domain, or of none if it is all zeros. Only the calls below write it. */
+/* The handle of a domain; all zeros if it has none. Only gthost_start and gthost_finish write it. */
 struct gthost_domain {
     void *at;
     bool is_live;
@@ -18,101 +18,101 @@ enum {
     GTHOST_MAX_FRAMES = 64,            /* frames of a domain */
     GTHOST_FRAME_SIZE = 4096,          /* bytes of a frame */
     GTHOST_MAX_TABLE_FRAMES = 16,      /* frames of a grant table */
-    GTHOST_LAST_VERSION = 2,           /* of a grant table; the first one is 1 */
-    GTHOST_MAX_MAPPINGS = 8192,        /* mappings of a domain at once */
-    GTHOST_MAX_PINS = 4095,            /* pins of each kind on an entry at once */
-    GTHOST_LAST_GENERATION = 1048575,  /* at which a reference is worn */
-    GTHOST_MOST_RESERVED = 16777216,   /* records that room is made for at once */
-    GTHOST_DOMID_SELF = 0x7FF0         /* the caller, where a call asks about a domain */
+    GTHOST_LAST_VERSION = 2,           /* of a grant table; the first version is 1 */
+    GTHOST_MAX_MAPPINGS = 8192,        /* mappings of a domain at a time */
+    GTHOST_MAX_PINS = 4095,            /* pins of each kind on an entry at a time */
+    GTHOST_LAST_GENERATION = 1048575,  /* of a reference, which is then worn */
+    GTHOST_MOST_RESERVED = 16777216,   /* records for which one call makes room */
+    GTHOST_DOMID_SELF = 0x7FF0         /* names the caller in a call about a domain */
 };
 
 /* A domain of a run to start. */
 struct gthost_settings {
-    uint16_t id;           /* below GTHOST_DOMID_SELF, and the number of no other domain */
+    uint16_t id;           /* its number: below GTHOST_DOMID_SELF, and not that of another domain */
     uint16_t label;        /* the number of its type in the policy: types count from 0, attributes don't count */
-    uint32_t frames;       /* how many frames it has, from 1 to GTHOST_MAX_FRAMES */
-    uint32_t table_frames; /* how many frames its grant table has, from 1 to GTHOST_MAX_TABLE_FRAMES */
+    uint32_t frames;       /* the number of its frames, 1 to GTHOST_MAX_FRAMES */
+    uint32_t table_frames; /* the number of its grant table's frames, 1 to GTHOST_MAX_TABLE_FRAMES */
     uint32_t version;      /* of its grant table: 1 or GTHOST_LAST_VERSION */
 };
 
-/* Whether a run started, and if not, why. gthost_fault_text says each in words. */
+/* Whether a run started, and if not, why. gthost_fault_text has each in words. */
 enum gthost_fault_kind {
     GTHOST_FAULT_NONE = 0,
-    GTHOST_FAULT_MEMORY = 1,       /* memory was refused */
-    GTHOST_FAULT_HANDLES = 2,      /* not as many handles as domains, or one of them has a domain */
-    GTHOST_FAULT_SYNTAX = 3,       /* of the policy, at `line` */
-    GTHOST_FAULT_UNKNOWN = 4,      /* a name that is not declared, at `line` */
-    GTHOST_FAULT_TWICE = 5,        /* a name that is declared twice, at `line` */
-    GTHOST_FAULT_PERMISSION = 6,   /* a word that is no permission, at `line` */
-    GTHOST_FAULT_OUTSIDE = 7,      /* outside the part of the language that is read, at `line` */
-    GTHOST_FAULT_LIMIT = 8,        /* the policy is too large, at `line` */
-    GTHOST_FAULT_TEXT = 9,         /* the policy is no UTF-8 */
+    GTHOST_FAULT_MEMORY = 1,       /* allocation failed */
+    GTHOST_FAULT_HANDLES = 2,      /* their number is not that of the domains, or one has a domain */
+    GTHOST_FAULT_SYNTAX = 3,       /* of the policy, in `line` */
+    GTHOST_FAULT_UNKNOWN = 4,      /* a name that is not declared, in `line` */
+    GTHOST_FAULT_TWICE = 5,        /* a name that is declared twice, in `line` */
+    GTHOST_FAULT_PERMISSION = 6,   /* a word that is not a permission, in `line` */
+    GTHOST_FAULT_OUTSIDE = 7,      /* a statement outside the supported language, in `line` */
+    GTHOST_FAULT_LIMIT = 8,        /* the policy is too large, in `line` */
+    GTHOST_FAULT_TEXT = 9,         /* the policy is not UTF-8 */
     GTHOST_FAULT_NO_DOMAINS = 10,
-    GTHOST_FAULT_TOO_MANY = 11,    /* domains, `dom` is the first too many */
+    GTHOST_FAULT_TOO_MANY = 11,    /* domains: `dom` is the first too many */
     GTHOST_FAULT_ID = 12,          /* the number `dom` is out of range */
     GTHOST_FAULT_REPEATED = 13,    /* the number `dom` is given twice */
     GTHOST_FAULT_FRAMES = 14,      /* of `dom` are out of range */
     GTHOST_FAULT_TABLE_FRAMES = 15,/* of `dom` are out of range */
-    GTHOST_FAULT_VERSION = 16,     /* of `dom`: there is no such version */
+    GTHOST_FAULT_VERSION = 16,     /* of `dom` does not exist */
     GTHOST_FAULT_GENERATION = 17,  /* the first generation is above GTHOST_LAST_GENERATION */
     GTHOST_FAULT_NULL_POINTER = 18,/* a pointer is null */
     GTHOST_FAULT_LABEL = 19,       /* of `dom`: the policy has no such type */
-    GTHOST_FAULT_NO_TYPE = 20      /* the policy declares no type of this name */
+    GTHOST_FAULT_NO_TYPE = 20      /* the policy does not declare a type of this name */
 };
 
 struct gthost_fault {
     uint32_t kind; /* enum gthost_fault_kind; GTHOST_FAULT_NONE if the run started */
-    uint32_t line; /* of the policy, from 1 on; 0 if the fault is elsewhere */
-    uint32_t dom;  /* the domain at fault */
+    uint32_t line; /* of the policy, starting at 1; 0 if the fault is elsewhere */
+    uint32_t dom;  /* the domain with the fault, else 0 */
 };
 
 /*
- * The rule of an answer: GTHOST_OK; GTHOST_N1 to GTHOST_N26 for the rule that refused the call; or one of the others,
- * by which the call was not made and nothing has changed. gthost_rule_text says each in words.
+ * The rule of an answer: GTHOST_OK; GTHOST_N1 to GTHOST_N26 for the rule that refused the call; or one of the others
+ * if the call was not made, and nothing has changed. gthost_rule_text has each in words.
  */
 enum gthost_rule {
     GTHOST_OK = 0,
-    GTHOST_N1 = 1,   /* the domain named is not of the run */
-    GTHOST_N2 = 2,   /* flags or a version that are not taken */
-    GTHOST_N3 = 3,   /* offset plus length above GTHOST_FRAME_SIZE */
+    GTHOST_N1 = 1,   /* the domain named is not in the run */
+    GTHOST_N2 = 2,   /* flags or a version that the call does not accept */
+    GTHOST_N3 = 3,   /* offset plus length is above GTHOST_FRAME_SIZE */
     GTHOST_N4 = 4,   /* a copy names a frame of another domain by its number */
     GTHOST_N5 = 5,   /* the policy denies it */
-    GTHOST_N6 = 6,   /* no mapping of this domain has this name */
-    GTHOST_N7 = 7,   /* a write through a mapping that only reads (in no call of this header) */
-    GTHOST_N8 = 8,   /* GTHOST_MAX_MAPPINGS mappings, or all names were given */
-    GTHOST_N9 = 9,   /* the reference is past the table */
+    GTHOST_N6 = 6,   /* the domain has no mapping with this name */
+    GTHOST_N7 = 7,   /* a store through a read-only mapping (no call of this header) */
+    GTHOST_N8 = 8,   /* the domain has GTHOST_MAX_MAPPINGS mappings, or all names were given */
+    GTHOST_N9 = 9,   /* the reference is beyond the table */
     GTHOST_N10 = 10, /* the entry is invalid */
     GTHOST_N11 = 11, /* the entry permits another domain */
-    GTHOST_N12 = 12, /* a map of an entry that is for copies only */
-    GTHOST_N13 = 13, /* the entry only lets read */
-    GTHOST_N14 = 14, /* the range is outside the entry's bytes */
+    GTHOST_N12 = 12, /* a map of an entry for copies only */
+    GTHOST_N13 = 13, /* the entry is read-only */
+    GTHOST_N14 = 14, /* the range is not inside the sub-page */
     GTHOST_N15 = 15, /* a transitive entry leads to another one */
-    GTHOST_N16 = 16, /* the frame is none of its owner's */
-    GTHOST_N17 = 17, /* GTHOST_MAX_PINS pins of this kind are on the entry */
+    GTHOST_N16 = 16, /* the frame is not one of its owner's */
+    GTHOST_N17 = 17, /* the entry has GTHOST_MAX_PINS pins of this kind */
     GTHOST_N18 = 18, /* the entry changed during all four tries */
     GTHOST_N19 = 19, /* the entry is in use: the answer's `word` has the pins */
     GTHOST_N20 = 20, /* the entry is valid already */
-    GTHOST_N21 = 21, /* the entry given needs a table of version 2 */
+    GTHOST_N21 = 21, /* the entry given is invalid, or needs a table of version 2 */
     GTHOST_N22 = 22, /* the reference is worn */
-    GTHOST_N23 = 23, /* more than GTHOST_MAX_TABLE_FRAMES */
+    GTHOST_N23 = 23, /* more than GTHOST_MAX_TABLE_FRAMES frames */
     GTHOST_N24 = 24, /* the table has valid entries */
-    GTHOST_N25 = 25, /* the bytes are no entry */
-    GTHOST_N26 = 26, /* memory was refused */
+    GTHOST_N25 = 25, /* the bytes do not encode an entry */
+    GTHOST_N26 = 26, /* allocation failed */
     GTHOST_NO_DOMAIN = 256, /* the handle has no domain */
-    GTHOST_BUSY = 257,      /* the domain is in a copy: only gthost_copy_end and gthost_finish may come */
-    GTHOST_NO_MEMORY = 258, /* memory was refused for records */
-    GTHOST_NO_COPY = 259,   /* the domain is in no copy that could end */
+    GTHOST_BUSY = 257,      /* the domain is in a copy: call gthost_copy_end, gthost_finish or gthost_reset */
+    GTHOST_NO_MEMORY = 258, /* allocation failed for records */
+    GTHOST_NO_COPY = 259,   /* the domain is not in a copy */
     GTHOST_ABSENT = 260,    /* there is no such mapping, record or entry */
     GTHOST_NULL_POINTER = 261 /* the pointer to the handle is null */
 };
 
-/* The flags of a map (GNTMAP_ of xen/grant_table.h: host_map, and readonly). */
+/* The flags of a map (xen/grant_table.h): GNTMAP_host_map, and with GNTMAP_readonly. */
 enum { GTHOST_MAP_WRITABLE = 2, GTHOST_MAP_READ_ONLY = 6 };
 
 /* The flags of a copy (GNTCOPY_ of xen/grant_table.h). */
 enum { GTHOST_COPY_SOURCE_GREF = 1, GTHOST_COPY_DEST_GREF = 2 };
 
-/* What an answer carries. */
+/* The kind of an answer: what its other fields mean. */
 enum gthost_kind {
     GTHOST_NOTHING = 0,
     GTHOST_HANDLE = 1,  /* Ok: the name of a mapping; gthost_handle_of reads it */
@@ -123,7 +123,7 @@ enum gthost_kind {
     GTHOST_FIELD = 6,   /* refused: the field `detail` of the entry's bytes (enum gthost_field) */
     GTHOST_HEADER = 7,  /* refused: the header `word` of the domain `dom` */
     GTHOST_ENTRY = 8,   /* refused: the control `word` of the entry `gref` of the domain `dom` */
-    GTHOST_LEFT = 9,    /* Ok: the domain left its place; it lost `value` records, `more` entries are in use still */
+    GTHOST_LEFT = 9,    /* Ok: the domain left; `value` records were lost, `more` entries are still in use */
     GTHOST_TAKEN = 10   /* Ok: `value` records were taken; `more` were lost before */
 };
 
@@ -140,10 +140,10 @@ enum gthost_field {
     GTHOST_FIELD_RESERVED = 9
 };
 
-/* What a call answered. A field that says nothing is 0. No two outcomes have one answer. */
+/* The result of a call. A field without a meaning is 0. No two results have the same answer. */
 struct gthost_answer {
-    uint32_t rule;   /* enum gthost_rule, or 1 to 26 */
-    int32_t status;  /* GNTST_ of xen/grant_table.h: 0, or below it if a rule refused the call */
+    uint32_t rule;   /* enum gthost_rule */
+    int32_t status;  /* GNTST_ of xen/grant_table.h: 0, or negative if a rule refused the call */
     uint32_t kind;   /* enum gthost_kind */
     uint32_t dom;
     uint32_t gref;
@@ -156,24 +156,24 @@ struct gthost_answer {
 };
 
 /*
- * The name of a mapping. It is given once in a run. A call of another domain, or of a run of another number, refuses it
- * by N6.
+ * The name of a mapping. No two mappings of a run have the same name. A call of another domain, or of a run with
+ * another number, refuses it by N6.
  */
 struct gthost_handle {
     uint64_t serial;
     size_t key;
-    uint32_t run; /* the number that the run was given */
+    uint32_t run; /* the number of the run (gthost_start) */
     uint16_t dom; /* the domain that has the mapping */
 };
 
-/* The name in an answer that carries GTHOST_HANDLE. */
+/* Returns the name in an answer of the kind GTHOST_HANDLE. */
 static inline struct gthost_handle gthost_handle_of(struct gthost_answer answer)
 {
     const struct gthost_handle name = {answer.value, (size_t)answer.more, answer.detail, (uint16_t)answer.dom};
     return name;
 }
 
-/* What is mapped: the frame `frame` of `owner`, by its entry `gref`. It may be written if `writes` is 1. */
+/* What is mapped: the frame `frame` of `owner`, by its entry `gref`. `writes` is 1 if it may be written, else 0. */
 struct gthost_mapping {
     uint64_t frame;
     uint32_t gref;
@@ -189,29 +189,29 @@ enum gthost_entry_kind {
     GTHOST_ENTRY_VIA = 3  /* another grant, for copies */
 };
 
-/* What one look at an entry found. */
+/* What a look at an entry found. */
 struct gthost_entry_status {
     uint32_t kind;       /* enum gthost_entry_kind */
     uint32_t generation; /* GTHOST_LAST_GENERATION: the reference is worn */
     uint16_t reads;      /* live pins for reading: each mapping for reading is one, and each copy from the entry */
     uint16_t writes;     /* live pins for writing */
     uint16_t to;         /* the domain that it permits; 0 if it is invalid */
-    uint16_t read_only;  /* 1 if it only lets read */
+    uint16_t read_only;  /* 1 if it is read-only, else 0 */
 };
 
-/* One end of a copy: by the flags a reference of the domain `dom`, or the number of a frame of the caller's own. */
+/* An end of a copy: `ptr` is a reference of the domain `dom`, or the number of one of the caller's own frames. */
 struct gthost_end {
     uint64_t ptr;
     uint16_t dom;
     uint16_t off;
 };
 
-/* What a copy is asked. */
+/* The arguments of a copy. */
 struct gthost_copy {
     struct gthost_end source;
     struct gthost_end dest;
     uint16_t len;
-    uint16_t flags; /* GTHOST_COPY_SOURCE_GREF and GTHOST_COPY_DEST_GREF, or'ed */
+    uint16_t flags; /* GTHOST_COPY_SOURCE_GREF and GTHOST_COPY_DEST_GREF: which ends are references */
 };
 
 /* A place: the byte `off` of the frame `frame` of `owner`. */
@@ -221,75 +221,75 @@ struct gthost_place {
     uint16_t off;
 };
 
-/* What a copy may touch: `len` bytes, read from the one place and written to the other. */
+/* The places of a copy: `len` bytes may be read at `from` and written at `to`. */
 struct gthost_places {
     struct gthost_place from;
     struct gthost_place to;
     uint16_t len;
 };
 
-/* What a record is of. */
+/* The call of a record. */
 enum gthost_call {
     GTHOST_CALL_MAP = 1,         /* of the entry `gref` of `dom`, with `flags` */
     GTHOST_CALL_UNMAP = 2,       /* of a mapping of the entry `gref` of `dom` */
-    GTHOST_CALL_UNMAP_NONE = 3,  /* of a handle that names no mapping */
+    GTHOST_CALL_UNMAP_NONE = 3,  /* of a handle without a mapping */
     GTHOST_CALL_COPY = 4,        /* of `len` bytes from `source` to `dest`, with `flags` */
     GTHOST_CALL_QUERY_SIZE = 5,  /* of the table of `dom` */
     GTHOST_CALL_GET_VERSION = 6, /* of the table of `dom` */
     GTHOST_CALL_SET_VERSION = 7, /* `flags` is the version */
-    GTHOST_CALL_SETUP_TABLE = 8  /* `flags` is how many frames */
+    GTHOST_CALL_SETUP_TABLE = 8  /* `flags` is the number of frames */
 };
 
-/* The record of a call. A field that says nothing is 0. */
+/* The record of a call. A field without a meaning is 0. */
 struct gthost_record {
     uint32_t call;   /* enum gthost_call */
     uint32_t caller; /* the domain that called */
-    uint32_t dom;    /* as it was named, so GTHOST_DOMID_SELF for the caller */
+    uint32_t dom;    /* as the caller named it, so it may be GTHOST_DOMID_SELF */
     uint32_t gref;
     uint32_t flags;
     uint32_t len;
     struct gthost_end source;
     struct gthost_end dest;
-    struct gthost_answer reply; /* what was answered; a map's handle is left out */
+    struct gthost_answer reply; /* the result, without a map's handle */
 };
 
-/* Whether there is such a mapping, and which. If there is none, the mapping is all zeros. */
+/* Whether there is such a mapping, and what it maps: all zeros if there is none. */
 struct gthost_found_mapping {
     struct gthost_answer answer;
     struct gthost_mapping mapping;
 };
 
-/* Whether the table has such an entry, and what a look found. If it has none, the entry is all zeros. */
+/* Whether the table has such an entry, and what a look found: all zeros if it has none. */
 struct gthost_found_entry {
     struct gthost_answer answer;
     struct gthost_entry_status entry;
 };
 
-/* Whether there is such a record, and which. If there is none, the record is all zeros. */
+/* Whether there is such a record, and its contents: all zeros if there is none. */
 struct gthost_found_record {
     struct gthost_answer answer;
     struct gthost_record kept;
 };
 
-/* Whether a copy began, and what it may touch. If it did not, the places are all zeros. */
+/* Whether a copy began, and its places: all zeros if it did not. */
 struct gthost_begun_copy {
     struct gthost_answer answer;
     struct gthost_places places;
 };
 
-/* The bytes of an entry, as a guest writes it: the first `len` of these, 8 or 16. By any other `len` they are none. */
+/* The bytes of an entry, as a guest writes it: the first `len`, 8 or 16. With any other `len` there are none. */
 struct gthost_entry_bytes {
     uint64_t len;
     uint8_t bytes[16];
 };
 
-/* What a kind of fault means: `len` bytes, and zeros after them. */
+/* What a kind of fault means: `len` bytes, followed by zeros. */
 struct gthost_text {
     size_t len;
     uint8_t bytes[80];
 };
 
-/* What a rule means: `len` bytes, and zeros after them. */
+/* What a rule means: `len` bytes, followed by zeros. */
 struct gthost_rule_line {
     size_t len;
     uint8_t bytes[240];

@@ -1,4 +1,4 @@
--- The names of other crates, and of the code, that the definitions here speak of.
+-- Names from other crates, and from the code, that these definitions use.
 pub use Rattle.gt_calls.specs.Holding.{owner_by}
 pub use Rattle.gt_calls.specs.Opening.{IsAllowed}
 pub use Rattle.gt_calls.specs.Resting.{GivesHeld}

@@ -9,23 +9,23 @@ use Rattle.gt_access.specs.Prelude.{Writ, Owned, Granted, Forwarded}
 
 -- pins
 
--- what the owner's record was when the pin was taken
+-- the owner's record at the time when the pin was taken
 abbrev pub entry_record_of : HeldPin → EntryRecord
 entry_record_of p = record { generation = generation_of p.word; entry = p.entry }
 
--- the view has this pin, of the entry that it was taken from
+-- the view has this pin, with the entry that it was taken of
 pub record HasPin (k : Layout) (v : View) (p : HeldPin) : Type 0 where
   pub run : HasDomain k p.dom
   pub inside : p.gref.0 < TABLE_ENTRIES
   pub held : IsAmong (p.dir, entry_record_of p) (live_pins (steps_on (position_in k.ids p.dom) p.gref.0 v))
 
--- a pin that serves this direction: to write, a write pin
+-- a pin that serves this direction: for writing, a write pin
 abbrev pub ServesAccess : Dir → HeldPin → Type 0
 ServesAccess Read p = Unit {0}
 ServesAccess Write p = p.dir ≡ Write
 
--- the seat has this pin, of an entry of this frame which permitted the domain
--- this direction, use and range (after grant_table.h)
+-- the seat has this pin, of an entry of this frame that permitted the domain this direction, use and range (after
+-- grant_table.h)
 pub record IsPinnedFor (k : Layout) (s : SeatOf) (grantee : DomId) (dir : Dir) (purpose : Use) (name : FrameName)
     (off len : ℕ) (p : HeldPin) : Type 0 where
   pub pin : HasPin k s.view p
@@ -34,16 +34,16 @@ pub record IsPinnedFor (k : Layout) (s : SeatOf) (grantee : DomId) (dir : Dir) (
   pub of_frame : is_of_frame p.entry name.number ≡ true
   pub permitted : permits p.entry grantee dir purpose off len ≡ true
 
--- the seat has this pin, of a transitive entry which forwarded its domain in this direction
--- to the entry of the other pin (after grant_table.h, transitive)
+-- the seat has this pin, of a transitive entry that forwarded its domain in this direction to the entry of the other
+-- pin (after grant_table.h, transitive)
 pub record IsPinnedOn (k : Layout) (s : SeatOf) (dir : Dir) (via p : HeldPin) : Type 0 where
   pub pin : HasPin k s.view via
   pub serves : ServesAccess dir via
   pub forwarded : forwards via.entry s.dom dir ≡ true
   pub leads : GivesHeld via.entry p
 
--- the seat's domain reaches this range of the frame by the route: the frame is its own, or a pin of the frame's owner
--- permits it, or, for a copy, a pin of a transitive entry forwards it to one that permits the domain between
+-- the seat's domain reaches this range of the frame by the route: the frame is its own; or a pin of the frame's owner
+-- permits it; or, for a copy, a pin of a transitive entry forwards it to an entry that permits the middle domain
 abbrev pub ReachesBy : Layout → SeatOf → Dir → Use → FrameName → ℕ → ℕ → AccessPath → Type 0
 ReachesBy k s dir purpose name off len Own = s.dom ≡ name.owner
 ReachesBy k s dir purpose name off len (Direct p) = IsPinnedFor k s s.dom dir purpose name off len p
@@ -52,7 +52,7 @@ ReachesBy k s dir purpose name off len (Through via p) =
 
 -- rights
 
--- the access goes through no mapping, or the policy allows what the mapping's map asked
+-- the access uses no mapping, or the policy allows what the mapping's map asked
 abbrev pub MayAccessBy : List DomainConfig → (TypeId → TypeId → Perms → Bool) → DomId → AccessPath → Type 0
 MayAccessBy domains may caller Own = Unit {0}
 MayAccessBy domains may caller (Direct p) =
@@ -71,8 +71,8 @@ pair_beyond Own pair = []
 pair_beyond (Direct p) pair = []
 pair_beyond (Through via p) pair = pair ∷ []
 
--- the pairs for which a copy asks: the domains named; past a transitive source its frame's owner and the
--- destination named; past a transitive destination the owners of both frames
+-- the pairs that a copy asks for: the domains named; for a transitive source, also its frame's owner and the
+-- destination named; for a transitive destination, also the owners of both frames
 abbrev pub pairs_asked : DomId → CallPins → List (DomId × DomId)
 pairs_asked caller p =
     (named_by caller p.source, named_by caller p.dest)
@@ -92,7 +92,7 @@ MayCopyBy domains may caller p = MayCopyEach domains may (pairs_asked caller p)
 
 -- writs
 
--- the writ of a domain by this route: it is made of the entries that the route's pins were taken from
+-- the writ of a domain by this route, made of the entries that the route's pins were taken of
 abbrev pub writ_by : DomId → AccessPath → Writ
 writ_by caller Own = record { writer = caller; basis = Owned }
 writ_by caller (Direct p) = record { writer = caller; basis = Granted p.entry }

@@ -9,36 +9,36 @@ use Rattle.gt_access.specs.Visits.{FrameAccess, IsVisitOf, LeavesIt, visit_in}
 use Rattle.gt_access.specs.declared.by.AccessFault.{AccessFault}
 use Rattle.gt_access.specs.declared.by.AccessFault.TheVariants.{Gone, Memory}
 
--- To read, the frame of this name was locked and left as it was, and what was read is what its range held. If nothing
--- was read, no frame was locked.
+-- a read locked the frame of this name and left it unchanged, and returned what its range held; if nothing was read, no
+-- frame was locked
 abbrev pub VisitsToRead : FrameName → ℕ → ℕ → Option Reading → List FrameAccess → List FrameAccess → Type 0
 VisitsToRead name off len None old new = new ≡ old
 VisitsToRead name off len (Some r) old new =
     (v : FrameAccess) × LeavesIt name v × (r ≡ reading_of v.before off len) × (new ≡ old ++ v ∷ [])
 
--- To write, the frame of this name was locked, and these bytes were written to it by this writ. If memory was refused,
--- it was left as it was; if there was no such frame, none was locked.
+-- a write locked the frame of this name and wrote these bytes to it by this writ; if allocation failed, it left the
+-- frame unchanged; if there was no such frame, it locked none
 abbrev pub VisitsToWrite : FrameName → Writ → ℕ → List ℕ → Result Writing AccessFault → List FrameAccess → List FrameAccess → Type 0
 VisitsToWrite name w off ys (Ok r) old new =
     (v : FrameAccess) × IsVisitOf name v × IsWrite v.before v.after w off ys × (new ≡ old ++ v ∷ [])
 VisitsToWrite name w off ys (Err Gone) old new = new ≡ old
 VisitsToWrite name w off ys (Err Memory) old new = (v : FrameAccess) × LeavesIt name v × (new ≡ old ++ v ∷ [])
 
--- What the range of the one frame held was written to the other by this writ, and the first was left as it was; or both
--- are one frame.
+-- what the range of one frame held was written to the other by this writ, and the first frame is unchanged; or both are
+-- the same frame
 abbrev pub CopiesIn : Writ → Spot → Spot → ℕ → FrameAccess → Option FrameAccess → Type 0
 CopiesIn w from to len d None =
     IsVisitOf to.frame d × IsVisitOf from.frame d × IsWrite d.before d.after w to.off (bytes_at d.before from.off len)
 CopiesIn w from to len d (Some s) =
     IsVisitOf to.frame d × LeavesIt from.frame s × IsWrite d.before d.after w to.off (bytes_at s.before from.off len)
 
--- the frames of these places were locked, and left as they were
+-- the frames of these places were locked and left unchanged
 abbrev pub LeavesBoth : Spot → Spot → FrameAccess → Option FrameAccess → Type 0
 LeavesBoth from to d None = LeavesIt to.frame d × IsVisitOf from.frame d
 LeavesBoth from to d (Some s) = LeavesIt to.frame d × LeavesIt from.frame s
 
--- To copy, the frames of both places were locked, and so many bytes were copied by this writ. If memory was refused,
--- they were left as they were; if there were no such frames, none was locked.
+-- a copy locked the frames of both places and copied len bytes by this writ; if allocation failed, it left both
+-- unchanged; if there were no such frames, it locked none
 abbrev pub VisitsToCopy : Writ → Spot → Spot → ℕ → Result Copying AccessFault → List FrameAccess → List FrameAccess → Type 0
 VisitsToCopy w from to len (Ok r) old new =
     (d : FrameAccess) × (s : Option FrameAccess) × CopiesIn w from to len d s × (new ≡ old ++ d ∷ visit_in s)

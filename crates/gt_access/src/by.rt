@@ -1,4 +1,4 @@
-//! Accesses that lock the frames that they are made to, and free them again.
+//! Accesses that lock the frames that they reach, and free them again. Only they may wait.
 ghost use Rattle.std.specs.Prelude.{◌≡◌, ◌+◌, ◌≤◌, length, vec_capacity, vec_len, IfNone, IfOk, IfSome};
 ghost use Rattle.gt_types.specs.declared.Dir.TheVariants as dirs;
 ghost use Rattle.gt_types.specs.declared.Use.TheVariants as uses;
@@ -15,17 +15,17 @@ use gt_types::{Allows, FRAME_SIZE, Memory, Range};
 use gt_words::Seat;
 use std::sync::Wait;
 
-/// Why an access was not made. Nothing has changed then.
+/// Why an access was not made. No frame has changed.
 #[derive(Clone, Copy, Debug, PartialEq, Eq)]
 pub enum AccessFault {
-    /// There is no such frame, or another one is in its place.
+    /// The frame does not exist, or another one is at its index.
     Gone,
-    /// Memory was refused.
+    /// Allocation failed.
     Memory,
 }
 
-/// Reads a range of the frame of this name into `room`, which is empty and has room for it. `None` if
-/// there is no such frame, or another one is in its place.
+/// Reads a range of the frame of this name into `room`, which is empty and has the capacity. Returns `None` if there is
+/// no such frame, or another one is at its index.
 #[tactic(auto, using(crate::proofs::Covering::reaches_named, crate::proofs::Visited::read_visit))]
 pub fn read_by<R: Wait, P: Allows>(
     rt: &R,
@@ -52,8 +52,8 @@ pub fn read_by<R: Wait, P: Allows>(
     Some(read)
 }
 
-/// Reads the bytes of the frame of this name from `off` on over all of `out`. `None` if there is no such frame,
-/// or another one is in its place; `out` is as it was then.
+/// Reads the bytes of the frame of this name, starting at `off`, into all of `out`. Returns `None`, with `out`
+/// unchanged, if there is no such frame, or another one is at its index.
 #[tactic(auto, using(crate::proofs::Covering::reaches_named, crate::proofs::Visited::read_visit))]
 pub fn fill_by<R: Wait, P: Allows>(
     rt: &R,
@@ -81,11 +81,11 @@ pub fn fill_by<R: Wait, P: Allows>(
     Some(filled)
 }
 
-/// Writes `bytes` to the frame of this name, from `off` on.
+/// Writes `bytes` to the frame of this name, starting at `off`.
 ///
 /// # Errors
 ///
-/// [`AccessFault`], with all frames as they were.
+/// [`AccessFault`]. All frames are unchanged.
 #[tactic(auto, using(crate::proofs::Covering::reaches_named, crate::proofs::Visited::write_visit, crate::proofs::Visited::unwritten_visit))]
 pub fn write_by<'a, R: Wait, P: Allows>(
     rt: &R,
@@ -117,11 +117,11 @@ pub fn write_by<'a, R: Wait, P: Allows>(
     }
 }
 
-/// Copies `len` bytes from one place to another, of one frame or of two.
+/// Copies `len` bytes from one place to another, in one frame or between two.
 ///
 /// # Errors
 ///
-/// [`AccessFault`], with all frames as they were.
+/// [`AccessFault`]. All frames are unchanged.
 #[tactic(auto, using(crate::proofs::Covering::reaches_named, crate::proofs::Visited::copy_visit, crate::proofs::Visited::uncopied_visit))]
 pub fn copy_by<R: Wait, P: Allows>(
     rt: &R,

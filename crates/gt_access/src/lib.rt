@@ -1,19 +1,17 @@
 //! Accesses to frames under locks: the bytes that a domain reads, writes or copies by its pins.
 //!
-//! A [`AccessContext`] lends what accesses are judged by. [`read_under`], [`write_under`] and [`copy_under`] are
-//! lent locked frames, the caller's seat and the route to each frame. Their conditions: the route's
-//! pins are in the view of that seat and justify the range, the policy allows the access, and the writ
-//! is of those pins' entries. They then do just what a frame's own calls do, and hand on the frame's
-//! receipt.
+//! An [`AccessContext`] lends what an access is checked against. [`read_under`], [`write_under`] and [`copy_under`]
+//! take locked frames, the caller's seat and the route to each frame. They require that the route's pins are in the
+//! view of that seat and justify the range, and that the policy allows the access. The writ is made of those pins'
+//! entries. They do exactly what the frame's own calls do, and return the frame's receipt.
 //!
-//! [`read_by`], [`write_by`] and [`copy_by`] lock the frames that the routes lead to and free them
-//! again. Only they may wait. A frame under another name than the one wanted, or none, is
-//! [`AccessFault::Gone`].
+//! [`read_by`], [`fill_by`], [`write_by`] and [`copy_by`] lock the frames that the routes reach and free them again.
+//! Only they may wait. A frame that is missing, or has another name than the one wanted, is [`AccessFault::Gone`].
 //!
-//! A [`Pool`] has each frame of a run under a lock: a frame that is handed out has the name that was asked for.
+//! A [`Pool`] has each frame of a run under a lock. A frame that it lends has the name that was asked for.
 //!
-//! It uses `gt_frames` (frames), `crossbeam_utils` (room beside a lock), `gt_words` (seats and their views), `gt_calls` (routes),
-//! `gt_roster` (the configuration), `gt_entry` and `gt_types`.
+//! It uses `gt_frames` (frames), `crossbeam_utils` (padding of locks), `gt_words` (seats and views), `gt_calls`
+//! (routes), `gt_roster` (the configuration), `gt_entry` and `gt_types`.
 #![tactic(auto)]
 
 mod by;

@@ -1,4 +1,4 @@
-//! The frames of a run, each under a lock of its own.
+//! The frames of a run, each under its own lock.
 ghost use Rattle.std.specs.Prelude.{◌≡◌, ◌+◌, ◌<◌, ◌≤◌, ◌++◌, [], ◌∷◌, length, All, IfOk, IfSome, OnOk, OnErr, IsTrue};
 ghost use Rattle.std.specs.Prelude.{◌↔◌};
 ghost use Rattle.std.specs.Sync.Mutex.{mutex_guard_value};
@@ -19,13 +19,11 @@ use std::alloc::Global;
 use std::marker::Model;
 use std::sync::{Mutex, MutexGuard, Wait};
 
-/// The frames of all domains, each under a lock of its own. A frame that is not locked is kept: its
-/// type says so.
+/// The frames of all domains, each under its own lock. The type of a frame requires that each write to it was by right.
 #[derive(Drop)]
 pub struct Pool {
     domains: Vec<FrameCount>,
-    // A lock's word lies on no cache line with another frame, so domains that lock different frames don't wait for one
-    // another's lines.
+    // No two locks share a cache line, so domains that lock different frames don't slow each other down.
     frames: Vec<CachePadded<Mutex<Frame>>>,
 }
 
@@ -44,17 +42,17 @@ impl Model for Pool {
 /// The locked frames at the two ends of a copy. They can't be dropped: `free` frees them.
 pub struct LockedPair<'p> {
     dest: LockedFrame<'p>,
-    // None if both ends are one frame.
+    // `None` if both ends are the same frame.
     source: Option<LockedFrame<'p>>,
 }
 
-// The order in which one access locks its frames: each place is above the ones before it.
+// The order in which one access locks its frames: each index is above the ones before it.
 #[derive(Drop)]
 struct Rising {
     lowest: usize,
 }
 
-// Each of these values under a lock, in their order. It can neither make nor change one: it knows nothing of them.
+// Puts each value under a lock, in order. Generic, so it can neither make nor change a value.
 fn under_locks<T: Drop>(alloc: Global, values: Vec<T>) -> Result<Vec<CachePadded<Mutex<T>>>, Memory>
     ensures { IfOk result (λ locks. length locks.items ≡ length values.items) }
 {
@@ -65,7 +63,7 @@ fn under_locks<T: Drop>(alloc: Global, values: Vec<T>) -> Result<Vec<CachePadded
     Ok(locks)
 }
 
-// Visits for so many domains.
+// Makes an empty list of accesses for each of `count` domains.
 fn no_visits(alloc: Global, count: usize) -> Result<Vec<FrameAccesses>, Memory>
     ensures count { IfOk result (λ v. length v.items ≡ count) }
     ensures none { IfOk result (λ v. All (λ visits. visits ≡ []) v.items) }
@@ -77,7 +75,7 @@ fn no_visits(alloc: Global, count: usize) -> Result<Vec<FrameAccesses>, Memory>
     Ok(all)
 }
 
-// Whether it is the frame of this name.
+// Returns whether the frame has this name.
 fn is_named(frame: &Frame, name: FrameName) -> bool
     ensures is { IsTrue result ↔ (name_of frame.now ≡ name) }
     ensures kept { IsKept frame.now }
@@ -86,7 +84,7 @@ fn is_named(frame: &Frame, name: FrameName) -> bool
     frame.owner() == name.owner && frame.number() == name.number
 }
 
-// Waits for a frame that another thread has. Few locks are, so this stands apart from the call that takes one.
+// Waits for a frame that another thread has locked. This is rare, so it is a separate function that is not inlined.
 #[cold]
 #[inline(never)]
 fn wait_for<'p>(rt: &impl Wait, frame: &'p Mutex<Frame>) -> MutexGuard<'p, Frame> {
@@ -94,8 +92,8 @@ fn wait_for<'p>(rt: &impl Wait, frame: &'p Mutex<Frame>) -> MutexGuard<'p, Frame
 }
 
 impl Pool {
-    /// The frames of all domains, in their order, each of zeros and under a lock, and for each domain the visits
-    /// without which no frame is freed.
+    /// Makes the frames of all domains, in order, filled with zeros and each under a lock. For each domain it also
+    /// makes the list of accesses that `free` adds to.
     ///
     /// # Errors
     ///
@@ -111,15 +109,15 @@ impl Pool {
         Ok((Pool { domains, frames }, visits))
     }
 
-    // The pool number of a frame.
+    // Returns the pool number of a frame.
     fn place(&self, name: FrameName) -> Option<usize>
         ensures { result ≡ pool_number self.now name.owner name.number 0 }
     {
         number_in_pool(&self.domains, name)
     }
 
-    // Locks the frame at this place, which is above each place that was locked for this access: two copies between
-    // the same frames then never wait for one another.
+    // Locks the frame at an index that is above each one locked for this access. So two copies between the same frames
+    // never wait for each other.
     #[inline(always)]
     fn lock_at(
         &self,
@@ -138,7 +136,7 @@ impl Pool {
         }
     }
 
-    /// Locks a frame. `None` if there is no such frame, or another one is in its place.
+    /// Locks a frame. Returns `None` if there is no such frame, or another one is at its index.
     #[inline(always)]
     pub fn lock(&self, rt: &impl Wait, name: FrameName) -> Option<LockedFrame<'_>>
         ensures frame { IfSome result (λ l. name_of l.after ≡ name) }
@@ -155,8 +153,8 @@ impl Pool {
         }
     }
 
-    /// Locks the frames at both ends of a copy: the one with the lower pool number first, and one
-    /// lock if both are one frame. `None` if there is no such frame, or another one is in its place.
+    /// Locks the frames at both ends of a copy: the one with the lower pool number first, and only once if both are the
+    /// same. Returns `None` if there is no such frame, or another one is at its index.
     pub fn lock_both(
         &self,
         rt: &impl Wait,
@@ -183,7 +181,7 @@ impl Pool {
 }
 
 impl<'p> LockedPair<'p> {
-    // Both ends are this frame, if it has both names.
+    // Makes both ends of this frame, if it has both names.
     fn same(
         frame: MutexGuard<'p, Frame>,
         source: FrameName,
@@ -201,7 +199,7 @@ impl<'p> LockedPair<'p> {
         }
     }
 
-    // The ends are these frames, if they have these names.
+    // Makes the ends of these frames, if they have these names.
     #[inline(always)]
     fn apart(
         from: MutexGuard<'p, Frame>,
@@ -221,7 +219,7 @@ impl<'p> LockedPair<'p> {
         }
     }
 
-    /// Frees the frames, the one that the bytes go to first.
+    /// Frees the frames, the destination first, and adds both to `visits`.
     pub fn free(self, visits: &mut FrameAccesses)
         ensures { visits.new ≡ visits.old ++ visits_of self.entry }
     {
@@ -232,12 +230,12 @@ impl<'p> LockedPair<'p> {
         }
     }
 
-    /// Copies a range of the one end to the other, from `to_off` on. What is written is what the source
-    /// range held before, overlap included.
+    /// Copies a range of the source to the destination, starting at `to_off`. The bytes written are those that the
+    /// source range held before, also if the ranges overlap.
     ///
     /// # Errors
     ///
-    /// `Memory`, with both frames as they were.
+    /// `Memory`. Both frames are unchanged.
     pub fn copy(&mut self, writ: &Writ, range: Range, to_off: u16) -> Result<Copied, Memory>
         requires { CanCopy writ.now (dest_of self.old) range to_off }
         ensures copied { IsCopy (source_of self.old) (dest_of self.old) (dest_of self.new)

@@ -1,4 +1,4 @@
-//! Accesses to locked frames.
+//! Accesses to locked frames. None waits.
 ghost use Rattle.std.specs.Prelude.{◌≡◌, ◌+◌, ◌≤◌, length, vec_capacity, vec_len, IfOk, OnOk, OnErr};
 ghost use Rattle.gt_types.specs.declared.Dir.TheVariants as dirs;
 ghost use Rattle.gt_types.specs.declared.Use.TheVariants as uses;
@@ -36,7 +36,7 @@ impl<P> Drop for AccessContext<'_, P> {
     }
 }
 
-/// The writ of a domain that writes by this route.
+/// Returns the writ of a domain that writes by this route.
 pub fn writ_by(caller: DomId, route: &AccessPath) -> Writ
     ensures { result ≡ writ_by caller route.now }
 {
@@ -55,7 +55,7 @@ pub fn writ_by(caller: DomId, route: &AccessPath) -> Writ
     }
 }
 
-/// Reads a range of a locked frame into `room`, which is empty and has room for it.
+/// Reads a range of a locked frame into `room`, which is empty and has the capacity.
 pub fn read_under<P: Allows>(
     run: &AccessContext<'_, P>,
     seat: &Seat,
@@ -76,7 +76,7 @@ pub fn read_under<P: Allows>(
     frame.read_to(range.off, usize::from(range.len), room)
 }
 
-/// Reads the bytes of a locked frame from `off` on over all of `out`.
+/// Reads the bytes of a locked frame, starting at `off`, into all of `out`.
 pub fn fill_under<P: Allows>(
     run: &AccessContext<'_, P>,
     seat: &Seat,
@@ -97,11 +97,11 @@ pub fn fill_under<P: Allows>(
     frame.read_into(off, out)
 }
 
-/// Writes `bytes` to a locked frame, from `off` on.
+/// Writes `bytes` to a locked frame, starting at `off`.
 ///
 /// # Errors
 ///
-/// `Memory`, with the frame as it was.
+/// `Memory`. The frame is unchanged.
 #[tactic(auto, using(crate::proofs::Covering::covers_by))]
 pub fn write_under<'a, P: Allows>(
     run: &AccessContext<'_, P>,
@@ -127,11 +127,11 @@ pub fn write_under<'a, P: Allows>(
     frame.write(&writ, off, bytes)
 }
 
-/// Copies a range of the one locked frame to the other, from `to_off` on; both may be one frame.
+/// Copies a range of the source frame to the destination, starting at `to_off`. Both may be the same frame.
 ///
 /// # Errors
 ///
-/// `Memory`, with both frames as they were.
+/// `Memory`. Both frames are unchanged.
 pub fn copy_under<P: Allows>(
     run: &AccessContext<'_, P>,
     seat: &Seat,

@@ -1,4 +1,4 @@
-//! A locked frame, and what was done to frames under their locks.
+//! A locked frame, and the list of the frames that were locked, before and after.
 ghost use Rattle.std.specs.Prelude.{◌≡◌, ◌+◌, ◌≤◌, ◌++◌, [], ◌∷◌, length, vec_capacity, vec_len, IfOk, OnOk, OnErr};
 ghost use Rattle.std.specs.Prelude.{IsTrue};
 
@@ -8,8 +8,8 @@ use std::marker::Model;
 use std::snapshot::Snapshot;
 use std::sync::MutexGuard;
 
-/// What was done to frames under their locks, by whoever has these visits: each frame as it was when it was locked and
-/// as it was when it was freed, in the order in which they were freed. They take no memory.
+/// The frames that a caller locked and freed: each as it was when it was locked and when it was freed, in the order of
+/// the frees. The list exists only for proofs, and allocates nothing.
 #[derive(Drop)]
 pub struct FrameAccesses {
     history: History<Snapshot<Frame>, Frame>,
@@ -24,7 +24,7 @@ impl Model for FrameAccesses {
     ghost view = { λ v. map (λ p. record { before = p.0.value; after = p.1 }) v.history.items };
 }
 
-/// A locked frame. It can't be dropped: `free` frees it, and tells what was done to it.
+/// A locked frame. It can't be dropped: `free` frees it, and records what was done to it.
 pub struct LockedFrame<'p> {
     frame: MutexGuard<'p, Frame>,
     start: Snapshot<Frame>,
@@ -40,7 +40,7 @@ impl<'p> Model for LockedFrame<'p> {
 }
 
 impl FrameAccesses {
-    /// No frame was locked yet.
+    /// Makes the list without any frame.
     pub(crate) fn new() -> FrameAccesses
         ensures { result ≡ [] }
     {
@@ -57,7 +57,7 @@ impl<'p> LockedFrame<'p> {
     ghost use Rattle.gt_frames.specs.Receipts.{reading_of, writing_of};
     ghost use Rattle.gt_frames.specs.Sets.{name_of};
 
-    /// The frame that this lock guards, just locked.
+    /// Takes the frame that this lock guards. It was just locked.
     pub(crate) fn new(frame: MutexGuard<'p, Frame>) -> LockedFrame<'p>
         ensures before { result.before ≡ mutex_guard_value frame.entry }
         ensures after { result.after ≡ mutex_guard_value frame.entry }
@@ -66,7 +66,7 @@ impl<'p> LockedFrame<'p> {
         LockedFrame { frame, start }
     }
 
-    /// Its owner and number.
+    /// Returns the frame's owner and number.
     pub fn name(&self) -> FrameName
         ensures name { result ≡ name_of self.now.after }
         ensures kept { IsKept self.now.after }
@@ -78,8 +78,7 @@ impl<'p> LockedFrame<'p> {
         }
     }
 
-    /// Reads `len` bytes from the offset `off` on into `room`, which is empty and has room for them. It takes no
-    /// memory.
+    /// Reads `len` bytes, starting at `off`, into `room`, which is empty and has the capacity. It does not allocate.
     pub fn read_to(&self, off: u16, len: usize, room: Vec<u8>) -> Read
         requires range { off + len ≤ FRAME_SIZE }
         requires room { (vec_len room ≡ 0) × (len ≤ vec_capacity room) }
@@ -89,7 +88,7 @@ impl<'p> LockedFrame<'p> {
         self.frame.read_to(off, len, room)
     }
 
-    /// Reads the bytes from the offset `off` on over all of the caller's `out`. It takes no memory.
+    /// Reads the bytes, starting at `off`, into all of the caller's `out`. It does not allocate.
     #[inline(always)]
     pub fn read_into(&self, off: u16, out: &mut [u8]) -> Filled
         requires { off + length out.old ≤ FRAME_SIZE }
@@ -100,11 +99,11 @@ impl<'p> LockedFrame<'p> {
         self.frame.read_into(off, out)
     }
 
-    /// Writes `bytes` by this writ, from the offset `off` on.
+    /// Writes `bytes` by this writ, starting at `off`.
     ///
     /// # Errors
     ///
-    /// `Memory`, with the frame as it was.
+    /// `Memory`. The frame is unchanged.
     pub fn write<'a>(&mut self, by: &Writ, off: u16, bytes: &'a [u8]) -> Result<Written<'a>, Memory>
         requires range { off + length bytes.now ≤ FRAME_SIZE }
         requires right { IsTrue (covers by.now self.old.after.owner self.old.after.number off (length bytes.now)) }
@@ -117,12 +116,12 @@ impl<'p> LockedFrame<'p> {
         self.frame.write(by, off, bytes)
     }
 
-    /// Copies a range of its own, to `to` on. The ranges may overlap: what is written is what the source range held
-    /// before.
+    /// Copies a range of the frame within it, starting at `to`. The ranges may overlap: the bytes written are those
+    /// that the source range held before.
     ///
     /// # Errors
     ///
-    /// `Memory`, with the frame as it was.
+    /// `Memory`. The frame is unchanged.
     pub(crate) fn copy_own(&mut self, writ: &Writ, range: Range, to: u16) -> Result<Copied, Memory>
         requires { CanCopy writ.now self.old.after range to }
         ensures before { self.new.before ≡ self.old.before }
@@ -131,11 +130,11 @@ impl<'p> LockedFrame<'p> {
         self.frame.copy_within(writ, range, to)
     }
 
-    /// Copies a range of another locked frame, to `to_off` on.
+    /// Copies a range of another locked frame to this one, starting at `to_off`.
     ///
     /// # Errors
     ///
-    /// `Memory`, with the frame as it was.
+    /// `Memory`. The frame is unchanged.
     pub(crate) fn copy_from(
         &mut self,
         from: &LockedFrame<'p>,
@@ -150,7 +149,7 @@ impl<'p> LockedFrame<'p> {
         Frame::copy_between(&from.frame, &mut self.frame, writ, range, to_off)
     }
 
-    /// Frees the frame. The visits tell then how it was when it was locked, and how it is now.
+    /// Frees the frame, and adds it to `visits` as it was when it was locked and as it is now.
     pub fn free(self, visits: &mut FrameAccesses)
         ensures { visits.new ≡ visits.old ++ self.entry ∷ [] }
     {

@@ -1,4 +1,4 @@
--- How C reads an answer.
+-- How C reads an encoded result.
 use Rattle.std.specs.Prelude.{◌≡◌, ◌==◌, ℕ, ℤ, pos, negsuc, if◌then◌else◌}
 use Rattle.gt_types.specs.declared.denial.Rule.{Rule}
 use Rattle.gt_types.specs.declared.denial.Rule.TheVariants.{N1, N2, N3, N4, N5, N6, N7, N8, N9, N10, N11, N12, N13, N14}
@@ -17,7 +17,7 @@ use Rattle.gt_attached.specs.declared.answer.AttachedOutcome.TheVariants.{NoDoma
 use Rattle.gt_attached.specs.declared.answer.AttachedOutcome.TheVariants.{Left, Taken as TakenRecords}
 use Rattle.gt_attached.specs.Encoding.{encoded}
 
--- the rule of this number, the last one if there is none
+-- the rule with this number, or the last one if there is none
 abbrev pub rule_named : ℕ → Rule
 rule_named n =
     if n == 1 then N1 else
@@ -47,7 +47,7 @@ rule_named n =
     if n == 25 then N25 else
     N26
 
--- the status whose number is below zero by so many and one more
+-- the status whose number is -(n + 1)
 abbrev pub status_below : ℕ → Status
 status_below n =
     if n == 1 then statuses.BadDomain else
@@ -59,12 +59,12 @@ status_below n =
     if n == 11 then statuses.Eagain else
     statuses.GeneralError
 
--- the status of this number (GNTST_ of grant_table.h)
+-- the status with this number (GNTST_ of grant_table.h)
 abbrev pub status_named : ℤ → Status
 status_named (pos n) = statuses.GeneralError
 status_named (negsuc n) = status_below n
 
--- the field of this number
+-- the field with this number
 abbrev pub field_named : ℕ → Field
 field_named n =
     if n == 1 then fields.Length else
@@ -77,7 +77,7 @@ field_named n =
     if n == 8 then fields.SubPage else
     fields.Reserved
 
--- what a refusal rests on
+-- the facts of a refusal
 abbrev pub facts_in : EncodedAnswer → Facts
 facts_in a =
     if a.kind == 5 then
@@ -96,7 +96,7 @@ named a =
       run = a.detail;
     }
 
--- what an answer that is Ok gives
+-- the result of a call that is Ok
 abbrev pub decoded_answer : EncodedAnswer → AttachedOutcome
 decoded_answer a =
     if a.kind == 1 then Mapped (named a) else
@@ -107,7 +107,7 @@ decoded_answer a =
     if a.kind == 10 then TakenRecords (record { records = a.value; lost = a.more }) else
     Done
 
--- the outcome that an answer says
+-- the result that is encoded
 abbrev pub decoded : EncodedAnswer → AttachedOutcome
 decoded a =
     if a.rule == 256 then NoDomain else
@@ -119,6 +119,6 @@ decoded a =
     if a.rule == 0 then decoded_answer a else
     Denied (record { rule = rule_named a.rule; status = status_named a.status; facts = facts_in a })
 
--- each outcome is read back from its answer
+-- each result is decoded from its encoding
 abbrev pub AnswersAreReadBack : Type 0
 AnswersAreReadBack = (o : AttachedOutcome) → decoded (encoded o) ≡ o

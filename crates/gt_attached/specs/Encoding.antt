@@ -1,4 +1,4 @@
--- How an answer is laid out for C.
+-- How the result of a call is encoded for C.
 use Rattle.std.specs.Prelude.{ℕ, ℤ, pos}
 use Rattle.gt_types.specs.declared.DomId.{DomId}
 use Rattle.gt_types.specs.declared.GrantRef.{GrantRef}
@@ -30,7 +30,7 @@ field_number fields.Pat = 7
 field_number fields.SubPage = 8
 field_number fields.Reserved = 9
 
--- an answer that says nothing but its rule and status
+-- a result that has only a rule and a status
 abbrev pub bare : ℕ → ℤ → EncodedAnswer
 bare rule status =
     record {
@@ -47,7 +47,7 @@ bare rule status =
       more = 0;
     }
 
--- Ok with a value: what it is, and its one or two numbers
+-- Ok with a value: its kind, and its one or two numbers
 abbrev pub given : ℕ → ℕ → ℕ → EncodedAnswer
 given kind value more = record (bare 0 (pos 0)) { kind = kind; value = value; more = more }
 
@@ -59,7 +59,7 @@ mapped name =
       detail = name.run;
     }
 
--- an answer with what a refusal rests on
+-- a result with the facts of a refusal
 abbrev pub with_facts : Facts → EncodedAnswer → EncodedAnswer
 with_facts facts.None a = a
 with_facts (facts.Policy source target perm) a =
@@ -72,7 +72,7 @@ with_facts (facts.Entry dom gref word) a = record a { kind = 8; dom = dom.0; gre
 abbrev pub refusal : Denial → EncodedAnswer
 refusal d = with_facts d.facts (bare (rule_number d.rule) (status_number d.status))
 
--- the answer that says this outcome
+-- the encoding of a result
 abbrev pub encoded : AttachedOutcome → EncodedAnswer
 encoded Done = bare 0 (pos 0)
 encoded (Mapped name) = mapped name

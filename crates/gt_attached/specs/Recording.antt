@@ -1,4 +1,4 @@
--- How a record is laid out for C.
+-- How an audit record is encoded for C.
 use Rattle.std.specs.Prelude.{ℕ, Some, None}
 use Rattle.gt_audit.specs.declared.record.Hypercall.{Hypercall}
 use Rattle.gt_audit.specs.declared.record.Hypercall.TheVariants as calls
@@ -12,7 +12,7 @@ use Rattle.gt_attached.specs.declared.answer.AttachedOutcome.TheVariants as outc
 use Rattle.gt_attached.specs.declared.record.CopyEnd.{CopyEnd}
 use Rattle.gt_attached.specs.declared.record.EncodedRecord.{EncodedRecord}
 
--- the outcome that a reply says
+-- the result that a reply represents
 abbrev pub outcome_of_reply : Reply → AttachedOutcome
 outcome_of_reply replies.Done = outcomes.Done
 outcome_of_reply (replies.Frames frames) = outcomes.Frames frames
@@ -24,11 +24,11 @@ outcome_of_reply (replies.Denied denial) = outcomes.Denied denial
 abbrev pub end_recorded : End → CopyEnd
 end_recorded end = record { ptr = end.ptr; dom = end.domid.0; off = end.offset }
 
--- an end of no copy
+-- the end of a copy in a record of another call
 abbrev pub no_end : CopyEnd
 no_end = record { ptr = 0; dom = 0; off = 0 }
 
--- a record that says nothing but who called and what was answered
+-- a record with only its caller and its reply
 abbrev pub plainly : Kept → EncodedRecord
 plainly r =
     record {
@@ -43,7 +43,7 @@ plainly r =
       reply = encoded (outcome_of_reply r.reply);
     }
 
--- a record with what was called
+-- a record with its call
 abbrev pub with_call : Hypercall → EncodedRecord → EncodedRecord
 with_call (calls.Map dom gref flags) r = record r { call = 1; dom = dom.0; gref = gref.0; flags = flags }
 with_call (calls.Unmap (Some (dom, gref))) r = record r { call = 2; dom = dom.0; gref = gref.0 }
@@ -55,6 +55,6 @@ with_call (calls.GetVersion dom) r = record r { call = 6; dom = dom.0 }
 with_call (calls.SetVersion version) r = record r { call = 7; flags = version }
 with_call (calls.SetupTable frames) r = record r { call = 8; flags = frames }
 
--- the record, as C reads it
+-- the encoding of a record
 abbrev pub record_kept : Kept → EncodedRecord
 record_kept r = with_call r.call (plainly r)

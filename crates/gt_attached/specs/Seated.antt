@@ -1,4 +1,4 @@
--- What a contract sees of a guest, and how its copies begin and end.
+-- What a contract sees of an attached domain, and how its copies begin and end.
 use Rattle.std.specs.Prelude.{◌≡◌, length, Option, Some, None, Result, Ok, Err}
 use Rattle.gt_types.specs.declared.denial.Denial.{Denial}
 use Rattle.gt_audit.specs.Telling.{Telling, Tells}
@@ -22,12 +22,12 @@ pub record Seated (P : Type 0) : Type 0 where
   pub domain : Domain
   pub copying : Option PendingCopy
 
--- the domain came with this monitor, or stands at the access of this copy
+-- the domain came with this monitor, or is at the access of this copy
 abbrev pub StandsBy : {P : Type 0} → (P → AllowRelation) → Monitor P → Domain → Option PendingCopy → Type 0
 StandsBy may m d None = BelongsTo may m d
 StandsBy may m d (Some h) = IsHalfway may m h d
 
--- the monitor is the one that it was, and it is in no copy
+-- the monitor is the same, and the domain is in no copy
 abbrev pub StaysIdle : {P : Type 0} → Seated P → Seated P → Type 0
 StaysIdle s t = (t.monitor ≡ s.monitor) × (t.copying ≡ None)
 
@@ -35,8 +35,8 @@ StaysIdle s t = (t.monitor ≡ s.monitor) × (t.copying ≡ None)
 abbrev pub places_of : PendingCopy → CopyPlaces
 places_of h = record { from = h.from; to = h.to; len = h.len }
 
--- A copy was begun so. Ok: it came to its access, at which the guest stands, and its places are told. Refused: by its
--- path, and the guest keeps its mappings and pins as they were, is in no copy, and tells the record
+-- the result of the beginning of a copy. Ok: it reached its access, where the domain now is, and returned its places.
+-- Refused: by its path; the domain keeps its mappings and pins, is in no copy, and recorded the call
 abbrev pub BeginsAccess : {P : Type 0} → (P → AllowRelation) → Seated P → CopyArgs → Result CopyPlaces Denial → Seated P
     → Type 0
 BeginsAccess may s copy (Ok places) t =
@@ -46,15 +46,15 @@ BeginsAccess may s copy (Err denial) t =
     StaysIdle s t × Answered may s.monitor s.domain (requests.Copy copy) (Refused denial) t.domain
     × KeepsPinned s.domain t.domain × Tells s.domain.trail (told_copy s.domain copy (Err denial)) t.domain.trail
 
--- the pins of the copy that the guest was in were given back, and it tells that it is Ok
+-- the pins of the copy that the domain was in were released, and the copy was recorded as Ok
 abbrev pub EndsAccess : {P : Type 0} → Seated P → Seated P → Type 0
 EndsAccess s t =
     (h : PendingCopy) × (s.copying ≡ Some h) × StaysIdle s t
     × EndsHalfway s.monitor.words.layout h s.domain t.domain
     × Tells s.domain.trail (done_copy s.domain h.copy) t.domain.trail
 
--- a domain gave up its mappings, closed its table and left its run: so many of its entries are in use still, and so
--- many of its records were lost
+-- a domain released its mappings, closed its table and left its run, with this many entries still in use and this many
+-- records lost
 pub record Leaves {P : Type 0} (may : P → AllowRelation) (m : Monitor P) (d : Domain) (remains : Departure) : Type 0 where
   pub closed : Domain
   pub resets : Resets may m d remains.in_use closed
@@ -62,6 +62,6 @@ pub record Leaves {P : Type 0} (may : P → AllowRelation) (m : Monitor P) (d : 
   pub leaves : HasLeft m.words.layout closed left
   pub lost : remains.lost ≡ left.trail.lost
 
--- how many records a domain has, and how many were lost
+-- the number of records of a domain, and the number lost
 abbrev pub taken_of : Telling → TakenCounts
 taken_of t = record { records = length t.records; lost = t.lost }

@@ -1,4 +1,4 @@
--- The guests of a run at its start.
+-- The attached domains of a run at its start.
 use Rattle.std.specs.Prelude.{◌≡◌, ℕ, ◌<◌, List, length, map, HoldsAt, None}
 use Rattle.gt_types.specs.declared.config.Config.{Config}
 use Rattle.gt_live.specs.Domains.{AllowRelation}
@@ -7,12 +7,12 @@ use Rattle.gt_live.specs.declared.domain.Domain.{Domain}
 use Rattle.gt_live.specs.declared.monitor.Monitor.{Monitor}
 use Rattle.gt_attached.specs.Seated.{Seated}
 
--- a domain beside a monitor, in no copy
+-- a domain attached to a monitor, in no copy
 abbrev pub beside : {P : Type 0} → Monitor P → Domain → Seated P
 beside m d = record { monitor = m; domain = d; copying = None }
 
--- the guests of a new run: they share one monitor, which has this configuration and these rights, and each is the
--- new domain at its place in the configuration
+-- the attached domains of a new run: they share one monitor, which has this configuration and these rights, and each is
+-- the new domain at its position in the configuration
 pub record AreNewGuests {P : Type 0} (may : P → AllowRelation) (c : Config) (rights : P) (guests : List (Seated P))
     : Type 0 where
   pub monitor : Monitor P

@@ -1,4 +1,4 @@
-//! An answer, in a layout that C reads.
+//! The result of a call, in a layout that C reads.
 ghost use Rattle.std.specs.Prelude.{◌≡◌, pos};
 ghost use Rattle.gt_attached.specs.Encoding.{bare, encoded, field_number, given, mapped, refusal};
 ghost use Rattle.gt_attached.specs.Decoding.{AnswersAreReadBack};
@@ -7,7 +7,7 @@ use bitflags::Flags;
 use gt_calls::Handle;
 use gt_types::{Denial, DomId, Facts, Field, Size};
 
-/// The name of a mapping: its handle, the domain that has it, and the number that its run was given.
+/// The name of a mapping: its handle, the domain that has it, and the number of its run.
 #[derive(Clone, Copy)]
 pub struct MappingName {
     pub handle: Handle,
@@ -15,21 +15,21 @@ pub struct MappingName {
     pub run: u32,
 }
 
-/// What a domain leaves behind: how many of its records were lost, and how many of its entries are still in use.
+/// What a domain leaves behind: the number of its records that were lost, and the number of its entries still in use.
 #[derive(Clone, Copy)]
 pub struct Departure {
     pub lost: u64,
     pub in_use: u64,
 }
 
-/// What was taken from a domain: how many records, and how many were lost before.
+/// What was taken from a domain: the number of its records, and the number that were lost before.
 #[derive(Clone, Copy)]
 pub struct TakenCounts {
     pub records: u64,
     pub lost: u64,
 }
 
-/// What a call answered.
+/// The result of a call.
 #[derive(Clone, Copy)]
 pub enum AttachedOutcome {
     /// Ok, without a value.
@@ -42,73 +42,75 @@ pub enum AttachedOutcome {
     Version(u32),
     /// Ok: the table has this size.
     Size(Size),
-    /// A rule stood against the call.
+    /// A rule refuses the call.
     Denied(Denial),
-    /// The handle stands for no domain: the call was not made.
+    /// The handle has no domain. The call was not made.
     NoDomain,
-    /// The domain is in a copy: the call was not made.
+    /// The domain is in a copy. The call was not made.
     Busy,
-    /// Memory was refused, and nothing has changed.
+    /// Allocation failed. Nothing has changed.
     NoMemory,
-    /// The domain is in no copy that could end.
+    /// The domain is not in a copy that could end.
     NoCopy,
     /// There is no such mapping or record.
     Absent,
-    /// A pointer is null: the call was not made.
+    /// A pointer is null. The call was not made.
     NullPointer,
-    /// Ok: the domain has left its place, and this remains.
+    /// Ok: the domain has left its run, and this remains.
     Left(Departure),
     /// Ok: its records were taken.
     Taken(TakenCounts),
 }
 
-/// What a call answered, in a layout that C reads. A field that says nothing is 0.
+/// The result of a call, in a layout that C reads. A field without a meaning is 0.
 #[repr(C)]
 #[derive(Clone, Copy)]
 pub struct EncodedAnswer {
-    /// 0 if the call is Ok, the number of the rule from 1 to 26 if it is refused, or else one of [`NO_DOMAIN`],
-    /// [`BUSY`], [`NO_MEMORY`], [`NO_COPY`], [`ABSENT`] and [`NULL_POINTER`].
+    /// 0 if the call is Ok; 1 to 26, the number of the rule, if it is refused; or else one of [`NO_DOMAIN`], [`BUSY`],
+    /// [`NO_MEMORY`], [`NO_COPY`], [`ABSENT`] and [`NULL_POINTER`].
     pub rule: u32,
-    /// The status of the public header `grant_table.h`: 0, or below it.
+    /// The status of `grant_table.h` (`GNTST_*`): 0 or negative.
     pub status: i32,
-    /// What else it carries: 0 nothing, 1 a handle, 2 frames, 3 a version, 4 a size, 5 what the policy denies, 6 a
-    /// field of an entry's bytes, 7 a header's word, 8 an entry's word, 9 what a domain leaves, 10 taken records.
+    /// The kind of the other fields: 0 none, 1 a handle, 2 a number of frames, 3 a version, 4 a size, 5 what the policy
+    /// denies, 6 a field of an entry's bytes, 7 a header's word, 8 an entry's word, 9 what a domain leaves, 10 taken
+    /// records.
     pub kind: u32,
-    /// The domain whose word it carries, or that has the mapping.
+    /// The domain of the header or entry whose word this carries, or the domain that has the mapping.
     pub dom: u32,
-    /// The entry whose word it carries.
+    /// The reference of the entry whose word this carries.
     pub gref: u32,
-    /// The type that asks.
+    /// The source type that the policy denies the permission.
     pub source: u32,
-    /// The type that is asked.
+    /// The target type of the denied permission.
     pub target: u32,
-    /// The permission that lacks, as its bit; the number of the field, from 1 on; or the number of the mapping's run.
+    /// The denied permission, as its bit; the number of the field, starting at 1; or the number of the mapping's run.
     pub detail: u32,
     /// The word of the deciding look or exchange.
     pub word: u64,
-    /// The serial of a handle, a number of frames, a version, how many records a domain lost, or how many were taken.
+    /// The serial of a handle, a number of frames, a version, the number of records that a departed domain lost, or the
+    /// number of records taken.
     pub value: u64,
-    /// The key of a handle, how many frames a table may have, how many entries of a domain that left are in use, or how
-    /// many records were lost before those taken.
+    /// The key of a handle, the maximum number of frames of a table, the number of entries of a departed domain that
+    /// are in use, or the number of records lost before those taken.
     pub more: u64,
 }
 
-/// The rule of an answer to a call that was not made.
+/// The `rule` of a call that was not made, since the handle has no domain.
 pub const NO_DOMAIN: u32 = 256;
 
-/// The rule of an answer to a call that was not made, since the domain is in a copy.
+/// The `rule` of a call that was not made, since the domain is in a copy.
 pub const BUSY: u32 = 257;
 
-/// The rule of an answer to a call that memory was refused.
+/// The `rule` of a call whose allocation failed.
 pub const NO_MEMORY: u32 = 258;
 
-/// The rule of an answer to the end of a copy, if there is none.
+/// The `rule` of the end of a copy if the domain is not in one.
 pub const NO_COPY: u32 = 259;
 
-/// The rule of an answer that a mapping or a record would be told by, if there is none.
+/// The `rule` of a question about a mapping or a record that does not exist.
 pub const ABSENT: u32 = 260;
 
-/// The rule of an answer to a call that was not made, since a pointer is null.
+/// The `rule` of a call that was not made, since a pointer is null.
 pub const NULL_POINTER: u32 = 261;
 
 const DONE: EncodedAnswer = EncodedAnswer {
@@ -125,7 +127,7 @@ const DONE: EncodedAnswer = EncodedAnswer {
     more: 0,
 };
 
-// The number of a field of an entry's bytes.
+// Returns the number of a field of an entry's bytes, starting at 1.
 fn field_number(field: Field) -> u32
     ensures { result ≡ field_number field }
 {
@@ -142,14 +144,14 @@ fn field_number(field: Field) -> u32
     }
 }
 
-// An answer that only has a rule.
+// Makes a result that only has a rule.
 fn by_rule(rule: u32) -> EncodedAnswer
     ensures { result ≡ bare rule (pos 0) }
 {
     EncodedAnswer { rule, ..DONE }
 }
 
-// A refusal.
+// Makes the result of a refusal.
 fn refusal(denial: Denial) -> EncodedAnswer
     ensures { result ≡ refusal denial }
 {
@@ -192,7 +194,7 @@ fn refusal(denial: Denial) -> EncodedAnswer
     }
 }
 
-// Ok, with a value.
+// Makes an Ok with a value.
 fn given(kind: u32, value: u64, more: u64) -> EncodedAnswer
     ensures { result ≡ given kind value more }
 {
@@ -204,7 +206,7 @@ fn given(kind: u32, value: u64, more: u64) -> EncodedAnswer
     }
 }
 
-// Ok, with the name of a mapping.
+// Makes an Ok with the name of a mapping.
 #[inline(always)]
 fn mapped(name: MappingName) -> EncodedAnswer
     ensures { result ≡ mapped name }
@@ -223,7 +225,7 @@ impl EncodedAnswer {
     ghost use Rattle.std.specs.Prelude.{◌≡◌};
     ghost use Rattle.gt_attached.specs.Encoding.{encoded};
 
-    /// The outcome, as C reads it.
+    /// Encodes the result of a call.
     #[inline(always)]
     pub fn of(outcome: AttachedOutcome) -> EncodedAnswer
         ensures { result ≡ encoded outcome }
@@ -247,7 +249,7 @@ impl EncodedAnswer {
     }
 }
 
-/// A law: an answer is read back as the outcome that it says. So no two outcomes have one answer.
+/// A law: an encoded result decodes to the same result. So no two results have the same encoding.
 pub fn answers_are_read_back()
     ensures { AnswersAreReadBack }
 {}

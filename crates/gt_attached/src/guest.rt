@@ -1,4 +1,4 @@
-//! A domain beside its monitor.
+//! A domain together with its monitor.
 ghost use Rattle.std.specs.Prelude.{◌≡◌};
 ghost use Rattle.gt_live.specs.Domains.{BelongsTo};
 ghost use Rattle.gt_attached.specs.Seated.{Leaves, StandsBy};
@@ -13,7 +13,7 @@ use std::alloc::Global;
 use std::marker::Model;
 use std::sync::Arc;
 
-/// Where a copy at its access may read and write: so many bytes from the one place to the other.
+/// The places of a copy at its access: `len` bytes may be read at `from` and written at `to`.
 #[derive(Clone, Copy)]
 pub struct CopyPlaces {
     pub from: Spot,
@@ -21,15 +21,15 @@ pub struct CopyPlaces {
     pub len: u16,
 }
 
-/// A domain beside an owner of its monitor, and the copy that it is in, if it is in one. It closes its table and leaves
-/// the run if it is let go. A contract sees these three.
+/// A domain with a share of its monitor, and the copy that it is in, if it is in one. When it is dropped, it ends the
+/// copy, closes its table and leaves the run. A contract sees these three parts.
 pub struct AttachedDomain<P: Allows + Drop> {
     monitor: Arc<Monitor<P>, Global>,
     domain: Domain,
     copying: Option<PendingCopy>,
 }
 
-// Gives back the pins of the copy that the domain is in, if it is in one.
+// Releases the pins of the copy that the domain is in, if it is in one.
 fn settle<P: Allows>(monitor: &Monitor<P>, domain: &mut Domain, copying: Option<PendingCopy>)
     requires { StandsBy P.may monitor.now domain.old copying }
     ensures { BelongsTo P.may monitor.now domain.new }
@@ -39,7 +39,7 @@ fn settle<P: Allows>(monitor: &Monitor<P>, domain: &mut Domain, copying: Option<
     }
 }
 
-// The domain gives up its mappings, closes its table and leaves its run.
+// Releases the domain's mappings, closes its table and leaves its run.
 fn depart<P: Allows>(monitor: &Monitor<P>, domain: Domain) -> Departure
     requires { BelongsTo P.may monitor.now domain }
     ensures { Leaves P.may monitor.now domain result }
@@ -90,7 +90,7 @@ impl<P: Allows + Drop> AttachedDomain<P> {
     ghost use Rattle.std.specs.List.{slice_get};
     ghost use Rattle.std.specs.Arc.{arc_value};
 
-    /// The domain beside its monitor.
+    /// Attaches the domain to its monitor.
     pub(crate) fn new(monitor: Arc<Monitor<P>, Global>, domain: Domain) -> Self
         requires { BelongsTo P.may (arc_value monitor) domain }
         ensures { result ≡ record { monitor = arc_value monitor; domain = domain; copying = None } }
@@ -102,10 +102,10 @@ impl<P: Allows + Drop> AttachedDomain<P> {
         }
     }
 
-    /// Publishes an entry in place of an invalid one.
+    /// Publishes an entry instead of an invalid one that has no pins left.
     ///
     /// # Errors
-    /// N9, N20, N21, N22 or N19.
+    /// N9, N20, N21, N22 or N19. Nothing changes but the body words of an invalid entry.
     pub fn grant(&mut self, gref: GrantRef, entry: &Entry) -> Result<(), Denial>
         requires idle { self.old.copying ≡ None }
         ensures stays { StaysIdle self.old self.new }
@@ -115,10 +115,10 @@ impl<P: Allows + Drop> AttachedDomain<P> {
         self.domain.grant(&self.monitor, gref, entry)
     }
 
-    /// Publishes the entry that the bytes spell in a table of the domain's version.
+    /// Publishes the entry that the bytes encode in a table of the domain's version.
     ///
     /// # Errors
-    /// N9, N20, N22, N25 or N19.
+    /// N9, N20, N22, N25 or N19. Nothing changes but the body words of an invalid entry.
     pub fn grant_bytes(&mut self, gref: GrantRef, bytes: &[u8]) -> Result<(), Denial>
         requires idle { self.old.copying ≡ None }
         ensures stays { StaysIdle self.old self.new }
@@ -128,10 +128,10 @@ impl<P: Allows + Drop> AttachedDomain<P> {
         self.domain.grant_bytes(&self.monitor, gref, bytes)
     }
 
-    /// Makes an entry of its own invalid, if it has no pins.
+    /// Makes one of the domain's entries invalid if it has no pins.
     ///
     /// # Errors
-    /// N9, N10 or N19.
+    /// N9, N10 or N19. Nothing changes.
     pub fn revoke(&mut self, gref: GrantRef) -> Result<(), Denial>
         requires idle { self.old.copying ≡ None }
         ensures stays { StaysIdle self.old self.new }
@@ -141,10 +141,10 @@ impl<P: Allows + Drop> AttachedDomain<P> {
         self.domain.revoke(&self.monitor, gref)
     }
 
-    /// Makes an entry of its own invalid, with or without pins.
+    /// Makes one of the domain's entries invalid, with or without pins.
     ///
     /// # Errors
-    /// N9, N10 or N18.
+    /// N9, N10 or N18. Nothing changes.
     pub fn withdraw(&mut self, gref: GrantRef) -> Result<(), Denial>
         requires idle { self.old.copying ≡ None }
         ensures stays { StaysIdle self.old self.new }
@@ -154,10 +154,10 @@ impl<P: Allows + Drop> AttachedDomain<P> {
         self.domain.withdraw(&self.monitor, gref)
     }
 
-    /// Makes an entry of its own read-only, if it has no write pins.
+    /// Makes one of the domain's entries read-only if it has no write pins.
     ///
     /// # Errors
-    /// N9, N10, N22, N18 or N19.
+    /// N9, N10, N22, N18 or N19. Nothing changes.
     pub fn demote(&mut self, gref: GrantRef) -> Result<(), Denial>
         requires idle { self.old.copying ≡ None }
         ensures stays { StaysIdle self.old self.new }
@@ -167,10 +167,10 @@ impl<P: Allows + Drop> AttachedDomain<P> {
         self.domain.demote(&self.monitor, gref)
     }
 
-    /// Makes an entry of its own writable.
+    /// Makes one of the domain's entries writable.
     ///
     /// # Errors
-    /// N9, N10, N22 or N18.
+    /// N9, N10, N22 or N18. Nothing changes.
     pub fn promote(&mut self, gref: GrantRef) -> Result<(), Denial>
         requires idle { self.old.copying ≡ None }
         ensures stays { StaysIdle self.old self.new }
@@ -180,10 +180,10 @@ impl<P: Allows + Drop> AttachedDomain<P> {
         self.domain.promote(&self.monitor, gref)
     }
 
-    /// Gives its table this version, while all its entries are invalid.
+    /// Gives the domain's table this version, 1 or 2, while all its entries are invalid.
     ///
     /// # Errors
-    /// N2 or N24.
+    /// N2 or N24. Nothing changes.
     pub fn set_version(&mut self, version: u32) -> Result<(), Denial>
         requires idle { self.old.copying ≡ None }
         ensures stays { StaysIdle self.old self.new }
@@ -193,10 +193,10 @@ impl<P: Allows + Drop> AttachedDomain<P> {
         self.domain.set_version(&self.monitor, version)
     }
 
-    /// Gives its table so many frames, if it has fewer, and answers how many it then has.
+    /// Grows the domain's table to `frames` frames if it has fewer, and returns the number that it then has.
     ///
     /// # Errors
-    /// N5 or N23.
+    /// N5 or N23. Nothing changes.
     pub fn setup_table(&mut self, frames: u32) -> Result<u32, Denial>
         requires idle { self.old.copying ≡ None }
         ensures stays { StaysIdle self.old self.new }
@@ -206,7 +206,7 @@ impl<P: Allows + Drop> AttachedDomain<P> {
         self.domain.setup_table(&self.monitor, frames)
     }
 
-    /// How many frames the table of a domain has, and how many it may have.
+    /// Returns the number of frames of a domain's table, and the maximum.
     ///
     /// # Errors
     /// N1 or N5.
@@ -219,7 +219,7 @@ impl<P: Allows + Drop> AttachedDomain<P> {
         self.domain.query_size(&self.monitor, dom)
     }
 
-    /// The version of the table of a domain.
+    /// Returns the version of a domain's table.
     ///
     /// # Errors
     /// N1 or N5.
@@ -232,10 +232,11 @@ impl<P: Allows + Drop> AttachedDomain<P> {
         self.domain.get_version(&self.monitor, dom)
     }
 
-    /// Maps an entry of a domain, for reading and writing (flags 2) or for reading (flags 6).
+    /// Maps an entry of a domain, for reading and writing (flags 2) or for reading (flags 6): `GNTMAP_host_map` and
+    /// `GNTMAP_readonly` of `grant_table.h`.
     ///
     /// # Errors
-    /// N1, N2, N5, N8 to N13, N16 to N18, or N26. Mappings and pins are as they were.
+    /// N1, N2, N5, N8 to N13, N16 to N18, or N26. Mappings and pins are unchanged.
     pub fn map(&mut self, dom: DomId, gref: GrantRef, flags: u32) -> Result<Handle, Denial>
         requires idle { self.old.copying ≡ None }
         ensures stays { StaysIdle self.old self.new }
@@ -252,10 +253,10 @@ impl<P: Allows + Drop> AttachedDomain<P> {
         self.domain.map(&self.monitor, dom, gref, flags)
     }
 
-    /// Gives a mapping up, and its pin back.
+    /// Unmaps a mapping, and releases its pin.
     ///
     /// # Errors
-    /// N6 or N5, and mappings and pins are as they were.
+    /// N6 or N5. Mappings and pins are unchanged.
     pub fn unmap(&mut self, handle: Handle) -> Result<(), Denial>
         requires idle { self.old.copying ≡ None }
         ensures stays { StaysIdle self.old self.new }
@@ -271,7 +272,7 @@ impl<P: Allows + Drop> AttachedDomain<P> {
         self.domain.unmap(&self.monitor, handle)
     }
 
-    /// The mapping under a handle, None if the handle names none of its mappings.
+    /// Returns the mapping under a handle, or `None` if the domain has no such mapping.
     pub fn mapping(&self, handle: Handle) -> Option<HeldPin>
         requires idle { self.now.copying ≡ None }
         ensures { result ≡ value_of self.now.domain.mappings handle }
@@ -279,7 +280,8 @@ impl<P: Allows + Drop> AttachedDomain<P> {
         self.domain.mapping(&self.monitor, handle)
     }
 
-    /// From now on it keeps a record only while it has fewer than so many; with 0 its calls are not recorded at all.
+    /// Bounds the trail: a call is recorded only while the trail has fewer than `records` records. With 0 no call is
+    /// recorded. Records that are there already stay.
     pub fn keep_at_most(&mut self, records: usize)
         requires idle { self.old.copying ≡ None }
         ensures stays { StaysIdle self.old self.new }
@@ -289,10 +291,10 @@ impl<P: Allows + Drop> AttachedDomain<P> {
         self.domain.keep_at_most(records);
     }
 
-    /// Makes room for so many more records, which then take no memory.
+    /// Makes room for `records` more records, which then need no allocation.
     ///
     /// # Errors
-    /// `Memory`, and what it keeps stays.
+    /// `Memory`. All records stay.
     pub fn reserve_records(&mut self, records: usize) -> Result<(), Memory>
         requires idle { self.old.copying ≡ None }
         ensures stays { StaysIdle self.old self.new }
@@ -305,32 +307,32 @@ impl<P: Allows + Drop> AttachedDomain<P> {
         self.domain.reserve_records(records)
     }
 
-    /// The record of its calls at this place, counted from 0.
+    /// Returns the record at an index of the trail, starting at 0.
     pub fn record_at(&self, index: usize) -> Option<Record>
         ensures { result ≡ slice_get self.now.domain.trail.records index }
     {
         self.domain.trail().get(index)
     }
 
-    /// How many records were lost so far.
+    /// Returns the number of records lost so far.
     pub fn lost(&self) -> u64
         ensures { result ≡ self.now.domain.trail.lost }
     {
         self.domain.trail().lost()
     }
 
-    /// Whether it is in a copy.
+    /// Returns whether the domain is in a copy.
     pub fn is_copying(&self) -> bool
         ensures { result ≡ is_some self.now.copying }
     {
         self.copying.is_some()
     }
 
-    /// Begins a copy: takes its pins, and tells the two places that may now be touched. Until `copy_end` it is in this
-    /// copy. That just these bytes are moved is for the caller.
+    /// Begins a copy: takes its pins, and returns the places where bytes may now be read and written. The domain is in
+    /// this copy until `copy_end`. The caller must move those bytes, and no others.
     ///
     /// # Errors
-    /// The first rule that stands. Then no pin is kept.
+    /// The first rule that applies. No pin is kept.
     pub fn copy_begin(&mut self, copy: &CopyArgs) -> Result<CopyPlaces, Denial>
         requires idle { self.old.copying ≡ None }
         ensures begins { BeginsAccess P.may self.old copy.now result self.new }
@@ -348,7 +350,7 @@ impl<P: Allows + Drop> AttachedDomain<P> {
         }
     }
 
-    /// Ends the copy that it is in: its pins are given back, the last one first.
+    /// Ends the copy that the domain is in: releases its pins, the last one first.
     pub fn copy_end(&mut self)
         requires copying { IsSome self.old.copying }
         ensures ends { EndsAccess self.old self.new }
@@ -360,8 +362,8 @@ impl<P: Allows + Drop> AttachedDomain<P> {
         }
     }
 
-    /// Leaves the run: each of its mappings is given up, and its pin back, and then each of its valid entries is
-    /// withdrawn. Answers how many records were lost, and how many of its entries are still in use by others.
+    /// Leaves the run: releases each of the domain's mappings, and withdraws each of its valid entries. Returns the
+    /// number of records that were lost, and the number of the domain's entries that others still use.
     pub fn finish(self) -> Departure
         requires idle { self.copying ≡ None }
         ensures leaves { Leaves P.may self.monitor self.domain result }
@@ -374,8 +376,8 @@ impl<P: Allows + Drop> AttachedDomain<P> {
         depart(&monitor, domain)
     }
 
-    /// Gives up each of its mappings, and closes its table, for the next guest in its place. Its records stay. Answers
-    /// how many were lost, and how many of its entries are still in use.
+    /// Releases each of the domain's mappings and closes its table, for the next guest in its place. Its records stay.
+    /// Returns the number of records that were lost, and the number of entries still in use.
     pub fn reset(&mut self) -> Departure
         requires idle { self.old.copying ≡ None }
         ensures stays { StaysIdle self.old self.new }
@@ -387,8 +389,8 @@ impl<P: Allows + Drop> AttachedDomain<P> {
         Departure { lost, in_use }
     }
 
-    /// One look at an entry of its own: its kind, its generation and its pins of each kind. None if its table has no
-    /// such entry.
+    /// Looks at one of the domain's entries: its kind, its generation and its pins of each kind. Returns `None` if the
+    /// table has no such entry.
     pub fn status(&mut self, gref: GrantRef) -> Option<Control>
         requires idle { self.old.copying ≡ None }
         ensures stays { StaysIdle self.old self.new }
@@ -397,7 +399,7 @@ impl<P: Allows + Drop> AttachedDomain<P> {
         self.domain.status(&self.monitor, gref)
     }
 
-    /// Lets its records go, and keeps their room. Answers how many there were, and how many were lost before.
+    /// Drops the domain's records, and keeps their room. Returns the number of records, and the number lost before.
     pub fn take_records(&mut self, alloc: Global) -> TakenCounts
         requires idle { self.old.copying ≡ None }
         ensures stays { StaysIdle self.old self.new }
@@ -416,7 +418,7 @@ impl<P: Allows + Drop> AttachedDomain<P> {
         taken
     }
 
-    /// Its number.
+    /// Returns the domain's number.
     pub fn dom(&self) -> DomId
         ensures { result ≡ self.now.domain.seat.dom }
     {

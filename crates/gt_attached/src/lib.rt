@@ -1,14 +1,14 @@
-//! A domain beside its monitor, as a caller outside Rattle holds it.
+//! A domain together with its monitor, for a caller outside Rattle.
 //!
-//! [`start`] makes a run and gives a [`AttachedDomain`] for each domain: the domain, beside an owner of the monitor that all of
-//! them share. A guest needs no monitor in its calls, leaves the run if it is let go, and the last one frees the
-//! monitor. [`EncodedAnswer`] is what a call answered, in a layout that C reads.
+//! [`start`] makes a run, with an [`AttachedDomain`] for each domain: the domain, and a share of the monitor that all
+//! of them use. Its calls take no monitor. A domain that is dropped leaves the run, and the last one frees the monitor.
+//! [`EncodedAnswer`] is the result of a call, and [`EncodedRecord`] an audit record, in layouts that C reads.
 //!
-//! What holds: each call promises what the call of `gt_live` promises, on the guest's own monitor. A copy in two halves
-//! holds its pins from the one to the other. An [`EncodedAnswer`] says all that the call answered, since it is read back as it
-//! was. None of these calls waits.
+//! Each call promises what the call of `gt_live` promises, on the domain's own monitor. A copy in two halves holds its
+//! pins from one to the other. An [`EncodedAnswer`] has all that the call returned, since it decodes to the same
+//! result. None of these calls waits.
 //!
-//! It uses `gt_live`, `gt_calls` (handles), `gt_entry` (entries) and `gt_types`.
+//! It uses `gt_live`, `gt_calls` (handles), `gt_entry` (entries), `gt_audit` (records) and `gt_types`.
 #![tactic(auto)]
 
 mod answer;

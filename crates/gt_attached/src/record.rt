@@ -1,4 +1,4 @@
-//! The record of a call, in a layout that C reads.
+//! The audit record of a call, in a layout that C reads.
 ghost use Rattle.std.specs.Prelude.{◌≡◌};
 ghost use Rattle.gt_audit.specs.declared.record.Hypercall.TheVariants.{Copy};
 ghost use Rattle.gt_attached.specs.Recording.{end_recorded, outcome_of_reply, plainly, with_call};
@@ -7,7 +7,7 @@ use crate::answer::{AttachedOutcome, EncodedAnswer};
 use gt_audit::{Hypercall, Reply};
 use gt_types::End;
 
-/// One end of a copy as it was asked: a reference of the domain, or the number of a frame.
+/// An end of a copy as it was passed: a grant reference of the domain, or the number of a frame.
 #[repr(C)]
 #[derive(Clone, Copy)]
 pub struct CopyEnd {
@@ -16,26 +16,26 @@ pub struct CopyEnd {
     pub off: u16,
 }
 
-/// The record of a call, in a layout that C reads. A field that says nothing is 0.
+/// The audit record of a call, in a layout that C reads. A field without a meaning is 0.
 #[repr(C)]
 #[derive(Clone, Copy)]
 pub struct EncodedRecord {
-    /// What was called: 1 a map, 2 an unmap of a mapping, 3 an unmap of none, 4 a copy, 5 a size, 6 a version that is
-    /// asked, 7 a version that is set, 8 a setup.
+    /// The call: 1 map, 2 unmap of a mapping, 3 unmap of no mapping, 4 copy, 5 query of a size, 6 query of a version, 7
+    /// change of a version, 8 setup of a table.
     pub call: u32,
     /// The domain that called.
     pub caller: u32,
-    /// The domain of the entry, or the one asked about.
+    /// The domain of the entry, or the domain that the query is about.
     pub dom: u32,
     /// The reference of the entry.
     pub gref: u32,
-    /// The flags of a map or a copy, the version that is set, or how many frames are set up.
+    /// The flags of a map or a copy, the version that is set, or the number of frames that is set up.
     pub flags: u32,
-    /// How many bytes are copied.
+    /// The number of bytes to copy.
     pub len: u32,
     pub source: CopyEnd,
     pub dest: CopyEnd,
-    /// What was answered; a map's handle is left out.
+    /// The result of the call, without a map's handle.
     pub reply: EncodedAnswer,
 }
 
@@ -45,7 +45,7 @@ const NO_END: CopyEnd = CopyEnd {
     off: 0,
 };
 
-// What a record keeps of an answer.
+// Converts the reply of a record.
 fn replied(reply: Reply) -> AttachedOutcome
     ensures { result ≡ outcome_of_reply reply }
 {
@@ -68,7 +68,7 @@ fn end_recorded(end: End) -> CopyEnd
     }
 }
 
-// A record with its caller and its reply alone.
+// Encodes a record without its call.
 fn without_call(told: &gt_audit::Record) -> EncodedRecord
     ensures { result ≡ plainly told.now }
 {
@@ -85,7 +85,7 @@ fn without_call(told: &gt_audit::Record) -> EncodedRecord
     }
 }
 
-// The record with a copy as its call.
+// Adds a copy as the call of a record.
 fn with_copy(source: End, dest: End, len: u16, flags: u16, bare: EncodedRecord) -> EncodedRecord
     ensures { result ≡ with_call (Copy source dest len flags) bare }
 {
@@ -103,7 +103,7 @@ impl EncodedRecord {
     ghost use Rattle.std.specs.Prelude.{◌≡◌};
     ghost use Rattle.gt_attached.specs.Recording.{record_kept};
 
-    /// The record, as C reads it.
+    /// Encodes a record.
     pub fn of(told: gt_audit::Record) -> EncodedRecord
         ensures { result ≡ record_kept told }
     {

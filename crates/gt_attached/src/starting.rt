@@ -1,4 +1,4 @@
-//! How a run starts for a caller outside Rattle.
+//! The start of a run, for a caller outside Rattle.
 ghost use Rattle.std.specs.Prelude.{◌≡◌, All, length, map, IfOk, IfErr, OnOk};
 ghost use Rattle.gt_types.specs.Config.{IsWithinLimits};
 ghost use Rattle.gt_words.specs.Answers.{IsStartFault};
@@ -12,7 +12,7 @@ use gt_types::{Allows, Config, StartFault};
 use std::alloc::{AllocError, Global};
 use std::sync::Arc;
 
-// Lets domains leave that do nothing.
+// Lets domains leave that have made no call.
 fn finish_all<P: Allows + Drop>(monitor: &Monitor<P>, domains: Vec<Domain>)
     requires { All (λ d. BelongsTo P.may monitor.now d) domains.items }
 {
@@ -23,7 +23,7 @@ fn finish_all<P: Allows + Drop>(monitor: &Monitor<P>, domains: Vec<Domain>)
     rest.destroy_empty();
 }
 
-// Each domain beside an owner of its monitor.
+// Attaches each domain to its monitor.
 fn all_guests<P: Allows + Drop>(
     alloc: Global,
     monitor: &Arc<Monitor<P>, Global>,
@@ -55,11 +55,11 @@ fn all_guests<P: Allows + Drop>(
     }
 }
 
-/// Starts a run, and gives a guest for each domain configured, in order. The guests share one monitor, which has this
-/// configuration and these rights.
+/// Starts a run, and returns an attached domain for each one configured, in order. They share one monitor, which has
+/// this configuration and these rights.
 ///
 /// # Errors
-/// The first fault of the configuration, or `Memory` if it has none and memory is refused. No domain is left then.
+/// The first fault of the configuration, or `Memory` if it has none and allocation fails. No domain is left.
 pub fn start<P: Allows + Drop>(
     alloc: Global,
     config: Config,

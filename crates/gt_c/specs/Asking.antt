@@ -1,4 +1,4 @@
--- What C asks, as the monitor knows it.
+-- What C passes, as values of the monitor.
 use Rattle.std.specs.Prelude.{ℕ, ◌-◌, ◌^◌, Bool, true, false, ◌&&◌, List, [], take, ◌==◌, if◌then◌else◌}
 use Rattle.gt_entry.specs.declared.entry.Entry.{Entry}
 use Rattle.gt_entry.specs.declared.entry.Entry.TheVariants.{Page, Sub, Via}
@@ -7,7 +7,7 @@ use Rattle.gt_c.specs.declared.calls.EntryBytes.{EntryBytes}
 use Rattle.gt_c.specs.declared.calls.MapHandle.{MapHandle}
 use Rattle.gt_c.specs.declared.here.CDomain.{CDomain}
 
--- a handle that no mapping is ever given: serials end before it
+-- a handle that no mapping ever has: serials stay below it
 abbrev pub no_handle : Name
 no_handle = record { serial = 2 ^ 64 - 1; key = 2 ^ 64 - 1 }
 
@@ -15,11 +15,11 @@ no_handle = record { serial = 2 ^ 64 - 1; key = 2 ^ 64 - 1 }
 abbrev pub is_of_domain : CDomain → MapHandle → Bool
 is_of_domain d name = (name.run == d.run) && (name.dom == d.guest.domain.seat.dom.0)
 
--- the handle that a name stands for in a call of this domain: none, if it is the name of another domain or run
+-- the handle that a name gives in a call of this domain: that of no mapping, if the name is of another domain or run
 abbrev pub handle_named : CDomain → MapHandle → Name
 handle_named d name = if is_of_domain d name then record { serial = name.serial; key = name.key } else no_handle
 
--- for reading only, if the number is not 0
+-- read-only if the number is not 0
 abbrev pub reads_only : ℕ → Bool
 reads_only ro = if ro == 0 then false else true
 
@@ -35,6 +35,6 @@ sub to frame off len ro = Sub (record { 0 = to }) (reads_only ro) frame off len
 abbrev pub via : ℕ → ℕ → ℕ → ℕ → Entry
 via to dom2 gref ro = Via (record { 0 = to }) (reads_only ro) (record { 0 = dom2 }) (record { 0 = gref })
 
--- the bytes of an entry: 8 or 16 of them, and none by any other length
+-- the bytes of an entry: 8 or 16 of them, and none for any other length
 abbrev pub spelled : EntryBytes → List ℕ
 spelled b = if b.len == 16 then b.bytes else if b.len == 8 then take 8 b.bytes else []

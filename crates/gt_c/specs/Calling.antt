@@ -1,4 +1,4 @@
--- What an export answers, of the call that it made.
+-- The answer of an export, for the call that it made.
 use Rattle.std.specs.Prelude.{◌≡◌, ◌≤◌, ◌⊎◌, ℕ, Option, Some, None, IsSome, Result, Ok, Err, OnOk, OnErr}
 use Rattle.gt_c.specs.Prelude.{GrantRef, DomId, Memory, Size, Denial, Table, may, Hypercall, Kept}
 use Rattle.gt_c.specs.Prelude.{HasNone, Tells, CallResult, Mapped, Request, Name, Domain, Answered, AnswersQuietly}
@@ -8,19 +8,19 @@ use Rattle.gt_c.specs.Prelude.{EndsAccess}
 use Rattle.gt_c.specs.Prelude.{Seated, StaysIdle, EncodedAnswer, AttachedOutcome, CDomain}
 use Rattle.gt_attached.specs.declared.answer.AttachedOutcome.TheVariants as outcomes
 
--- the handle was not taken, stays as it was, and the answer says why: it has no domain, or one that is in a copy
+-- no call was made: the handle is unchanged, and the answer gives the reason: it has no domain, or one in a copy
 abbrev pub TurnedAway : Option CDomain → Option CDomain → EncodedAnswer → Type 0
 TurnedAway None after answer = (after ≡ None) × (answer ≡ encoded outcomes.NoDomain)
 TurnedAway (Some d) after answer =
     (after ≡ Some d) × IsSome d.guest.copying × (answer ≡ encoded outcomes.Busy)
 
--- a handle has a domain, which is in no copy and as it was
+-- the handle has a domain, which is in no copy and unchanged
 abbrev pub MayBeCalled : Option CDomain → Option CDomain → Type 0
 MayBeCalled None after = ⊥
 MayBeCalled (Some d) after = (after ≡ Some d) × (d.guest.copying ≡ None)
 
--- a call was made on the handle's domain, which was in no copy: the handle has it afterwards, and this holds of it
--- before and after
+-- a call was made on the handle's domain, which was in no copy: the handle still has it, and this holds of it before
+-- and after
 pub record MadeOn (before after : Option CDomain) (Holds : CDomain → CDomain → Type 0) : Type 0 where
   pub was : CDomain
   pub is : CDomain
@@ -29,16 +29,16 @@ pub record MadeOn (before after : Option CDomain) (Holds : CDomain → CDomain �
   pub idle : was.guest.copying ≡ None
   pub holds : Holds was is
 
--- the handle was turned away, or the call was made
+-- no call was made, or this one was
 abbrev pub CallsGuest : Option CDomain → Option CDomain → EncodedAnswer → (CDomain → CDomain → Type 0) → Type 0
 CallsGuest before after answer Holds = TurnedAway before after answer ⊎ MadeOn before after Holds
 
--- the same of a call that tells more than its answer: turned away, it tells nothing
+-- the same for a call that returns more than its answer: if no call was made, it returns nothing more
 abbrev pub CallsTelling : Option CDomain → Option CDomain → EncodedAnswer → Type 0 → (CDomain → CDomain → Type 0) → Type 0
 CallsTelling before after answer TellsNothing Holds =
     (TurnedAway before after answer × TellsNothing) ⊎ MadeOn before after Holds
 
--- the outcomes of a call without a value, and of calls with one
+-- the results of calls without a value, and of calls with one
 abbrev pub outcome : Result (Unit {0}) Denial → AttachedOutcome
 outcome (Ok done) = outcomes.Done
 outcome (Err denial) = outcomes.Denied denial
@@ -59,7 +59,7 @@ abbrev pub outcome_size : Result Size Denial → AttachedOutcome
 outcome_size (Ok size) = outcomes.Size size
 outcome_size (Err denial) = outcomes.Denied denial
 
--- the answer encodes a result, of which this holds; the domain keeps its monitor, and is in no copy
+-- the answer encodes a result with this property; the domain keeps its monitor, and is in no copy
 pub record SaysAs {R : Type 0} (said : Result R Denial → AttachedOutcome) (Holds : Result R Denial → Type 0) (answer : EncodedAnswer)
     (d e : CDomain) : Type 0 where
   pub result : Result R Denial
@@ -67,13 +67,13 @@ pub record SaysAs {R : Type 0} (said : Result R Denial → AttachedOutcome) (Hol
   pub stays : StaysIdle d.guest e.guest
   pub holds : Holds result
 
--- this request of the domain was answered so, by the steps of its path; mappings, pins and records are as before
+-- this request of the domain had this answer, by the steps of its path; mappings, pins and records are unchanged
 abbrev pub SaysDone : Request → EncodedAnswer → CDomain → CDomain → Type 0
 SaysDone request answer d e =
     SaysAs outcome (λ r. AnswersQuietly may d.guest.monitor d.guest.domain request (verdict_of r) e.guest.domain)
     answer d e
 
--- the same of a call that is recorded, whose result gives this verdict
+-- the same for a call that is recorded, whose result gives this verdict
 abbrev pub SaysTold : {R : Type 0} → (Result R Denial → AttachedOutcome) → (Result R Denial → CallResult) → Request → Hypercall
     → EncodedAnswer → CDomain → CDomain → Type 0
 SaysTold said verdict request call answer d e =
@@ -83,13 +83,13 @@ SaysTold said verdict request call answer d e =
 abbrev pub map_told : Domain → Hypercall → Result Name Denial → Kept
 map_told d call r = record { dom = d.seat.dom; call = call; reply = mapping_reply r }
 
--- the same of a map, whose mapping is kept, and named by its domain and run
+-- the same for a map, whose mapping is kept, and is named by its domain and run
 abbrev pub SaysMapped : Request → Hypercall → EncodedAnswer → CDomain → CDomain → Type 0
 SaysMapped request call answer d e =
     SaysAs (outcome_mapped d.guest.domain.seat.dom d.run) (λ r. MapAnswered may d.guest.monitor d.guest.domain request r e.guest.domain
     × Tells d.guest.domain.trail (map_told d.guest.domain call r) e.guest.domain.trail) answer d e
 
--- the same of an unmap, whose mapping is gone
+-- the same for an unmap, whose mapping is removed
 abbrev pub SaysUnmapped : Request → (Option (DomId × GrantRef) → Hypercall) → Name → EncodedAnswer → CDomain → CDomain → Type 0
 SaysUnmapped request call name answer d e =
     SaysAs outcome (λ r. Answered may d.guest.monitor d.guest.domain request (verdict_of r) e.guest.domain
@@ -98,18 +98,18 @@ SaysUnmapped request call name answer d e =
     × Tells d.guest.domain.trail (told_of d.guest.domain (call (subject_of d.guest.domain name)) (verdict_of r))
     e.guest.domain.trail) answer d e
 
--- it keeps at most so many records from now on, and nothing else changed
+-- the domain keeps at most this many records, and nothing else changed
 abbrev pub KeepsAtMost : ℕ → EncodedAnswer → CDomain → CDomain → Type 0
 KeepsAtMost most answer d e =
     (answer ≡ encoded outcomes.Done) × StaysIdle d.guest e.guest
     × (e.guest.domain ≡ record d.guest.domain { trail = record d.guest.domain.trail { most = most } })
 
--- the outcome of a call that takes memory
+-- the result of a call that allocates
 abbrev pub outcome_reserved : Result (Unit {0}) Memory → AttachedOutcome
 outcome_reserved (Ok done) = outcomes.Done
 outcome_reserved (Err refused) = outcomes.NoMemory
 
--- there is room for so many records if the answer is Ok, and nothing else changed
+-- there is room for this many records if the answer is Ok, and nothing else changed
 pub record Reserves (records : ℕ) (answer : EncodedAnswer) (d e : CDomain) : Type 0 where
   pub result : Result (Unit {0}) Memory
   pub encodes : answer ≡ encoded (outcome_reserved result)
@@ -120,7 +120,7 @@ pub record Reserves (records : ℕ) (answer : EncodedAnswer) (d e : CDomain) : T
         record d.guest.domain.trail { room = e.guest.domain.trail.room };
   }
 
--- the guest is in no copy; or it was in one, which was ended
+-- the domain is in no copy; or it was in one, which was ended
 abbrev pub Settles : Seated Table → Seated Table → Type 0
 Settles s t = (((s.copying ≡ None) × (t ≡ s))) ⊎ EndsAccess s t
 
@@ -136,12 +136,12 @@ pub record LeavesWith (s : Seated Table) (answer : EncodedAnswer) : Type 0 where
   pub encodes : answer ≡ encoded (outcomes.Left remains)
   pub leaves : LeavesGuest s remains
 
--- the domain of a handle left, and the answer encodes what remains; or the handle had none, and the answer says so
+-- the domain of a handle left, and the answer encodes what remains; or the handle had none, and the answer is that
 abbrev pub Finishes : EncodedAnswer → Option CDomain → Option CDomain → Type 0
 Finishes answer None after = (after ≡ None) × (answer ≡ encoded outcomes.NoDomain)
 Finishes answer (Some d) after = (after ≡ None) × LeavesWith d.guest answer
 
--- a domain is made ready for the next guest in its place, after the end of its copy if it was in one: it has no copy
+-- a domain was made ready for the next guest in its place, after the end of its copy if it was in one: it has no copy
 -- and no mapping, each of its entries was closed, and the answer encodes what remains
 pub record MakesReady (s t : Seated Table) (answer : EncodedAnswer) : Type 0 where
   pub settled : Seated Table
@@ -152,20 +152,21 @@ pub record MakesReady (s t : Seated Table) (answer : EncodedAnswer) : Type 0 whe
   pub resets : Resets may settled.monitor settled.domain remains.in_use t.domain
   pub lost : remains.lost ≡ settled.domain.trail.lost
 
--- the domain of a handle was made ready; or the handle had none, and the answer says so
+-- the domain of a handle was made ready; or the handle had none, and the answer is that
 abbrev pub ResetsGuest : EncodedAnswer → Option CDomain → Option CDomain → Type 0
 ResetsGuest answer None after = (after ≡ None) × (answer ≡ encoded outcomes.NoDomain)
 ResetsGuest answer (Some d) None = ⊥
 ResetsGuest answer (Some d) (Some e) = (e.run ≡ d.run) × MakesReady d.guest e.guest answer
 
--- the records of a domain went, how many they were and how many were lost before is encoded, and nothing else changed
+-- the records of a domain were dropped, the answer encodes their number and the number lost before, and nothing else
+-- changed
 abbrev pub TakesAll : EncodedAnswer → CDomain → CDomain → Type 0
 TakesAll answer d e =
     (answer ≡ encoded (outcomes.Taken (taken_of d.guest.domain.trail))) × StaysIdle d.guest e.guest
     × HasNone e.guest.domain.trail × (e.guest.domain.trail.most ≡ d.guest.domain.trail.most)
     × (e.guest.domain ≡ record d.guest.domain { trail = e.guest.domain.trail })
 
--- the reference of this number, and the domain
+-- the reference with this number, and the domain
 abbrev pub ref_at : ℕ → GrantRef
 ref_at gref = record { 0 = gref }
 

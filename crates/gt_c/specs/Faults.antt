@@ -1,4 +1,4 @@
--- What each fault is in words.
+-- The faults in words.
 use Rattle.std.specs.Prelude.{ℕ, List, ◌==◌, if◌then◌else◌, codes}
 
 -- what a kind of fault means

@@ -10,6 +10,6 @@ use Rattle.gt_c.specs.contracts.held.RawBox.{the_row as held_row}
 abbrev pub with_here : RawBox → CDomain → RawBox
 with_here h d = record h { value = Some d }
 
--- the handle ends with the last value of the domain behind the result
+-- the handle ends with the last value of the lent domain
 abbrev pub LendsHere : MutBor RawBox → MutBor CDomain → Fml
 LendsHere s r = Lends held_row here_row s r (with_here s.now)

@@ -1,4 +1,4 @@
--- The names of other crates, and of the code, that the definitions here speak of.
+-- Names from other crates, and from the code, that these definitions use.
 pub use Rattle.gt_allow.specs.Looking.{Table}
 pub use Rattle.gt_start.specs.Beginning.{Begins, IsFaultOf, may}
 pub use Rattle.gt_start.specs.Faults.{no_fault, wrong_handles}

@@ -1,4 +1,4 @@
--- What each call promises, of the domain behind a handle before and after.
+-- What each call promises about the domain of a handle, before and after.
 use Rattle.std.specs.Prelude.{◌≡◌, ℕ, List, Option}
 use Rattle.std.specs.Borrow.{Bor}
 use Rattle.gt_audit.specs.declared.record.Hypercall.TheVariants as calls
@@ -20,22 +20,22 @@ use Rattle.gt_c.specs.Calling.{outcome, outcome_frames, outcome_size, outcome_ve
 use Rattle.gt_c.specs.Telling.{SaysBegun, SaysEntry, SaysMapping, SaysRecord, copy_asked, no_entry, no_mapping}
 use Rattle.gt_c.specs.Telling.{no_places, no_record}
 
--- a page of its own is granted
+-- one of the domain's pages is granted
 abbrev pub GrantsPage : ℕ → ℕ → ℕ → ℕ → EncodedAnswer → Option CDomain → Option CDomain → Type 0
 GrantsPage gref to frame ro answer before after =
     CallsGuest before after answer (SaysDone (requests.Grant (ref_at gref) (page to frame ro)) answer)
 
--- bytes of a page of its own are granted
+-- bytes of one of the domain's pages are granted
 abbrev pub GrantsSub : ℕ → ℕ → ℕ → ℕ → ℕ → ℕ → EncodedAnswer → Option CDomain → Option CDomain → Type 0
 GrantsSub gref to frame off len ro answer before after =
     CallsGuest before after answer (SaysDone (requests.Grant (ref_at gref) (sub to frame off len ro)) answer)
 
--- another grant is granted on
+-- a grant of another domain is granted on
 abbrev pub GrantsVia : ℕ → ℕ → ℕ → ℕ → ℕ → EncodedAnswer → Option CDomain → Option CDomain → Type 0
 GrantsVia gref to dom2 ref2 ro answer before after =
     CallsGuest before after answer (SaysDone (requests.Grant (ref_at gref) (via to dom2 ref2 ro)) answer)
 
--- what the bytes of an entry spell is granted
+-- the entry that the bytes encode is granted
 abbrev pub GrantsBytes : ℕ → EntryBytes → EncodedAnswer → Option CDomain → Option CDomain → Type 0
 GrantsBytes gref bytes answer before after =
     CallsGuest before after answer (λ d e.
@@ -60,13 +60,13 @@ Maps dom gref flags answer before after =
     CallsGuest before after answer
     (SaysMapped (requests.Map (dom_of dom) (ref_at gref) flags) (calls.Map (dom_of dom) (ref_at gref) flags) answer)
 
--- a mapping is given up
+-- a mapping is unmapped
 abbrev pub Unmaps : MapHandle → EncodedAnswer → Option CDomain → Option CDomain → Type 0
 Unmaps name answer before after =
     CallsGuest before after answer (λ d e.
     SaysUnmapped (requests.Unmap (handle_named d name)) calls.Unmap (handle_named d name) answer d e)
 
--- the table gets a version, or frames
+-- the table gets a version, or more frames
 abbrev pub SetsVersion : ℕ → EncodedAnswer → Option CDomain → Option CDomain → Type 0
 SetsVersion version answer before after =
     CallsGuest before after answer
@@ -77,7 +77,7 @@ SetsUp frames answer before after =
     CallsGuest before after answer
     (SaysTold outcome_frames verdict_of_frames (requests.SetupTable frames) (calls.SetupTable frames) answer)
 
--- the table of a domain is asked about
+-- the table of a domain is queried
 abbrev pub AsksSize : ℕ → EncodedAnswer → Option CDomain → Option CDomain → Type 0
 AsksSize dom answer before after =
     CallsGuest before after answer
@@ -88,7 +88,7 @@ AsksVersion dom answer before after =
     CallsGuest before after answer
     (SaysTold outcome_version verdict_of_version (requests.GetVersion (dom_of dom)) (calls.GetVersion (dom_of dom)) answer)
 
--- a mapping, or a record, is told
+-- a mapping, or a record, is returned
 abbrev pub TellsMapping : MapHandle → MappingReport → Option CDomain → Option CDomain → Type 0
 TellsMapping name told before after =
     CallsTelling before after told.answer (told.mapping ≡ no_mapping)
@@ -98,7 +98,7 @@ abbrev pub TellsRecord : ℕ → RecordReport → Option CDomain → Option CDom
 TellsRecord index told before after =
     CallsTelling before after told.answer (told.kept ≡ no_record) (SaysRecord index told.kept told.answer)
 
--- an entry of the domain's own is told
+-- one of the domain's entries is returned
 abbrev pub TellsEntry : ℕ → EntryReport → Option CDomain → Option CDomain → Type 0
 TellsEntry gref told before after =
     CallsTelling before after told.answer (told.entry ≡ no_entry) (SaysEntry (ref_at gref) told.entry told.answer)

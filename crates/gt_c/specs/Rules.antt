@@ -1,7 +1,7 @@
--- What each rule of an answer means in words.
+-- The rules in words.
 use Rattle.std.specs.Prelude.{ℕ, List, [], ◌∷◌, ◌++◌, ◌==◌, if◌then◌else◌, codes, unwrap_or, slice_get}
 
--- the lines of the rules, at their numbers; 0 is no rule, but Ok
+-- the lines of the rules, by number; 0 is Ok
 abbrev pub rule_lines : List (List ℕ)
 rule_lines =
     codes "ok" ∷

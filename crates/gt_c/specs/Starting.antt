@@ -1,4 +1,4 @@
--- How a run starts for C.
+-- The start of a run for C.
 use Rattle.std.specs.Prelude.{◌≡◌, ◌≢◌, ◌⊎◌, ℕ, true, List, Option, Some, Ok, length, map}
 use Rattle.std.specs.List.{list_any}
 use Rattle.gt_c.specs.Prelude.{Begins, DomainSettings, EncodedFault, DomainHandle, CDomain, IsFaultOf, Seated, Table}
@@ -12,7 +12,7 @@ use Rattle.gt_c.specs.declared.beginning.TypeReport.{TypeReport}
 abbrev pub domain_of_handle : DomainHandle → Option CDomain
 domain_of_handle h = h.held.value
 
--- a guest of the run of this number, as a handle has it
+-- a domain of the run with this number, as a handle holds it
 abbrev pub here_of : ℕ → Seated Table → CDomain
 here_of run g = record { guest = g; run = run }
 
@@ -20,12 +20,12 @@ here_of run g = record { guest = g; run = run }
 abbrev pub holding : CDomain → Option CDomain
 holding d = Some d
 
--- the handles are not as many as the domains, or one of them has a domain
+-- the number of handles is not that of the domains, or one of the handles has a domain
 abbrev pub AreWrong : List DomainSettings → List DomainHandle → Type 0
 AreWrong settings handles =
     (length handles ≢ length settings) ⊎ (list_any (λ h. h.is_live) handles ≡ true)
 
--- a run of this number began, and the handle at each place has the guest of the domain at that place
+-- a run with this number started, and the handle at each position has the domain at that position
 pub record Starts (settings : List DomainSettings) (first_gen run : ℕ) (policy : List ℕ) (handles : List DomainHandle)
     : Type 0 where
   pub guests : List (Seated Table)
@@ -38,13 +38,13 @@ IsStartFault settings first_gen policy handles fault =
     ((fault ≡ wrong_handles) × AreWrong settings handles)
     ⊎ IsFaultOf settings first_gen policy fault
 
--- a run started; or it did not, the fault says why, and the handles are as they were
+-- a run started; or none did, the fault gives the reason, and the handles are unchanged
 abbrev pub StartsWith : List DomainSettings → ℕ → ℕ → List ℕ → EncodedFault → List DomainHandle → List DomainHandle → Type 0
 StartsWith settings first_gen run policy fault old new =
     ((fault ≡ no_fault) × Starts settings first_gen run policy new)
     ⊎ ((new ≡ old) × IsStartFault settings first_gen policy old fault)
 
--- a type's label is told, if the policy's text declares a type of this name; else why not, beside 0
+-- the label of a type, if the policy's text declares a type of this name; otherwise 0 and the reason
 abbrev pub TellsType : List ℕ → List ℕ → TypeReport → Type 0
 TellsType policy name told =
     ((told.fault ≡ no_fault)

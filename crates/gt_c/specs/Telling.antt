@@ -1,4 +1,4 @@
--- What exports tell in layouts of C: the places of a copy, a mapping, a record.
+-- What exports return in layouts of C: the places of a copy, a mapping, a record, an entry.
 use Rattle.std.specs.Prelude.{◌≡◌, ◌⊎◌, ℕ, Bool, true, false, Option, Some, None, Result, Ok, Err}
 use Rattle.gt_c.specs.Prelude.{slice_get, Dir, Read, Write, Denial, Kept, Spot, Mapped, CopyArgs, End, frame_of, Name}
 use Rattle.gt_c.specs.Prelude.{value_of, encoded, no_end, record_kept, BeginsAccess, EndsAccess, EncodedAnswer, AttachedOutcome}
@@ -7,11 +7,11 @@ use Rattle.gt_entry.specs.declared.control.EntryKind.TheVariants.{Invalid, Page,
 use Rattle.gt_c.specs.Prelude.{EncodedRecord, CopySettings, PlaceReport, PlacesReport, MappedFrame, CDomain}
 use Rattle.gt_attached.specs.declared.answer.AttachedOutcome.TheVariants as outcomes
 
--- an end of a copy as C asks it
+-- an end of a copy as C passes it
 abbrev pub end_asked : CopyEnd → End
 end_asked end = record { ptr = end.ptr; domid = record { 0 = end.dom }; offset = end.off }
 
--- the copy that C asks
+-- the copy that C asks for
 abbrev pub copy_asked : CopySettings → CopyArgs
 copy_asked c = record { source = end_asked c.source; dest = end_asked c.dest; len = c.len; flags = c.flags }
 
@@ -27,24 +27,24 @@ no_place = record { frame = 0; owner = 0; off = 0 }
 abbrev pub no_places : PlacesReport
 no_places = record { from = no_place; to = no_place; len = 0 }
 
--- the places of a copy that began; none, if it was refused
+-- the places of a copy that began; zeros if it was refused
 abbrev pub places_report : Result CopyPlaces Denial → PlacesReport
 places_report (Ok p) = record { from = place_report p.from; to = place_report p.to; len = p.len }
 places_report (Err denial) = no_places
 
--- the outcome of a copy's beginning
+-- the result of a copy's beginning
 abbrev pub outcome_begun : Result CopyPlaces Denial → AttachedOutcome
 outcome_begun (Ok places) = outcomes.Done
 outcome_begun (Err denial) = outcomes.Denied denial
 
--- a copy of the domain was begun so: the answer encodes whether, and its places are told
+-- a copy of the domain was begun: the answer encodes whether it was, and these are its places
 pub record SaysBegun (copy : CopyArgs) (places : PlacesReport) (answer : EncodedAnswer) (d e : CDomain) : Type 0 where
   pub result : Result CopyPlaces Denial
   pub encodes : answer ≡ encoded (outcome_begun result)
   pub told : places ≡ places_report result
   pub begins : BeginsAccess may d.guest copy result e.guest
 
--- the copy of a handle's domain was ended; or there was none, or no domain, and the answer says so
+-- the copy of a handle's domain was ended; or there was none, or no domain, and the answer is that
 abbrev pub CopyEnds : EncodedAnswer → Option CDomain → Option CDomain → Type 0
 CopyEnds answer None after = (after ≡ None) × (answer ≡ encoded outcomes.NoDomain)
 CopyEnds answer (Some d) None = ⊥
@@ -67,12 +67,12 @@ mapping_report None = no_mapping
 mapping_report (Some p) =
     record { frame = frame_of p.entry; gref = p.gref.0; owner = p.dom.0; writes = writes p.dir }
 
--- whether there is one
+-- Ok if there is one, else Absent
 abbrev pub outcome_present : {A : Type 0} → Option A → AttachedOutcome
 outcome_present None = outcomes.Absent
 outcome_present (Some a) = outcomes.Done
 
--- the mapping under this handle is told, if there is one, and nothing changed
+-- these are the mapping under this handle, if there is one, and the answer; nothing changed
 abbrev pub SaysMapping : Name → MappedFrame → EncodedAnswer → CDomain → CDomain → Type 0
 SaysMapping name mapping answer d e =
     (answer ≡ encoded (outcome_present (value_of d.guest.domain.mappings name)))
@@ -98,7 +98,7 @@ abbrev pub kept_record : Option Kept → EncodedRecord
 kept_record None = no_record
 kept_record (Some r) = record_kept r
 
--- the record at this place is told, if there is one, and nothing changed
+-- these are the record at this index, if there is one, and the answer; nothing changed
 abbrev pub SaysRecord : ℕ → EncodedRecord → EncodedAnswer → CDomain → CDomain → Type 0
 SaysRecord index kept answer d e =
     (answer ≡ encoded (outcome_present (slice_get d.guest.domain.trail.records index)))
@@ -111,7 +111,7 @@ kind_code Page = 1
 kind_code Sub = 2
 kind_code Via = 3
 
--- 1 for an entry that only lets read, else 0
+-- 1 for a read-only entry, else 0
 abbrev pub read_only_code : Bool → ℕ
 read_only_code true = 1
 read_only_code false = 0
@@ -133,7 +133,7 @@ entry_status (Some c) =
       read_only = read_only_code c.ro;
     }
 
--- a look at this entry is told, if the domain's table has it
+-- a look at this entry, if the domain's table has it, found this
 pub record SaysEntry (gref : GrantRef) (entry : EntryStatus) (answer : EncodedAnswer) (d e : CDomain) : Type 0 where
   pub found : Option Control
   pub encodes : answer ≡ encoded (outcome_present found)

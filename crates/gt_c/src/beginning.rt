@@ -1,4 +1,4 @@
-//! How a run starts, and how a domain leaves it.
+//! The start of a run, and how a domain leaves it.
 ghost use Rattle.std.specs.Prelude.{◌≡◌, All, length, map, IfOk, None};
 ghost use Rattle.std.specs.List.{list_any};
 ghost use Rattle.gt_c.specs.Calling.{Finishes, LeavesWith, MakesReady, ResetsGuest, Settles};
@@ -12,7 +12,7 @@ use gt_attached::{AttachedDomain, AttachedOutcome, EncodedAnswer};
 use gt_start::{DomainSettings, EncodedFault, HANDLES, MEMORY, NONE, begin, type_of};
 use std::alloc::{AllocError, Global};
 
-// A box for each guest of the run of this number, in order.
+// Puts each domain of the run with this number into a box, in order.
 fn boxed(
     alloc: Global,
     run: u32,
@@ -47,10 +47,10 @@ fn hand_out(all: Vec<Box<CDomain>>, out: &mut [DomainHandle])
     }
 }
 
-/// Starts a run of these domains, in order, under a policy's text. Each handle of `out` has to be one of none, and
-/// there have to be as many as domains: the handle at each place gets the guest of the domain at that place. The
-/// names of the run's mappings carry the number `run`. Answers no fault if the run started; otherwise why not, and
-/// `out` is as it was.
+/// Starts a run of these domains, in order, under a policy's text. Each handle of `out` must be without a domain, and
+/// there must be one for each domain: the handle at each position gets the domain at that position. The names of the
+/// run's mappings carry the number `run`. Returns no fault if the run started. Otherwise returns the reason, and `out`
+/// is unchanged.
 #[unsafe(no_mangle)]
 pub extern "C" fn gthost_start_at(
     alloc: Global,
@@ -76,7 +76,7 @@ pub extern "C" fn gthost_start_at(
     NONE
 }
 
-// Ends the copy of a guest, if it is in one.
+// Ends the copy of a domain, if it is in one.
 fn settle(guest: &mut AttachedDomain<AllowTable>)
     ensures settled { Settles guest.old guest.new }
     ensures idle { guest.new.copying ≡ None }
@@ -86,7 +86,7 @@ fn settle(guest: &mut AttachedDomain<AllowTable>)
     }
 }
 
-// The domain leaves, after the end of its copy if it is in one.
+// Lets a domain leave, after the end of its copy if it is in one.
 fn left(guest: AttachedDomain<AllowTable>) -> EncodedAnswer
     ensures { LeavesWith guest result }
 {
@@ -96,9 +96,9 @@ fn left(guest: AttachedDomain<AllowTable>) -> EncodedAnswer
     EncodedAnswer::of(AttachedOutcome::Left(remains))
 }
 
-/// The domain leaves its run: its mappings and their pins are given up, its entries are withdrawn, and the handle is
-/// one of none. The last one frees the monitor. Answers how many records were lost, and how many entries are still in
-/// use.
+/// Lets the domain leave its run: ends its copy, releases its mappings, withdraws its entries, and leaves the handle
+/// without a domain. The last domain frees the monitor. Returns the number of records that were lost, and the number of
+/// entries still in use.
 #[unsafe(no_mangle)]
 pub extern "C" fn gthost_finish_at(alloc: Global, domain: &mut DomainHandle) -> EncodedAnswer
     ensures { Finishes result domain.old.held.value domain.new.held.value }
@@ -110,7 +110,7 @@ pub extern "C" fn gthost_finish_at(alloc: Global, domain: &mut DomainHandle) -> 
     left(here.guest)
 }
 
-// The same of a guest that stays, for the next one in its place.
+// Makes a domain ready for the next guest in its place, after the end of its copy if it is in one.
 fn made_ready(guest: &mut AttachedDomain<AllowTable>) -> EncodedAnswer
     ensures { MakesReady guest.old guest.new result }
 {
@@ -119,8 +119,8 @@ fn made_ready(guest: &mut AttachedDomain<AllowTable>) -> EncodedAnswer
     EncodedAnswer::of(AttachedOutcome::Left(remains))
 }
 
-/// The domain ends its copy, gives up its mappings and closes its table, for the next guest in its place. Answers how
-/// many records were lost, and how many entries are still in use.
+/// Ends the domain's copy, releases its mappings and closes its table, for the next guest in its place. Returns the
+/// number of records that were lost, and the number of entries still in use.
 #[unsafe(no_mangle)]
 pub extern "C" fn gthost_reset_at(domain: &mut DomainHandle) -> EncodedAnswer
     ensures { ResetsGuest result domain.old.held.value domain.new.held.value }
@@ -132,7 +132,7 @@ pub extern "C" fn gthost_reset_at(domain: &mut DomainHandle) -> EncodedAnswer
     made_ready(&mut here.guest)
 }
 
-/// A type's label, or why it was not found.
+/// The label of a type, or why it was not found.
 #[repr(C)]
 #[derive(Clone, Copy)]
 pub struct TypeReport {
@@ -140,7 +140,7 @@ pub struct TypeReport {
     pub label: u32,
 }
 
-/// The label of the type of this name in a policy's text: 0 beside a fault.
+/// Returns the label of the type of this name in a policy's text, or the fault and 0.
 #[unsafe(no_mangle)]
 pub extern "C" fn gthost_type_of(alloc: Global, policy: &[u8], name: &[u8]) -> TypeReport
     ensures { TellsType policy.now name.now result }

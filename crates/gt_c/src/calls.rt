@@ -25,14 +25,14 @@ pub struct MapHandle {
     pub dom: u16,
 }
 
-// A handle that no mapping is ever given.
+// A handle that no mapping ever has.
 const NO_HANDLE: Name = Name {
     serial: u64::MAX,
     key: usize::MAX,
 };
 
-// The handle in a name, for a call of this domain. A name of another domain or of another run gives the handle of no
-// mapping.
+// Returns the handle in a name, for a call of this domain. For a name of another domain or another run it returns the
+// handle of no mapping.
 pub(crate) fn handle_named(here: &CDomain, name: MapHandle) -> Name
     ensures { result ≡ handle_named here.now name }
 {
@@ -45,7 +45,7 @@ pub(crate) fn handle_named(here: &CDomain, name: MapHandle) -> Name
     }
 }
 
-/// The bytes of an entry: 8 or 16. By any other `len` they are none.
+/// The bytes of an entry: the first 8 or 16. With any other `len` there are none.
 #[repr(C)]
 #[derive(Clone, Copy)]
 pub struct EntryBytes {
@@ -63,7 +63,7 @@ fn spelled(bytes: &EntryBytes) -> &[u8]
     }
 }
 
-// Why no call is made on a handle: it has no domain, or one in a copy.
+// Returns why no call is made on a handle: it has no domain, or one in a copy.
 #[inline(always)]
 pub(crate) fn turned_away(domain: &mut DomainHandle) -> Option<EncodedAnswer>
     ensures away { IfSome result (λ a. TurnedAway domain.old.held.value domain.new.held.value a) }
@@ -125,7 +125,7 @@ fn size_outcome(answer: Result<Size, Denial>) -> AttachedOutcome
     }
 }
 
-// The entries that C spells by fields.
+// These functions make an entry from C's fields.
 fn page(to: u16, frame: u64, ro: u32) -> Entry
     ensures { result ≡ page to frame ro }
 {
@@ -200,7 +200,7 @@ pub extern "C" fn gthost_grant_sub_at(
     ))
 }
 
-/// Lets a domain copy by the grant `ref2` of the domain `dom2`.
+/// Grants a domain the copies that the entry `ref2` of the domain `dom2` permits the caller.
 #[unsafe(no_mangle)]
 pub extern "C" fn gthost_grant_via_at(
     domain: &mut DomainHandle,
@@ -219,7 +219,7 @@ pub extern "C" fn gthost_grant_via_at(
     EncodedAnswer::of(done(here.guest.grant(GrantRef(gref), &via(to, dom2, ref2, ro))))
 }
 
-/// Grants what the bytes of an entry spell.
+/// Grants the entry that the bytes encode.
 #[unsafe(no_mangle)]
 pub extern "C" fn gthost_grant_bytes_at(
     domain: &mut DomainHandle,
@@ -235,7 +235,7 @@ pub extern "C" fn gthost_grant_bytes_at(
     EncodedAnswer::of(done(here.guest.grant_bytes(GrantRef(gref), spelled(&bytes))))
 }
 
-/// Makes an entry of the caller invalid, if it has no pins.
+/// Makes an entry of the caller invalid if it has no pins.
 #[unsafe(no_mangle)]
 pub extern "C" fn gthost_revoke_at(domain: &mut DomainHandle, gref: u32) -> EncodedAnswer
     ensures { RevokesEntry gref result domain.old.held.value domain.new.held.value }
@@ -259,7 +259,7 @@ pub extern "C" fn gthost_withdraw_at(domain: &mut DomainHandle, gref: u32) -> En
     EncodedAnswer::of(done(here.guest.withdraw(GrantRef(gref))))
 }
 
-/// Makes an entry of the caller read-only, if it has no write pins.
+/// Makes an entry of the caller read-only if it has no write pins.
 #[unsafe(no_mangle)]
 pub extern "C" fn gthost_demote_at(domain: &mut DomainHandle, gref: u32) -> EncodedAnswer
     ensures { DemotesEntry gref result domain.old.held.value domain.new.held.value }
@@ -283,7 +283,7 @@ pub extern "C" fn gthost_promote_at(domain: &mut DomainHandle, gref: u32) -> Enc
     EncodedAnswer::of(done(here.guest.promote(GrantRef(gref))))
 }
 
-/// Maps an entry of a domain: flags 2 for reading and writing, 6 for reading.
+/// Maps an entry of a domain, for reading and writing (flags 2) or for reading (flags 6).
 #[unsafe(no_mangle)]
 pub extern "C" fn gthost_map_at(
     domain: &mut DomainHandle,
@@ -302,7 +302,7 @@ pub extern "C" fn gthost_map_at(
     EncodedAnswer::of(mapped(told, caller, run))
 }
 
-/// Gives a mapping up.
+/// Unmaps a mapping.
 #[unsafe(no_mangle)]
 pub extern "C" fn gthost_unmap_at(domain: &mut DomainHandle, name: MapHandle) -> EncodedAnswer
     ensures { Unmaps name result domain.old.held.value domain.new.held.value }
@@ -327,7 +327,7 @@ pub extern "C" fn gthost_set_version_at(domain: &mut DomainHandle, version: u32)
     EncodedAnswer::of(done(here.guest.set_version(version)))
 }
 
-/// Gives the caller's table this many frames, if it has fewer.
+/// Grows the caller's table to this many frames, if it has fewer.
 #[unsafe(no_mangle)]
 pub extern "C" fn gthost_setup_table_at(domain: &mut DomainHandle, frames: u32) -> EncodedAnswer
     ensures { SetsUp frames result domain.old.held.value domain.new.held.value }
@@ -339,7 +339,7 @@ pub extern "C" fn gthost_setup_table_at(domain: &mut DomainHandle, frames: u32) 
     EncodedAnswer::of(frames_outcome(here.guest.setup_table(frames)))
 }
 
-/// Answers the size of the table of a domain.
+/// Returns the size of a domain's table.
 #[unsafe(no_mangle)]
 pub extern "C" fn gthost_query_size_at(domain: &mut DomainHandle, dom: u16) -> EncodedAnswer
     ensures { AsksSize dom result domain.old.held.value domain.new.held.value }
@@ -351,7 +351,7 @@ pub extern "C" fn gthost_query_size_at(domain: &mut DomainHandle, dom: u16) -> E
     EncodedAnswer::of(size_outcome(here.guest.query_size(DomId(dom))))
 }
 
-/// Answers the version of the table of a domain.
+/// Returns the version of a domain's table.
 #[unsafe(no_mangle)]
 pub extern "C" fn gthost_get_version_at(domain: &mut DomainHandle, dom: u16) -> EncodedAnswer
     ensures { AsksVersion dom result domain.old.held.value domain.new.held.value }

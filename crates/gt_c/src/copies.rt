@@ -11,7 +11,8 @@ use gt_attached::{AttachedOutcome, CopyEnd, CopyPlaces, EncodedAnswer};
 use gt_calls::{CopyArgs, End, Spot};
 use gt_types::{Denial, DomId};
 
-/// The arguments of a copy. Bit 0 of the flags is set if the source is a reference, bit 1 if the destination is one.
+/// The arguments of a copy. Bit 0 of the flags is set if the source is a grant reference, bit 1 if the destination is
+/// one (`GNTCOPY_*` of `grant_table.h`).
 #[repr(C)]
 #[derive(Clone, Copy)]
 pub struct CopySettings {
@@ -30,7 +31,7 @@ pub struct PlaceReport {
     pub off: u16,
 }
 
-/// Where a copy may read and write: `len` bytes, from the one place to the other.
+/// The places of a copy: `len` bytes may be read at `from` and written at `to`.
 #[repr(C)]
 #[derive(Clone, Copy)]
 pub struct PlacesReport {
@@ -39,7 +40,7 @@ pub struct PlacesReport {
     pub len: u16,
 }
 
-/// Whether a copy began, and what it may touch: all zeros if it did not.
+/// Whether a copy began, and its places: all zeros if it did not.
 #[repr(C)]
 #[derive(Clone, Copy)]
 pub struct BegunReport {
@@ -84,7 +85,7 @@ const NO_PLACE: PlaceReport = PlaceReport {
     off: 0,
 };
 
-// The places of a copy that did not begin.
+// Returns the places of a copy that did not begin: zeros.
 fn no_places() -> PlacesReport
     ensures { result ≡ no_places }
 {
@@ -95,7 +96,7 @@ fn no_places() -> PlacesReport
     }
 }
 
-// The places, if the copy began.
+// Converts the places of a copy; zeros if it was refused.
 fn places_report(begun: Result<CopyPlaces, Denial>) -> PlacesReport
     ensures { result ≡ places_report begun }
 {
@@ -118,8 +119,8 @@ fn begun(answer: Result<CopyPlaces, Denial>) -> AttachedOutcome
     }
 }
 
-/// Begins a copy: takes its pins, and answers the two places that may be touched until it ends. If it is refused, no
-/// pin is kept and the places are all zeros.
+/// Begins a copy: takes its pins, and returns the places where bytes may be read and written until it ends. After a
+/// refusal no pin is kept, and the places are all zeros.
 #[unsafe(no_mangle)]
 pub extern "C" fn gthost_copy_begin_at(domain: &mut DomainHandle, copy: CopySettings) -> BegunReport
     ensures { BeginsCopy copy result domain.old.held.value domain.new.held.value }
@@ -135,7 +136,7 @@ pub extern "C" fn gthost_copy_begin_at(domain: &mut DomainHandle, copy: CopySett
     BegunReport { answer, places }
 }
 
-/// Ends the copy that the domain is in: its pins are given back, the last one first.
+/// Ends the copy that the domain is in: releases its pins, the last one first.
 #[unsafe(no_mangle)]
 pub extern "C" fn gthost_copy_end_at(domain: &mut DomainHandle) -> EncodedAnswer
     ensures { CopyEnds result domain.old.held.value domain.new.held.value }

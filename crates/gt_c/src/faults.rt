@@ -1,8 +1,8 @@
-//! Why a run did not start, in words.
+//! The reasons why a run did not start, in words.
 ghost use Rattle.std.specs.Prelude.{◌≡◌, ◌<◌, ◌-◌, ◌++◌, length, replicate};
 ghost use Rattle.gt_c.specs.Faults.{fault_bytes};
 
-/// A text of `len` bytes, and zeros after them.
+/// A text of `len` bytes, followed by zeros.
 #[repr(C)]
 #[derive(Clone, Copy)]
 pub struct FaultText {
@@ -40,7 +40,7 @@ fn text_of(kind: u32) -> &'static str
     }
 }
 
-// The bytes, and zeros after them.
+// Returns the bytes, followed by zeros.
 fn padded(text: &[u8]) -> [u8; 80]
     requires { length text.now < 80 }
     ensures { result ≡ text.now ++ replicate (80 - length text.now) 0 }
@@ -50,7 +50,7 @@ fn padded(text: &[u8]) -> [u8; 80]
     all
 }
 
-/// What a kind of fault means: `len` bytes, and zeros after them.
+/// Returns what a kind of fault means: `len` bytes, followed by zeros.
 #[unsafe(no_mangle)]
 pub extern "C" fn gthost_fault_text(kind: u32) -> FaultText
     ensures len { result.len ≡ length (fault_bytes kind) }

@@ -1,4 +1,4 @@
-//! A handle of a domain, which C holds.
+//! The handle of a domain, which C holds.
 ghost use Rattle.std.specs.Prelude.{◌≡◌, Some, None, IsSome, true, false};
 ghost use Rattle.std.specs.Option.{option_map};
 
@@ -8,7 +8,7 @@ use crate::parts::BoxParts;
 use std::alloc::Global;
 use std::mem;
 
-/// A handle of a domain, or of none: then it is all zeros, and owns nothing.
+/// The handle of a domain. Without a domain it is all zeros, and owns nothing.
 #[repr(C)]
 #[derive(Drop)]
 pub struct DomainHandle {
@@ -22,7 +22,7 @@ impl DomainHandle {
     ghost use Rattle.std.specs.Prelude.{◌≡◌, Some, None, true, false};
     ghost use Rattle.std.specs.Option.{option_map};
 
-    /// Takes the domain out, and leaves a handle of none. None if the handle has no domain.
+    /// Takes the domain out, and leaves the handle without one. Returns `None` if it has none.
     pub fn take(&mut self, alloc: Global) -> Option<Box<CDomain>>
         ensures taken { option_map (λ b. b.value) result ≡ self.old.held.value }
         ensures gone { (self.new.is_live ≡ false) × (self.new.held.value ≡ None) }
@@ -38,7 +38,7 @@ impl DomainHandle {
         Some(held.into_parts().into_box())
     }
 
-    /// Puts a domain into a handle of none.
+    /// Puts a domain into a handle without one.
     pub fn put(&mut self, here: Box<CDomain>)
         requires { self.old.held.value ≡ None }
         ensures { (self.new.is_live ≡ true) × (self.new.held.value ≡ Some here.value) }

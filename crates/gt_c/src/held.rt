@@ -1,4 +1,4 @@
-//! A box as a pointer that C may hold, or none.
+//! A box as a pointer that C may hold, or null.
 ghost use Rattle.std.specs.Prelude.{◌≡◌, Option, Some, None, IsSome};
 ghost use Rattle.std.specs.Box.Ownership.{box_owns};
 ghost use Rattle.gt_c.specs.declared.here.CDomain.{CDomain};
@@ -11,7 +11,7 @@ use std::alloc::Global;
 use std::marker::Model;
 use std::ptr;
 
-/// A box as a pointer that C may hold.
+/// A box as a pointer that C may hold, or null.
 #[repr(C)]
 #[derive(Drop)]
 pub struct RawBox {

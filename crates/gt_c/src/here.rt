@@ -3,7 +3,7 @@
 use gt_allow::AllowTable;
 use gt_attached::AttachedDomain;
 
-/// A domain under the rights of a compiled policy, and the number that its run was given.
+/// A domain with the rights of a compiled policy, and the number of its run.
 #[derive(Drop)]
 pub struct CDomain {
     pub guest: AttachedDomain<AllowTable>,

@@ -1,8 +1,8 @@
-//! What each rule of an answer means, and the version.
+//! What each rule means, and the version of the library.
 ghost use Rattle.std.specs.Prelude.{◌≡◌, ◌<◌, ◌-◌, ◌++◌, length, replicate};
 ghost use Rattle.gt_c.specs.Rules.{rule_bytes, unmade_bytes};
 
-/// A line of `len` bytes, and zeros after them.
+/// A line of `len` bytes, followed by zeros.
 #[repr(C)]
 #[derive(Clone, Copy)]
 pub struct RuleText {
@@ -10,10 +10,10 @@ pub struct RuleText {
     pub bytes: [u8; 240],
 }
 
-/// The version of the library: 65,536 times the first number, and 256 times the second, and the third.
+/// The version of the library: 65,536 times the major number, plus 256 times the minor one, plus the patch number.
 const VERSION: u32 = 0x0001_0000;
 
-// The lines of the rules, at their numbers: 0 is no rule, but Ok.
+// The lines of the rules, by number; 0 is Ok.
 const LINES: [&str; 27] = [
     "ok",
     "N1 -2 GNTST_bad_domain: a domain named, or the one that a transitive entry leads to, is not of the run; \
@@ -54,7 +54,7 @@ const LINES: [&str; 27] = [
     "N26 -1 GNTST_general_error: memory was refused; try again when there is memory",
 ];
 
-// Why a call was not made.
+// Returns why a call was not made.
 fn unmade(rule: u32) -> &'static str
     ensures says { result.now ≡ unmade_bytes rule }
     ensures fits { length result.now < 240 }
@@ -82,7 +82,7 @@ fn text_of(rule: u32) -> &'static str
     }
 }
 
-// The bytes, and zeros after them.
+// Returns the bytes, followed by zeros.
 fn padded(text: &[u8]) -> [u8; 240]
     requires { length text.now < 240 }
     ensures { result ≡ text.now ++ replicate (240 - length text.now) 0 }
@@ -92,8 +92,8 @@ fn padded(text: &[u8]) -> [u8; 240]
     all
 }
 
-/// What the rule of an answer means: its name, its status, why it refuses, and what the caller may do, as `gthost
-/// rules` prints it.
+/// Returns what the rule of an answer means, as `gthost rules` prints it: its name, its status, why it refuses, and
+/// what the caller may do.
 #[unsafe(no_mangle)]
 pub extern "C" fn gthost_rule_text(rule: u32) -> RuleText
     ensures len { result.len ≡ length (rule_bytes rule) }
@@ -106,7 +106,7 @@ pub extern "C" fn gthost_rule_text(rule: u32) -> RuleText
     }
 }
 
-/// The version of the library. It is `GTHOST_VERSION` of the header of the same release.
+/// Returns the version of the library. It is `GTHOST_VERSION` of the header of the same release.
 #[unsafe(no_mangle)]
 pub extern "C" fn gthost_version() -> u32
     ensures { result ≡ 65536 }

@@ -1,4 +1,4 @@
-//! What a domain has and keeps: its mappings, and the records of its calls.
+//! What a domain has and keeps: its mappings, its entries, and the records of its calls.
 ghost use Rattle.std.specs.Prelude.{◌≡◌};
 ghost use Rattle.gt_c.specs.Calling.{outcome_reserved};
 ghost use Rattle.gt_c.specs.Promises.{Bounds, MakesRoom, TakesRecords, TellsEntry, TellsMapping, TellsRecord};
@@ -14,7 +14,7 @@ use gt_entry::{Control, EntryKind};
 use gt_types::{Dir, GrantRef, Memory};
 use std::alloc::Global;
 
-/// What is mapped: this frame of this owner, by this entry. It may be written if `writes` is 1.
+/// What is mapped: this frame of this owner, by this entry. `writes` is 1 if it may be written, else 0.
 #[repr(C)]
 #[derive(Clone, Copy)]
 pub struct MappedFrame {
@@ -24,7 +24,7 @@ pub struct MappedFrame {
     pub writes: u16,
 }
 
-/// Whether there is such a mapping, and which: all zeros if there is none.
+/// Whether there is such a mapping, and what it maps: all zeros if there is none.
 #[repr(C)]
 #[derive(Clone, Copy)]
 pub struct MappingReport {
@@ -32,8 +32,8 @@ pub struct MappingReport {
     pub mapping: MappedFrame,
 }
 
-/// What one look at an entry found: its kind (0 Invalid, 1 a page, 2 bytes of one, 3 another grant), its generation,
-/// its pins, whom it permits, and 1 if it only lets read.
+/// What a look at an entry found: its kind (0 Invalid, 1 Page, 2 Sub, 3 Via), its generation, its pins, the domain that
+/// it permits, and 1 if it is read-only.
 #[repr(C)]
 #[derive(Clone, Copy)]
 pub struct EntryStatus {
@@ -53,7 +53,7 @@ pub struct EntryReport {
     pub entry: EntryStatus,
 }
 
-/// Whether there is such a record, and which: all zeros if there is none.
+/// Whether there is such a record, and its contents: all zeros if there is none.
 #[repr(C)]
 #[derive(Clone, Copy)]
 pub struct RecordReport {
@@ -70,7 +70,7 @@ fn writes(dir: Dir) -> u16
     }
 }
 
-// No mapping.
+// Returns the report of no mapping.
 fn no_mapping() -> MappedFrame
     ensures { result ≡ no_mapping }
 {
@@ -82,7 +82,7 @@ fn no_mapping() -> MappedFrame
     }
 }
 
-// The mapping, if there is one.
+// Converts a mapping, if there is one.
 fn mapping_report(found: Option<HeldPin>) -> MappedFrame
     ensures { result ≡ mapping_report found }
 {
@@ -114,7 +114,7 @@ fn read_only_code(ro: bool) -> u16
     if ro { 1 } else { 0 }
 }
 
-// No entry.
+// Returns the report of no entry.
 fn no_entry() -> EntryStatus
     ensures { result ≡ no_entry }
 {
@@ -128,7 +128,7 @@ fn no_entry() -> EntryStatus
     }
 }
 
-// What was found, if there is such an entry.
+// Converts what a look found, if there is such an entry.
 fn entry_status(found: Option<Control>) -> EntryStatus
     ensures { result ≡ entry_status found }
 {
@@ -151,7 +151,7 @@ const NO_END: CopyEnd = CopyEnd {
     off: 0,
 };
 
-// No record.
+// Returns the report of no record.
 fn no_record() -> EncodedRecord
     ensures { result ≡ no_record }
 {
@@ -168,7 +168,7 @@ fn no_record() -> EncodedRecord
     }
 }
 
-// The record, if there is one.
+// Converts a record, if there is one.
 fn encoded_record(found: Option<gt_audit::Record>) -> EncodedRecord
     ensures { result ≡ kept_record found }
 {
@@ -196,7 +196,7 @@ fn reserved(answer: Result<(), Memory>) -> AttachedOutcome
     }
 }
 
-/// Answers the mapping of this name: all zeros if there is none.
+/// Returns the mapping with this name, or zeros if there is none.
 #[unsafe(no_mangle)]
 pub extern "C" fn gthost_mapping_at(domain: &mut DomainHandle, name: MapHandle) -> MappingReport
     ensures { TellsMapping name result domain.old.held.value domain.new.held.value }
@@ -213,7 +213,7 @@ pub extern "C" fn gthost_mapping_at(domain: &mut DomainHandle, name: MapHandle) 
     MappingReport { answer, mapping }
 }
 
-/// Looks once at an entry of the caller, and answers its kind, its generation and its pins.
+/// Looks once at an entry of the caller, and returns its kind, its generation and its pins.
 #[unsafe(no_mangle)]
 pub extern "C" fn gthost_entry_at(domain: &mut DomainHandle, gref: u32) -> EntryReport
     ensures { TellsEntry gref result domain.old.held.value domain.new.held.value }
@@ -229,7 +229,7 @@ pub extern "C" fn gthost_entry_at(domain: &mut DomainHandle, gref: u32) -> Entry
     EntryReport { answer, entry }
 }
 
-/// Answers the record at a place, counted from 0, in the order of the calls: all zeros if there is none.
+/// Returns the record at an index, starting at 0, in the order of the calls, or zeros if there is none.
 #[unsafe(no_mangle)]
 pub extern "C" fn gthost_record_at(domain: &mut DomainHandle, index: usize) -> RecordReport
     ensures { TellsRecord index result domain.old.held.value domain.new.held.value }
@@ -245,7 +245,7 @@ pub extern "C" fn gthost_record_at(domain: &mut DomainHandle, index: usize) -> R
     RecordReport { answer, kept }
 }
 
-/// Lets the domain keep a record from now on only while it has fewer than `records`; with 0 it keeps none.
+/// Bounds the records: a call is recorded only while there are fewer than `records`. With 0 no call is recorded.
 #[unsafe(no_mangle)]
 pub extern "C" fn gthost_keep_at_most_at(domain: &mut DomainHandle, records: usize) -> EncodedAnswer
     ensures { Bounds records result domain.old.held.value domain.new.held.value }
@@ -258,7 +258,7 @@ pub extern "C" fn gthost_keep_at_most_at(domain: &mut DomainHandle, records: usi
     EncodedAnswer::of(AttachedOutcome::Done)
 }
 
-/// Lets the records go, and keeps their room. Answers how many there were, and how many were lost before.
+/// Drops the records, and keeps their room. Returns the number of records, and the number lost before.
 #[unsafe(no_mangle)]
 pub extern "C" fn gthost_take_records_at(alloc: Global, domain: &mut DomainHandle) -> EncodedAnswer
     ensures { TakesRecords result domain.old.held.value domain.new.held.value }
@@ -271,7 +271,7 @@ pub extern "C" fn gthost_take_records_at(alloc: Global, domain: &mut DomainHandl
     EncodedAnswer::of(AttachedOutcome::Taken(taken))
 }
 
-/// Makes room for this many more records, which then take no memory.
+/// Makes room for `records` more records, which then need no allocation.
 #[unsafe(no_mangle)]
 pub extern "C" fn gthost_reserve_records_at(
     domain: &mut DomainHandle,

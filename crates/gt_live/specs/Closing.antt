@@ -1,4 +1,4 @@
--- How a domain closes its table, and what one look at an entry of its own finds.
+-- How a domain closes its table, and what a look at one of its entries finds.
 use Rattle.std.specs.Prelude.{◌≡◌, ◌⊎◌, ◌<◌, ◌≤◌, ℕ, Bool, true, nat_lt, not, ◌||◌, List, length, count_by, HoldsAt, Option, Some, None}
 use Rattle.gt_entry.specs.declared.control.Control.{Control}
 use Rattle.gt_entry.specs.declared.control.EntryKind.TheVariants.{Invalid as NoKind}
@@ -10,11 +10,11 @@ use Rattle.gt_live.specs.Prelude.{Refused, TABLE_ENTRIES, View, Word, control_of
 use Rattle.gt_live.specs.Domains.{AllowRelation, Answered, IsUnsettled, KeepsPinned, Released}
 use Rattle.gt_live.specs.Walks.{Made, view_after}
 
--- the view w is v and some steps more
+-- the view w is the view v with some more steps
 abbrev pub GoesOn : View → View → Type 0
 GoesOn v w = (steps : List Moment) × (w ≡ view_after steps v)
 
--- the domain went on with the seat, mappings, pins and records that it had, and locked no frame
+-- the domain continues with the seat, mappings, pins and records that it had, and locked no frame
 pub record StaysQuiet (d e : Domain) : Type 0 where
   pub seat : IsSameSeat d.seat e.seat
   pub pinned : KeepsPinned d e
@@ -30,11 +30,11 @@ has_pins c = nat_lt 0 c.reads || nat_lt 0 c.writes
 abbrev pub is_used : Control → Bool
 is_used c = not (is_kind c.kind NoKind) || has_pins c
 
--- the same of a control word
+-- the control word is of an entry that is in use
 abbrev pub is_in_use : ℕ → Bool
 is_in_use word = is_used (control_of word)
 
--- between two views, a look of the domain at an entry of its own found this word
+-- between two views, a look of the domain at one of its entries found this word
 pub record FindsOwn (k : Layout) (d : Domain) (r word : ℕ) (v w : View) : Type 0 where
   pub before : View
   pub after : View
@@ -51,19 +51,19 @@ pub record IsMissed {P : Type 0} (may : P → AllowRelation) (m : Monitor P) (r 
   pub since : GoesOn v before.seat.view
   pub until : GoesOn after.seat.view w
 
--- an entry is shut: it is Invalid; or its withdrawal was refused
+-- an entry is shut: it is Invalid, or its withdrawal was refused
 abbrev pub IsShut : {P : Type 0} → (P → AllowRelation) → Monitor P → Domain → ℕ → Domain → Type 0
 IsShut may m d r e = (entry_in e.own.items r ≡ Invalid) ⊎ IsMissed may m r d.seat.view e.seat.view
 
--- an entry was closed, and a look then found this word: it is shut, and if it is valid still the word says so
+-- an entry was closed, and a look then found this word: the entry is shut, and if it is still valid the word shows it
 pub record ClosesRow {P : Type 0} (may : P → AllowRelation) (m : Monitor P) (d : Domain) (r word : ℕ) (e : Domain)
     : Type 0 where
   pub shut : IsShut may m d r e
   pub found : FindsOwn m.words.layout d r word d.seat.view e.seat.view
   pub counted : (entry_in e.own.items r ≡ Invalid) ⊎ (is_in_use word ≡ true)
 
--- Each entry of the domain was closed, and so many of them are in use still: by the words that a look at each found
--- after it was closed, they have pins, or could not be withdrawn
+-- each entry of the domain was closed, and left of them are still in use: by the words that a look at each found after
+-- it was closed, they have pins or could not be withdrawn
 pub record Closes {P : Type 0} (may : P → AllowRelation) (m : Monitor P) (d : Domain) (left : ℕ) (e : Domain)
     : Type 0 where
   pub words : List ℕ
@@ -71,7 +71,7 @@ pub record Closes {P : Type 0} (may : P → AllowRelation) (m : Monitor P) (d : 
   pub left_is : left ≡ count_by is_in_use words
   pub rows : (r : ℕ) → r < TABLE_ENTRIES → HoldsAt (λ word. ClosesRow may m d r word e) words r
 
--- The domain gave up each of its mappings, and then each of its entries was closed, of which so many are in use still
+-- the domain released each of its mappings, and then each of its entries was closed, of which left are still in use
 pub record Resets {P : Type 0} (may : P → AllowRelation) (m : Monitor P) (d : Domain) (left : ℕ) (e : Domain)
     : Type 0 where
   pub between : Domain
@@ -83,7 +83,7 @@ pub record Resets {P : Type 0} (may : P → AllowRelation) (m : Monitor P) (d : 
   pub closes : Closes may m between left e
   pub none : IsEmpty e.mappings
 
--- One look at an entry of the domain's own found this control word, and nothing else changed; none was made if its
+-- a look at one of the domain's entries found this control word, and nothing else changed; no look was made if its
 -- table has no such entry
 abbrev pub LooksAtOwn : Layout → Domain → GrantRef → Option Control → Domain → Type 0
 LooksAtOwn k d gref None e = (size_of (own_table d.seat.view) ≤ gref.0) × (e ≡ d)

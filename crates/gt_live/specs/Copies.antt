@@ -1,5 +1,5 @@
--- A copy whose steps are written out: what each part of its walk leads to. The code's own representation. It is in
--- specs/ because contracts cite it.
+-- A copy whose steps are written out: the phase that each part of its walk leads to. The code's own representation. It
+-- is in specs/ because contracts cite it.
 use Rattle.std.specs.Prelude.{◌≡◌, List, [], ◌∷◌, Some, None, Result, Ok, Err}
 use Rattle.gt_live.specs.Prelude.{DomId, Read, Write, GrantRef, Denial, Layout, View, Nothing, Unpin, Refused, Phase}
 use Rattle.gt_live.specs.Prelude.{Accessing, Ending, Walking, PinPurpose, Source, Dest, HeldPin, CallPins, AccessPath, Leg, Header}
@@ -15,26 +15,26 @@ use Rattle.gt_live.specs.Walks.{Made}
 abbrev pub copy_call : DomId → CopyArgs → Phase → Call
 copy_call caller copy phase = record { caller = caller; request = Copy copy; phase = Some phase }
 
--- the same before its first step
+-- the call that a copy is before its first step
 abbrev pub unmoved_copy : DomId → CopyArgs → Call
 unmoved_copy caller copy = record { caller = caller; request = Copy copy; phase = None }
 
--- the pin of this Via is the last that is held for the aim
+-- the pin of this Via is the last one held for the purpose
 abbrev pub IsLastOf : HeldPin → PinPurpose → Type 0
 IsLastOf via aim = (others : List HeldPin) × (last_first (pins_so_far aim) ≡ via ∷ others)
 
--- what follows the second leg of an end: what follows its pin, or the end of the call once the pin of the Via is given
--- back
+-- the phase after the second leg of an end: the one after its pin, or the end of the call, where the pin of the Via is
+-- released
 abbrev pub after_through : CallerKnowledge → DomId → PinPurpose → Leg → DomId → GrantRef → Result HeldPin Denial → Phase
 after_through c caller aim first dom gref (Ok p) = after_pin_of c caller aim (second_leg c first dom gref) p
 after_through c caller aim first dom gref (Err denial) = Ending (without_last (pins_so_far aim)) (Refused denial)
 
--- an answer together with what it wrote
+-- a result together with the value that was written
 abbrev pub filled : {A : Type 0} → Result (Unit {0}) Denial → A → Result A Denial
 filled (Ok done) value = Ok value
 filled (Err denial) value = Err denial
 
--- a copy before the leg to its source, and after it
+-- the phases of a copy before the leg to its source, and after it
 abbrev pub source_leg : CallerKnowledge → DomId → CopyArgs → Phase
 source_leg c caller copy = Walking (Source copy None) (end_leg c caller copy.source Read copy.len) Header
 
@@ -42,7 +42,7 @@ abbrev pub phase_after_source : CallerKnowledge → DomId → CopyArgs → Resul
 phase_after_source c caller copy (Ok source) = at_dest c caller copy source
 phase_after_source c caller copy (Err denial) = Ending no_pins (Refused denial)
 
--- a copy before the leg to its destination, and after it
+-- the phases of a copy before the leg to its destination, and after it
 abbrev pub dest_leg : CallerKnowledge → DomId → CopyArgs → AccessPath → Phase
 dest_leg c caller copy source = Walking (Dest copy source None) (end_leg c caller copy.dest Write copy.len) Header
 
@@ -50,7 +50,7 @@ abbrev pub after_dest : CopyArgs → AccessPath → Result AccessPath Denial →
 after_dest copy source (Ok dest) = Accessing copy source dest
 after_dest copy source (Err denial) = Ending (record { source = source; dest = Own }) (Refused denial)
 
--- a copy at its access, or at its end if it was refused before
+-- the phase of a copy at its access, or at its end if it was refused before
 abbrev pub after_copy : CopyArgs → Result CallPins Denial → Phase
 after_copy copy (Ok pins) = Accessing copy pins.source pins.dest
 after_copy copy (Err denial) = Ending no_pins (Refused denial)
@@ -62,12 +62,12 @@ CopyStopsWith c k caller copy (Ok pins) v w =
     (place_of caller copy.source pins.source) (place_of caller copy.dest pins.dest) copy.len v w
 CopyStopsWith c k caller copy (Err denial) v w = EndsRefused c k (unmoved_copy caller copy) (Refused denial) v w
 
--- these pins were given back, the first of them first, and nothing else was done
+-- these pins were released, in the order of the list, and nothing else was done
 abbrev pub IsGivenBack : Layout → List HeldPin → View → View → Type 0
 IsGivenBack k [] v w = w ≡ v
 IsGivenBack k (p ∷ ps) v w = (u : View) × Made k (Unpin p (ByLeg 0)) Nothing v u × IsGivenBack k ps u w
 
--- these pins can be given back, the first of them first
+-- these pins can be released, in the order of the list
 abbrev pub CanGiveBack : Layout → List HeldPin → View → Type 0
 CanGiveBack k [] v = Unit {0}
 CanGiveBack k (p ∷ ps) v =

@@ -1,4 +1,4 @@
--- What a domain keeps, how that agrees with what its seat did, and how its calls are answered.
+-- What a domain keeps, how it agrees with what its seat did, and the results of its calls.
 use Rattle.std.specs.Prelude.{◌≡◌, ◌⊎◌, ℕ, ◌<◌, Bool, length, List, [], ◌∷◌, Option, Some, None, Result, Ok, Err}
 use Rattle.gt_live.specs.Prelude.{DomId, TypeId, GrantRef, Size, Hypercall, Record, Reply, Perms, Config}
 use Rattle.gt_live.specs.Prelude.{Denial, N16, N26, NoFacts, TABLE_ENTRIES, denial_of, Board, IsSameSeat, IsSeatOf}
@@ -19,16 +19,16 @@ use Rattle.gt_live.specs.Ending.{IsWordless}
 use Rattle.gt_live.specs.Visiting.{HasVisited}
 use Rattle.gt_live.specs.Walks.{AreMoments, Called, view_after}
 
--- whose type may do what to whose (XSM FLASK)
+-- which type may do what to which type (XSM FLASK)
 abbrev pub AllowRelation : Type 0
 AllowRelation = TypeId → TypeId → Perms → Bool
 
--- what a domain knows by itself
+-- what a domain knows without a look
 abbrev pub knowledge : Config → AllowRelation → Domain → CallerKnowledge
 knowledge c may d = knowledge_of c.domains.items c.first_gen may d.own.items (own_table d.seat.view) d.mappings
 
--- the domain is of the run of these words and knows its own entries, and
--- its seat has just the pins of its mappings
+-- the domain belongs to the run of these words and knows its own entries, and its seat has exactly the pins of its
+-- mappings
 pub record IsDomainOf (b : Board) (c : Config) (may : AllowRelation) (d : Domain) : Type 0 where
   pub seat : IsSeatOf b d.seat
   pub rows : (r : ℕ) → r < TABLE_ENTRIES → last_of r d.seat.view
@@ -43,53 +43,53 @@ pub record IsDomainOf (b : Board) (c : Config) (may : AllowRelation) (d : Domain
 abbrev pub BelongsTo : {P : Type 0} → (P → AllowRelation) → Monitor P → Domain → Type 0
 BelongsTo may m d = IsDomainOf m.words m.config (may m.rights) d
 
--- what the domain knows by itself, and what the monitor allows
+-- what the domain knows without a look, and what the monitor allows
 abbrev pub known_on : {P : Type 0} → (P → AllowRelation) → Monitor P → Domain → CallerKnowledge
 known_on may m d = knowledge m.config (may m.rights) d
 
--- a call of the domain d asked this and was answered so, after which the domain is e: its steps are those
--- of the call's path, each made as the words say, and the answer is the path's
+-- a call of the domain d had this request and this result, and the domain is then e: its steps are those of the call's
+-- path, each made as the words promise, and the result is the path's
 abbrev pub Answered : {P : Type 0} → (P → AllowRelation) → Monitor P → Domain → Request → CallResult → Domain → Type 0
 Answered may m d request verdict e =
     Called m.words.layout (path_of (known_on may m d) d.seat.dom request) verdict d.seat.view e.seat.view
 
--- the same of a call with an access, whose answer says this of it
+-- the same for a call with an access, whose value agrees with that access (tells)
 abbrev pub Accesses : {P R : Type 0} → (P → AllowRelation) → Monitor P → Domain → Request → (Step → R → Type 0)
     → Result R Denial → Domain → Type 0
 Accesses may m d request tells result e =
     AnsweredAtAccess m.words.layout (path_of (known_on may m d) d.seat.dom request) tells result d.seat.view e.seat.view
 
--- the domain has the mappings and pins that it had
+-- the domain has the same mappings and pins as before
 abbrev pub KeepsPinned : Domain → Domain → Type 0
 KeepsPinned d e = KeepsMappings d.mappings e.mappings × KeepsPins d.seat.view e.seat.view
 
--- the refusal of an answer; Ok, if there is none
+-- the refusal of a result; Ok if there is none
 abbrev pub outcome_of : {R : Type 0} → Result R Denial → CallResult
 outcome_of (Ok value) = Granted
 outcome_of (Err denial) = Refused denial
 
--- the answer that a verdict gives to a call without a value
+-- the result of a call without a value
 abbrev pub verdict_of : Result (Unit {0}) Denial → CallResult
 verdict_of result = outcome_of result
 
--- the same of a call that answers a version (grant_table.h)
+-- the result of a call that returns a version (grant_table.h)
 abbrev pub verdict_of_version : Result ℕ Denial → CallResult
 verdict_of_version (Ok version) = Given (Version version)
 verdict_of_version (Err denial) = Refused denial
 
--- of a call that answers a table's size (grant_table.h)
+-- the result of a call that returns a table's size (grant_table.h)
 abbrev pub verdict_of_size : Result Size Denial → CallResult
 verdict_of_size (Ok size) = Given (SizeTold size)
 verdict_of_size (Err denial) = Refused denial
 
--- and of one that answers how many frames a table then has (grant_table.h)
+-- the result of a call that returns the number of frames that a table then has (grant_table.h)
 abbrev pub verdict_of_frames : Result ℕ Denial → CallResult
 verdict_of_frames (Ok frames) = Given (Frames frames)
 verdict_of_frames (Err denial) = Refused denial
 
--- A map is answered so: by its path, which ends with the mapping that is kept under the handle answered; or,
--- if no rule stood at its beginning, no room for a mapping was left and no memory was there, by N26 after
--- no step
+-- the result of a map. Either it is the result of its path, which ends with the mapping that is kept under the returned
+-- handle. Or no rule applied at its beginning and there was no room and no memory for a mapping: then it is N26, and no
+-- step was made
 abbrev pub MapAnswered : {P : Type 0} → (P → AllowRelation) → Monitor P → Domain → Request → Result Handle Denial
     → Domain → Type 0
 MapAnswered may m d request (Ok handle) e =
@@ -100,12 +100,12 @@ MapAnswered may m d request (Err denial) e =
     × (d.mappings.room ≡ 0) × (e.seat.view ≡ d.seat.view)))
     × KeepsPinned d e
 
--- a rule stood at the beginning of this request, and refuses it without a word of an entry
+-- a rule applies at the beginning of this request, and refuses it without a word of an entry
 pub record IsRefused (c : CallerKnowledge) (caller : DomId) (request : Request) (denial : Denial) : Type 0 where
   pub answered : begun_of c caller request ≡ Some (Refused denial)
   pub wordless : IsWordless denial.facts
 
--- the seat has gone on, and nothing else has changed yet
+-- only the seat of the domain has made steps, and nothing else has changed yet
 pub record IsUnsettled (d e : Domain) : Type 0 where
   pub seat : IsSameSeat d.seat e.seat
   pub own : e.own ≡ d.own
@@ -113,7 +113,7 @@ pub record IsUnsettled (d e : Domain) : Type 0 where
   pub trail : e.trail ≡ d.trail
   pub visits : e.visits ≡ d.visits
 
--- a domain of a run stays one of it
+-- a domain of a run is still one of it
 abbrev pub StaysOfRun : Domain → Domain → Type 0
 StaysOfRun d e = (b : Board) (c : Config) (may : AllowRelation) → IsDomainOf b c may d → IsDomainOf b c may e
 
@@ -122,22 +122,22 @@ abbrev pub done_by : CallResult → Result (Unit {0}) Denial
 done_by (Refused denial) = Err denial
 done_by verdict = Ok tt
 
--- the number of frames that is answered, 0 if none is
+-- the number of frames in a result, 0 if it has none
 abbrev pub frames_granted : CallResult → Result ℕ Denial
 frames_granted (Refused denial) = Err denial
 frames_granted (Given (Frames frames)) = Ok frames
 frames_granted verdict = Ok 0
 
--- the pins of the mappings under these handles were given back, one after
--- another, the last handle first, and nothing else was done
+-- the pins of the mappings under these handles were released, one after another, the last handle first, and nothing
+-- else was done
 abbrev pub Released : Layout → List Handle → HandleMap HeldPin → View → HandleMap HeldPin → View → Type 0
 Released k [] old v new w = (new ≡ old) × (w ≡ v)
 Released k (h ∷ hs) old v new w =
     (m : HeldPin) × (mid : HandleMap HeldPin) × (u : View) × Released k hs old v mid u × Removes mid new h m
     × Unpins k (position_in k.ids m.dom) m.gref.0 m.dir (generation_of m.word) u w
 
--- A domain has left: the pin of each of its mappings was given back, one after another
--- and nothing else, each at its moment, and its seat has none
+-- a domain has left: the pin of each of its mappings was released, one after another, each at its moment, and nothing
+-- else was done; its seat has no pin
 pub record HasLeft (k : Layout) (d : Domain) (l : Departed) : Type 0 where
   pub handles : List Handle
   pub rest : HandleMap HeldPin
@@ -155,12 +155,12 @@ abbrev pub denial_in : CallResult → Denial
 denial_in (Refused denial) = denial
 denial_in verdict = denial_of N26 NoFacts
 
--- how an access that was not made is refused
+-- the refusal of a call whose access was not made
 abbrev pub not_made : NotMade → Denial
 not_made Gone = denial_of N16 NoFacts
 not_made OutOfMemory = denial_of N26 NoFacts
 
--- what a record keeps of an answer
+-- what a record keeps of a result
 abbrev pub reply_of : CallResult → Reply
 reply_of Granted = replies.Done
 reply_of (Mapped p) = replies.Done
@@ -169,11 +169,11 @@ reply_of (Given (SizeTold size)) = replies.Size size
 reply_of (Given (Version version)) = replies.Version version
 reply_of (Refused denial) = replies.Denied denial
 
--- what a record keeps of a map's answer
+-- what a record keeps of the result of a map
 abbrev pub mapping_reply : Result Handle Denial → Reply
 mapping_reply result = reply_of (outcome_of result)
 
--- the answer that a reply says
+-- the result that a reply represents
 abbrev pub told_by : Reply → CallResult
 told_by replies.Done = Granted
 told_by (replies.Frames frames) = Given (Frames frames)
@@ -181,19 +181,19 @@ told_by (replies.Size size) = Given (SizeTold size)
 told_by (replies.Version version) = Given (Version version)
 told_by (replies.Denied denial) = Refused denial
 
--- the record of a call of this domain, which was answered so
+-- the record of a call of this domain with this result
 abbrev pub told_of : Domain → Hypercall → CallResult → Record
 told_of d call verdict = record { dom = d.seat.dom; call = call; reply = reply_of verdict }
 
--- A call that is not recorded was answered so: the domain has the mappings, pins and records that it had, and locked
--- no frame.
+-- a call that is not recorded had this result: the domain has the same mappings, pins and records as before, and locked
+-- no frame
 abbrev pub AnswersQuietly : {P : Type 0} → (P → AllowRelation) → Monitor P → Domain → Request → CallResult → Domain
     → Type 0
 AnswersQuietly may m d request verdict e =
     Answered may m d request verdict e × KeepsPinned d e × (e.trail ≡ d.trail) × (e.visits ≡ d.visits)
 
--- a call that is recorded was answered so: the domain has the mappings and pins that it had, and this call is the one
--- record more, which is kept or counted as lost; it locked no frame
+-- a call that is recorded had this result: the domain has the same mappings and pins as before, and one more record, of
+-- this call, which is kept or counted as lost; it locked no frame
 abbrev pub AnswersTold : {P : Type 0} → (P → AllowRelation) → Monitor P → Domain → Request → Hypercall → CallResult
     → Domain
     → Type 0
@@ -201,15 +201,15 @@ AnswersTold may m d request call verdict e =
     Answered may m d request verdict e × KeepsPinned d e × Tells d.trail (told_of d call verdict) e.trail
     × (e.visits ≡ d.visits)
 
--- An access to one frame was answered so: the domain has the mappings, pins and records that it had, and what was
--- answered is what it did to the frame under its lock.
+-- an access to one frame had this result: the domain has the same mappings, pins and records as before, and the value
+-- is what it did to the frame under its lock
 abbrev pub AccessesQuietly : {P R : Type 0} → (P → AllowRelation) → Monitor P → Domain → Request → (Step → R → Type 0)
     → (R → List FrameAccess → Type 0) → Result R Denial → Domain → Type 0
 AccessesQuietly may m d request tells did result e =
     Accesses may m d request tells result e × KeepsPinned d e × (e.trail ≡ d.trail)
     × HasVisited did result d.visits e.visits
 
--- the domain is of this monitor's run still, with the seat that it had
+-- the domain still belongs to this monitor's run, with the same seat
 abbrev pub StaysIn : {P : Type 0} → (P → AllowRelation) → Monitor P → Domain → Domain → Type 0
 StaysIn may m d e = BelongsTo may m e × IsSameSeat d.seat e.seat
 
@@ -218,15 +218,15 @@ abbrev pub subject_in : Option HeldPin → Option (DomId × GrantRef)
 subject_in None = None
 subject_in (Some p) = Some (p.dom, p.gref)
 
--- the entry that the mapping under this handle is of, if it has one
+-- the entry that the mapping under this handle is of, if there is one
 abbrev pub subject_of : Domain → Handle → Option (DomId × GrantRef)
 subject_of d handle = subject_in (value_of d.mappings handle)
 
--- what a record keeps of a copy's answer
+-- what a record keeps of the result of a copy
 abbrev pub copy_reply : Result Copying Denial → Reply
 copy_reply result = reply_of (outcome_of result)
 
--- the record of a copy that this domain asked, and that was answered so
+-- the record of a copy of this domain with this result
 abbrev pub told_copy : Domain → CopyArgs → Result Copying Denial → Record
 told_copy d c result =
     record {

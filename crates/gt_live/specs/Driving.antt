@@ -1,5 +1,5 @@
--- What a call needs of its seat where it is, and how it leaves it: the code's own
--- representation. It is in specs/ because contracts cite it.
+-- What a call requires of its seat at each point, and how it leaves it. The code's own representation. It is in specs/
+-- because contracts cite it.
 use Rattle.std.specs.Prelude.{◌≡◌, ℕ, ◌+◌, ◌^◌, ◌<◌, List, [], length, Some, None}
 use Rattle.gt_live.specs.Prelude.{DomId, DomainConfig, TABLE_ENTRIES, domain_of, Invalid, View, generation_of}
 use Rattle.gt_live.specs.Prelude.{CanChange, CanPin, HasDomain, Holds, KeepsPins, SeesNoEarlier, Changes, Unpins}
@@ -32,7 +32,7 @@ CanMake k v (StoreHeader version frames) = IsKeptHeader (record { version = vers
 CanMake k v (Exchange q looked change) = (q.0 < TABLE_ENTRIES) × CanChange change q.0 looked v
 CanMake k v step = ⊥
 
--- the seat has the pins and records that it had
+-- the seat has the same pins and records as before
 pub record IsSame (v w : View) : Type 0 where
   pub pins : KeepsPins v w
   pub records : (r : ℕ) → last_of r w ≡ last_of r v
@@ -51,8 +51,7 @@ pub record Knows (c : CallerKnowledge) (k : Layout) (caller : DomId) (v : View) 
   pub generations : (r : ℕ) → r < TABLE_ENTRIES → c.generation r < 1048576
   pub mapped : (h : Handle) (m : HeldPin) → c.mapping h ≡ Some m → HasPin k v m
 
--- a map took this pin, after looks only: of the entry and in the
--- direction that it was asked, which its caller may
+-- a map took this pin, after looks only: of the entry and in the direction asked for, as its caller may
 pub record MapsBy (c : CallerKnowledge) (k : Layout) (caller : DomId) (request : OpenRequest) (p : HeldPin)
     (v w : View) : Type 0 where
   pub asked : IsMap request
@@ -74,7 +73,7 @@ pub record ChangesBy (c : CallerKnowledge) (k : Layout) (request : OpenRequest) 
   pub changes : Changes k q change word before w
   pub fresh : c.generation q + raise_of change < 1048576
 
--- the pin of the mapping under this handle was given back, as it was asked
+-- the pin of the mapping under this handle was released, as asked
 pub record UnpinsBy (c : CallerKnowledge) (k : Layout) (request : OpenRequest) (handle : Handle) (v w : View) : Type 0 where
   pub asked : request ≡ asks.Unmap handle
   pub mapping : HeldPin
@@ -91,18 +90,17 @@ Leaves c k caller request v w (Unpinned handle) = UnpinsBy c k request handle v 
 Leaves c k caller request v w (Changed gref change) = ChangesBy c k request gref.0 change v w
 Leaves c k caller request v w Stored = IsSame v w × IsHeaderChange request
 
--- a call that goes on has only looked, and one that ends left the seat by what it did
+-- a call that continues has only looked, and one that ends left the seat by what it did
 abbrev pub StandsSo : CallerKnowledge → Layout → DomId → OpenRequest → View → View → Effect → Action → Type 0
 StandsSo c k caller request v w effect (Makes step) = IsSame v w
 StandsSo c k caller request v w effect (Done verdict) = Leaves c k caller request v w effect × Answers effect verdict
 
--- an answer that comes next carries a word of these steps
+-- a result that comes next carries a word of these steps
 abbrev pub ActionTells : Layout → View → List Moment → Action → Type 0
 ActionTells k v steps (Makes step) = Unit {0}
 ActionTells k v steps (Done verdict) = TellsSteps k v steps verdict
 
--- a call under way: it added steps to its seat's view, which are those of
--- its path, and the action is what comes next
+-- a call under way: it added the steps of its path to its seat's view, and the action comes next
 pub record Going (c : CallerKnowledge) (k : Layout) (effect : Effect) (v w : View) (call : Call)
     (action : Action) : Type 0 where
   pub steps : List Moment

@@ -1,4 +1,4 @@
--- What the last step of a call did beyond looking, and how the call is answered by it.
+-- What the last step of a call did if more than look, and the result of the call.
 use Rattle.std.specs.Prelude.{◌≡◌, ℕ}
 use Rattle.gt_types.specs.declared.DomId.{DomId}
 use Rattle.gt_types.specs.declared.GrantRef.{GrantRef}
@@ -16,7 +16,7 @@ use Rattle.gt_calls.specs.declared.request.PinHolder.TheVariants.{Mapping as ByH
 use Rattle.gt_live.specs.declared.driving.Effect.{Effect}
 use Rattle.gt_live.specs.declared.driving.Effect.TheVariants.{Nothing, Pinned, Unpinned, Changed, Stored}
 
--- what a step that saw this did
+-- what a step with this observation did
 abbrev pub effect_of : Step → Observation → Effect
 effect_of (Pin p) Taken = Pinned p
 effect_of (Unpin p (ByHandle handle)) seen = Unpinned handle
@@ -24,7 +24,7 @@ effect_of (Exchange gref looked change) Taken = Changed gref change
 effect_of (StoreHeader version frames) seen = Stored
 effect_of step seen = Nothing
 
--- a call that did this is answered so: what it did is granted, and nothing else is
+-- the result of a call that did this: what it did is granted, and nothing else
 abbrev pub Answers : Effect → CallResult → Type 0
 Answers Nothing (Refused denial) = Unit {0}
 Answers Nothing (Given value) = Unit {0}
@@ -53,13 +53,13 @@ IsFound caller step seen (facts.Entry dom gref word) = IsFoundAt caller step see
 IsFound caller step seen (facts.Header dom word) = IsFoundIn step seen dom word
 IsFound caller step seen other = Unit {0}
 
--- the same of an answer
+-- the same for a result
 abbrev pub TellsFound : DomId → Step → Observation → CallResult → Type 0
 TellsFound caller step seen (Refused denial) = IsFound caller step seen denial.facts
 TellsFound caller step seen verdict = Unit {0}
 
--- what follows a step that saw this: a step that did more than look is the last one,
--- and the call is answered by what its last step did and found
+-- what follows a step with this observation: a step that did more than look is the last one, and the call's result
+-- agrees with what its last step did and found
 abbrev pub EndsSo : DomId → Step → Observation → Action → Type 0
 EndsSo caller step seen (Makes next) = effect_of step seen ≡ Nothing
 EndsSo caller step seen (Done verdict) = Answers (effect_of step seen) verdict × TellsFound caller step seen verdict

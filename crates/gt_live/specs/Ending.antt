@@ -1,4 +1,4 @@
--- How calls without waiting are answered.
+-- The results of calls that don't wait.
 use Rattle.gt_types.specs.declared.denial.Facts.{Facts}
 use Rattle.gt_types.specs.declared.denial.Facts.TheVariants as facts
 use Rattle.gt_calls.specs.declared.request.OpenRequest.{OpenRequest}
@@ -7,7 +7,7 @@ use Rattle.gt_calls.specs.declared.action.CallValue.TheVariants as values
 use Rattle.gt_calls.specs.declared.action.CallResult.{CallResult}
 use Rattle.gt_calls.specs.declared.action.CallResult.TheVariants.{Granted, Given, Mapped, Refused}
 
--- the request is one whose steps are all on the words
+-- all steps of the request are on the words
 abbrev pub WaitsForNobody : OpenRequest → Type 0
 WaitsForNobody (asks.Load handle off len) = ⊥
 WaitsForNobody (asks.Store handle off len) = ⊥
@@ -16,7 +16,7 @@ WaitsForNobody (asks.Poke frame off len) = ⊥
 WaitsForNobody (asks.Copy c) = ⊥
 WaitsForNobody request = Unit {0}
 
--- the request is one whose steps have an access to bytes among them
+-- one of the steps of the request is an access to bytes
 abbrev pub IsAccessing : OpenRequest → Type 0
 IsAccessing (asks.Load handle off len) = Unit {0}
 IsAccessing (asks.Store handle off len) = Unit {0}
@@ -25,7 +25,7 @@ IsAccessing (asks.Poke frame off len) = Unit {0}
 IsAccessing (asks.Copy c) = Unit {0}
 IsAccessing request = ⊥
 
--- the answer is one of this request: a refusal, a mapping to a map, a value to a call that asks it, and else Ok
+-- the result fits this request: a refusal, a mapping for a map, a value for a call that asks for one, else Ok
 abbrev pub IsAnswerTo : OpenRequest → CallResult → Type 0
 IsAnswerTo request (Refused denial) = Unit {0}
 IsAnswerTo (asks.Map dom gref flags) (Mapped p) = Unit {0}
@@ -46,13 +46,13 @@ abbrev pub IsMap : OpenRequest → Type 0
 IsMap (asks.Map dom gref flags) = Unit {0}
 IsMap request = ⊥
 
--- the request takes a mapping, or gives one up
+-- the request maps or unmaps
 abbrev pub IsOfMapping : OpenRequest → Type 0
 IsOfMapping (asks.Map dom gref flags) = Unit {0}
 IsOfMapping (asks.Unmap handle) = Unit {0}
 IsOfMapping request = ⊥
 
--- the request changes an entry of the caller's own
+-- the request changes one of the caller's entries
 abbrev pub IsOwnChange : OpenRequest → Type 0
 IsOwnChange (asks.Grant gref entry) = Unit {0}
 IsOwnChange (asks.Revoke gref) = Unit {0}
@@ -73,7 +73,7 @@ IsWordless (facts.Entry dom gref word) = ⊥
 IsWordless (facts.Header dom word) = ⊥
 IsWordless other = Unit {0}
 
--- the request may be answered so at its beginning: a refusal without a word, or Ok if nothing is left to do
+-- the request may have this result at its beginning: a refusal without a word, or Ok if there is nothing to do
 abbrev pub IsAtOnce : OpenRequest → CallResult → Type 0
 IsAtOnce request (Refused denial) = IsWordless denial.facts
 IsAtOnce (asks.Demote gref) Granted = Unit {0}

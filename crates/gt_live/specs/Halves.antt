@@ -1,4 +1,4 @@
--- A copy in two halves: the way to its access, which the monitor's caller makes, and the way from there to its end.
+-- A copy in two halves: the path to its access, which the monitor's caller makes, and the path from there to its end.
 use Rattle.std.specs.Prelude.{◌≡◌, ◌+◌, ◌≤◌, ℕ}
 use Rattle.gt_live.specs.Prelude.{Read, Write, ForCopy, IsSameSeat, KeepsPins, Layout, View, MayCopyBy, ReachesBy}
 use Rattle.gt_live.specs.Prelude.{Hypercall, Record, Spot, CopyBytes, Call, CopyArgs, path, path_of, CallerKnowledge}
@@ -10,7 +10,7 @@ use Rattle.gt_live.specs.Accesses.{Accessed}
 use Rattle.gt_live.specs.Domains.{AllowRelation, BelongsTo, IsUnsettled, known_on}
 use Rattle.gt_live.specs.Underway.{AtAccess, GivesBack}
 
--- what a record keeps of a copy
+-- the call of a copy, for its record
 abbrev pub copy_hypercall : CopyArgs → Hypercall
 copy_hypercall c = hypercalls.Copy c.source c.dest c.len c.flags
 
@@ -18,8 +18,8 @@ copy_hypercall c = hypercalls.Copy c.source c.dest c.len c.flags
 abbrev pub done_copy : Domain → CopyArgs → Record
 done_copy d c = record { dom = d.seat.dom; call = copy_hypercall c; reply = replies.Done }
 
--- The domain d was asked this copy and came to its access, after which it is e. Its steps are those of the copy's path.
--- The pins that it holds reach both places, and the policy lets it copy by them; each place is inside its frame.
+-- the domain d was asked for this copy and reached its access, and is then e. Its steps are those of the copy's path.
+-- The pins that it holds reach both places, and the policy allows the copy by them; each place is inside its frame.
 -- Nothing else of the domain has changed
 pub record ComesHalfway {P : Type 0} (may : P → AllowRelation) (m : Monitor P) (d : Domain) (copy : CopyArgs)
     (h : PendingCopy) (e : Domain) : Type 0 where
@@ -36,11 +36,11 @@ pub record ComesHalfway {P : Type 0} (may : P → AllowRelation) (m : Monitor P)
   pub dest_range : h.to.off + h.len ≤ 4096
   pub kept : IsUnsettled d e
 
--- the domain stands at the access of this copy, since it was one of this monitor's run and was asked it
+-- the domain is at the access of this copy: it belonged to this monitor's run when it was asked for it
 abbrev pub IsHalfway : {P : Type 0} → (P → AllowRelation) → Monitor P → PendingCopy → Domain → Type 0
 IsHalfway may m h e = (d : Domain) × BelongsTo may m d × ComesHalfway may m d h.copy h e
 
--- the pins of a copy at its access were given back, one after another, the last one first, and nothing else changed but
+-- the pins of a copy at its access were released, one after another, the last one first, and nothing else changed but
 -- the trail
 pub record EndsHalfway (k : Layout) (h : PendingCopy) (e f : Domain) : Type 0 where
   pub gives : GivesBack k (pins_by_call h.call) e.seat.view f.seat.view
@@ -48,8 +48,8 @@ pub record EndsHalfway (k : Layout) (h : PendingCopy) (e f : Domain) : Type 0 wh
   pub own : f.own ≡ e.own
   pub mappings : f.mappings ≡ e.mappings
 
--- a copy that came to its access, and whose pins were then given back, is whole: its steps are those of its path before
--- and after the one access, and the pins are those of before
+-- a copy that reached its access, and whose pins were then released, is whole: its steps are those of its path before
+-- and after the one access, and the seat has the same pins as before
 abbrev pub TwoHalvesMakeACopy : Type 0
 TwoHalvesMakeACopy =
     (c : CallerKnowledge) (k : Layout) (call : Call) (from to : Spot) (len : ℕ) (v mid w : View)

@@ -6,8 +6,8 @@ use Rattle.gt_live.specs.Prelude.{IsInserted, IsTaken, count_passing, Handle, He
 use Rattle.gt_live.specs.Prelude.{label_of, map_perms, triples, TypeId, DomainConfig}
 pub use Rattle.gt_access.specs.Routes.{HasPin, entry_record_of}
 
--- a mapping: its pin is held, of an entry that permits the caller, of a frame
--- of its owner's, and what its map asked is allowed
+-- a mapping: its pin is held, of an entry that permits the caller and is of one of its owner's frames, and the policy
+-- allows what its map asked
 pub record IsMappingOf (k : Layout) (domains : List DomainConfig) (may : TypeId → TypeId → Perms → Bool)
     (caller : DomId) (v : View) (p : HeldPin) : Type 0 where
   pub pin : HasPin k v p
@@ -19,32 +19,32 @@ pub record IsMappingOf (k : Layout) (domains : List DomainConfig) (may : TypeId 
 abbrev pub frame_mapped : HeldPin → FrameName
 frame_mapped p = record { owner = p.dom; number = frame_of p.entry }
 
--- by its mapping the seat's domain reaches any range of the frame, to write it if the pin is a write pin
+-- by its mapping the seat's domain reaches any range of the frame, for writing if the pin is a write pin
 pub record ReachesItsFrame (k : Layout) (s : SeatOf) (p : HeldPin) : Type 0 where
   pub reads : (off len : ℕ) → ReachesBy k s Read ForMap (frame_mapped p) off len (Direct p)
   pub writes : p.dir ≡ Write → (off len : ℕ) → ReachesBy k s Write ForMap (frame_mapped p) off len (Direct p)
 
--- the mapping has a pin of this kind and generation of the entry r of the domain t
+-- the pin of the mapping has this kind and generation, and is of the entry r of the domain t
 abbrev pub is_mapping_of : Layout → ℕ → ℕ → Dir → ℕ → HeldPin → Bool
 is_mapping_of k t r d g m =
     (position_in k.ids m.dom == t) && ((m.gref.0 == r) && (is_same_dir d m.dir && (g == generation_of m.word)))
 
--- the pins of the view are just those of the mappings: of each kind and generation as many, on each entry
+-- the pins of the view are exactly those of the mappings: on each entry the same number of each kind and generation
 abbrev pub PinsAreOf : Layout → View → HandleMap HeldPin → Type 0
 PinsAreOf k v kept = (t r : ℕ) (d : Dir) (g : ℕ) → held t r d g v ≡ count_passing (is_mapping_of k t r d g) kept
 
--- the mappings under their handles, and the serials given, are as they were
+-- the mappings under their handles are unchanged, and no serial was given
 pub record KeepsMappings (old new : HandleMap HeldPin) : Type 0 where
   pub slots : new.slots ≡ old.slots
   pub given : new.given ≡ old.given
 
--- this mapping is kept under a new handle, and all else is as it was
+-- this mapping is kept under a new handle, and nothing else changed
 pub record AddsMapping (old new : HandleMap HeldPin) (h : Handle) (p : HeldPin) : Type 0 where
   pub serial : h.serial ≡ old.given
   pub inserted : IsInserted old new h p
   pub spent : KeepsSpent old new
 
--- the mapping under this handle is gone, and all else is as it was
+-- the mapping under this handle is removed, and nothing else changed
 pub record Removes (old new : HandleMap HeldPin) (h : Handle) (p : HeldPin) : Type 0 where
   pub taken : IsTaken old new h p
   pub spent : KeepsSpent old new

@@ -1,4 +1,4 @@
--- How a map that was driven ended.
+-- How a driven map ended.
 use Rattle.std.specs.Prelude.{Result, Ok, Err}
 use Rattle.gt_types.specs.declared.denial.Denial.{Denial}
 use Rattle.gt_words.specs.declared.words.Pin.{Pin}
@@ -8,12 +8,12 @@ use Rattle.gt_calls.specs.declared.held.HeldPin.{HeldPin}
 use Rattle.gt_live.specs.declared.driving.Effect.{Effect}
 use Rattle.gt_live.specs.declared.driving.Effect.TheVariants.{Nothing, Pinned}
 
--- the answer of a map's path that took this pin, or was refused
+-- the result of a map's path that took this pin, or was refused
 abbrev pub pin_verdict : Result HeldPin Denial → CallResult
 pin_verdict (Ok p) = Mapped p
 pin_verdict (Err denial) = Refused denial
 
--- what it did
+-- what the map did
 abbrev pub pin_effect : Result HeldPin Denial → Effect
 pin_effect (Ok p) = Pinned p
 pin_effect (Err denial) = Nothing

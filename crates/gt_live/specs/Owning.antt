@@ -1,4 +1,4 @@
--- An owner's change of one of its entries: what asks it, and how it ends. The code's own representation. It is in
+-- An owner's change of one of its entries: the request for it, and how it ends. The code's own representation. It is in
 -- specs/ because contracts cite it.
 use Rattle.std.specs.Prelude.{◌≡◌, ℕ, Result, Ok, Err}
 use Rattle.gt_types.specs.declared.DomId.{DomId}
@@ -20,7 +20,7 @@ use Rattle.gt_live.specs.declared.driving.Effect.{Effect}
 use Rattle.gt_live.specs.declared.driving.Effect.TheVariants.{Nothing, Changed}
 use Rattle.gt_live.specs.Walks.{Made}
 
--- the request that asks this change of this entry
+-- the request for this change of this entry
 abbrev pub asks_change : GrantRef → EntryChange → OpenRequest
 asks_change gref (Publish entry) = asks.Grant gref entry
 asks_change gref Revoke = asks.Revoke gref
@@ -28,18 +28,18 @@ asks_change gref Withdraw = asks.Withdraw gref
 asks_change gref Demote = asks.Demote gref
 asks_change gref Promote = asks.Promote gref
 
--- what a change did that ended so
+-- what a change with this result did
 abbrev pub change_effect : GrantRef → EntryChange → Result (Unit {0}) Denial → Effect
 change_effect gref change (Ok u) = Changed gref change
 change_effect gref change (Err denial) = Nothing
 
--- the change is one that is tried in turns
+-- the change is tried in turns
 abbrev pub IsInTurns : EntryChange → Type 0
 IsInTurns (Publish entry) = ⊥
 IsInTurns Revoke = ⊥
 IsInTurns change = Unit {0}
 
--- one exchange from this word was made, or missed, which is refused by N19 with the word found
+-- one exchange from this word was made; if it was missed, the result is N19 with the word found
 abbrev pub ChangesOnce : Layout → DomId → GrantRef → ℕ → EntryChange → Result (Unit {0}) Denial → View → View → Type 0
 ChangesOnce k caller gref looked change (Ok u) v w = Made k (Exchange gref looked change) Taken v w
 ChangesOnce k caller gref looked change (Err denial) v w =

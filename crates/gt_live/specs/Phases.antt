@@ -19,19 +19,19 @@ use Rattle.gt_live.specs.Walks.{MakesStep}
 abbrev pub PhaseStep : Type 0
 PhaseStep = Phase × Observation × View
 
--- by these steps, the last first, a call came from the phase start to another, and the seat's view from v to w: each
--- was the next of its phase
+-- by these steps, the last first, a call got from the phase start to another, and the seat's view from v to w: each
+-- step was the next one of its phase
 abbrev pub RunsBy : CallerKnowledge → Layout → DomId → Phase → View → List PhaseStep → Phase → View → Type 0
 RunsBy c k caller start v [] phase w = (phase ≡ start) × (w ≡ v)
 RunsBy c k caller start v ((at, seen, u) ∷ xs) phase w =
     MakesStep k (Some (action_at caller at)) seen u w × (phase ≡ phase_after c caller at seen)
     × RunsBy c k caller start v xs at u
 
--- a call came from the one phase to the other
+-- a call got from one phase to the other
 abbrev pub Runs : CallerKnowledge → Layout → DomId → Phase → View → Phase → View → Type 0
 Runs c k caller start v phase w = (xs : List PhaseStep) × RunsBy c k caller start v xs phase w
 
--- wherever a call comes from this phase, its next step can be made, if it is no access
+-- from each phase that a call reaches from here, its next step can be made, unless it is an access
 abbrev pub CanRun : CallerKnowledge → Layout → DomId → Phase → View → Type 0
 CanRun c k caller start v =
     (at : Phase) (w : View) (step : Step) → Runs c k caller start v at w → action_at caller at ≡ Makes step

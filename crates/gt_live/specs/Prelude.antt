@@ -1,4 +1,4 @@
--- The names of other crates, and of the code, that the definitions here speak of.
+-- Names from other crates, and from the code, that these definitions use.
 pub use Rattle.gt_access.specs.Accesses.{IsReadOf, copying_at, writing_at}
 pub use Rattle.gt_access.specs.Routes.{MayCopyBy, ReachesBy}
 pub use Rattle.gt_access.specs.declared.by.AccessFault.{AccessFault as NotMade}

@@ -1,4 +1,4 @@
--- How a question of a table is answered.
+-- The result of a question about a table.
 use Rattle.std.specs.Prelude.{ℕ, Result, Ok, Err}
 use Rattle.gt_types.specs.declared.DomId.{DomId}
 use Rattle.gt_types.specs.declared.denial.Denial.{Denial}
@@ -10,12 +10,12 @@ use Rattle.gt_calls.specs.declared.call.HeaderQuery.TheVariants.{Size, Version}
 use Rattle.gt_calls.specs.declared.request.OpenRequest.{OpenRequest}
 use Rattle.gt_calls.specs.declared.request.OpenRequest.TheVariants.{QuerySize, GetVersion}
 
--- the request that asks this question of this domain's table
+-- the request for this question about this domain's table
 abbrev pub asks_question : DomId → HeaderQuery → OpenRequest
 asks_question dom Size = QuerySize dom
 asks_question dom Version = GetVersion dom
 
--- what this word of the header answers, if the question was not refused
+-- the result of this question by the header's word, if it was not refused
 abbrev pub answer_by : HeaderQuery → Result ℕ Denial → CallResult
 answer_by question (Ok word) = header_value_of question word
 answer_by question (Err denial) = Refused denial

@@ -1,4 +1,4 @@
--- What changes in an owner's rows.
+-- How an owner's rows change.
 use Rattle.std.specs.Prelude.{ℕ, List, [], ◌∷◌, zero, suc}
 use Rattle.gt_entry.specs.declared.change.EntryChange.{EntryChange}
 use Rattle.gt_calls.specs.declared.known.OwnerEntry.{OwnerEntry}

@@ -16,8 +16,8 @@ use Rattle.gt_live.specs.declared.domain.Domain.{Domain}
 unfoldable pub first_rows : ℕ → List OwnerEntry
 first_rows first = replicate TABLE_ENTRIES (record { entry = Invalid; generation = first })
 
--- the domain at the position i, which has done nothing: no step, no mapping, no map answered Ok, no record, and no
--- frame locked
+-- the domain at the position i, which has made no call: no step, no mapping, no handle given, no record, and no frame
+-- locked
 pub record IsNewDomain (b : Board) (c : Config) (may : TypeId → TypeId → Perms → Bool) (i : ℕ)
     (d : Domain) : Type 0 where
   pub domain : IsDomainOf b c may d

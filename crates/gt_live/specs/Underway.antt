@@ -1,5 +1,5 @@
--- A copy under way: the pins that it holds, and where it stops. The code's own
--- representation. It is in specs/ because contracts cite it.
+-- A copy under way: the pins that it holds, and where it stops. The code's own representation. It is in specs/ because
+-- contracts cite it.
 use Rattle.std.specs.Prelude.{◌≡◌, ℕ, ◌<◌, ◌==◌, ◌&&◌, Bool, cond, List, [], ◌∷◌, ◌++◌, Some}
 use Rattle.gt_live.specs.Prelude.{Denial, TABLE_ENTRIES, HasDomain, Layout, position_in, LivePin, last_of, live_pins}
 use Rattle.gt_live.specs.Prelude.{steps_on, Moment, View, Action, Spot, Nothing, CopyBytes, CallResult, Granted, Refused}
@@ -18,13 +18,13 @@ use Rattle.gt_live.specs.Walks.{Called, CarriesFound, IsWalk, view_after, all_sh
 abbrev pub is_of_entry : Layout → ℕ → ℕ → HeldPin → Bool
 is_of_entry k t r p = (position_in k.ids p.dom == t) && (p.gref.0 == r)
 
--- of these pins those of the entry r of the domain t, as a view has them
+-- those of these pins that are of the entry r of the domain t, as a view has them
 abbrev pub live_pins_by : Layout → ℕ → ℕ → List HeldPin → List LivePin
 live_pins_by k t r [] = []
 live_pins_by k t r (p ∷ ps) =
     cond (is_of_entry k t r p) ((p.dir, entry_record_of p) ∷ live_pins_by k t r ps) (live_pins_by k t r ps)
 
--- the seat has taken these pins, the last one first, and else has the pins and records that it had
+-- the seat has taken these pins, the last one first, and otherwise has the same pins and records as before
 pub record HasTaken (k : Layout) (taken : List HeldPin) (v w : View) : Type 0 where
   pub pins : (t r : ℕ) → live_pins (steps_on t r w) ≡ live_pins_by k t r taken ++ live_pins (steps_on t r v)
   pub records : (r : ℕ) → last_of r w ≡ last_of r v
@@ -37,8 +37,8 @@ abbrev pub AreOfRun : Layout → List HeldPin → Type 0
 AreOfRun k [] = Unit {0}
 AreOfRun k (p ∷ ps) = (HasDomain k p.dom × (p.gref.0 < TABLE_ENTRIES)) × AreOfRun k ps
 
--- where a copy is: on a leg to one of its ends, at its access, or at the
--- end after a refusal, whose word its steps found
+-- the phase of a copy under way: on a leg to one of its ends, at its access, or at the end after a refusal, whose word
+-- its steps found
 abbrev pub StandsInCopy : Layout → View → List Moment → Phase → Type 0
 StandsInCopy k v steps (Walking (Source c via) l at) = Unit {0}
 StandsInCopy k v steps (Walking (Dest c source via) l at) = Unit {0}
@@ -46,14 +46,13 @@ StandsInCopy k v steps (Accessing c source dest) = Unit {0}
 StandsInCopy k v steps (Ending live_pins (Refused denial)) = CarriesFound k v steps denial.facts
 StandsInCopy k v steps phase = ⊥
 
--- the same, and its seat has just the pins that it holds there, besides those that it had
+-- the same, and its seat has exactly the pins of that phase, and those that it had before
 pub record StandsWell (k : Layout) (v w : View) (steps : List Moment) (phase : Phase) : Type 0 where
   pub stays : StandsInCopy k v steps phase
   pub taken : HasTaken k (held_in phase) v w
   pub of_run : AreOfRun k (held_in phase)
 
--- a copy under way: it added steps to its seat's view, which are those of
--- its path, and the action is what comes next
+-- a copy under way: it added the steps of its path to its seat's view, and the action comes next
 pub record IsUnderway (c : CallerKnowledge) (k : Layout) (v w : View) (call : Call) (action : Action) : Type 0 where
   pub steps : List Moment
   pub view : w ≡ view_after steps v
@@ -68,8 +67,8 @@ pub record IsUnderway (c : CallerKnowledge) (k : Layout) (v w : View) (call : Ca
   pub acts : action ≡ action_at call.caller phase
   pub stands : StandsWell k v w steps phase
 
--- a copy came to its access: it holds the pins of the routes to its ends, which the access
--- rests on, and gives them back on the way from there to its end
+-- a copy reached its access: it holds the pins of the routes to its ends, which justify the access, and the rest of its
+-- path releases them
 pub record AtAccess (c : CallerKnowledge) (k : Layout) (call : Call) (from to : Spot) (len : ℕ)
     (v w : View) : Type 0 where
   pub comes : ComesTo k (path c call.caller call.request) (CopyBytes from to len) v w
@@ -81,14 +80,14 @@ pub record AtAccess (c : CallerKnowledge) (k : Layout) (call : Call) (from to : 
   pub ends : onward (path c call.caller call.request) (all_shown comes.steps ++ Nothing ∷ [])
       ≡ give_back (held_by_call call) Granted
 
--- a copy ended without its access: it was refused, and its seat has the pins and records that it had
+-- a copy ended without its access: it was refused, and its seat has the same pins and records as before
 pub record EndsRefused (c : CallerKnowledge) (k : Layout) (call : Call) (verdict : CallResult) (v w : View) : Type 0 where
   pub denial : Denial
   pub refused : verdict ≡ Refused denial
   pub called : Called k (path c call.caller call.request) verdict v w
   pub same : IsSame v w
 
--- the pins that a copy held at its access were given back, one after another, and nothing else
+-- the pins that a copy held at its access were released, one after another, and nothing else was done
 pub record GivesBack (k : Layout) (routes : CallPins) (v w : View) : Type 0 where
   pub steps : List Moment
   pub view : w ≡ view_after steps v

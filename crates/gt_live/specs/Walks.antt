@@ -15,7 +15,7 @@ use Rattle.gt_word_table.specs.declared.view.EntryStep.TheVariants.{Pinned, Unpi
 use Rattle.gt_word_table.specs.declared.view.HeaderStep.TheVariants as header
 use Rattle.gt_word_table.specs.declared.view.SeatStep.TheVariants.{Frame, Header}
 
--- what a step of a seat shows to its call
+-- the observation of a call at a step of its seat
 abbrev pub seen_in_step : SeatStep → Observation
 seen_in_step (Entry t r (Looked n)) = Word n
 seen_in_step (Entry t r (ReadBody h n)) = Word n
@@ -29,22 +29,22 @@ seen_in_step (Header t (header.Looked n)) = Word n
 seen_in_step (Header t (header.Stored n)) = Nothing
 seen_in_step (Frame t f m) = Nothing
 
--- the same of a step with its moment
+-- the same for a step with its moment
 abbrev pub shown_by : Moment → Observation
 shown_by x = seen_in_step x.1
 
--- what steps show, the first first; the steps are listed with the last first
+-- the observations of steps in their order; the steps are listed with the last first
 abbrev pub all_shown : List Moment → List Observation
 all_shown [] = []
 all_shown (x ∷ xs) = all_shown xs ++ shown_by x ∷ []
 
--- the view after these steps more, the last first
+-- the view after these steps, the last first
 abbrev pub view_after : List Moment → View → View
 view_after [] v = v
 view_after (x ∷ xs) v = with_step x.0 x.1 (view_after xs v)
 
--- The step of a call was made on the words, by a seat whose view it took from v to w, and
--- showed this: what each of the words' own calls promises of it
+-- a step of a call was made on the words, took its seat's view from v to w, and gave this observation: each case is the
+-- promise of a call of the words
 abbrev pub Made : Layout → Step → Observation → View → View → Type 0
 Made k (LookHeader d) (Word n) v w = LooksAtHeader k (position_in k.ids d) n v w
 Made k (LookControl d q) (Word n) v w =
@@ -67,31 +67,31 @@ Made k (Exchange q looked Promote) Taken v w = Changes k q.0 Promote looked v w
 Made k (Exchange q looked Promote) (Missed n) v w = MissesChange k q.0 Promote looked n v w
 Made k _ _ v w = ⊥
 
--- the second body word of the leg's entry was read if that is a sub-page, else it is taken as 0
+-- the second body word of the leg's entry was read if the entry is a sub-page; otherwise it counts as 0
 abbrev pub ReadsSecond : Bool → Layout → Leg → ℕ → View → View → Type 0
 ReadsSecond true k l second v w = Made k (LookBody l.dom l.gref SecondHalf) (Word second) v w
 ReadsSecond false k l second v w = (second ≡ 0) × (w ≡ v)
 
--- the body words of the leg's entry were read, whose control word is this
+-- the body words of the leg's entry, which has this control word, were read
 abbrev pub ReadsBody : Layout → Leg → ℕ → ℕ → ℕ → View → View → Type 0
 ReadsBody k l word first second v w =
     (u : View) × Made k (LookBody l.dom l.gref FirstHalf) (Word first) v u
     × ReadsSecond (is_kind (control_of word).kind Sub) k l second u w
 
--- the action is a step, which was made and showed this
+-- the action is a step, which was made and gave this observation
 abbrev pub MakesStep : Layout → Option Action → Observation → View → View → Type 0
 MakesStep k (Some (Makes s)) seen v w = Made k s seen v w
 MakesStep k _ seen v w = ⊥
 
--- each of these steps, the last first, was taken at its moment by the seat with the view v, which
--- had taken those before it by then and no others
+-- each of these steps, the last first, was taken at its moment by the seat with the view v, which had then taken those
+-- before it and no others
 abbrev pub AreMoments : Layout → View → List Moment → Type 0
 AreMoments k v [] = Unit {0}
 AreMoments k v (x ∷ xs) =
     TookPlace k v.position x × (part_of v.position x.0 ≡ (view_after xs v).steps) × AreMoments k v xs
 
--- each of these steps from the view v on, the last first, is what comes next
--- on this way after what the steps before it showed
+-- each of these steps after the view v, the last first, is what comes next on this path after the observations of the
+-- steps before it
 abbrev pub IsWalk : Layout → Continuation → View → List Moment → Type 0
 IsWalk k way v [] = Unit {0}
 IsWalk k way v (x ∷ xs) =
@@ -104,7 +104,8 @@ found_by (PinMissed d e y n) = Some n
 found_by (ChangeMissed c e y n) = Some n
 found_by m = None
 
--- one of these steps found this word in this entry, and it is no earlier than what the view v had seen of it
+-- one of these steps found this word in this entry, and the word is no earlier than what the view v had seen of the
+-- entry
 pub record FindsWord (k : Layout) (v : View) (steps : List Moment) (dom : DomId) (gref : GrantRef)
     (word : ℕ) : Type 0 where
   pub step : EntryStep
@@ -112,21 +113,20 @@ pub record FindsWord (k : Layout) (v : View) (steps : List Moment) (dom : DomId)
   pub found : found_by step ≡ Some word
   pub not_earlier : IsNotEarlier (position_in k.ids dom) gref.0 v word
 
--- the word that a refusal carries, if it carries one, is of one of these steps
+-- the word that a refusal carries, if it carries one, was found by one of these steps
 abbrev pub CarriesFound : Layout → View → List Moment → Facts → Type 0
 CarriesFound k v steps (facts.Entry dom gref word) = FindsWord k v steps dom gref word
 CarriesFound k v steps (facts.Header dom word) =
     IsAmong (on_header (position_in k.ids dom) (header.Looked word)) (map (λ x. x.1) steps)
 CarriesFound k v steps other = Unit {0}
 
--- the same of an answer
+-- the same for a result
 abbrev pub TellsSteps : Layout → View → List Moment → CallResult → Type 0
 TellsSteps k v steps (Refused denial) = CarriesFound k v steps denial.facts
 TellsSteps k v steps verdict = Unit {0}
 
--- A call took its seat's view from v to w: it added steps, which are those of its way, one after another, each taken at
--- its moment, and after what they showed the way ends with this answer; a word that the answer carries is one that they
--- found
+-- a call took its seat's view from v to w: it added the steps of its path, one after another, each taken at its moment;
+-- after their observations the path ends with this result, and a word that the result carries is one that they found
 pub record Called (k : Layout) (way : Continuation) (verdict : CallResult) (v w : View) : Type 0 where
   pub steps : List Moment
   pub view : w ≡ view_after steps v

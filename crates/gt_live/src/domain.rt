@@ -35,7 +35,7 @@ use gt_types::{Allows, Denial, DomId, Facts, GrantRef, Memory, Rule, Size, TypeI
 use gt_words::Seat;
 use std::alloc::Global;
 
-/// A domain of the run: its seat, and what it knows by itself. It can't be dropped; `finish` takes it apart.
+/// A domain of the run: its seat, and what it knows without a look. It can't be dropped: `finish` takes it apart.
 pub struct Domain {
     alloc: Global,
     seat: Seat,
@@ -45,7 +45,7 @@ pub struct Domain {
     visits: FrameAccesses,
 }
 
-/// What a domain leaves behind: its records, and its seat, which is spent.
+/// What a domain leaves behind: its records, and its seat, which makes no more steps.
 #[derive(Drop)]
 pub struct Departed {
     trail: Trail,
@@ -55,7 +55,7 @@ pub struct Departed {
 impl Departed {
     ghost use Rattle.std.specs.Prelude.{◌≡◌, IfOk};
 
-    /// The records of its calls, in order.
+    /// Returns the records of the domain's calls, in order.
     ///
     /// # Errors
     /// `Memory`.
@@ -65,7 +65,7 @@ impl Departed {
         self.trail.records()
     }
 
-    /// How many records were lost: memory was refused for them, or the trail keeps no more.
+    /// Returns the number of records that were lost, because allocation failed or the trail was full.
     pub fn lost(&self) -> u64
         ensures { result ≡ self.now.trail.lost }
     {
@@ -83,7 +83,7 @@ fn change_row(own: &mut [OwnerEntry], gref: GrantRef, change: EntryChange)
     }
 }
 
-// What a domain with this seat, these rows and these mappings knows by itself, and what the monitor allows.
+// Lends what a domain with this seat, these rows and these mappings knows without a look, and what the monitor allows.
 fn known_with<'a, P: Allows>(
     monitor: &'a Monitor<P>,
     seat: &Seat,
@@ -103,7 +103,7 @@ fn known_with<'a, P: Allows>(
     }
 }
 
-// Ok, or the refusal.
+// Returns Ok, or the refusal.
 fn done(verdict: CallResult) -> Result<(), Denial>
     ensures { result ≡ done_by verdict }
 {
@@ -113,7 +113,7 @@ fn done(verdict: CallResult) -> Result<(), Denial>
     }
 }
 
-// The version that a header's word answers.
+// Returns the version in a header's word.
 #[inline(always)]
 fn version_by(answer: Result<u64, Denial>) -> Result<u32, Denial>
     ensures { verdict_of_version result ≡ answer_by HeaderQuery.Version answer }
@@ -124,7 +124,7 @@ fn version_by(answer: Result<u64, Denial>) -> Result<u32, Denial>
     }
 }
 
-// The size that a header's word answers.
+// Returns the size in a header's word.
 #[inline(always)]
 fn size_by(answer: Result<u64, Denial>) -> Result<Size, Denial>
     ensures { verdict_of_size result ≡ answer_by HeaderQuery.Size answer }
@@ -135,7 +135,7 @@ fn size_by(answer: Result<u64, Denial>) -> Result<Size, Denial>
     }
 }
 
-// The number of frames that is answered.
+// Returns the number of frames in the result of a setup.
 fn frames_granted(verdict: CallResult) -> Result<u32, Denial>
     ensures { result ≡ frames_granted verdict }
 {
@@ -146,7 +146,7 @@ fn frames_granted(verdict: CallResult) -> Result<u32, Denial>
     }
 }
 
-// The refusal of a call that was refused.
+// Returns the refusal of a call that was refused.
 pub(crate) fn refusal_of(verdict: CallResult) -> Denial
     ensures { result ≡ denial_in verdict }
 {
@@ -156,7 +156,7 @@ pub(crate) fn refusal_of(verdict: CallResult) -> Denial
     }
 }
 
-// What a record keeps of an answer that is Ok, or a refusal.
+// Returns what a record keeps of Ok without a value, or of a refusal.
 fn outcome_reply<T>(answer: &Result<T, Denial>) -> Reply
     ensures reply { result ≡ reply_of (outcome_of answer.now) }
     ensures tells { told_by result ≡ outcome_of answer.now }
@@ -167,8 +167,7 @@ fn outcome_reply<T>(answer: &Result<T, Denial>) -> Reply
     }
 }
 
-// What a record keeps of the answer of a call that tells a version, a size or how many frames a table has, or of its
-// refusal.
+// Returns what a record keeps of a version, or of a refusal.
 fn version_reply(answer: &Result<u32, Denial>) -> Reply
     ensures reply { result ≡ reply_of (verdict_of_version answer.now) }
     ensures tells { told_by result ≡ verdict_of_version answer.now }
@@ -199,7 +198,7 @@ fn frames_reply(answer: &Result<u32, Denial>) -> Reply
     }
 }
 
-// Keeps the record of a call that was answered Ok.
+// Records a call that was Ok.
 #[inline(always)]
 fn tell_done(trail: &mut Trail, dom: DomId, call: Hypercall)
     ensures { Tells trail.old (record { dom = dom; call = call; reply = Reply.Done }) trail.new }
@@ -208,7 +207,7 @@ fn tell_done(trail: &mut Trail, dom: DomId, call: Hypercall)
     trail.push(Record { dom, call, reply });
 }
 
-// Keeps the record of a call that was refused. Few are, so this stands apart.
+// Records a call that was refused. Few are, so this function is not inlined.
 #[cold]
 #[inline(never)]
 fn tell_refusal(trail: &mut Trail, dom: DomId, call: Hypercall, denial: Denial)
@@ -236,7 +235,7 @@ impl Domain {
     ghost use Rattle.gt_calls.specs.declared.held.HeldPin.{HeldPin};
     ghost use Rattle.gt_handles.specs.Handles.{IsEmpty};
 
-    /// The domain with this seat, which has done nothing.
+    /// Makes the domain with this seat, which has made no call.
     pub(crate) fn new(
         alloc: Global,
         seat: Seat,
@@ -264,15 +263,15 @@ impl Domain {
         }
     }
 
-    /// The records of its calls so far, in order.
+    /// Lends the records of the domain's calls so far, in order.
     pub fn trail(&self) -> &Trail
         ensures { result.now ≡ self.now.trail }
     {
         &self.trail
     }
 
-    /// From now on it keeps a record only while it has fewer than so many; each further one counts as lost. With 0 its
-    /// calls are not recorded at all. None of the records that it has goes.
+    /// Bounds the trail: a call is recorded only while the trail has fewer than `records` records, and is counted as
+    /// lost otherwise. With 0 no call is recorded. Records that are there already stay.
     pub fn keep_at_most(&mut self, records: usize)
         ensures bound { self.new ≡ record self.old { trail = record self.old.trail { most = records } } }
         ensures mine { StaysOfRun self.old self.new }
@@ -280,8 +279,7 @@ impl Domain {
         self.trail.keep_at_most(records);
     }
 
-    /// Makes room for so many more records, which then take no memory. What it keeps stays, also if memory is
-    /// refused.
+    /// Makes room for `records` more records, which then need no allocation. All records stay, also after a refusal.
     ///
     /// # Errors
     /// `Memory`.
@@ -294,8 +292,8 @@ impl Domain {
         self.trail.reserve(records)
     }
 
-    /// Hands out its records, and goes on with none, in the room of `next`: an owner who clears what it was handed, and
-    /// hands that in the next time, keeps the audit of a long run in memory that doesn't grow.
+    /// Swaps in `next` (empty) and returns the records so far. A caller who clears what it got, and passes that the
+    /// next time, keeps the audit of a long run in memory that doesn't grow. The bound of the trail stays.
     pub fn take_records(&mut self, next: Trail) -> Trail
         requires empty { HasNone next }
         ensures parts { ArePartsOf self.old.trail result self.new.trail }
@@ -306,15 +304,15 @@ impl Domain {
         self.trail.take(next)
     }
 
-    /// Its seat, whose pins an access to a locked frame rests on.
+    /// Lends the domain's seat. An access to a locked frame is justified by the pins of that seat.
     pub fn seat(&self) -> &Seat
         ensures { result.now ≡ self.now.seat }
     {
         &self.seat
     }
 
-    /// The mapping under a handle, by whose pin the domain reaches any range of the mapping's frame; None if the
-    /// handle names none of its mappings.
+    /// Returns the mapping under a handle, or `None` if the domain has no such mapping. By the mapping's pin the domain
+    /// reaches any range of the mapping's frame.
     pub fn mapping<P: Allows>(&self, monitor: &Monitor<P>, handle: Handle) -> Option<HeldPin>
         requires mine { BelongsTo P.may monitor.now self.now }
         ensures value { result ≡ value_of self.now.mappings handle }
@@ -325,14 +323,14 @@ impl Domain {
         self.mappings.get(handle).copied()
     }
 
-    // What it knows by itself, and what the monitor allows.
+    // Lends what the domain knows without a look, and what the monitor allows.
     fn known<'a, P: Allows>(&'a self, monitor: &'a Monitor<P>) -> CallerState<'a, P>
         ensures { knows P.may result ≡ known_on P.may monitor.now self.now }
     {
         known_with(monitor, &self.seat, &self.own, &self.mappings)
     }
 
-    // What it knows of an entry of its own.
+    // Returns what the domain knows of one of its entries.
     #[inline(always)]
     fn own_entry<P: Allows>(&self, monitor: &Monitor<P>, gref: GrantRef) -> OwnerEntry
         ensures { IsRowOf (known_on P.may monitor.now self.now) gref result }
@@ -340,7 +338,7 @@ impl Domain {
         own_entry(&self.known(monitor), gref)
     }
 
-    // Keeps the record of a call of its own.
+    // Records a call of the domain.
     #[inline(always)]
     fn tell(&mut self, call: Hypercall, reply: Reply)
         ensures told { Tells self.old.trail
@@ -352,7 +350,7 @@ impl Domain {
         self.trail.push(Record { dom, call, reply });
     }
 
-    // The entry that the mapping under a handle is of.
+    // Returns the entry that the mapping under a handle is of.
     fn subject(&self, handle: Handle) -> Option<(DomId, GrantRef)>
         ensures { result ≡ subject_of self.now handle }
     {
@@ -362,7 +360,7 @@ impl Domain {
         }
     }
 
-    // Its label, which stands at its place in the configuration.
+    // Returns the domain's label, which is at its position in the configuration.
     fn label<P: Allows>(&self, monitor: &Monitor<P>) -> TypeId
         requires mine { BelongsTo P.may monitor.now self.now }
         ensures { result ≡ label_of monitor.now.config.domains.items self.now.seat.dom }
@@ -370,7 +368,7 @@ impl Domain {
         monitor.config.config().domains[self.seat.position()].label
     }
 
-    // Gives each mapping's pin back.
+    // Releases the pin of each mapping.
     fn release<P: Allows>(&mut self, monitor: &Monitor<P>)
         requires mine { BelongsTo P.may monitor.now self.old }
         ensures mine { BelongsTo P.may monitor.now self.new }
@@ -385,7 +383,7 @@ impl Domain {
         }
     }
 
-    /// Leaves the run: each of its mappings is given up, and its pin back.
+    /// Leaves the run: releases each of the domain's mappings with its pin, also if the policy denies an unmap.
     pub fn finish<P: Allows>(mut self, monitor: &Monitor<P>) -> Departed
         requires mine { BelongsTo P.may monitor.now self }
         ensures left { HasLeft monitor.now.words.layout self result }

@@ -19,21 +19,21 @@ use gt_handles::Handle;
 use gt_types::{Allows, Denial, DomId, GrantRef, Rule};
 use gt_words::{Pin, Seat, Words};
 
-/// What the last step of a call did, beyond looking.
+/// What the last step of a call did, if more than look.
 #[derive(Clone, Copy)]
 pub enum Effect {
     Nothing,
     /// It took this pin.
     Pinned(HeldPin),
-    /// It gave back the pin of the mapping under this handle.
+    /// It released the pin of the mapping under this handle.
     Unpinned(Handle),
-    /// It changed this entry of the caller's own.
+    /// It changed this entry of the caller.
     Changed(GrantRef, EntryChange),
     /// It stored the caller's header.
     Stored,
 }
 
-// The pin that is held, as the words know it.
+// Converts a pin to the form that the words use.
 pub(crate) fn pin_of(held: HeldPin) -> Pin
     ensures { result ≡ pin_of held }
 {
@@ -45,7 +45,7 @@ pub(crate) fn pin_of(held: HeldPin) -> Pin
     }
 }
 
-// The steps of a leg on the words, each as the step that it is.
+// These functions make the steps of a leg on the words, one each.
 #[inline(always)]
 pub(crate) fn look_at_header(words: &Words, seat: &mut Seat, dom: DomId) -> u64
     requires seat { IsSeatOf words.now seat.old }
@@ -76,14 +76,14 @@ fn look_at_half(words: &Words, seat: &mut Seat, dom: DomId, gref: GrantRef, half
     words.load_body(seat, dom, gref, half)
 }
 
-// The body words of a try. The second is 0 if the entry is no sub-page.
+// The body words of a try. The second is 0 unless the entry is a sub-page.
 #[derive(Clone, Copy)]
 struct BodyWords {
     first: u64,
     second: u64,
 }
 
-// Reads the body words of the leg's entry, whose control word is this: the second only of a sub-page.
+// Reads the body words of the leg's entry, whose control word is `word`: the second only of a sub-page.
 #[inline(always)]
 fn look_at_body(words: &Words, seat: &mut Seat, leg: &Leg, word: u64) -> BodyWords
     requires seat { IsSeatOf words.now seat.old }
@@ -116,8 +116,8 @@ fn take_pin(words: &Words, seat: &mut Seat, held: &HeldPin) -> Result<(), u64>
     }
 }
 
-// Walks a leg to its pin, or to its refusal. Most calls of a run are maps and copies, so the steps of a leg are written
-// out here, and they need no room for a machine.
+// Walks a leg to its pin, or to its refusal. Most calls of a run are maps and copies, so the steps are written out here
+// instead of asked of a machine.
 #[inline(always)]
 pub(crate) fn walk_leg(words: &Words, seat: &mut Seat, leg: &Leg) -> Result<HeldPin, Denial>
     requires seat { IsSeatOf words.now seat.old }
@@ -157,7 +157,8 @@ pub(crate) fn walk_leg(words: &Words, seat: &mut Seat, leg: &Leg) -> Result<Held
     }
 }
 
-// Drives a map that no rule answered at its beginning to its end: the pin that it took, or its refusal.
+// Drives a map to its end, and returns the pin that it took, or its refusal. Requires that it is not decided at its
+// beginning.
 pub(crate) fn drive_map<P: Allows>(
     words: &Words,
     known: &CallerState<'_, P>,

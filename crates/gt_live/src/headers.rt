@@ -1,4 +1,4 @@
-//! Calls of one step on a header: another version, a larger table, and the questions of a table.
+//! Calls of one step on a header: another version, a larger table, and questions about a table.
 ghost use Rattle.std.specs.Prelude.{◌≡◌, ◌<◌, None};
 ghost use Rattle.gt_calls.specs.Path.{path, header_value_of};
 ghost use Rattle.gt_calls.specs.Rules.{begun, knows, query_begun};
@@ -17,7 +17,7 @@ use gt_entry::Header;
 use gt_types::{Allows, DomId};
 use gt_words::{Seat, Words};
 
-// The header with these numbers.
+// Makes the header with this version and number of frames.
 #[inline(always)]
 fn header_with(version: u32, frames: u32) -> Header
     requires { (version < 256) × (frames < 256) }
@@ -40,7 +40,7 @@ fn store_header(words: &Words, seat: &mut Seat, version: u32, frames: u32)
     words.store_header(seat, header_with(version, frames));
 }
 
-// Drives a change of version that no rule answered at its beginning to its end, which is Ok.
+// Drives a change of version to its end, which is Ok. Requires that it is not decided at its beginning.
 #[inline(always)]
 pub(crate) fn drive_version<P: Allows>(
     words: &Words,
@@ -61,7 +61,7 @@ pub(crate) fn drive_version<P: Allows>(
     store_header(words, seat, version, u32::from(known.header.frames));
 }
 
-// Drives a setup that no rule answered at its beginning to its end, which tells the number of frames.
+// Drives a setup to its end, which gives the number of frames. Requires that it is not decided at its beginning.
 #[inline(always)]
 pub(crate) fn drive_setup<P: Allows>(
     words: &Words,
@@ -82,7 +82,7 @@ pub(crate) fn drive_setup<P: Allows>(
     store_header(words, seat, u32::from(known.header.version), frames);
 }
 
-// Drives a question that no rule answered at its beginning to its end: the word of the header, which answers it.
+// Drives a question to its end, and returns the header's word. Requires that it is not decided at its beginning.
 #[inline(always)]
 pub(crate) fn drive_query<P: Allows>(
     words: &Words,

@@ -1,16 +1,16 @@
 //! The monitor of a run: each domain is a value that moves into a thread.
 //!
-//! [`Monitor::new`] gives the monitor, which all threads share, and a [`Domain`] for each one
-//! configured. Each call makes the steps of its path in `gt_calls` itself, on the shared words of
-//! `gt_words`. Those that access bytes, and no others, take the lock of a frame for it (`gt_access`).
+//! [`Monitor::new`] makes the monitor, which all threads share, and a [`Domain`] for each domain of the configuration.
+//! Each call makes the steps of its path (`gt_calls`) itself, on the shared words of `gt_words`. Only the calls that
+//! access bytes lock a frame for it (`gt_access`), and only they may wait.
 //!
-//! What holds: what a call adds to its domain's steps is, action by action, the path of that call, with
-//! the answer that the path gives (`specs/Walks.antt`). Between calls a domain has just the pins of its
-//! mappings, and one that has left has none (`specs/Domains.antt`). An Ok of a call that accesses bytes
-//! is the receipt of just what its path accesses (`specs/Accesses.antt`).
+//! The steps that a call adds to its domain's seat are, action by action, the path of that call, and its result is the
+//! one that the path gives (`specs/Walks.antt`). Between calls a domain has exactly the pins of its mappings, and a
+//! domain that has left has none (`specs/Domains.antt`). If a call that accesses bytes is Ok, it returns the receipt of
+//! exactly what its path accesses (`specs/Accesses.antt`).
 //!
-//! It uses `gt_calls`, `gt_words`, `gt_access`, `gt_frames`, `gt_handles`, `gt_audit`, `gt_entry`,
-//! `gt_roster` and `gt_types`.
+//! It uses `gt_calls`, `gt_words`, `gt_access`, `gt_frames`, `gt_handles`, `gt_audit`, `gt_entry`, `gt_roster` and
+//! `gt_types`.
 #![tactic(auto)]
 
 mod domain;

@@ -19,7 +19,7 @@ use gt_entry::{Control, Entry, EntryChange};
 use gt_types::{Allows, Denial, DomId, GrantRef, Rule};
 use gt_words::{Seat, Words};
 
-// The verdict at the beginning of a change of the entry with this row, if one is given there.
+// Returns the result of a change of the entry with this row, if it is decided at its beginning.
 #[inline(always)]
 pub(crate) fn judge_own<P: Allows>(
     known: &CallerState<'_, P>,
@@ -64,7 +64,7 @@ fn try_change(
     }
 }
 
-// The same, for a change that is tried once.
+// Makes an owner's exchange that is not tried again: if it is missed, the result is N19.
 #[inline(always)]
 fn change_once(
     words: &Words,
@@ -96,7 +96,7 @@ fn store_half(words: &Words, seat: &mut Seat, gref: GrantRef, half: BodyWord, wo
     words.store_body(seat, gref, half, word);
 }
 
-// Drives a revocation that no rule answered at its beginning to its end.
+// Drives a revocation to its end. Requires that it is not decided at its beginning.
 #[inline(always)]
 fn drive_revoke<P: Allows>(
     words: &Words,
@@ -120,7 +120,7 @@ fn drive_revoke<P: Allows>(
     change_once(words, seat, caller, gref, looked, EntryChange::Revoke)
 }
 
-// Drives a grant that no rule answered at its beginning to its end.
+// Drives a grant to its end. Requires that it is not decided at its beginning.
 #[inline(always)]
 fn drive_grant<P: Allows>(
     words: &Words,
@@ -166,7 +166,7 @@ fn drive_grant<P: Allows>(
     }
 }
 
-// The pins of this word stop the change.
+// Returns whether the pins of this word stop the change.
 #[inline(always)]
 fn stops(change: EntryChange, word: u64) -> bool
     ensures { result ≡ is_stopped change (control_of word) }
@@ -174,7 +174,7 @@ fn stops(change: EntryChange, word: u64) -> bool
     is_stopped(change, Control::unpack(word))
 }
 
-// Drives a change in turns that no rule answered at its beginning to its end.
+// Drives a change in turns to its end. Requires that it is not decided at its beginning.
 #[inline(always)]
 fn drive_turns<P: Allows>(
     words: &Words,
@@ -212,8 +212,8 @@ fn drive_turns<P: Allows>(
     }
 }
 
-// Drives a change that no rule answered at its beginning to its end. `looked` is the owner's word of the entry with no
-// pins.
+// Drives a change to its end. Requires that the change is not decided at its beginning. `looked` is the owner's word of
+// the entry with no pins.
 #[inline(always)]
 pub(crate) fn drive_change<P: Allows>(
     words: &Words,

@@ -1,4 +1,4 @@
-//! A copy walked to its access, each of its steps made on the words, and its pins given back.
+//! A copy walked to its access, with each step made on the words, and the release of its pins.
 ghost use Rattle.std.specs.Prelude.{◌≡◌, ℕ, None};
 ghost use Rattle.gt_words.specs.Conditions.{IsSeatOf, IsSameSeat};
 ghost use Rattle.gt_word_table.specs.declared.view.View.{View};
@@ -24,7 +24,7 @@ use gt_entry::Entry;
 use gt_types::{Allows, Denial, Dir, DomId, GrantRef};
 use gt_words::{Seat, Words};
 
-// Gives a pin back that a copy took, whatever its place among the copy's pins.
+// Releases a pin that a copy took, whatever its index among the copy's pins.
 #[inline(always)]
 fn give_pin_back(words: &Words, seat: &mut Seat, held: &HeldPin)
     requires seat { IsSeatOf words.now seat.old }
@@ -36,8 +36,8 @@ fn give_pin_back(words: &Words, seat: &mut Seat, held: &HeldPin)
     words.unpin(seat, pin_of(*held));
 }
 
-// Goes on from the pin of a Via, which leads to an entry of this domain: judges the pair that it asks for, and walks
-// the second leg. The pin of the Via is given back if either refuses.
+// Continues from the pin of a Via to the entry `gref` of the domain `dom`: checks the pair that it asks for, and walks
+// the second leg. Releases the pin of the Via if either refuses.
 fn go_through<P: Allows>(
     words: &Words,
     known: &CallerState<'_, P>,
@@ -72,8 +72,8 @@ fn go_through<P: Allows>(
     }
 }
 
-// Walks to the source of a copy, and writes the route whose pins were taken. It writes through a reference, as all of
-// these do: a route or two, handed on by value, cost more than the steps.
+// Walks to the source of a copy, and writes the route whose pins were taken. Like the functions below it writes through
+// a reference: returning a route by value costs more than the steps.
 fn reach_source<P: Allows>(
     words: &Words,
     known: &CallerState<'_, P>,
@@ -114,7 +114,7 @@ fn reach_source<P: Allows>(
     }
 }
 
-// The same of its destination, once its source is reached.
+// Walks to the destination of a copy, after its source, and writes the route whose pins were taken.
 #[inline(never)]
 fn reach_dest<P: Allows>(
     words: &Words,
@@ -157,7 +157,7 @@ fn reach_dest<P: Allows>(
     }
 }
 
-// Walks a copy whose source is reached to its access, or to its refusal, whose pins are given back by then.
+// Walks a copy whose source is reached to its access, or to its refusal. After a refusal its pins are released.
 #[inline(always)]
 fn walk_to_dest<P: Allows>(
     words: &Words,
@@ -189,7 +189,7 @@ fn walk_to_dest<P: Allows>(
     }
 }
 
-// Walks a copy to its access, or to its refusal.
+// Walks a copy to its access, or to its refusal. After a refusal its pins are released.
 fn walk<P: Allows>(
     words: &Words,
     known: &CallerState<'_, P>,
@@ -216,8 +216,8 @@ fn walk<P: Allows>(
     }
 }
 
-// Drives a copy that no rule answered at its beginning to its access, or to its end if it is refused before, and writes
-// the pins that it holds at its access. Its steps are written out, as a map's are.
+// Drives a copy to its access, or to its end if it is refused before. Requires that the copy is not decided at its
+// beginning. Writes the pins that it holds at its access. Its steps are written out, like those of a map.
 pub(crate) fn drive_copy<P: Allows>(
     words: &Words,
     known: &CallerState<'_, P>,
@@ -238,7 +238,7 @@ pub(crate) fn drive_copy<P: Allows>(
     walk(words, known, seat, caller, copy, pins)
 }
 
-// Gives back the pins of a route, the last one first.
+// Releases the pins of a route, the last one first.
 #[inline(always)]
 fn give_back_route(words: &Words, seat: &mut Seat, route: &AccessPath)
     requires seat { IsSeatOf words.now seat.old }
@@ -256,7 +256,7 @@ fn give_back_route(words: &Words, seat: &mut Seat, route: &AccessPath)
     }
 }
 
-// Gives back the pins that a copy held at its access, the last one first.
+// Releases the pins that a copy held at its access, the last one first.
 pub(crate) fn give_back(words: &Words, seat: &mut Seat, pins: &CallPins)
     requires seat { IsSeatOf words.now seat.old }
     requires taken { (base : View) × HasTaken words.now.layout (last_first pins.now) base seat.old.view }

@@ -1,4 +1,4 @@
-//! How a run starts.
+//! The start of a run.
 ghost use Rattle.std.specs.Prelude.{◌≡◌, ◌+◌, ◌<◌, ◌≤◌, ℕ, length, replicate, All, HoldsAt, IfOk, IfErr, OnOk, []};
 ghost use Rattle.gt_types.specs.Config.{IsWithinLimits};
 ghost use Rattle.gt_word_table.specs.Rule.{layout_of};
@@ -15,7 +15,7 @@ use gt_types::{Allows, Config, StartFault};
 use gt_words::{Seat, Words};
 use std::alloc::{AllocError, Global};
 
-// The rows of a domain at the start.
+// Makes the rows of a domain at the start.
 #[tactic(auto, unfolding(crate::specs::Starting::first_rows))]
 fn first_rows(alloc: Global, first_gen: u32) -> Result<Vec<OwnerEntry>, AllocError>
     requires { first_gen < 1048576 }
@@ -26,7 +26,7 @@ fn first_rows(alloc: Global, first_gen: u32) -> Result<Vec<OwnerEntry>, AllocErr
     Ok(rows)
 }
 
-// Rows for a domain with each of these visits.
+// Makes the rows of a domain for each of these lists of accesses.
 fn all_rows(
     alloc: Global,
     first_gen: u32,
@@ -45,7 +45,7 @@ fn all_rows(
     Ok(all)
 }
 
-// A domain for each seat, in order.
+// Makes a domain for each seat, in order.
 fn make_domains<P: Allows>(
     alloc: Global,
     monitor: &Monitor<P>,
@@ -82,10 +82,10 @@ fn make_domains<P: Allows>(
 impl<P: Allows + Drop> Monitor<P> {
     ghost use Rattle.gt_live.specs.Domains.{BelongsTo};
 
-    /// The monitor of a run, and its domains in order.
+    /// Makes the monitor of a run, and its domains in order.
     ///
     /// # Errors
-    /// The first fault of the configuration, or `Memory` if it has none and memory is refused.
+    /// The first fault of the configuration, or `Memory` if it has none and allocation fails.
     pub fn new(
         alloc: Global,
         config: Config,

@@ -1,4 +1,4 @@
--- When the items of the core and the steps of the words have made the same of all entries and headers.
+-- When the core's items and the steps of the words have made the same entries and headers.
 use Rattle.std.specs.Prelude.{◌≡◌, ℕ, ◌<◌}
 use Rattle.gt_order.specs.Prelude.{TABLE_ENTRIES, header_word, BodyWord, HasDomain, generation_of, StepHistory, Layout}
 use Rattle.gt_order.specs.Prelude.{half_index, part_of, word_after, header_place, id_at, place, position_in, changed}
@@ -13,7 +13,7 @@ use Rattle.gt_word_table.specs.declared.view.HeaderStep.TheVariants as header
 abbrev pub dom_at : Layout → ℕ → DomId
 dom_at k t = id_at k.ids t
 
--- The items and the history have made the same: of each entry the control word, the body words, and the entry and
+-- the items and the history have made the same: of each entry the control word, the body words, and the entry and
 -- generation that its owner knows, and of each table its header
 pub record Agree (s : Setting) (k : Layout) (g : Items) (h : StepHistory) : Type 0 where
   pub words : (t r : ℕ) → t < k.domains → r < TABLE_ENTRIES → word_at s g (dom_at k t).0 r ≡ word_after k h (place t r 0)
@@ -25,8 +25,8 @@ pub record Agree (s : Setting) (k : Layout) (g : Items) (h : StepHistory) : Type
   pub generations : (t r : ℕ) → t < k.domains → r < TABLE_ENTRIES
       → generation_at s g (dom_at k t).0 r ≡ (last_record k.first (entry_steps t r (part_of t h))).generation
 
--- the step of a call by the domain at the position i is this step of its seat: on the same word, of the same kind, and
--- an exchange from the same word, whether it was taken or missed
+-- this step of a call by the domain at the position i is this step of its seat: on the same word, of the same kind, and
+-- for an exchange from the same word, whether it was taken or missed
 abbrev pub IsThe : Layout → ℕ → Step → SeatStep → Type 0
 IsThe k i (LookHeader d) (Header t (header.Looked n)) = t ≡ position_in k.ids d
 IsThe k i (LookControl d q) (Entry t r (Looked n)) = (t ≡ position_in k.ids d) × (r ≡ q.0)
@@ -46,7 +46,7 @@ IsThe k i (Exchange q looked change) (Entry t r (ChangeMissed c e f n)) =
     (t ≡ i) × (r ≡ q.0) × (c ≡ change) × (e ≡ looked)
 IsThe k i _ _ = ⊥
 
--- the step is on words of the run's entries and headers
+-- the step is on words of entries and headers of the run
 abbrev pub IsWithin : Layout → Step → Type 0
 IsWithin k (LookHeader d) = HasDomain k d
 IsWithin k (LookControl d q) = HasDomain k d × (q.0 < TABLE_ENTRIES)

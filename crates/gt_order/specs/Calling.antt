@@ -1,4 +1,4 @@
--- The contracts of the calls of a domain, clause by clause, say that each is a call of a run.
+-- Each call of a domain is a call of a run, by the clauses of its contract.
 use Rattle.std.specs.Prelude.{◌≡◌, ℕ, List, [], Result, Ok, Err, OnOk, OnErr}
 use Rattle.gt_order.specs.Prelude.{denial_of, DomId, GrantRef, Denial, NoFacts, N26, IsSameSeat, Moment, Handle, asked}
 use Rattle.gt_order.specs.Prelude.{CallResult, Refused, HeldPin, Request, Writing, path_of, Step, Accessed, IsWrittenBy}
@@ -9,7 +9,7 @@ use Rattle.gt_calls.specs.declared.request.Request.TheVariants as requests
 use Rattle.gt_order.specs.Runs.{FitsTypes, IsCall, KeepsNoPin, CallOutcome}
 use Rattle.gt_order.specs.Runs.CallOutcome.{Told, Kept, Starved, Wrote}
 
--- the domain d of the monitor m asked this, with these steps and this outcome, after which it is e: a call of a run
+-- the domain d of the monitor m was asked this, with these steps and this outcome, and is then e: a call of a run
 abbrev pub WasMade : {P : Type 0} → (P → AllowRelation) → Monitor P → Request → CallOutcome → List Moment → Domain
     → Domain
     → Type 0
@@ -17,13 +17,13 @@ WasMade may m request outcome steps d e =
     IsCall m.words m.config (may m.rights)
     (record { request = request; outcome = outcome; steps = steps; old = d; new = e })
 
--- what each call of a domain ensures of it: it is of the monitor before and after, and has the same seat
+-- what each call of a domain ensures: the domain belongs to the monitor before and after, and has the same seat
 pub record StaysOf {P : Type 0} (may : P → AllowRelation) (m : Monitor P) (d e : Domain) : Type 0 where
   pub before : BelongsTo may m d
   pub afterwards : BelongsTo may m e
   pub seat : IsSameSeat d.seat e.seat
 
--- the calls that neither map nor unmap, which their path answers: so those with an access only where they are refused
+-- calls other than map and unmap whose result is their path's, so those with an access only if they are refused
 abbrev pub PlainCallsAreMade : {P : Type 0} → (P → AllowRelation) → Monitor P → Type 0
 PlainCallsAreMade may m =
     (d e : Domain) (request : Request) (verdict : CallResult) → StaysOf may m d e
@@ -38,7 +38,7 @@ UnmapsAreMade may m =
     → OnOk result ((p : HeldPin) × Removes d.mappings e.mappings handle p) → OnErr result (KeepsPinned d e)
     → (steps : List Moment) × WasMade may m (requests.Unmap handle) (Told (verdict_of result)) steps d e
 
--- the outcome of a map that was answered so
+-- the outcome of a map with this result
 abbrev pub IsOutcomeOf : Result Handle Denial → CallOutcome → Type 0
 IsOutcomeOf (Ok handle) (Kept given p) = given ≡ handle
 IsOutcomeOf (Err denial) (Told verdict) = verdict ≡ Refused denial
@@ -66,8 +66,8 @@ WritesAreMade may m =
     → Accesses may m d request (IsWrittenBy d.seat.dom bytes) (Ok r) e → KeepsPinned d e
     → WasMade may m request Wrote [] d e
 
--- a store or a poke that came to its access and could not make it: it made no step on the words, and is as if it was
--- never asked
+-- a store or a poke that reached its access and could not make it: it made no step on the words, and counts as never
+-- asked
 abbrev pub LostWritesAreMade : {P : Type 0} → (P → AllowRelation) → Monitor P → Type 0
 LostWritesAreMade may m =
     (d e : Domain) (request : Request) (access : Step) → StaysOf may m d e → IsStoring request

@@ -1,4 +1,4 @@
--- What follows of runs, and of the steps of the words beside the items of the core.
+-- Laws about runs, and about the words' steps and the core's items.
 use Rattle.std.specs.Prelude.{◌≡◌, ◌≢◌, ℕ, ◌<◌, ◌∷◌, Option, Some, None}
 use Rattle.gt_order.specs.Prelude.{State, IsWithinLimits, domain_of, Config, Board, StepHistory, Layout, SaysWord}
 use Rattle.gt_order.specs.Prelude.{word_place_of}
@@ -10,14 +10,15 @@ use Rattle.gt_order.specs.Agreeing.{Agree, IsThe, IsWithin, StoresChange, dom_at
 use Rattle.gt_order.specs.Ordering.{IsLegalOrder}
 use Rattle.gt_order.specs.Runs.{IsMonitorRun, SeatRun}
 
--- where items and history agree, the core's step sees what the words' step shows, if that says what is there
+-- if items and history agree, and the words' step records the word that is there, the core's step sees what that step
+-- shows
 abbrev pub CoreSeesTheWords : Type 0
 CoreSeesTheWords =
     (c : Config) (may : AllowRelation) (k : Layout) (g : Items) (h : StepHistory) (i : ℕ) (step : Step) (x : SeatStep)
     → k ≡ layout_of c → Agree (setting_of c may) k g h → i < k.domains → IsWithin k step → IsThe k i step x
     → SaysWord x (word_after k h (word_place_of x)) → seen_by (setting_of c may) g (dom_at k i) step ≡ seen_in_step x
 
--- where items and history agree, and an open call's next step was made by its seat, they agree after it too
+-- if items and history agree, and the seat of an open call made its next step, they agree after it
 abbrev pub StepsKeepAgreement : Type 0
 StepsKeepAgreement =
     (c : Config) (may : AllowRelation) (k : Layout) (g : Items) (h : StepHistory) (i : ℕ) (call : Underway)

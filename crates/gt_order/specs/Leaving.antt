@@ -1,4 +1,4 @@
--- A domain that leaves: it gives its mappings up.
+-- A domain that leaves unmaps its mappings.
 use Rattle.std.specs.Prelude.{◌≡◌, List, [], ◌∷◌, Some}
 use Rattle.gt_types.specs.declared.config.Config.{Config}
 use Rattle.gt_words.specs.Conditions.{Board}
@@ -15,20 +15,20 @@ use Rattle.gt_live.specs.declared.domain.Departed.{Departed}
 use Rattle.gt_order.specs.Runs.{AreCalls, CallMade, domain_after}
 use Rattle.gt_order.specs.Runs.CallOutcome.{Told}
 
--- the policy allows the domain to give each of its mappings up
+-- the policy allows the domain to unmap each of its mappings
 abbrev pub MayUnmapAll : Config → AllowRelation → Domain → Type 0
 MayUnmapAll c may d =
     (h : Handle) (m : HeldPin) → value_of d.mappings h ≡ Some m
     → IsAllowed may (rights_to_unmap (knowledge c may d) d.seat.dom m.dom)
 
--- each of these calls is an unmap that was answered Ok
+-- each of these calls is an unmap that is Ok
 abbrev pub AreUnmaps : List CallMade → Type 0
 AreUnmaps [] = Unit {0}
 AreUnmaps (m ∷ ms) =
     ((handle : Handle) × (m.request ≡ requests.Unmap handle) × (m.outcome ≡ Told Granted)) × AreUnmaps ms
 
--- Where the policy allows a domain to give each of its mappings up, leaving is that: the steps are those of unmaps,
--- one after another, each answered Ok. So a run goes on past a domain that leaves
+-- if the policy allows a domain to unmap each of its mappings, leaving is exactly that: the steps are those of unmaps,
+-- one after another, each Ok. So a run continues beyond a domain that leaves
 abbrev pub LeavingIsUnmapping : Type 0
 LeavingIsUnmapping =
     (b : Board) (c : Config) (may : AllowRelation) (d : Domain) (l : Departed) → IsDomainOf b c may d

@@ -1,4 +1,4 @@
--- The items of a run: the steps of its history in their order, and the beginnings of its calls between them.
+-- The items of a run: the steps of its history in their order, with the beginnings of its calls in between.
 use Rattle.std.specs.Prelude.{◌≡◌, ℕ, ◌<◌, ◌==◌, if◌then◌else◌, List, [], ◌∷◌, ◌++◌, Option, Some, None}
 use Rattle.gt_order.specs.Prelude.{DomId, Config, StepHistory, Layout, Moment, Continuation, path_of, Action, Makes}
 use Rattle.gt_order.specs.Prelude.{Observation}
@@ -11,19 +11,19 @@ use Rattle.gt_order.specs.Agreeing.{IsThe, dom_at}
 use Rattle.gt_order.specs.Runs.{CallMade, CallOutcome, SeatRun}
 use Rattle.gt_order.specs.Runs.CallOutcome.{Told, Kept, Starved, Wrote}
 
--- the step on the words is the last one of the history, by its seat's domain, and it saw what that shows
+-- the step on the words is the newest one of the history, by its seat's domain, and it saw what that step shows
 abbrev pub IsNewest : Layout → DomId → Step → Observation → (StepHistory → Type 0) → StepHistory → Type 0
 IsNewest k d step seen rest [] = ⊥
 IsNewest k d step seen rest (p ∷ h) =
     (d ≡ dom_at k p.0) × IsThe k p.0 step p.1 × (seen ≡ seen_in_step p.1) × rest h
 
--- a write is none of the words' steps, and each other step is
+-- a write is not a step of the words, and each other step is
 abbrev pub ThenStep : Layout → DomId → Step → Observation → (StepHistory → Type 0) → StepHistory → Type 0
 ThenStep k d (WriteBytes dom frame off len) seen rest h = rest h
 ThenStep k d step seen rest h = IsNewest k d step seen rest h
 
 -- the steps on the words among the items are those of the history, one by one in the same order, each by its seat's
--- domain, and it saw what the history's step shows
+-- domain, and each saw what the history's step shows
 abbrev pub ThenSteps : Layout → DomId → ItemEvent → (StepHistory → Type 0) → StepHistory → Type 0
 ThenSteps k d (Began request) rest h = rest h
 ThenSteps k d (Stepped step seen) rest h = ThenStep k d step seen rest h
@@ -32,53 +32,53 @@ abbrev pub AreStepsOf : Layout → Items → StepHistory → Type 0
 AreStepsOf k [] h = h ≡ []
 AreStepsOf k (i ∷ g) h = ThenSteps k i.actor i.happened (AreStepsOf k g) h
 
--- the step that comes next; on the way of a call there is always one where it made one
+-- the step that comes next; on the path of a call there is one if the call made one
 abbrev pub step_in : Option Action → Step
 step_in (Some (Makes step)) = step
 step_in action = LookHeader (record { 0 = 0 })
 
--- the item of a step of a call by the domain d, after those that showed these values, with the answer if it ends the
+-- the item of a step of a call by the domain d, after steps with these observations, with the answer if it ends the
 -- call
 abbrev pub item_of : DomId → Continuation → List Observation → Moment → Option Answer → Item
 item_of d way before x answer =
     record { actor = d; happened = Stepped (step_in (way before)) (shown_by x); answer = answer }
 
--- the items of these steps of a call, the last step first, which has the answer
+-- the items of these steps of a call, the last step first, and the last step has the answer
 abbrev pub items_of_steps : DomId → Continuation → Option Answer → List Moment → List Item
 items_of_steps d way answer [] = []
 items_of_steps d way answer (x ∷ xs) = item_of d way (all_shown xs) x answer ∷ items_of_steps d way None xs
 
--- the item of a beginning
+-- the item of the beginning of a call
 abbrev pub item_of_beginning : DomId → Request → Option Answer → Item
 item_of_beginning d request answer = record { actor = d; happened = Began request; answer = answer }
 
--- the items of a call that made these steps: a call without a step ends at its beginning, and else its last step has the
--- answer
+-- the items of a call with these steps: a call without a step ends at its beginning, and otherwise its last step has
+-- the answer
 abbrev pub items_of_call : DomId → Continuation → Request → Option Answer → List Moment → List Item
 items_of_call d way request answer [] = item_of_beginning d request answer ∷ []
 items_of_call d way request answer (x ∷ xs) =
     items_of_steps d way answer (x ∷ xs) ++ item_of_beginning d request None ∷ []
 
--- how the core answers a call that was answered so
+-- the core's answer to a call with this outcome
 abbrev pub answer_to : CallOutcome → Option Answer
 answer_to (Told verdict) = Some (answer_of verdict)
 answer_to (Kept handle p) = Some (MappedAnswer handle)
 answer_to Starved = None
 answer_to Wrote = Some AnswerDone
 
--- the item of the one step of a call that is Ok after it, which shows nothing
+-- the item of the write of a call: it shows nothing, and the call is Ok after it
 abbrev pub item_of_access : DomId → Continuation → Item
 item_of_access d way =
     record { actor = d; happened = Stepped (step_in (way [])) Nothing; answer = Some AnswerDone }
 
--- the items of a call with this outcome: none of one that was refused for want of memory, and of one that wrote its
--- beginning and its write
+-- the items of a call with this outcome: none if allocation failed or its access could not be made, its beginning and
+-- its write if it wrote, and otherwise those of its steps
 abbrev pub items_by_outcome : DomId → Continuation → Request → CallOutcome → List Moment → List Item
 items_by_outcome d way request Starved steps = []
 items_by_outcome d way request Wrote steps = item_of_access d way ∷ item_of_beginning d request None ∷ []
 items_by_outcome d way request outcome steps = items_of_call d way request (answer_to outcome) steps
 
--- the way of a call
+-- the path of a call
 abbrev pub way_of : Config → AllowRelation → CallMade → Continuation
 way_of c may m = path_of (knowledge c may m.old) m.old.seat.dom m.request
 
@@ -98,7 +98,7 @@ abbrev pub event_in : DomId → ItemEvent → Event
 event_in d (Began request) = Begin d request
 event_in d (Stepped step seen) = Tick d
 
--- the events of items, the first one first, and the trace that they are
+-- the events of items, in order, and the trace that the items are
 abbrev pub events_of : Items → List Event
 events_of [] = []
 events_of (i ∷ g) = events_of g ++ event_in i.actor i.happened ∷ []
@@ -107,7 +107,7 @@ abbrev pub trace_of : Items → List Element
 trace_of [] = []
 trace_of (i ∷ g) = trace_of g ++ Did i ∷ []
 
--- The items are a legal order of the run's calls: a core stands for them, their trace is legal for their events, their
+-- the items are a legal order of the run's calls: a core represents them, their trace is legal for their events, their
 -- steps are those of the history in its order, and those of each domain are the items of its calls
 pub record IsLegalOrder (c : Config) (may : AllowRelation) (k : Layout) (h : StepHistory) (seats : ℕ → SeatRun)
     (g : Items) : Type 0 where

@@ -1,4 +1,4 @@
--- The names of other crates, and of the code, that the definitions here speak of.
+-- Names from other crates, and from the code, that these definitions use.
 pub use Rattle.atomic_table.specs.Table.{State}
 pub use Rattle.gt_calls.specs.Asking.{FitsAsked, asked, bytes_of}
 pub use Rattle.gt_calls.specs.Path.{Continuation, path, path_of}

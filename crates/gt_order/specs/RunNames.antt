@@ -1,4 +1,4 @@
--- The names of other crates, and of the code, that the definitions here speak of.
+-- Names from other crates that the definitions of texts use.
 pub use Rattle.atomic_table.specs.Table.{State}
 pub use Rattle.gt_calls.specs.declared.request.Request.{Request}
 pub use Rattle.gt_core.specs.Acting.{answer_of}

@@ -1,4 +1,4 @@
--- A run of the monitor: the order of all steps of all seats, and for each domain the calls that it made.
+-- A run of the monitor: the order of all steps of all seats, and the calls that each domain made.
 use Rattle.std.specs.Prelude.{◌≡◌, ℕ, ◌<◌, All, List, [], ◌∷◌, length, Option, Some, None}
 use Rattle.gt_order.specs.Prelude.{some, get_elem?, State, IsWithinLimits, GrantRef, Config, Board, IsSameSeat, Moment}
 use Rattle.gt_order.specs.Prelude.{Shows, layout_of, View, HandleMap, Handle, FitsAsked, asked, bytes_of, Continuation}
@@ -7,16 +7,16 @@ use Rattle.gt_order.specs.Prelude.{HeldPin, OpenRequest, Request, AllowRelation,
 use Rattle.gt_order.specs.Prelude.{KeepsMappings, Removes, IsNewDomain, Called, Domain}
 use Rattle.gt_calls.specs.declared.request.OpenRequest.TheVariants as asks
 
--- how a call was answered: as its path ends, by a mapping under a handle, by a refusal for want of memory, or by Ok
--- after it wrote the bytes that it was given
+-- the outcome of a call: the result of its path; a mapping under a handle; a refusal since allocation failed or its
+-- access could not be made; or Ok after it wrote the bytes passed
 pub data CallOutcome : Type 0 where
   Told : CallResult → CallOutcome
   Kept : Handle → HeldPin → CallOutcome
   Starved : CallOutcome
   Wrote : CallOutcome
 
--- a finished call of a domain: what it asked, how it was answered, the steps that it made, each with its moment and the
--- last one first, and the domain before it and after it
+-- a finished call of a domain: its request, its outcome, its steps (each with its moment, the last one first), and the
+-- domain before and after it
 pub record CallMade : Type 0 where
   pub request : Request
   pub outcome : CallOutcome
@@ -24,38 +24,38 @@ pub record CallMade : Type 0 where
   pub old : Domain
   pub new : Domain
 
--- the mappings after a call that was answered so by its path: an unmap that is not refused gives one up, and no other
--- call changes any
+-- the mappings after a call with this result of its path: an unmap that is not refused removes one, and no other call
+-- changes any
 abbrev pub LeavesMappings : OpenRequest → CallResult → HandleMap HeldPin → HandleMap HeldPin → Type 0
 LeavesMappings (asks.Unmap handle) (Refused denial) old new = KeepsMappings old new
 LeavesMappings (asks.Unmap handle) verdict old new = (p : HeldPin) × Removes old new handle p
 LeavesMappings request verdict old new = KeepsMappings old new
 
--- a verdict that keeps no pin
+-- a result that keeps no pin
 abbrev pub KeepsNoPin : CallResult → Type 0
 KeepsNoPin (Mapped p) = ⊥
 KeepsNoPin verdict = Unit {0}
 
--- the call took its seat's view from the one to the other by these steps of its path, which ends with this verdict
+-- the call took its seat's view from d to e by these steps of its path, which ends with this result
 abbrev pub TookSteps : Board → Config → AllowRelation → Request → CallResult → List Moment → Domain → Domain → Type 0
 TookSteps b c may request verdict steps d e =
     (called : Called b.layout (path_of (knowledge c may d) d.seat.dom request) verdict d.seat.view e.seat.view)
     × (called.steps ≡ steps)
 
--- the step writes bytes that its call was given
+-- the step writes the bytes passed to its call
 abbrev pub IsWriteStep : Step → Type 0
 IsWriteStep (WriteBytes dom frame off len) = Unit {0}
 IsWriteStep step = ⊥
 
--- a store or a poke: its path has one step, which writes, and ends with Ok
+-- the path of a store or a poke: it has one step, which writes, and ends with Ok
 pub record WritesOnce (way : Continuation) : Type 0 where
   pub access : Step
   pub writes : IsWriteStep access
   pub next : way [] ≡ Some (Makes access)
   pub done : way (Nothing ∷ []) ≡ Some (Done Granted)
 
--- the call was answered as its path ends; one that is refused for want of memory made no step, and neither did one that
--- wrote, on the words
+-- the call has this outcome: mostly by its path; one whose allocation failed or whose access could not be made made no
+-- step, and one that wrote made no step on the words
 abbrev pub IsAnswered : Board → Config → AllowRelation → Request → CallOutcome → List Moment → Domain → Domain → Type 0
 IsAnswered b c may request (Told verdict) steps d e =
     KeepsNoPin verdict × TookSteps b c may request verdict steps d e
@@ -68,16 +68,16 @@ IsAnswered b c may request Wrote steps d e =
     (steps ≡ []) × (e.seat.view ≡ d.seat.view) × KeepsMappings d.mappings e.mappings
     × WritesOnce (path_of (knowledge c may d) d.seat.dom request)
 
--- each byte is one
+-- each byte is below 256
 abbrev pub AreBytesOf : Option (GrantRef × List ℕ) → Type 0
 AreBytesOf None = Unit {0}
 AreBytesOf (Some b) = All (λ byte. byte < 256) b.1
 
--- what the types of a request give: each number of an entry fits its type, and bytes are below 256
+-- the numbers of the request are in the range of their types: those of an entry, and bytes are below 256
 abbrev pub FitsTypes : Request → Type 0
 FitsTypes request = FitsAsked (asked request) × AreBytesOf (bytes_of request)
 
--- The call was made without an access to bytes, or was a store or a poke, as the contract of its function of Domain says
+-- the call made no access to bytes, or was a store or a poke, as the contract of its function of Domain promises
 pub record IsCall (b : Board) (c : Config) (may : AllowRelation) (m : CallMade) : Type 0 where
   pub before : IsDomainOf b c may m.old
   pub afterwards : IsDomainOf b c may m.new
@@ -85,7 +85,7 @@ pub record IsCall (b : Board) (c : Config) (may : AllowRelation) (m : CallMade) 
   pub fits : FitsTypes m.request
   pub answered : IsAnswered b c may m.request m.outcome m.steps m.old m.new
 
--- between two calls the domain changed nothing but its records
+-- between two calls the domain changed only its records
 pub record IsAtRest (d e : Domain) : Type 0 where
   pub seat : e.seat ≡ d.seat
   pub own : e.own ≡ d.own
@@ -107,15 +107,16 @@ AreCalls b c may first [] = Unit {0}
 AreCalls b c may first (m ∷ ms) =
     IsCall b c may m × IsAtRest (domain_after first ms) m.old × AreCalls b c may first ms
 
--- the domain at the position i began with nothing done, and made these calls; its view is now this
+-- the domain at the position i started as a new domain and made these calls; its view in this state is the one after
+-- them
 pub record IsSeatRun (b : Board) (c : Config) (may : AllowRelation) (i : ℕ) (r : SeatRun) (views : List View)
     : Type 0 where
   pub starts : IsNewDomain b c may i r.first
   pub calls : AreCalls b c may r.first r.calls
   pub now : get_elem? views i ≡ some (domain_after r.first r.calls).seat.view
 
--- A run of the monitor whose domains all stand between two calls: words and views show a state, each domain came with
--- the monitor, made its calls one after another, and has the view that it has there
+-- a run of the monitor whose domains are all between two calls: words and views show a state, and each domain came with
+-- the monitor, made its calls one after another, and has the view that it has in that state
 pub record IsMonitorRun (b : Board) (c : Config) (may : AllowRelation) (s : State (Unit {0}) View) (seats : ℕ → SeatRun)
     : Type 0 where
   pub limits : IsWithinLimits c

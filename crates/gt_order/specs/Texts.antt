@@ -10,15 +10,15 @@ use Rattle.gt_order.specs.RunNames.{ListProgress}
 use Rattle.gt_core.specs.declared.trace.Answer.TheVariants as answers
 use Rattle.gt_script_lines.specs.declared.calls.ScriptCall.TheVariants as calls
 
--- the line asks for no read of bytes and for no copy
+-- the line asks for no read of bytes and no copy
 abbrev pub ReadsNoBytes : ScriptCall → Type 0
 ReadsNoBytes (calls.Load label off len) = ⊥
 ReadsNoBytes (calls.Peek frame off len) = ⊥
 ReadsNoBytes (calls.Copy c) = ⊥
 ReadsNoBytes call = Unit {0}
 
--- Each call of the duty's list reads no bytes and copies none, and what it asks has the numbers that its types can hold,
--- whatever its labels name
+-- each call of the job's list reads and copies no bytes, and the numbers of its request are in the range of their
+-- types, whatever its labels name
 abbrev pub IsQuietDuty : {P : Type 0} → ThreadJob P → Type 0
 IsQuietDuty duty =
     (task : RunTask) (call : ScriptCall) → IsAmong task duty.part.tasks.now → (task.dom.0 == duty.part.dom.0) ≡ true
@@ -26,15 +26,15 @@ IsQuietDuty duty =
     → ReadsNoBytes call
     × ((named : List Named) (request : Request) → SaysRequest named duty.part.dom call request → FitsTypes request)
 
--- a call with this outcome was answered so
+-- a call with this outcome has this answer
 abbrev pub OutcomeGivesAnswer : CallOutcome → Answer → Type 0
 OutcomeGivesAnswer (Told verdict) answer = answer ≡ answer_of verdict
 OutcomeGivesAnswer (Kept handle p) answer = answer ≡ answers.Mapped handle
 OutcomeGivesAnswer Starved answer = (denial : Denial) × (answer ≡ answers.Denied denial) × IsOfAccess denial
 OutcomeGivesAnswer Wrote answer = answer ≡ answers.Done
 
--- the call m of a run is the one that a line of the duty's list made, and what came of that: its domain was asked what
--- the line says, by what its labels stood for then, and its answer is what the line prints
+-- the call m of a run is the one that a line of the job's list made, with its outcome: the domain was asked what the
+-- line encodes, with the handles that its labels named then, and the answer is the one that the line prints
 pub record IsCallOf {P : Type 0} (may : P → AllowRelation) (duty : ThreadJob P) (m : CallMade) (o : ListOutcome)
     : Type 0 where
   pub call : ScriptCall
@@ -47,7 +47,7 @@ pub record IsCallOf {P : Type 0} (may : P → AllowRelation) (duty : ThreadJob P
   pub answer : o.answer ≡ made.answer
   pub answered : OutcomeGivesAnswer m.outcome o.answer
 
--- these calls, the last one first, are those that the lines of the duty's list made, whose outcomes are in their order
+-- these calls, the last one first, are those that the lines of the job's list made, with their outcomes in order
 abbrev pub AreCallsOf : {P : Type 0} → (P → AllowRelation) → ThreadJob P → List CallMade → List ListOutcome → Type 0
 AreCallsOf may duty [] outcomes = outcomes ≡ []
 AreCallsOf may duty (m ∷ ms) outcomes =
@@ -61,13 +61,13 @@ pub record HasList {P : Type 0} (may : P → AllowRelation) (m : Monitor P) (i :
   pub served : IsServed may s.duty s.outcomes s.text
   pub quiet : IsQuietDuty s.duty
 
--- the view is that of the domain where its list ended; or the domain has left since, and the policy
--- lets it give each of its mappings up
+-- the view is the domain's at the end of its list; or the domain has left since, and the policy allows it to unmap each
+-- of its mappings
 abbrev pub IsViewOf : Board → Config → AllowRelation → Domain → View → Type 0
 IsViewOf b c may d v =
     (v ≡ d.seat.view) ⊎ ((l : Departed) × HasLeft b.layout d l × MayUnmapAll c may d × (v ≡ l.seat.view))
 
--- one of its calls is a call of its list, or an unmap with which it left
+-- each of a domain's calls is a call of its list, or an unmap with which it left
 pub record AreCallsOfList {P : Type 0} (may : P → AllowRelation) (s : Served P) (made : List CallMade) : Type 0 where
   pub leaving : List CallMade
   pub listed : List CallMade
@@ -75,8 +75,8 @@ pub record AreCallsOfList {P : Type 0} (may : P → AllowRelation) (s : Served P
   pub unmaps : AreUnmaps leaving
   pub lines : AreCallsOf may s.duty listed s.outcomes
 
--- The text of the lists is that of a legal order: one list of items is legal for the run, has the steps of the history in
--- their order, and has of each domain the calls of its list, with the answers that its lines print
+-- the text of the lists is that of a legal order: one list of items is legal for the run, has the steps of the history
+-- in their order, and has for each domain the calls of its list, with the answers that its lines print
 pub record AreOfALegalOrder {P : Type 0} (may : P → AllowRelation) (m : Monitor P) (h : StepHistory)
     (lists : ℕ → Served P)
     : Type 0 where
@@ -85,8 +85,8 @@ pub record AreOfALegalOrder {P : Type 0} (may : P → AllowRelation) (m : Monito
   pub legal : IsLegalOrder m.config (may m.rights) m.words.layout h seats items
   pub each : (i : ℕ) → i < length m.config.domains.items → AreCallsOfList may (lists i) (seats i).calls
 
--- If each domain's list was served and reads and copies no bytes, and words and views show a state in which each domain has the
--- view with which its list ended or it left, the text of the lists is that of a legal order
+-- if each domain's list was served, and reads and copies no bytes, and words and views show a state in which each
+-- domain has the view with which its list ended or it left, then the text of the lists is that of a legal order
 abbrev pub TextsAreOfALegalOrder : {P : Type 0} → (P → AllowRelation) → Monitor P → Type 0
 TextsAreOfALegalOrder {P} may m =
     (lists : ℕ → Served P) (s : State (Unit {0}) View) (ends : ℕ → View)

@@ -1,4 +1,4 @@
-//! What the definitions of this crate come to. Each law is a function that does nothing, whose contract is the law.
+//! Consequences of the definitions. Each law is a function that does nothing; its contract is the law.
 ghost use Rattle.gt_order.specs.Calling.{LostWritesAreMade, MapsAreMade, PlainCallsAreMade, UnmapsAreMade};
 ghost use Rattle.gt_order.specs.Calling.{WritesAreMade};
 ghost use Rattle.gt_order.specs.Leaving.{LeavingIsUnmapping};
@@ -8,21 +8,21 @@ ghost use Rattle.gt_order.specs.Texts.{TextsAreOfALegalOrder};
 use gt_live::Monitor;
 use gt_types::Allows;
 
-/// A law: where the items and the history have made the same of all words, the core's step sees what the step of the
-/// words shows, if that says what is there.
+/// A law: if the items and the history have made the same words, and the step of the words records the word that is
+/// there, then the core's step sees what that step shows.
 pub fn core_sees_the_words()
     ensures { CoreSeesTheWords }
 {}
 
-/// A law: where they have made the same of all words, and the next step of an open call is made on the words and is a
-/// right item, they have made the same after it.
+/// A law: if the items and the history have made the same words, and the next step of an open call is made on the words
+/// and is a right item, then they have made the same words after it.
 pub fn steps_keep_agreement()
     ensures { StepsKeepAgreement }
 {}
 
-/// A law: what the calls of a domain promise makes each of them a call of a run, if it makes no access to bytes or is a
-/// store or a poke: the clauses of their contracts, as they stand there, are all that is asked. A call with an access
-/// makes none if a rule refuses it.
+/// A law: the contracts of a domain's calls make each of them a call of a run, if it makes no access to bytes or is a
+/// store or a poke. Nothing beyond the clauses of those contracts is needed. A load, a peek or a copy makes no access
+/// if a rule refuses it.
 pub fn calls_of_domains_are_made<P: Allows>(monitor: &Monitor<P>)
     ensures plain { PlainCallsAreMade P.may monitor.now }
     ensures unmaps { UnmapsAreMade P.may monitor.now }
@@ -31,14 +31,14 @@ pub fn calls_of_domains_are_made<P: Allows>(monitor: &Monitor<P>)
     ensures lost { LostWritesAreMade P.may monitor.now }
 {}
 
-/// A law: the whole of each run of the monitor, whose calls read no bytes and copy none and are all finished, is one
-/// legal interleaving of the core's events, in which each call is answered as its domain answered it.
+/// A law: each run of the monitor whose calls read and copy no bytes, and are all finished, is one legal interleaving
+/// of the core's events, in which each call has the answer that its domain gave.
 pub fn every_run_has_a_legal_order()
     ensures { RunsHaveLegalOrders }
 {}
 
-/// A law: where the policy allows a domain to give each of its mappings up, leaving is that many unmaps, each answered
-/// Ok. So a run goes on past a domain that leaves.
+/// A law: if the policy allows a domain to unmap each of its mappings, leaving is that many unmaps, each Ok. So a run
+/// continues beyond a domain that leaves.
 pub fn leaving_is_unmapping()
     ensures { LeavingIsUnmapping }
 {}

@@ -1,4 +1,4 @@
--- The frames that the one history makes.
+-- The frames that the history makes.
 use Rattle.std.specs.Prelude.{◌≡◌, ℕ, cond, ◌==◌, ◌&&◌, List, [], ◌∷◌, ◌++◌, length, IsTrue}
 use Rattle.gt_frames.specs.Frames.{FrameState, bytes_at, is_rightful}
 use Rattle.gt_frames.specs.declared.writ.WriteRecord.{WriteRecord}
@@ -44,7 +44,7 @@ abbrev pub AreTrueBytes : Layout → StepHistory → Type 0
 AreTrueBytes k [] = Unit {0}
 AreTrueBytes k (p ∷ h) = SaysBytes k h p.1 × AreTrueBytes k h
 
--- a step on words, and no access to bytes
+-- the step is on words, and is not an access to bytes
 abbrev pub IsOnWords : SeatStep → Type 0
 IsOnWords (Entry d q m) = Unit {0}
 IsOnWords (Header d m) = Unit {0}

@@ -1,4 +1,4 @@
--- What follows from the rules, for callers.
+-- Consequences of the rules, for callers.
 use Rattle.std.specs.Prelude.{◌≡◌, ℕ, ◌<◌, List, [], ◌∷◌, ◌==◌, false, length, take, slice_set, Some}
 use mathlib.Core.Option.{some}
 use prog.Atomic.{either}
@@ -19,7 +19,7 @@ use Rattle.gt_shared_frames.specs.Rule.{Cell, FrameAt, HoldsAll, IsNamed, Frames
 use Rattle.gt_shared_frames.specs.Rule.{lock_place, made, newcomer, places_of}
 use Rattle.gt_shared_frames.specs.Telling.{AreLeft, Frees, IsByHeld, Locks, outlook_after}
 
--- a seat may access any frame next, and words and views show a state then: the access is the new end of the history
+-- a seat may access any frame next; words and views then show a state, and the access is the new end of the history
 abbrev pub AccessesGoOn : Type 0
 AccessesGoOn =
     (k : Layout) (z : State (Unit {0}) Outlook) (holds : TableHolds k z) (id : ℕ) (o : Outlook)
@@ -61,7 +61,7 @@ FramesAreLocked =
     → Allows (HoldsAll b) slots id me (lock_place b q) (λ w. either (w == 0) 1 w)
     (λ w m. Locks b.layout n q me w m)
 
--- a frame that is carried first may be given back by an access
+-- the frame that the seat carries first may be freed by an access
 abbrev pub FramesAreFreed : Type 0
 FramesAreFreed =
     (b : Places) (slots id : ℕ) (me : Me Cell FrameHolder) (q : ℕ) (n : FrameAt) → IsNamed b q n → (x : FrameState)
@@ -70,7 +70,7 @@ FramesAreFreed =
     → IsByHeld b me.0.held x m → me.0.own.gone ≡ false
     → Allows (HoldsAll b) slots id me (lock_place b q) (λ _. 0) (λ _ m'. Frees b n m hs me m')
 
--- every step on words that the rule of the words allows is allowed, and tells the same
+-- every step on words that the rule of the words allows is allowed here, and promises the same
 abbrev pub WordsAreStepped : Type 0
 WordsAreStepped =
     (b : Places) (slots id : ℕ) (me : Me Cell FrameHolder) (at : ℕ) (f : ℕ → ℕ) (d : StepKind) (st : TableStep (Unit {0}))
@@ -79,7 +79,8 @@ WordsAreStepped =
     → Allows (HoldsAll b) slots id me at f
     (λ n m. tells_own d st (me.0.own, []) n (m.0.own, []) × (m.0.held ≡ me.0.held) × (m.1 ≡ me.1))
 
--- the rule holds at the start, if that of the words does, no frame has two slots, and each slot has its frame of zeros
+-- the rule holds at the start, if the rule of the words does, no frame has two slots, and each slot has its frame of
+-- zeros
 abbrev pub FramesOpen : Type 0
 FramesOpen =
     (b : Places) (ws : List ℕ) (xs : List Cell) (o : Outlook)
@@ -89,14 +90,14 @@ FramesOpen =
     → ((q : ℕ) → q < length b.names → q < length xs) → ((q : ℕ) → q < length b.names → lock_place b q < length ws)
     → HoldsAll b (opening ws xs (newcomer o))
 
--- a frame that is carried first may be given back as it was taken, and nothing is told
+-- the frame that the seat carries first may be freed unchanged, and no view gains a step
 abbrev pub FramesAreReturned : Type 0
 FramesAreReturned =
     (b : Places) (slots id : ℕ) (me : Me Cell FrameHolder) (q : ℕ) (n : FrameAt) → IsNamed b q n → (x : FrameState)
     (hs : List (ℕ × FrameState)) → AreLeft q x me.0.held hs → (c : List (ℕ × Cell)) → me.1 ≡ (q, Some x) ∷ c
     → Allows (HoldsAll b) slots id me (lock_place b q) (λ _. 0) (λ _ m'. m' ≡ (record me.0 { held = hs }, rest me.1))
 
--- no name is at two places of the list
+-- no name is at two positions of the list
 abbrev pub AreApart : List FrameAt → Type 0
 AreApart xs = (i j : ℕ) (m : FrameAt) → get_elem? xs i ≡ some m → get_elem? xs j ≡ some m → i ≡ j
 

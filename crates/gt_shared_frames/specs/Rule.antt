@@ -30,14 +30,14 @@ pub record Places : Type 0 where
   pub layout : Layout
   pub names : List FrameAt
 
--- the place of the lock of a slot: after the words of all entries, eight words apart
+-- the index of a slot's lock among the words: after the words of all entries, eight words apart
 abbrev pub lock_place : Places → ℕ → ℕ
 lock_place b q = header_place b.layout.domains + 8 * q
 
 abbrev pub Cell : Type 0
 Cell = Option FrameState
 
--- what is out: slots and the frames that were in them
+-- the slot q is one of these
 abbrev pub Has : ℕ → List (ℕ × FrameState) → Type 0
 Has q [] = ⊥
 Has q (p ∷ ps) = (p.0 ≡ q) ⊎ Has q ps
@@ -54,7 +54,7 @@ IsNamed b q n = get_elem? b.names q ≡ some n
 abbrev pub name_of : FrameSlot → FrameAt
 name_of s = (s.owner, s.number)
 
--- a slot of the table: its lock is at its place, and it has the frame of this name
+-- a slot of the table: its lock is at its index, and it has the frame of this name
 abbrev pub IsSlotOf : Places → TableId → FrameSlot → Type 0
 IsSlotOf b z s = (s.lock ≡ lock_place b s.index) × (s.lock < z.words) × IsNamed b s.index (name_of s)
 
@@ -62,7 +62,7 @@ IsSlotOf b z s = (s.lock ≡ lock_place b s.index) × (s.lock < z.words) × IsNa
 abbrev pub made : Places → StepHistory → FrameAt → FrameState
 made b h n = frame_made b.layout n.0 n.1 h
 
--- frames at home are what the one history makes; one that is out is in one seat's hand, with the value that it had
+-- a frame in its slot is what the history makes; a frame that is out is held by one seat, with the contents that it had
 pub record FramesAreKept (b : Places) (h : StepHistory) (s : State Cell FrameHolder) : Type 0 where
   pub truth : AreTrueBytes b.layout h
   pub apart : (i j : ℕ) (n : FrameAt) → IsNamed b i n → IsNamed b j n → i ≡ j
@@ -79,7 +79,7 @@ pub record FramesAreKept (b : Places) (h : StepHistory) (s : State Cell FrameHol
       → (y : Cell) × (get_elem? s.homes q ≡ some (some y))
   pub wide : (q : ℕ) → q < length b.names → lock_place b q < length s.words
 
--- what the rule of the words sees
+-- the slots as the rule of the words sees them: it ignores what they hold
 abbrev pub hidden : Maybe Cell → Maybe (Unit {0})
 hidden h = none
 
@@ -99,11 +99,11 @@ pub record HoldsAll (b : Places) (s : State Cell FrameHolder) : Type 0 where
   pub words : TableHolds b.layout (inner b s)
   pub frames : FramesAreKept b words.shown.history s
 
--- the run, with the names of its frames
+-- what a seat knows that holds no frame
 abbrev pub newcomer : Outlook → FrameHolder
 newcomer o = record { own = o; held = [] }
 
--- the frames of these domains, the first of which is at this position
+-- the frames of these domains, of which the first is at this position
 abbrev pub names_from : ℕ → List DomainConfig → List FrameAt
 names_from t [] = []
 names_from t (d ∷ ds) = map (frame_at t) (range_with_len 0 d.frames) ++ names_from (t + 1) ds

@@ -1,4 +1,4 @@
--- What the steps on frames tell.
+-- What the steps on frames promise.
 use Rattle.std.specs.Prelude.{◌≡◌, ℕ, List, [], ◌∷◌, ◌⊎◌, MatchBool, nat_lt, ◌==◌, length, Some, None}
 use Rattle.std.specs.Prelude.{Bool, true, false, IsTrue}
 use Rattle.atomic_table.specs.Table.{Me, rest}
@@ -22,20 +22,20 @@ use Rattle.gt_shared_frames.specs.declared.table.FrameSlot.{FrameSlot}
 use Rattle.gt_frames.specs.declared.writ.Writ.{Writ}
 use Rattle.gt_types.specs.declared.Range.{Range}
 
--- the seat has this frame besides, as it is
+-- the seat also holds this frame, with these contents
 abbrev pub holding : ℕ → FrameState → FrameHolder → FrameHolder
 holding q x v = record v { held = (q, x) ∷ v.held }
 
--- the seat took the frame of this name out of this slot, as it is
+-- the seat took the frame of this name out of this slot
 abbrev pub TookAt : Layout → FrameAt → ℕ → Me Cell FrameHolder → Me Cell FrameHolder → Type 0
 TookAt k a q m m' =
     (x : FrameState) × (m' ≡ (holding q x m.0, (q, Some x) ∷ m.1)) × (x.owner ≡ id_at k.ids a.0) × (x.number ≡ a.1)
 
--- the same of a slot with its name
+-- the seat took the frame of this slot
 abbrev pub Took : Layout → FrameSlot → Me Cell FrameHolder → Me Cell FrameHolder → Type 0
 Took k s m m' = TookAt k (name_of s) s.index m m'
 
--- the frame of the slot was taken, or another has it
+-- the frame of the slot was taken, or another seat has it
 abbrev pub Locks : Layout → FrameAt → ℕ → Me Cell FrameHolder → ℕ → Me Cell FrameHolder → Type 0
 Locks k a q m n m' = MatchBool (n == 0) (TookAt k a q m m') (m' ≡ m)
 
@@ -43,7 +43,7 @@ abbrev pub rest_held : List (ℕ × FrameState) → List (ℕ × FrameState)
 rest_held [] = []
 rest_held (p ∷ ps) = ps
 
--- the frames held but the one taken last; or but the one before it
+-- the frames held, without the one taken last, or without the one before that
 abbrev pub left_by : Bool → List (ℕ × FrameState) → List (ℕ × FrameState)
 left_by true held = rest_held held
 left_by false [] = []
@@ -57,14 +57,14 @@ outlook_after past x o = record o { own = with_step past x o.own }
 abbrev pub holder_after : StepHistory → SeatStep → List (ℕ × FrameState) → FrameHolder → FrameHolder
 holder_after past x hs v = record { own = outlook_after past x v.own; held = hs }
 
--- of the frames held these are left without the one of this slot, which was taken last or before that
+-- these are left of the frames held without the one of this slot, which was taken last or just before the last
 abbrev pub AreLeft : ℕ → FrameState → List (ℕ × FrameState) → List (ℕ × FrameState) → Type 0
 AreLeft q x held hs =
     (held ≡ (q, x) ∷ hs)
     ⊎ ((p : ℕ × FrameState) × (ps : List (ℕ × FrameState)) × (held ≡ p ∷ (q, x) ∷ ps) × (hs ≡ p ∷ ps))
 
--- The step was taken after the steps past of all seats. Words and views showed a state before each of them, before it
--- and after it, and each access, this one too, has the bytes that the steps before it make
+-- the step was taken after the history past. Words and views showed a state before each step of that history, before
+-- this step and after it, and each access, this one too, has the bytes that the steps before it make
 pub record Accesses (k : Layout) (v : View) (past : StepHistory) (x : SeatStep) : Type 0 where
   pub stood : StoodWith (Unit {0}) k past v
   pub still_stands : StoodWith (Unit {0}) k ((v.position, x) ∷ past) (with_step past x v)
@@ -72,7 +72,7 @@ pub record Accesses (k : Layout) (v : View) (past : StepHistory) (x : SeatStep) 
   pub says : SaysBytes k past x
   pub truth : AreTrueBytes k past
 
--- a frame was given back by this access, and these are left
+-- a frame was freed by this access, and these are left
 abbrev pub Frees : Places → FrameAt → FrameStep → List (ℕ × FrameState) → Me Cell FrameHolder → Me Cell FrameHolder → Type 0
 Frees b n m hs me me' =
     (past : StepHistory) × (me' ≡ (holder_after past (Frame n.0 n.1 m) hs me.0, rest me.1))
@@ -80,19 +80,19 @@ Frees b n m hs me me' =
     × ((x : FrameState) (q : ℕ) → IsAmong (q, x) me.0.held → (a : FrameAt) → IsNamed b q a
     → x ≡ frame_made b.layout a.0 a.1 past)
 
--- a frame went back as it was taken, and these are left
+-- a frame was freed unchanged, and these are left
 abbrev pub Returns : List (ℕ × FrameState) → Me Cell FrameHolder → Me Cell FrameHolder → Type 0
 Returns hs me me' = me' ≡ (record me.0 { held = hs }, rest me.1)
 
--- The seat has the frame of this slot out, first among the slots that it carries. It took it last, or just before
--- the last
+-- the seat has the frame of this slot out, first among the slots that it carries; it took it last, or just before the
+-- last
 pub record IsOut (k : Layout) (s : FrameSlot) (last : Bool) (x : FrameState) (me : Me Cell FrameHolder) : Type 0 where
   pub carried : me.1 ≡ (s.index, Some x) ∷ rest me.1
   pub left : AreLeft s.index x me.0.held (left_by last me.0.held)
   pub owner : x.owner ≡ id_at k.ids s.owner
   pub number : x.number ≡ s.number
 
--- what the access says is so by the frames that the seat holds
+-- the access agrees with the frames that the seat holds
 abbrev pub IsByHeld : Places → List (ℕ × FrameState) → FrameState → FrameStep → Type 0
 IsByHeld b held x (Read off bs) = bs ≡ bytes_at x off (length bs)
 IsByHeld b held x (Wrote r) = IsTrue (is_rightful x.owner x.number r)
@@ -104,26 +104,26 @@ IsByHeld b held x (Copied d f off r) =
 abbrev pub IsOf : TableId → Seat Cell FrameHolder → Type 0
 IsOf z s = s.table_id ≡ z
 
--- the seat made this access to the frame, and nothing else: it is the step of the history right after the steps past
+-- the seat made this access to the frame, and nothing else: it is one step, right after the history past
 abbrev pub Accessed : Layout → FrameAt → FrameStep → Me Cell FrameHolder → Me Cell FrameHolder → Type 0
 Accessed k n m me me' =
     (past : StepHistory)
     × (me' ≡ (record { own = outlook_after past (Frame n.0 n.1 m) me.0.own; held = me.0.held }, me.1))
     × Accesses k me.0.own.own past (Frame n.0 n.1 m)
 
--- the seat copied a range of the first frame to the second, from an offset on, and did nothing else: it is one step,
--- which says the bytes that the source had
+-- the seat copied a range of the first frame to the second, starting at an offset, and did nothing else: it is one
+-- step, with the bytes that the source had
 abbrev pub CopiedBy : Layout → FrameAt → FrameAt → Writ → Range → ℕ → Me Cell FrameHolder → Me Cell FrameHolder → Type 0
 CopiedBy k a b w range to_off me me' =
     (bytes : List ℕ) × (length bytes ≡ range.len)
     × Accessed k b (Copied a.0 a.1 range.off (record { writ = w; off = to_off; bytes = bytes })) me me'
 
--- two frames held, in the order in which they were taken, the last first
+-- the two frames held, the one taken last first
 abbrev pub both_held : Bool → FrameSlot → FrameState → FrameSlot → FrameState → List (ℕ × FrameState)
 both_held true source x dest y = (dest.index, y) ∷ (source.index, x) ∷ []
 both_held false source x dest y = (source.index, x) ∷ (dest.index, y) ∷ []
 
--- the seat took both frames, the one of the lower slot first, and the source is out of its slot
+-- the seat took both frames, the one with the lower slot first, and the source is out of its slot
 abbrev pub HasBoth : Layout → FrameSlot → FrameSlot → FrameState → Me Cell FrameHolder → Me Cell FrameHolder → Type 0
 HasBoth k source dest x me me' =
     (y : FrameState)
@@ -133,7 +133,7 @@ HasBoth k source dest x me me' =
     ))
     × (y.owner ≡ id_at k.ids dest.owner) × (y.number ≡ dest.number)
 
--- the frame that the seat took last, the empty one if it has none
+-- the frame that the seat took last, or the empty one if it holds none
 abbrev pub held_first : List (ℕ × FrameState) → FrameState
 held_first [] = record { owner = record { 0 = 0 }; number = 0; journal = [] }
 held_first (p ∷ ps) = p.1

@@ -1,4 +1,4 @@
-//! Accesses to frames: each takes a frame out of its slot, works on it, puts it back and frees its lock.
+//! Accesses to frames. Each takes a frame out of its slot, works on it, puts it back and frees its lock.
 ghost use Rattle.std.specs.Prelude.{◌≡◌, ◌≢◌, ◌+◌, ◌≤◌, [], ◌∷◌, Bool, false, length, IfSome, IfNone, MatchResult};
 ghost use Rattle.std.specs.Prelude.{IsTrue, OnOk, OnErr, Some, None};
 ghost use Rattle.atomic_table.specs.Table.{Allows, rest};
@@ -18,7 +18,7 @@ use gt_types::{Memory, Range};
 use std::marker::Brand;
 use std::sync::Wait;
 
-// Frees a frame that was read. Only the proof reads what was read.
+// Frees a frame that was read. Only the proof uses the arguments after `slot`.
 fn free_read<J: OfAccess>(
     cells: &FrameCells,
     seat: &mut FrameSeat,
@@ -40,7 +40,7 @@ fn free_read<J: OfAccess>(
     free_lock::<J>(cells, seat, slot);
 }
 
-// Frees a frame that was written. Only the proof reads what was written.
+// Frees a frame that was written. Only the proof uses the arguments after `slot`.
 fn free_written<J: OfAccess>(
     cells: &FrameCells,
     seat: &mut FrameSeat,
@@ -64,7 +64,7 @@ fn free_written<J: OfAccess>(
     free_lock::<J>(cells, seat, slot);
 }
 
-// Frees a frame that was copied to. Only the proof reads what was copied.
+// Frees a frame that was copied to. Only the proof uses the arguments after `slot`.
 fn free_copied<J: OfAccess>(
     cells: &FrameCells,
     seat: &mut FrameSeat,
@@ -92,7 +92,7 @@ fn free_copied<J: OfAccess>(
     free_lock::<J>(cells, seat, slot);
 }
 
-// Frees a frame as it was taken: nothing is told.
+// Frees a frame that is unchanged. No view gains a step.
 fn return_as_taken<J: OfAccess>(
     cells: &FrameCells,
     seat: &mut FrameSeat,
@@ -125,7 +125,7 @@ fn take_out(cells: &FrameCells, seat: &mut FrameSeat, slot: FrameSlot, last: boo
     frame
 }
 
-// Reads a frame that is out over all of `out`, and frees it.
+// Reads a frame that is out into all of `out`, and frees it.
 fn read_out(
     cells: &FrameCells,
     seat: &mut FrameSeat,
@@ -150,7 +150,7 @@ fn read_out(
     filled
 }
 
-// Writes to a frame that is out, and frees it. If memory is refused, the frame goes back unchanged.
+// Writes to a frame that is out, and frees it. If allocation fails, the frame returns to its slot unchanged.
 fn write_out<'a>(
     cells: &FrameCells,
     seat: &mut FrameSeat,
@@ -187,8 +187,8 @@ fn write_out<'a>(
     }
 }
 
-// Copies a range to a frame that is out, and frees that one. The source is held too, out of its slot. If memory is
-// refused, the destination goes back as it was taken.
+// Copies a range to a frame that is out, and frees that frame. The source is out too, and is still held after. If
+// allocation fails, the destination returns to its slot unchanged.
 fn copy_out(
     cells: &FrameCells,
     seat: &mut FrameSeat,
@@ -231,8 +231,8 @@ fn copy_out(
     }
 }
 
-/// Reads a frame from the offset `off` on over all of `out`, if no other seat has the frame. It is one step of the
-/// history, which says the bytes that the steps before it make. With `None` nothing changed.
+/// Reads a frame, starting at `off`, into all of `out`, if no other seat has the frame. It is one step of the history,
+/// with the bytes that the steps before it make. After `None`, the seat is unchanged.
 pub fn try_read(
     cells: &FrameCells,
     seat: &mut FrameSeat,
@@ -255,7 +255,8 @@ pub fn try_read(
     Some(read_out(cells, seat, slot, true, off, out))
 }
 
-/// Reads a frame from the offset `off` on over all of `out`. Waits while another seat has the frame.
+/// Reads a frame, starting at `off`, into all of `out`. Waits while another seat has the frame. It is one step of the
+/// history.
 pub fn read<R: Wait>(
     rt: &R,
     cells: &FrameCells,
@@ -276,11 +277,11 @@ pub fn read<R: Wait>(
     read_out(cells, seat, slot, true, off, out)
 }
 
-/// Writes `bytes` to a frame from the offset `off` on by this writ, if no other seat has the frame. It is one step of
-/// the history. With `None` nothing changed.
+/// Writes `bytes` to a frame by this writ, starting at `off`, if no other seat has the frame. It is one step of the
+/// history. After `None`, the seat is unchanged.
 ///
 /// # Errors
-/// `Memory`. The frame is as it was, and no step was made.
+/// `Memory`. The frame is unchanged, and no step was made.
 pub fn try_write<'a>(
     cells: &FrameCells,
     seat: &mut FrameSeat,
@@ -307,10 +308,11 @@ pub fn try_write<'a>(
     Some(write_out(cells, seat, slot, true, writ, off, bytes))
 }
 
-/// Writes `bytes` to a frame from the offset `off` on by this writ. Waits while another seat has the frame.
+/// Writes `bytes` to a frame by this writ, starting at `off`. Waits while another seat has the frame. It is one step of
+/// the history.
 ///
 /// # Errors
-/// `Memory`. The frame is as it was, and no step was made.
+/// `Memory`. The frame is unchanged, and no step was made.
 pub fn write<'a, R: Wait>(
     rt: &R,
     cells: &FrameCells,
@@ -334,7 +336,7 @@ pub fn write<'a, R: Wait>(
     write_out(cells, seat, slot, true, writ, off, bytes)
 }
 
-// Takes two frames, the one of the lower slot first, and moves the source out.
+// Takes two frames, the one with the lower slot first, and moves the source out of its slot.
 fn lock_both<R: Wait>(
     rt: &R,
     cells: &FrameCells,
@@ -363,7 +365,7 @@ fn lock_both<R: Wait>(
     }
 }
 
-// Puts the source of a copy back as it was taken.
+// Returns the source of a copy to its slot, unchanged.
 fn return_source(cells: &FrameCells, seat: &mut FrameSeat, slot: FrameSlot, frame: Frame)
     requires mine { (seat.old.table_id ≡ cells.now.table_id)
         × IsSlotOf (places_of cells.now.key) cells.now.table_id slot }
@@ -375,12 +377,12 @@ fn return_source(cells: &FrameCells, seat: &mut FrameSeat, slot: FrameSlot, fram
     return_as_taken::<Brand>(cells, seat, slot, true);
 }
 
-/// Copies a range of one frame to another from the offset `to_off` on, by this writ. Takes both frames, the one of the
-/// lower slot first, and waits while another seat has one of them. It is one step of the history, made when the
-/// destination is freed and while the source is held.
+/// Copies a range of one frame to another by this writ, starting at `to_off`. Takes both frames, the one with the lower
+/// slot first, and waits while another seat has one of them. It is one step of the history, made when the destination
+/// is freed and while the source is still held.
 ///
 /// # Errors
-/// `Memory`. Both frames are as they were, and no step was made.
+/// `Memory`. Both frames are unchanged, and no step was made.
 pub fn copy<R: Wait>(
     rt: &R,
     cells: &FrameCells,
@@ -410,7 +412,7 @@ pub fn copy<R: Wait>(
     copied
 }
 
-// Frees a frame in which a range was copied. Only the proof reads what was copied.
+// Frees a frame in which a range was copied. Only the proof uses the arguments after `slot`.
 fn free_copied_within<J: OfAccess>(
     cells: &FrameCells,
     seat: &mut FrameSeat,
@@ -432,12 +434,12 @@ fn free_copied_within<J: OfAccess>(
     free_lock::<J>(cells, seat, slot);
 }
 
-/// Copies a range of a frame to another place in it, from the offset `to_off` on, by this writ. The ranges may overlap:
-/// what is written is what the source range held before. Waits while another seat has the frame. It is one step of the
-/// history.
+/// Copies a range of a frame to another place in it by this writ, starting at `to_off`. The ranges may overlap: the
+/// bytes written are those that the source range held before. Waits while another seat has the frame. It is one step of
+/// the history.
 ///
 /// # Errors
-/// `Memory`. The frame is as it was, and no step was made.
+/// `Memory`. The frame is unchanged, and no step was made.
 pub fn copy_within<R: Wait>(
     rt: &R,
     cells: &FrameCells,

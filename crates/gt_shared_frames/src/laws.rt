@@ -1,4 +1,4 @@
-//! Laws: what the rule of the table allows.
+//! Laws: what the rule of the table allows. A law does nothing; its contract is the theorem.
 ghost use Rattle.gt_shared_frames.specs.Laws.{AccessesGoOn, FramesAreTaken, FramesComeBack, FramesStay};
 ghost use Rattle.gt_shared_frames.specs.Laws.{FramesAreFreed, FramesAreLocked, FramesAreReturned, FramesHaveOneSlot};
 ghost use Rattle.gt_shared_frames.specs.Laws.{FramesOpen, WordsAreStepped};
@@ -9,14 +9,14 @@ pub fn every_access_is_a_step()
     ensures { AccessesGoOn }
 {}
 
-/// A law: a step on words, a lock taken and an access keep what the rule says of frames.
+/// A law: a step on words, the taking of a frame and an access keep what the rule requires of frames.
 pub fn every_frame_is_kept()
     ensures stay { FramesStay }
     ensures taken { FramesAreTaken }
     ensures back { FramesComeBack }
 {}
 
-/// A law: the steps of a table with words and frames.
+/// A law: the steps that a table with words and frames allows.
 pub fn every_step_is_allowed()
     ensures words { WordsAreStepped }
     ensures locks { FramesAreLocked }
@@ -34,8 +34,8 @@ pub fn every_frame_has_one_slot()
     ensures { FramesHaveOneSlot }
 {}
 
-/// A law: the first seat may deal one for each domain of the run, and take each in that has no frame. Words, frames and
-/// their history stay.
+/// A law: the first seat may deal a seat for each domain of the run, and take in each seat that holds no frame. Words,
+/// frames and history are unchanged.
 pub fn seats_come_and_go()
     ensures dealt { SeatsAreDealt }
     ensures taken_in { SeatsAreTakenIn }

@@ -1,15 +1,15 @@
 //! The frames of a run in the table of its words: each frame lies in a slot, under a lock that is a word.
 //!
 //! A seat takes a frame out of its slot, reads or writes it, puts it back and frees the lock. The store that frees the
-//! lock is one step of the history that the words have, and says which bytes were read, written or copied. So an
-//! access has a place among all steps of all domains, and what it read is what the steps before it make.
+//! lock is one step of the history of the words, and records which bytes were read, written or copied. So an access has
+//! a position among all steps of all domains, and what it read is what the steps before it make.
 //!
-//! Promised: `Accessed` (specs/Telling.antt) of each call that read, wrote or copied, and nothing else done. The rule
-//! of the table is `HoldsAll` (specs/Rule.antt): words and views show a state of the core, a frame in its slot is what
-//! the history makes of it, and one seat has each frame that is out, unchanged since it took it.
+//! Each call that read, wrote or copied promises `Accessed` (`specs/Telling.antt`), and that it did nothing else. The
+//! rule of the table is `HoldsAll` (`specs/Rule.antt`): words and views show a state of the core, a frame in its slot
+//! is what the history makes of it, and one seat holds each frame that is out, unchanged since it took it.
 //!
-//! It stands on `gt_word_table` (steps, views and the rule of the words), `gt_frames` (frames and their journals) and
-//! `atomic_table`. The running monitor keeps its frames in `gt_frames`' pool and does not use this crate yet.
+//! It uses `gt_word_table` (steps, views and the rule of the words), `gt_frames` (frames and their journals) and
+//! `atomic_table`. The running monitor keeps its frames in the pool of `gt_access`, and does not use this crate yet.
 #![tactic(auto)]
 
 mod accesses;

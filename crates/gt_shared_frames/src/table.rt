@@ -20,7 +20,7 @@ use std::collections::LinkedList;
 use std::marker::{Brand, PhantomData};
 use std::sync::Wait;
 
-/// What a seat knows of words and views, and the frames that it took out. No value of it is made.
+/// What a seat knows: of words and views, and the frames that it took out. No value of it exists at run time.
 pub struct FrameHolder {
     pub own: Outlook,
     pub held: LinkedList<(u64, Frame)>,
@@ -44,17 +44,17 @@ pub type FrameCells = Shared<Option<Frame>, FrameHolder, Config, FrameTableRule>
 /// A frame's slot in the table, with the frame's name.
 #[derive(Clone, Copy)]
 pub struct FrameSlot {
-    /// The place of its lock among the words.
+    /// The index of its lock among the words.
     pub lock: usize,
-    /// Its number among the slots.
+    /// Its index among the slots.
     pub index: usize,
-    /// The position of the frame's owner among the domains of the run.
+    /// The position of the frame's owner in the run.
     pub owner: u64,
-    /// The frame's number among its owner's, from 0.
+    /// The frame's number in its owner, from 0.
     pub number: u64,
 }
 
-/// The slot whose lock is taken, which each call picks.
+/// The slot whose lock is taken. Each call picks one.
 pub(crate) trait OfSlot {
     ghost layout: { Layout };
 
@@ -71,7 +71,7 @@ impl OfSlot for Brand {
     ghost slot = { 0 };
 }
 
-/// The access by which a frame is freed, which each call picks.
+/// The access by which a frame is freed. Each call picks one.
 pub(crate) trait OfAccess {
     ghost places: { Places };
 
@@ -116,7 +116,7 @@ impl<J: OfAccess> Play<Option<Frame>, FrameHolder> for ReturnsTo<J> {
     ghost then = { λ _ m _ m'. Returns J.left m m' };
 }
 
-// One exchange of a lock. Only the proof reads the slot but for its lock.
+// Exchanges a lock word, once. Only the proof uses `slot`, except for its lock.
 fn lock_word<J: OfSlot>(cells: &FrameCells, seat: &mut FrameSeat, slot: FrameSlot) -> u64
     requires fits { (seat.old.table_id ≡ cells.now.table_id) × (slot.lock < cells.now.table_id.words) }
     requires allowed { Allows (HoldsAll (places_of cells.now.key)) cells.now.table_id.slots seat.old.id seat.old.me
@@ -127,7 +127,7 @@ fn lock_word<J: OfSlot>(cells: &FrameCells, seat: &mut FrameSeat, slot: FrameSlo
     cells.compare_exchange::<LocksSlot<J>>(seat, slot.lock, 0, 1)
 }
 
-// One store of a lock, by which an access to its frame takes place.
+// Stores a lock word. By this store the access to its frame takes place.
 pub(crate) fn free_lock<J: OfAccess>(cells: &FrameCells, seat: &mut FrameSeat, slot: FrameSlot)
     requires fits { (seat.old.table_id ≡ cells.now.table_id) × (slot.lock < cells.now.table_id.words) }
     requires allowed { Allows (HoldsAll (places_of cells.now.key)) cells.now.table_id.slots seat.old.id seat.old.me
@@ -139,7 +139,7 @@ pub(crate) fn free_lock<J: OfAccess>(cells: &FrameCells, seat: &mut FrameSeat, s
     cells.wake_one(slot.lock);
 }
 
-// One store of a lock whose frame comes back as it was taken.
+// Stores the lock word of a frame that returns unchanged.
 pub(crate) fn return_lock<J: OfAccess>(cells: &FrameCells, seat: &mut FrameSeat, slot: FrameSlot)
     requires fits { (seat.old.table_id ≡ cells.now.table_id) × (slot.lock < cells.now.table_id.words) }
     requires allowed { Allows (HoldsAll (places_of cells.now.key)) cells.now.table_id.slots seat.old.id seat.old.me
@@ -151,7 +151,7 @@ pub(crate) fn return_lock<J: OfAccess>(cells: &FrameCells, seat: &mut FrameSeat,
     cells.wake_one(slot.lock);
 }
 
-/// Takes the frame of a slot, if no other seat has it. Otherwise nothing changes.
+/// Takes the frame of a slot if no other seat has it. Otherwise returns false, with the seat unchanged.
 pub fn try_lock(cells: &FrameCells, seat: &mut FrameSeat, slot: FrameSlot) -> bool
     requires mine { seat.old.table_id ≡ cells.now.table_id }
     requires slot { IsSlotOf (places_of cells.now.key) cells.now.table_id slot }

@@ -1,4 +1,4 @@
--- How a run begins, and why one does not.
+-- How a run starts, and why one does not.
 use Rattle.std.specs.Prelude.{◌≡◌, ◌⊎◌, ℕ, Bool, nat_le, List, length, map, position, slice_get, Some, None, Ok, Err}
 use Rattle.std.specs.Str.{IsUtf8}
 use Rattle.gt_types.specs.Config.{IsFirstFault}
@@ -17,11 +17,11 @@ use Rattle.gt_start.specs.declared.faults.EncodedFault.{EncodedFault}
 use Rattle.gt_start.specs.declared.settings.DomainSettings.{DomainSettings}
 use Rattle.gt_start.specs.Faults.{label_told, limit_told, no_memory, no_text, no_type, token_told}
 
--- whose type may do what to whose, in a compiled policy
+-- which type may do what to which type, in a compiled policy
 abbrev pub may : Table → TypeId → TypeId → Perms → Bool
 may table source target perm = looks_up table source.0 target.0 perm
 
--- a domain as its settings give it
+-- a domain of the configuration, from its settings
 abbrev pub domain_set : DomainSettings → DomainConfig
 domain_set s =
     record {
@@ -32,16 +32,16 @@ domain_set s =
       version = s.version;
     }
 
--- the configuration has the domains that these settings give, in their order, and this first generation
+-- the configuration has the domains of these settings, in their order, and this first generation
 abbrev pub IsSetBy : List DomainSettings → ℕ → Config → Type 0
 IsSetBy settings first_gen c = (c.domains.items ≡ map domain_set settings) × (c.first_gen ≡ first_gen)
 
--- the label is not among so many types
+-- the label is not below the number of types
 abbrev pub is_past : ℕ → DomainSettings → Bool
 is_past types s = nat_le types s.label
 
--- A run began with these settings under this text: the guests are those of a new run of the settings' domains, whose
--- labels are types of the policy, and whose rights are what the text says
+-- a run started with these settings under this text: the attached domains are those of a new run of the settings'
+-- domains, whose labels are types of the policy, and whose rights are those of the text
 pub record Begins (settings : List DomainSettings) (first_gen : ℕ) (text : List ℕ) (guests : List (Seated Table))
     : Type 0 where
   pub config : Config
@@ -53,34 +53,34 @@ pub record Begins (settings : List DomainSettings) (first_gen : ℕ) (text : Lis
   pub allows : looks_up rights ≡ is_allowed meaning
   pub guests_are : AreNewGuests may config rights guests
 
--- the fault is that of a text: it is no UTF-8, or it has this fault, its first, or memory was refused
+-- the fault is that of a text: the text is not UTF-8, or this is its first fault, or allocation failed
 abbrev pub IsTextFault : List ℕ → EncodedFault → Type 0
 IsTextFault text fault =
     (fault ≡ no_memory)
     ⊎ (((¬ IsUtf8 text) × (fault ≡ no_text)) ⊎ ((f : TokenFault) × Says text (Err f) × (fault ≡ token_told f)))
 
--- the fault is that of the first label that is not among so many types
+-- the fault is that of the first label that is not below the number of types
 abbrev pub IsLabelFault : ℕ → List DomainSettings → EncodedFault → Type 0
 IsLabelFault types settings fault =
     (i : ℕ) × (s : DomainSettings) × (position (is_past types) settings ≡ Some i) × (slice_get settings i ≡ Some s)
     × (fault ≡ label_told (record { 0 = s.id }))
 
--- the fault is that of the first label that is no type of the policy that the text says
+-- the fault is that of the first label that is not a type of the text's policy
 abbrev pub IsUnlabelled : List DomainSettings → List ℕ → EncodedFault → Type 0
 IsUnlabelled settings text fault =
     (m : Meaning) × Says text (Ok m) × IsLabelFault (length m.types) settings fault
 
--- the fault is the first one of the configuration that the settings give
+-- the fault is the first one of the configuration with these settings
 abbrev pub IsLimitFault : List DomainSettings → ℕ → EncodedFault → Type 0
 IsLimitFault settings first_gen fault =
     (c : Config) × (f : ConfigFault) × IsSetBy settings first_gen c × IsFirstFault c f × (fault ≡ limit_told f)
 
--- why no run began with these settings under this text
+-- why no run started with these settings under this text
 abbrev pub IsFaultOf : List DomainSettings → ℕ → List ℕ → EncodedFault → Type 0
 IsFaultOf settings first_gen text fault =
     IsTextFault text fault ⊎ (IsUnlabelled settings text fault ⊎ IsLimitFault settings first_gen fault)
 
--- why no type of this name was found: the text has a fault, or no type of this name
+-- why no type of this name was found: the text has a fault, or it has no type of this name
 abbrev pub IsNameFault : List ℕ → List ℕ → EncodedFault → Type 0
 IsNameFault text name fault =
     IsTextFault text fault

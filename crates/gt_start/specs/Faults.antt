@@ -1,4 +1,4 @@
--- How a fault is told to C: its kind, its line, its domain.
+-- How a fault is encoded for C: its kind, its line, its domain.
 use Rattle.std.specs.Prelude.{ℕ, Option, Some, None}
 use Rattle.gt_types.specs.declared.DomId.{DomId}
 use Rattle.gt_types.specs.declared.config.ConfigFault.{ConfigFault}
@@ -12,23 +12,23 @@ use Rattle.gt_policy.specs.declared.fault.TokenFaultKind.TheVariants.{Syntax, Un
 use Rattle.gt_policy.specs.declared.fault.TokenFaultKind.TheVariants.{Limit}
 use Rattle.gt_start.specs.declared.faults.EncodedFault.{EncodedFault}
 
--- nothing is at fault
+-- there is no fault
 abbrev pub no_fault : EncodedFault
 no_fault = record { kind = 0; line = 0; dom = 0 }
 
--- memory was refused
+-- allocation failed
 abbrev pub no_memory : EncodedFault
 no_memory = record { kind = 1; line = 0; dom = 0 }
 
--- the handles are not as many as the domains, or one of them has a domain
+-- the number of handles is not that of the domains, or one of the handles has a domain
 abbrev pub wrong_handles : EncodedFault
 wrong_handles = record { kind = 2; line = 0; dom = 0 }
 
--- the policy is no UTF-8
+-- the policy is not UTF-8
 abbrev pub no_text : EncodedFault
 no_text = record { kind = 9; line = 0; dom = 0 }
 
--- the policy has no type of a name
+-- the policy has no type of the name
 abbrev pub no_type : EncodedFault
 no_type = record { kind = 20; line = 0; dom = 0 }
 
@@ -45,7 +45,7 @@ policy_kind Limit = 8
 abbrev pub token_told : TokenFault → EncodedFault
 token_told f = record { kind = policy_kind f.kind; line = f.line; dom = 0 }
 
--- the same; memory was refused, if there is none
+-- the same; if there is none, allocation failed
 abbrev pub policy_told : Option TokenFault → EncodedFault
 policy_told (Some f) = token_told f
 policy_told None = no_memory
@@ -65,11 +65,11 @@ limit_told (TableFrames dom) = domain_told 15 dom
 limit_told (Version dom) = domain_told 16 dom
 limit_told Generation = record { kind = 17; line = 0; dom = 0 }
 
--- the same; memory was refused, if the configuration has none
+-- the same; if the configuration has none, allocation failed
 abbrev pub config_told : StartFault → EncodedFault
 config_told (starts.Config fault) = limit_told fault
 config_told starts.Memory = no_memory
 
--- the label of a domain is past the policy's types
+-- the label of a domain is beyond the policy's types
 abbrev pub label_told : DomId → EncodedFault
 label_told dom = domain_told 19 dom

@@ -1,4 +1,4 @@
-//! How a run begins.
+//! The start of a run.
 ghost use Rattle.std.specs.Prelude.{◌≡◌, length, IfOk, IfErr, Ok, Some};
 ghost use Rattle.gt_policy.specs.Allowing.{Meaning, PolicyShows, type_named};
 ghost use Rattle.gt_policy.specs.Whole.{Says};
@@ -12,7 +12,7 @@ use gt_policy::Policy;
 use gt_types::TypeId;
 use std::alloc::Global;
 
-// The policy of a text.
+// Parses the text of a policy.
 fn policy_of(alloc: Global, text: &[u8]) -> Result<Policy, EncodedFault>
     ensures policy { IfOk result (λ policy. (m : Meaning) × Says text.now (Ok m) × PolicyShows policy m) }
     ensures fault { IfErr result (IsTextFault text.now) }
@@ -26,12 +26,12 @@ fn policy_of(alloc: Global, text: &[u8]) -> Result<Policy, EncodedFault>
     }
 }
 
-/// Begins a run with these settings under a policy's text, and gives a guest for each domain, in order. `first_gen` is
-/// the generation that each entry begins at.
+/// Starts a run with these settings under a policy's text, and returns an attached domain for each domain, in order.
+/// Each entry begins at the generation `first_gen`.
 ///
 /// # Errors
-/// The first fault of the policy's text; then the first label that is past the policy's types; then the first fault of
-/// the configuration; `memory` wherever memory is refused. No domain is left then.
+/// The first fault of the policy's text; then the first label beyond the policy's types; then the first fault of the
+/// configuration; or `memory`, if allocation fails. No domain is left.
 pub fn begin(
     alloc: Global,
     settings: &[DomainSettings],
@@ -61,10 +61,10 @@ pub fn begin(
     }
 }
 
-/// The type of this name in a policy's text: its number is the label of a domain of that type.
+/// Returns the type of this name in a policy's text. Its number is the label of a domain of that type.
 ///
 /// # Errors
-/// The first fault of the text, or that it declares no type of this name, or `memory`.
+/// The first fault of the text; or that it declares no type of this name; or `memory`.
 pub fn type_of(alloc: Global, policy: &[u8], name: &[u8]) -> Result<TypeId, EncodedFault>
     ensures named { IfOk result (λ id.
         (m : Meaning) × Says policy.now (Ok m) × (type_named m.types name.now ≡ Some id)) }

@@ -1,4 +1,4 @@
-//! Why a run did not begin.
+//! The reasons why a run did not start.
 ghost use Rattle.std.specs.Prelude.{◌≡◌};
 ghost use Rattle.gt_policy.specs.Shown.{fault_shown};
 ghost use Rattle.gt_start.specs.Faults.{config_told, label_told, policy_told};
@@ -6,16 +6,16 @@ ghost use Rattle.gt_start.specs.Faults.{config_told, label_told, policy_told};
 use gt_policy::{PolicyFault, PolicyFaultKind};
 use gt_types::{ConfigFault, DomId, StartFault};
 
-/// Why a run did not begin, and where the fault is.
+/// Why a run did not start, and where the fault is.
 #[repr(C)]
 #[derive(Clone, Copy)]
 pub struct EncodedFault {
-    /// 0: none. 1 memory; 2 the handles; 3 to 9 the policy; 10 to 17 the configuration; 18 a null pointer; 19 a label; 20 a type's
-    /// name.
+    /// 0 none; 1 memory; 2 the handles; 3 to 9 the policy; 10 to 17 the configuration; 18 a null pointer; 19 a label;
+    /// 20 the name of a type.
     pub kind: u32,
-    /// The line of the policy that is at fault, from 1 on.
+    /// The line of the policy with the fault, starting at 1; 0 if the fault is elsewhere.
     pub line: u32,
-    /// The domain that is at fault.
+    /// The domain with the fault, else 0.
     pub dom: u32,
 }
 
@@ -29,42 +29,42 @@ fn fault_at(kind: u32, line: u32, dom: DomId) -> EncodedFault
     }
 }
 
-/// The run began.
+/// The run started.
 pub const NONE: EncodedFault = EncodedFault {
     kind: 0,
     line: 0,
     dom: 0,
 };
 
-/// Memory was refused.
+/// Allocation failed.
 pub const MEMORY: EncodedFault = EncodedFault {
     kind: 1,
     line: 0,
     dom: 0,
 };
 
-/// The handles are not as many as the domains, or one of them has a domain.
+/// The number of handles is not that of the domains, or one of the handles has a domain.
 pub const HANDLES: EncodedFault = EncodedFault {
     kind: 2,
     line: 0,
     dom: 0,
 };
 
-/// The policy is no UTF-8.
+/// The policy is not UTF-8.
 pub(crate) const TEXT: EncodedFault = EncodedFault {
     kind: 9,
     line: 0,
     dom: 0,
 };
 
-/// The policy declares no type of the name that is looked for.
+/// The policy does not declare a type of the name asked for.
 pub(crate) const NO_TYPE: EncodedFault = EncodedFault {
     kind: 20,
     line: 0,
     dom: 0,
 };
 
-// The fault of a policy.
+// Encodes the fault of a policy.
 pub(crate) fn policy_fault(refused: PolicyFault) -> EncodedFault
     ensures { result ≡ policy_told (fault_shown refused) }
 {
@@ -80,7 +80,7 @@ pub(crate) fn policy_fault(refused: PolicyFault) -> EncodedFault
     }
 }
 
-// The fault of a configuration.
+// Encodes the fault of a configuration.
 pub(crate) fn config_fault(refused: StartFault) -> EncodedFault
     ensures { result ≡ config_told refused }
 {
@@ -99,7 +99,7 @@ pub(crate) fn config_fault(refused: StartFault) -> EncodedFault
     }
 }
 
-// The label of a domain is past the policy's types.
+// Encodes that the label of a domain is beyond the policy's types.
 pub(crate) fn label_fault(dom: DomId) -> EncodedFault
     ensures { result ≡ label_told dom }
 {

@@ -1,10 +1,10 @@
-//! How a run begins for a caller outside Rattle: from settings in C's layout and a policy's text.
+//! The start of a run for a caller outside Rattle, from settings in C's layout and a policy's text.
 //!
-//! [`begin`] gives a guest for each domain of the settings, in order. The guests share one monitor, which has the
-//! settings as its configuration and allows what the policy's text says. If no run begins, the [`EncodedFault`] says why.
-//! [`type_of`] finds the label of a type by its name.
+//! [`begin`] returns an attached domain for each domain of the settings, in order. They share one monitor, which has
+//! the settings as its configuration and allows exactly what the policy's text allows. If no run starts, the
+//! [`EncodedFault`] gives the reason. [`type_of`] finds the label of a type by its name.
 //!
-//! It uses `gt_attached` (guests), `gt_policy` and `gt_allow` (rights) and `gt_types`.
+//! It uses `gt_attached` (attached domains), `gt_policy` and `gt_allow` (rights), `gt_roster` and `gt_types`.
 #![tactic(auto)]
 
 mod beginning;

@@ -6,8 +6,8 @@ use crate::faults::{EncodedFault, label_fault};
 use gt_types::{Config, DomId, DomainConfig, TypeId};
 use std::alloc::{AllocError, Global};
 
-/// A domain of a run to start: its number, the number of its type in the policy, how many frames it and its grant table
-/// have, and the version of the table.
+/// A domain of a run to start: its number, the number of its type in the policy, the numbers of its frames and of its
+/// table's frames, and the version of its table.
 #[repr(C)]
 #[derive(Clone, Copy)]
 pub struct DomainSettings {
@@ -30,7 +30,7 @@ fn domain_set(one: &DomainSettings) -> DomainConfig
     }
 }
 
-// The configuration of a run with these settings.
+// Makes the configuration of a run with these settings.
 pub(crate) fn configured(
     alloc: Global,
     settings: &[DomainSettings],
@@ -45,14 +45,14 @@ pub(crate) fn configured(
     Ok(Config { domains, first_gen })
 }
 
-// The place of the first domain whose label is past so many types.
+// Finds the index of the first domain whose label is not below the number of types.
 fn first_past(settings: &[DomainSettings], types: u16) -> Option<usize>
     ensures { result ≡ position (is_past types) settings.now }
 {
     settings.iter().position(|one| one.label >= types)
 }
 
-// The fault of the first label that is not below the number of types, if there is one.
+// Returns the fault of the first label that is not below the number of types, if there is one.
 pub(crate) fn label_past(settings: &[DomainSettings], types: u16) -> Option<EncodedFault>
     ensures { MatchOption result (position (is_past types) settings.now ≡ None)
         (λ fault. IsLabelFault types settings.now fault) }

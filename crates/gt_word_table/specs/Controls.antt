@@ -1,4 +1,4 @@
--- What a control word says, and the words that owners and pins make of it.
+-- The parts of a control word, and the words that owners and pins make of it.
 use Rattle.std.specs.Prelude.{◌≡◌, ◌≢◌, ℕ, ◌+◌, ◌*◌, Bool, true, false, not}
 use Rattle.gt_types.specs.declared.Dir.{Dir}
 use Rattle.gt_types.specs.declared.Dir.TheVariants.{Read, Write}
@@ -20,7 +20,7 @@ generation_of word = (control_of word).generation
 abbrev pub pins_in : Dir → ℕ → ℕ
 pins_in d word = pins_of d (control_of word)
 
--- the word is none of an invalid entry
+-- the word encodes a valid entry
 abbrev pub IsValid : ℕ → Type 0
 IsValid word = kind_of word ≢ KindInvalid
 
@@ -40,17 +40,17 @@ demoted_word word = word + 17592186044420
 abbrev pub promoted_word : ℕ → ℕ
 promoted_word word = word + 17592186044412
 
--- the word of the same entry with this readonly, at the next generation, if it had the other
+-- the word of the same entry with this readonly, at the next generation, if it had the other readonly
 abbrev pub turned_word : Bool → ℕ → ℕ
 turned_word true word = demoted_word word
 turned_word false word = promoted_word word
 
--- the word is that of an entry that has the other readonly
+-- the word encodes an entry that has the other readonly
 abbrev pub IsTurnable : Bool → ℕ → Type 0
 IsTurnable o word =
     (e : Entry) × (rest : ℕ) × (e ≢ Invalid) × (is_read_only e ≡ not o) × (word ≡ low_bits e + 16 * rest)
 
--- the entry permits the domain some use and range in this direction (grant_table.h)
+-- the entry permits the domain some use and some range in this direction (grant_table.h)
 abbrev pub PermitsPin : Entry → DomId → Dir → Type 0
 PermitsPin e d dir = (purpose : Use) × (off : ℕ) × (len : ℕ) × (permits e d dir purpose off len ≡ true)
 

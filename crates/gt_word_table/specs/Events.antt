@@ -1,4 +1,4 @@
--- What each event of the core makes of the state that a history of steps makes.
+-- How each event of the core changes the state that a history of steps makes.
 use Rattle.std.specs.Prelude.{◌≡◌, ℕ, cond, ◌==◌, ◌&&◌, List, [], ◌∷◌, slice_index_or}
 use Rattle.std.specs.Prelude.{slice_set}
 use Rattle.atomic_table.specs.Table.{State}
@@ -22,8 +22,8 @@ use Rattle.gt_word_table.specs.Rule.{Layout, Stands}
 abbrev pub live_of : ℕ → EntryState → List LivePin
 live_of i x = slice_index_or x.live i []
 
--- what a step of the domain i on an entry makes of it: a taken pin is one more, an unpin takes it away, a
--- store sets a body word, a taken exchange sets the record, and all else leaves it
+-- an entry after a step of the domain i on it: a taken pin is one more, a released one is one less, a store sets a body
+-- word, a taken exchange sets the record, and any other step leaves it
 abbrev pub entry_after : ℕ → EntryStep → EntryState → EntryState
 entry_after i (Looked n) x = x
 entry_after i (ReadBody h n) x = x
@@ -35,31 +35,32 @@ entry_after i (StoredBody First n) x = record x { first = n }
 entry_after i (StoredBody Second n) x = record x { second = n }
 entry_after i (Changed c e n y) x = record x { current = y }
 
--- what a step on a header makes of it: a store sets it, and a look leaves it
+-- a header after a step on it: a store sets it, and a look leaves it
 abbrev pub header_after : HeaderStep → ℕ → ℕ
 header_after (header.Looked n) w = w
 header_after (header.Stored n) w = n
 
--- what a step of the domain i makes of the entry r of the domain t: none but a step on it changes it
+-- the entry r of the domain t after a step of the domain i: only a step on it changes it
 abbrev pub event_on_entry : ℕ → SeatStep → ℕ → ℕ → EntryState → EntryState
 event_on_entry i (Entry d q m) t r x = cond ((d == t) && (q == r)) (entry_after i m x) x
 event_on_entry i (Header d m) t r x = x
 event_on_entry i (Frame d q m) t r x = x
 
--- what a step makes of the header of the domain t: none but a step on it changes it
+-- the header of the domain t after a step: only a step on it changes it
 abbrev pub event_on_header : SeatStep → ℕ → ℕ → ℕ
 event_on_header (Header d m) t w = cond (d == t) (header_after m w) w
 event_on_header (Entry d q m) t w = w
 event_on_header (Frame d q m) t w = w
 
--- the step x of the domain i takes each entry and header that the steps before it make
--- to what the event of the core gives
+-- the step x of the domain i takes each entry and header that the steps before it make to what the event of the core
+-- gives
 pub record Happens (k : Layout) (i : ℕ) (x : SeatStep) (past : StepHistory) : Type 0 where
   pub entries : (t r : ℕ) → entry_made k t r ((i, x) ∷ past) ≡ event_on_entry i x t r (entry_made k t r past)
   pub headers : (t : ℕ) → header_made k t ((i, x) ∷ past) ≡ event_on_header x t (header_made k t past)
 
--- the step of the domain i was taken at this moment: words and views stood so before it, it says the number that was
--- there, takes a pin only of the last record, and takes each entry and header to what the event of the core gives
+-- the step of the domain i was taken at this moment: words and views showed a state before it, it records the number
+-- that was there, takes a pin only of the last record, and takes each entry and header to what the event of the core
+-- gives
 pub record TookPlace (k : Layout) (i : ℕ) (m : Moment) : Type 0 where
   pub stood : (z : State (Unit {0}) View) × Stands k m.0 z
   pub says : SaysWord m.1 (word_after k m.0 (word_place_of m.1))

@@ -1,4 +1,4 @@
--- What follows of the order of all steps from the rule of the table.
+-- What the rule of the table implies for the order of all steps.
 use Rattle.std.specs.Prelude.{◌≡◌, ℕ, ◌*◌, ◌<◌, [], ◌∷◌, length, slice_index}
 use Rattle.atomic_table.specs.Table.{keeps, stepped}
 use Rattle.gt_word_table.specs.Prelude.{Allows, DOMAIN_WORDS, Me, SeatStep, State, View, get_elem?, some}
@@ -6,9 +6,9 @@ use Rattle.gt_word_table.specs.History.{IsOwners, Layout, PinsLast, SaysWord, St
 use Rattle.gt_word_table.specs.Rule.{Shows}
 use Rattle.gt_word_table.specs.Views.{with_step}
 
--- a step that leads from a state that words and views show to another such state is taken then: it comes right after
--- all steps before it, its seat knows them, it says the word that is there, it stores or changes only its own,
--- and it takes a pin only of the last record
+-- a step that leads from a state that words and views show to another such state comes right after all steps before it:
+-- its seat knows them, it records the word that is there, it stores or changes only what its seat owns, and it takes a
+-- pin only of the last record
 abbrev pub StepsAreTakenThen : Type 0
 StepsAreTakenThen =
     (k : Layout) (s : State (Unit {0}) View) (i : ℕ) (v : View) (x : SeatStep) (past : StepHistory) (at left : ℕ)
@@ -18,8 +18,9 @@ StepsAreTakenThen =
     × PinsLast k shown.history x × (word_place_of x < k.domains * DOMAIN_WORDS
     → SaysWord x (slice_index s.words (word_place_of x)))
 
--- if a raw step of the table is allowed that adds the step x to its seat's view, by the number found, x says the word
--- that is there, in every state that words and views show: so no body tells a step of a word that it did not find
+-- if a raw step of the table is allowed that adds the step x to its seat's view, by the number found, then x records
+-- the word that is there, in every state that words and views show: so no body can report a step on a word that it did
+-- not find
 abbrev pub AllowedStepsSayWhatIsThere : Type 0
 AllowedStepsSayWhatIsThere =
     (k : Layout) (slots id : ℕ) (me : Me (Unit {0}) View) (at : ℕ) (f : ℕ → ℕ) (x : ℕ → SeatStep)
@@ -29,7 +30,7 @@ AllowedStepsSayWhatIsThere =
     → let step : SeatStep = x (slice_index s.words at) in
     word_place_of step < k.domains * DOMAIN_WORDS → SaysWord step (slice_index s.words (word_place_of step))
 
--- what words and views show has one history, by the views only
+-- the views that words and views show determine the history
 abbrev pub HistoryIsOne : Type 0
 HistoryIsOne =
     (k : Layout) (s z : State (Unit {0}) View) (shown : Shows k s) (also : Shows k z) → s.views ≡ z.views

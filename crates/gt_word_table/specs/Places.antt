@@ -1,4 +1,4 @@
--- The table, and its seats.
+-- What clauses see of the table and of its seats, and the views that seats begin with.
 use Rattle.std.specs.Prelude.{◌≡◌, ℕ, ◌+◌, ◌*◌, ◌<◌, ◌≤◌, List, [], false}
 use Rattle.gt_types.specs.declared.limits.TheConstants.{MAX_DOMAINS}
 use Rattle.gt_word_table.specs.Prelude.{DOMAIN_WORDS, DomId, Me, TABLE_ENTRIES, TableId, View}
@@ -6,17 +6,17 @@ use Rattle.gt_word_table.specs.declared.rule.EntryAt.{EntryAt}
 use Rattle.gt_word_table.specs.declared.view.Outlook.{Outlook}
 use Rattle.gt_word_table.specs.Rule.{Layout}
 
--- what clauses see of the words: which table of words it is, and the run that it serves
+-- what clauses see of the words: the identity of their table, and the run that it serves
 pub record Board : Type 0 where
   pub table : TableId
   pub layout : Layout
 
--- what clauses see of a seat of the table: the table that it is of, and its view
+-- what clauses see of a seat of the table: its table and its view
 pub record SeatAt : Type 0 where
   pub table : TableId
   pub view : View
 
--- each domain has its words, and there are no more domains than there may be
+-- the table has the words of each domain, and at most MAX_DOMAINS domains
 abbrev pub IsWide : ℕ → Layout → Type 0
 IsWide words k = (words ≡ k.domains * DOMAIN_WORDS) × (k.domains ≤ MAX_DOMAINS)
 
@@ -24,7 +24,7 @@ IsWide words k = (words ≡ k.domains * DOMAIN_WORDS) × (k.domains ≤ MAX_DOMA
 abbrev pub IsInside : Layout → EntryAt → Type 0
 IsInside k e = (e.position < k.domains) × (e.gref < TABLE_ENTRIES)
 
--- the view of a seat that has done nothing
+-- the view of a seat that has made no step
 abbrev pub new_view : ℕ → List ℕ → List DomId → ℕ → View
 new_view g headers ids t =
     record { position = t; first = g; headers = headers; ids = ids; dealt = 1; steps = []; past = [] }
@@ -33,15 +33,15 @@ new_view g headers ids t =
 abbrev pub first_view : Layout → View
 first_view k = new_view k.first k.headers k.ids 0
 
--- the view of the seat that dealt another, after it
+-- the view of the dealer after it dealt a seat
 abbrev pub dealer_after : View → View
 dealer_after v = record v { dealt = v.dealt + 1 }
 
--- the view of the seat that was dealt, by that of the dealer before it
+-- the view of the seat that was dealt, by that of the dealer before
 abbrev pub dealt_to : View → View
 dealt_to v = new_view v.first v.headers v.ids v.dealt
 
--- what the dealer knows after it, and the seat that was dealt
+-- what the dealer knows after it, and what the seat knows that it dealt
 abbrev pub dealing : Outlook → Outlook
 dealing o = record o { own = dealer_after o.own }
 
@@ -54,7 +54,7 @@ IsSamePlace s t =
     (t.table ≡ s.table) × (t.view.position ≡ s.view.position) × (t.view.first ≡ s.view.first)
     × (t.view.headers ≡ s.view.headers) × (t.view.ids ≡ s.view.ids)
 
--- the seat for the position i, which has done nothing
+-- the seat for the position i, which has made no step
 pub record IsNewPlace (z : TableId) (k : Layout) (i : ℕ) (s : SeatAt) : Type 0 where
   pub table : s.table ≡ z
   pub position : s.view.position ≡ i

@@ -1,4 +1,4 @@
--- The names of other crates, and of the code, that the definitions here speak of.
+-- Names from other crates, and from the code, that these definitions use.
 pub use Rattle.atomic_table.specs.Seated.{TableId}
 pub use Rattle.atomic_table.specs.Table.{Allows, Me, State, Step as TableStep}
 pub use Rattle.gt_entry.specs.Changes.{changed_entry, raise_of}

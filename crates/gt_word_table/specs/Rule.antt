@@ -26,7 +26,7 @@ layout_of c =
       headers = map (λ d. header_word (first_header d)) c.domains.items;
     }
 
--- the position of a domain among those of the run, or their number if it is none of them
+-- the position of a domain in the run, or the number of domains if the run does not have it
 abbrev pub position_in : List DomId → DomId → ℕ
 position_in xs d = unwrap_or (position (λ x. x.0 == d.0) xs) (length xs)
 
@@ -42,19 +42,18 @@ IsRecord x = IsEntry x.entry × (x.generation < 1048576)
 abbrev pub IsRevocation : EntryRecord → EntryRecord → Type 0
 IsRevocation x y = (x.entry ≡ Invalid) × (x.generation ≡ y.generation)
 
--- x is an entry of the next generation: a publication after an invalid
--- record, or the record before with the other readonly
+-- x is an entry of the next generation: published after an invalid record, or the record before with the other readonly
 abbrev pub IsNextEntry : EntryRecord → EntryRecord → Type 0
 IsNextEntry x y =
     (x.generation ≡ y.generation + 1) × (x.entry ≢ Invalid)
     × ((y.entry ≡ Invalid) ⊎ (x.entry ≡ with_ro (not (is_read_only y.entry)) y.entry))
 
--- the record x may come next after y
+-- the record x may come right after y
 abbrev pub MayFollow : EntryRecord → EntryRecord → Type 0
 MayFollow x y = IsRevocation x y ⊎ IsNextEntry x y
 
--- the owner's list, x the last record and after it the earlier ones: the first is
--- invalid, and each other may come next after the one before it
+-- the owner's list is lawful, with x the last record before the earlier ones: the first record is invalid, and each
+-- other one may come right after the one before it
 abbrev pub IsLawful : EntryRecord → List EntryRecord → Type 0
 IsLawful x [] = IsRecord x × (x.entry ≡ Invalid)
 IsLawful x (y ∷ ys) = IsRecord x × MayFollow x y × IsLawful y ys
@@ -69,10 +68,10 @@ abbrev pub total_until : Dir → ℕ → List (List EntryStep) → ℕ
 total_until d g [] = 0
 total_until d g (h ∷ hs) = pins_until d g (live_pins h) + total_until d g hs
 
--- the words of one entry and the steps of each seat on it show the last record x, after the records xs
+-- the words of one entry, and the steps of each seat on it, show the last record x, after the records xs
 pub record ShowsRecord (x : EntryRecord) (xs : List EntryRecord) (word a b : ℕ)
     (hs : List (List EntryStep)) : Type 0 where
-  -- owner part and generation of the control word spell the last record, and its counts are the sums of the views' pins
+  -- the control word encodes the last record, and its counts are the sums of the views' pins
   pub spelled : word ≡ word_of x.entry x.generation (total_pins Read hs) (total_pins Write hs)
   pub in_range : (total_pins Read hs < 4096) × (total_pins Write hs < 4096)
   pub body : IsSpelled x.entry a b
@@ -83,8 +82,8 @@ pub record ShowsRecord (x : EntryRecord) (xs : List EntryRecord) (word a b : ℕ
   pub pinned : (i : ℕ) (h : List EntryStep) → get_elem? hs i ≡ some h → (p : LivePin) → IsAmong p (live_pins h)
       → IsAmong p.1 (x ∷ xs) × (p.1.entry ≢ Invalid)
 
--- the owner's list has gone on from the word e to the last record x: no pin is taken any more of the record
--- of that word or of an earlier one, so of those no more are left than it counts
+-- the owner's list has moved on from the word e to the last record x: no more pins are taken of the record of that word
+-- or of an earlier one, so at most as many are left as the word counts
 pub record HasGoneOn (x : EntryRecord) (hs : List (List EntryStep)) (e : ℕ) : Type 0 where
   pub not_later : generation_of e ≤ x.generation
   pub earlier : x.entry ≢ Invalid → generation_of e < x.generation
@@ -99,14 +98,14 @@ pub record ShowsEntry (g t word a b : ℕ) (hs : List (List EntryStep)) : Type 0
   -- each word that the owner exchanged from counts the pins that are left of its record and of earlier ones
   pub gone_on : (e : ℕ) → IsAmong e (exchanged (owner_steps t hs)) → HasGoneOn (last_record g (owner_steps t hs)) hs e
 
--- the header has version 1 or 2, and a number of table frames within
--- the limit (versions: grant_table.h; the limit: own)
+-- the header has version 1 or 2, and a number of table frames within the limit (versions: grant_table.h; the limit:
+-- this project's own)
 pub record IsKeptHeader (h : Header) : Type 0 where
   pub version : (h.version ≡ 1) ⊎ (h.version ≡ 2)
   pub some : 0 < h.frames
   pub few : h.frames ≤ MAX_TABLE_FRAMES
 
--- the word is that of such a header
+-- the word encodes such a header
 abbrev pub IsHeader : ℕ → Type 0
 IsHeader w = (h : Header) × IsKeptHeader h × (w ≡ header_word h)
 
@@ -121,7 +120,7 @@ module _ {S : Type 0} where
     -- the first seat deals the others, and counts them
     pub dealt : ((v : View) → get_elem? s.views 0 ≡ some v → v.dealt ≡ length s.views) × (length s.views ≤ k.domains)
         × (0 < length s.views)
-    -- the seat of each domain stands at its position
+    -- the view of each domain is at its position
     pub seats : (j : ℕ) (v : View) → get_elem? s.views j ≡ some v
         → (v.position ≡ j) × (v.first ≡ k.first) × (v.headers ≡ k.headers)
     pub entries : (t r : ℕ) → t < k.domains → r < TABLE_ENTRIES
@@ -130,7 +129,7 @@ module _ {S : Type 0} where
     pub headers : (t : ℕ) → t < k.domains
         → (slice_index s.words (header_place t) ≡ header_now k t (map (steps_on_header t) s.views))
         × IsHeader (slice_index s.words (header_place t))
-    -- one order of all steps of all seats has led here
+    -- the history has led here
     pub led_here : HasLedTo k h s
 
 -- before each step of the history words and views showed a state, to which the steps before it had led

@@ -1,4 +1,4 @@
--- One atomic step: what it adds to its seat's view, and the state that it was taken in.
+-- One atomic step: what it adds to its seat's view, and the state in which it is taken.
 use Rattle.std.specs.Prelude.{◌≡◌, ℕ, ◌+◌, ◌-◌, ◌%◌, ◌^◌, cond, ◌==◌, ◌∷◌}
 use Rattle.gt_word_table.specs.Prelude.{some, get_elem?, either, State, Me, TableStep, changed_entry, raise_of}
 use Rattle.gt_word_table.specs.Prelude.{idle_word_of}
@@ -17,14 +17,14 @@ use Rattle.gt_word_table.specs.declared.view.Purpose.TheVariants as purpose
 use Rattle.gt_word_table.specs.declared.view.HeaderStep.TheVariants as header
 use Rattle.gt_word_table.specs.declared.view.SeatStep.TheVariants as step_of
 
--- words and views, the view v among them, stood so after these steps of all seats
+-- words and views, the view v among them, showed a state after these steps of all seats
 abbrev pub StoodWith : Type 0 → Layout → StepHistory → View → Type 0
 StoodWith S k past v = (z : State S View) × Stands k past z × (get_elem? z.views v.position ≡ some v)
 
--- The seat with the view v takes the step x on this word, after the steps past of all seats. Words and views
--- showed a state before each of those, before it and after it. It finds the number that those steps make of the
--- word, says so, and leaves the other. A pin is of the last record then. It takes the state that they make to what
--- the core's event gives
+-- the seat with the view v takes the step x on this word, after the history past. Words and views showed a state before
+-- each step of that history, before this step and after it. The step finds the number that the history makes of the
+-- word, records it, and leaves the other. A pin is of the last record then. The step takes the state that the history
+-- makes to what the core's event gives
 pub record TakesStep (S : Type 0) (k : Layout) (v : View) (past : StepHistory) (x : SeatStep)
     (word found left : ℕ) : Type 0 where
   pub stood : StoodWith S k past v
@@ -44,20 +44,19 @@ on_entry t r m = step_of.Entry t r m
 abbrev pub on_header : ℕ → HeaderStep → SeatStep
 on_header t m = step_of.Header t m
 
--- a kind of step: the step by the number found, and the number that it leaves
+-- a kind of step: the step and the number that it leaves, each by the number found
 pub record StepKind : Type 0 where
   pub layout : Layout
   pub step : ℕ → SeatStep
   pub leaves : ℕ → ℕ
 
--- what a step of this kind promises its caller: its view gained the step,
--- which was taken on words and views that show a state
+-- what a step of this kind promises: its view gained the step, which was taken on words and views that show a state
 abbrev pub tells : {S : Type 0} → StepKind → TableStep S → Me S View → ℕ → Me S View → Type 0
 tells {S} d st m n m' =
     (m'.1 ≡ m.1) × ((past : StepHistory) × (m'.0 ≡ with_step past (d.step n) m.0)
     × TakesStep S d.layout m.0 past (d.step n) st.word n (d.leaves n))
 
--- the same of a store, which does not say what it found
+-- the same for a store, which does not report what it found
 abbrev pub tells_stored : {S : Type 0} → StepKind → TableStep S → Me S View → Me S View → Type 0
 tells_stored {S} d st m m' = (found : ℕ) × tells {S = S} d st m found m'
 
@@ -79,7 +78,7 @@ reading k t r h = entry_kind k t r (λ n. ReadBody h n) (λ n. n)
 abbrev pub storing : Layout → ℕ → ℕ → BodyWord → ℕ → StepKind
 storing k t r h v = entry_kind k t r (λ n. StoredBody h v) (λ n. v)
 
--- a pin given back: one pin is taken from the word, modulo 2 to the 64th (C11 atomics: atomic_fetch_sub)
+-- a release of a pin: the word has one pin less, modulo 2 to the 64th (C11 atomics: atomic_fetch_sub)
 abbrev pub unpinning : Layout → ℕ → ℕ → Dir → ℕ → StepKind
 unpinning k t r d g = entry_kind k t r (λ n. Unpinned d g) (λ n. (n + (2 ^ 64 - unit_of d)) % 2 ^ 64)
 
@@ -95,9 +94,9 @@ storing_header k t w = record { layout = k; step = λ n. on_header t (header.Sto
 abbrev pub changed : EntryChange → EntryRecord → EntryRecord
 changed c x = record { generation = x.generation + raise_of c; entry = changed_entry c x.entry }
 
--- the word that an owner's exchange stores in place of this one, if the last record is x: the
--- idle word of the entry published, at the next generation; the invalid one of the same
--- generation, for a withdrawal with the same pins; or the same with the other readonly, at the next generation
+-- the word that an owner's exchange stores instead of this one, if the last record is x: for a publication the idle
+-- word of the entry at the next generation; for a revocation the invalid word of the same generation; for a withdrawal
+-- the same with its pins; else the word with the other readonly at the next generation
 abbrev pub changed_word : EntryChange → EntryRecord → ℕ → ℕ
 changed_word (change.Publish e) x word = idle_word_of e (x.generation + 1)
 changed_word change.Revoke x word = invalid_word word
@@ -105,18 +104,18 @@ changed_word change.Withdraw x word = withdrawn_word word
 changed_word change.Demote x word = demoted_word word
 changed_word change.Promote x word = promoted_word word
 
--- the step of an exchange that is taken
+-- the step of a taken exchange
 abbrev pub taken : ℕ → ℕ → View → Purpose → ℕ → ℕ → EntryStep
 taken t r v (purpose.Pin d) old new = Pinned d old (record_seen (last_seen t r v))
 taken t r v (purpose.Change c) old new = Changed c old new (changed c (last_of r v))
 
--- the step of an exchange that is missed
+-- the step of a missed exchange
 abbrev pub missed : Purpose → ℕ → ℕ → ℕ → EntryStep
 missed (purpose.Pin d) old new n = PinMissed d old new n
 missed (purpose.Change c) old new n = ChangeMissed c old new n
 
--- an exchange of a control word: taken, and the word is the new one, exactly if the
--- one expected is found (C11 atomics: atomic_compare_exchange_strong)
+-- an exchange of a control word: it is taken, and the word is then the new one, exactly if the expected one is found
+-- (C11 atomics: atomic_compare_exchange_strong)
 abbrev pub exchanging : Layout → ℕ → ℕ → View → Purpose → ℕ → ℕ → StepKind
 exchanging k t r v p old new =
     entry_kind k t r (λ n. cond (n == old) (taken t r v p old new) (missed p old new n)) (λ n. either (n == old) new n)

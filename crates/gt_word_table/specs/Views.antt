@@ -1,4 +1,4 @@
--- What follows from the steps of one seat. Lists begin with what came last.
+-- What the steps of one seat imply. Lists begin with the last item.
 use Rattle.std.specs.Prelude.{◌≡◌, ◌⊎◌, ℕ, ◌+◌, Bool, true, false, cond, IsSome, ◌==◌, ◌&&◌, List, [], ◌∷◌, Option}
 use Rattle.std.specs.Prelude.{Some, None, slice_index, count_by, nat_le}
 use Rattle.gt_word_table.specs.Prelude.{Dir, Read, Write, BodyWord, First, Second, EntryRecord, EntryStep, Looked, ReadBody}
@@ -15,7 +15,7 @@ abbrev pub IsAmong : {A : Type 0} → A → List A → Type 0
 IsAmong a [] = ⊥
 IsAmong a (x ∷ xs) = (a ≡ x) ⊎ IsAmong a xs
 
--- out of a list of steps, those on the entry r of the domain t
+-- the steps of a list that are on the entry r of the domain t
 abbrev pub entry_steps : ℕ → ℕ → List SeatStep → List EntryStep
 entry_steps t r [] = []
 entry_steps t r (Entry d q m ∷ xs) = cond ((d == t) && (q == r)) (m ∷ entry_steps t r xs) (entry_steps t r xs)
@@ -26,7 +26,7 @@ entry_steps t r (Frame d q m ∷ xs) = entry_steps t r xs
 abbrev pub steps_on : ℕ → ℕ → View → List EntryStep
 steps_on t r v = entry_steps t r v.steps
 
--- out of a list of steps, those on the header of the domain t
+-- the steps of a list that are on the header of the domain t
 abbrev pub header_steps : ℕ → List SeatStep → List HeaderStep
 header_steps t [] = []
 header_steps t (Header d m ∷ xs) = cond (d == t) (m ∷ header_steps t xs) (header_steps t xs)
@@ -37,7 +37,7 @@ header_steps t (Frame d q m ∷ xs) = header_steps t xs
 abbrev pub steps_on_header : ℕ → View → List HeaderStep
 steps_on_header t v = header_steps t v.steps
 
--- the view after one more step, which was taken after the steps past of all seats
+-- the view after one more step, taken after the history past
 abbrev pub with_step : List (ℕ × SeatStep) → SeatStep → View → View
 with_step past x v = record v { steps = x ∷ v.steps; past = (v.position, x) ∷ past }
 
@@ -45,13 +45,13 @@ with_step past x v = record v { steps = x ∷ v.steps; past = (v.position, x) �
 abbrev pub LivePin : Type 0
 LivePin = Dir × EntryRecord
 
--- both are read, or both are write
+-- both directions are the same
 abbrev pub is_same_dir : Dir → Dir → Bool
 is_same_dir Read Read = true
 is_same_dir Write Write = true
 is_same_dir _ _ = false
 
--- the pin is of that kind and generation
+-- the pin has that kind and generation
 abbrev pub is_pin : Dir → ℕ → LivePin → Bool
 is_pin d g p = is_same_dir d p.0 && (g == p.1.generation)
 
@@ -64,14 +64,14 @@ without_pin d g (p ∷ ps) = cond (is_pin d g p) ps (p ∷ without_pin d g ps)
 abbrev pub pins_like : Dir → ℕ → List LivePin → ℕ
 pins_like d g ps = count_by (is_pin d g) ps
 
--- the pins that a seat has of an entry: those taken and not given back
+-- the pins that a seat has of an entry: those taken and not released
 abbrev pub live_pins : List EntryStep → List LivePin
 live_pins [] = []
 live_pins (Pinned d _ x ∷ ms) = (d, x) ∷ live_pins ms
 live_pins (Unpinned d g ∷ ms) = without_pin d g (live_pins ms)
 live_pins (_ ∷ ms) = live_pins ms
 
--- 1 if both kinds are one, else 0
+-- 1 if both kinds are the same, else 0
 abbrev pub weight : Dir → Dir → ℕ
 weight Read Read = 1
 weight Write Write = 1
@@ -91,7 +91,7 @@ pins_until d g (p ∷ ps) = cond (nat_le p.1.generation g) (weight d p.0) 0 + pi
 abbrev pub invalid_at : ℕ → EntryRecord
 invalid_at g = record { generation = g; entry = entries.Invalid }
 
--- the last record of the owner's list, which begins invalid at the generation g
+-- the last record of the owner's list, whose first record is invalid at the generation g
 abbrev pub last_record : ℕ → List EntryStep → EntryRecord
 last_record g [] = invalid_at g
 last_record g (Changed _ _ _ x ∷ ms) = x
@@ -113,19 +113,19 @@ exchanged [] = []
 exchanged (Changed _ e _ _ ∷ ms) = e ∷ exchanged ms
 exchanged (_ ∷ ms) = exchanged ms
 
--- both are the first body word, or both the second
+-- both are the same body word
 abbrev pub is_half : BodyWord → BodyWord → Bool
 is_half First First = true
 is_half Second Second = true
 is_half _ _ = false
 
--- the body word that the owner stored last, 0 before
+-- the body word that the owner stored last, 0 if it stored none
 abbrev pub stored_body : BodyWord → List EntryStep → ℕ
 stored_body h [] = 0
 stored_body h (StoredBody k v ∷ ms) = cond (is_half h k) v (stored_body h ms)
 stored_body h (_ ∷ ms) = stored_body h ms
 
--- the header that the owner stored last, w before
+-- the header that the owner stored last, w if it stored none
 abbrev pub stored_header : ℕ → List HeaderStep → ℕ
 stored_header w [] = w
 stored_header w (header.Stored n ∷ ms) = n
@@ -141,7 +141,7 @@ pub record Seen : Type 0 where
 abbrev pub seen_word : ℕ → Option Seen
 seen_word w = Some (record { word = w; first = None; second = None })
 
--- what was seen, with one more body value read; nothing, if no control word was seen
+-- what was seen, with one more body value read; nothing if no control word was seen
 abbrev pub with_body : BodyWord → ℕ → Option Seen → Option Seen
 with_body h v None = None
 with_body First v (Some s) = Some (record s { first = Some v })
@@ -162,7 +162,7 @@ abbrev pub value_or_zero : Option ℕ → ℕ
 value_or_zero None = 0
 value_or_zero (Some x) = x
 
--- the record that was seen: the generation and entry that the words spell
+-- the record that was seen: the generation and entry that the words encode
 abbrev pub record_seen : Seen → EntryRecord
 record_seen s =
     record {
@@ -170,7 +170,7 @@ record_seen s =
       entry = entry_of (control_of s.word) (value_or_zero s.first) (value_or_zero s.second);
     }
 
--- the body words were read since the look, both for a sub-page
+-- the body words were read since the look: for a sub-page both
 abbrev pub HasBody : Seen → Type 0
 HasBody s = IsSome s.first × (kind_of s.word ≡ KindSub → IsSome s.second)
 

@@ -1,4 +1,4 @@
-//! The single steps on the table underneath, each at the word that it is on.
+//! The single steps on the kit's table, each at the index of its word.
 ghost use Rattle.std.specs.Prelude.{◌≡◌, ◌+◌, ◌-◌, ◌%◌, ◌^◌, ◌<◌, ◌==◌, false};
 ghost use prog.Atomic.{either};
 ghost use Rattle.gt_entry.specs.Words.{unit_of};
@@ -16,7 +16,7 @@ use crate::view::Purpose;
 use gt_entry::{BodyWord, pin_unit};
 use gt_types::Dir;
 
-// The place of a body word among the words of its entry.
+// Returns the index of a body word among the words of its entry.
 fn index_of(half: BodyWord) -> usize
     ensures index { result ≡ half_index half }
     ensures inside { result < 3 }
@@ -27,7 +27,7 @@ fn index_of(half: BodyWord) -> usize
     }
 }
 
-// One load of the control word of an entry.
+// Loads the control word of an entry, once.
 pub(crate) fn load_control_word<J: OfKind>(
     cells: &WordCells,
     seat: &mut CellSeat,
@@ -49,7 +49,7 @@ pub(crate) fn load_control_word<J: OfKind>(
     )
 }
 
-// One load of a body word of an entry.
+// Loads a body word of an entry, once.
 pub(crate) fn load_body_word<J: OfKind>(
     cells: &WordCells,
     seat: &mut CellSeat,
@@ -73,7 +73,7 @@ pub(crate) fn load_body_word<J: OfKind>(
     )
 }
 
-// One store of a body word of an entry.
+// Stores a body word of an entry, once.
 pub(crate) fn store_body_word<J: OfKind>(
     cells: &WordCells,
     seat: &mut CellSeat,
@@ -99,7 +99,7 @@ pub(crate) fn store_body_word<J: OfKind>(
     )
 }
 
-// One exchange of the control word of an entry. Only the proof reads `purpose`.
+// Exchanges the control word of an entry, once. Only the proof reads `purpose`.
 pub(crate) fn exchange_word<J: OfKind>(
     cells: &WordCells,
     seat: &mut CellSeat,
@@ -127,7 +127,7 @@ pub(crate) fn exchange_word<J: OfKind>(
     )
 }
 
-// One subtraction of a pin from the control word of an entry. Only the proof reads `generation`.
+// Subtracts a pin from the control word of an entry, once. Only the proof reads `generation`.
 pub(crate) fn subtract_from_word<J: OfKind>(
     cells: &WordCells,
     seat: &mut CellSeat,
@@ -154,7 +154,7 @@ pub(crate) fn subtract_from_word<J: OfKind>(
     )
 }
 
-// One load of a header word.
+// Loads a header word, once.
 pub(crate) fn load_header_word<J: OfKind>(cells: &WordCells, seat: &mut CellSeat, at: usize) -> u64
     requires table { (seat.old.table_id ≡ cells.now.table_id)
         × IsWide cells.now.table_id.words (layout_of cells.now.key) }
@@ -169,7 +169,7 @@ pub(crate) fn load_header_word<J: OfKind>(cells: &WordCells, seat: &mut CellSeat
     cells.load::<Tells<J>>(seat, at * DOMAIN_WORDS)
 }
 
-// One store of a header word.
+// Stores a header word, once.
 pub(crate) fn store_header_word<J: OfKind>(
     cells: &WordCells,
     seat: &mut CellSeat,
@@ -189,7 +189,7 @@ pub(crate) fn store_header_word<J: OfKind>(
     cells.store::<TellsStore<J>>(seat, at * DOMAIN_WORDS, new)
 }
 
-// One load, which tells of one state with the views of all seats that were taken in.
+// Loads one word. Its contract gives one state with the views of all seats that were taken in.
 pub(crate) fn tell_all<J: OfKind>(cells: &WordCells, seat: &mut CellSeat)
     requires fits { (seat.old.table_id ≡ cells.now.table_id) × (0 < cells.now.table_id.words)
         × (seat.old.me.0.own.position ≡ 0) }

@@ -1,4 +1,4 @@
-//! The rule of the table, the places of its words, and what its steps tell.
+//! The rule of the table, the layout of its words, and what its steps promise.
 ghost use Rattle.std.specs.Prelude.{[]};
 ghost use Rattle.gt_word_table.specs.Joining.{TableHolds, gone_outlook, learns_all, outlook_of, tells_own};
 ghost use Rattle.gt_word_table.specs.Joining.{tells_own_stored, took};
@@ -11,17 +11,17 @@ use atomic_table::{Join, Play, Seat, Shared, Split, TableRule};
 use gt_types::{Config, TABLE_ENTRIES};
 use std::marker::{Brand, PhantomData};
 
-/// The words from one entry to the next, of which three are used: so neighbours share no cache line.
+/// The words from one entry to the next. Three of them are used, so neighbours share no cache line.
 pub const ENTRY_WORDS: usize = 8;
 
-// The rows of `ENTRY_WORDS` words that a domain has: one for its header, and one for each entry. A step
-// adds up rows and multiplies once, so that a loop on one entry keeps one number for its place.
+// The rows of `ENTRY_WORDS` words of a domain: one for its header, and one for each entry. A step adds up rows and
+// multiplies once, so that a loop on one entry keeps one number for its index.
 pub(crate) const DOMAIN_ROWS: usize = TABLE_ENTRIES as usize + 1;
 
 /// The words of a domain.
 pub const DOMAIN_WORDS: usize = DOMAIN_ROWS * ENTRY_WORDS;
 
-/// An entry, by the position of its domain among those of the run and by its reference.
+/// An entry: the position of its domain in the run, and its reference.
 #[derive(Clone, Copy)]
 pub struct EntryAt {
     pub position: usize,
@@ -37,7 +37,7 @@ impl TableRule<(), Outlook, Config> for Entries {
     ghost first = { λ c. outlook_of (first_view (layout_of c)) };
 }
 
-/// The kind of a step, which each call of a raw step picks.
+/// The kind of a step. Each raw step picks one.
 pub(crate) trait OfKind {
     ghost kind: { StepKind };
 }
@@ -54,7 +54,7 @@ impl<J: OfKind> Play<(), Outlook> for Tells<J> {
     ghost then = { tells_own J.kind };
 }
 
-// A store does not say what it found.
+// A store does not report what it found.
 pub(crate) struct TellsStore<J> {
     kind: PhantomData<J>,
 }
@@ -63,7 +63,7 @@ impl<J: OfKind> Play<(), Outlook> for TellsStore<J> {
     ghost then = { λ st m _ m'. tells_own_stored J.kind st m m' };
 }
 
-// How the first seat deals the next one.
+// The deal of the next seat by the first one.
 pub(crate) struct Deal;
 
 impl Split<Outlook> for Deal {
@@ -72,7 +72,7 @@ impl Split<Outlook> for Deal {
     ghost right = { dealt_outlook };
 }
 
-// How the first seat takes another in.
+// The taking in of another seat by the first one.
 pub(crate) struct TakeIn;
 
 impl Join<Outlook> for TakeIn {
@@ -81,7 +81,7 @@ impl Join<Outlook> for TakeIn {
     ghost spent = { gone_outlook };
 }
 
-// What the first seat tells of all that it took in.
+// The step by which the first seat learns of all the seats that it took in.
 pub(crate) struct TellsAll<J> {
     kind: PhantomData<J>,
 }
@@ -90,8 +90,8 @@ impl<J: OfKind> Play<(), Outlook> for TellsAll<J> {
     ghost then = { learns_all J.kind };
 }
 
-/// A seat of the table underneath, which holds no slot.
+/// A seat of the kit's table, which holds no slot.
 pub(crate) type CellSeat = Seat<(), Outlook>;
 
-/// The table underneath, as all seats see it.
+/// The kit's table, as all seats see it.
 pub(crate) type WordCells = Shared<(), Outlook, Config, Entries>;

@@ -1,4 +1,4 @@
-//! Seats that are dealt, and seats that the first one takes in.
+//! How the first seat deals the others, and how it takes them in.
 ghost use Rattle.std.specs.Prelude.{◌≡◌, ◌∷◌, ◌<◌, [], false};
 ghost use Rattle.gt_word_table.specs.Joining.{GatheredOf, StandTogether, with_view};
 ghost use Rattle.gt_word_table.specs.Places.{dealer_after, dealt_to};
@@ -8,7 +8,7 @@ use crate::rule::{CellSeat, Deal, TakeIn};
 use crate::table::{TableSeat, WordTable};
 use std::marker::{Brand, Model};
 
-/// Seats whose steps are all made, of one run, the first domain's among them.
+/// Seats of one run that make no more steps, the first domain's among them.
 #[derive(Drop)]
 pub struct Gathered {
     seat: CellSeat,
@@ -35,7 +35,7 @@ impl Gathered {
 }
 
 impl WordTable {
-    /// Deals the next seat. Only the first seat deals, and it counts those that it dealt.
+    /// Deals the next seat. Only the first seat deals, and it counts the seats that it dealt.
     pub fn deal(&self, first: &mut TableSeat) -> TableSeat
         requires table { first.old.table ≡ self.now.table }
         requires first { first.old.view.position ≡ 0 }
@@ -48,7 +48,7 @@ impl WordTable {
         }
     }
 
-    /// Takes one more seat in, which makes no more steps.
+    /// Takes another seat in, which makes no more steps.
     pub fn take_in(&self, all: &mut Gathered, other: TableSeat)
         requires { (all.old.table ≡ self.now.table) × (other.table ≡ self.now.table) }
         ensures { (all.new.table ≡ all.old.table) × (all.new.views ≡ with_view other.view all.old.views) }
@@ -57,8 +57,8 @@ impl WordTable {
         self.table.shared.join_seat::<TakeIn>(&mut all.seat, seat);
     }
 
-    /// Looks at the table with all seats that are gathered: words and views show one state that has the views of them
-    /// all. It is one load, and it adds to no view.
+    /// Loads one word with all gathered seats. By its contract, words and views show one state with the views of all of
+    /// them. It adds to no view.
     pub fn tell_of_all(&self, all: &mut Gathered)
         requires { all.old.table ≡ self.now.table }
         ensures same { all.new ≡ all.old }

@@ -1,4 +1,4 @@
-//! The table at the start, and its first seat.
+//! The table and its first seat at the start.
 ghost use Rattle.std.specs.Prelude.{◌≡◌, ℕ, ◌*◌, ◌%◌, ◌<◌, length, slice_index, IfOk};
 ghost use Rattle.gt_types.specs.Config.{IsWithinLimits};
 ghost use Rattle.gt_entry.specs.Spelling.{idle_word_of};
@@ -13,7 +13,7 @@ use gt_entry::{Control, Entry, Header};
 use gt_types::{Config, DomainConfig};
 use std::alloc::{AllocError, Global};
 
-/// The header of a domain at the start.
+/// Returns the header of a domain at the start.
 pub fn first_header(domain: DomainConfig) -> Header
     requires { (domain.version < 4) × (domain.table_frames < 256) }
     ensures { result ≡ first_header domain }
@@ -24,7 +24,7 @@ pub fn first_header(domain: DomainConfig) -> Header
     }
 }
 
-/// The control word of the entry at a generation, with no pins.
+/// Returns the control word of the entry at a generation, with no pins.
 pub fn idle_word(entry: Entry, generation: u32) -> u64
     requires { generation < 1048576 }
     ensures { result ≡ idle_word_of entry generation }
@@ -32,7 +32,7 @@ pub fn idle_word(entry: Entry, generation: u32) -> u64
     Control::of_entry(entry, generation, 0, 0).pack()
 }
 
-// The word at the beginning of a row: the header of its domain, or the control word of an invalid entry.
+// Returns the first word of a row: the header of its domain, or the control word of an invalid entry.
 fn first_word(config: &Config, at: usize) -> u64
     requires { IsWithinLimits config.now × (at < length config.now.domains.items * DOMAIN_WORDS)
         × (at % ENTRY_WORDS ≡ 0) }
@@ -45,7 +45,7 @@ fn first_word(config: &Config, at: usize) -> u64
     }
 }
 
-// The words at the start: each header as it is configured, each entry invalid at the first generation.
+// Makes the words at the start: each header as configured, each entry invalid at the first generation.
 fn first_words(alloc: Global, config: &Config) -> Result<Vec<u64>, AllocError>
     requires { IsWithinLimits config.now }
     ensures { IfOk result (λ v. (length v.items ≡ length config.now.domains.items * DOMAIN_WORDS)
@@ -60,7 +60,10 @@ fn first_words(alloc: Global, config: &Config) -> Result<Vec<u64>, AllocError>
 }
 
 impl WordTable {
-    /// The table of a run, all entries invalid at the first generation, and its first seat.
+    /// Makes the table of a run and its first seat. All entries are invalid, at the first generation.
+    ///
+    /// # Errors
+    /// `AllocError`.
     pub fn new(alloc: Global, config: &Config) -> Result<(WordTable, TableSeat), AllocError>
         requires { IsWithinLimits config.now }
         ensures run { IfOk result (λ r. r.0.layout ≡ layout_of config.now) }

@@ -1,4 +1,4 @@
-//! The table and its seats, with nothing in sight but what contracts name.
+//! The table and its seats. Their fields are private, so that contracts see only the values that they name.
 ghost use Rattle.std.specs.Prelude.{◌≡◌, ◌<◌};
 ghost use Rattle.gt_types.specs.Config.{IsWithinLimits};
 ghost use Rattle.gt_word_table.specs.Moves.{MayTake, Takes, TakesStored};
@@ -91,8 +91,8 @@ impl WordTable {
         store_body_word::<Brand>(&self.table.shared, &mut seat.seat, entry, half, value)
     }
 
-    /// Exchanges the control word of an entry if it is `old`, and answers the word found. The view learns what the
-    /// exchange is for.
+    /// Exchanges the control word of an entry if it is `old`, and returns the word found. The step in the view has the
+    /// purpose.
     #[inline]
     pub fn exchange(
         &self,
@@ -113,8 +113,8 @@ impl WordTable {
         exchange_word::<Brand>(&self.table.shared, &mut seat.seat, entry, old, new, purpose)
     }
 
-    /// Subtracts a pin from the control word of an entry, and answers the word found. The view learns the pin's
-    /// generation.
+    /// Subtracts a pin from the control word of an entry, and returns the word found. The step in the view has the
+    /// pin's generation.
     #[inline]
     pub fn subtract_pin(
         &self,

@@ -1,52 +1,52 @@
-//! What a seat knows, as plain data for contracts. No value of it is made when the program runs.
+//! What a seat knows, as plain data for contracts. No value of these types exists at run time.
 use gt_entry::{BodyWord, Entry, EntryChange};
 use gt_frames::{FrameBytes, WriteRecord};
 use gt_types::{Dir, DomId};
 use std::collections::LinkedList;
 
-/// What an entry was from one change by its owner to the next.
+/// The state of an entry from one change by its owner to the next.
 #[derive(Clone, Copy)]
 pub struct EntryRecord {
     pub generation: u64,
     pub entry: Entry,
 }
 
-/// One step on the words of an entry.
+/// A step on the words of an entry.
 #[derive(Clone, Copy)]
 pub enum EntryStep {
-    /// A load of the control word, and the word seen.
+    /// A load of the control word, with the word seen.
     Looked(u64),
-    /// A load of a body word, and the value seen.
+    /// A load of a body word, with the value seen.
     ReadBody(BodyWord, u64),
-    /// A pin was taken: the word expected, and the entry as this record has it.
+    /// A taken pin, with the word expected and the record of the entry.
     Pinned {
         dir: Dir,
         expected: u64,
         record: EntryRecord,
     },
-    /// A pin was missed: the word found is another than the one expected, and the one desired was not stored.
+    /// A missed pin: the word found is not the one expected, and the one desired was not stored.
     PinMissed {
         dir: Dir,
         expected: u64,
         desired: u64,
         found: u64,
     },
-    /// A pin of this kind and generation was given back.
+    /// A release of a pin of this kind and generation.
     Unpinned {
         dir: Dir,
         generation: u64,
     },
-    /// The owner stored a body word.
+    /// A store of a body word by the owner.
     StoredBody(BodyWord, u64),
-    /// The owner exchanged the control word: the word expected, the word stored and the record it spells.
+    /// An exchange of the control word by the owner, with the word expected, the word stored and the record that it
+    /// encodes.
     Changed {
         change: EntryChange,
         expected: u64,
         stored: u64,
         record: EntryRecord,
     },
-    /// The owner's exchange was missed: the word found is another than the one expected, and the
-    /// one desired was not stored.
+    /// A missed exchange of the owner: the word found is not the one expected, and the one desired was not stored.
     ChangeMissed {
         change: EntryChange,
         expected: u64,
@@ -55,41 +55,41 @@ pub enum EntryStep {
     },
 }
 
-/// One step on the header word of a domain.
+/// A step on the header word of a domain.
 #[derive(Clone, Copy)]
 pub enum HeaderStep {
-    /// A load, and the word seen.
+    /// A load, with the word seen.
     Looked(u64),
-    /// The owner stored a word.
+    /// A store by the owner.
     Stored(u64),
 }
 
-/// One access to a frame, which takes place when the frame's lock is freed.
+/// An access to a frame. It takes place when the frame's lock is freed.
 pub enum FrameStep {
-    /// Bytes were read, starting at this offset.
+    /// A read of bytes, starting at this offset.
     Read(u16, FrameBytes),
-    /// A range was written.
+    /// A write of a range.
     Wrote(WriteRecord),
-    /// A range was written with the bytes of another frame: the position of that frame's owner, its number, and the
-    /// offset at which the bytes began.
+    /// A write of a range with the bytes of another frame: the position of that frame's owner, its number, and the
+    /// offset of the bytes there.
     Copied(u64, u64, u16, WriteRecord),
 }
 
-/// A step on an entry, a header or a frame of the domain at a position, with the reference or the frame's number.
+/// A step on an entry, a header or a frame: the position of its domain, then the reference or the frame's number.
 pub enum SeatStep {
     Entry(u64, u64, EntryStep),
     Header(u64, HeaderStep),
     Frame(u64, u64, FrameStep),
 }
 
-/// What an exchange of a control word is for.
+/// The purpose of an exchange of a control word.
 #[derive(Clone, Copy)]
 pub enum Purpose {
     Pin(Dir),
     Change(EntryChange),
 }
 
-/// What a seat knows: which domain's it is, by its position among those of the run, and its own steps, the last first.
+/// What a seat knows: its position in the run, what the run began with, and its own steps, the last first.
 pub struct View {
     pub position: u64,
     /// The generation that all entries began with.
@@ -101,11 +101,11 @@ pub struct View {
     /// The number of seats that this one has dealt, its own among them.
     pub dealt: u64,
     pub steps: LinkedList<SeatStep>,
-    /// The steps of all seats up to its own last one, each with the position of its seat, the last first.
+    /// The steps of all seats up to the seat's own last one, each with the position of its seat, the last first.
     pub past: LinkedList<(u64, SeatStep)>,
 }
 
-/// The view of a seat, and the views of the seats that it took in. A seat that was taken in is gone.
+/// The view of a seat, and the views of the seats that it took in. `gone` means that the seat was taken in itself.
 pub struct Outlook {
     pub own: View,
     pub taken: LinkedList<View>,

@@ -1,4 +1,4 @@
--- What the answers of calls say: which step was made, what it saw and what it left.
+-- What the calls promise: which step was made, what it saw and what it left.
 use Rattle.std.specs.Prelude.{◌≡◌, ◌≢◌, ℕ, ◌+◌, ◌-◌, ◌<◌, ◌≤◌, [], ◌∷◌}
 use Rattle.gt_words.specs.Prelude.{header_of, header_word, size_of, unit_of, Entry, Header, Dir}
 use Rattle.gt_words.specs.Prelude.{TABLE_ENTRIES, EntryChange, EntryStep}
@@ -18,42 +18,40 @@ use Rattle.gt_words.specs.Conditions.{Board, SeatOf, IsSeatOf, position_at, IsWo
 use Rattle.gt_words.specs.Conditions.{HasNoWritePins, IsNotEarlier}
 pub use Rattle.gt_roster.specs.Starting.{IsStartFault}
 
--- the seat added the step m on the entry r of the domain t to its view, which was taken
--- after the steps past of all seats, and nothing else
+-- the seat added the step m on the entry r of the domain t, taken after the history past, to its view, and nothing else
 pub record AddsToEntry (past : StepHistory) (t r : ℕ) (m : EntryStep) (v w : View) : Type 0 where
   pub view : w ≡ with_step past (on_entry t r m) v
   pub here : steps_on t r w ≡ m ∷ steps_on t r v
   pub others : (t' r' : ℕ) → (t ≡ t' → r ≡ r' → ⊥) → steps_on t' r' w ≡ steps_on t' r' v
   pub headers : (t' : ℕ) → steps_on_header t' w ≡ steps_on_header t' v
 
--- the seat added the step m on the header of the domain t to its view, which was taken
--- after the steps past of all seats, and nothing else
+-- the seat added the step m on the header of the domain t, taken after the history past, to its view, and nothing else
 pub record AddsToHeader (past : StepHistory) (t : ℕ) (m : HeaderStep) (v w : View) : Type 0 where
   pub view : w ≡ with_step past (on_header t m) v
   pub here : steps_on_header t w ≡ m ∷ steps_on_header t v
   pub others : (t' : ℕ) → t ≢ t' → steps_on_header t' w ≡ steps_on_header t' v
   pub entries : (t' r' : ℕ) → steps_on t' r' w ≡ steps_on t' r' v
 
--- the step m was taken on the control word of the entry r of the domain t, if it found and left these numbers
+-- the step m was taken on the control word of the entry r of the domain t: it found one number there and left the other
 pub record StepsOnControl (k : Layout) (t r : ℕ) (m : EntryStep) (found left : ℕ) (v w : View) : Type 0 where
   pub past : StepHistory
   pub adds : AddsToEntry past t r m v w
   pub step : TakesStep (Unit {0}) k v past (on_entry t r m) (place t r 0) found left
 
--- the step m was taken on the body word h of the entry r of the domain t, if it found and left these numbers
+-- the step m was taken on the body word h of the entry r of the domain t: it found one number there and left the other
 pub record StepsOnBody (k : Layout) (t r : ℕ) (h : BodyWord) (m : EntryStep) (found left : ℕ) (v w : View) : Type 0 where
   pub past : StepHistory
   pub adds : AddsToEntry past t r m v w
   pub step : TakesStep (Unit {0}) k v past (on_entry t r m) (place t r (half_index h)) found left
 
--- the step m was taken on the header word of the domain t, if it found and left these numbers
+-- the step m was taken on the header word of the domain t: it found one number there and left the other
 pub record StepsOnHeader (k : Layout) (t : ℕ) (m : HeaderStep) (found left : ℕ) (v w : View) : Type 0 where
   pub past : StepHistory
   pub adds : AddsToHeader past t m v w
   pub step : TakesStep (Unit {0}) k v past (on_header t m) (header_place t) found left
 
--- a look at the header of the domain t found this word: that of a header within the
--- limits, whose table has no more entries than there is room for
+-- a look at the header of the domain t found this word: it encodes a header within the limits, whose table has at most
+-- TABLE_ENTRIES entries
 pub record LooksAtHeader (k : Layout) (t n : ℕ) (v w : View) : Type 0 where
   pub steps : StepsOnHeader k t (header.Looked n) n n v w
   pub word : n ≡ header_word (header_of n)
@@ -94,7 +92,7 @@ pub record StoresHeader (k : Layout) (h : Header) (v w : View) : Type 0 where
   pub pins : KeepsPins v w
   pub seen : SeesNoEarlier v w
 
--- a pin was given back by one step: the word counted one of that kind at least, and counts one less now
+-- a pin was released by one step: the word counted at least one of that kind, and now counts one less
 pub record Unpins (k : Layout) (t r : ℕ) (d : Dir) (g : ℕ) (v w : View) : Type 0 where
   pub found : ℕ
   pub counted : 0 < pins_in d found
@@ -105,12 +103,12 @@ pub record Unpins (k : Layout) (t r : ℕ) (d : Dir) (g : ℕ) (v w : View) : Ty
   pub header : own_header w ≡ own_header v
   pub seen : SeesNoEarlier v w
 
--- this pin was given back
+-- this pin was released
 abbrev pub UnpinsPin : Board → Pin → View → View → Type 0
 UnpinsPin b p v w = Unpins b.layout (position_at b p.dom) p.gref.0 p.dir (generation_of p.word) v w
 
--- a pin was taken by one step: of the entry as it was last seen, which was then the
--- last record of its owner's list, and which the seat may pin
+-- a pin was taken by one step: of the entry as it was last seen, which was then the last record of its owner's list,
+-- and which the seat may pin
 pub record Pins (k : Layout) (t r : ℕ) (d : Dir) (word : ℕ) (v w : View) : Type 0 where
   pub steps : StepsOnControl k t r (Pinned d word (record_seen (last_seen t r v))) word (word + unit_of d) v w
   pub current : (entry_made k t r steps.past).current ≡ record_seen (last_seen t r v)
@@ -123,14 +121,15 @@ pub record Pins (k : Layout) (t r : ℕ) (d : Dir) (word : ℕ) (v w : View) : T
   pub header : own_header w ≡ own_header v
   pub seen : SeesNoEarlier v w
 
--- a pin was missed: the word found is another
+-- a pin was missed: another word was found
 pub record MissesPin (k : Layout) (t r : ℕ) (d : Dir) (word found : ℕ) (v w : View) : Type 0 where
   pub another : found ≢ word
   pub steps : StepsOnControl k t r (PinMissed d word (word + unit_of d) found) found found v w
   pub not_earlier : IsNotEarlier t r v found
   pub keeps : Keeps v w
 
--- the owner's exchange was taken, and its last record of the entry r is what the change makes of the one before
+-- the owner's exchange was taken, and its last record of the entry r is the one that the change makes of the record
+-- before
 pub record Changes (k : Layout) (r : ℕ) (c : EntryChange) (word : ℕ) (v w : View) : Type 0 where
   pub steps : StepsOnControl k v.position r
       (Changed c word (changed_word c (last_of r v) word) (changed c (last_of r v))) word
@@ -142,7 +141,7 @@ pub record Changes (k : Layout) (r : ℕ) (c : EntryChange) (word : ℕ) (v w : 
   pub pins : KeepsPins v w
   pub seen : SeesNoEarlier v w
 
--- the owner's exchange was missed: the word found is another of the same record
+-- the owner's exchange was missed: another word of the same record was found
 pub record MissesChange (k : Layout) (r : ℕ) (c : EntryChange) (word found : ℕ) (v w : View) : Type 0 where
   pub another : found ≢ word
   pub same_record : IsWordOf (last_of r v) found
@@ -151,27 +150,27 @@ pub record MissesChange (k : Layout) (r : ℕ) (c : EntryChange) (word found : �
   pub not_earlier : IsNotEarlier v.position r v found
   pub keeps : Keeps v w
 
--- the owner's exchange was missed: the word found is one of the same record with pins
+-- the owner's exchange was missed: a word of the same record with pins was found
 pub record MissesBusy (k : Layout) (r : ℕ) (c : EntryChange) (word found : ℕ) (v w : View) : Type 0 where
   pub missed : MissesChange k r c word found v w
   pub busy : IsBusyOf (last_of r v) found
 
--- the entry was published by one exchange, at which no seat had a pin of an earlier one there
+-- the entry was published by one exchange, and no seat then had a pin of an earlier record of it
 pub record Publishes (k : Layout) (r : ℕ) (e : Entry) (word : ℕ) (v w : View) : Type 0 where
   pub changes : Changes k r (Publish e) word v w
   pub no_pins : HasNoPins v.position r changes.steps.past
 
--- the entry was made invalid by one exchange, at which no seat had a pin of it
+-- the entry was made invalid by one exchange, and no seat then had a pin of it
 pub record Revokes (k : Layout) (r : ℕ) (word : ℕ) (v w : View) : Type 0 where
   pub changes : Changes k r Revoke word v w
   pub no_pins : HasNoPins v.position r changes.steps.past
 
--- the entry was made read-only by one exchange, at which no seat had a write pin of it
+-- the entry was made read-only by one exchange, and no seat then had a write pin of it
 pub record Demotes (k : Layout) (r : ℕ) (word : ℕ) (v w : View) : Type 0 where
   pub changes : Changes k r Demote word v w
   pub no_write_pins : HasNoWritePins v.position r changes.steps.past
 
--- the seat at the position i, which has done nothing
+-- the seat at the position i, which has made no step
 pub record IsNewSeat (b : Board) (i : ℕ) (s : SeatOf) : Type 0 where
   pub seat : IsSeatOf b s
   pub position : s.view.position ≡ i

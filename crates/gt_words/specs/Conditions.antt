@@ -1,4 +1,4 @@
--- What calls ask of their caller.
+-- What the calls require of their caller.
 use Rattle.std.specs.Prelude.{◌≡◌, ◌≢◌, ◌⊎◌, ℕ, ◌<◌, ◌≤◌, Bool, true, false, [], length, Some, slice_index}
 use Rattle.gt_words.specs.Prelude.{some, get_elem?, State, TableId, is_read_only, IsSpelled, control_with, idle_word_of}
 use Rattle.gt_words.specs.Prelude.{word_of, control_of, Entry, Invalid, Header, Dir, Read, Write, DomId, GrantRef}
@@ -16,28 +16,28 @@ use Rattle.gt_word_table.specs.Views.{HasBody, IsAmong, entry_steps, LivePin, la
 use Rattle.gt_word_table.specs.Views.{live_pins}
 use Rattle.gt_word_table.specs.Views.{record_seen, seen, steps_on}
 
--- what clauses see of a seat: the table of words that it is of, its domain and its view
+-- what clauses see of a seat: its table of words, its domain and its view
 pub record SeatOf : Type 0 where
   pub table : TableId
   pub dom : DomId
   pub view : View
 
--- the seat is of these words, knows their domains, and is of the domain at its position
+-- the seat belongs to these words, knows their domains, and is that of the domain at its position
 pub record IsSeatOf (b : Board) (s : SeatOf) : Type 0 where
   pub table : s.table ≡ b.table
   pub inside : s.view.position < length b.layout.ids
   pub named : id_at b.layout.ids s.view.position ≡ s.dom
   pub ids : s.view.ids ≡ b.layout.ids
 
--- the run is that of a configuration within the limits
+-- the run has a configuration within the limits
 abbrev pub IsOfRun : Layout → Type 0
 IsOfRun k = (c : Config) × IsWithinLimits c × (k ≡ layout_of c)
 
--- the place of the domain among those of the run
+-- the position of the domain in the run
 abbrev pub position_at : Board → DomId → ℕ
 position_at b d = position_in b.layout.ids d
 
--- the domain is one of the run
+-- the domain belongs to the run
 abbrev pub HasDomain : Layout → DomId → Type 0
 HasDomain k d = position_in k.ids d < length k.ids
 
@@ -53,7 +53,7 @@ with_version version h = record h { version = version }
 abbrev pub with_frames : ℕ → Header → Header
 with_frames frames h = record h { frames = frames }
 
--- the seat is of the same table and domain and began with the same run, whatever it knows by now
+-- the seat has the same table and domain and began with the same run, whatever it knows by now
 pub record IsSameSeat (s s' : SeatOf) : Type 0 where
   pub table : s'.table ≡ s.table
   pub dom : s'.dom ≡ s.dom
@@ -62,8 +62,8 @@ pub record IsSameSeat (s s' : SeatOf) : Type 0 where
   pub headers : s'.view.headers ≡ s.view.headers
   pub ids : s'.view.ids ≡ s.view.ids
 
--- the word has the owner's part and the generation of this record, and some pins:
--- so it says kind, readonly, domain, generation and counts
+-- the word has the owner's part and the generation of this record, and some pins: it encodes kind, readonly, domain,
+-- generation and counts
 pub record IsWordOf (x : EntryRecord) (word : ℕ) : Type 0 where
   pub reads : ℕ
   pub writes : ℕ
@@ -75,7 +75,7 @@ pub record IsWordOf (x : EntryRecord) (word : ℕ) : Type 0 where
 abbrev pub IsIdleOf : EntryRecord → ℕ → Type 0
 IsIdleOf x word = word ≡ idle_word_of x.entry x.generation
 
--- the word has the owner's part and the generation of this record, and a pin at least
+-- the word has the owner's part and the generation of this record, and at least one pin
 pub record IsBusyOf (x : EntryRecord) (word : ℕ) : Type 0 where
   pub word_is : IsWordOf x word
   pub pinned : (pins_in Read word ≢ 0) ⊎ (pins_in Write word ≢ 0)
@@ -85,8 +85,8 @@ abbrev pub HasLooked : ℕ → ℕ → View → ℕ → Type 0
 HasLooked t r v word =
     (seen (steps_on t r v) ≡ Some (last_seen t r v)) × ((last_seen t r v).word ≡ word) × HasBody (last_seen t r v)
 
--- the view has a pin of that kind of a Via to the entry r of the domain t, which forwarded the seat's domain,
--- and the record x permits the owner of that Via (after grant_table.h, transitive)
+-- the view has a pin of that kind of a Via to the entry r of the domain t, the Via forwarded the seat's domain, and the
+-- record x permits the owner of that Via (after grant_table.h, transitive)
 pub record PermitsOwnerOfVia (k : Layout) (t r : ℕ) (v : View) (d : Dir) (x : EntryRecord) : Type 0 where
   pub owner : ℕ
   pub reference : ℕ
@@ -97,23 +97,23 @@ pub record PermitsOwnerOfVia (k : Layout) (t r : ℕ) (v : View) (d : Dir) (x : 
   pub leads : LeadsTo via.1.entry (id_at k.ids t) r
   pub permits : PermitsPin x.entry (id_at k.ids owner) d
 
--- the entry r of the domain t, as the record x has it, permits or forwards the seat's domain for that
--- kind, or permits the owner of a Via to it that the view has pinned for that kind
+-- the entry r of the domain t, as in the record x, permits or forwards the seat's domain for that kind, or permits the
+-- owner of a Via to it that the view has pinned for that kind
 abbrev pub MayPin : Layout → ℕ → ℕ → View → Dir → EntryRecord → Type 0
 MayPin k t r v d x =
     PermitsPin x.entry (id_at k.ids v.position) d
     ⊎ (ForwardsPin x.entry (id_at k.ids v.position) d ⊎ PermitsOwnerOfVia k t r v d x)
 
--- the seat may pin the entry r of the domain t from this word: it looked at it last, read the body words
--- since, and the word is not invalid, has room and permits it (after grant_table.h)
+-- the seat may pin the entry r of the domain t from this word: it looked at the word last and read the body words
+-- since, and the word is not invalid, has room for a pin and permits it (after grant_table.h)
 pub record CanPin (k : Layout) (t r : ℕ) (d : Dir) (word : ℕ) (v : View) : Type 0 where
   pub looked : HasLooked t r v word
   pub valid : IsValid word
   pub room : pins_in d word < MAX_PINS
   pub permitted : MayPin k t r v d (record_seen (last_seen t r v))
 
--- the word is the idle one of the owner's last record, which is invalid and not worn, and
--- the seat stored the entry's body words (after grant_table.h)
+-- the word is the idle one of the owner's last record, which is invalid and not worn, and the seat has stored the
+-- entry's body words (after grant_table.h)
 pub record CanPublish (e : Entry) (r word : ℕ) (v : View) : Type 0 where
   pub idle : IsIdleOf (last_of r v) word
   pub none_yet : (last_of r v).entry ≡ Invalid
@@ -139,11 +139,12 @@ pub record CanTurn (ro : Bool) (r word : ℕ) (v : View) : Type 0 where
   pub now : is_read_only (last_of r v).entry ≡ ro
   pub room : (last_of r v).generation < LAST_GENERATION
 
--- the word is such a one of a writable entry, without write pins (after grant_table.h)
+-- the word is one of the owner's last record, which is a writable entry and not worn, and it has no write pins (after
+-- grant_table.h)
 abbrev pub CanDemote : ℕ → ℕ → View → Type 0
 CanDemote r word v = CanTurn false r word v × (pins_in Write word ≡ 0)
 
--- what the owner's exchange from this word asks
+-- what the owner's exchange from this word requires
 abbrev pub CanChange : EntryChange → ℕ → ℕ → View → Type 0
 CanChange (Publish e) r word v = CanPublish e r word v
 CanChange Revoke r word v = CanRevoke r word v
@@ -151,16 +152,16 @@ CanChange Withdraw r word v = CanWithdraw r word v
 CanChange Demote r word v = CanDemote r word v
 CanChange Promote r word v = CanTurn true r word v
 
--- after these steps of all seats none has a pin of the entry r of the domain t
+-- after these steps of all seats, no seat has a pin of the entry r of the domain t
 abbrev pub HasNoPins : ℕ → ℕ → StepHistory → Type 0
 HasNoPins t r past = (i : ℕ) → live_pins (entry_steps t r (part_of i past)) ≡ []
 
--- after these steps of all seats none has a write pin of the entry r of the domain t
+-- after these steps of all seats, no seat has a write pin of the entry r of the domain t
 abbrev pub HasNoWritePins : ℕ → ℕ → StepHistory → Type 0
 HasNoWritePins t r past = (i : ℕ) → pin_count Write (live_pins (entry_steps t r (part_of i past))) ≡ 0
 
--- in each state that words and views show, the control word of the entry
--- counts the pins of that kind that a view has of it
+-- in each state that words and views show, the control word of the entry counts the pins of that kind that a view has
+-- of it
 abbrev pub CountsPins : Layout → ℕ → ℕ → Dir → Type 0
 CountsPins k t r d =
     (s : State (Unit {0}) View) (i : ℕ) (v : View) → Shows k s → get_elem? s.views i ≡ some v

@@ -1,4 +1,4 @@
--- What follows from the definitions, for callers.
+-- Consequences of the definitions, for callers.
 use Rattle.std.specs.Prelude.{◌≡◌, ◌≢◌, ◌⊎◌, ℕ, ◌+◌, ◌<◌, ◌≤◌, AllPairs, ◌==◌, not, cond, Bool, true, false, List}
 use Rattle.std.specs.Prelude.{[], ◌∷◌, ◌++◌, map, length, zero, suc, Option, Some, None, position, unwrap_or, nat_lt}
 use Rattle.std.specs.Prelude.{IsSome, slice_index}
@@ -22,7 +22,7 @@ use Rattle.gt_word_table.specs.Views.{seen}
 use Rattle.gt_word_table.specs.Views.{steps_on}
 use Rattle.gt_word_table.specs.Views.{with_step}
 
--- a domain is one of the run exactly if the configuration has it
+-- a domain belongs to the run exactly if the configuration has it
 abbrev pub DomainsAreOfRun : Type 0
 DomainsAreOfRun =
     (c : Config) (d : DomId) → (IsSome (domain_of c.domains.items d) → HasDomain (layout_of c) d)
@@ -53,8 +53,8 @@ PinsAreOfEntries =
     → get_elem? s.views i ≡ some v → t < k.domains → r < TABLE_ENTRIES → IsAmong p (live_pins (steps_on t r v))
     → p.1.entry ≢ Invalid
 
--- in each state that words and views show, a pin that is left of a record is counted by each word of that record or
--- of a later one that the owner exchanged from: so none is left of a record that was revoked
+-- in each state that words and views show, a pin that is left of a record is counted by each word of that record, or of
+-- a later one, that the owner exchanged from: so none is left of a revoked record
 abbrev pub PinsLeftAreCounted : Type 0
 PinsLeftAreCounted =
     (k : Layout) (s : State (Unit {0}) View) (i : ℕ) (v : View) (t r e : ℕ) (p : LivePin) → Shows k s
@@ -62,8 +62,8 @@ PinsLeftAreCounted =
     → IsAmong p (live_pins (steps_on t r v)) → IsAmong e (exchanged (owner_steps t (map (steps_on t r) s.views)))
     → p.1.generation ≤ generation_of e → 0 < pins_in p.0 e
 
--- in each state that words and views show, what a seat saw last of an entry is of the owner's list: the word that it saw
--- spells a record of it, and so do the body values read since, if that record is still the last one
+-- in each state that words and views show, what a seat saw last of an entry is of the owner's list: the word that it
+-- saw encodes a record of it, and so do the body values read since, if that record is still the last one
 abbrev pub WhatWasSeenIsListed : Type 0
 WhatWasSeenIsListed =
     (k : Layout) (s : State (Unit {0}) View) (i : ℕ) (v : View) (t r : ℕ) → Shows k s
@@ -71,12 +71,12 @@ WhatWasSeenIsListed =
     → let ms : List EntryStep = owner_steps t (map (steps_on t r) s.views) in
     SawRecord (last_record k.first ms) (earlier_records k.first ms) (seen (steps_on t r v))
 
--- the owner with the view v revoked its entry r, or published it: in a state in which no view had a pin of it
+-- the owner with the view v revoked its entry r, or published it, in a state in which no view had a pin of it
 abbrev pub EndsPins : Layout → ℕ → ℕ → View → View → Type 0
 EndsPins k r word v w = Revokes k r word v w ⊎ ((e : Entry) × Publishes k r e word v w)
 
--- once an entry was revoked, or published, each pin that a view has of it is of a later generation than the record that
--- was there: in each state shown in which the owner has its steps of then, and whichever later
+-- after an entry was revoked, or published, each pin that a view has of it is of a later generation than the record
+-- before: in each shown state that has the owner's steps up to then, with any later ones
 abbrev pub NoPinOutlivesItsRecord : Type 0
 NoPinOutlivesItsRecord =
     (k : Layout) (s : State (Unit {0}) View) (r word i : ℕ) (v w u x : View) (later : List SeatStep) (p : LivePin)
@@ -85,7 +85,7 @@ NoPinOutlivesItsRecord =
     → get_elem? s.views i ≡ some x → IsAmong p (live_pins (steps_on v.position r x))
     → (last_of r v).generation < p.1.generation
 
--- if the owner exchanged from the word e, no step that takes a pin of the record of that word or of an earlier one
+-- if the owner exchanged from the word e, no step that takes a pin of the record of that word, or of an earlier one,
 -- leads from a state that words and views show to another
 abbrev pub PastPinsAreRefused : Type 0
 PastPinsAreRefused =
@@ -94,8 +94,8 @@ PastPinsAreRefused =
     → IsAmong e (exchanged (owner_steps t (map (steps_on t r) s.views))) → y.generation ≤ generation_of e
     → ¬ Shows k (stepped s at left i [] (with_step past (on_entry t r (Pinned d expected y)) v) keeps)
 
--- two states that words and views show, with the same views, have the same words: so no
--- step leaves another word than what it adds to its view says
+-- two states that words and views show with the same views have the same words: so the word that a step leaves is the
+-- one that its view records
 abbrev pub WordsFollowViews : Type 0
 WordsFollowViews = (k : Layout) (s z : State (Unit {0}) View) → Shows k s → Shows k z → s.views ≡ z.views
     → ((t r j : ℕ) → t < k.domains → r < TABLE_ENTRIES → j < 3
@@ -145,7 +145,7 @@ one_record x (u ∷ us) y z l (inr h) (inr j) a b g = one_record u us y z l.2 h 
 
 -- domains and positions
 
--- a number is found at its place, if it is at no earlier one
+-- a number is found at its position, if it is at no earlier one
 position_or_len-id : (xs : List DomId) (at : ℕ) → at < length xs → ((i : ℕ) → i < at → (id_at xs i).0 ≢ (id_at xs at).0)
     → position_or_len (λ (x : DomId). x.0 == (id_at xs at).0) xs ≡ at
 position_or_len-id [] at inside apart = absurd (omega arith)
@@ -208,7 +208,7 @@ domain_at k d inside = ap numbered (found_at k.ids d (position (λ (x : DomId). 
 id_of : DomainConfig → DomId
 id_of x = x.id
 
--- if the list of a configuration has a domain, and if it has not
+-- whether the list of a configuration has a domain or not
 among : (ds : List DomainConfig) (d : DomId) → IsSome (domain_of ds d)
     → position_or_len (λ (y : DomId). y.0 == d.0) (map (λ z. z.id) ds) < length (map (λ z. z.id) ds)
 among [] d e = cc
@@ -245,7 +245,7 @@ unwrapped n at lt = by (nat_lt at n) (lt-ltb at n lt)
 wrapped : (n at : ℕ) → unwrap_or (cond (nat_lt at n) (Some at) None) n < n → at < n
 wrapped n at lt = grind (arith, nat_tests)
 
--- a domain is one of the run exactly if the configuration has it
+-- a domain belongs to the run exactly if the configuration has it
 pub domain_of_run : DomainsAreOfRun
 domain_of_run c d = (λ e. unwrapped _ _ (among c.domains.items d e), λ lt. named c.domains.items d (wrapped _ _ lt))
 

@@ -1,4 +1,4 @@
--- What a seat saw of an entry, against its owner's list.
+-- What a seat saw of an entry, compared with its owner's list.
 use Rattle.std.specs.Prelude.{◌≡◌, ℕ, ◌+◌, ◌*◌, ◌<◌, List, ◌∷◌, Option, Some, None, IfSome}
 use Rattle.gt_entry.specs.Spelling.{word_of}
 use Rattle.gt_entry.specs.declared.entry.Entry.{Entry}
@@ -13,8 +13,8 @@ Agrees (Page d o f) a b = IfSome a (λ x. x ≡ f)
 Agrees (Sub d o f y n) a b = IfSome a (λ x. x ≡ f) × IfSome b (λ x. x ≡ y + n * 65536)
 Agrees (Via d o t r) a b = IfSome a (λ x. x ≡ t.0 + r.0 * 65536)
 
--- the word seen spells a record of the owner's list x ∷ xs, and so do the body
--- values read since, if that record is still the last one
+-- the word seen encodes a record of the owner's list x ∷ xs, and so do the body values read since, if that record is
+-- still the last one
 pub record IsSeenOf (x : EntryRecord) (xs : List EntryRecord) (s : Seen) : Type 0 where
   pub at : EntryRecord
   pub reads : ℕ

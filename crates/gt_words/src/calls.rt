@@ -1,4 +1,4 @@
-//! The calls by the positions of the domains. Each is one step of the table, and says what the step found.
+//! The calls, with domains given by their positions. Each makes one step of the table, and its contract names the step.
 ghost use Rattle.std.specs.Prelude.{◌≡◌, ◌<◌, true, MatchResult};
 ghost use Rattle.gt_entry.specs.Entries.{IsEntry};
 ghost use Rattle.gt_words.specs.Answers.{Changes, Demotes, LooksAtBody, LooksAtControl, LooksAtHeader, MissesBusy};
@@ -15,7 +15,7 @@ use gt_entry::{BodyWord, Control, Entry, EntryChange, Header, pin_unit};
 use gt_types::{Dir, LAST_GENERATION};
 use gt_word_table::{EntryAt, Purpose, TableSeat, WordTable, idle_word};
 
-/// Looks at a domain's header.
+/// Loads a domain's header word.
 pub(crate) fn load_header(words: &WordTable, seat: &mut TableSeat, at: usize) -> u64
     requires mine { seat.old.table ≡ words.now.table }
     requires domain { at < words.now.layout.domains }
@@ -36,7 +36,7 @@ pub(crate) fn store_header(words: &WordTable, seat: &mut TableSeat, at: usize, h
     words.store_header(seat, at, header.pack());
 }
 
-/// Looks at the control word of an entry.
+/// Loads the control word of an entry.
 pub(crate) fn load_control(words: &WordTable, seat: &mut TableSeat, at: EntryAt) -> u64
     requires mine { seat.old.table ≡ words.now.table }
     requires entry { IsInside words.now.layout at }
@@ -47,7 +47,7 @@ pub(crate) fn load_control(words: &WordTable, seat: &mut TableSeat, at: EntryAt)
     words.load_control(seat, at)
 }
 
-/// Looks at a body word of an entry.
+/// Loads a body word of an entry.
 pub(crate) fn load_body(words: &WordTable, seat: &mut TableSeat, at: EntryAt, half: BodyWord) -> u64
     requires mine { seat.old.table ≡ words.now.table }
     requires entry { IsInside words.now.layout at }
@@ -57,7 +57,7 @@ pub(crate) fn load_body(words: &WordTable, seat: &mut TableSeat, at: EntryAt, ha
     words.load_body(seat, at, half)
 }
 
-/// Takes a pin, if the control word still is the one looked at. Answers the word found if it is another.
+/// Takes a pin if the control word still is `looked`. Otherwise returns the word found.
 pub(crate) fn pin(
     words: &WordTable,
     seat: &mut TableSeat,
@@ -80,7 +80,7 @@ pub(crate) fn pin(
     if found == looked { Ok(()) } else { Err(found) }
 }
 
-/// Gives a pin back.
+/// Releases a pin.
 pub(crate) fn unpin(words: &WordTable, seat: &mut TableSeat, at: EntryAt, dir: Dir, generation: u64)
     requires mine { seat.old.table ≡ words.now.table }
     requires entry { IsInside words.now.layout at }
@@ -108,8 +108,8 @@ pub(crate) fn store_body(
     words.store_body(seat, at, half, value);
 }
 
-/// Publishes an entry whose body the owner has stored, if the invalid one has no pins. Answers the word found if it
-/// has some.
+/// Publishes an entry whose body words the owner has stored, if the invalid entry has no pins. Otherwise returns the
+/// word found.
 pub(crate) fn grant(
     words: &WordTable,
     seat: &mut TableSeat,
@@ -132,7 +132,7 @@ pub(crate) fn grant(
     if found == word { Ok(()) } else { Err(found) }
 }
 
-/// Makes the owner's entry invalid, if it has no pins. Answers the word found if it has some.
+/// Makes the owner's entry invalid if it has no pins. Otherwise returns the word found.
 pub(crate) fn revoke(
     words: &WordTable,
     seat: &mut TableSeat,
@@ -153,7 +153,7 @@ pub(crate) fn revoke(
     if found == word { Ok(()) } else { Err(found) }
 }
 
-/// Makes the owner's entry invalid and leaves its pins, if its word still is the one handed in.
+/// Makes the owner's entry invalid and leaves its pins, if its word still is `word`. Otherwise returns the word found.
 pub(crate) fn withdraw(
     words: &WordTable,
     seat: &mut TableSeat,
@@ -174,7 +174,8 @@ pub(crate) fn withdraw(
     if found == word { Ok(()) } else { Err(found) }
 }
 
-/// Makes the owner's entry read-only, if its word still is the one handed in, which has no write pins.
+/// Makes the owner's entry read-only if its word, which has no write pins, still is `word`. Otherwise returns the word
+/// found.
 pub(crate) fn demote(
     words: &WordTable,
     seat: &mut TableSeat,
@@ -195,7 +196,7 @@ pub(crate) fn demote(
     if found == word { Ok(()) } else { Err(found) }
 }
 
-/// Makes the owner's entry writable, if its word still is the one handed in.
+/// Makes the owner's entry writable if its word still is `word`. Otherwise returns the word found.
 pub(crate) fn promote(
     words: &WordTable,
     seat: &mut TableSeat,
@@ -216,7 +217,7 @@ pub(crate) fn promote(
     if found == word { Ok(()) } else { Err(found) }
 }
 
-// The invalid word of the same generation, with the same pins.
+// Makes a word invalid, with the same generation and pins.
 fn withdrawn(word: u64) -> u64
     ensures { result ≡ withdrawn_word word }
 {
@@ -230,7 +231,7 @@ fn withdrawn(word: u64) -> u64
     .pack()
 }
 
-// The same word read-only or writable, at the next generation.
+// Makes a word read-only or writable, at the next generation.
 fn turned_over(word: u64, readonly: bool) -> u64
     requires { (generation_of word < LAST_GENERATION) × IsTurnable readonly word }
     ensures { result ≡ turned_word readonly word }

@@ -1,16 +1,14 @@
 //! The words of all grant entries, shared by the domains of a run without a lock.
 //!
-//! Each entry has a control word and two body words, each domain a header word, and each call is one
-//! atomic step on one of them. Between any two steps the words and what the seats know show a state of
-//! the core: who was granted what, with each pin counted. So a revocation that is answered Ok was made
-//! while no domain had a pin of its entry.
+//! Each entry has a control word and two body words, and each domain a header word. Each call is one atomic step on one
+//! of them. Between any two steps the words, and what the seats know, show a state of the core: who was granted what,
+//! with each pin counted. So if a revocation returns Ok, no domain had a pin of its entry at that moment.
 //!
-//! Each call promises, by its contract, the state in which its step was made, and what the step made of it. All steps
-//! of all domains have one order. At run time views and steps cost nothing. No call but `Words::new` takes memory, and
-//! none waits.
+//! The contract of each call names the state in which its step was made, and what the step changed. All steps of all
+//! domains have one order. Views and steps cost nothing at run time. Only `Words::new` allocates, and no call waits.
 //!
-//! It uses `gt_word_table`, which has the table and its single steps, the words of `gt_entry`, and
-//! `gt_roster`, which finds domains by their numbers.
+//! It uses `gt_word_table` (the table and its single steps), `gt_entry` (the words) and `gt_roster` (domains by their
+//! numbers).
 #![tactic(auto)]
 
 mod calls;

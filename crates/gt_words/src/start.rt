@@ -1,4 +1,4 @@
-//! A seat for each domain.
+//! The seats of a run at its start.
 ghost use Rattle.std.specs.Prelude.{◌≡◌, ℕ, ◌<◌, length, IfOk, HoldsAt};
 ghost use Rattle.gt_types.specs.Config.{IsWithinLimits};
 ghost use Rattle.gt_words.specs.Answers.{IsNewSeat};
@@ -10,7 +10,7 @@ use gt_types::Config;
 use gt_word_table::{TableSeat, WordTable, first_header};
 use std::alloc::{AllocError, Global};
 
-// The seat of the domain at a position, which has done nothing.
+// Makes the seat of the domain at a position, which has made no step.
 fn new_seat(config: &Config, place: TableSeat, at: usize) -> Seat
     requires config { IsWithinLimits config.now × (at < length config.now.domains.items) }
     requires place { IsNewPlace place.table (layout_of config.now) at place }
@@ -29,7 +29,7 @@ fn new_seat(config: &Config, place: TableSeat, at: usize) -> Seat
     }
 }
 
-/// A seat for each domain in order, out of the first one.
+/// Makes the seats of all domains, in order, from the first one.
 pub(crate) fn deal_seats(
     alloc: Global,
     words: &WordTable,

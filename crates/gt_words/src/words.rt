@@ -1,4 +1,4 @@
-//! The words and the seats with nothing in sight but what contracts name.
+//! The words and the seats. Their fields are private, so that contracts see only the values that they name.
 ghost use Rattle.std.specs.Prelude.{◌≡◌, ◌⊎◌, ◌<◌, ◌≤◌, length, MatchResult, IfOk, IfErr, OnOk, HoldsAt, ℕ};
 ghost use Rattle.std.specs.Prelude.{position, ◌==◌, true};
 ghost use Rattle.gt_types.specs.Config.{IsWithinLimits};
@@ -24,21 +24,21 @@ use gt_word_table::{EntryAt, Gathered, TableSeat, WordTable};
 use std::alloc::{AllocError, Global};
 use std::marker::Model;
 
-/// A domain, and its position among those of the run.
+/// A domain, and its position in the run.
 #[derive(Clone, Copy)]
 pub(crate) struct DomainPosition {
     pub dom: DomId,
     pub position: usize,
 }
 
-/// A domain's right to step on the words. There is one for each domain of the run.
+/// A domain's right to step on the words. Each domain of the run has one.
 #[derive(Drop)]
 pub struct Seat {
     pub(crate) place: TableSeat,
     pub(crate) dom: DomId,
     pub(crate) position: usize,
     pub(crate) header: Header,
-    /// The domain that was looked up last: the calls on one entry follow one another, and name one domain.
+    /// The domain looked up last. Calls on one entry follow one another and name one domain.
     pub(crate) found: DomainPosition,
 }
 
@@ -53,21 +53,21 @@ impl Model for Seat {
 }
 
 impl Seat {
-    /// The domain whose seat this is.
+    /// Returns the domain that owns this seat.
     pub fn dom(&self) -> DomId
         ensures { result ≡ self.now.dom }
     {
         self.dom
     }
 
-    /// The place of its domain among those of the run.
+    /// Returns the position of the seat's domain in the run.
     pub fn position(&self) -> usize
         ensures { result ≡ self.now.view.position }
     {
         self.position
     }
 
-    /// Its domain's header: the one that it stored last, or the one that it began with.
+    /// Returns the header of the seat's domain: the one that it stored last, or the one at the start.
     pub fn header(&self) -> Header
         ensures value { result ≡ own_table self.now.view }
         ensures word { own_header self.now.view ≡ header_word result }
@@ -92,7 +92,7 @@ impl Model for Words {
     ghost invariant = { λ w. (w.ids ≡ w.words.layout.ids) × IsOfRun w.words.layout };
 }
 
-/// A pin that a seat holds: of which entry, the control word that was looked at, and its kind.
+/// A pin that a seat holds: its entry, the control word before the pin was added, and its kind.
 #[derive(Clone, Copy, Debug, PartialEq, Eq)]
 pub struct Pin {
     pub dom: DomId,
@@ -101,7 +101,7 @@ pub struct Pin {
     pub dir: Dir,
 }
 
-// The position of a domain, or the number of domains if it is none of them.
+// Finds the position of a domain. Returns the number of domains if the run does not have it.
 #[cold]
 #[inline(never)]
 fn position_of(ids: &Positions, dom: DomId) -> usize
@@ -114,10 +114,10 @@ fn position_of(ids: &Positions, dom: DomId) -> usize
 }
 
 impl Words {
-    /// The words of a run, all entries invalid at the first generation, and a seat for each domain, in order.
+    /// Makes the words of a run and a seat for each domain, in order. All entries are invalid, at the first generation.
     ///
     /// # Errors
-    /// The first fault of the configuration, or `Memory` if it has none and memory is refused.
+    /// The first fault of the configuration, or `Memory` if it has none and allocation fails.
     pub fn new(alloc: Global, config: &Config) -> Result<(Words, Vec<Seat>), StartFault>
         ensures ok { OnOk result (IsWithinLimits config.now) }
         ensures words { IfOk result (λ r. r.0.layout ≡ layout_of config.now) }
@@ -135,7 +135,7 @@ impl Words {
         }
     }
 
-    // The position of a domain, which is searched if it is another than the last one.
+    // Finds the position of a domain, by a search only if it is not the last one looked up.
     #[inline(always)]
     fn position(&self, seat: &mut Seat, dom: DomId) -> usize
         requires { IsSeatOf self.now seat.old }
@@ -150,7 +150,7 @@ impl Words {
         position
     }
 
-    /// A look at the header word of a domain: its table's version and number of frames.
+    /// Loads the header word of a domain: its table's version and number of frames.
     pub fn load_header(&self, seat: &mut Seat, dom: DomId) -> u64
         requires seat { IsSeatOf self.now seat.old }
         requires domain { HasDomain self.now.layout dom }
@@ -162,7 +162,7 @@ impl Words {
         calls::load_header(&self.words, &mut seat.place, at)
     }
 
-    /// The owner stores its header.
+    /// Stores the owner's header.
     pub fn store_header(&self, seat: &mut Seat, header: Header)
         requires seat { IsSeatOf self.now seat.old }
         requires header { IsKeptHeader header }
@@ -175,7 +175,7 @@ impl Words {
         seat.header = header;
     }
 
-    /// The owner stores the version of its table, which is 1 or 2, in its header.
+    /// Stores the version of the owner's table, 1 or 2, in its header.
     pub fn set_version(&self, seat: &mut Seat, version: u32)
         requires seat { IsSeatOf self.now seat.old }
         requires version { (version ≡ 1) ⊎ (version ≡ 2) }
@@ -191,7 +191,7 @@ impl Words {
         self.store_header(seat, header);
     }
 
-    /// The owner stores the number of frames of its table in its header.
+    /// Stores the number of frames of the owner's table in its header: 1 to [`MAX_TABLE_FRAMES`].
     pub fn setup(&self, seat: &mut Seat, frames: u32)
         requires seat { IsSeatOf self.now seat.old }
         requires frames { (0 < frames) × (frames ≤ MAX_TABLE_FRAMES) }
@@ -207,7 +207,7 @@ impl Words {
         self.store_header(seat, header);
     }
 
-    /// A look at the control word of an entry.
+    /// Loads the control word of an entry.
     pub fn load_control(&self, seat: &mut Seat, dom: DomId, gref: GrantRef) -> u64
         requires seat { IsSeatOf self.now seat.old }
         requires entry { IsEntryOf self.now dom gref }
@@ -224,7 +224,7 @@ impl Words {
         calls::load_control(&self.words, &mut seat.place, at)
     }
 
-    /// A look at a body word of an entry.
+    /// Loads a body word of an entry.
     pub fn load_body(&self, seat: &mut Seat, dom: DomId, gref: GrantRef, half: BodyWord) -> u64
         requires seat { IsSeatOf self.now seat.old }
         requires entry { IsEntryOf self.now dom gref }
@@ -240,10 +240,11 @@ impl Words {
         calls::load_body(&self.words, &mut seat.place, at, half)
     }
 
-    /// Takes a pin by one exchange from the control word of the last look, whose body words were read since.
+    /// Takes a pin by one exchange from `looked`, the control word of the seat's last look. The seat has read the body
+    /// words since, and the entry permits the pin (`CanPin`).
     ///
     /// # Errors
-    /// The word found, if it is another than the one looked at. No pin was taken then.
+    /// The word found, if it is not `looked`. No pin was taken.
     pub fn pin(
         &self,
         seat: &mut Seat,
@@ -277,7 +278,7 @@ impl Words {
         })
     }
 
-    /// Gives a pin of the seat back, by one subtraction.
+    /// Releases a pin of the seat, by one subtraction.
     pub fn unpin(&self, seat: &mut Seat, pin: Pin)
         requires seat { IsSeatOf self.now seat.old }
         requires entry { IsEntryOf self.now pin.dom pin.gref }
@@ -294,7 +295,7 @@ impl Words {
         calls::unpin(&self.words, &mut seat.place, at, pin.dir, generation);
     }
 
-    /// The owner stores a body word of its invalid entry.
+    /// Stores a body word of the owner's invalid entry.
     pub fn store_body(&self, seat: &mut Seat, gref: GrantRef, half: BodyWord, value: u64)
         requires seat { IsSeatOf self.now seat.old }
         requires entry { gref.0 < TABLE_ENTRIES }
@@ -310,12 +311,11 @@ impl Words {
         calls::store_body(&self.words, &mut seat.place, at, half, value);
     }
 
-    /// The owner publishes an entry whose body words it has stored, at the next generation, by one exchange from
-    /// the invalid word without pins.
+    /// Publishes an entry at the next generation, by one exchange from the invalid word without pins. The owner has
+    /// stored its body words.
     ///
     /// # Errors
-    /// The word found, if the invalid entry has pins: those that a withdrawal left. The owner's list is then as
-    /// it was.
+    /// The word found, if the invalid entry still has pins from before a withdrawal. Nothing has changed.
     pub fn grant(&self, seat: &mut Seat, gref: GrantRef, word: u64, entry: Entry) -> Result<(), u64>
         requires seat { IsSeatOf self.now seat.old }
         requires entry { (gref.0 < TABLE_ENTRIES) × IsEntry entry }
@@ -333,10 +333,10 @@ impl Words {
         calls::grant(&self.words, &mut seat.place, at, word, entry)
     }
 
-    /// The owner makes its entry invalid by one exchange from its idle word.
+    /// Makes the owner's entry invalid by one exchange from its idle word.
     ///
     /// # Errors
-    /// The word found, if the entry has pins. The owner's list is then as it was.
+    /// The word found, if the entry has pins. Nothing has changed.
     pub fn revoke(&self, seat: &mut Seat, gref: GrantRef, word: u64) -> Result<(), u64>
         requires seat { IsSeatOf self.now seat.old }
         requires entry { gref.0 < TABLE_ENTRIES }
@@ -354,11 +354,11 @@ impl Words {
         calls::revoke(&self.words, &mut seat.place, at, word)
     }
 
-    /// The owner makes its entry invalid by one exchange from the word handed in, and leaves its pins: no more are
-    /// taken of it, and those that there are stay until they are given back.
+    /// Makes the owner's entry invalid by one exchange from `word`, and leaves its pins. No more are taken, and those
+    /// that there are stay until they are released.
     ///
     /// # Errors
-    /// The word found, if it is another than the one handed in. The owner's list is then as it was.
+    /// The word found, if it is not `word`. Nothing has changed.
     pub fn withdraw(&self, seat: &mut Seat, gref: GrantRef, word: u64) -> Result<(), u64>
         requires seat { IsSeatOf self.now seat.old }
         requires entry { gref.0 < TABLE_ENTRIES }
@@ -376,11 +376,11 @@ impl Words {
         calls::withdraw(&self.words, &mut seat.place, at, word)
     }
 
-    /// The owner makes its writable entry read-only at the next generation, by one exchange from a
-    /// word without write pins.
+    /// Makes the owner's writable entry read-only at the next generation, by one exchange from a word without write
+    /// pins.
     ///
     /// # Errors
-    /// The word found, if it is another than the one handed in.
+    /// The word found, if it is not `word`. Nothing has changed.
     pub fn demote(&self, seat: &mut Seat, gref: GrantRef, word: u64) -> Result<(), u64>
         requires seat { IsSeatOf self.now seat.old }
         requires entry { gref.0 < TABLE_ENTRIES }
@@ -398,10 +398,10 @@ impl Words {
         calls::demote(&self.words, &mut seat.place, at, word)
     }
 
-    /// The owner makes its read-only entry writable at the next generation, by one exchange from the word handed in.
+    /// Makes the owner's read-only entry writable at the next generation, by one exchange from `word`.
     ///
     /// # Errors
-    /// The word found, if it is another than the one handed in.
+    /// The word found, if it is not `word`. Nothing has changed.
     pub fn promote(&self, seat: &mut Seat, gref: GrantRef, word: u64) -> Result<(), u64>
         requires seat { IsSeatOf self.now seat.old }
         requires entry { gref.0 < TABLE_ENTRIES }
@@ -424,7 +424,7 @@ impl Words {
     ghost use Rattle.std.specs.Prelude.{◌≡◌, ◌∷◌, []};
     ghost use Rattle.gt_word_table.specs.Joining.{StandTogether, with_view};
 
-    /// Begins to gather the seats of a run, with the first domain's. A seat that is gathered makes no more steps.
+    /// Begins to gather the seats of a run, with the seat of the first domain. A gathered seat makes no more steps.
     pub fn gather(&self, first: Seat) -> Gathered
         requires { IsSeatOf self.now first × (first.view.position ≡ 0) }
         ensures { (result.table ≡ self.now.table) × (result.views ≡ first.view ∷ []) }
@@ -433,7 +433,7 @@ impl Words {
         Gathered::new(place)
     }
 
-    /// Adds a seat to those that are gathered.
+    /// Adds a seat to the gathered ones.
     pub fn gather_more(&self, all: &mut Gathered, other: Seat)
         requires { (all.old.table ≡ self.now.table) × IsSeatOf self.now other }
         ensures { (all.new.table ≡ all.old.table) × (all.new.views ≡ with_view other.view all.old.views) }
@@ -442,8 +442,8 @@ impl Words {
         self.words.take_in(all, place);
     }
 
-    /// Looks at the table with all seats that are gathered: words and views show one state that has the views of them
-    /// all, so their steps have one order. It is one load.
+    /// Loads one word with all gathered seats. By its contract, words and views show one state with the views of all of
+    /// them, so their steps have one order.
     pub fn tell_of_all(&self, all: &mut Gathered)
         requires { all.old.table ≡ self.now.table }
         ensures same { all.new.views ≡ all.old.views }
@@ -453,7 +453,7 @@ impl Words {
     }
 }
 
-// The words and the seats of a configuration within the limits.
+// Makes the words and the seats of a configuration within the limits.
 fn make_words(alloc: Global, config: &Config) -> Result<(Words, Vec<Seat>), AllocError>
     requires { IsWithinLimits config.now }
     ensures words { IfOk result (λ r. r.0.layout ≡ layout_of config.now) }

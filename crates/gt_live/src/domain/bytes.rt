@@ -1,4 +1,4 @@
-//! The calls that read or write the bytes of one frame.
+//! The calls that read or write the bytes of one frame. Only these calls, and copies, may wait.
 ghost use Rattle.std.specs.Prelude.{◌≡◌, ◌+◌, ◌≤◌, length, IfOk, IfErr};
 ghost use Rattle.gt_types.specs.declared.Dir.TheVariants as dirs;
 ghost use Rattle.gt_types.specs.declared.Use.TheVariants as uses;
@@ -20,7 +20,7 @@ use gt_words::Seat;
 use std::alloc::Global;
 use std::sync::Wait;
 
-// How an access that was not made is refused.
+// Returns the refusal of a call whose access was not made: N16 if the frame was missing, N26 if allocation failed.
 pub(super) fn not_made(refused: AccessFault) -> Denial
     ensures { result ≡ not_made refused }
 {
@@ -30,7 +30,7 @@ pub(super) fn not_made(refused: AccessFault) -> Denial
     }
 }
 
-// The run that the accesses of a monitor's domains belong to.
+// Lends what the accesses of a monitor's domains need.
 pub(super) fn run_of<P: Allows>(monitor: &Monitor<P>) -> AccessContext<'_, P>
     ensures words { result.words.now ≡ monitor.now.words }
     ensures config { result.config.now ≡ monitor.now.config }
@@ -45,7 +45,7 @@ pub(super) fn run_of<P: Allows>(monitor: &Monitor<P>) -> AccessContext<'_, P>
     }
 }
 
-// Reads a range of a frame that this route leads to.
+// Reads a range of the frame that this route reaches.
 #[tactic(auto, using(crate::proofs::Visiting::none_visited, crate::proofs::Visiting::read_visits))]
 fn read_through<R: Wait, P: Allows>(
     rt: &R,
@@ -85,7 +85,7 @@ fn read_through<R: Wait, P: Allows>(
     }
 }
 
-// Reads bytes of a frame that this route leads to over all of `out`.
+// Reads bytes of the frame that this route reaches into all of `out`.
 #[tactic(auto, using(crate::proofs::Visiting::none_visited, crate::proofs::Visiting::read_visits))]
 fn fill_through<R: Wait, P: Allows>(
     rt: &R,
@@ -114,7 +114,7 @@ fn fill_through<R: Wait, P: Allows>(
     }
 }
 
-// Writes bytes to a frame that this route leads to.
+// Writes bytes to the frame that this route reaches.
 #[tactic(auto, using(crate::proofs::Visiting::unwritten, crate::proofs::Visiting::write_visits))]
 fn write_through<'a, R: Wait, P: Allows>(
     rt: &R,
@@ -143,7 +143,7 @@ fn write_through<'a, R: Wait, P: Allows>(
 }
 
 impl Domain {
-    /// Reads `len` bytes from the offset `off` on through a mapping.
+    /// Reads `len` bytes through a mapping, starting at the offset `off`. Waits for the frame's lock.
     ///
     /// # Errors
     /// N3 or N6; or N26 or N16 at the access. Nothing changes.
@@ -173,10 +173,11 @@ impl Domain {
         read_through(rt, monitor, self.alloc, seat, visits, &way, name, off, len)
     }
 
-    /// Reads over all of `buffer`, from the offset `off` on through a mapping. It takes no memory.
+    /// Reads into all of `buffer` through a mapping, starting at the offset `off`. Waits for the frame's lock, and does
+    /// not allocate.
     ///
     /// # Errors
-    /// N3 or N6; or N16 at the access. Nothing changes, not even the buffer.
+    /// N3 or N6; or N16 at the access. Nothing changes, and the buffer is unchanged too.
     pub fn load_into<R: Wait, P: Allows>(
         &mut self,
         rt: &R,
@@ -204,7 +205,7 @@ impl Domain {
         fill_through(rt, monitor, seat, visits, &route, name, off, buffer)
     }
 
-    /// Reads `len` bytes from the offset `off` on of a frame of its own.
+    /// Reads `len` bytes of one of the domain's own frames, starting at the offset `off`. Waits for the frame's lock.
     ///
     /// # Errors
     /// N3 or N16; or N26 or N16 at the access. Nothing changes.
@@ -244,10 +245,11 @@ impl Domain {
         )
     }
 
-    /// Reads over all of `buffer`, from the offset `off` on of a frame of its own. It takes no memory.
+    /// Reads into all of `buffer` from one of the domain's own frames, starting at the offset `off`. Waits for the
+    /// frame's lock, and does not allocate.
     ///
     /// # Errors
-    /// N3 or N16; or N16 at the access. Nothing changes, not even the buffer.
+    /// N3 or N16; or N16 at the access. Nothing changes, and the buffer is unchanged too.
     pub fn peek_into<R: Wait, P: Allows>(
         &mut self,
         rt: &R,
@@ -284,10 +286,10 @@ impl Domain {
         )
     }
 
-    /// Writes `bytes` from the offset `off` on through a mapping.
+    /// Writes `bytes` through a mapping, starting at the offset `off`. Waits for the frame's lock.
     ///
     /// # Errors
-    /// N3, N6 or N7; or N26 or N16 at the access. Nothing changes, not even the frame.
+    /// N3, N6 or N7; or N26 or N16 at the access. Nothing changes, and the frame is unchanged too.
     pub fn store<'a, R: Wait, P: Allows>(
         &mut self,
         rt: &R,
@@ -315,10 +317,10 @@ impl Domain {
         write_through(rt, monitor, seat, visits, &route, name, off, bytes)
     }
 
-    /// Writes `bytes` from the offset `off` on to a frame of its own.
+    /// Writes `bytes` to one of the domain's own frames, starting at the offset `off`. Waits for the frame's lock.
     ///
     /// # Errors
-    /// N3 or N16; or N26 or N16 at the access. Nothing changes, not even the frame.
+    /// N3 or N16; or N26 or N16 at the access. Nothing changes, and the frame is unchanged too.
     pub fn poke<'a, R: Wait, P: Allows>(
         &mut self,
         rt: &R,

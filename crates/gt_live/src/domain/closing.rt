@@ -1,4 +1,4 @@
-//! Closing a domain's table before it leaves, and looking at one of its entries.
+//! The closing of a domain's table before the domain leaves, and a look at one of its entries.
 ghost use Rattle.std.specs.Prelude.{◌≡◌, true};
 ghost use Rattle.gt_entry.specs.declared.entry.Entry.TheVariants.{Invalid};
 ghost use Rattle.gt_calls.specs.Rules.{entry_in};
@@ -10,10 +10,10 @@ use gt_calls::OwnerEntry;
 use gt_entry::{Control, Entry, EntryChange, EntryKind};
 use gt_types::{Allows, Denial, GrantRef};
 
-// How often the withdrawal of an entry is asked. Each time makes up to four tries.
+// The maximum number of times that `close` asks for the withdrawal of an entry. Each time makes up to four tries.
 const MOST_WITHDRAWALS: u32 = 16;
 
-// Whether a control word is of an entry in use.
+// Returns whether a control word is of an entry in use.
 fn is_in_use(word: u64) -> bool
     ensures { result ≡ is_in_use word }
 {
@@ -21,7 +21,7 @@ fn is_in_use(word: u64) -> bool
     !matches!(control.kind, EntryKind::Invalid) || control.reads > 0 || control.writes > 0
 }
 
-// Whether an owner's row of an entry says that it is Invalid.
+// Returns whether the owner's row of an entry is Invalid.
 fn is_shut(own: &[OwnerEntry], gref: GrantRef) -> bool
     ensures { result ≡ true → entry_in own.now gref.0 ≡ Invalid }
 {
@@ -46,7 +46,7 @@ impl Domain {
     ghost use Rattle.gt_calls.specs.declared.action.Observation.TheVariants.{Word};
     ghost use Rattle.gt_calls.specs.declared.action.Step.TheVariants.{LookControl};
 
-    // Withdraws an entry of its own, in at most four tries.
+    // Withdraws one of the domain's entries, in at most four tries.
     fn withdraw_row<P: Allows>(
         &mut self,
         monitor: &Monitor<P>,
@@ -72,7 +72,7 @@ impl Domain {
         }
     }
 
-    // Withdraws an entry of its own if it is valid, and asks again if its tries were missed.
+    // Withdraws one of the domain's entries if it is valid, and asks again if its tries were missed.
     fn withdraw_often<P: Allows>(&mut self, monitor: &Monitor<P>, gref: GrantRef)
         requires mine { BelongsTo P.may monitor.now self.old }
         requires entry { gref.0 < TABLE_ENTRIES }
@@ -93,7 +93,7 @@ impl Domain {
         }
     }
 
-    // A look at an entry of its own.
+    // Loads the control word of one of the domain's entries.
     fn look<P: Allows>(&mut self, monitor: &Monitor<P>, gref: GrantRef) -> u64
         requires mine { BelongsTo P.may monitor.now self.old }
         requires entry { gref.0 < TABLE_ENTRIES }
@@ -108,7 +108,7 @@ impl Domain {
         monitor.words.load_control(&mut self.seat, dom, gref)
     }
 
-    // Closes an entry of its own, and answers the word that a look then finds.
+    // Closes one of the domain's entries, and returns the word that a look then finds.
     fn close_row<P: Allows>(&mut self, monitor: &Monitor<P>, gref: GrantRef) -> u64
         requires mine { BelongsTo P.may monitor.now self.old }
         requires entry { gref.0 < TABLE_ENTRIES }
@@ -122,10 +122,11 @@ impl Domain {
         self.look(monitor, gref)
     }
 
-    /// Withdraws each valid entry of its own, and answers how many entries are still in use. An entry is in use if
-    /// it has pins, or if it is still valid: each of the 64 tries to withdraw it was missed, since others took and gave
-    /// back pins meanwhile. No entry that was withdrawn gets another pin; its pins go when their holders unmap, and
-    /// [`Domain::status`] shows them. Takes no memory and doesn't wait. The domain's own mappings and pins stay.
+    /// Withdraws each valid entry of the domain, and returns the number of entries still in use. An entry is in use if
+    /// it has pins. It is also in use if it is still valid, since each of the 64 tries to withdraw it was missed: other
+    /// domains took or released pins in between. A withdrawn entry gets no more pins. Those that it has go when their
+    /// holders unmap, and [`Domain::status`] shows them. The domain's own mappings and pins stay. It does not allocate
+    /// or wait.
     pub fn close<P: Allows>(&mut self, monitor: &Monitor<P>) -> usize
         requires mine { BelongsTo P.may monitor.now self.old }
         ensures mine { BelongsTo P.may monitor.now self.new }
@@ -141,8 +142,9 @@ impl Domain {
         left
     }
 
-    /// Gives up each of its mappings, and then closes its table as [`Domain::close`] does: for the next guest in its
-    /// place. Its records stay, and so do its table's version and size and the generation of each entry.
+    /// Releases each of the domain's mappings, and then closes its table as [`Domain::close`] does, for the next guest
+    /// in its place. Returns the number of entries still in use. The domain's records stay, and so do its table's
+    /// version and size and the generation of each entry.
     pub fn reset<P: Allows>(&mut self, monitor: &Monitor<P>) -> usize
         requires mine { BelongsTo P.may monitor.now self.old }
         ensures mine { BelongsTo P.may monitor.now self.new }
@@ -152,8 +154,8 @@ impl Domain {
         self.close(monitor)
     }
 
-    /// Looks at one of the domain's entries: kind, generation and pins of each kind, with those of the domain itself.
-    /// None if its table has no such entry. A withdrawn entry shows the pins that are left.
+    /// Looks at one of the domain's entries: its kind, generation and pins of each kind, the domain's own pins
+    /// included. Returns `None` if the table has no such entry. A withdrawn entry shows the pins that are left.
     pub fn status<P: Allows>(&mut self, monitor: &Monitor<P>, gref: GrantRef) -> Option<Control>
         requires mine { BelongsTo P.may monitor.now self.old }
         ensures stays { StaysIn P.may monitor.now self.old self.new }

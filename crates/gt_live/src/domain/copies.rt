@@ -35,7 +35,7 @@ use gt_types::{Allows, Denial, DomId, FRAME_SIZE};
 use gt_words::Seat;
 use std::sync::Wait;
 
-// Copies between places that these routes lead to.
+// Copies between the places that these routes reach.
 fn copy_through<R: Wait, P: Allows>(
     rt: &R,
     monitor: &Monitor<P>,
@@ -65,8 +65,8 @@ fn copy_through<R: Wait, P: Allows>(
     }
 }
 
-/// A copy that has come to its access, and holds its pins: so many bytes may now be read at the one place and written
-/// at the other. [`Domain::copy_end`] gives the pins back; until then the domain makes no other call.
+/// A copy at its access, with its pins: `len` bytes may now be read at `from` and written at `to`. [`Domain::copy_end`]
+/// releases the pins; until then the domain makes no other call.
 #[derive(Clone, Copy)]
 pub struct PendingCopy {
     call: Call,
@@ -76,7 +76,7 @@ pub struct PendingCopy {
     pub len: u16,
 }
 
-// No pins, in the place of those that a copy is going to take.
+// Returns no pins, for a copy to replace with those that it takes.
 #[inline(always)]
 fn no_pins() -> CallPins
     ensures { result ≡ no_pins }
@@ -87,7 +87,7 @@ fn no_pins() -> CallPins
     }
 }
 
-// A copy at its access, with the pins that it holds.
+// Makes a copy at its access, with the pins that it holds.
 fn at_access(caller: DomId, copy: CopyArgs, pins: CallPins) -> PendingCopy
     ensures { result ≡ halfway_with caller copy pins }
 {
@@ -109,7 +109,7 @@ fn at_access(caller: DomId, copy: CopyArgs, pins: CallPins) -> PendingCopy
     }
 }
 
-// What a record keeps of a copy.
+// Returns the call of a copy, for its record.
 fn copy_hypercall(copy: CopyArgs) -> Hypercall
     ensures { result ≡ copy_hypercall copy }
 {
@@ -122,14 +122,15 @@ fn copy_hypercall(copy: CopyArgs) -> Hypercall
 }
 
 impl Domain {
-    // The verdict at the beginning of a copy, if one is given there.
+    // Returns the result of a copy, if it is decided at its beginning.
     fn judge_copy<P: Allows>(&self, monitor: &Monitor<P>, copy: &CopyArgs) -> Option<CallResult>
         ensures { result ≡ copy_begun (known_on P.may monitor.now self.now) self.now.seat.dom copy.now }
     {
         judge_copy(&self.known(monitor), self.seat.dom(), copy)
     }
 
-    // Drives a copy that no rule answered at its beginning to its access, or to its end if it is refused before.
+    // Drives a copy to its access, or to its end if it is refused before. Requires that it is not decided at its
+    // beginning.
     fn drive_copy<P: Allows>(
         &mut self,
         monitor: &Monitor<P>,
@@ -148,7 +149,7 @@ impl Domain {
         drive_copy(&monitor.words, &known, &mut self.seat, caller, copy, pins)
     }
 
-    // Gives back the pins that a copy held at its access.
+    // Releases the pins that a copy held at its access.
     fn give_back<P: Allows>(&mut self, monitor: &Monitor<P>, pins: &CallPins)
         requires seat { IsSeatOf monitor.now.words self.old.seat }
         requires taken { (base : View)
@@ -193,12 +194,11 @@ impl Domain {
         copied
     }
 
-    /// Copies bytes between frames, of its own or by grants, transitive ones too. The pins that it takes
-    /// for this are given back once the frames are free.
+    /// Copies bytes between frames: the domain's own, or those of grants, transitive ones too. Waits for the locks of
+    /// the frames. The pins that it takes for this are released after the frames are free.
     ///
     /// # Errors
-    /// The first rule that stands; or N26 or N16 at the access. Nothing has changed then: no frame, no
-    /// mapping, no pin.
+    /// The first rule that applies; or N26 or N16 at the access. Nothing has changed: no frame, no mapping, no pin.
     pub fn copy<R: Wait, P: Allows>(
         &mut self,
         rt: &R,
@@ -227,7 +227,7 @@ impl Domain {
         }
     }
 
-    // Comes to the access of a copy, without a record.
+    // Drives a copy to its access, without a record.
     fn come_halfway<P: Allows>(
         &mut self,
         monitor: &Monitor<P>,
@@ -253,13 +253,13 @@ impl Domain {
         }
     }
 
-    /// The first half of a copy, for a caller who keeps the frames: it comes to the access and stops there. Until
-    /// [`copy_end`](Domain::copy_end) the domain holds the copy's pins, and so many bytes may be read at the one place
-    /// and written at the other. A copy in two halves makes the steps of a whole one (`two_halves_make_a_copy`). That
-    /// the bytes are moved, and no others, is for the caller.
+    /// Makes the first half of a copy, for a caller who keeps the frames: it reaches the access and stops there. Until
+    /// [`copy_end`](Domain::copy_end) the domain holds the copy's pins, and `len` bytes may be read at `from` and
+    /// written at `to`. A copy in two halves makes the steps of a whole one (`two_halves_make_a_copy`). The caller must
+    /// move those bytes, and no others.
     ///
     /// # Errors
-    /// The first rule that stands, as of [`copy`](Domain::copy). Then no pin is kept, and its record says so.
+    /// The first rule that applies, as in [`copy`](Domain::copy). No pin is kept, and the refusal is recorded.
     pub fn copy_begin<P: Allows>(
         &mut self,
         monitor: &Monitor<P>,
@@ -290,7 +290,7 @@ impl Domain {
         }
     }
 
-    // Gives back the pins of a copy at its access, without a record.
+    // Releases the pins of a copy at its access, without a record.
     fn end_halfway<P: Allows>(&mut self, monitor: &Monitor<P>, halfway: PendingCopy)
         requires halfway { IsHalfway P.may monitor.now halfway self.old }
         ensures mine { BelongsTo P.may monitor.now self.new }
@@ -302,7 +302,7 @@ impl Domain {
         self.give_back(monitor, &pins);
     }
 
-    /// The second half of a copy: its pins are given back, the last one first, and its record is kept.
+    /// Makes the second half of a copy: its pins are released, the last one first, and the copy is recorded as Ok.
     pub fn copy_end<P: Allows>(&mut self, monitor: &Monitor<P>, halfway: PendingCopy)
         requires halfway { IsHalfway P.may monitor.now halfway self.old }
         ensures mine { BelongsTo P.may monitor.now self.new }

@@ -20,7 +20,7 @@ impl Domain {
     ghost use Rattle.gt_live.specs.Mappings.{Removes};
     ghost use Rattle.gt_calls.specs.declared.held.HeldPin.{HeldPin};
 
-    // Drives a map that no rule answered at its beginning to its end.
+    // Drives a map to its end. Requires that it is not decided at its beginning.
     fn drive_map<P: Allows>(
         &mut self,
         monitor: &Monitor<P>,
@@ -77,13 +77,14 @@ impl Domain {
         }
     }
 
-    /// Maps an entry of a domain, for reading and writing (flags 2) or for reading (flags 6): the bits host_map and
-    /// readonly of the public header. `DOMID_SELF` names the caller.
+    /// Maps an entry of a domain, for reading and writing (flags 2) or for reading (flags 6). The flags are
+    /// `GNTMAP_host_map` (2) and `GNTMAP_readonly` (4) of `grant_table.h`. `DOMID_SELF` names the caller. The handle
+    /// names the mapping, and is never used again.
     ///
     /// # Errors
-    /// The first rule that stands: N1, N2, N5 or N8 at the beginning, N9 with the header's word, N10 to N13, N16, N17
-    /// or N18 with the entry's. N26 if none stands at the beginning, no room is left for a mapping and memory is
-    /// refused for more. Mappings and pins are as they were.
+    /// The first rule that applies: N1, N2, N5 or N8 at the beginning; N9 with the header's word; N10 to N13, N16, N17
+    /// or N18 with the entry's word. N26 if no rule applies at the beginning and there is no memory for the mapping.
+    /// Mappings and pins are unchanged.
     pub fn map<P: Allows>(
         &mut self,
         monitor: &Monitor<P>,
@@ -108,7 +109,7 @@ impl Domain {
         result
     }
 
-    // The verdict at the beginning of a map, if one is given there.
+    // Returns the result of a map, if it is decided at its beginning.
     fn judge_map<P: Allows>(
         &self,
         monitor: &Monitor<P>,
@@ -122,7 +123,7 @@ impl Domain {
         judge_map(&self.known(monitor), caller, label, dom, flags)
     }
 
-    // The verdict at the beginning of an unmap, if one is given there.
+    // Returns the result of an unmap, if it is decided at its beginning.
     fn judge_unmap<P: Allows>(&self, monitor: &Monitor<P>, handle: Handle) -> Option<CallResult>
         requires mine { BelongsTo P.may monitor.now self.now }
         ensures { result ≡ unmap_begun (known_on P.may monitor.now self.now) self.now.seat.dom handle }
@@ -130,7 +131,7 @@ impl Domain {
         judge_unmap(&self.known(monitor), self.label(monitor), handle)
     }
 
-    // Gives a mapping up, without a record.
+    // Unmaps a mapping, without a record.
     fn unmap_unrecorded<P: Allows>(
         &mut self,
         monitor: &Monitor<P>,
@@ -153,10 +154,10 @@ impl Domain {
         Ok(())
     }
 
-    /// Gives a mapping up, and its pin back.
+    /// Unmaps a mapping, and releases its pin.
     ///
     /// # Errors
-    /// N6 or N5, and mappings and pins are as they were.
+    /// N6 or N5. Mappings and pins are unchanged.
     pub fn unmap<P: Allows>(&mut self, monitor: &Monitor<P>, handle: Handle) -> Result<(), Denial>
         requires mine { BelongsTo P.may monitor.now self.old }
         ensures mine { BelongsTo P.may monitor.now self.new }

@@ -1,4 +1,4 @@
-//! An owner's calls on the entries of its table.
+//! An owner's calls on the entries of its table. None waits.
 use super::{Domain, change_row, done, known_with};
 use crate::monitor::Monitor;
 use crate::owning::{drive_change, judge_own};
@@ -18,7 +18,7 @@ impl Domain {
     ghost use Rattle.gt_calls.specs.declared.request.OpenRequest.TheVariants as asks;
     ghost use Rattle.gt_live.specs.Domains.{known_on, verdict_of};
 
-    // The verdict at the beginning of a change of the entry with this row, if one is given there.
+    // Returns the result of a change of the entry with this row, if it is decided at its beginning.
     #[inline(always)]
     pub(crate) fn judge_own<P: Allows>(
         &self,
@@ -33,8 +33,8 @@ impl Domain {
         judge_own(&self.known(monitor), own, gref, change)
     }
 
-    // Drives an owner's change that no rule answered at its beginning to its end. `looked` is the owner's word of the
-    // entry with no pins.
+    // Drives an owner's change to its end. Requires that the change is not decided at its beginning. `looked` is the
+    // owner's word of the entry with no pins.
     #[inline(always)]
     pub(crate) fn drive_change<P: Allows>(
         &mut self,
@@ -68,7 +68,8 @@ impl Domain {
         )
     }
 
-    // Makes a change of the entry with this row that no rule answered at its beginning, and keeps it in the row.
+    // Makes a change of the entry with this row, and keeps it in the row. Requires that it is not decided at its
+    // beginning.
     #[inline(always)]
     fn change_own<P: Allows>(
         &mut self,
@@ -122,7 +123,7 @@ impl Domain {
         self.change_own(monitor, own, gref, change)
     }
 
-    // Judges a grant by bytes at its beginning: the entry that they spell.
+    // Checks a grant by bytes at its beginning, and returns the entry that they encode.
     #[inline(always)]
     fn judge_bytes<P: Allows>(
         &self,
@@ -144,10 +145,10 @@ impl Domain {
         judge_bytes(self.known(monitor).header, own, gref, bytes)
     }
 
-    /// Publishes an entry in place of an invalid one, if that has no pins left.
+    /// Publishes an entry instead of an invalid one that has no pins left.
     ///
     /// # Errors
-    /// N9, N20, N21, N22 or, with the word found, N19, and nothing changes but the body words of an invalid entry.
+    /// N9, N20, N21, N22, or N19 with the word found. Nothing changes but the body words of an invalid entry.
     pub fn grant<P: Allows>(
         &mut self,
         monitor: &Monitor<P>,
@@ -162,11 +163,11 @@ impl Domain {
         self.owner_call(monitor, gref, EntryChange::Publish(*entry))
     }
 
-    /// Publishes the entry that the bytes spell in a table of the domain's version.
+    /// Publishes the entry that the bytes encode in a table of the domain's version.
     ///
     /// # Errors
-    /// N9, N20, N22, N25 with the field refused, or N19 with the word found, and nothing changes but the body words of
-    /// an invalid entry.
+    /// N9, N20, N22, N25 with the field refused, or N19 with the word found. Nothing changes but the body words of an
+    /// invalid entry.
     pub fn grant_bytes<P: Allows>(
         &mut self,
         monitor: &Monitor<P>,
@@ -185,10 +186,10 @@ impl Domain {
         }
     }
 
-    /// Makes an entry of its own invalid, if it has no pins.
+    /// Makes one of the domain's entries invalid if it has no pins.
     ///
     /// # Errors
-    /// N9, N10 or, with the word found, N19, and nothing changes.
+    /// N9, N10, or N19 with the word found. Nothing changes.
     pub fn revoke<P: Allows>(&mut self, monitor: &Monitor<P>, gref: GrantRef) -> Result<(), Denial>
         requires mine { BelongsTo P.may monitor.now self.old }
         ensures stays { StaysIn P.may monitor.now self.old self.new }
@@ -197,10 +198,11 @@ impl Domain {
         self.owner_call(monitor, gref, EntryChange::Revoke)
     }
 
-    /// Makes an entry of its own invalid, with or without pins: those that there are stay, and no more are taken.
+    /// Makes one of the domain's entries invalid, with or without pins. The pins that it has stay, and no more are
+    /// taken.
     ///
     /// # Errors
-    /// N9, N10 or, with the word found, N18, and nothing changes.
+    /// N9, N10, or N18 with the word found. Nothing changes.
     pub fn withdraw<P: Allows>(
         &mut self,
         monitor: &Monitor<P>,
@@ -214,10 +216,11 @@ impl Domain {
         self.owner_call(monitor, gref, EntryChange::Withdraw)
     }
 
-    /// Makes an entry of its own read-only, if it has no write pins. Ok without a change if it is so already.
+    /// Makes one of the domain's entries read-only if it has no write pins. Returns Ok without a change if it is
+    /// read-only already.
     ///
     /// # Errors
-    /// N9, N10, N22, or with the word found N18 or N19, and nothing changes.
+    /// N9, N10, N22, or N18 or N19 with the word found. Nothing changes.
     pub fn demote<P: Allows>(&mut self, monitor: &Monitor<P>, gref: GrantRef) -> Result<(), Denial>
         requires mine { BelongsTo P.may monitor.now self.old }
         ensures stays { StaysIn P.may monitor.now self.old self.new }
@@ -226,10 +229,10 @@ impl Domain {
         self.owner_call(monitor, gref, EntryChange::Demote)
     }
 
-    /// Makes an entry of its own writable. Ok without a change if it is so already.
+    /// Makes one of the domain's entries writable. Returns Ok without a change if it is writable already.
     ///
     /// # Errors
-    /// N9, N10, N22, or with the word found N18, and nothing changes.
+    /// N9, N10, N22, or N18 with the word found. Nothing changes.
     pub fn promote<P: Allows>(&mut self, monitor: &Monitor<P>, gref: GrantRef) -> Result<(), Denial>
         requires mine { BelongsTo P.may monitor.now self.old }
         ensures stays { StaysIn P.may monitor.now self.old self.new }

@@ -1,4 +1,4 @@
-//! Calls on headers: version, size, and questions about a table.
+//! Calls on headers: version, size, and questions about a table. None waits.
 use super::{
     Domain, done, frames_granted, frames_reply, known_with, outcome_reply, refusal_of, size_by,
     size_reply, version_by, version_reply,
@@ -20,7 +20,7 @@ impl Domain {
     ghost use Rattle.gt_live.specs.Domains.{known_on, verdict_of, verdict_of_frames, verdict_of_size};
     ghost use Rattle.gt_live.specs.Domains.{verdict_of_version};
 
-    // Stores another version in the header of its table, without a record.
+    // Stores another version in the header of the domain's table, without a record.
     #[inline(always)]
     fn change_version<P: Allows>(
         &mut self,
@@ -41,7 +41,8 @@ impl Domain {
         Ok(())
     }
 
-    // Stores more frames in the header of its table, without a record, and answers how many it then has.
+    // Stores a larger number of frames in the header of the domain's table, without a record. Returns the number that
+    // it then has.
     #[inline(always)]
     fn change_size<P: Allows>(&mut self, monitor: &Monitor<P>, frames: u32) -> Result<u32, Denial>
         requires mine { BelongsTo P.may monitor.now self.old }
@@ -80,11 +81,11 @@ impl Domain {
         Ok(drive_query(&monitor.words, &known, &mut self.seat, caller, dom))
     }
 
-    /// Gives its table this version, 1 or 2, while all its entries are invalid. Ok without a change if it has that
-    /// version already.
+    /// Gives the domain's table this version, 1 or 2, while all its entries are invalid. Returns Ok without a change if
+    /// it has that version already.
     ///
     /// # Errors
-    /// N2 or N24, and nothing changes.
+    /// N2 or N24. Nothing changes.
     pub fn set_version<P: Allows>(
         &mut self,
         monitor: &Monitor<P>,
@@ -100,11 +101,11 @@ impl Domain {
         result
     }
 
-    /// Grows its table to `frames` frames, at most 16, and answers how many it then has. A table that has as many
-    /// already stays as it is.
+    /// Grows the domain's table to `frames` frames, at most [`gt_types::MAX_TABLE_FRAMES`], and returns the number that
+    /// it then has. A table with that many or more is unchanged.
     ///
     /// # Errors
-    /// N5 or N23, and nothing changes.
+    /// N5 or N23. Nothing changes.
     pub fn setup_table<P: Allows>(
         &mut self,
         monitor: &Monitor<P>,
@@ -120,7 +121,7 @@ impl Domain {
         result
     }
 
-    /// How many frames the table of a domain has, and how many it may have.
+    /// Returns the number of frames of a domain's table, and the maximum.
     ///
     /// # Errors
     /// N1 or N5.
@@ -139,7 +140,7 @@ impl Domain {
         result
     }
 
-    /// The version of the table of a domain.
+    /// Returns the version of a domain's table.
     ///
     /// # Errors
     /// N1 or N5.
