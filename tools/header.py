@@ -14,12 +14,13 @@ import sys
 
 TOP = pathlib.Path(__file__).resolve().parent.parent
 STRUCTS = {
-    "Handle": "gthost_domain", "DomainSettings": "gthost_settings", "Fault": "gthost_fault", "Answer": "gthost_answer",
-    "MapHandle": "gthost_handle", "Mapping": "gthost_mapping", "CopyEnd": "gthost_end", "CopySettings": "gthost_copy",
-    "PlaceTold": "gthost_place", "PlacesTold": "gthost_places", "Record": "gthost_record",
-    "MappingTold": "gthost_found_mapping", "RecordTold": "gthost_found_record", "BegunTold": "gthost_begun_copy",
-    "EntryBytes": "gthost_entry_bytes", "FaultText": "gthost_text", "RuleText": "gthost_rule_line",
-    "EntryStatus": "gthost_entry_status", "EntryTold": "gthost_found_entry", "TypeTold": "gthost_type",
+    "DomainHandle": "gthost_domain", "DomainSettings": "gthost_settings", "EncodedFault": "gthost_fault",
+    "EncodedAnswer": "gthost_answer", "MapHandle": "gthost_handle", "MappedFrame": "gthost_mapping",
+    "CopyEnd": "gthost_end", "CopySettings": "gthost_copy", "PlaceReport": "gthost_place",
+    "PlacesReport": "gthost_places", "EncodedRecord": "gthost_record", "MappingReport": "gthost_found_mapping",
+    "RecordReport": "gthost_found_record", "BegunReport": "gthost_begun_copy", "EntryBytes": "gthost_entry_bytes",
+    "FaultText": "gthost_text", "RuleText": "gthost_rule_line", "EntryStatus": "gthost_entry_status",
+    "EntryReport": "gthost_found_entry", "TypeReport": "gthost_type",
 }
 OF_RUST = {
     "Domain": "gthost_domain", "Settings": "gthost_settings", "Fault": "gthost_fault", "Answer": "gthost_answer",
