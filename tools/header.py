@@ -180,15 +180,15 @@ def rust():
 
 def numbers(text):
     """Each number that the Rattle side has a word for, by its name in the header."""
-    for word, number in re.findall(r"Outcome::(\w+)\(\w+\) => given\((\d+),", text):
+    for word, number in re.findall(r"AttachedOutcome::(\w+)\(\w+\) => given\((\d+),", text):
         yield f"GTHOST_{KINDS.get(word, spelled(word))}", number
-    for number in re.findall(r"fn mapped\(name: Name\).*?kind: (\d+),", text, re.S):
+    for number in re.findall(r"fn mapped\(name: MappingName\).*?kind: (\d+),", text, re.S):
         yield "GTHOST_HANDLE", number
     for number, word in enumerate(re.findall(r"^\s*(N\d+)(?: = 1)?,$", text, re.M), 1):
         yield f"GTHOST_{word}", str(number)
-    for word, number in re.findall(r"Kind::(Invalid|Page|Sub|Via) => (\d+),", text):
+    for word, number in re.findall(r"EntryKind::(Invalid|Page|Sub|Via) => (\d+),", text):
         yield f"GTHOST_ENTRY_{spelled(word)}", number
-    for word, number in re.findall(r"Facts::(\w+)[^=]*=> Answer \{\s*kind: (\d+),", text):
+    for word, number in re.findall(r"Facts::(\w+)[^=]*=> EncodedAnswer \{\s*kind: (\d+),", text):
         yield f"GTHOST_{spelled(word)}", number
     for word, number in re.findall(r"Field::(\w+) => (\d+),", text):
         yield f"GTHOST_FIELD_{spelled(word)}", number
@@ -198,14 +198,16 @@ def numbers(text):
         yield f"GTHOST_FAULT_{spelled(word)}", number
     for number in re.findall(r"fn label_fault.*?fault_at\((\d+),", text, re.S):
         yield "GTHOST_FAULT_LABEL", number
-    for word, number in re.findall(r"const (MEMORY|HANDLES|TEXT|NO_TYPE): Fault = Fault \{\s*kind: (\d+),", text):
+    for word, number in re.findall(r"const (MEMORY|HANDLES|TEXT|NO_TYPE): EncodedFault = EncodedFault \{\s*kind: (\d+),", text):
         yield f"GTHOST_FAULT_{word}", number
     for number in re.findall(r'(\d+) => "a pointer is null",', text):
         yield "GTHOST_FAULT_NULL_POINTER", number
     for word, number in re.findall(r"pub const (\w+): u(?:16|32|size) = (\w+);", text):
         if word in LIMITS:
             yield f"GTHOST_{word}", number.replace("_", "")
-    for word, number in re.findall(r"Hypercall::(\w+)[^=]*=> Record \{\s*call: (\d+),", text):
+    for number in re.findall(r"fn with_copy\(.*?call: (\d+),", text, re.S):
+        yield "GTHOST_CALL_COPY", number
+    for word, number in re.findall(r"Hypercall::(\w+)[^=]*=> EncodedRecord \{\s*call: (\d+),", text):
         yield f"GTHOST_CALL_{'UNMAP_NONE' if word == 'Unmap' and number == '3' else spelled(word)}", number
 
 
