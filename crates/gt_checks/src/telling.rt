@@ -1,4 +1,4 @@
-//! What was found in a text, written for its author.
+//! Writes findings.
 ghost use Rattle.std.specs.Prelude.{◌≡◌};
 ghost use Rattle.std.specs.List.{list_any};
 ghost use Rattle.gt_policy_check.specs.Check.{is_error};
@@ -19,7 +19,7 @@ fn has_error(found: &[Finding]) -> bool
         .any(|finding| matches!(finding.kind, FindingKind::Fault))
 }
 
-// The findings as they are written.
+// The text or the JSON of the findings.
 fn report(
     alloc: Global,
     file: &str,
@@ -36,7 +36,7 @@ fn report(
     Ok(out)
 }
 
-/// Writes findings, and answers whether none of them is an error.
+/// Writes findings, and returns whether none of them is an error.
 pub(crate) fn tell_findings<W: Write>(
     alloc: Global,
     file: &str,
