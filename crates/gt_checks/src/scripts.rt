@@ -11,7 +11,7 @@ use gt_text::{read_text, text_of};
 use std::alloc::Global;
 use std::io::{Read, Write};
 
-// The text of a script; empty if it is not UTF-8, so that no line of it is shown.
+// Returns the text of a script; empty if it is not UTF-8, so that no line of it is shown.
 fn shown_text<'a>(input: &'a [u8]) -> &'a str {
     match text_of(input) {
         Ok(text) => text,

@@ -10,7 +10,6 @@ use gt_text::finish;
 use std::alloc::{AllocError, Global};
 use std::io::Write;
 
-// Whether some finding is an error.
 fn has_error(found: &[Finding]) -> bool
     ensures { result ≡ list_any (λ x. is_error x.kind) found.now }
 {
@@ -19,7 +18,7 @@ fn has_error(found: &[Finding]) -> bool
         .any(|finding| matches!(finding.kind, FindingKind::Fault))
 }
 
-// The text or the JSON of the findings.
+// Prints the findings as text or as JSON.
 fn report(
     alloc: Global,
     file: &str,

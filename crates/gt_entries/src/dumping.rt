@@ -15,7 +15,7 @@ use std::io::{Read, Write};
 // The maximum number of bytes of a dump: 16 frames.
 const MOST_BYTES: usize = 65_536;
 
-// The bytes of the entry at this reference; fewer if the dump ends in it.
+// Returns the bytes of the entry at this reference; fewer if the dump ends in it.
 fn entry_at<'d>(version: u8, dump: &'d [u8], gref: usize) -> &'d [u8]
     requires few { length dump.now ≤ most_bytes }
     requires within { gref ≤ most_bytes }

@@ -7,7 +7,7 @@ use gt_types::LONGEST_TEXT;
 use hex::FromHexError;
 use std::alloc::{AllocError, Global};
 
-// The digits of hexadecimal text, without its blanks and line ends.
+// Removes the blanks and line ends of hexadecimal text.
 fn digits_of(alloc: Global, input: &[u8]) -> Result<Vec<u8>, AllocError>
     ensures { IfOk result (λ digits. digits.items ≡ digits_of input.now) }
 {

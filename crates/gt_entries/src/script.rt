@@ -10,7 +10,7 @@ use gt_text::{push_number, push_part, push_text};
 use gt_types::{DomId, MAX_FRAMES};
 use std::alloc::{AllocError, Global};
 
-// The offset of the frame number in an entry of this version; it extends to the end of the entry.
+// Returns the offset of the frame number in an entry of this version; it extends to the end of the entry.
 fn frame_place(version: u8) -> usize
     ensures { result ≡ frame_place version }
 {

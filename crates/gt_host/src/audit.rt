@@ -17,8 +17,8 @@ pub struct AuditRecords {
     records: Vec<Record>,
 }
 
-// The record of a call that the domain is about to make; None if such calls are not audited. An unmap is recorded by
-// the entry that is mapped now: when it has its answer, its handle may name none.
+// Returns the record of a call that the domain is about to make; None if such calls are not audited. An unmap is
+// recorded by the entry that is mapped now: when it has its answer, its handle may name none.
 fn hypercall_of_request<P: Allows>(
     core: &Core<P>,
     dom: DomId,

@@ -25,7 +25,7 @@ use gt_script_lines::{ScriptAction, ScriptCall, Text, hex_bytes};
 use gt_types::{Allows, DomId, Memory};
 use std::alloc::{AllocError, Global};
 
-// The hexadecimal text of a call, if it has one.
+// Returns the hexadecimal text of a call, if it has one.
 fn hex_of_call<'b, 'a>(call: &'b ScriptCall<'a>) -> Option<&'b Text<'a>>
     ensures { option_map (λ text. text.now) result ≡ hex_of_call call.entry.now }
 {
@@ -119,7 +119,7 @@ pub fn label_given<'a>(call: &ScriptCall<'a>) -> Option<&'a [u8]>
     }
 }
 
-// The label to which the call of a step gives its handle.
+// Returns the label to which the call of a step gives its handle.
 fn label_in<'a>(action: &ScriptAction<'a>) -> Option<&'a [u8]>
     ensures { option_map (λ l. l.now) result ≡ label_said action.now }
 {

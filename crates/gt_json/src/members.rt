@@ -8,7 +8,7 @@ use crate::words::{is_word, split_at_equals};
 use gt_text::push_text;
 use std::alloc::AllocError;
 
-// The name and the value of a word.
+// Splits a word into its name and its value.
 fn member_of<'w>(place: WordPlace, word: &'w [u8]) -> (&'w [u8], &'w [u8])
     ensures { (result.0.now, result.1.now) ≡ member_of place word.entry.now }
 {
@@ -22,14 +22,14 @@ fn member_of<'w>(place: WordPlace, word: &'w [u8]) -> (&'w [u8], &'w [u8])
     }
 }
 
-// Whether the value with this name is hexadecimal.
+// Returns whether the value with this name is hexadecimal.
 fn is_hex(place: WordPlace, name: &[u8]) -> bool
     ensures { result ≡ is_hex place name.now }
 {
     place.is_fact() && (is_word(name, "bytes") || is_word(name, "status"))
 }
 
-// The mark in front of a member.
+// Returns the mark in front of a member.
 fn lead(place: WordPlace) -> &'static str
     ensures { result.now ≡ lead place }
 {

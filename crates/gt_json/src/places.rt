@@ -152,7 +152,7 @@ impl WordPlace {
         !self.is_start() && is_word(word, ":")
     }
 
-    // The meaning of the word after one that is a member.
+    // Returns the meaning of the word after one that is a member.
     fn next_place(self, word: &[u8]) -> WordPlace
         ensures { result ≡ next_place self word.now }
     {

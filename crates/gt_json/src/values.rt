@@ -6,7 +6,7 @@ use crate::words::{is_number, is_word};
 use gt_text::push_text;
 use std::alloc::AllocError;
 
-// The hexadecimal digit of a number below 16.
+// Returns the hexadecimal digit of a number below 16.
 fn hex_digit(number: u8) -> u8
     requires { number < 16 }
     ensures { result ≡ hex_digit number }

@@ -30,7 +30,7 @@ fn are_digits(bytes: &[u8]) -> bool
     bytes.iter().all(|byte| byte.is_ascii_digit())
 }
 
-// Whether the word is a natural number as JSON writes it: without leading zeros.
+// Returns whether the word is a natural number as JSON writes it: without leading zeros.
 #[tactic(auto, unfolding(crate::specs::Words::is_natural))]
 fn is_natural(word: &[u8]) -> bool
     ensures { result ≡ is_natural word.now }

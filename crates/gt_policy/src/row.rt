@@ -34,7 +34,7 @@ impl Model for TypeRow {
     ghost view = { λ r. lanes r.map_read r.map_write r.unmap r.transfer r.setup r.copy r.query };
 }
 
-// The types on which a source has a permission, after one more statement.
+// Returns the types on which a source has a permission, after one more statement.
 fn grown(so_far: TypeSet, rule: &AllowRule, perm: Perms, targets: TypeSet) -> TypeSet
     ensures { (t : ℕ) → holds result t ≡ (holds so_far t || (lists_perm rule.now.perms perm && holds targets t)) }
 {

@@ -80,7 +80,7 @@ impl Members {
         Members { sets }
     }
 
-    // The types that a name stands for.
+    // Returns the types that a name stands for.
     fn named(&self, symbol: Symbol) -> TypeSet
         ensures { (n : ℕ) → holds result n ≡ stands_for (has self.now) symbol n }
     {
@@ -90,7 +90,7 @@ impl Members {
         }
     }
 
-    // The types that an item adds to its set.
+    // Returns the types that an item adds to its set.
     fn included(&self, element: DraftElement) -> TypeSet
         ensures { (n : ℕ) → holds result n ≡ is_with (has self.now) element n }
     {
@@ -101,7 +101,7 @@ impl Members {
         }
     }
 
-    // The types that an item removes from its set.
+    // Returns the types that an item removes from its set.
     fn excluded(&self, element: DraftElement) -> TypeSet
         ensures { (n : ℕ) → holds result n ≡ is_without (has self.now) element n }
     {
@@ -112,7 +112,7 @@ impl Members {
         }
     }
 
-    // The types of a set. Excluded types are removed at the end, so the order of the items doesn't matter.
+    // Returns the types of a set. Excluded types are removed at the end, so the order of the items doesn't matter.
     fn types_of(&self, set: &[DraftElement]) -> TypeSet
         ensures { (n : ℕ) → holds result n ≡ holds_type (has self.now) set.now n }
     {

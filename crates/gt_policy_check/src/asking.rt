@@ -20,7 +20,7 @@ use gt_text::push_text;
 use gt_types::Perms;
 use std::alloc::{AllocError, Global};
 
-/// A question: may the source do this to the target? None stands for any declared type.
+/// A question: may the source do this to the target? None means any declared type.
 #[derive(Clone, Copy)]
 pub struct WhyQuestion<'q> {
     pub source: Option<&'q str>,
@@ -59,7 +59,7 @@ struct Asked<'m, 'a> {
     perm: &'m str,
 }
 
-// Whether some statement grants the permission to a source on a target.
+// Returns whether some statement grants the permission to a source on a target.
 fn is_allowed(statements: &[LinedStatement], asked: &Asked) -> bool
     ensures { result ≡ list_any
         (λ x. gives_some asked.now.perm.now asked.now.sources.now asked.now.targets.now x.statement) statements.now }
@@ -88,7 +88,7 @@ fn answer_with(statements: &[LinedStatement], asked: &Asked) -> WhyAnswer
     }
 }
 
-// Whether a statement is listed: under Allowed if it grants the permission, and else if it is a near miss.
+// Returns whether a statement is listed: under Allowed if it grants the permission, and else if it is a near miss.
 fn is_listed(answer: WhyAnswer, statement: &Statement, asked: &Asked) -> bool
     ensures { result ≡ is_listed_under answer asked.now.perm.now asked.now.sources.now asked.now.targets.now
         statement.now }

@@ -12,7 +12,7 @@ pub(crate) struct Declared<'a> {
     pub column: u32,
 }
 
-// What the name after this word is declared as: true for a type, false for an attribute.
+// Returns what the name after this word is declared as: true for a type, false for an attribute.
 fn declares(word: &[u8]) -> Option<bool> {
     if word == b"type".as_slice() {
         return Some(true);

@@ -35,7 +35,7 @@ pub(crate) fn worn_members<'a>(
     Ok(members)
 }
 
-// The type with this name.
+// Finds the type with this name.
 fn member_named<'m, 'a>(members: &'m [Member<'a>], name: &TextPiece) -> Option<&'m Member<'a>> {
     for member in members {
         if is_same(&member.name, name) {
@@ -45,7 +45,7 @@ fn member_named<'m, 'a>(members: &'m [Member<'a>], name: &TextPiece) -> Option<&
     None
 }
 
-// Whether some allow statement has the type in a set.
+// Returns whether some allow statement has the type in a set.
 fn names_member(statements: &[LinedStatement], member: &Member) -> bool {
     for stated in statements {
         if names_type(&stated.statement, member) {
@@ -55,7 +55,7 @@ fn names_member(statements: &[LinedStatement], member: &Member) -> bool {
     false
 }
 
-// The same for the type of a name; true for a name that is not a type.
+// Does the same for the type of a name. Returns true for a name that is not a type.
 fn is_named(policy: &Judged, name: &TextPiece) -> bool {
     match member_named(policy.members, name) {
         Some(member) => names_member(policy.statements, member),
@@ -63,7 +63,7 @@ fn is_named(policy: &Judged, name: &TextPiece) -> bool {
     }
 }
 
-// Whether there is a script, and none of its domains has this type.
+// Returns whether there is a script, and none of its domains has this type.
 fn has_no_domain(policy: &Judged, name: &TextPiece) -> bool {
     match policy.worn {
         Some(worn) => member_named(worn, name).is_none(),
@@ -93,7 +93,7 @@ pub(crate) fn warn_type(
     Ok(())
 }
 
-// Whether there is a script, and the statement allows something, but nothing to its domains.
+// Returns whether there is a script, and the statement allows something, but nothing to its domains.
 fn never_matters(statement: &Statement, policy: &Judged) -> bool {
     match policy.worn {
         Some(worn) => {

@@ -52,7 +52,7 @@ pub(crate) struct Explained {
     pub note: Option<FindingNote>,
 }
 
-// The line on which a text ends, counted from 1.
+// Returns the line on which a text ends, counted from 1.
 fn last_line(bytes: &[u8]) -> u32 {
     let mut line: u32 = 1;
     for byte in bytes {
@@ -63,7 +63,7 @@ fn last_line(bytes: &[u8]) -> u32 {
     line
 }
 
-// Whether a fault is beyond a line. An undeclared name doesn't count, since it may be declared further on.
+// Returns whether a fault is beyond a line. An undeclared name doesn't count, since it may be declared further on.
 fn is_past(fault: &PolicyFault, last: u32) -> Result<bool, AllocError> {
     match fault.kind {
         PolicyFaultKind::Memory => Err(AllocError),
@@ -72,7 +72,7 @@ fn is_past(fault: &PolicyFault, last: u32) -> Result<bool, AllocError> {
     }
 }
 
-// Whether the text has no fault up to the end of `front`.
+// Returns whether the text has no fault up to the end of `front`.
 fn fits_so_far(alloc: Global, front: &[u8]) -> Result<bool, AllocError> {
     let Ok(text) = text_of(front) else {
         return Ok(false);
@@ -83,15 +83,15 @@ fn fits_so_far(alloc: Global, front: &[u8]) -> Result<bool, AllocError> {
     }
 }
 
-// Whether the text has no fault up to the end of `front` and a token on the next line.
+// Returns whether the text has no fault up to the end of `front` and a token on the next line.
 fn fits(alloc: Global, front: &[u8], token: &str) -> Result<bool, AllocError> {
     let mut bytes = Vec::from_slice(alloc, front)?;
     push_both(&mut bytes, "\n", token)?;
     fits_so_far(alloc, bytes.as_slice())
 }
 
-// The index of the first token of a line that does not fit. Binary search serves, since a text with no fault up to a
-// token has none up to the tokens before it.
+// Finds the first token of a line that does not fit. Binary search serves, since a text with no fault up to a token has
+// none up to the tokens before it.
 fn misfit(alloc: Global, bytes: &[u8], line: &LineTokens) -> Result<usize, AllocError> {
     let mut low = 0;
     let mut high = line.tokens.len();
@@ -191,7 +191,7 @@ fn push_after(out: &mut Vec<u8>, last: &[u8]) -> Result<(), AllocError> {
     push_quoted(out, word)
 }
 
-// The last token of a line, or `before` if it has none.
+// Finds the last token of a line. Returns `before` if it has none.
 fn last_token_in<'a>(
     alloc: Global,
     line: &'a [u8],
@@ -204,7 +204,6 @@ fn last_token_in<'a>(
     }
 }
 
-// The last token of a text.
 fn last_token<'a>(alloc: Global, text: &'a [u8]) -> Result<&'a [u8], AllocError> {
     let mut last: &'a [u8] = &[];
     let Ok(text) = text_of(text) else {
@@ -216,8 +215,8 @@ fn last_token<'a>(alloc: Global, text: &'a [u8]) -> Result<&'a [u8], AllocError>
     Ok(last)
 }
 
-// The length of the line up to the token before the misfit, and the column there. For the first token of a line the
-// length is 0, and the column is that of the token.
+// Returns the length of the line up to the token before the misfit, and the column there. For the first token of a line
+// the length is 0, and the column is that of the token.
 fn end_before(line: &LineTokens, misfit: usize) -> (usize, u32) {
     if misfit > 0 {
         if let Some(token) = line.tokens.get(misfit - 1) {
@@ -244,7 +243,7 @@ fn explain_syntax(
     push_after(&mut explained.message, last_token(alloc, front)?)
 }
 
-// The column of the token that does not fit.
+// Returns the column of the token that does not fit.
 fn misfit_column(alloc: Global, bytes: &[u8], line: &LineTokens) -> Result<u32, AllocError> {
     let place = misfit(alloc, bytes, line)?;
     match line.tokens.get(place) {
@@ -269,7 +268,6 @@ fn note_here(
     Ok(())
 }
 
-// The declaration of a name.
 fn declaration<'d, 'a>(declared: &'d [Declared<'a>], name: &str) -> Option<&'d Declared<'a>> {
     for one in declared {
         if one.name == name {
@@ -294,7 +292,7 @@ fn explain_other(
     note_here(alloc, explained, declared, " is declared here")
 }
 
-// The declared name that is nearest to an undeclared one.
+// Finds the declared name that is nearest to an undeclared one.
 fn nearest_declared<'a>(
     alloc: Global,
     declared: &[Declared<'a>],

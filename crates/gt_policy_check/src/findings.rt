@@ -47,7 +47,7 @@ pub struct Finding {
     pub message: Vec<u8>,
 }
 
-// The findings for the first fault of a text: an error on this line, and its note.
+// Makes the findings for the first fault of a text: an error on this line, and its note.
 fn fault_found(alloc: Global, line: u32, explained: Explained) -> Result<Vec<Finding>, AllocError>
     ensures { IfOk result (λ v. error_lines v.items ≡ line ∷ []) }
 {

@@ -29,7 +29,6 @@ pub(crate) fn has_grant(classes: &[TextPiece]) -> bool
     is_among(classes, "grant".as_bytes())
 }
 
-// Whether the permissions include this one.
 fn lists(perms: &Permissions, word: &str) -> bool
     ensures { result ≡ lists_word perms.now word.now }
 {
@@ -50,7 +49,7 @@ pub(crate) fn puts_in(names: &[TextPiece], item: &SetElement) -> bool
     }
 }
 
-// Whether an item takes a type with these names out of its set.
+// Returns whether an item takes a type with these names out of its set.
 fn takes_out(names: &[TextPiece], item: &SetElement) -> bool
     ensures { result ≡ takes_out names.now item.now }
 {
@@ -108,7 +107,7 @@ pub(crate) fn says_self(items: &[SetElement]) -> bool
     false
 }
 
-// Whether the target set holds the target, or contains `self` and the two types are one.
+// Returns whether the target set holds the target, or contains `self` and the two types are one.
 fn reaches(allowed: &Allowance, source: &Member, target: &Member) -> bool
     ensures { result ≡ reaches_by source.now target.now allowed.now }
 {
@@ -116,7 +115,6 @@ fn reaches(allowed: &Allowance, source: &Member, target: &Member) -> bool
         || (says_self(allowed.target.as_slice()) && is_same(&source.name, &target.name))
 }
 
-// Whether the statement reaches some of the targets.
 fn reaches_some(allowed: &Allowance, source: &Member, targets: &[Member]) -> bool
     ensures { result ≡ list_any (λ t. reaches_by source.now t allowed.now) targets.now }
 {
@@ -128,7 +126,7 @@ fn reaches_some(allowed: &Allowance, source: &Member, targets: &[Member]) -> boo
     false
 }
 
-// Whether the statement grants the permission to the source, on whatever target.
+// Returns whether the statement grants the permission to the source, on whatever target.
 fn gives_source(allowed: &Allowance, source: &Member, perm: &str) -> bool
     ensures { result ≡ gives_source perm.now source.now allowed.now }
 {
@@ -137,14 +135,14 @@ fn gives_source(allowed: &Allowance, source: &Member, perm: &str) -> bool
         && holds(source.names.as_slice(), allowed.source.as_slice())
 }
 
-// Whether the statement grants the permission to the source on some of the targets.
+// Returns whether the statement grants the permission to the source on some of the targets.
 fn gives(allowed: &Allowance, source: &Member, targets: &[Member], perm: &str) -> bool
     ensures { result ≡ gives_by perm.now targets.now source.now allowed.now }
 {
     gives_source(allowed, source, perm) && reaches_some(allowed, source, targets)
 }
 
-// Whether the statement grants the permission to some of the sources on some of the targets.
+// Returns whether the statement grants the permission to some of the sources on some of the targets.
 fn gives_any(allowed: &Allowance, sources: &[Member], targets: &[Member], perm: &str) -> bool
     ensures { result ≡ list_any (λ s. gives_by perm.now targets.now s allowed.now) sources.now }
 {
@@ -171,8 +169,8 @@ pub(crate) fn gives_some<'a>(
     }
 }
 
-// Whether a statement is a near miss for the source: it reaches some of the targets, and lists the permission or holds
-// the source.
+// Returns whether a statement is a near miss for the source: it reaches some of the targets, and lists the permission
+// or holds the source.
 fn is_near_miss(allowed: &Allowance, source: &Member, targets: &[Member], perm: &str) -> bool
     ensures { result ≡ is_near_miss perm.now targets.now source.now allowed.now }
 {
@@ -182,7 +180,6 @@ fn is_near_miss(allowed: &Allowance, source: &Member, targets: &[Member], perm: 
         && reaches_some(allowed, source, targets)
 }
 
-// Whether a statement is a near miss for some of the sources.
 fn near_any(allowed: &Allowance, sources: &[Member], targets: &[Member], perm: &str) -> bool
     ensures { result ≡ list_any (λ s. is_near_miss perm.now targets.now s allowed.now) sources.now }
 {
@@ -209,7 +206,7 @@ pub(crate) fn near_some(
     }
 }
 
-// Whether a statement grants the permission to the source on the target.
+// Returns whether a statement grants the permission to the source on the target.
 fn gives_one(statement: &Statement, source: &Member, target: &Member, perm: &str) -> bool
     ensures { result ≡ gives_one perm.now source.now target.now statement.now }
 {
@@ -221,7 +218,7 @@ fn gives_one(statement: &Statement, source: &Member, target: &Member, perm: &str
     }
 }
 
-// Whether a statement that grants the permission to the source does so on a target on which `other` does not.
+// Returns whether a statement that grants the permission to the source does so on a target on which `other` does not.
 fn exceeds_on(
     allowed: &Allowance,
     other: &Statement,
@@ -239,7 +236,7 @@ fn exceeds_on(
     false
 }
 
-// Whether a statement grants the permission to some source on some target on which `other` does not.
+// Returns whether a statement grants the permission to some source on some target on which `other` does not.
 fn exceeds_any(allowed: &Allowance, other: &Statement, members: &[Member], perm: &str) -> bool
     ensures { result ≡ list_any (λ s. gives_source perm.now s allowed.now
         && exceeds_on perm.now members.now allowed.now other.now s) members.now }

@@ -17,7 +17,7 @@ use gt_policy::{LinedStatement, Statement};
 use gt_text::push_text;
 use std::alloc::{AllocError, Global};
 
-// The number of allow statements at the end of these that begin on this line.
+// Counts the allow statements at the end of these that begin on this line.
 fn allows_on(statements: &[LinedStatement], line: u32) -> usize {
     let mut count: usize = 0;
     for stated in statements.iter().rev() {
@@ -56,7 +56,7 @@ fn warn_nothing(
     Ok(())
 }
 
-// The message for a statement that repeats the one on this line.
+// Makes the message for a statement that repeats the one on this line.
 fn repeat_message(alloc: Global, line: u32) -> Result<Vec<u8>, AllocError> {
     let mut message = message_of(alloc, "this statement allows only what the one on line ")?;
     push_number(&mut message, line)?;
@@ -64,12 +64,12 @@ fn repeat_message(alloc: Global, line: u32) -> Result<Vec<u8>, AllocError> {
     Ok(message)
 }
 
-// The column at which the allow statement after these begins, on this line.
+// Returns the column at which the allow statement after these begins, on this line.
 fn column_after(bytes: &[u8], tokens: &LineTokens, before: &[LinedStatement], line: u32) -> u32 {
     column_of_word(bytes, tokens, b"allow".as_slice(), allows_on(before, line))
 }
 
-// The note at a repeated statement, which is on this line and comes after these.
+// Makes the note at a repeated statement, which is on this line and comes after these.
 fn repeat_note(
     alloc: Global,
     bytes: &[u8],
@@ -204,7 +204,7 @@ fn warn_all(alloc: Global, policy: &Judged) -> Result<Vec<Finding>, AllocError>
     Ok(found)
 }
 
-// The same, with the types of the policy, and those of a script's domains.
+// Does the same with the types of the policy, and those of a script's domains.
 fn warn_with(
     alloc: Global,
     bytes: &[u8],
@@ -226,7 +226,7 @@ fn warn_with(
     warn_all(alloc, &policy)
 }
 
-// The same, with the names of the types of a script's domains.
+// Does the same with the names of the types of a script's domains.
 fn warn_members(
     alloc: Global,
     bytes: &[u8],

@@ -10,7 +10,7 @@ use gt_policy::{Allowance, Permissions, TextPiece};
 use gt_types::Perms;
 use std::alloc::{AllocError, Global};
 
-// The message about a word, with the name that may be meant.
+// Makes the message about a word, with the name that may be meant.
 fn said_with_hint(
     alloc: Global,
     word: &str,

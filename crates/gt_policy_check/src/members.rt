@@ -58,7 +58,7 @@ fn push_given<'a>(
     Ok(())
 }
 
-// The names that stand for a type.
+// Collects the names that stand for a type.
 fn names_of<'a>(
     alloc: Global,
     statements: &[LinedStatement<'a>],
@@ -74,7 +74,7 @@ fn names_of<'a>(
     Ok(names)
 }
 
-// Whether the type is asked for: by its name, or as any type.
+// Returns whether the type is asked for: by its name, or as any type.
 fn is_asked(asked: Option<&str>, name: &TextPiece) -> bool
     ensures { result ≡ is_asked (option_map (λ a. a.now) asked.entry) name.now }
 {

@@ -6,7 +6,7 @@ use strsim::osa_distance;
 /// The maximum distance of a misspelt name from the one that is meant, in letters.
 const MOST_SLIPS: usize = 2;
 
-// The number of letters by which two names differ; None if they are equal or differ too much.
+// Counts the letters by which two names differ. Returns None if they are equal or differ too much.
 fn slips(alloc: Global, word: &str, name: &str) -> Result<Option<usize>, AllocError> {
     if word.len() > name.len().saturating_add(MOST_SLIPS) {
         return Ok(None);

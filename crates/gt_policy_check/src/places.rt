@@ -30,8 +30,8 @@ pub(crate) fn line_span(bytes: &[u8], line: u32) -> Span {
     }
 }
 
-// Whether a byte continues a token: a byte of names continues a name, and the bytes from 128 up continue a character
-// that is not ASCII.
+// Returns whether a byte continues a token: a byte of names continues a name, and the bytes from 128 up continue a
+// character that is not ASCII.
 fn is_continuation(first: u8, byte: u8) -> bool {
     if first.is_ascii_alphabetic() {
         byte.is_ascii_alphabetic()

@@ -81,7 +81,7 @@ fn push_blank(out: &mut Vec<u8>, letter: char) -> Result<(), AllocError> {
     Ok(())
 }
 
-// The text of a line, without its line end.
+// Returns the text of a line, without its line end.
 fn line_of<'a>(text: &'a str, line: u32) -> &'a str {
     match text_of(bytes_of(text.as_bytes(), line_span(text.as_bytes(), line))) {
         Ok(line) => line.trim_end_matches('\r'),

@@ -33,7 +33,7 @@ fn push_item(out: &mut Vec<u8>, item: &SetElement) -> Result<(), AllocError>
     }
 }
 
-// Whether the set is one name or `self`, which needs no braces.
+// Returns whether the set is one name or `self`, which needs no braces.
 fn is_plain(items: &[SetElement]) -> bool
     ensures { result ≡ is_plain items.now }
 {
@@ -122,7 +122,7 @@ fn push_allow(out: &mut Vec<u8>, allowed: &Allowance) -> Result<(), AllocError>
     push_text(out, ";")
 }
 
-// Whether an item is exactly this type.
+// Returns whether an item is exactly this type.
 fn names_type(name: &TextPiece, item: &SetElement) -> bool
     ensures { result ≡ names_type name.now item.now }
 {
@@ -132,7 +132,7 @@ fn names_type(name: &TextPiece, item: &SetElement) -> bool
     }
 }
 
-// Whether some item is exactly this type.
+// Returns whether some item is exactly this type.
 fn is_named(name: &TextPiece, items: &[SetElement]) -> bool
     ensures { result ≡ list_any (λ i. names_type name.now i) items.now }
 {
@@ -154,7 +154,7 @@ fn push_by(out: &mut Vec<u8>, item: &SetElement) -> Result<(), AllocError>
     }
 }
 
-// The first item that puts a type with these names in.
+// Finds the first item that puts a type with these names in.
 fn first_way<'s, 'a>(names: &[TextPiece], items: &'s [SetElement<'a>]) -> Option<&'s SetElement<'a>>
     ensures { option_map (λ i. i.now) result ≡ find (λ i. puts_in names.now i) items.entry.now }
 {

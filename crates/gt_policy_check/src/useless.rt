@@ -29,21 +29,21 @@ pub(crate) fn is_useless(statement: &Statement, members: &[Member]) -> bool
     }
 }
 
-// Whether a statement grants something that another does not.
+// Returns whether a statement grants something that another does not.
 fn exceeds(statement: &Statement, other: &Statement, members: &[Member]) -> bool
     ensures { result ≡ exceeds_with members.now statement.now other.now }
 {
     Perms::EVERY.iter().any(|perm| exceeds_some(statement, other, members, perm.name()))
 }
 
-// Whether a statement grants nothing that another does not.
+// Returns whether a statement grants nothing that another does not.
 fn grants_no_more(statement: &Statement, other: &Statement, members: &[Member]) -> bool
     ensures { result ≡ no_more_with members.now statement.now other.now }
 {
     !exceeds(statement, other, members)
 }
 
-// The index of the first of these statements that grants all that this one does.
+// Finds the first of these statements that grants all that this one does, and returns its index.
 #[tactic(auto, using(crate::proofs::CheckLemmas::position_within))]
 fn first_giving(
     statement: &Statement,

@@ -51,7 +51,7 @@ fn is_blank(byte: u8) -> bool
     byte == b' ' || byte == b'\t' || byte == b'\r'
 }
 
-// The length of the name at the front of `text`; 0 if there is none.
+// Returns the length of the name at the front of `text`; 0 if there is none.
 fn name_len(text: &[u8]) -> usize
     ensures value { result ≡ prefix_len name_byte text.now }
     ensures within { result ≤ length text.now }
@@ -64,7 +64,7 @@ fn name_len(text: &[u8]) -> usize
     text.len()
 }
 
-// The number of bytes before the first line feed.
+// Returns the number of bytes before the first line feed.
 fn line_len(text: &[u8]) -> usize
     ensures value { result ≡ prefix_len (λ b. not (b == 10)) text.now }
     ensures within { result ≤ length text.now }
@@ -123,7 +123,7 @@ fn word_of<'a>(word: &'a [u8]) -> Token<'a>
     }
 }
 
-// The number of line feeds in `text`.
+// Counts the line feeds in `text`.
 fn line_ends(text: &[u8]) -> usize
     ensures value { result ≡ count_by (λ b. b == 10) text.now }
     ensures within { result ≤ length text.now }
@@ -137,7 +137,7 @@ fn line_ends(text: &[u8]) -> usize
     ends
 }
 
-// Whether bytes follow the last line feed.
+// Returns whether bytes follow the last line feed.
 fn has_open_line(text: &[u8]) -> bool
     ensures { result ≡ has_open_line text.now }
 {
@@ -147,7 +147,7 @@ fn has_open_line(text: &[u8]) -> bool
     }
 }
 
-// The line after the last line of a text.
+// Returns the line after the last line of a text.
 #[tactic(auto, unfolding(crate::specs::Lexing::end_line))]
 fn end_line(text: &[u8]) -> u32
     requires { length text.now < 2 ^ 32 - 2 }
@@ -181,7 +181,7 @@ impl<'a> Model for Lexer<'a> {
     ghost invariant = { λ l. l.line + length l.rest.now < 2 ^ 32 };
 }
 
-// The text after a comment. The line feed at the end of the comment is left.
+// Skips a comment. The line feed at its end is left.
 fn after_comment<'a>(text: &'a [u8]) -> &'a [u8]
     ensures same { (end line : ℕ) →
         lexemes Commenting end line text.entry.now ≡ lexemes Between end line result.now }
@@ -191,7 +191,7 @@ fn after_comment<'a>(text: &'a [u8]) -> &'a [u8]
     after
 }
 
-// The text after blanks, line feeds and comments, and the line on which it begins.
+// Skips blanks, line feeds and comments. Returns the rest of the text, and the line on which it begins.
 fn skip<'a>(text: &'a [u8], first: u32) -> (&'a [u8], u32)
     requires { first + length text.now < 2 ^ 32 }
     ensures same { (end : ℕ) →

@@ -31,7 +31,7 @@ pub fn limit_of(fault: ConfigFault) -> u32
     }
 }
 
-// A number of a line, or the maximum if it has more than 32 bits.
+// Returns a number of a line, or the maximum if it has more than 32 bits.
 fn bounded(number: Number) -> u32 {
     match number.below(1 << 32) {
         Some(small) => small as u32,
@@ -39,7 +39,7 @@ fn bounded(number: Number) -> u32 {
     }
 }
 
-// The domain of a line, with type 0. A number that does not fit becomes the maximum, which exceeds all limits.
+// Makes the domain of a line, with type 0. A number that does not fit becomes the maximum, which exceeds all limits.
 fn domain_of(line: &DomainLine) -> DomainConfig {
     let id = match line.id.below(1 << 16) {
         Some(small) => small as u16,
@@ -62,7 +62,7 @@ struct Configured {
     domain: DomainConfig,
 }
 
-// The lines `domain` among these.
+// Finds the lines `domain` among these.
 fn configured_in(alloc: Global, lines: &[&str]) -> Result<Vec<Configured>, AllocError> {
     let mut found = Vec::new(alloc);
     for (i, line) in lines.iter().enumerate() {
@@ -86,7 +86,7 @@ fn domains_of(alloc: Global, lines: &[Configured]) -> Result<Vec<DomainConfig>, 
     Ok(domains)
 }
 
-// The note at the line that configures a domain with this number, if there is one.
+// Makes the note at the line that configures a domain with this number, if there is one.
 fn first_of(
     alloc: Global,
     lines: &[Configured],
@@ -165,7 +165,7 @@ fn push_no_type(
     }
 }
 
-// The reason why a line `domain` is refused, after the lines before it: a limit, or else its type.
+// Explains why a line `domain` is refused, after the lines before it: a limit, or else its type.
 fn domain_reason(
     alloc: Global,
     before: &[&str],

@@ -5,7 +5,7 @@ ghost use Rattle.gt_reasons.specs.Fitting.{fits, IsFitting};
 use gt_script_lines::read_line;
 use std::alloc::{AllocError, Global};
 
-// Whether the first `count` words, continued by the rest of the example, are a line that can be read.
+// Returns whether the first `count` words, continued by the rest of the example, are a line that can be read.
 fn fits<'w>(
     alloc: Global,
     words: &[&'w [u8]],

@@ -17,7 +17,7 @@ struct RefusedCall<'t> {
     perm: &'t str,
 }
 
-// The refusal of the call of this line, if these words separate its facts.
+// Splits the facts of a refusal at these words.
 fn refusal_with<'t>(
     line: &'t str,
     facts: &'t str,
@@ -35,7 +35,7 @@ fn refusal_with<'t>(
     })
 }
 
-// The refusal in the JSON object of an answer (docs/FORMATS_SCRIPTS.md, 'JSON Lines').
+// Reads the refusal in the JSON object of an answer (docs/FORMATS_SCRIPTS.md, 'JSON Lines').
 fn refusal_of_object<'t>(line: &'t str) -> Option<RefusedCall<'t>> {
     let members = line.strip_prefix("{\"line\":")?.strip_suffix("\"}")?;
     let (number, rest) = members.split_once(",\"domain\":")?;
@@ -43,7 +43,7 @@ fn refusal_of_object<'t>(line: &'t str) -> Option<RefusedCall<'t>> {
     refusal_with(number, facts, "\",\"target\":\"", "\",\"perm\":\"")
 }
 
-// The refusal in an answer line; None for another answer, and for an audit line.
+// Reads the refusal in an answer line. Returns None for another answer, and for an audit line.
 fn refusal_of<'t>(line: &'t str) -> Option<RefusedCall<'t>> {
     let (call, facts) = line.split_once(" N5 -8 source=")?;
     let (number, domain) = call.split_once(' ')?;

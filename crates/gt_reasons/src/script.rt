@@ -15,7 +15,7 @@ use gt_text::{push_number, push_text, text_of};
 use gt_types::LONGEST_TEXT;
 use std::alloc::{AllocError, Global};
 
-// A reason that is about a whole line.
+// Makes a reason that is about a whole line.
 fn reason_of(alloc: Global, text: &str) -> Result<Reason, AllocError> {
     let mut message = Vec::new(alloc);
     push_text(&mut message, text)?;
@@ -30,7 +30,7 @@ fn limit_reason(alloc: Global) -> Result<Reason, AllocError> {
     Ok(Reason::at(1, message))
 }
 
-// The reason for bytes that are not UTF-8, with the column of the first bad byte.
+// Explains bytes that are not UTF-8, with the column of the first bad byte.
 fn utf8_reason(alloc: Global, input: &[u8]) -> Result<Reason, AllocError> {
     let mut reason = reason_of(alloc, "here stands a byte that is no UTF-8")?;
     if let Err(error) = str::from_utf8(input) {
@@ -45,7 +45,7 @@ fn utf8_reason(alloc: Global, input: &[u8]) -> Result<Reason, AllocError> {
     Ok(reason)
 }
 
-// The reason for a fault at the end of a script.
+// Explains a fault at the end of a script.
 fn end_reason(alloc: Global, lines: &[&str], kind: ScriptFaultKind) -> Result<Reason, AllocError> {
     if kind == ScriptFaultKind::Config {
         return reason_of(alloc, "a script has a line domain, and this one has none");
@@ -59,7 +59,7 @@ fn end_reason(alloc: Global, lines: &[&str], kind: ScriptFaultKind) -> Result<Re
     )
 }
 
-// The reason for a fault of a line.
+// Explains a fault of a line.
 fn line_reason(alloc: Global, lines: &[&str], fault: &ScriptFault) -> Result<Reason, AllocError> {
     let place = fault.line.saturating_sub(1);
     if place >= lines.len() {
@@ -120,7 +120,7 @@ pub fn push_script_reason(
     push_reason(out, file, fault.line, &reason)
 }
 
-// The note of an error, if this finding is a note.
+// Returns the note of an error, if this finding is a note.
 fn note_found(alloc: Global, finding: Option<&Finding>) -> Result<Option<ReasonNote>, AllocError> {
     let Some(note) = finding.filter(|one| one.kind == FindingKind::Note) else {
         return Ok(None);
@@ -132,7 +132,7 @@ fn note_found(alloc: Global, finding: Option<&Finding>) -> Result<Option<ReasonN
     }))
 }
 
-// The reason from the findings of a policy block: its error, and the note after it.
+// Makes the reason of the findings in a policy block: its error, and the note after it.
 fn reason_found(alloc: Global, found: &[Finding]) -> Result<Reason, AllocError> {
     let [error, others @ ..] = found else {
         return reason_of(alloc, "the policy block has a fault");

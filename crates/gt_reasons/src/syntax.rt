@@ -13,7 +13,7 @@ use gt_text::{push_text, text_of};
 use gt_types::Perms;
 use std::alloc::{AllocError, Global};
 
-// A word that fits, for each word of a form.
+// Lists a word that fits, for each word of a form.
 fn examples<'f>(alloc: Global, form: &[&'f [u8]]) -> Result<Vec<&'f [u8]>, AllocError> {
     let mut words = Vec::new(alloc);
     for word in form {
@@ -100,7 +100,7 @@ fn push_next<'f>(
     }
 }
 
-// The reason for words that are not a line of a script.
+// Explains words that are not a line of a script.
 fn misfit_reason(alloc: Global, line: &str, words: &[&[u8]]) -> Result<Reason, AllocError> {
     let number = first_misfit(alloc, words)?;
     let mut message = Vec::new(alloc);
@@ -116,7 +116,7 @@ fn misfit_reason(alloc: Global, line: &str, words: &[&[u8]]) -> Result<Reason, A
     Ok(Reason::at(column_of(line.as_bytes(), number), message))
 }
 
-// Where such a line has to be.
+// Returns where such a line has to be.
 fn place_of(line: &ScriptLine) -> &'static str {
     match line {
         ScriptLine::Triple(_) =>

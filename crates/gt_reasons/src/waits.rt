@@ -16,7 +16,7 @@ struct TellLine<'t> {
     flag: &'t [u8],
 }
 
-// The lines by which domains raise flags.
+// Finds the lines by which domains raise flags.
 fn tellers<'t>(alloc: Global, lines: &[&'t str]) -> Result<Vec<TellLine<'t>>, AllocError> {
     let mut found = Vec::new(alloc);
     for (i, line) in lines.iter().enumerate() {
@@ -85,7 +85,7 @@ fn push_tellers(
     Ok(note)
 }
 
-// The note at a line that would raise a flag.
+// Makes the note at a line that would raise a flag.
 fn told_here(alloc: Global, teller: &TellLine) -> Result<ReasonNote, AllocError> {
     let mut message = Vec::new(alloc);
     push_word(&mut message, teller.flag)?;

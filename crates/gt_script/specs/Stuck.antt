@@ -64,7 +64,7 @@ pub record IsStuckAt (Told : ℕ → Type 0) (tasks : List RunTask) (domains : L
   pub others : AllEnd Told tasks (take place domains)
   pub waits : WaitsAt Told tasks domain.id line
 
--- the line where the first domain waits that waits for ever; none if each comes to its end
+-- the line at which the first domain waits that does not come to its end; none if each comes there
 abbrev pub IsJudged : (ℕ → Type 0) → List RunTask → List DomainConfig → Option ℕ → Type 0
 IsJudged Told tasks domains None = AllEnd Told tasks domains
 IsJudged Told tasks domains (Some line) = IsStuckAt Told tasks domains line

@@ -45,7 +45,7 @@ pub fn closing(alloc: Global, lines: &[&str]) -> Result<Option<usize>, AllocErro
     Ok(None)
 }
 
-// The text of the lines of a block.
+// Joins the lines of a block to its text.
 fn block_text(alloc: Global, lines: &[&str]) -> Result<String, AllocError>
     ensures { IfOk result (λ text. string_bytes text ≡ text_in (map (λ line. line.now) lines.now)) }
 {

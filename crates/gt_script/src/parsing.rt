@@ -71,7 +71,7 @@ fn of_text<'a>(
     of_lines(alloc, command, lines.as_slice())
 }
 
-// The bytes as text, or the fault of too many bytes or of bytes that are not UTF-8.
+// Returns the bytes as text, or the fault of too many bytes or of bytes that are not UTF-8.
 fn script_text<'a>(bytes: &'a [u8]) -> Result<&'a str, ScriptFault>
     ensures text { IfOk result (λ text. text.now ≡ bytes.entry.now) }
     ensures few { IfOk result (λ _. length bytes.entry.now ≤ LONGEST_TEXT) }

@@ -94,7 +94,7 @@ fn is_domain(domains: &[DomainConfig], id: DomId) -> bool
     domains.iter().any(|d| d.id == id)
 }
 
-// The domain with this number, if it is configured.
+// Finds the domain with this number, if it is configured.
 #[tactic(auto, unfolding(crate::specs::Script::configured))]
 fn configured(domains: &[DomainConfig], number: Number) -> Option<DomId>
     ensures { result ≡ configured domains.now number }
@@ -107,7 +107,7 @@ fn configured(domains: &[DomainConfig], number: Number) -> Option<DomId>
     }
 }
 
-// What a line of the body is for `play`: an action.
+// Returns what a line of the body is for `play`: an action.
 #[tactic(auto, unfolding(crate::specs::Script::play_action_in))]
 fn play_action_in<'a>(asks: BodyLine<'a>) -> Option<ScriptAction<'a>>
     ensures { result ≡ play_action_in asks.entry }
@@ -118,7 +118,7 @@ fn play_action_in<'a>(asks: BodyLine<'a>) -> Option<ScriptAction<'a>>
     }
 }
 
-// What a line of the body is for `run`: a whole call, or a flag that is raised or awaited.
+// Returns what a line of the body is for `run`: a whole call, or a flag that is raised or awaited.
 #[tactic(auto, unfolding(crate::specs::Script::run_action_in))]
 fn run_action_in<'a>(asks: BodyLine<'a>) -> Option<RunActionBy<'a, Text<'a>>>
     ensures { result ≡ run_action_in asks.entry }
@@ -132,7 +132,7 @@ fn run_action_in<'a>(asks: BodyLine<'a>) -> Option<RunActionBy<'a, Text<'a>>>
     }
 }
 
-// The names of a policy's types, by their numbers.
+// Lists the names of a policy's types, by their numbers.
 fn names_of<'p>(alloc: Global, policy: &'p Policy) -> Result<Vec<Text<'p>>, AllocError>
     ensures { IfOk result (λ names. names.items ≡ policy.entry.now.types) }
 {
@@ -156,7 +156,7 @@ fn copies<'a>(alloc: Global, names: &[Text<'a>]) -> Result<Vec<Text<'a>>, AllocE
     Ok(copies)
 }
 
-// The domain of a line, if its numbers fit.
+// Makes the domain of a line, if its numbers fit.
 #[tactic(auto, unfolding(crate::specs::Script::domain_written))]
 fn domain_written(line: &DomainLine, label: TypeId) -> Option<DomainConfig>
     ensures { result ≡ domain_written line.now label }
@@ -283,7 +283,7 @@ impl<'a> Script<'a> {
         Ok(self)
     }
 
-    // The number of a domain's type, which a policy has to declare. Without a policy any name is a type.
+    // Returns the number of a domain's type, which a policy has to declare. Without a policy any name is a type.
     fn type_number(&mut self, name: &'a [u8]) -> Result<Option<TypeId>, AllocError>
         ensures { IfOk result (GivesTypeNumber (contents_told self.old) (contents_told self.new) name.entry.now) }
     {

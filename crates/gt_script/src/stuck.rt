@@ -25,7 +25,7 @@ struct ListPositions {
     told: Vec<bool>,
 }
 
-// Whether the task is one of the domain.
+// Returns whether the task is one of the domain.
 fn is_own(task: &RunTask, dom: DomId) -> bool
     ensures { IsTrue result ↔ (task.now.dom.0 ≡ dom.0) }
 {
@@ -35,7 +35,7 @@ fn is_own(task: &RunTask, dom: DomId) -> bool
 impl ListPositions {
     ghost use Rattle.std.specs.Prelude.{◌≡◌, ◌≤◌, length};
 
-    // Whether a domain waits at this action.
+    // Returns whether a domain waits at this action.
     #[tactic(auto, unfolding(crate::specs::Rounds::is_waiting))]
     fn is_waiting(&self, deed: &RunAction) -> bool
         requires { IsBelow (length self.now.told.items) deed.now }
@@ -109,7 +109,7 @@ impl ListPositions {
     }
 }
 
-// The flags that are raised in a run.
+// Finds the flags that are raised in a run.
 fn raised_flags(
     alloc: Global,
     tasks: &[RunTask],
@@ -133,7 +133,7 @@ fn raised_flags(
     }
 }
 
-// The line where a domain waits if these flags are raised.
+// Finds the line where a domain waits if these flags are raised.
 fn waiting_line(tasks: &[RunTask], dom: DomId, told: &[bool]) -> Option<usize>
     requires { AreNumbered (length told.now) tasks.now }
     ensures { WaitsIn told.now tasks.now dom result }
@@ -150,7 +150,8 @@ fn waiting_line(tasks: &[RunTask], dom: DomId, told: &[bool]) -> Option<usize>
     None
 }
 
-/// Returns the line where the first domain waits that waits for ever. The tasks name the flags below `flags`.
+/// Returns the line at which the first domain waits that does not come to the end of its list; None if every domain
+/// does. The flags of the tasks are numbered below `flags`.
 pub fn stuck_line(
     alloc: Global,
     tasks: &[RunTask],

@@ -10,7 +10,7 @@ use gt_script::{ScriptError, ScriptFaultKind};
 use gt_types::Memory;
 use std::alloc::{AllocError, Global};
 
-// The line of a fault; None for a failed allocation.
+// Returns the line of a fault; None for a failed allocation.
 fn line_of(error: &ScriptError) -> Option<usize>
     ensures { result ≡ error_line error.now }
 {
@@ -53,7 +53,7 @@ fn push_note(found: &mut Vec<Finding>, note: Option<ReasonNote>) -> Result<(), A
     )
 }
 
-// The finding of a fault on this line. A script has far fewer lines than 32 bits can count.
+// Makes the finding of a fault on this line. A script has far fewer lines than 32 bits can count.
 fn error_at(
     alloc: Global,
     input: &[u8],
@@ -81,7 +81,7 @@ fn error_at(
     Ok(found)
 }
 
-// Whether the fault is that a line is for the other command.
+// Returns whether the fault is that a line is for the other command.
 fn is_mode(error: &ScriptError) -> bool {
     match error {
         ScriptError::Fault(fault) => fault.kind == ScriptFaultKind::Mode,

@@ -19,7 +19,7 @@ pub(crate) struct Label<'t> {
     is_mapped: bool,
 }
 
-// The label of a call, and whether the call is a map.
+// Returns the label of a call, and whether the call is a map.
 fn label_of<'t>(call: &ScriptCall<'t>) -> Option<(&'t [u8], bool)> {
     match call {
         ScriptCall::Map { label, .. } => Some((label.as_bytes(), true)),
@@ -30,7 +30,7 @@ fn label_of<'t>(call: &ScriptCall<'t>) -> Option<(&'t [u8], bool)> {
     }
 }
 
-// The label in a line of a domain.
+// Returns the label in a line of a domain.
 fn labelled<'t>(id: Number, asks: &BodyLine<'t>) -> Option<Label<'t>> {
     let call = match asks {
         BodyLine::Action(ScriptAction::Do(call)) => call,
@@ -57,7 +57,7 @@ pub(crate) fn label_in<'t>(alloc: Global, line: &'t str) -> Result<Option<Label<
     }
 }
 
-// The message about a label that no earlier map of its domain has.
+// Makes the message about a label that no earlier map of its domain has.
 fn message_of(
     alloc: Global,
     label: Label<'_>,
@@ -75,7 +75,7 @@ fn message_of(
     Ok(message)
 }
 
-// Whether some map of the domain has the label.
+// Returns whether some map of the domain has the label.
 fn is_known(mapped: &[Label<'_>], label: Label<'_>) -> bool {
     mapped
         .iter()

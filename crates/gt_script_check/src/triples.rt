@@ -20,7 +20,7 @@ fn is_unworn(worn: &[&str], name: &[u8]) -> bool {
     !worn.iter().any(|one| one.as_bytes() == name)
 }
 
-// The first type of a triple that no domain has; None for another line.
+// Finds the first type of a triple that no domain has. Returns None for another line.
 fn unworn_in<'t>(
     alloc: Global,
     line: &'t str,

@@ -336,7 +336,7 @@ fn read_copy<'a>(args: &[&'a [u8]]) -> Option<ScriptCall<'a>>
     }
 }
 
-// The reference, if it is the only word.
+// Reads a reference, if it is the only word.
 #[tactic(auto, unfolding(crate::specs::Calls::only_reference))]
 fn only_reference(args: &[&[u8]]) -> Option<GrantRef>
     ensures { result ≡ only_reference (map (λ word. word.now) args.now) }
@@ -347,7 +347,7 @@ fn only_reference(args: &[&[u8]]) -> Option<GrantRef>
     }
 }
 
-// The number of 32 bits, if it is the only word.
+// Reads a number of 32 bits, if it is the only word.
 #[tactic(auto, unfolding(crate::specs::Calls::only_number))]
 fn only_number(args: &[&[u8]]) -> Option<u32>
     ensures { result ≡ only_number (map (λ word. word.now) args.now) }
@@ -358,7 +358,7 @@ fn only_number(args: &[&[u8]]) -> Option<u32>
     }
 }
 
-// The domain, if it is the only word.
+// Reads a domain, if it is the only word.
 #[tactic(auto, unfolding(crate::specs::Calls::only_domain))]
 fn only_domain(args: &[&[u8]]) -> Option<DomId>
     ensures { result ≡ only_domain (map (λ word. word.now) args.now) }

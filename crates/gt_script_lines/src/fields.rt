@@ -196,7 +196,7 @@ pub fn name<'a>(word: &'a [u8]) -> Option<Text<'a>>
     }
 }
 
-// The bytes before the first colon, and those after it.
+// Splits a word at its first colon.
 #[tactic(auto, unfolding(crate::specs::Fields::at_colon))]
 fn split_at_colon<'a>(word: &'a [u8]) -> Option<(&'a [u8], &'a [u8])>
     ensures { option_map (λ parts. (parts.0.now, parts.1.now)) result ≡ at_colon word.entry.now }

@@ -9,7 +9,7 @@ use gt_types::{Denial, Facts, TypeId};
 use std::alloc::AllocError;
 use std::convert::AsSlice;
 
-// The name at a type's index in `names`; empty if the index is out of range.
+// Returns the name at a type's index in `names`; empty if the index is out of range.
 fn name_of<'n, N: AsSlice<u8>>(names: &'n [N], id: TypeId) -> &'n [u8]
     ensures { result.now ≡ type_text N.items names.entry.now id }
 {

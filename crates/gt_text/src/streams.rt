@@ -17,7 +17,7 @@ const PIECE: usize = 4_096;
 /// The number of waiting bytes at which `send` writes them.
 pub const CHUNK: usize = 65_536;
 
-// The error for a failed call of `read`.
+// Returns the error for a failed call of `read`.
 fn fault_of(error: &Error) -> ReadFault
     ensures { (result ≡ ReadFault.Memory) ↔ (error_kind error.now ≡ ErrorKind.OutOfMemory) }
 {

@@ -5,7 +5,7 @@ ghost use Rattle.gt_text.specs.Texts.{IsBadAt, StaysText};
 
 use std::alloc::AllocError;
 
-// The number of line feeds in `bytes`.
+// Counts the line feeds in `bytes`.
 fn newlines(bytes: &[u8]) -> usize
     ensures { result ≡ count_by (λ b. b == 10) bytes.now }
 {
