@@ -38,7 +38,7 @@ pub enum FindingKind {
     Note,
 }
 
-/// A finding. Lines and columns are counted from 1.
+/// A finding. Lines and columns are counted from 1, columns in bytes.
 #[derive(Drop)]
 pub struct Finding {
     pub kind: FindingKind,

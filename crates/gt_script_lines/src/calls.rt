@@ -23,56 +23,56 @@ const DEST_GREF: u16 = 2;
 /// handle of the last map with that label.
 #[derive(Debug, Drop)]
 pub enum ScriptCall<'a> {
-    /// `grant REF page|sub|via ..`: any entry but the invalid one. In an entry, 32752 names no domain.
+    /// `grant REF page|sub|via ..`: publishes an entry, any but the invalid one. In an entry, 32752 names no domain.
     Grant {
         gref: GrantRef,
         entry: Entry,
     },
-    /// `bytes REF HEX`: the entry that these bytes encode; `hex_bytes` decodes them.
+    /// `bytes REF HEX`: publishes the entry that these bytes encode; `hex_bytes` decodes them.
     GrantBytes {
         gref: GrantRef,
         hex: Text<'a>,
     },
-    /// `revoke REF`
+    /// `revoke REF`: makes the entry invalid, if no pin on it is live.
     Revoke {
         gref: GrantRef,
     },
-    /// `withdraw REF`
+    /// `withdraw REF`: makes the entry invalid, and leaves its pins.
     Withdraw {
         gref: GrantRef,
     },
-    /// `demote REF`
+    /// `demote REF`: makes the entry read-only.
     Demote {
         gref: GrantRef,
     },
-    /// `promote REF`
+    /// `promote REF`: makes the entry writable.
     Promote {
         gref: GrantRef,
     },
-    /// `map LABEL DOM REF FLAGS`: the label names the handle that the call returns.
+    /// `map LABEL DOM REF FLAGS`: maps, with GNTMAP flags; the label names the handle that the call returns.
     Map {
         label: Text<'a>,
         dom: DomId,
         gref: GrantRef,
         flags: u32,
     },
-    /// `unmap LABEL`
+    /// `unmap LABEL`: ends the mapping.
     Unmap {
         label: Text<'a>,
     },
-    /// `load LABEL OFF LEN`
+    /// `load LABEL OFF LEN`: reads LEN bytes through the mapping, starting at offset OFF.
     Load {
         label: Text<'a>,
         off: u16,
         len: u16,
     },
-    /// `store LABEL OFF HEX`: writes the bytes, which `hex_bytes` decodes, starting at offset OFF.
+    /// `store LABEL OFF HEX`: writes the bytes, which `hex_bytes` decodes, through the mapping.
     Store {
         label: Text<'a>,
         off: u16,
         hex: Text<'a>,
     },
-    /// `peek FRAME OFF LEN`: reads a frame of the caller, by its number.
+    /// `peek FRAME OFF LEN`: reads LEN bytes of a frame of the caller.
     Peek {
         frame: u64,
         off: u16,
@@ -87,19 +87,19 @@ pub enum ScriptCall<'a> {
     /// `copy END END LEN`: copies `len` bytes from the first end, the source, to the second. An end is
     /// `gref DOM REF OFF`, what an entry of the domain grants, or `frame DOM FRAME OFF`, a frame of the domain.
     Copy(CopyArgs),
-    /// `version V`: any number of 32 bits, even if it is not a version.
+    /// `version V`: sets the version of the caller's table, to any number of 32 bits.
     SetVersion {
         version: u32,
     },
-    /// `setup N`
+    /// `setup N`: lets the caller's table grow to N frames.
     SetupTable {
         frames: u32,
     },
-    /// `size DOM`
+    /// `size DOM`: asks for the number of frames of the domain's table, and for its maximum.
     QuerySize {
         dom: DomId,
     },
-    /// `getversion DOM`
+    /// `getversion DOM`: asks for the version of the domain's table.
     GetVersion {
         dom: DomId,
     },

@@ -6,7 +6,7 @@ ghost use Rattle.gt_script_lines.specs.Words.{is_nonempty as nonempty};
 
 use std::alloc::{AllocError, Global};
 
-/// Splits a text into lines. Each ends with LF, without a CR before it.
+/// Splits a text into lines at each LF, and drops a CR before it.
 pub fn text_lines<'a>(alloc: Global, text: &'a str) -> Result<Vec<&'a str>, AllocError>
     ensures { IfOk result (λ v. map (λ line. line.now) v.items ≡ lines_in text.entry.now) }
 {

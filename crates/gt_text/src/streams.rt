@@ -8,7 +8,7 @@ use crate::fault::{ReadFault, WriteFault};
 use std::alloc::Global;
 use std::io::{Error, ErrorKind, Read, Write};
 
-/// The maximum number of bytes that a read takes: one more than a text may have.
+/// The maximum number of bytes that `read_text` reads: one more than a text may have.
 pub const READ_LIMIT: usize = 1_048_577;
 
 // The size of the buffer of one call of `read`, in bytes.
