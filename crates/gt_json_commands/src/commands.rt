@@ -111,8 +111,9 @@ fn pass_entries<W: Write>(
 
 /// Plays a script as [`play`] does, and writes its text as JSON Lines.
 ///
-/// # Errors Those of `play`. At a fault of the script or a failed read nothing was written; after a failed write or
-/// allocation, a prefix of the JSON or nothing.
+/// # Errors
+/// Those of `play`. At a fault of the script or a failed read nothing was written; after a failed write or allocation,
+/// a prefix of the JSON or nothing.
 pub fn play_json<R: Read, W: Write>(
     alloc: Global,
     reader: &mut R,
@@ -152,7 +153,8 @@ pub fn run_json<R: Threads + Wait + Sync, I: Read, W: Write, G: Gate + Sync>(
 
 /// Lists the triples of a policy as [`policy`] does, and writes them as JSON Lines.
 ///
-/// # Errors Those of `policy`. At a fault of the policy or a failed read nothing was written; after a failed write or
+/// # Errors
+/// Those of `policy`. At a fault of the policy or a failed read nothing was written; after a failed write or
 /// allocation, a prefix of the JSON or nothing.
 pub fn policy_json<R: Read, W: Write>(
     alloc: Global,

@@ -5,8 +5,8 @@
 //! `push_block_reason` does so for a policy block, and `push_refusals` prints the rules that are near misses for a call
 //! that the policy refused.
 //!
-//! It is proved that the printed word is the first one of the line that does not fit a form: the words before it begin
-//! a line that can be read, and with it they don't. The texts of the reasons are tested.
+//! It is proved that the words before the printed one fit an example of a line, and that the printed one does not fit
+//! the same example. The texts of the reasons are tested.
 //!
 //! It uses `gt_script_lines` and `gt_script` (lines and faults), `gt_policy_check` and `gt_policy` (policies),
 //! `gt_types` (limits) and `gt_text` (texts).

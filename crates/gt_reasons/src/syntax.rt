@@ -22,7 +22,8 @@ fn examples<'f>(alloc: Global, form: &[&'f [u8]]) -> Result<Vec<&'f [u8]>, Alloc
     Ok(words)
 }
 
-/// Returns the index of the first word of a line that fits no form; the number of words if one is missing.
+/// Returns the maximum number of first words of a line that fit a form. It is the index of the word that does not fit,
+/// or the number of words if one is missing.
 pub fn first_misfit(alloc: Global, words: &[&[u8]]) -> Result<usize, AllocError>
     ensures { IfOk result (IsMisfit (map (λ w. w.now) words.now)) }
 {

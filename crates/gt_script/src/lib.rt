@@ -6,7 +6,7 @@
 //! where it is depends on the lines before it, and is defined here.
 //!
 //! It is proved that the result is exactly the script that the bytes mean, or exactly the first fault with its line,
-//! unless an allocation fails; and that a script for `run` has no domain that waits for ever, if every call is answered.
+//! unless an allocation fails; and that in a script for `run` no domain waits for ever, if every call is answered.
 //!
 //! It uses `gt_types` (domains and triples), `gt_policy` (the policy block), `gt_text` (bytes as text),
 //! `gt_script_lines` and `indexmap` (the names of flags).
