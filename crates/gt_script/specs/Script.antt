@@ -44,7 +44,7 @@ is_misplaced c (line.Wear first) = (has_no_rights c || is_some c.wear) || not (i
 is_misplaced c (line.Domain d) = has_no_rights c || has_body c
 is_misplaced c (line.Body id asks) = is_empty c.domains
 
--- the contents that a line adds to, or the fault `config`
+-- the contents after a line, or the fault `config`
 abbrev pub or_config : Option Contents → Result Contents ScriptFaultKind
 or_config (Some c) = Ok c
 or_config None = Err Config
@@ -103,7 +103,7 @@ run_action_in (bodies.Action (actions.Show gref)) = None
 run_action_in (bodies.Signal (signals.Tell flag)) = Some (runs.Tell flag)
 run_action_in (bodies.Signal (signals.Await flag)) = Some (runs.Await flag)
 
--- the contents that a line adds to, or the fault `mode`
+-- the contents after a line, or the fault `mode`
 abbrev pub or_mode : Option Contents → Result Contents ScriptFaultKind
 or_mode (Some c) = Ok c
 or_mode None = Err Mode
