@@ -9,8 +9,8 @@ use gt_types::{Allows, Memory, Perms, TypeId};
 use std::alloc::{AllocError, Global};
 use std::marker::Model;
 
-/// What a policy allows: one set of permissions for each pair of its types. A contract sees the number
-/// of types, and the sets, source by source and in each by target.
+/// What a policy allows: one set of permissions for each pair of its types. A contract sees the number of types, and
+/// the sets by source and then by target.
 #[derive(Debug, Drop)]
 pub struct AllowTable {
     count: u16,
@@ -44,8 +44,8 @@ impl AllowTable {
     ghost use Rattle.gt_policy.specs.Allowing.{may_of};
     ghost use Rattle.gt_allow.specs.Looking.{looks_up};
 
-    /// The table of a policy: it answers each question as the policy does. For each type it walks the
-    /// statements once, and then the types.
+    /// Compiles a policy. The table answers every question as the policy does. The statements are walked once per type.
+    /// The table has one byte for each pair of types, so at most 65,536 bytes. An Err means that an allocation failed.
     pub fn compile(alloc: Global, policy: &Policy) -> Result<AllowTable, Memory>
         ensures { IfOk result (λ table. looks_up table ≡ may_of policy.now) }
     {

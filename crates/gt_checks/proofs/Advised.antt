@@ -130,7 +130,7 @@ asked_lines file text lines q e allowed old new (Err (Text faults.Read)) same is
 asked_lines file text lines q e allowed old new (Err (Text (faults.Utf8 line))) same is w = absurd w
 asked_lines file text lines q e allowed old new (Err (Text (faults.Policy shown))) same is w = absurd w
 
--- the text is no policy
+-- the text is not a policy
 refused : (file text : List ℕ) (q : WhyQuestion) (line : ℕ) (kind : PolicyFaultKind) (old : Option (List ℕ)) → ((f : TokenFault) → fault_shown (record { line = line; kind = kind }) ≡ Some f → Says text (Err f))
     → AskedOf file q text old old (Err (Text (listing_fault_of line kind)))
 refused file text q line kinds.Memory old says = keeps_same old

@@ -13,13 +13,13 @@ use Rattle.gt_policy.specs.Whole.{Says}
 use Rattle.gt_policy.specs.declared.fault.TokenFault.{TokenFault}
 use Rattle.gt_text.specs.Streams.{AppendsBeginning}
 
--- the text is a policy, or it is none
+-- the text is a policy; or it is not
 abbrev pub IsCleanText : List ℕ → Bool → Type 0
 IsCleanText text true = (m : Meaning) × Says text (Ok m)
 IsCleanText text false = (f : TokenFault) × Says text (Err f)
 
--- what was written for a text: at Ok what was found in it, and whether it is a policy; after a failed
--- write a beginning; nothing where memory is refused
+-- What was written for a text, by the result: at Ok its findings, and the result is whether it is a policy; after a
+-- failed write a prefix; after a failed allocation nothing.
 abbrev pub CheckedText : List ℕ → Option (List ℕ) → Option (List ℕ) → Result Bool ListingFault → Type 0
 CheckedText text old new (Ok clean) =
     (found : List Finding) × (report : List ℕ) × Judges text found × IsCleanText text clean × Appends old new report
@@ -29,7 +29,7 @@ CheckedText text old new (Err Read) = ⊥
 CheckedText text old new (Err (Utf8 line)) = ⊥
 CheckedText text old new (Err (Policy shown)) = ⊥
 
--- the same for bytes; nothing where they are too many or no UTF-8
+-- the same for bytes; nothing if they are too many or not UTF-8
 abbrev pub Checked : List ℕ → Option (List ℕ) → Option (List ℕ) → Result Bool ListingFault → Type 0
 Checked bytes old new (Ok clean) = IsUtf8 bytes × CheckedText bytes old new (Ok clean)
 Checked bytes old new (Err Write) = (report : List ℕ) × AppendsBeginning old new report

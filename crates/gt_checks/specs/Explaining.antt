@@ -19,7 +19,7 @@ use Rattle.gt_policy.specs.declared.fault.TokenFault.{TokenFault}
 use Rattle.gt_policy.specs.declared.lined.LinedStatement.{LinedStatement}
 use Rattle.gt_text.specs.Streams.{AppendsBeginning}
 
--- the text is a policy, and what its statements explain answers so
+-- the text is a policy, and the answer of its statements is this one
 abbrev pub AnswersWhy : List ℕ → List ℕ → WhyQuestion → WhyAnswer → Explanation → Type 0
 AnswersWhy file text q answer e =
     (m : Meaning) × (xs : List LinedStatement) × Says text (Ok m) × IsLined text xs × IsExplained file q xs e
@@ -29,7 +29,7 @@ abbrev pub answer_for : Bool → WhyAnswer
 answer_for true = answers.Allowed
 answer_for false = answers.Denied
 
--- lines went out, or a beginning of them
+-- the lines went out, or a prefix of them
 abbrev pub WritesLines : List ℕ → Bool → Option (List ℕ) → Option (List ℕ) → Result Bool WhyFault → Type 0
 WritesLines lines allowed old new (Ok answer) = (answer ≡ allowed) × Appends old new lines
 WritesLines lines allowed old new (Err NoSource) = ⊥
@@ -41,8 +41,8 @@ WritesLines lines allowed old new (Err (Text Read)) = ⊥
 WritesLines lines allowed old new (Err (Text (Utf8 line))) = ⊥
 WritesLines lines allowed old new (Err (Text (Policy shown))) = ⊥
 
--- what was written for a question about a text: at Ok the lines of its answer, allowed or denied; nothing where
--- a name of the question is not there
+-- What was written for a question about a text, by the result: at Ok the lines of its answer, allowed or denied;
+-- nothing if a name of the question is unknown.
 abbrev pub AskedOf : List ℕ → WhyQuestion → List ℕ → Option (List ℕ) → Option (List ℕ) → Result Bool WhyFault → Type 0
 AskedOf file q text old new (Ok allowed) =
     (e : Explanation) × AnswersWhy file text q (answer_for allowed) e × Appends old new e.lines.items
@@ -59,7 +59,7 @@ AskedOf file q text old new (Err (Text (Utf8 line))) = ⊥
 AskedOf file q text old new (Err (Text (Policy shown))) =
     (f : TokenFault) × (fault_shown shown ≡ Some f) × Says text (Err f) × Keeps old new
 
--- the same for bytes; nothing where they are too many or no UTF-8
+-- the same for bytes; nothing if they are too many or not UTF-8
 abbrev pub Explained : List ℕ → WhyQuestion → List ℕ → Option (List ℕ) → Option (List ℕ) → Result Bool WhyFault → Type 0
 Explained file q bytes old new (Ok allowed) = IsUtf8 bytes × AskedOf file q bytes old new (Ok allowed)
 Explained file q bytes old new (Err NoSource) = IsUtf8 bytes × AskedOf file q bytes old new (Err NoSource)

@@ -11,13 +11,13 @@ use Rattle.gt_script.specs.Script.{TellsScript, Wrong}
 use Rattle.gt_script_check.specs.Judging.{JudgesScript}
 use Rattle.gt_text.specs.Streams.{AppendsBeginning}
 
--- the bytes are a script for `play` or for `run`, or for neither
+-- the bytes are a script for `play` or for `run`; or they are neither
 abbrev pub IsScript : List ℕ → Bool → Type 0
 IsScript bytes true = ((c : Contents) × TellsScript bytes (Ok c)) ⊎ ((c : RunContents) × RunTells bytes (Ok c))
 IsScript bytes false = (play : Wrong) × (run : Wrong) × TellsScript bytes (Err play) × RunTells bytes (Err run)
 
--- what was written for a script: at Ok what was found in it, and whether it is one; after a failed write a beginning;
--- nothing where memory is refused or the text is not read
+-- What was written for a script, by the result: at Ok its findings, and the result is whether it is one; after a failed
+-- write a prefix; after a failed allocation or read nothing.
 abbrev pub CheckedScript : List ℕ → Option (List ℕ) → Option (List ℕ) → Result Bool ListingFault → Type 0
 CheckedScript bytes old new (Ok clean) =
     (found : List Finding) × (report : List ℕ) × JudgesScript bytes found × IsScript bytes clean

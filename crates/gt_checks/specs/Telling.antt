@@ -1,4 +1,4 @@
--- What is written of the findings in a text.
+-- What is written for the findings of a text.
 use Rattle.std.specs.Prelude.{◌≡◌, ℕ, Bool, not, List, Option, Result, Ok, Err}
 use Rattle.std.specs.List.{list_any}
 use Rattle.std.specs.Io.KnownBytes.{Appends, Keeps}
@@ -8,7 +8,7 @@ use Rattle.gt_policy_list.specs.declared.fault.ListingFault.{ListingFault}
 use Rattle.gt_policy_list.specs.declared.fault.ListingFault.TheVariants.{Utf8, Policy, Memory, Read, Write}
 use Rattle.gt_text.specs.Streams.{AppendsBeginning}
 
--- findings went out, or a beginning of them; the answer is that none is an error
+-- the findings went out, or a prefix of them; the result is whether none is an error
 abbrev pub TellsFindings : List Finding → Option (List ℕ) → Option (List ℕ) → Result Bool ListingFault → Type 0
 TellsFindings found old new (Ok clean) =
     (clean ≡ not (list_any (λ x. is_error x.kind) found)) × ((report : List ℕ) × Appends old new report)

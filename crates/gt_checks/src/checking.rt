@@ -1,4 +1,4 @@
-//! A policy in, and what is wrong or useless in it out.
+//! Checks a policy, and writes the findings.
 ghost use Rattle.std.specs.Prelude.{◌≡◌, ◌+◌, ℕ, List, take};
 ghost use Rattle.gt_types.specs.declared.limits.TheConstants.{LONGEST_TEXT};
 ghost use Rattle.gt_text.specs.Streams.{OfInput};
@@ -26,7 +26,7 @@ fn check_text<W: Write>(
     }
 }
 
-// Checks the policy that bytes say, of which those up to the limit were read.
+// Checks the policy of the bytes that were read: all, or the first up to the read limit.
 fn check_bytes<W: Write>(
     alloc: Global,
     file: &str,
@@ -43,9 +43,10 @@ fn check_bytes<W: Write>(
     }
 }
 
-/// Writes what is wrong or useless in the policy of the reader's text, as compilers print it, or as an object a line.
-/// `file` is the name that the lines begin with. It answers whether the text is a policy. At most 1,048,577 bytes are
-/// read; a text that is too long or no UTF-8 writes nothing.
+/// Checks a policy, and writes the findings in the layout of compilers, or as one JSON object per line. The lines begin
+/// with the name `file`. Returns whether the text is a policy. At most 1,048,577 bytes are read. An Err gives why the
+/// text was not checked (it is too long or not UTF-8, or a read or an allocation failed), and then nothing was written;
+/// or a write failed, and a prefix of the findings was written.
 pub fn check<R: Read, W: Write>(
     alloc: Global,
     file: &str,

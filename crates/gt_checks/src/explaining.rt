@@ -1,4 +1,4 @@
-//! A question about a policy in, and the lines of its answer out.
+//! Answers a question about a policy, and writes the lines.
 ghost use Rattle.std.specs.Prelude.{◌≡◌, ◌+◌, ℕ, List, take};
 ghost use Rattle.gt_types.specs.declared.limits.TheConstants.{LONGEST_TEXT};
 ghost use Rattle.gt_text.specs.Streams.{OfInput};
@@ -44,7 +44,7 @@ fn explain_text<W: Write>(
     }
 }
 
-// Answers a question about the policy that bytes say, of which those up to the limit were read.
+// Answers a question about the policy of the bytes that were read: all, or the first up to the read limit.
 fn explain_bytes<W: Write>(
     alloc: Global,
     file: &str,
@@ -61,9 +61,10 @@ fn explain_bytes<W: Write>(
     }
 }
 
-/// Writes whether the policy of the reader's text allows what is asked, and the lines of the statements that grant it,
-/// or of those that come near. `file` is the name that the lines begin with. It answers whether it is allowed. At most
-/// 1,048,577 bytes are read; a text that is no policy writes nothing, nor a question with a name that is not there.
+/// Answers a question about a policy, and writes the lines of the statements that grant what is asked, or of the near
+/// misses. The lines begin with the name `file`. Returns whether it is allowed. At most 1,048,577 bytes are read. If
+/// the text is not a policy, or a name of the question is unknown, nothing is written. After a failed write, a prefix
+/// of the lines was written.
 pub fn why<R: Read, W: Write>(
     alloc: Global,
     file: &str,

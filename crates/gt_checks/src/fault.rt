@@ -1,18 +1,18 @@
-//! Why a question is not answered.
+//! The error of `why`.
 use gt_policy_list::ListingFault;
 use std::error::Error;
 use std::fmt;
 
-/// Why a question is not answered. It prints as one line, without its end.
+/// The error of `why`. It prints as one line, without a line feed.
 #[derive(Debug, Drop)]
 pub enum WhyFault {
-    /// The text is no policy, or could not be read, or the lines not be written.
+    /// The text is not a policy or was not read, the lines were not written, or an allocation failed.
     Text(ListingFault),
-    /// The source is no declared type. Nothing was written.
+    /// The source is not a declared type. Nothing was written.
     NoSource,
-    /// The target is no declared type. Nothing was written.
+    /// The target is not a declared type. Nothing was written.
     NoTarget,
-    /// The word is none of the seven permissions. Nothing was written.
+    /// The word is not one of the seven permissions. Nothing was written.
     NoPermission,
 }
 

@@ -1,4 +1,4 @@
-//! A script in, and what is wrong or useless in it out.
+//! Checks a script, and writes the findings.
 ghost use Rattle.std.specs.Prelude.{◌≡◌, ◌+◌, ℕ, List, take};
 ghost use Rattle.gt_types.specs.declared.limits.TheConstants.{LONGEST_TEXT};
 ghost use Rattle.gt_text.specs.Streams.{OfInput};
@@ -11,7 +11,7 @@ use gt_text::{read_text, text_of};
 use std::alloc::Global;
 use std::io::{Read, Write};
 
-// The text of a script; empty if it is no UTF-8, so that no line of it is shown.
+// Returns the text of a script; empty if it is not UTF-8, so that no line of it is shown.
 fn shown_text<'a>(input: &'a [u8]) -> &'a str {
     match text_of(input) {
         Ok(text) => text,
@@ -19,7 +19,7 @@ fn shown_text<'a>(input: &'a [u8]) -> &'a str {
     }
 }
 
-// Checks the script that bytes say, of which those up to the limit were read.
+// Checks the script of the bytes that were read: all, or the first up to the read limit.
 fn check_script_bytes<W: Write>(
     alloc: Global,
     file: &str,
@@ -43,9 +43,10 @@ fn check_script_bytes<W: Write>(
     }
 }
 
-/// Writes what is wrong or useless in the script of the reader's text and in its policy block, as compilers print it,
-/// or as an object a line. `file` is the name that the lines begin with. It answers whether the text is a script, for
-/// `play` or for `run`. At most 1,048,577 bytes are read; a text that is too long or no UTF-8 is told as a finding.
+/// Checks a script and its policy block, and writes the findings in the layout of compilers, or as one JSON object per
+/// line. The lines begin with the name `file`. Returns whether the text is a script, for `play` or for `run`. At most
+/// 1,048,577 bytes are read. A text that is too long or not UTF-8 has a finding. After a failed read or allocation
+/// nothing was written, after a failed write a prefix.
 pub fn check_script<R: Read, W: Write>(
     alloc: Global,
     file: &str,

@@ -1,4 +1,4 @@
-//! What was found in a text, written for its author.
+//! Writes findings.
 ghost use Rattle.std.specs.Prelude.{◌≡◌};
 ghost use Rattle.std.specs.List.{list_any};
 ghost use Rattle.gt_policy_check.specs.Check.{is_error};
@@ -10,7 +10,6 @@ use gt_text::finish;
 use std::alloc::{AllocError, Global};
 use std::io::Write;
 
-// Whether some finding is an error.
 fn has_error(found: &[Finding]) -> bool
     ensures { result ≡ list_any (λ x. is_error x.kind) found.now }
 {
@@ -19,7 +18,7 @@ fn has_error(found: &[Finding]) -> bool
         .any(|finding| matches!(finding.kind, FindingKind::Fault))
 }
 
-// The findings as they are written.
+// Prints the findings as text or as JSON.
 fn report(
     alloc: Global,
     file: &str,
@@ -36,7 +35,7 @@ fn report(
     Ok(out)
 }
 
-/// Writes findings, and answers whether none of them is an error.
+/// Writes findings, and returns whether none of them is an error.
 pub(crate) fn tell_findings<W: Write>(
     alloc: Global,
     file: &str,

@@ -36,12 +36,12 @@ told asked input dump old new (Err Memory) says dumped = dumped
 told asked input dump old new (Err Read) says dumped = absurd dumped
 told asked input dump old new (Err Syntax) says dumped = absurd dumped
 
--- what was read says a dump, which was written
+-- what was read gives a dump, which was written
 pub told_all : (asked : DumpOptions) (input all dump : List ℕ) (old new : Option (List ℕ)) (r : Result (Unit {0}) DumpFault) → input ≡ take 1048577 all → length input ≤ 1048576 → SaysDump asked.hex input dump
     → Dumped asked dump old new r → Told asked all old new r
 told_all asked input all dump old new r read few says dumped = subst (λ (l : List ℕ). Told asked l old new r) (whole input all read few) (told asked input dump old new r says dumped)
 
--- what was read says none
+-- what was read gives none
 pub untold : (asked : DumpOptions) (input all : List ℕ) (old : Option (List ℕ)) (fault : DumpFault) → input ≡ take 1048577 all → IsNoDump asked.hex input fault → Told asked all old old (Err fault)
 untold asked input all old Memory read is = keeps_same old
 untold asked input all old Syntax read is = subst (λ (l : List ℕ). Told asked l old old (Err Syntax)) (whole input all read is.0) (is.1, keeps_same old)

@@ -9,7 +9,7 @@ use Rattle.gt_entries.specs.Live.{cleared, live_text}
 use Rattle.gt_entries.specs.Showing.{decoded_text}
 use Rattle.gt_entries.specs.Script.{bytes_call_text}
 
--- what the decoders answer for the bytes of an entry: the entry that they spell, or the
+-- the result of the decoders for the bytes of an entry: the entry that they encode, or the
 -- first field that is refused
 abbrev pub Decodes : ℕ → List ℕ → Result Entry Field → Type 0
 Decodes version bytes (Ok entry) = Spells version bytes entry
@@ -19,7 +19,7 @@ Decodes version bytes (Err field) = first_refused version bytes ≡ Some field
 abbrev pub field_text : ℕ → List ℕ → Result Entry Field → List ℕ
 field_text ref bytes answer = decimal ref ++ codes " " ++ decoded_text answer ++ live_text bytes ++ codes "\n"
 
--- the line of an entry: as it is shown, or as a call of a script, in which an entry that is
+-- the line of an entry: as it is shown, or as a line of a script, in which an entry that is
 -- refused is a comment
 abbrev pub dump_line_text : Option DomId → ℕ → ℕ → List ℕ → Result Entry Field → List ℕ
 dump_line_text None version ref bytes answer = field_text ref bytes answer
@@ -27,7 +27,7 @@ dump_line_text (Some dom) version ref bytes (Ok entry) =
     bytes_call_text dom version ref entry (cleared bytes) (live_text bytes)
 dump_line_text (Some dom) version ref bytes (Err field) = codes "# " ++ field_text ref bytes (Err field)
 
--- the line says what the decoders answer for the bytes with the two live bits cleared
+-- the line is that of the result of the decoders for the bytes with the two live bits cleared
 abbrev pub IsEntryLine : DumpOptions → ℕ → List ℕ → List ℕ → Type 0
 IsEntryLine asked ref bytes line =
     (answer : Result Entry Field) × Decodes asked.version (cleared bytes) answer
@@ -42,15 +42,15 @@ is_left_out asked bytes =
 abbrev pub TellsEntry : DumpOptions → ℕ → List ℕ → List ℕ → Type 0
 TellsEntry asked ref bytes text = MatchBool (is_left_out asked bytes) (text ≡ []) (IsEntryLine asked ref bytes text)
 
--- the bytes of the entry at this reference: fewer if the dump ends in it (grant_table.h)
+-- the bytes of the entry at this reference; fewer if the dump ends in it (grant_table.h)
 abbrev pub entry_bytes_at : ℕ → List ℕ → ℕ → List ℕ
 entry_bytes_at version dump ref = take (entry_size version) (drop (ref * entry_size version) dump)
 
--- how many entries the dump has, the last one cut off or not
+-- the number of entries of a dump; the last one may be cut off
 abbrev pub entry_count : ℕ → List ℕ → ℕ
 entry_count version dump = (length dump + entry_size version - 1) / entry_size version
 
--- the text of so many entries from the first on: that of one fewer, and then the next one's
+-- the text of the first entries, one after the other
 abbrev pub TellsEntries : DumpOptions → List ℕ → ℕ → List ℕ → Type 0
 TellsEntries asked dump zero text = text ≡ []
 TellsEntries asked dump (suc ref) text =
@@ -61,12 +61,12 @@ TellsEntries asked dump (suc ref) text =
 abbrev pub TellsDump : DumpOptions → List ℕ → List ℕ → Type 0
 TellsDump asked dump text = TellsEntries asked dump (entry_count asked.version dump) text
 
--- the most bytes of a dump: 16 frames
+-- the maximum number of bytes of a dump: 16 frames
 abbrev pub most_bytes : ℕ
 most_bytes = 65536
 
--- what was written for a dump: at Ok its text, whole; after a failed write a beginning of it; nothing
--- if it is too long, or if memory is refused
+-- What was written for a dump, by the result: at Ok its whole text; after a failed write a prefix of it; nothing
+-- if the dump is too long, or if an allocation failed.
 abbrev pub Dumped : DumpOptions → List ℕ → Option (List ℕ) → Option (List ℕ) → Result (Unit {0}) DumpFault → Type 0
 Dumped asked dump old new (Ok done) =
     (text : List ℕ) × (length dump ≤ most_bytes) × TellsDump asked dump text × Appends old new text
@@ -81,16 +81,16 @@ Dumped asked dump old new (Err Syntax) = ⊥
 abbrev pub digits_of : List ℕ → List ℕ
 digits_of input = filter (λ byte. not (is_ascii_whitespace byte)) input
 
--- the input says these bytes: they are the input, or it is hexadecimal text for them
+-- the dump of an input: the input itself, or the bytes that its hexadecimal text encodes
 abbrev pub SaysDump : Bool → List ℕ → List ℕ → Type 0
 SaysDump false input bytes = bytes ≡ input
 SaysDump true input bytes = decode_of (digits_of input) ≡ Ok bytes
 
--- the input is asked to be hexadecimal text, and is none
+-- the input has to be hexadecimal text, and is not
 abbrev pub IsNoHex : Bool → List ℕ → Type 0
 IsNoHex hex input = (hex ≡ true) × ((why : FromHexError) × (decode_of (digits_of input) ≡ Err why))
 
--- why an input says no bytes: it is too long, or no hexadecimal text; or memory was refused
+-- why an input gives no dump: it is too long, or not hexadecimal text; or an allocation failed
 abbrev pub IsNoDump : Bool → List ℕ → DumpFault → Type 0
 IsNoDump hex input Syntax = (length input ≤ LONGEST_TEXT) × IsNoHex hex input
 IsNoDump hex input Limit = LONGEST_TEXT < length input
@@ -98,8 +98,8 @@ IsNoDump hex input Memory = Unit {0}
 IsNoDump hex input Read = ⊥
 IsNoDump hex input Write = ⊥
 
--- what was written for an input: what is written for the dump that it says, and nothing if it
--- says none, or can't be read
+-- What was written for an input, by the result: what is written for its dump, and nothing if it
+-- gives none, or can't be read.
 abbrev pub Told : DumpOptions → List ℕ → Option (List ℕ) → Option (List ℕ) → Result (Unit {0}) DumpFault → Type 0
 Told asked input old new (Ok done) =
     (dump : List ℕ) × SaysDump asked.hex input dump × Dumped asked dump old new (Ok done)

@@ -1,16 +1,16 @@
--- Why no dump was told, as words.
+-- The words of the errors.
 use Rattle.std.specs.Prelude.{ℕ, List, codes}
 use Rattle.gt_text.specs.declared.fault.ReadFault.{ReadFault}
 use Rattle.gt_text.specs.declared.fault.ReadFault.TheVariants as reads
 use Rattle.gt_entries.specs.declared.fault.DumpFault.{DumpFault}
 use Rattle.gt_entries.specs.declared.fault.DumpFault.TheVariants as faults
 
--- the fault of a read
+-- the error for a failed read
 abbrev pub dump_read_fault : ReadFault → DumpFault
 dump_read_fault reads.Memory = faults.Memory
 dump_read_fault reads.Read = faults.Read
 
--- the word that is printed
+-- the word of an error
 abbrev pub dump_fault_text : DumpFault → List ℕ
 dump_fault_text faults.Memory = codes "memory"
 dump_fault_text faults.Read = codes "read"

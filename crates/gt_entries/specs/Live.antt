@@ -6,7 +6,7 @@ use Rattle.gt_entry.specs.Bytes.{is_set}
 abbrev pub cleared_byte : ℕ → ℕ
 cleared_byte byte = byte - byte / 8 % 4 * 8
 
--- only the bits 3 and 4 of a byte are cleared: the three below and the three above are as they were
+-- only the bits 3 and 4 of a byte are cleared: the three below and the three above are unchanged
 abbrev pub ClearsLiveBits : ℕ → Type 0
 ClearsLiveBits byte =
     (cleared_byte byte / 8 % 4 ≡ 0) × (cleared_byte byte % 8 ≡ byte % 8) × (cleared_byte byte / 32 ≡ byte / 32)

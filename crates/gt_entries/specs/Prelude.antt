@@ -1,4 +1,4 @@
--- The names of other crates, and of the code, that the definitions here speak of.
+-- The names of other crates, and of the code, that the definitions here use.
 pub use Rattle.gt_entries.specs.declared.asked.DumpOptions.{DumpOptions}
 pub use Rattle.gt_entries.specs.declared.fault.DumpFault.{DumpFault}
 pub use Rattle.gt_entries.specs.declared.fault.DumpFault.TheVariants.{Limit, Memory, Read, Syntax, Write}

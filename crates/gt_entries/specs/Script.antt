@@ -1,4 +1,4 @@
--- The lines of a script that grants what a dump has.
+-- The lines of a script that grants the entries of a dump.
 use Rattle.std.specs.Prelude.{ℕ, ◌-◌, ◌%◌, ◌==◌, nat_lt, List, [], ◌∷◌, ◌++◌, take, codes, decimal, if◌then◌else◌}
 use Rattle.hex.specs.Hex.{encode_lower}
 use Rattle.gt_text.specs.Printing.{part_text}
@@ -7,7 +7,7 @@ use Rattle.gt_types.specs.declared.limits.TheConstants.{MAX_FRAMES}
 use Rattle.gt_entry.specs.Entries.{frame_of}
 use Rattle.gt_entry.specs.declared.entry.Entry.{Entry}
 
--- where the frame number begins in an entry of this version; it goes to the entry's end (grant_table.h)
+-- the offset of the frame number in an entry of this version; it extends to the end of the entry (grant_table.h)
 abbrev pub frame_place : ℕ → ℕ
 frame_place version = if version == 2 then 8 else 4
 
@@ -17,7 +17,7 @@ with_frame version number bytes =
     take (frame_place version) bytes
     ++ (number ∷ take (frame_place version - 1) (0 ∷ 0 ∷ 0 ∷ 0 ∷ 0 ∷ 0 ∷ 0 ∷ []))
 
--- the bytes for a script, whose domains have 64 frames at most: a number past those is taken modulo 64
+-- the bytes for a script: a frame number that is not below MAX_FRAMES is taken modulo that
 abbrev pub renumbered : ℕ → Entry → List ℕ → List ℕ
 renumbered version entry bytes =
     if nat_lt (frame_of entry) MAX_FRAMES then bytes else with_frame version (frame_of entry % MAX_FRAMES) bytes
@@ -26,7 +26,7 @@ renumbered version entry bytes =
 abbrev pub frame_note : Entry → List ℕ
 frame_note entry = if nat_lt (frame_of entry) MAX_FRAMES then [] else part_text (codes "frame") (frame_of entry)
 
--- a comment with these notes, and none if there is no note
+-- a comment with these notes, if there are any
 abbrev pub comment_text : List ℕ → List ℕ
 comment_text [] = []
 comment_text (first ∷ rest) = codes " #" ++ (first ∷ rest)

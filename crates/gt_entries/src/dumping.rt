@@ -1,4 +1,4 @@
-//! A dump in, and the lines of its entries out.
+//! Reads a dump and writes the lines of its entries.
 ghost use Rattle.std.specs.Prelude.{◌≡◌, ◌≤◌, ◌++◌, ◌*◌, ◌+◌, ℕ, List, [], OnOk, length, take};
 ghost use Rattle.gt_text.specs.Streams.{OfInput, ConsumesAtMost};
 ghost use Rattle.gt_text.specs.declared.streams.TheConstants.{READ_LIMIT};
@@ -12,10 +12,10 @@ use gt_text::{finish, read_text};
 use std::alloc::{AllocError, Global};
 use std::io::{Read, Write};
 
-// The most bytes of a dump: 16 frames.
+// The maximum number of bytes of a dump: 16 frames.
 const MOST_BYTES: usize = 65_536;
 
-// The bytes of the entry at this reference: fewer if the dump ends in it.
+// Returns the bytes of the entry at this reference; fewer if the dump ends in it.
 fn entry_at<'d>(version: u8, dump: &'d [u8], gref: usize) -> &'d [u8]
     requires few { length dump.now ≤ most_bytes }
     requires within { gref ≤ most_bytes }
@@ -39,7 +39,6 @@ fn count_of(version: u8, dump: &[u8]) -> usize
     (dump.len() + size - 1) / size
 }
 
-// Appends the text of a dump.
 fn push_dump(
     alloc: Global,
     out: &mut Vec<u8>,
@@ -57,8 +56,8 @@ fn push_dump(
     Ok(())
 }
 
-/// Writes the text of a dump: a line for each entry of at most 16 frames. After a failed write a beginning of it went
-/// out; nothing if the dump is longer, or if memory is refused.
+/// Writes the text of a dump of at most 65,536 bytes, 16 frames. After a failed write, a prefix of it has gone out;
+/// after another Err, nothing.
 pub fn write_dump<W: Write>(
     alloc: Global,
     asked: DumpOptions,
@@ -76,7 +75,7 @@ pub fn write_dump<W: Write>(
     Ok(())
 }
 
-// Writes the text of the dump that an input says.
+// Writes the text of the dump that an input gives.
 fn write_input<W: Write>(
     alloc: Global,
     asked: DumpOptions,
@@ -92,11 +91,11 @@ fn write_input<W: Write>(
     }
 }
 
-/// Writes the lines of the entries of the reader's dump, by their references: an entry as a line `show` of a script
-/// prints it, or `refused FIELD`, each with the live bits that its bytes have; or calls of a script.
+/// Reads a dump and writes the lines of its entries, by their references: an entry as a script's `show` prints it, or
+/// `refused FIELD`, each with the live bits of its bytes; or lines of a script that grants the entries.
 ///
-/// A dump has at most 65,536 bytes, 16 frames. At most 1,048,577 bytes are read. An Err says why there is no dump or
-/// why its text was not written; only after a failed write a beginning of it went out.
+/// A dump has at most 65,536 bytes, 16 frames. At most 1,048,577 bytes are read. After a failed write, a prefix of the
+/// text has gone out; after another Err, nothing.
 pub fn entries<R: Read, W: Write>(
     alloc: Global,
     asked: DumpOptions,

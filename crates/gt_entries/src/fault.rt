@@ -1,21 +1,21 @@
-//! Why a dump was not told.
+//! The errors of `entries`.
 use gt_text::{ReadFault, WriteFault};
 use std::alloc::AllocError;
 use std::error::Error;
 use std::fmt;
 
-/// Why a dump was not told to its end. It prints as one word.
+/// The error of `entries`. It prints as one word.
 #[derive(Clone, Copy, Debug, PartialEq, Eq)]
 pub enum DumpFault {
-    /// Memory was refused. Nothing was written.
+    /// An allocation failed. Nothing was written.
     Memory,
     /// A read failed, or the dump can't be opened. Nothing was written.
     Read,
-    /// A write failed. A beginning of the lines was written.
+    /// A write failed. A prefix of the lines was written.
     Write,
     /// The dump has more than 16 frames, or its text more than 1,048,576 bytes. Nothing was written.
     Limit,
-    /// The text is no hexadecimal text. Nothing was written.
+    /// The text is not hexadecimal. Nothing was written.
     Syntax,
 }
 

@@ -7,7 +7,7 @@ use gt_types::LONGEST_TEXT;
 use hex::FromHexError;
 use std::alloc::{AllocError, Global};
 
-// The digits of hexadecimal text, without its blanks and line ends.
+// Removes the blanks and line ends of hexadecimal text.
 fn digits_of(alloc: Global, input: &[u8]) -> Result<Vec<u8>, AllocError>
     ensures { IfOk result (λ digits. digits.items ≡ digits_of input.now) }
 {
@@ -18,8 +18,8 @@ fn digits_of(alloc: Global, input: &[u8]) -> Result<Vec<u8>, AllocError>
         .collect(alloc)
 }
 
-/// The bytes that the input says: its own, or, if it is `hex`, those that its hexadecimal digits say, two digits for
-/// each. An Err says that it is no such text, that it has more than 1,048,576 bytes, or that memory was refused.
+/// Returns the bytes of a dump: the input itself, or if `hex` is true, the bytes that it encodes, two digits for each.
+/// An Err is Syntax for other text, Limit for more than 1,048,576 bytes of input, or Memory.
 pub fn bytes_of(alloc: Global, hex: bool, input: Vec<u8>) -> Result<Vec<u8>, DumpFault>
     ensures says { IfOk result (λ bytes. SaysDump hex input.items bytes.items) }
     ensures few { IfOk result (λ _. length input.items ≤ LONGEST_TEXT) }

@@ -1,8 +1,8 @@
-//! What clearing the live bits leaves.
+//! A law about clearing the live bits.
 ghost use Rattle.std.specs.Prelude.{ℕ};
 ghost use Rattle.gt_entries.specs.Live.{ClearsLiveBits};
 
-/// A law: of a byte only the bits 3 and 4 are cleared.
+/// A law: only bits 3 and 4 of a byte are cleared.
 pub fn only_the_live_bits_are_cleared()
     ensures { (byte : ℕ) → ClearsLiveBits byte }
 {}

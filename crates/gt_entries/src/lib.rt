@@ -1,13 +1,14 @@
-//! What `gthost entries` writes: the entries of a dump of grant-table frames.
+//! `entries`: prints the entries of a dump of grant-table frames.
 //!
-//! `entries` takes the frames of a table from a reader, as they lie in memory or as hexadecimal text,
-//! and writes a line for each entry by its reference: the entry, or the field that is refused. A live
-//! host sets two bits of an entry, reading and writing. They are cleared first and told beside it. So
-//! a dump of a running guest is read too. A script can be asked for instead, which grants the same.
+//! `entries` reads the frames of a table, as they are in memory or as hexadecimal text, and writes a line for each
+//! entry by its reference: the entry, or the field that is refused. A live host sets two bits of an entry, reading and
+//! writing (`GTF_reading` and `GTF_writing` of `grant_table.h`). They are cleared first and printed after the entry, so
+//! a dump of a running guest is read too. The lines can also be those of a script that grants the same.
 //!
-//! What holds: each line is what the decoders of `gt_entry` answer for those bytes with the two bits
-//! cleared, for each entry once, in order, and nothing else goes out (`Dumped`).
-//! It uses `gt_entry`, `gt_types`, `gt_text` (numbers), `gt_text` (reads and writes) and `hex`.
+//! It is proved that each line is what the decoders of `gt_entry` return for the bytes with the two bits cleared, for
+//! each entry once, in order, and that nothing else goes out (`Dumped`).
+//!
+//! It uses `gt_entry`, `gt_types`, `gt_text` (texts, reads and writes) and `hex`.
 #![tactic(auto)]
 
 mod asked;

@@ -14,14 +14,14 @@ use gt_text::{push_number, push_text};
 use gt_types::Field;
 use std::alloc::{AllocError, Global};
 
-// What the decoders answer.
+// Decodes the bytes of an entry without its live bits.
 fn answer_of(version: u8, plain: &[u8]) -> Result<Entry, Field>
     ensures { Decodes version plain.now result }
 {
     decode(version, plain)
 }
 
-// Appends an entry as it is shown.
+// Appends the line of an entry.
 fn push_shown(
     out: &mut Vec<u8>,
     gref: usize,
@@ -37,7 +37,7 @@ fn push_shown(
     push_text(out, "\n")
 }
 
-// Appends the line for what the decoders answer.
+// Appends the line of an entry, or that of a script if one is asked for.
 fn push_answered(
     alloc: Global,
     out: &mut Vec<u8>,
@@ -63,7 +63,7 @@ fn push_answered(
     }
 }
 
-/// How many bytes an entry has in a table of this version.
+/// Returns the number of bytes of an entry in a table of this version.
 pub(crate) fn entry_size(version: u8) -> usize
     ensures { result ≡ entry_size version }
 {
@@ -82,8 +82,7 @@ fn is_left_out(asked: DumpOptions, bytes: &[u8]) -> bool
     !asked.all && bytes.len() == entry_size(asked.version) && is_zero(bytes)
 }
 
-/// Appends the text of an entry: its line, or nothing if it is left out. After an Err a part of
-/// the line may be there.
+/// Appends the line of an entry, or nothing if it is left out. After an Err, part of the line may have been appended.
 pub fn push_entry_lines(
     alloc: Global,
     out: &mut Vec<u8>,

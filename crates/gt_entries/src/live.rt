@@ -5,14 +5,14 @@ ghost use Rattle.gt_entries.specs.Live.{cleared_byte, cleared, live_text};
 use gt_text::push_text;
 use std::alloc::{AllocError, Global};
 
-// The byte without its bits 3 and 4.
+// Clears bits 3 and 4.
 fn cleared_byte(byte: u8) -> u8
     ensures { result ≡ cleared_byte byte }
 {
     byte - byte / 8 % 4 * 8
 }
 
-/// The bytes of an entry without the two bits that a live host sets: reading and writing.
+/// Returns the bytes of an entry with `GTF_reading` and `GTF_writing` cleared (`grant_table.h`).
 pub fn cleared(alloc: Global, bytes: &[u8]) -> Result<Vec<u8>, AllocError>
     ensures { IfOk result (λ plain. plain.items ≡ cleared bytes.now) }
 {

@@ -1,4 +1,4 @@
-//! The calls of a script that grants what a dump has.
+//! The lines of a script that grants the entries of a dump.
 ghost use Rattle.std.specs.Prelude.{◌≡◌, ◌++◌, IfOk, OnOk, codes};
 ghost use Rattle.hex.specs.Hex.{encode_lower};
 ghost use Rattle.gt_entries.specs.Live.{live_text};
@@ -10,14 +10,14 @@ use gt_text::{push_number, push_part, push_text};
 use gt_types::{DomId, MAX_FRAMES};
 use std::alloc::{AllocError, Global};
 
-// The offset at which the frame number begins in an entry of this version; it goes to the entry's end.
+// Returns the offset of the frame number in an entry of this version; it extends to the end of the entry.
 fn frame_place(version: u8) -> usize
     ensures { result ≡ frame_place version }
 {
     if version == 2 { 8 } else { 4 }
 }
 
-// The bytes of an entry with another frame number.
+// Replaces the frame number of an entry.
 fn with_frame(version: u8, number: u8, bytes: Vec<u8>) -> Result<Vec<u8>, AllocError>
     ensures { IfOk result (λ v. v.items ≡ with_frame version number bytes.items) }
 {
@@ -29,7 +29,7 @@ fn with_frame(version: u8, number: u8, bytes: Vec<u8>) -> Result<Vec<u8>, AllocE
     Ok(bytes)
 }
 
-// The bytes of the entry for a script, with a frame that a domain can have.
+// Replaces a frame number that is not below MAX_FRAMES by its remainder.
 fn renumbered(version: u8, entry: Entry, bytes: Vec<u8>) -> Result<Vec<u8>, AllocError>
     ensures { IfOk result (λ v. v.items ≡ renumbered version entry bytes.items) }
 {
@@ -52,7 +52,7 @@ fn push_frame_note(out: &mut Vec<u8>, entry: Entry) -> Result<(), AllocError>
     push_part(out, "frame", frame)
 }
 
-// Appends what the bytes of the call don't say, as a comment.
+// Appends a comment with the true frame number and the live bits, if there are any.
 fn push_comment(
     alloc: Global,
     out: &mut Vec<u8>,
@@ -86,8 +86,8 @@ fn push_hex(
     push_text(out, digits.as_str())
 }
 
-/// Appends the call by which a domain grants the entry, whose bytes without the live bits are
-/// `plain`. After an Err a part of it may be there.
+/// Appends the line by which a domain grants the entry; `plain` has its bytes without the live bits. After an Err, part
+/// of it may have been appended.
 pub fn push_call(
     alloc: Global,
     out: &mut Vec<u8>,

@@ -1,4 +1,4 @@
--- What ends a run, for its caller.
+-- The errors of a run.
 use Rattle.std.specs.Prelude.{ℕ, List, Result, Ok, Err, codes}
 use Rattle.gt_policy.specs.Texts.{fault_text as policy_fault_text}
 use Rattle.gt_script.specs.Faults.{script_fault_text}
@@ -11,24 +11,24 @@ use Rattle.gt_host.specs.declared.fault.StepsFault.TheVariants as runs
 use Rattle.gt_host.specs.declared.fault.PlayFault.{PlayFault}
 use Rattle.gt_host.specs.declared.fault.PlayFault.TheVariants as faults
 
--- what ends a run that has no script
+-- the error of a run for a script that was not parsed
 abbrev pub fault_of : ScriptError → PlayFault
 fault_of errors.Memory = faults.Memory
 fault_of (errors.Fault fault) = faults.Script fault
 fault_of (errors.Policy fault) = faults.Policy fault
 
--- what ends a run that has no text
+-- the error of a run for a failed read
 abbrev pub read_fault : ReadFault → PlayFault
 read_fault reads.Memory = faults.Memory
 read_fault reads.Read = faults.Read
 
--- what ends a run of steps
+-- the result of a run for that of its steps
 abbrev pub play_ended : Result (Unit {0}) StepsFault → Result (Unit {0}) PlayFault
 play_ended (Ok done) = Ok done
 play_ended (Err runs.Memory) = Err faults.Memory
 play_ended (Err runs.Write) = Err faults.Write
 
--- what ends a run, as one line: a fault of the script with its line, or a word
+-- the text of an error, as one line
 abbrev pub play_fault_text : PlayFault → List ℕ
 play_fault_text (faults.Script fault) = script_fault_text fault
 play_fault_text (faults.Policy fault) = policy_fault_text fault.line fault.kind

@@ -10,15 +10,15 @@ use Rattle.gt_host.specs.Auditing.{audit_text}
 use Rattle.gt_host.specs.Rights.{may_by, may_in}
 use Rattle.gt_host.specs.Runs.{Progress, IsRunOf, KnowsOpen, open_lines}
 
--- the domains of the script and its first generation are within the limits
--- of a run, and each step is one of a domain of it
+-- The domains of the script and its first generation are within the limits
+-- of a run, and each step is one of its domains.
 abbrev pub CanStart : Contents → Type 0
 CanStart c =
     AreFaultless c.domains × (1 ≤ length c.domains) × (first_gen c ≤ LAST_GENERATION)
     × All (λ s. IsTrue (is_taken c.domains s.dom)) c.steps
 
--- what is fixed for the run of a script: its domains, what its policy or
--- its triples allow, and the first generation
+-- the setting of a script: its domains, what its policy or its triples allow, and
+-- the first generation
 abbrev pub setting_of_script : Contents → Setting
 setting_of_script c = record { domains = c.domains; first_generation = first_gen c; may = may_in c }
 
@@ -29,55 +29,55 @@ pub record StartsFor (c : Contents) (core : CoreModel ScriptPolicy) : Type 0 whe
   pub rights : may_by core.rights ≡ may_in c
   pub stands : CoreStands (setting_of core.config (may_by core.rights)) [] core.state
 
--- The steps lead here, what their events did is a legal trace, and the calls that are
--- open are those of the trace. Asked of the last point, it holds at the
+-- The steps lead here, what their events did is a legal trace, and the open calls are those
+-- of the trace. If this holds at the last point of a run, it holds at the
 -- earlier ones too, since a legal trace begins and answers calls one at a time.
 abbrev pub IsLegalRunOf : Contents → List ScriptStep → Progress → Type 0
 IsLegalRunOf c steps p =
     IsRunOf (setting_of_script c) (type_names c) steps p × Legal (setting_of_script c) p.events p.trace × KnowsOpen p
 
--- the text of a run that has come to the end of the script: the lines of
--- its steps, and those of the calls that are open
+-- the text of a run that came to the end of the script: the lines of
+-- its steps, and those of the open calls
 abbrev pub play_text : Contents → Progress → List ℕ
 play_text c p = p.text ++ open_lines c.domains p.open_steps
 
--- that text, and if the audit is asked for the records of what the run did
+-- that text, and if the audit is on the records of what the run did
 abbrev pub audited_text : Contents → Bool → Progress → List ℕ
 audited_text c audit p = play_text c p ++ audit_text audit (setting_of_script c) (type_names c) p.trace
 
--- the text of the script's run went out, with its audit if that is asked for
+-- the text of the script's run went out, with its audit if that is on
 abbrev pub WritesRun : Contents → Bool → Option (List ℕ) → Option (List ℕ) → Type 0
 WritesRun c audit old new = (p : Progress) × IsLegalRunOf c c.steps p × Appends old new (audited_text c audit p)
 
--- a beginning of the text went out, of a run that came some way
+-- a prefix of the text went out, of a run that stopped early
 abbrev pub BeginsSome : Contents → Option (List ℕ) → Option (List ℕ) → Type 0
 BeginsSome c old new =
     (steps : ℕ) × (p : Progress) × IsLegalRunOf c (take steps c.steps) p × AppendsBeginning old new p.text
 
--- a beginning of the text went out, of a run that came to the end
+-- a prefix of the text went out, of a run that came to the end
 abbrev pub BeginsPlay : Contents → Bool → Option (List ℕ) → Option (List ℕ) → Type 0
 BeginsPlay c audit old new =
     (p : Progress) × IsLegalRunOf c c.steps p × AppendsBeginning old new (audited_text c audit p)
 
--- a beginning of the text went out
+-- a prefix of the text of a run went out
 abbrev pub BeginsRun : Contents → Bool → Option (List ℕ) → Option (List ℕ) → Type 0
 BeginsRun c audit old new = BeginsSome c old new ⊎ BeginsPlay c audit old new
 
--- what went out is a beginning of the text of each run that comes to the end
+-- what went out is a prefix of the text of each run that comes to the end
 abbrev pub BeginsEvery : Contents → Bool → Option (List ℕ) → Option (List ℕ) → Type 0
 BeginsEvery c audit old new =
     (p : Progress) → IsLegalRunOf c c.steps p → AppendsBeginning old new (audited_text c audit p)
 
--- what the bytes say is a script, and a beginning of its text went out: of a
+-- the bytes are a script, and a prefix of its text went out: of a
 -- run of it, and of each one that comes to the end
 abbrev pub BeginsPlaying : (Result Contents Wrong → Type 0) → Bool → Option (List ℕ) → Option (List ℕ) → Type 0
 BeginsPlaying Told audit old new =
     (c : Contents) × Told (Ok c) × BeginsRun c audit old new × BeginsEvery c audit old new
 
--- what `play` wrote, if it answers so for bytes that say this: at Ok the
--- text of the run, whole, and its audit if that is asked for;
--- at a fault of the script nothing, and the fault is the script's first; after a failed
--- write a beginning, and if memory is refused that or nothing
+-- What `play` wrote, by its result, for bytes of this meaning. At Ok the whole text of the run
+-- went out, and its audit if that is on. At a fault of the script nothing did, and the
+-- fault is the first of the script. After a failed write a prefix went out, and after a
+-- failed allocation that or nothing.
 abbrev pub Played : (Result Contents Wrong → Type 0) → Bool → Option (List ℕ) → Option (List ℕ)
     → Result (Unit {0}) PlayFault → Type 0
 Played Told audit old new (Ok done) = (c : Contents) × Told (Ok c) × WritesRun c audit old new

@@ -1,4 +1,4 @@
--- The names of other crates, and of the code, that the definitions here speak of.
+-- The names of other crates, and of the code, that the definitions here use.
 pub use Rattle.gt_audit.specs.Lines.{line_text, reply_text}
 pub use Rattle.gt_audit.specs.declared.record.Hypercall.{Hypercall}
 pub use Rattle.gt_audit.specs.declared.record.Record.{Record}

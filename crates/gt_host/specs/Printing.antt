@@ -6,11 +6,11 @@ use Rattle.gt_text.specs.Printing.{type_text, denial_text, frames_text, size_tex
 use Rattle.gt_core.specs.declared.trace.Answer.{Answer}
 use Rattle.gt_core.specs.declared.trace.Answer.TheVariants as answers
 
--- the bytes of an answer, two lower-case hexadecimal digits each: none if there are none
+-- a blank and the bytes of an answer, two lower-case hexadecimal digits each; nothing if there are none
 abbrev pub bytes_text : List ℕ → List ℕ
 bytes_text bytes = if length bytes == 0 then [] else codes " " ++ encode_lower bytes
 
--- an answer
+-- the text of an answer
 abbrev pub answer_text : List (List ℕ) → Answer → List ℕ
 answer_text names answers.Done = codes "ok"
 answer_text names (answers.Mapped handle) = codes "ok"
@@ -20,7 +20,7 @@ answer_text names (answers.Size size) = size_text size
 answer_text names (answers.Version version) = version_text version
 answer_text names (answers.Denied d) = denial_text (type_text (λ name. name) names) d
 
--- `LINE ID `, which begins a line about the call of that line
+-- `LINE ID `, with which a line about the call of that line begins
 abbrev pub call_text : ℕ → DomId → List ℕ
 call_text line dom = decimal line ++ codes " " ++ decimal dom.0 ++ codes " "
 
@@ -36,6 +36,6 @@ busy_line line dom = call_text line dom ++ codes "busy\n"
 abbrev pub idle_line : ℕ → DomId → List ℕ
 idle_line line dom = call_text line dom ++ codes "idle\n"
 
--- `LINE ID open`: the call of that line has no answer when the script ends
+-- `LINE ID open`: the call of that line has no answer at the end of the script
 abbrev pub open_line : ℕ → DomId → List ℕ
 open_line line dom = call_text line dom ++ codes "open\n"

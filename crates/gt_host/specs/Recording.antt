@@ -1,4 +1,4 @@
--- What a run keeps for its audit.
+-- The records that a run keeps for its audit.
 use Rattle.std.specs.Prelude.{◌≡◌, ℕ, Bool, true, List, [], Option, None}
 use Rattle.gt_types.specs.declared.DomId.{DomId}
 use Rattle.gt_calls.specs.Asking.{asked}
@@ -14,22 +14,22 @@ use Rattle.gt_host.specs.declared.kept.PlayState.{PlayState}
 use Rattle.gt_host.specs.OpenCalls.{told_in}
 use Rattle.gt_host.specs.Auditing.{hypercall_of_request, open_told, records_of}
 
--- the domain's request is recorded so, after the items for which the core stands
+-- the record of the domain's request, after the items for which the core stands
 abbrev pub IsAbout : Setting → CoreState → DomId → Request → Option Hypercall → Type 0
 IsAbout s domains dom request told =
     (h : History) → CoreStands s h domains → told ≡ hypercall_of_request (subject_at s h dom) (asked request)
 
--- nothing is recorded, and no open call is recorded
+-- nothing is recorded, and no open call has a record
 pub record RecordsNothing (kept : PlayState) : Type 0 where
   pub records : kept.audit.records.items ≡ []
   pub calls : (d : ℕ) → told_in kept.calls d ≡ None
 
--- the records are those of the trace, and the open calls are recorded as it has them
+-- the records are those of the trace, and those of the open calls too
 pub record IsRecorded (s : Setting) (trace : List Element) (kept : PlayState) : Type 0 where
   pub records : kept.audit.records.items ≡ records_of s [] trace
   pub calls : (d : ℕ) → told_in kept.calls d ≡ open_told s (history_after [] trace) (record { 0 = d })
 
--- a trace is recorded, if that is asked for
+-- a trace is recorded, if the audit is on
 pub record IsAudited (s : Setting) (audit : Bool) (trace : List Element) (kept : PlayState) : Type 0 where
   pub is_on : kept.audit.is_on ≡ audit
   pub recorded : audit ≡ true → IsRecorded s trace kept

@@ -15,11 +15,11 @@ abbrev pub may_by : ScriptPolicy → TypeId → TypeId → Perms → Bool
 may_by (rights.Table t) source target perm = looks_up t source.0 target.0 perm
 may_by (rights.Triples t) source target perm = is_listed t.allowed.items source target perm
 
--- what a policy allows, or if there is none these triples
+-- what a policy allows, or these triples if there is none
 abbrev pub may_with : Option Allowed → List Triple → TypeId → TypeId → Perms → Bool
 may_with (Some a) triples source target perm = a.may source.0 target.0 perm
 may_with None triples source target perm = is_listed triples source target perm
 
--- what a script allows: what the policy of its block says, or what its triples list
+-- what a script allows: what the policy of its block does, or its triples
 abbrev pub may_in : Contents → TypeId → TypeId → Perms → Bool
 may_in c source target perm = may_with c.policy c.triples source target perm

@@ -13,23 +13,23 @@ use Rattle.gt_host.specs.Showing.{show_line}
 
 -- labels
 
--- a label of a domain, and the handle that a map of that label answered
+-- a label of a domain, and the handle that a map of that label returned
 pub record Named : Type 0 where
   pub dom : DomId
   pub label : List ℕ
   pub handle : Handle
 
--- the handle that a label names for its domain: that of its last map that was answered Ok, which comes first
+-- the handle of a domain's label: that of its last map that was answered Ok, which is first in the list
 abbrev pub handle_named : List Named → ℕ → List ℕ → Option Handle
 handle_named [] dom label = None
 handle_named (n ∷ more) dom label =
     if (n.dom.0 == dom) && bytes_eq n.label label then Some n.handle else handle_named more dom label
 
--- the handle that no map answers
+-- the handle that no map returns
 abbrev pub never_given : Handle
 never_given = record { serial = 2 ^ 64 - 1; key = 0 }
 
--- the handle that a label names
+-- the handle of a label; if it has none, the one that no map returns
 abbrev pub handle_of : List Named → DomId → List ℕ → Handle
 handle_of named dom label = unwrap_or (handle_named named dom.0 label) never_given
 
@@ -60,11 +60,11 @@ abbrev pub bytes_or_none : Option (List ℕ) → List ℕ
 bytes_or_none None = []
 bytes_or_none (Some hex) = hex_bytes hex
 
--- the bytes that a call of a script says
+-- the bytes of a call of a script
 abbrev pub call_bytes : ScriptCall → List ℕ
 call_bytes call = bytes_or_none (hex_of_call call)
 
--- what a call of a script asks of the core, if its labels name these handles and these are its bytes
+-- the request of a call of a script, if its labels have these handles and these are its bytes
 unfoldable pub request_of : List Named → DomId → Bor (List ℕ) → ScriptCall → Request
 request_of named dom bytes (calls.Grant gref entry) = requests.Grant gref entry
 request_of named dom bytes (calls.GrantBytes gref hex) = requests.GrantBytes gref bytes
@@ -84,7 +84,7 @@ request_of named dom bytes (calls.SetupTable frames) = requests.SetupTable frame
 request_of named dom bytes (calls.QuerySize to) = requests.QuerySize to
 request_of named dom bytes (calls.GetVersion to) = requests.GetVersion to
 
--- a call of a script asks this of the core, if its labels name these handles
+-- this is the request of a call of a script, if its labels have these handles
 abbrev pub SaysRequest : List Named → DomId → ScriptCall → Request → Type 0
 SaysRequest named dom call request =
     (bytes : Bor (List ℕ)) × (bytes.now ≡ call_bytes call) × (request ≡ request_of named dom bytes call)
@@ -116,18 +116,18 @@ label_said (actions.Begin call) = label_given call
 label_said (actions.Tick most) = None
 label_said (actions.Show gref) = None
 
--- the handle that an answer gives: that of a map answered Ok
+-- the handle that an answer returns: that of a map answered Ok
 abbrev pub handle_given : Answer → Option Handle
 handle_given (Mapped handle) = Some handle
 handle_given answer = None
 
--- with a label more, if there is one to be given this handle
+-- the labels with one more, if there is one and a handle for it
 abbrev pub with_name : List Named → DomId → Option (List ℕ) → Option Handle → List Named
 with_name named dom (Some label) (Some handle) = record { dom = dom; label = label; handle = handle } ∷ named
 with_name named dom (Some label) None = named
 with_name named dom None given = named
 
--- the labels of the domain once its call of this line has its answer: a
+-- the labels after the domain's call of this line has its answer: a
 -- map answered Ok gives its handle to its label
 abbrev pub named_after : List Named → DomId → ScriptStep → Answer → List Named
 named_after named dom s answer = with_name named dom (label_said s.action) (handle_given answer)
@@ -141,12 +141,12 @@ answer_in elements.Busy = None
 answer_in elements.Idle = None
 answer_in elements.NoDomain = None
 
--- elements of a trace that answer nothing
+-- elements of a trace without an answer
 abbrev pub AnswerNothing : List Element → Type 0
 AnswerNothing [] = Unit {0}
 AnswerNothing (element ∷ more) = (answer_in element ≡ None) × AnswerNothing more
 
--- the last of the elements answers, and no earlier one
+-- the last of the elements has the answer, and no earlier one has any
 pub record EndsWith (trace : List Element) (answer : Answer) : Type 0 where
   pub before : List Element
   pub last : Element
@@ -154,14 +154,15 @@ pub record EndsWith (trace : List Element) (answer : Answer) : Type 0 where
   pub quiet : AnswerNothing before
   pub answers : answer_in last ≡ Some answer
 
--- what came of a call, by the elements of its beginning and its ticks: it begins, and goes on up to its answer;
--- one that its domain can't begin has no tick
+-- The outcome of a call, by the elements of its beginning and its ticks: it begins, and continues up to its
+-- answer; one that its domain can't begin has no tick.
 abbrev pub EndsAsOutcome : List Element → LineOutcome → Type 0
 EndsAsOutcome trace (Answered answer) =
     (first : Item) × (more : List Element) × (trace ≡ elements.Item first ∷ more) × EndsWith trace answer
 EndsAsOutcome trace Busy = trace ≡ elements.Busy ∷ []
 
--- what so many ticks of a domain come to: the last one answers its call, or none of them all does
+-- the outcome of at most `most` ticks of a domain: the last one answers its call, or all `most` are made without an
+-- answer
 abbrev pub TicksComeTo : ℕ → List Element → Option Answer → Type 0
 TicksComeTo most trace (Some answer) = EndsWith trace answer × (length trace ≤ most)
 TicksComeTo most trace None = AnswerNothing trace × (length trace ≡ most)
@@ -172,7 +173,7 @@ call_events dom request ticks = Begin dom request ∷ replicate ticks (Tick dom)
 
 -- runs
 
--- how far a run has come: the events so far, what each of them did, what the labels name,
+-- the progress of a run: the events so far, what each of them did, the handles of labels,
 -- the lines whose calls the domains have open, and the text
 pub record Progress : Type 0 where
   pub events : List Event
@@ -181,50 +182,50 @@ pub record Progress : Type 0 where
   pub open_steps : ℕ → Option ScriptStep
   pub text : List ℕ
 
--- before the first line nothing has happened, no label names a
+-- before the first line: nothing has happened, no label has a
 -- handle, no call is open, and nothing is printed
 abbrev pub at_start : Progress
 at_start = record { events = []; trace = []; named = []; open_steps = λ dom. None; text = [] }
 
--- what happened so far
+-- the history so far
 abbrev pub history_of : Progress → History
 history_of p = history_after [] p.trace
 
--- with more events, and what each of them did
+-- the progress after more events, and what each of them did
 abbrev pub with_events : Progress → List Event → List Element → Progress
 with_events p events trace = record p { events = p.events ++ events; trace = p.trace ++ trace }
 
--- with a line more
+-- the progress after one more line
 abbrev pub with_line : Progress → List ℕ → Progress
 with_line p line = record p { text = p.text ++ line }
 
--- the domain has the call of this line open from now on, or none
+-- the progress with the call of this line as the domain's open call, or none
 abbrev pub with_step_of : Progress → DomId → Option ScriptStep → Progress
 with_step_of p dom step = record p { open_steps = λ d. if d == dom.0 then step else p.open_steps d }
 
--- the domain's call of this line has its answer
+-- the progress after the domain's call of this line has its answer
 abbrev pub answered : List (List ℕ) → Progress → DomId → ScriptStep → Answer → Progress
 answered types p dom s answer =
     record p { named = named_after p.named dom s answer; text = p.text ++ answer_line types s.line dom answer }
 
--- a call from its beginning on came to this
+-- the progress after a call with this outcome
 abbrev pub progress_after : List (List ℕ) → Progress → ScriptStep → LineOutcome → Progress
 progress_after types p s (Answered answer) = answered types p s.dom s answer
 progress_after types p s Busy = with_line p (busy_line s.line s.dom)
 
--- a call was begun, and not answered or answered at once
+-- the progress after a call began, and was not answered or answered at once
 abbrev pub after_item : List (List ℕ) → Progress → ScriptStep → Option Answer → Progress
 after_item types p s None = with_step_of p s.dom (Some s)
 after_item types p s (Some answer) = answered types p s.dom s answer
 
--- the beginning of a call did this; a domain of the run is not idle then
+-- the progress after the beginning of a call did this; a domain of the run is not idle then
 abbrev pub progress_begun : List (List ℕ) → Progress → ScriptStep → Element → Progress
 progress_begun types p s (elements.Item item) = after_item types p s item.answer
 progress_begun types p s elements.Busy = with_line p (busy_line s.line s.dom)
 progress_begun types p s elements.Idle = p
 progress_begun types p s elements.NoDomain = p
 
--- ticks of the domain's call, which this line began, came to this
+-- the progress after ticks of the domain's call, which this line began, with their outcome
 abbrev pub after_ticks : List (List ℕ) → Progress → DomId → ScriptStep → Option Answer → Progress
 after_ticks types p dom begun (Some answer) = answered types (with_step_of p dom None) dom begun answer
 after_ticks types p dom begun None = p
@@ -243,7 +244,7 @@ BeginLine types s call p q =
     (request : Request) × SaysRequest p.named s.dom call request
     × (x : Element) × (q ≡ progress_begun types (with_events p (Begin s.dom request ∷ []) (x ∷ [])) s x)
 
--- the line `tick ID N`: idle if the domain has no call open, and then nothing happens
+-- the line `tick ID N`; if the domain has no call open, it prints idle, and nothing happens
 abbrev pub TickLine : List (List ℕ) → ScriptStep → ℕ → Option ScriptStep → Progress → Progress → Type 0
 TickLine types s most None p q = (open_call (history_of p) s.dom.0 ≡ None) × (q ≡ with_line p (idle_line s.line s.dom))
 TickLine types s most (Some begun) p q =
@@ -251,11 +252,11 @@ TickLine types s most (Some begun) p q =
     × TicksComeTo most trace answer
     × (q ≡ after_ticks types (with_events p (replicate ticks (Tick s.dom)) trace) s.dom begun answer)
 
--- the line `show ID REF`: what the entry is after what happened so far
+-- the line `show ID REF`: the entry after what happened so far
 abbrev pub ShowLine : Setting → ScriptStep → GrantRef → Progress → Progress → Type 0
 ShowLine t s gref p q = q ≡ with_line p (show_line s.line s.dom gref (shown_at t (history_of p) s.dom gref.0))
 
--- what a line of the body asks for
+-- a line of the body leads from one point of a run to the next
 abbrev pub RunsLine : Setting → List (List ℕ) → ScriptStep → ScriptAction → Progress → Progress → Type 0
 RunsLine t types s (actions.Do call) p q = DoLine types s call p q
 RunsLine t types s (actions.Begin call) p q = BeginLine types s call p q
@@ -267,11 +268,11 @@ abbrev pub PlayLeadsTo : Setting → List (List ℕ) → Progress → List Scrip
 PlayLeadsTo t types p [] q = p ≡ q
 PlayLeadsTo t types p (s ∷ steps) q = (r : Progress) × RunsLine t types s s.action p r × PlayLeadsTo t types r steps q
 
--- this is if the steps of a script lead
+-- the steps of a script lead here
 abbrev pub IsRunOf : Setting → List (List ℕ) → List ScriptStep → Progress → Type 0
 IsRunOf t types steps p = PlayLeadsTo t types at_start steps p
 
--- a domain has a line's call open exactly if it has one open by what happened
+-- a domain has a line's call open exactly if it has one open by the history
 abbrev pub KnowsOpen : Progress → Type 0
 KnowsOpen p = (dom : ℕ) → is_some (p.open_steps dom) ≡ is_some (open_call (history_of p) dom)
 

@@ -19,7 +19,7 @@ abbrev pub counts_text : ℕ → ℕ → ℕ → List ℕ
 counts_text generation reads writes =
     part_text (codes "gen") generation ++ part_text (codes "reads") reads ++ part_text (codes "writes") writes
 
--- what an entry shows: the entry, its generation, its live pins of each
+-- what a line shows of an entry: the entry, its generation, its live pins of each
 -- kind, and its status word; or that there is none
 abbrev pub shown_text : Option EntryView → List ℕ
 shown_text None = codes "none"

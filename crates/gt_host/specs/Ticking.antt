@@ -1,4 +1,4 @@
--- What the parts of a run do, after the items of a history.
+-- What the parts of a run do, after a history.
 use Rattle.std.specs.Prelude.{◌≡◌, ◌≢◌, ℕ, ◌+◌, Bool, List, ◌++◌, length, replicate, Option, None}
 use Rattle.gt_types.specs.Names.{domain_of}
 use Rattle.gt_types.specs.declared.DomId.{DomId}
@@ -18,13 +18,13 @@ use Rattle.gt_host.specs.OpenCalls.{call_in}
 use Rattle.gt_host.specs.Recording.{IsAudited}
 use Rattle.gt_host.specs.Runs.{Progress, EndsAsOutcome, TicksComeTo, KnowsOpen, call_events, history_of}
 
--- the events did what they may after the history, and the core stands for what they leave
+-- the events did what they may after the history, and the core stands for the result
 pub record HasHappened (s : Setting) (h : History) (events : List Event) (trace : List Element)
     (core : CoreState) : Type 0 where
   pub legal : LegalAfter s h events trace
   pub stands : CoreStands s (history_after h trace) core
 
--- a call comes to this, by its beginning and some ticks
+-- a call has this outcome, by its beginning and some ticks
 pub record HasCalled (s : Setting) (h : History) (dom : DomId) (request : Request) (core : CoreState)
     (outcome : LineOutcome) : Type 0 where
   pub ticks : ℕ
@@ -33,7 +33,7 @@ pub record HasCalled (s : Setting) (h : History) (dom : DomId) (request : Reques
   pub comes : EndsAsOutcome trace outcome
   pub happens : HasHappened s h (call_events dom request ticks) trace core
 
--- at most so many ticks of a domain come to this
+-- at most `most` ticks of a domain have this outcome
 pub record TicksTo (s : Setting) (h : History) (dom : DomId) (most : ℕ) (core : CoreState)
     (answer : Option Answer) : Type 0 where
   pub ticks : ℕ
@@ -48,13 +48,13 @@ pub record IsReadyToCall (s : Setting) (dom : DomId) (core : CoreState) : Type 0
   pub stands : CoreStands s history core
   pub known : domain_of s.domains dom ≢ None
 
--- what is kept beside the core is what a run that has come here knows: what labels name, and the open calls
+-- the labels and the open calls that are kept are those of the progress
 pub record KeepsProgress (kept : PlayState) (p : Progress) : Type 0 where
   pub names : AreNamed kept.labels p.named
   pub calls : (dom : ℕ) → call_in kept.calls dom ≡ p.open_steps dom
 
--- the run has come to this point: what it did is legal, and the core and what is
--- kept stand for it; it is recorded, if that is asked for
+-- The run has come to this point: what it did is legal, and the core and the kept
+-- state stand for it; it is recorded, if the audit is on.
 pub record HasPlayed (s : Setting) (audit : Bool) (p : Progress) (core : CoreState) (kept : PlayState) : Type 0 where
   pub legal : Legal s p.events p.trace
   pub stands : CoreStands s (history_of p) core
@@ -62,11 +62,11 @@ pub record HasPlayed (s : Setting) (audit : Bool) (p : Progress) (core : CoreSta
   pub knows : KnowsOpen p
   pub audited : IsAudited s audit p.trace kept
 
--- text was appended, in the run as in the code
+-- one text was appended, in the run as in the code
 abbrev pub IsAppended : List ℕ → List ℕ → List ℕ → List ℕ → Type 0
 IsAppended was is before after = (text : List ℕ) × (is ≡ was ++ text) × (after ≡ before ++ text)
 
--- from each point that the run may have come to, this leads to a next one
+-- this leads from each point to which the run may have come to a next one
 abbrev pub Leads : Setting → (Progress → Progress → Type 0) → CoreState → CoreState → PlayState → PlayState → List ℕ → List ℕ
     → Type 0
 Leads s ToNext old_core new_core old_kept new_kept before after =

@@ -1,4 +1,4 @@
-//! What a run prints: a line for each answer.
+//! The lines of answers.
 ghost use Rattle.std.specs.Prelude.{◌≡◌, ◌++◌, OnOk};
 ghost use Rattle.gt_host.specs.Printing.{bytes_text, answer_text, call_text, answer_line, busy_line, idle_line};
 ghost use Rattle.gt_host.specs.Printing.{open_line};
@@ -50,8 +50,8 @@ fn push_call(out: &mut Vec<u8>, line: usize, dom: DomId) -> Result<(), AllocErro
     push_text(out, " ")
 }
 
-/// Appends the line of an answer: of the call on this line of the script, which this domain made.
-/// The name of a type is at its number in `names`. After an Err a part of the line may be there.
+/// Appends the line of an answer to the call that this domain made on this line of the script. `names` has the names of
+/// the types by their numbers. After an Err, part of the line may have been appended.
 pub fn push_answer_line(
     alloc: Global,
     out: &mut Vec<u8>,
@@ -67,7 +67,7 @@ pub fn push_answer_line(
     push_text(out, "\n")
 }
 
-/// Appends the line of a call that its domain can't begin, because it has another one open.
+/// Appends the line of a call that its domain can't begin, because it has another call open.
 pub fn push_busy_line(out: &mut Vec<u8>, line: usize, dom: DomId) -> Result<(), AllocError>
     ensures { OnOk result (out.new.items ≡ out.old.items ++ busy_line line dom) }
 {
@@ -75,7 +75,7 @@ pub fn push_busy_line(out: &mut Vec<u8>, line: usize, dom: DomId) -> Result<(), 
     push_text(out, "busy\n")
 }
 
-/// Appends the line of a tick of a domain that has no call open.
+/// Appends the line of a tick of a domain without an open call.
 pub fn push_idle_line(out: &mut Vec<u8>, line: usize, dom: DomId) -> Result<(), AllocError>
     ensures { OnOk result (out.new.items ≡ out.old.items ++ idle_line line dom) }
 {
@@ -83,7 +83,7 @@ pub fn push_idle_line(out: &mut Vec<u8>, line: usize, dom: DomId) -> Result<(), 
     push_text(out, "idle\n")
 }
 
-/// Appends the line of a call that has no answer when the script ends.
+/// Appends the line of a call that has no answer at the end of the script.
 pub fn push_open_line(out: &mut Vec<u8>, line: usize, dom: DomId) -> Result<(), AllocError>
     ensures { OnOk result (out.new.items ≡ out.old.items ++ open_line line dom) }
 {

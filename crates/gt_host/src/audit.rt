@@ -10,16 +10,15 @@ use gt_script_lines::Text;
 use gt_types::{Allows, DomId};
 use std::alloc::{AllocError, Global};
 
-/// The records of a run, if they are asked for: one for each answer of an audited call, in the order of
-/// the answers.
+/// The records of a run, if the audit is on: one for each answer of an audited call, in the order of the answers.
 #[derive(Drop)]
 pub struct AuditRecords {
     is_on: bool,
     records: Vec<Record>,
 }
 
-// How a call is recorded that the domain is about to make; None if such calls are not audited. An unmap is
-// recorded by the entry that is mapped now: once it has its answer, its handle may name none.
+// Returns the record of a call that the domain is about to make; None if such calls are not audited. An unmap is
+// recorded by the entry that is mapped now: when it has its answer, its handle may name none.
 fn hypercall_of_request<P: Allows>(
     core: &Core<P>,
     dom: DomId,
@@ -69,7 +68,6 @@ fn audited_reply(answer: &Answer) -> Reply
     }
 }
 
-// Appends the lines of records.
 fn push_records(out: &mut Vec<u8>, records: &[Record], names: &[Text]) -> Result<(), AllocError>
     ensures { OnOk result (out.new.items ≡ out.old.items ++ record_lines names.now records.now) }
 {
@@ -80,7 +78,7 @@ fn push_records(out: &mut Vec<u8>, records: &[Record], names: &[Text]) -> Result
 }
 
 impl AuditRecords {
-    /// No records yet, and none to come if they are not asked for.
+    /// Makes an empty list of records; if the audit is off, it stays empty.
     pub fn new(alloc: Global, is_on: bool) -> AuditRecords
         ensures on { result.is_on ≡ is_on }
         ensures records { result.records.items ≡ [] }
@@ -91,8 +89,8 @@ impl AuditRecords {
         }
     }
 
-    /// How the call is recorded that the domain is about to make: None if such calls are not audited, or
-    /// no records are asked for.
+    /// Returns the record of a call that the domain is about to make; None if such calls are not audited, or the audit
+    /// is off.
     pub fn about<P: Allows>(
         &self,
         core: &Core<P>,
@@ -109,7 +107,7 @@ impl AuditRecords {
         }
     }
 
-    /// Records the answer of the domain's call, as `about` gave it; nothing if that was None.
+    /// Appends the record of an answered call. `told` is what `about` returned; nothing is recorded for None.
     pub fn record(
         &mut self,
         dom: DomId,
@@ -127,7 +125,7 @@ impl AuditRecords {
         Ok(())
     }
 
-    /// Appends the lines of the records, if they are asked for. After an Err a part of them may be there.
+    /// Appends the lines of the records, if the audit is on. After an Err, part of them may have been appended.
     pub fn push_lines(&self, out: &mut Vec<u8>, names: &[Text]) -> Result<(), AllocError>
         ensures { OnOk result
             (out.new.items ≡ out.old.items ++ asked_lines self.now.is_on names.now self.now.records.items) }

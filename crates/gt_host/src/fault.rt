@@ -1,4 +1,4 @@
-//! Why a run did not end well.
+//! The errors of a run.
 use gt_script::{BlockFault, ScriptError, ScriptFault};
 use gt_text::{ReadFault, WriteFault};
 use gt_types::Memory;
@@ -6,10 +6,10 @@ use std::alloc::{AllocError, AllocFailed};
 use std::error::Error;
 use std::fmt;
 
-/// Why the steps of a script were not run to their end. A beginning of the text was written.
+/// The error of the steps of a script. A prefix of the text was written.
 #[derive(Clone, Copy, Debug, PartialEq, Eq)]
 pub enum StepsFault {
-    /// Memory was refused.
+    /// An allocation failed.
     Memory,
     /// A write failed.
     Write,
@@ -59,18 +59,18 @@ impl From<WriteFault> for StepsFault {
     }
 }
 
-/// Why a run did not end well. It prints as one line, without its end.
+/// The error of a run. It prints as one line, without a line feed.
 #[derive(Debug, Drop)]
 pub enum PlayFault {
-    /// The first fault of the script, with the number of its line. Nothing was written.
+    /// The first fault of the script, with its line. Nothing was written.
     Script(ScriptFault),
     /// The first fault of the script, if it is one of its policy block. Nothing was written.
     Policy(BlockFault),
-    /// Memory was refused. A beginning of the text was written.
+    /// An allocation failed. A prefix of the text was written, or nothing.
     Memory,
     /// A read failed, or the script can't be opened. Nothing was written.
     Read,
-    /// A write failed. A beginning of the text was written.
+    /// A write failed. A prefix of the text was written.
     Write,
 }
 
@@ -126,7 +126,7 @@ impl PlayFault {
     ghost use Rattle.std.specs.Prelude.{◌≡◌};
     ghost use Rattle.gt_host.specs.Faults.{play_ended};
 
-    /// How a run ended, for its caller.
+    /// Converts the result of the steps of a script to that of the run.
     pub fn told(outcome: Result<(), StepsFault>) -> Result<(), PlayFault>
         ensures { result ≡ play_ended outcome }
     {

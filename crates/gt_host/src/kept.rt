@@ -1,13 +1,13 @@
-//! What a run keeps beside the core.
+//! The state of a run besides the core.
 use crate::audit::AuditRecords;
 use crate::labels::Labels;
 use crate::open_calls::OpenCalls;
 use std::alloc::Global;
 
-/// What a run keeps beside the core: what labels name, the calls that are open, and its records.
+/// The state of a run besides the core: the labels, the open calls, and the records of the audit.
 #[derive(Drop)]
 pub struct PlayState<'b, 'a> {
-    /// The allocator of what is kept and printed.
+    /// The allocator of the state and of the printed lines.
     pub alloc: Global,
     pub labels: Labels<'a>,
     pub calls: OpenCalls<'b, 'a>,
@@ -20,7 +20,7 @@ impl<'b, 'a> PlayState<'b, 'a> {
     ghost use Rattle.gt_host.specs.Runs.{at_start};
     ghost use Rattle.gt_host.specs.Ticking.{KeepsProgress};
 
-    /// What is kept before the first line: nothing. Records are asked for, or not.
+    /// Makes the state before the first line. `audit` turns the records on.
     pub fn new(alloc: Global, audit: bool) -> PlayState<'b, 'a>
         ensures kept { KeepsProgress result at_start }
         ensures on { result.audit.is_on ≡ audit }

@@ -4,13 +4,13 @@ use gt_types::DomId;
 use std::alloc::{AllocError, Global};
 use std::collections::BTreeMap;
 
-/// The handle that no map answers: its serial is never given.
+/// The handle that no map returns: its serial is never given.
 pub const NEVER_GIVEN: Handle = Handle {
     serial: u64::MAX,
     key: 0,
 };
 
-/// The handles that labels name, each for its domain.
+/// The handles of labels, by domain and label.
 #[derive(Drop)]
 pub struct Labels<'a> {
     handles: BTreeMap<(u16, &'a [u8]), Handle>,
@@ -21,7 +21,7 @@ impl<'a> Labels<'a> {
     ghost use Rattle.gt_host.specs.declared.labels.TheConstants.{NEVER_GIVEN};
     ghost use Rattle.gt_host.specs.Labels.{handle_in, RenamesOnly};
 
-    /// No label names a handle yet.
+    /// Makes an empty table of labels.
     pub fn new(alloc: Global) -> Labels<'a>
         ensures { (dom : ℕ) → (label : List ℕ) → handle_in result dom label ≡ None }
     {
@@ -30,7 +30,7 @@ impl<'a> Labels<'a> {
         }
     }
 
-    /// The handle that the domain's label names, or the one that is never given.
+    /// Returns the handle of a domain's label, or `NEVER_GIVEN` if it has none.
     pub fn handle(&self, dom: DomId, label: &'a [u8]) -> Handle
         ensures { result ≡ unwrap_or (handle_in self.now dom.0 label.entry.now) NEVER_GIVEN }
     {
@@ -38,7 +38,7 @@ impl<'a> Labels<'a> {
         self.handles.get(&key).copied().unwrap_or(NEVER_GIVEN)
     }
 
-    /// From now on the domain's label names this handle.
+    /// Gives the handle to the domain's label.
     pub fn name(&mut self, dom: DomId, label: &'a [u8], handle: Handle) -> Result<(), AllocError>
         ensures named { OnOk result (handle_in self.new dom.0 label.entry.now ≡ Some handle) }
         ensures others { OnOk result (RenamesOnly self.old self.new dom.0 label.entry.now) }

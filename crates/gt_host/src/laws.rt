@@ -1,5 +1,4 @@
-//! What the definitions of this crate come to. Each law is a function that does nothing, whose
-//! contract is the law.
+//! Laws about runs. A law is a function that does nothing; its contract is the law.
 ghost use Rattle.std.specs.Prelude.{◌≡◌, ℕ, Bool, List, Option, Some, Ok};
 ghost use Rattle.gt_script.specs.Contents.{Contents};
 ghost use Rattle.gt_script.specs.Script.{TellsScript};
@@ -27,7 +26,7 @@ pub fn every_script_prints_one_text()
     every_text_tells_one_thing();
 }
 
-/// A law: if a run stopped early, what it wrote is a beginning of what each run writes that comes to the end.
+/// A law: what a run wrote that stopped early is a prefix of what each run writes that comes to the end.
 pub fn every_beginning_is_of_the_text()
     ensures { (c : Contents) (audit : Bool) (old new : Option (List ℕ)) →
         BeginsRun c audit old new → BeginsEvery c audit old new }

@@ -1,20 +1,17 @@
-//! What a run of grant tables reads and prints.
+//! `play`: runs a script on the core and prints its answers.
 //!
-//! `play` takes a script from a reader, runs its lines one after the other on the core, and writes a
-//! line for each answer and for what a line shows. A call runs to its answer, or step by step between
-//! those of others. It works over any reader and writer, so the program, a test and a service drive the
-//! same code.
+//! `play` reads a script, runs its lines one after the other on the core, and writes a line for each answer and for
+//! what a line shows. A call runs to its answer, or step by step between those of others. It takes any reader and
+//! writer, so the program, a test and a service drive the same code.
 //!
-//! What holds: the text that went out is that of a run of the script, and what the run did is a legal
-//! trace of the core. It is whole if `play` answers Ok. A script with a fault writes nothing, and
-//! the fault is the script's first. After a failed write, or if memory is refused, what went out is
-//! a beginning of such a text. If the audit is asked for, the records of what the run did follow,
-//! and no other line changes.
+//! It is proved that the text that goes out is that of a run of the script, that what the run did is a legal trace of
+//! the core, and that the text is whole if `play` returns Ok. For a script with a fault nothing is written, and the
+//! error is the first fault of the script. After a failed write or allocation, a prefix of such a text has gone out.
+//! The audit, if it is on, appends the records of what the run did, and changes no other line.
 //!
-//! It uses `gt_script` (what a script says), `gt_core` (what its calls do), `gt_policy`, `gt_allow` and
-//! `gt_types` (what its policy or its triples allow), `gt_entry` (entries that lines grant and show),
-//! `gt_audit` (records and their lines) and `gt_text` (reads and writes). Its definitions also speak
-//! of the requests of `gt_calls` and the handles of `gt_handles`.
+//! It uses `gt_script` and `gt_script_lines` (scripts), `gt_core` (calls), `gt_policy`, `gt_allow` and `gt_types` (what
+//! the policy or the triples allow), `gt_entry` (entries), `gt_audit` (records and their lines), `gt_text` (texts,
+//! reads and writes) and `hex`. Its definitions also name the requests of `gt_calls` and the handles of `gt_handles`.
 #![tactic(auto)]
 
 mod answers;

@@ -1,18 +1,18 @@
-//! The calls that have no answer yet.
+//! The open calls of a run.
 use gt_audit::Hypercall;
 use gt_script::ScriptStep;
 use gt_types::DomId;
 use std::alloc::{AllocError, Global};
 use std::collections::BTreeMap;
 
-/// A call that has no answer yet: the step of the script that began it, and how it is recorded.
+/// An open call: the step of the script that began it, and its record.
 #[derive(Clone, Copy)]
 pub struct Opened<'b, 'a> {
     pub step: &'b ScriptStep<'a>,
     pub told: Option<Hypercall>,
 }
 
-/// The calls that domains have open.
+/// The open calls, by domain.
 #[derive(Drop)]
 pub struct OpenCalls<'b, 'a> {
     begun: BTreeMap<u16, Opened<'b, 'a>>,
@@ -23,7 +23,7 @@ impl<'b, 'a> OpenCalls<'b, 'a> {
     ghost use Rattle.std.specs.Option.{option_map};
     ghost use Rattle.gt_host.specs.OpenCalls.{call_in, told_in};
 
-    /// No domain has a call open.
+    /// Makes a table without open calls.
     pub fn new(alloc: Global) -> OpenCalls<'b, 'a>
         ensures calls { (d : ℕ) → call_in result d ≡ None }
         ensures told { (d : ℕ) → told_in result d ≡ None }
@@ -33,7 +33,7 @@ impl<'b, 'a> OpenCalls<'b, 'a> {
         }
     }
 
-    /// The call that the domain has open.
+    /// Returns the open call of the domain.
     pub fn of(&self, dom: DomId) -> Option<Opened<'b, 'a>>
         ensures call { option_map (λ o. o.step.now) result ≡ call_in self.now dom.0 }
         ensures told { option_and_then (λ o. o.told) result ≡ told_in self.now dom.0 }
@@ -41,7 +41,7 @@ impl<'b, 'a> OpenCalls<'b, 'a> {
         self.begun.get(&dom.0).copied()
     }
 
-    /// The domain has the call of this step open from now on, recorded so.
+    /// Adds the open call of the domain, with its record.
     pub fn begin(
         &mut self,
         dom: DomId,
@@ -57,7 +57,7 @@ impl<'b, 'a> OpenCalls<'b, 'a> {
         Ok(())
     }
 
-    /// The domain has no call open from now on.
+    /// Removes the open call of the domain.
     pub fn end(&mut self, dom: DomId)
         ensures calls { (d : ℕ) → call_in self.new d ≡ (if d == dom.0 then None else call_in self.old d) }
         ensures told { (d : ℕ) → told_in self.new d ≡ (if d == dom.0 then None else told_in self.old d) }

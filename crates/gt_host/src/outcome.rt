@@ -1,11 +1,11 @@
-//! What came of a call.
+//! The outcome of a line's call.
 use gt_core::Answer;
 
-/// What came of a call.
+/// The outcome of a line's call.
 #[derive(Debug, Drop)]
 pub enum LineOutcome {
-    /// It was answered.
+    /// The call was answered.
     Answered(Answer),
-    /// It did not begin: its domain has another call open.
+    /// The call did not begin: its domain has another call open.
     Busy,
 }

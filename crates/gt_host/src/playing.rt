@@ -1,4 +1,4 @@
-//! A script in, and the lines of its run out.
+//! Plays a script.
 ghost use Rattle.std.specs.Prelude.{◌≡◌, ◌≢◌, ◌⊎◌, ◌++◌, ℕ, List, take, AllPairs, OnOk, OnErr, IfOk, IfErr, IsOk};
 ghost use Rattle.std.specs.Option.{option_map};
 ghost use Rattle.gt_script.specs.Contents.{contents_told};
@@ -25,10 +25,8 @@ use gt_types::{Config, DomId, DomainConfig, Memory, StartFault};
 use std::alloc::{AllocError, Global};
 use std::io::{Read, Write};
 
-/// A core with the domains and the rights of a script, on which nothing has happened.
-///
-/// # Errors
-/// `Memory` if memory was refused.
+/// Makes a core with the domains and the rights of a script, on which nothing has happened. The only Err is a failed
+/// allocation.
 pub fn core_of(alloc: Global, script: &Script) -> Result<Core<ScriptPolicy>, Memory>
     requires { CanConfigure (contents_told script.now) }
     ensures starts { IfOk result (StartsFor (contents_told script.now)) }
@@ -46,7 +44,7 @@ pub fn core_of(alloc: Global, script: &Script) -> Result<Core<ScriptPolicy>, Mem
     }
 }
 
-// The line of a domain's call that has no answer, if it has one.
+// Appends the line of a domain's open call, if it has one.
 fn push_if_open(out: &mut Vec<u8>, dom: DomId, begun: Option<Opened>) -> Result<(), AllocError>
     ensures { OnOk result (out.new.items ≡ out.old.items
         ++ open_text dom (option_map (λ o. o.step.now) begun.entry)) }
@@ -57,7 +55,7 @@ fn push_if_open(out: &mut Vec<u8>, dom: DomId, begun: Option<Opened>) -> Result<
     }
 }
 
-// The lines of the calls that have no answer, in the order of the domains.
+// Appends the lines of the open calls, in the order of the domains.
 fn push_open_lines(
     out: &mut Vec<u8>,
     domains: &[DomainConfig],
@@ -71,7 +69,7 @@ fn push_open_lines(
     Ok(())
 }
 
-// Runs the steps of the script, and writes their lines.
+// Runs the steps of the script on a core, and writes their lines.
 fn run_lines<'s, 'a, W: Write>(
     alloc: Global,
     core: &mut Core<ScriptPolicy>,
@@ -101,7 +99,6 @@ fn run_lines<'s, 'a, W: Write>(
     Ok(())
 }
 
-// Runs the script, and writes its lines.
 fn run_script<W: Write>(
     alloc: Global,
     script: &Script,
@@ -119,7 +116,7 @@ fn run_script<W: Write>(
     run_lines(alloc, &mut core, script, writer, audit)
 }
 
-// Plays the script that bytes say, of which those up to the limit were read.
+// Plays the script of the bytes that were read: all, or the first up to the read limit.
 fn play_bytes<W: Write>(
     alloc: Global,
     input: &[u8],
@@ -136,14 +133,14 @@ fn play_bytes<W: Write>(
     }
 }
 
-/// Plays the script that the reader has. It runs the lines on the core, one after the other. It writes a line for each
-/// answer, for what a line shows, and at the end for each call that is open.
+/// Reads a script, runs its lines on a core, one after the other, and writes a line for each answer, for what a line
+/// shows, and at the end for each open call.
 ///
-/// It reads at most 1,048,577 bytes. A script with a fault writes nothing. After a failed write, or if memory is
-/// refused, a beginning of the text was written.
+/// At most 1,048,577 bytes are read. For a script with a fault nothing is written. After a failed write or allocation,
+/// a prefix of the text was written, or nothing.
 ///
-/// With `audit` a line for each answer of an audited call follows, in the order of the answers; no other
-/// line changes. Audited are map, unmap, copy, and those that set or answer a table's version or frames.
+/// With `audit` a line for each answer of an audited call follows, in the order of the answers; no other line changes.
+/// The audited calls are map, unmap, copy, and those that set or query the version or size of a table.
 pub fn play<R: Read, W: Write>(
     alloc: Global,
     reader: &mut R,

@@ -1,4 +1,4 @@
-//! The rights of a run: those of the script's policy, compiled, or its triples.
+//! The rights of a run: the compiled policy of the script, or its triples.
 ghost use Rattle.std.specs.Prelude.{◌≡◌, IfOk};
 
 use gt_allow::AllowTable;
@@ -6,7 +6,7 @@ use gt_script::Script;
 use gt_types::{Allows, Memory, Perms, Triples, TypeId};
 use std::alloc::Global;
 
-/// What the head of a script allows: what its policy says, or what its triples list.
+/// The rights that the head of a script gives: its compiled policy, or its triples.
 #[derive(Drop)]
 pub enum ScriptPolicy {
     Table(AllowTable),
@@ -30,7 +30,7 @@ impl ScriptPolicy {
     ghost use Rattle.gt_script.specs.Contents.{contents_told};
     ghost use Rattle.gt_host.specs.Rights.{may_by, may_in};
 
-    /// The rights that the script's head gives.
+    /// Makes the rights of a script.
     pub fn of<'s, 'a>(alloc: Global, script: &'s Script<'a>) -> Result<ScriptPolicy, Memory>
         ensures { IfOk result (λ rights. may_by rights ≡ may_in (contents_told script.entry.now)) }
     {

@@ -1,4 +1,4 @@
-//! The run of a script: its lines, one after the other, on the core.
+//! Runs the lines of a script on the core, one after the other.
 ghost use Rattle.std.specs.Prelude.{◌≡◌, ◌≢◌, ◌++◌, List, None, OnOk, IfOk, IfErr, IsTrue};
 ghost use Rattle.std.specs.Option.{option_map};
 ghost use Rattle.gt_types.specs.Names.{domain_of};
@@ -25,7 +25,7 @@ use gt_script_lines::{ScriptAction, ScriptCall, Text, hex_bytes};
 use gt_types::{Allows, DomId, Memory};
 use std::alloc::{AllocError, Global};
 
-// The hexadecimal text of a call, if it has one.
+// Returns the hexadecimal text of a call, if it has one.
 fn hex_of_call<'b, 'a>(call: &'b ScriptCall<'a>) -> Option<&'b Text<'a>>
     ensures { option_map (λ text. text.now) result ≡ hex_of_call call.entry.now }
 {
@@ -37,7 +37,7 @@ fn hex_of_call<'b, 'a>(call: &'b ScriptCall<'a>) -> Option<&'b Text<'a>>
     }
 }
 
-/// The bytes that a call says: those of an entry, or those that it writes.
+/// Decodes the bytes of a call: those of an entry, or those that it writes.
 pub fn call_bytes<'a>(alloc: Global, call: &ScriptCall<'a>) -> Result<Vec<u8>, AllocError>
     ensures { IfOk result (λ bytes. bytes.items ≡ bytes_in_call call.now) }
 {
@@ -47,7 +47,7 @@ pub fn call_bytes<'a>(alloc: Global, call: &ScriptCall<'a>) -> Result<Vec<u8>, A
     }
 }
 
-/// What a call that says these bytes asks.
+/// Makes the request of a call with these bytes. A label stands for the handle that it names.
 #[tactic(auto, unfolding(crate::specs::Runs::request_of))]
 pub fn request_of<'a, 'c>(
     labels: &Labels<'a>,
@@ -109,7 +109,7 @@ pub fn request_of<'a, 'c>(
     }
 }
 
-/// The label to which a call gives its handle.
+/// Returns the label to which a call gives its handle: that of a map.
 pub fn label_given<'a>(call: &ScriptCall<'a>) -> Option<&'a [u8]>
     ensures { option_map (λ l. l.now) result ≡ label_given call.now }
 {
@@ -119,7 +119,7 @@ pub fn label_given<'a>(call: &ScriptCall<'a>) -> Option<&'a [u8]>
     }
 }
 
-// The label to which the call of a step gives its handle.
+// Returns the label to which the call of a step gives its handle.
 fn label_in<'a>(action: &ScriptAction<'a>) -> Option<&'a [u8]>
     ensures { option_map (λ l. l.now) result ≡ label_said action.now }
 {
@@ -129,7 +129,7 @@ fn label_in<'a>(action: &ScriptAction<'a>) -> Option<&'a [u8]>
     }
 }
 
-/// Gives the handle of an answer, if it is that of a map, to this label.
+/// Gives the handle of an answered map to this label. Other answers change nothing.
 pub fn name_mapping<'a>(
     labels: &mut Labels<'a>,
     dom: DomId,
@@ -145,7 +145,7 @@ pub fn name_mapping<'a>(
     }
 }
 
-// The domain's call, which this step began, has its answer.
+// Handles the answer of the call that this step began: names its mapping, and appends the line.
 fn answer_call<'a>(
     alloc: Global,
     labels: &mut Labels<'a>,
@@ -162,7 +162,7 @@ fn answer_call<'a>(
     push_answer_line(alloc, out, types, step.line, dom, answer)
 }
 
-// At most so many ticks of a domain, up to the answer of its call.
+// Ticks a domain at most `most` times, up to the answer of its call.
 fn tick_up_to<P: Allows>(
     core: &mut Core<P>,
     dom: DomId,
@@ -181,7 +181,7 @@ fn tick_up_to<P: Allows>(
     Ok(None)
 }
 
-// A call, from its beginning to its answer.
+// Runs a call from its beginning to its answer.
 fn run_call<P: Allows>(
     core: &mut Core<P>,
     dom: DomId,
@@ -203,7 +203,7 @@ fn run_call<P: Allows>(
     }
 }
 
-// A line `do ID CALL`, whose call says these bytes.
+// Runs a line `do ID CALL`, whose call has these bytes.
 fn run_do<'b, 'a, P: Allows>(
     core: &mut Core<P>,
     kept: &mut PlayState<'b, 'a>,
@@ -234,7 +234,7 @@ fn run_do<'b, 'a, P: Allows>(
     Ok(())
 }
 
-// A line `begin ID CALL`, whose call says these bytes.
+// Runs a line `begin ID CALL`, whose call has these bytes.
 fn run_begin<'b, 'a, P: Allows>(
     core: &mut Core<P>,
     kept: &mut PlayState<'b, 'a>,
@@ -266,7 +266,7 @@ fn run_begin<'b, 'a, P: Allows>(
     Ok(())
 }
 
-// A line `tick ID N`.
+// Runs a line `tick ID N`.
 fn run_ticks<'b, 'a, P: Allows>(
     core: &mut Core<P>,
     kept: &mut PlayState<'b, 'a>,
@@ -303,8 +303,8 @@ fn run_ticks<'b, 'a, P: Allows>(
     Ok(())
 }
 
-/// Runs a step of a script on the core, and appends its line if it has one. After an Err a part of
-/// the line may be there.
+/// Runs a step of a script on the core, and appends its line if it has one. The only Err is a failed allocation; part
+/// of the line may have been appended then.
 pub fn run_step<'b, 'a, P: Allows>(
     core: &mut Core<P>,
     kept: &mut PlayState<'b, 'a>,

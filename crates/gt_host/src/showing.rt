@@ -1,4 +1,4 @@
-//! What a run prints of an entry.
+//! The lines that show an entry.
 ghost use Rattle.std.specs.Prelude.{◌≡◌, ◌++◌, OnOk, codes};
 ghost use Rattle.gt_host.specs.Showing.{part_text, entry_text, counts_text, status_text, shown_text, show_line};
 
@@ -49,8 +49,8 @@ fn push_shown(alloc: Global, out: &mut Vec<u8>, shown: Option<EntryView>) -> Res
     push_status(alloc, out, status_word(&control))
 }
 
-/// Appends the line that shows an entry of the domain: None if the reference is past its table.
-/// After an Err a part of the line may be there.
+/// Appends the line of a `show` of an entry; `shown` is None if the reference is out of range of the domain's table.
+/// After an Err, part of the line may have been appended.
 pub fn push_show_line(
     alloc: Global,
     out: &mut Vec<u8>,

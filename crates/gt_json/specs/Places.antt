@@ -1,4 +1,4 @@
--- What each word of a line is, by its place (own; the lines are those of the texts that the commands print).
+-- The meaning of the words of a line, by their positions (own; the lines are those that the commands print).
 use Rattle.std.specs.Prelude.{ℕ, ◌&&◌, ◌||◌, not, Bool, true, false, List, codes, if◌then◌else◌}
 use Rattle.std.specs.Str.{bytes_eq}
 use Rattle.gt_json.specs.Words.{is_rule}
@@ -7,44 +7,44 @@ use Rattle.gt_json.specs.declared.places.PrintedText.TheVariants.{Run, Policy, E
 use Rattle.gt_json.specs.declared.places.WordPlace.{WordPlace}
 use Rattle.gt_json.specs.declared.places.WordPlace.TheVariants as place
 
--- what the first word of a line is
+-- the first word of a line
 abbrev pub start : PrintedText → WordPlace
 start Run = place.Line
 start Policy = place.Source
 start Entries = place.Dumped
 
--- it is the first word of a line
+-- this is the first word of a line
 abbrev pub is_start : WordPlace → Bool
 is_start place.Line = true
 is_start place.Source = true
 is_start place.Dumped = true
 is_start _ = false
 
--- it is a fact, which may have its own name
+-- this is a fact, which may have its own name
 abbrev pub is_fact : WordPlace → Bool
 is_fact place.Fact = true
 is_fact _ = false
 
--- the word is the colon before the answer of an audit line, which is no member
+-- the word is the colon before the answer of an audit line, which is not a member
 abbrev pub is_mark : WordPlace → List ℕ → Bool
 is_mark p w = not (is_start p) && bytes_eq w (codes ":")
 
--- what comes after the first word of a line of a run
+-- the word after the first one of a line of a run
 abbrev pub after_line : List ℕ → WordPlace
 after_line w = if bytes_eq w (codes "audit") then place.Recorded
     else (if bytes_eq w (codes "lost") then place.Lost else place.Caller)
 
--- what comes after the kind of an entry
+-- the word after the kind of an entry
 abbrev pub after_kind : List ℕ → WordPlace
 after_kind w = if (bytes_eq w (codes "page") || bytes_eq w (codes "sub")) || bytes_eq w (codes "via") then place.Grantee
     else (if bytes_eq w (codes "refused") then place.Field else place.Fact)
 
--- what comes after the name of a call
+-- the word after the name of a call
 abbrev pub after_call : List ℕ → WordPlace
 after_call w = if bytes_eq w (codes "copy") then place.FromKind
     else (if bytes_eq w (codes "version") || bytes_eq w (codes "setup") then place.Asked else place.Owner)
 
--- what comes after a word that is a member
+-- the word after one that is a member
 abbrev pub next_place : WordPlace → List ℕ → WordPlace
 next_place place.Line w = after_line w
 next_place place.Caller w = if bytes_eq w (codes "show") then place.Shown else place.Answer
@@ -78,11 +78,11 @@ next_place place.Target w = place.Permission
 next_place place.Permission w = place.Fact
 next_place place.Dumped w = place.Kind
 
--- what the word after this one is
+-- the word after this one
 unfoldable pub next : WordPlace → List ℕ → WordPlace
 next p w = if is_mark p w then place.Answer else next_place p w
 
--- what the word at this place is called; at a fact, one without a name of its own
+-- the name of the word; for a fact, that of one without its own name
 unfoldable pub name_at : WordPlace → List ℕ → List ℕ
 name_at place.Line w = if bytes_eq w (codes "audit") || bytes_eq w (codes "lost") then codes "type" else codes "line"
 name_at place.Caller w = if bytes_eq w (codes "show") then codes "type" else codes "domain"

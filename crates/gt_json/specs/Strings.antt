@@ -1,4 +1,4 @@
--- Strings and values as JSON spells them.
+-- JSON strings and values.
 use Rattle.std.specs.Prelude.{◌≡◌, ◌≢◌, ◌<◌, ◌≤◌, ℕ, ◌+◌, ◌/◌, ◌%◌, ◌==◌, ◌&&◌, ◌||◌, not, nat_lt, Bool, List, [], ◌∷◌}
 use Rattle.std.specs.Prelude.{◌++◌, codes, if◌then◌else◌}
 use Rattle.std.specs.List.{flat_map}
@@ -18,8 +18,8 @@ escaped b = if (b == 34) || (b == 92) then 92 ∷ b ∷ []
 unfoldable pub quoted : List ℕ → List ℕ
 quoted text = codes "\"" ++ flat_map escaped text ++ codes "\""
 
--- What is between the quotes of a string spells a text: a byte from 32 on stands for itself, if it is no quote and
--- no backslash; a backslash before a quote or a backslash stands for that, and one before `u00` and two
+-- What is between the quotes of a string encodes a text: a byte from 32 up stands for itself, unless it is a quote or
+-- a backslash; a backslash before a quote or a backslash stands for that one, and a backslash before `u00` and two
 -- hexadecimal digits for the byte of that number (RFC 8259, section 7)
 pub data SpellsString : List ℕ → List ℕ → Type 0 where
   ends : SpellsString [] []
@@ -30,7 +30,7 @@ pub data SpellsString : List ℕ → List ℕ → Type 0 where
   number : (b : ℕ) (xs text : List ℕ) → b < 256 → SpellsString xs text
       → SpellsString (92 ∷ 117 ∷ 48 ∷ 48 ∷ hex_digit (b / 16) ∷ hex_digit (b % 16) ∷ xs) (b ∷ text)
 
--- a word as a value: a number where it is one and is not hexadecimal, null for `-`, and else a string
+-- a word as a value: a number if it is one and is not hexadecimal, null for `-`, and else a string
 abbrev pub value_text : Bool → List ℕ → List ℕ
 value_text is_hex w = if not is_hex && is_number w then w
     else (if bytes_eq w (codes "-") then codes "null" else quoted w)

@@ -1,11 +1,11 @@
-//! Why a text was not written as JSON.
+//! The errors of writing JSON.
 use gt_text::WriteFault;
 use std::alloc::AllocError;
 
-/// Why a text was not written whole. A beginning of its JSON may have gone out.
+/// The error of writing a text as JSON. A prefix of its JSON may have gone out.
 #[derive(Clone, Copy, Debug, PartialEq, Eq)]
 pub enum JsonFault {
-    /// Memory was refused.
+    /// An allocation failed.
     Memory,
     /// A write failed.
     Write,

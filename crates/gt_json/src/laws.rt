@@ -1,4 +1,4 @@
-//! That the JSON of a text tells what the text does.
+//! Laws: the JSON of a text has the content of the text.
 ghost use Rattle.std.specs.Prelude.{◌≡◌, ◌<◌, ℕ, List, All};
 ghost use Rattle.std.specs.List.{flat_map, join_with_byte};
 ghost use Rattle.gt_json.specs.Lines.{all_said, json_words};
@@ -6,14 +6,15 @@ ghost use Rattle.gt_json.specs.Places.{start};
 ghost use Rattle.gt_json.specs.Strings.{SpellsString, escaped};
 ghost use Rattle.gt_json.specs.declared.places.PrintedText.{PrintedText};
 
-/// A law: a line is what its members say, parted by blanks. So nothing is lost and nothing added: two lines with the
-/// same members are the same.
+/// A law: the members of a line's object give back the line, with blanks between them. So nothing is lost and nothing
+/// added: two lines with the same members are the same.
 pub fn every_line_has_its_object()
     ensures { (printed : PrintedText) (line : List ℕ) →
         join_with_byte 32 (all_said (start printed) (json_words line)) ≡ line }
 {}
 
-/// A law: what stands between the quotes of a string spells its text, by the rules of JSON, for bytes of any value.
+/// A law: what is between the quotes of a string encodes its text by the rules of JSON (RFC 8259), for bytes of any
+/// value.
 pub fn every_string_spells_its_text()
     ensures { (text : List ℕ) → SpellsString (flat_map escaped text) text }
 {}

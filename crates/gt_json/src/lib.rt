@@ -1,13 +1,11 @@
 //! The texts that commands print, as JSON Lines.
 //!
-//! Each line of a text becomes an object on a line of its own, with a member for each word of the line:
-//! `16 2 N5 -8 source=b_t` becomes `{"line":16,"domain":2,"rule":"N5","status":-8,"source":"b_t"}`. A
-//! word `NAME=VALUE` has its name with it; any other is called after its place in the line. The colon of
-//! an audit line is no member.
+//! Each line of a text becomes an object on one line, with a member for each word: `16 2 N5 -8 source=b_t` becomes
+//! `{"line":16,"domain":2,"rule":"N5","status":-8,"source":"b_t"}`. A word `NAME=VALUE` has its own name; any other
+//! word is named by its position in the line. The colon of an audit line is not a member.
 //!
-//! What holds: what goes out is exactly the JSON of the text, for any bytes. A line is made of the names
-//! and values of its object, so that nothing is lost and nothing added. And a string is written as JSON
-//! spells it, whatever its bytes.
+//! It is proved that exactly the JSON of the text goes out, for any bytes; that the names and values of an object give
+//! back its line, so that nothing is lost and nothing added; and that every string is encoded as RFC 8259 requires.
 //!
 //! It uses `gt_text` (texts that wait and go out).
 #![tactic(auto)]

@@ -1,4 +1,4 @@
-//! A text in, and the objects of its lines out.
+//! Writes the objects of the lines of a text.
 ghost use Rattle.std.specs.Prelude.{◌≡◌, ◌==◌, ◌++◌, IfOk, OnOk, OnErr, map};
 ghost use Rattle.std.specs.Io.KnownBytes.{Appends};
 ghost use Rattle.std.specs.List.{slice_split, flat_map};
@@ -13,21 +13,20 @@ use gt_text::{finish, push_text, send};
 use std::alloc::{AllocError, Global};
 use std::io::Write;
 
-// The words of a line.
+// Splits a line into its words, at each blank.
 fn words_of<'l>(alloc: Global, line: &'l [u8]) -> Result<Vec<&'l [u8]>, AllocError>
     ensures { IfOk result (λ v. map (λ word. word.now) v.items ≡ json_words line.entry.now) }
 {
     line.split(|byte| *byte == b' ').collect(alloc)
 }
 
-// The lines of a text; the last one is what stands after its last LF.
+// Splits a text into its lines. The last one is what follows the last LF.
 fn lines_of<'t>(alloc: Global, text: &'t [u8]) -> Result<Vec<&'t [u8]>, AllocError>
     ensures { IfOk result (λ v. map (λ line. line.now) v.items ≡ slice_split (λ b. b == 10) text.entry.now) }
 {
     text.split(|byte| *byte == b'\n').collect(alloc)
 }
 
-// Appends the members of words.
 fn push_pieces(out: &mut Vec<u8>, printed: PrintedText, words: &[&[u8]]) -> Result<(), AllocError>
     ensures { OnOk result (out.new.items ≡ out.old.items ++ pieces (start printed) (map (λ w. w.now) words.now)) }
 {
@@ -39,7 +38,7 @@ fn push_pieces(out: &mut Vec<u8>, printed: PrintedText, words: &[&[u8]]) -> Resu
     Ok(())
 }
 
-// Appends the object of a line.
+// Appends the object of a line; nothing for an empty line.
 #[tactic(auto, unfolding(crate::specs::Lines::object_line))]
 fn push_object(
     alloc: Global,
@@ -80,7 +79,7 @@ fn write_lines<W: Write>(
 
 /// Writes a text that a command printed as JSON Lines: an object for each line, with a member for each word.
 ///
-/// An Err says whether memory was refused or a write failed; a beginning of the JSON was written then.
+/// An Err gives whether an allocation or a write failed; a prefix of the JSON may have gone out then.
 pub fn write_json<W: Write>(
     alloc: Global,
     printed: PrintedText,

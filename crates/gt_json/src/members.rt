@@ -1,4 +1,4 @@
-//! A word of a line as a member of an object.
+//! Words as members of an object.
 ghost use Rattle.std.specs.Prelude.{◌≡◌, ◌++◌, OnOk};
 ghost use Rattle.gt_json.specs.Lines.{is_fact, member_of, is_hex, lead, member_text, piece};
 
@@ -8,7 +8,7 @@ use crate::words::{is_word, split_at_equals};
 use gt_text::push_text;
 use std::alloc::AllocError;
 
-// The name and the value of a word.
+// Splits a word into its name and its value.
 fn member_of<'w>(place: WordPlace, word: &'w [u8]) -> (&'w [u8], &'w [u8])
     ensures { (result.0.now, result.1.now) ≡ member_of place word.entry.now }
 {
@@ -22,14 +22,14 @@ fn member_of<'w>(place: WordPlace, word: &'w [u8]) -> (&'w [u8], &'w [u8])
     }
 }
 
-// Whether the value of this name is hexadecimal.
+// Returns whether the value with this name is hexadecimal.
 fn is_hex(place: WordPlace, name: &[u8]) -> bool
     ensures { result ≡ is_hex place name.now }
 {
     place.is_fact() && (is_word(name, "bytes") || is_word(name, "status"))
 }
 
-// What stands before a member.
+// Returns the mark in front of a member.
 fn lead(place: WordPlace) -> &'static str
     ensures { result.now ≡ lead place }
 {
@@ -48,7 +48,8 @@ fn push_member(out: &mut Vec<u8>, place: WordPlace, word: &[u8]) -> Result<(), A
     push_value(out, is_hex(place, name), value)
 }
 
-/// Appends what a word comes to: its member, or nothing where it is none. After an Err a part of it may be there.
+/// Appends the member of a word, or nothing for the colon of an audit line. After an Err, part of it may have been
+/// appended.
 #[tactic(auto, unfolding(crate::specs::Lines::piece))]
 pub fn push_word_member(out: &mut Vec<u8>, place: WordPlace, word: &[u8]) -> Result<(), AllocError>
     ensures { OnOk result (out.new.items ≡ out.old.items ++ piece place word.now) }

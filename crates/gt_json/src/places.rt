@@ -1,11 +1,11 @@
-//! What each word of a line is, by its place.
+//! The meaning of the words of a line, by their positions.
 ghost use Rattle.std.specs.Prelude.{◌≡◌};
 ghost use Rattle.gt_json.specs.Places.{start, after_line, after_kind, after_call, next_place, next, name_at, is_start};
 ghost use Rattle.gt_json.specs.Places.{is_mark};
 
 use crate::words::{is_rule, is_word};
 
-/// Which text it is: that of `play` and `run`, of `policy`, or of `entries`.
+/// The text that is printed: that of `play` and `run`, of `policy`, or of `entries`.
 #[derive(Clone, Copy, Debug, PartialEq, Eq)]
 pub enum PrintedText {
     Run,
@@ -13,20 +13,20 @@ pub enum PrintedText {
     Entries,
 }
 
-/// What the next word of a line is.
+/// The meaning of the next word of a line.
 #[derive(Clone, Copy, Debug, PartialEq, Eq)]
 pub enum WordPlace {
     /// The line of a script, or `audit` or `lost`.
     Line,
     /// The domain that called, or `show`.
     Caller,
-    /// What was answered, or the rule of a refusal.
+    /// The answer, or the rule of a refusal.
     Answer,
     /// The status of a refusal.
     Status,
-    /// A fact by its name, or the bytes of an answer.
+    /// A fact with its name, or the bytes of an answer.
     Fact,
-    /// The domain of which an entry is shown.
+    /// The domain whose entry is shown.
     Shown,
     /// The reference of an entry that is shown.
     Entry,
@@ -50,7 +50,7 @@ pub enum WordPlace {
     Flags,
     /// The version or the number of frames that a call asks for.
     Asked,
-    /// The source of a copy: what it is given by, its domain, its reference or frame, and its offset.
+    /// The source of a copy: its kind, its domain, its reference or frame, and its offset.
     FromKind,
     FromOwner,
     FromAt,
@@ -60,9 +60,9 @@ pub enum WordPlace {
     ToOwner,
     ToAt,
     ToOff,
-    /// How many bytes a copy has.
+    /// The number of bytes of a copy.
     Len,
-    /// How many records were lost.
+    /// The number of lost records.
     Lost,
     /// The source, the target and the permission of a triple.
     Source,
@@ -112,7 +112,7 @@ impl PrintedText {
     ghost use Rattle.std.specs.Prelude.{◌≡◌};
     ghost use Rattle.gt_json.specs.Places.{start};
 
-    /// What the first word of a line is.
+    /// Returns the meaning of the first word of a line.
     pub fn start(self) -> WordPlace
         ensures { result ≡ start self }
     {
@@ -128,7 +128,7 @@ impl WordPlace {
     ghost use Rattle.std.specs.Prelude.{◌≡◌};
     ghost use Rattle.gt_json.specs.Places.{next_place, next, name_at, is_start, is_fact, is_mark};
 
-    /// Whether it is the first word of a line.
+    /// Returns whether this is the first word of a line.
     pub fn is_start(self) -> bool
         ensures { result ≡ is_start self }
     {
@@ -138,21 +138,21 @@ impl WordPlace {
         )
     }
 
-    /// Whether it is a fact, which may have its own name.
+    /// Returns whether this is a fact, which may have its own name.
     pub fn is_fact(self) -> bool
         ensures { result ≡ is_fact self }
     {
         matches!(self, WordPlace::Fact)
     }
 
-    /// Whether the word is the colon before the answer of an audit line, which is no member.
+    /// Returns whether the word is the colon before the answer of an audit line, which is not a member.
     pub fn is_mark(self, word: &[u8]) -> bool
         ensures { result ≡ is_mark self word.now }
     {
         !self.is_start() && is_word(word, ":")
     }
 
-    // What comes after a word that is a member.
+    // Returns the meaning of the word after one that is a member.
     fn next_place(self, word: &[u8]) -> WordPlace
         ensures { result ≡ next_place self word.now }
     {
@@ -193,7 +193,7 @@ impl WordPlace {
         }
     }
 
-    /// What the word after this one is.
+    /// Returns the meaning of the word after this one.
     #[tactic(auto, unfolding(crate::specs::Places::next))]
     pub fn next(self, word: &[u8]) -> WordPlace
         ensures { result ≡ next self word.now }
@@ -205,7 +205,7 @@ impl WordPlace {
         }
     }
 
-    /// What the word at this place is called; at a fact, one without a name of its own.
+    /// Returns the name of the word; for a fact, that of one without its own name.
     #[tactic(auto, unfolding(crate::specs::Places::name_at))]
     pub fn name(self, word: &[u8]) -> &'static str
         ensures { result.now ≡ name_at self word.now }

@@ -1,4 +1,4 @@
-//! Strings and values as JSON spells them.
+//! JSON strings and values.
 ghost use Rattle.std.specs.Prelude.{◌≡◌, ◌++◌, ◌<◌, OnOk};
 ghost use Rattle.gt_json.specs.Strings.{hex_digit, escaped, quoted, value_text};
 
@@ -6,7 +6,7 @@ use crate::words::{is_number, is_word};
 use gt_text::push_text;
 use std::alloc::AllocError;
 
-// The hexadecimal digit of a number below 16.
+// Returns the hexadecimal digit of a number below 16.
 fn hex_digit(number: u8) -> u8
     requires { number < 16 }
     ensures { result ≡ hex_digit number }
@@ -18,7 +18,7 @@ fn hex_digit(number: u8) -> u8
     }
 }
 
-// Appends a byte of a string.
+// Appends a byte of a string, escaped if needed.
 fn push_escaped(out: &mut Vec<u8>, byte: u8) -> Result<(), AllocError>
     ensures { OnOk result (out.new.items ≡ out.old.items ++ escaped byte) }
 {
@@ -32,7 +32,7 @@ fn push_escaped(out: &mut Vec<u8>, byte: u8) -> Result<(), AllocError>
     }
 }
 
-/// Appends a text as a JSON string. After an Err a part of it may be there.
+/// Appends a text as a JSON string. After an Err, part of it may have been appended.
 #[tactic(auto, unfolding(crate::specs::Strings::quoted))]
 pub fn push_quoted(out: &mut Vec<u8>, text: &[u8]) -> Result<(), AllocError>
     ensures { OnOk result (out.new.items ≡ out.old.items ++ quoted text.now) }
@@ -44,8 +44,8 @@ pub fn push_quoted(out: &mut Vec<u8>, text: &[u8]) -> Result<(), AllocError>
     push_text(out, "\"")
 }
 
-/// Appends a word as a JSON value: a number where it is one and is not hexadecimal, null for `-`, and else a
-/// string. After an Err a part of it may be there.
+/// Appends a word as a JSON value: a number if it is one and is not hexadecimal, null for `-`, and else a string. After
+/// an Err, part of it may have been appended.
 pub fn push_value(out: &mut Vec<u8>, is_hex: bool, word: &[u8]) -> Result<(), AllocError>
     ensures { OnOk result (out.new.items ≡ out.old.items ++ value_text is_hex word.now) }
 {

@@ -1,4 +1,4 @@
-//! Words: what they are, and where they are parted.
+//! Words, and how they are split.
 ghost use Rattle.std.specs.Prelude.{◌≡◌};
 ghost use Rattle.std.specs.Option.{option_map};
 ghost use Rattle.std.specs.Str.{bytes_eq};
@@ -6,14 +6,14 @@ ghost use Rattle.std.specs.List.{list_all};
 ghost use Rattle.std.specs.Char.{is_ascii_digit};
 ghost use Rattle.gt_json.specs.Words.{at_equals, is_natural, is_number, is_rule};
 
-/// Whether the word is this text.
+/// Returns whether the word is this text.
 pub fn is_word(word: &[u8], text: &str) -> bool
     ensures { result ≡ bytes_eq word.now text.now }
 {
     word == text.as_bytes()
 }
 
-/// Whether the word names a rule: it begins with `N`.
+/// Returns whether the word is a rule: it begins with `N`.
 #[tactic(auto, unfolding(crate::specs::Words::is_rule))]
 pub fn is_rule(word: &[u8]) -> bool
     ensures { result ≡ is_rule word.now }
@@ -30,7 +30,7 @@ fn are_digits(bytes: &[u8]) -> bool
     bytes.iter().all(|byte| byte.is_ascii_digit())
 }
 
-// Whether the word is a natural number as JSON writes it: with no zero before it.
+// Returns whether the word is a natural number as JSON writes it: without leading zeros.
 #[tactic(auto, unfolding(crate::specs::Words::is_natural))]
 fn is_natural(word: &[u8]) -> bool
     ensures { result ≡ is_natural word.now }
@@ -42,7 +42,7 @@ fn is_natural(word: &[u8]) -> bool
     }
 }
 
-/// Whether the word is a whole number as JSON writes it.
+/// Returns whether the word is a whole number as JSON writes it.
 #[tactic(auto, unfolding(crate::specs::Words::is_number))]
 pub fn is_number(word: &[u8]) -> bool
     ensures { result ≡ is_number word.now }
@@ -53,7 +53,7 @@ pub fn is_number(word: &[u8]) -> bool
     }
 }
 
-/// What is before the first `=`, and what comes after it.
+/// Splits a word at its first `=`.
 #[tactic(auto, unfolding(crate::specs::Words::at_equals))]
 pub fn split_at_equals<'w>(word: &'w [u8]) -> Option<(&'w [u8], &'w [u8])>
     ensures { option_map (λ parts. (parts.0.now, parts.1.now)) result ≡ at_equals word.entry.now }

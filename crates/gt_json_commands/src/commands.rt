@@ -1,4 +1,4 @@
-//! Commands whose text goes out as JSON.
+//! The commands with JSON output.
 ghost use Rattle.std.specs.Prelude.{is_some};
 ghost use Rattle.gt_text.specs.Streams.{ConsumesAtMost};
 ghost use Rattle.gt_text.specs.declared.streams.TheConstants.{READ_LIMIT};
@@ -21,7 +21,7 @@ use std::io::{Read, Write};
 use std::sync::Wait;
 use std::thread::Threads;
 
-// Writes the JSON of the text that `play` wrote with this answer.
+// Writes the JSON of the text that `play` wrote, if it returned Ok.
 fn pass_play<W: Write>(
     alloc: Global,
     text: &[u8],
@@ -43,7 +43,7 @@ fn pass_play<W: Write>(
     }
 }
 
-// Writes the JSON of the text that `run` wrote with this answer.
+// Writes the JSON of the text that `run` wrote, if it returned Ok.
 fn pass_run<W: Write>(
     alloc: Global,
     text: &[u8],
@@ -65,7 +65,7 @@ fn pass_run<W: Write>(
     }
 }
 
-// Writes the JSON of the text that `policy` wrote with this answer.
+// Writes the JSON of the text that `policy` wrote, if it returned Ok.
 fn pass_policy<W: Write>(
     alloc: Global,
     text: &[u8],
@@ -87,7 +87,7 @@ fn pass_policy<W: Write>(
     }
 }
 
-// Writes the JSON of the text that `entries` wrote with this answer.
+// Writes the JSON of the text that `entries` wrote, if it returned Ok.
 fn pass_entries<W: Write>(
     alloc: Global,
     text: &[u8],
@@ -109,11 +109,11 @@ fn pass_entries<W: Write>(
     }
 }
 
-/// Plays the script that the reader has as [`play`] does, and writes its text as JSON Lines.
+/// Plays a script as [`play`] does, and writes its text as JSON Lines.
 ///
 /// # Errors
-/// Those of `play`. At a fault of the script, or where it is not read, nothing was written; after a failed write, or
-/// where memory is refused, a beginning of the JSON or nothing.
+/// Those of `play`. At a fault of the script or a failed read nothing was written; after a failed write or allocation,
+/// a prefix of the JSON or nothing.
 pub fn play_json<R: Read, W: Write>(
     alloc: Global,
     reader: &mut R,
@@ -129,11 +129,11 @@ pub fn play_json<R: Read, W: Write>(
     pass_play(alloc, text.as_slice(), outcome, writer)
 }
 
-/// Runs the script that the reader has as [`run`] does, and writes its text as JSON Lines.
+/// Runs a script as [`run`] does, and writes its text as JSON Lines.
 ///
 /// # Errors
-/// Those of `run`. At a fault of the script, where it is not read or a thread was refused, nothing was written; after a
-/// failed write, or where memory is refused, a beginning of the JSON or nothing.
+/// Those of `run`. At a fault of the script, a failed read or a thread that can't start, nothing was written; after a
+/// failed write or allocation, a prefix of the JSON or nothing.
 pub fn run_json<R: Threads + Wait + Sync, I: Read, W: Write, G: Gate + Sync>(
     rt: &R,
     alloc: Global,
@@ -151,11 +151,11 @@ pub fn run_json<R: Threads + Wait + Sync, I: Read, W: Write, G: Gate + Sync>(
     pass_run(alloc, text.as_slice(), outcome, writer)
 }
 
-/// Lists the triples of the reader's policy as [`policy`] does, and writes them as JSON Lines.
+/// Lists the triples of a policy as [`policy`] does, and writes them as JSON Lines.
 ///
 /// # Errors
-/// Those of `policy`. At a fault of the policy, or where it is not read, nothing was written; after a failed write, or
-/// where memory is refused, a beginning of the JSON or nothing.
+/// Those of `policy`. At a fault of the policy or a failed read nothing was written; after a failed write or
+/// allocation, a prefix of the JSON or nothing.
 pub fn policy_json<R: Read, W: Write>(
     alloc: Global,
     reader: &mut R,
@@ -170,12 +170,12 @@ pub fn policy_json<R: Read, W: Write>(
     pass_policy(alloc, text.as_slice(), outcome, writer)
 }
 
-/// Tells the entries of the reader's dump as [`entries`] does, and writes them as JSON Lines. The lines of a script,
-/// which `asked` may ask for, are no lines of entries: their objects only part them into words.
+/// Prints the entries of a dump as [`entries`] does, and writes them as JSON Lines. With `asked.script` the lines are
+/// those of a script: their objects only split them into words.
 ///
 /// # Errors
-/// Those of `entries`. At a fault of the dump, or where it is not read, nothing was written; after a failed write, or
-/// where memory is refused, a beginning of the JSON or nothing.
+/// Those of `entries`. At a fault of the dump or a failed read nothing was written; after a failed write or allocation,
+/// a prefix of the JSON or nothing.
 pub fn entries_json<R: Read, W: Write>(
     alloc: Global,
     asked: DumpOptions,

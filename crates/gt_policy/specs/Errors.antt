@@ -1,15 +1,15 @@
--- Errors of a reader as faults of the text.
+-- Errors of the parser as faults of the text.
 use Rattle.std.specs.Prelude.{Option, Some, None, Result, Ok, Err}
 use Rattle.gt_policy.specs.declared.fault.TokenFault.{TokenFault}
 use Rattle.gt_policy.specs.declared.fault.ReadError.{ReadError}
 use Rattle.gt_policy.specs.declared.fault.ReadError.TheVariants as read
 
--- the fault of an error; none if memory ran out
+-- the fault of an error; none if an allocation failed
 abbrev pub fault_in : ReadError → Option TokenFault
 fault_in read.Memory = None
 fault_in (read.Fault f) = Some f
 
--- what was read, with what is left after it
+-- the value that was read, with the tokens after it
 abbrev pub with_rest : {X Y : Type 0} → (X → Y) → Result X TokenFault → Result Y TokenFault
 with_rest behind (Ok x) = Ok (behind x)
 with_rest behind (Err f) = Err f

@@ -17,7 +17,7 @@ abbrev pub lists_word : Permissions → List ℕ → Bool
 lists_word Every w = true
 lists_word (Named ws) w = list_any (λ v. bytes_eq v w) ws
 
--- some of these names is this one
+-- some of these mentions has this name
 abbrev pub mentions : List Mention → List ℕ → Bool
 mentions ms a = list_any (λ m. bytes_eq m.name a) ms
 
@@ -28,7 +28,7 @@ gives (DeclareAttribute w) a t = false
 gives (GiveAttributes m ms) a t = bytes_eq m.name t && mentions ms a
 gives (Allow r) a t = false
 
--- the name w is that of the type t, or of an attribute that some statement gives it (SELinux policy language)
+-- w is the name of the type t, or of an attribute that some statement gives it (SELinux policy language)
 abbrev pub is_named : List Statement → List ℕ → List ℕ → Bool
 is_named ss w t = bytes_eq w t || list_any (λ s. gives s w t) ss
 
@@ -38,14 +38,14 @@ names_with ss (With m) t = is_named ss m.name t
 names_with ss (Without m) t = false
 names_with ss Itself t = false
 
--- an item of a set names the type, or an attribute that it has, after `-` (SELinux policy language)
+-- after `-` an item of a set names the type, or an attribute that it has (SELinux policy language)
 abbrev pub names_without : List Statement → SetElement → List ℕ → Bool
 names_without ss (With m) t = false
 names_without ss (Without m) t = is_named ss m.name t
 names_without ss Itself t = false
 
 -- A set holds the types named in it and those of the attributes named in it, less those
--- named after `-`, in whatever order they come. (SELinux policy language)
+-- named after `-`, whatever the order. (SELinux policy language)
 abbrev pub set_holds : List Statement → List SetElement → List ℕ → Bool
 set_holds ss items t = list_any (λ i. names_with ss i t) items && not (list_any (λ i. names_without ss i t) items)
 
@@ -55,8 +55,8 @@ is_self (With m) = false
 is_self (Without m) = false
 is_self Itself = true
 
--- An allow statement whose classes hold `grant` lists the permission, its source set holds the source, and its
--- target set holds the target, or says `self` and the two are one. (SELinux policy language: allow)
+-- An allow statement whose classes include `grant` lists the permission, its source set holds the source, and
+-- its target set holds the target, or contains `self` and the two are one. (SELinux policy language: allow)
 abbrev pub statement_grants : List Statement → List ℕ → List ℕ → List ℕ → Statement → Bool
 statement_grants ss s t w (DeclareType v ms) = false
 statement_grants ss s t w (DeclareAttribute v) = false

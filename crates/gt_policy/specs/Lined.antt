@@ -1,4 +1,4 @@
--- The statements of a text, each with the line that it begins on.
+-- The statements of a text, each with the line on which it begins.
 use Rattle.std.specs.Prelude.{◌≡◌, ℕ, List, [], ◌∷◌, map, Result, Ok, Err}
 use Rattle.gt_types.specs.Memory.{UnlessMemory}
 use Rattle.gt_policy.specs.declared.fault.ReadError.{ReadError}
@@ -26,18 +26,18 @@ pub data SpellsLined : List LinedStatement → Lexemes → Type 0 where
       → SpellsStatement x.statement ((token, x.line) ∷ ls) rest → SpellsLined xs rest
       → SpellsLined (x ∷ xs) ((token, x.line) ∷ ls)
 
--- These statements spell the text, within the limits and with no name declared twice, each from the line that is
--- kept with it.
+-- These statements spell the text, declare no name twice and stay within the limits, and each
+-- begins on the line that is kept with it.
 pub record IsLined (text : List ℕ) (xs : List LinedStatement) : Type 0 where
   pub written : IsWritten text (statements_in xs)
   pub lines : SpellsLined xs (lexemes_of text)
 
--- the statements follow on these names, each with its line, or the fault does
+-- after these names, the tokens are these statements with their lines, or have this fault
 abbrev pub FollowsLined : Names → Names → Lexemes → Result (List LinedStatement) TokenFault → Type 0
 FollowsLined seen before ls (Ok xs) = Follows before [] ls (Ok (seen, statements_in xs)) × SpellsLined xs ls
 FollowsLined seen before ls (Err f) = Follows before [] ls (Err f)
 
--- what was read is what is said, unless memory ran out
+-- the same, unless an allocation failed
 abbrev pub HeedsLined : Result (List LinedStatement) ReadError → Names → Names → Lexemes → Type 0
 HeedsLined r seen before ls = UnlessMemory fault_in r (λ found. FollowsLined seen before ls found)
 
@@ -46,6 +46,6 @@ abbrev pub TellsLined : Result (List LinedStatement) TokenFault → List ℕ →
 TellsLined (Ok xs) text = IsLined text xs
 TellsLined (Err f) text = Says text (Err f)
 
--- the statements spell the text, or it has the fault, unless memory ran out
+-- the same, unless an allocation failed
 abbrev pub LinedIs : Result (List LinedStatement) ReadError → List ℕ → Type 0
 LinedIs r text = UnlessMemory fault_in r (λ found. TellsLined found text)

@@ -10,7 +10,7 @@ use Rattle.gt_types.specs.declared.TypeId.{TypeId}
 abbrev pub type_name_of : List (List ℕ) → ℕ → List ℕ
 type_name_of types n = slice_index_or types n []
 
--- Each type is in the list once, and no name comes before one that is less in the order of bytes.
+-- Each type is in the list once, and the list is sorted by the bytes of the names.
 pub record AreByName (types : List (List ℕ)) (ids : List TypeId) : Type 0 where
   pub all : IsPermutation (range_with_len 0 (length types)) (map (λ id. id.0) ids)
   pub ordered : IsSortedBy (λ a b. is_lt (slice_cmp nat_cmp (type_name_of types a.0) (type_name_of types b.0))) ids

@@ -5,10 +5,10 @@ use Rattle.gt_policy.specs.declared.types.TypeSet.{TypeSet}
 use Rattle.gt_policy.specs.declared.rules.Members.{Members}
 use Rattle.gt_policy.specs.TypeSets.{holds}
 
--- the set of no type
+-- the empty set
 abbrev pub no_types : TypeSet
 no_types = record { low = 0; high = 0 }
 
--- type n is among the types of attribute a
+-- type n has the attribute a
 abbrev pub has : Members → ℕ → ℕ → Bool
 has members a n = holds (slice_index_or members.sets a no_types) n

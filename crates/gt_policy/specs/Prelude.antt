@@ -1,4 +1,4 @@
--- The names of other crates, and of the code, that the definitions here speak of.
+-- The names of other crates, and of the code, that the definitions here use.
 pub use Rattle.gt_policy.specs.declared.fault.ReadError.{ReadError}
 pub use Rattle.gt_policy.specs.declared.fault.TokenFault.{TokenFault}
 pub use Rattle.gt_policy.specs.declared.fault.TokenFaultKind.{TokenFaultKind}

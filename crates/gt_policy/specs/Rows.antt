@@ -6,7 +6,7 @@ use Rattle.gt_policy.specs.declared.rules.AllowRule.{AllowRule}
 use Rattle.gt_policy.specs.declared.types.TypeSet.{TypeSet}
 use Rattle.gt_policy.specs.TypeSets.{holds}
 
--- what a statement lists, it grants to this source on this target
+-- a statement grants its permissions to this source on this target
 abbrev pub is_reached : AllowRule → ℕ → ℕ → Bool
 is_reached rule s t = holds rule.source s && (holds rule.target t || (rule.itself && (t == s)))
 

@@ -1,5 +1,5 @@
--- The grammar of a policy text: how statements are spelled. `Spells.. x ls rest` says
--- that the tokens ls begin with a spelling of x and go on with rest.
+-- The grammar of a policy text as relations. `Spells.. x ls rest`: the tokens ls begin
+-- with a spelling of x, and rest follows it.
 use Rattle.std.specs.Prelude.{◌≡◌, ◌≤◌, ℕ, ◌+◌, Bool, true, false, List, [], ◌∷◌, length}
 use Rattle.std.specs.List.{list_any}
 use Rattle.std.specs.Str.{bytes_eq}
@@ -18,7 +18,7 @@ use Rattle.gt_policy.specs.declared.statements.Statement.TheVariants.{Allow}
 use Rattle.gt_policy.specs.Names.{Names}
 use Rattle.gt_policy.specs.Grammar.{Lexemes, excluded, is_grant_alone, is_refused_word}
 
--- ("," NAME)* ";", or with a name to come NAME ("," NAME)* ";". In a type
+-- ("," NAME)* ";", or if a name must come next, NAME ("," NAME)* ";". In a type
 -- statement no name is `alias`. (SELinux policy language)
 pub data SpellsNames (in_type : Bool) : Bool → List Mention → Lexemes → Lexemes → Type 0 where
   no_more : (n : ℕ) (rest : Lexemes) → SpellsNames in_type false [] ((Semicolon, n) ∷ rest) rest
@@ -63,7 +63,7 @@ pub data SpellsPerms (alone : Bool) : Permissions → Lexemes → Lexemes → Ty
   names : (ws : List (List ℕ)) (ls rest : Lexemes) → list_any (λ w. is_refused_word alone w) ws ≡ false
       → SpellsList ws ls rest → SpellsPerms alone (Named ws) ls rest
 
--- The four statements. (SELinux policy language)
+-- the four statements (SELinux policy language)
 pub data SpellsStatement : Statement → Lexemes → Lexemes → Type 0 where
   type_of : (w : List ℕ) (ms : List Mention) (n k : ℕ) (ls rest : Lexemes) → excluded true w ≡ false
       → SpellsNames true false ms ls rest
@@ -103,13 +103,13 @@ declared_in (DeclareType w ms ∷ ss) = w ∷ declared_in ss
 declared_in (DeclareAttribute w ∷ ss) = w ∷ declared_in ss
 declared_in (s ∷ ss) = declared_in ss
 
--- how many allow statements there are
+-- the number of allow statements
 abbrev pub allows_in : List Statement → ℕ
 allows_in [] = 0
 allows_in (Allow a ∷ ss) = allows_in ss + 1
 allows_in (s ∷ ss) = allows_in ss
 
--- no name is there twice
+-- the names are pairwise different
 abbrev pub AreDistinct : List (List ℕ) → Type 0
 AreDistinct [] = Unit {0}
 AreDistinct (w ∷ ws) = (list_any (λ v. bytes_eq w v) ws ≡ false) × AreDistinct ws
@@ -121,6 +121,6 @@ pub record AreClean (ss : List Statement) : Type 0 where
   pub few_attributes : length (attributes_in ss) ≤ 256
   pub few_allows : allows_in ss ≤ 65536
 
--- the names that the statements declare, and how many allow statements there are
+-- the names that the statements declare, and the number of allow statements
 abbrev pub declared_names : List Statement → Names
 declared_names ss = record { types = types_in ss; attributes = attributes_in ss; allows = allows_in ss }

@@ -5,7 +5,7 @@ use Rattle.gt_policy.specs.declared.parse.PolicyFaultKind.{PolicyFaultKind}
 use Rattle.gt_policy.specs.declared.parse.PolicyFaultKind.TheVariants.{Syntax, Unknown, Twice, Permission, Outside}
 use Rattle.gt_policy.specs.declared.parse.PolicyFaultKind.TheVariants.{Limit, Memory}
 
--- the text of a kind of fault: its word, and the name or mark that is at fault
+-- the text of a kind of fault: its word, and the name or mark at fault
 abbrev pub kind_text : PolicyFaultKind → List ℕ
 kind_text Syntax = codes "syntax"
 kind_text (Unknown name) = codes "unknown " ++ string_bytes name

@@ -1,4 +1,4 @@
--- The names that statements use, and the first of them that is not declared, without a walk that looks them up.
+-- The names that statements use, and the first of them that is not declared, defined without a walk that looks them up.
 use Rattle.std.specs.Prelude.{◌≡◌, ℕ, ◌||◌, Bool, true, false, List, [], ◌∷◌, ◌++◌}
 use Rattle.std.specs.List.{list_any, list_all}
 use Rattle.std.specs.Str.{bytes_eq}
@@ -36,8 +36,8 @@ set_uses (With m ∷ items) = (InSet, m) ∷ set_uses items
 set_uses (Without m ∷ items) = (InSet, m) ∷ set_uses items
 set_uses (Itself ∷ items) = set_uses items
 
--- The names that a statement uses, in the order of the text. The name that it
--- declares is none of them, nor is a class or a permission.
+-- The names that a statement uses, in the order of the text, without the name that it
+-- declares, its classes and its permissions.
 abbrev pub statement_uses : Statement → List Use
 statement_uses (DeclareType w ms) = all_used OfAttribute ms
 statement_uses (DeclareAttribute w) = []
@@ -57,7 +57,7 @@ is_type ss w = list_any (λ t. bytes_eq t w) (types_in ss)
 abbrev pub is_attribute : List Statement → List ℕ → Bool
 is_attribute ss w = list_any (λ a. bytes_eq a w) (attributes_in ss)
 
--- whether a name that is used so is declared so, anywhere among the statements
+-- a used name is declared by some statement as what it has to be
 abbrev pub is_met : List Statement → Use → Bool
 is_met ss (InSet, m) = is_type ss m.name || is_attribute ss m.name
 is_met ss (OfType, m) = is_type ss m.name
@@ -67,8 +67,8 @@ is_met ss (OfAttribute, m) = is_attribute ss m.name
 abbrev pub AreDeclared : List Statement → Type 0
 AreDeclared ss = list_all (is_met ss) (uses_of ss) ≡ true
 
--- Of these names the first that the statements do not declare so is named by
--- the fault, with its line: all before it are declared.
+-- The first use that is not declared as it has to be, with all before it declared; the fault
+-- gives its name and line.
 pub record IsFirstUndeclared (ss : List Statement) (uses : List Use) (f : TokenFault) : Type 0 where
   pub before : List Use
   pub here : Use

@@ -1,4 +1,4 @@
-//! What the definitions of the language come to.
+//! Laws about the definitions of the language.
 ghost use Rattle.std.specs.Prelude.{◌≡◌, ◌<◌, ◌⊎◌, ◌&&◌, List, ℕ, Result, Ok, Err, Some, length};
 ghost use Rattle.gt_policy.specs.Accepting.{IsWritten, IsBroken, meant_by};
 ghost use Rattle.gt_policy.specs.Allowing.{Meaning, type_named, is_allowed, lists_perm};
@@ -17,19 +17,19 @@ ghost use Rattle.gt_types.specs.declared.perms.Perms.{Perms};
 
 use gt_types::{LONGEST_TEXT, the_permissions};
 
-/// Every text says something: a policy or a fault.
+/// A law: every text is a policy or has a fault.
 pub fn every_text_says_something()
     ensures { (text : List ℕ) → (said : Result Meaning TokenFault) × Says text said }
 {}
 
-/// A text says one thing: a policy or a fault, and only one.
+/// A law: no text has two meanings, two faults, or one of each.
 pub fn one_meaning()
     ensures { (text : List ℕ) (one other : Result Meaning TokenFault) →
         Says text one → Says text other → one ≡ other }
 {}
 
-/// A text is a policy exactly if its tokens are spelled by clean statements whose names are all
-/// declared, and it then means what they mean.
+/// A law: a text is a policy exactly if clean statements whose names are all declared spell its tokens. It then means
+/// what these statements mean.
 pub fn written_texts()
     ensures accepted { (text : List ℕ) (m : Meaning) → Says text (Ok m) →
         (ss : List Statement) × IsWritten text ss × AreDeclared ss × (meant_by ss ≡ Ok m) }
@@ -39,8 +39,8 @@ pub fn written_texts()
         IsWritten text ss → AreDeclared ss → (m : Meaning) × (meant_by ss ≡ Ok m) }
 {}
 
-/// The fault of a text is one of three. The text is too long. Or it is the fault of the first statement that is none.
-/// Or all statements are clean, and it is the fault of the first name that is not declared.
+/// A law: the fault of a text is one of three. The text is too long. Or it is the fault of the first malformed
+/// statement. Or all statements are clean, and it is the fault of the first name that is not declared as it has to be.
 pub fn first_faults()
     ensures faulty { (text : List ℕ) (f : TokenFault) → Says text (Err f) →
         ((LONGEST_TEXT < length text) × (at 1 TokenFaultKind.Limit ≡ f))
@@ -51,9 +51,10 @@ pub fn first_faults()
         IsWritten text ss → IsFirstUndeclared ss (uses_of ss) f → Says text (Err f) }
 {}
 
-/// A policy allows what the statements of its text grant, by the names in them. Some allow statement whose classes hold
-/// `grant` lists the permission or `*`. Its source set holds the source, and its target set holds the target, or says
-/// `self` and the two are one. The bits that a statement grants are those of the words that it lists.
+/// A law: a policy allows what the statements of its text grant, by the names in them. Some allow statement whose
+/// classes include `grant` lists the permission or `*`. Its source set holds the source, and its target set holds the
+/// target, or contains `self` and the two are one. The bits that a statement grants are those of the words that it
+/// lists.
 pub fn granted_by_statements()
     ensures allowed { (ss : List Statement) (m : Meaning) (s t w : List ℕ) (i j : TypeId) (perm : Perms) →
         meant_by ss ≡ Ok m → type_named m.types s ≡ Some i → type_named m.types t ≡ Some j →

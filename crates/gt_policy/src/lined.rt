@@ -13,14 +13,14 @@ use gt_policy_text::Items;
 use gt_types::LONGEST_TEXT;
 use std::alloc::Global;
 
-/// A statement, with the line of its first token.
+/// A statement, with the line of its first token, counted from 1.
 #[derive(Drop)]
 pub struct LinedStatement<'a> {
     pub line: u32,
     pub statement: Statement<'a>,
 }
 
-// The statements that are left, each with its line.
+// Parses the statements that are left, each with its line.
 fn lined<'a>(
     alloc: Global,
     parser: &mut Parser<'a>,
@@ -46,9 +46,9 @@ fn lined_of<'a>(alloc: Global, text: &'a [u8]) -> Result<Items<LinedStatement<'a
     lined(alloc, &mut parser, &mut seen)
 }
 
-/// The statements of a text, each with the line that it begins on, or the text's first fault. A name that is not
-/// declared is none here: [`Policy::parse`](crate::Policy::parse) finds it. If memory is refused the fault is
-/// [`PolicyFaultKind::Memory`], with line 0.
+/// Returns the statements of a text, each with the line on which it begins, or the first fault of the text. Names are
+/// not looked up, so an undeclared name is not a fault here: [`Policy::parse`](crate::Policy::parse) finds it. If an
+/// allocation fails, the fault is [`PolicyFaultKind::Memory`] with line 0.
 pub fn statements_of<'a>(
     alloc: Global,
     text: &'a str,

@@ -12,8 +12,8 @@ use bitflags::Flags;
 use gt_types::{Perms, TypeId};
 use std::marker::Model;
 
-/// What one type may do to each type. A contract sees a lane for each permission: the types on which it
-/// has it.
+/// What one type may do to each type. A contract sees one lane per permission: the types on which it has the
+/// permission.
 #[derive(Drop)]
 pub struct TypeRow {
     map_read: TypeSet,
@@ -34,7 +34,7 @@ impl Model for TypeRow {
     ghost view = { λ r. lanes r.map_read r.map_write r.unmap r.transfer r.setup r.copy r.query };
 }
 
-// The types on which a source has a permission, and those that one more statement adds.
+// Returns the types on which a source has a permission, after one more statement.
 fn grown(so_far: TypeSet, rule: &AllowRule, perm: Perms, targets: TypeSet) -> TypeSet
     ensures { (t : ℕ) → holds result t ≡ (holds so_far t || (lists_perm rule.now.perms perm && holds targets t)) }
 {
@@ -46,7 +46,7 @@ fn grown(so_far: TypeSet, rule: &AllowRule, perm: Perms, targets: TypeSet) -> Ty
 }
 
 impl TypeRow {
-    /// Of a type that may do nothing.
+    /// Makes the row of a type that may do nothing.
     pub(crate) fn empty() -> TypeRow
         ensures { (t : ℕ) (perm : Perms) → lanes_reach result t perm ≡ false }
     {
@@ -62,7 +62,7 @@ impl TypeRow {
         }
     }
 
-    /// The same, and what one more statement grants to the source.
+    /// Adds what one more statement grants to the source.
     pub(crate) fn with(self, rule: &AllowRule, source: TypeId) -> TypeRow
         ensures { (t : ℕ) (perm : Perms) →
             lanes_reach result t perm ≡ (lanes_reach self t perm
@@ -83,14 +83,14 @@ impl TypeRow {
         }
     }
 
-    // A law of every row: nothing is answered yes to a question for several permissions or for none.
+    // A law: the answer is no for several permissions and for none.
     fn answers_one_permission(&self)
         ensures { (t : ℕ) (perm : Perms) → is_permission perm ≡ false → lanes_reach self.now t perm ≡ false }
     {
         let _first = self.map_read;
     }
 
-    /// Whether it has the permission on the target.
+    /// Returns whether the type has the permission on the target; false unless `perm` is exactly one permission.
     pub fn reaches(&self, target: TypeId, perm: Perms) -> bool
         ensures { result ≡ lanes_reach self.now target.0 perm }
     {
@@ -113,7 +113,7 @@ impl TypeRow {
         }
     }
 
-    /// The permissions that it has on the target, as one set.
+    /// Returns the permissions that the type has on the target.
     pub fn on(&self, target: TypeId) -> Perms
         ensures { (perm : Perms) → (is_permission perm && lists_perm result perm) ≡ lanes_reach self.now target.0 perm }
     {

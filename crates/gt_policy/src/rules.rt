@@ -15,18 +15,18 @@ use bitflags::Flags;
 use gt_types::{Perms, TypeId};
 use std::alloc::{AllocError, Global};
 
-/// The permissions that the types of a set have on those of another.
+/// An allow statement: the types of one set have the permissions on the types of another.
 #[derive(Clone, Copy)]
 pub struct AllowRule {
     pub source: TypeSet,
     pub target: TypeSet,
-    /// Whether each source has them on itself too.
+    /// Whether each source has the permissions on itself too.
     pub itself: bool,
     pub perms: Perms,
 }
 
 impl AllowRule {
-    /// Whether the source has the permission on the target.
+    /// Returns whether the statement grants the permission to the source on the target.
     pub(crate) fn grants(&self, source: TypeId, target: TypeId, perm: Perms) -> bool
         ensures { result ≡ grants self.now source.0 target.0 perm }
     {
@@ -35,7 +35,7 @@ impl AllowRule {
             && (self.target.contains(target) || (self.itself && target == source))
     }
 
-    /// The types on which the source has the permissions of the statement.
+    /// Returns the types on which the statement grants its permissions to the source.
     pub(crate) fn targets(&self, source: TypeId) -> TypeSet
         ensures { (t : ℕ) → holds result t ≡ is_reached self.now source.0 t }
     {
@@ -61,14 +61,14 @@ fn says_itself(set: &[DraftElement]) -> bool
     false
 }
 
-/// The types of each attribute, by its number.
+/// The types of each attribute, by the attribute's number.
 #[derive(Drop)]
 pub struct Members {
     sets: [TypeSet; 256],
 }
 
 impl Members {
-    /// The types that were given each attribute.
+    /// Collects the types that have each attribute.
     pub(crate) fn new(given: &[TypeAttribute]) -> Members
         ensures { (a n : ℕ) → has result a n ≡ was_given given.now a n }
     {
@@ -80,7 +80,7 @@ impl Members {
         Members { sets }
     }
 
-    // The types that a name means.
+    // Returns the types that a name stands for.
     fn named(&self, symbol: Symbol) -> TypeSet
         ensures { (n : ℕ) → holds result n ≡ stands_for (has self.now) symbol n }
     {
@@ -90,7 +90,7 @@ impl Members {
         }
     }
 
-    // The types that an item of a set adds to it.
+    // Returns the types that an item adds to its set.
     fn included(&self, element: DraftElement) -> TypeSet
         ensures { (n : ℕ) → holds result n ≡ is_with (has self.now) element n }
     {
@@ -101,7 +101,7 @@ impl Members {
         }
     }
 
-    // The types that an item of a set takes from it.
+    // Returns the types that an item removes from its set.
     fn excluded(&self, element: DraftElement) -> TypeSet
         ensures { (n : ℕ) → holds result n ≡ is_without (has self.now) element n }
     {
@@ -112,7 +112,7 @@ impl Members {
         }
     }
 
-    // The types of a set: what is taken is taken from all, whatever the order of the items.
+    // Returns the types of a set. Excluded types are removed at the end, so the order of the items doesn't matter.
     fn types_of(&self, set: &[DraftElement]) -> TypeSet
         ensures { (n : ℕ) → holds result n ≡ holds_type (has self.now) set.now n }
     {
@@ -137,7 +137,7 @@ impl Members {
         }
     }
 
-    /// The allow statements, with their sets as sets of types.
+    /// Makes the rules of the allow statements.
     pub(crate) fn rules(
         &self,
         alloc: Global,
@@ -155,7 +155,7 @@ impl Members {
     }
 }
 
-/// The allow statements of a draft, with their sets as sets of types.
+/// Makes the rules of a draft.
 pub(crate) fn rules_of(alloc: Global, draft: &Draft) -> Result<Vec<AllowRule>, AllocError>
     ensures { IfOk result (λ rules. (s t : ℕ) (perm : Perms) → some_grants rules.items s t perm
         ≡ list_any (λ rule. is_granted_by (was_given draft.now.given) s t perm rule) draft.now.rules) }

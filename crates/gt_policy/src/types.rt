@@ -1,10 +1,10 @@
-//! Sets of types, one bit a type.
+//! Sets of types, with one bit per type.
 ghost use Rattle.std.specs.Prelude.{◌≡◌, ℕ, ◌==◌, ◌||◌, ◌&&◌, not, false};
 ghost use Rattle.gt_policy.specs.TypeSets.{holds};
 
 use gt_types::TypeId;
 
-/// A set of types of a policy. Their numbers are below 256.
+/// A set of types of a policy, which are numbered from 0 to 255.
 #[derive(Clone, Copy)]
 pub struct TypeSet {
     low: u128,
@@ -12,14 +12,14 @@ pub struct TypeSet {
 }
 
 impl TypeSet {
-    /// The set with no type.
+    /// Makes the empty set.
     pub(crate) fn empty() -> TypeSet
         ensures { (n : ℕ) → holds result n ≡ false }
     {
         TypeSet { low: 0, high: 0 }
     }
 
-    /// Whether the type is in the set.
+    /// Returns whether the type is in the set.
     pub fn contains(self, id: TypeId) -> bool
         ensures { result ≡ holds self id.0 }
     {
@@ -30,7 +30,7 @@ impl TypeSet {
         }
     }
 
-    /// The set and one more type.
+    /// Adds a type.
     pub(crate) fn with(self, id: u8) -> TypeSet
         ensures { (n : ℕ) → holds result n ≡ (holds self n || (n == id)) }
     {
@@ -47,7 +47,7 @@ impl TypeSet {
         }
     }
 
-    /// The types of either set.
+    /// Returns the types that are in either set.
     pub(crate) fn union(self, other: TypeSet) -> TypeSet
         ensures { (n : ℕ) → holds result n ≡ (holds self n || holds other n) }
     {
@@ -57,7 +57,7 @@ impl TypeSet {
         }
     }
 
-    /// The types of the set that are not in the other.
+    /// Returns the types that are in this set but not in the other.
     pub(crate) fn without(self, other: TypeSet) -> TypeSet
         ensures { (n : ℕ) → holds result n ≡ (holds self n && not (holds other n)) }
     {

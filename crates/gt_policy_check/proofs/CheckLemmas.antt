@@ -194,7 +194,7 @@ repeated_same xs before [] = refl
 repeated_same xs before (y ∷ ys) =
     ap₂ (λ (b : Bool) (l : List ℕ). (if b then y.line ∷ [] else []) ++ l) (repeats_same xs before y.statement) (repeated_same xs (before ++ y ∷ []) ys)
 
--- a text that is no policy
+-- a text that is not a policy
 pub judged_faulty : (line : ℕ) (kind : PolicyFaultKind) (text : List ℕ) (found : List Finding) → ((f : TokenFault) → fault_shown (record { line = line; kind = kind }) ≡ Some f → Says text (Err f))
     → is_some (fault_shown (record { line = line; kind = kind })) ≡ true → error_lines found ≡ line ∷ [] → Judges text found
 judged_faulty line kinds.Memory text found says shown lines = absurd (cc)
@@ -205,7 +205,7 @@ judged_faulty line (kinds.Permission name) text found says shown lines = faulty 
 judged_faulty line (kinds.Outside word) text found says shown lines = faulty _ found (says _ refl) lines
 judged_faulty line kinds.Limit text found says shown lines = faulty _ found (says _ refl) lines
 
--- a fault shows something, if memory was not refused
+-- a fault shows something, unless an allocation failed
 pub is_shown : (line : ℕ) (kind : PolicyFaultKind) → (kind ≡ kinds.Memory → ⊥) → is_some (fault_shown (record { line = line; kind = kind })) ≡ true
 is_shown line kinds.Memory other = absurd (other refl)
 is_shown line kinds.Syntax other = refl

@@ -1,4 +1,4 @@
--- What is told of a text: that it is no policy, or what is useless in it.
+-- The findings of a text: that it is not a policy, or what is useless in it.
 use Rattle.std.specs.Prelude.{◌≡◌, ℕ, Bool, true, false, not, ◌&&◌, List, [], ◌∷◌, ◌++◌, Ok, Err, map, filter}
 use Rattle.std.specs.Prelude.{if◌then◌else◌}
 use Rattle.gt_policy_check.specs.Prelude.{flat_map, list_any, every_permission, permission_name, Meaning, statement_grants}
@@ -22,7 +22,7 @@ is_error NeverMatters = false
 is_error NeverMapped = false
 is_error Note = false
 
--- the finding is that a statement allows nothing
+-- the finding is a statement that allows nothing
 abbrev pub is_of_nothing : FindingKind → Bool
 is_of_nothing Fault = false
 is_of_nothing OtherClass = false
@@ -36,7 +36,7 @@ is_of_nothing NeverMatters = false
 is_of_nothing NeverMapped = false
 is_of_nothing Note = false
 
--- the finding is that a statement repeats an earlier one
+-- the finding is a statement that repeats an earlier one
 abbrev pub is_of_repeat : FindingKind → Bool
 is_of_repeat Fault = false
 is_of_repeat OtherClass = false
@@ -54,11 +54,11 @@ is_of_repeat Note = false
 abbrev pub error_lines : List Finding → List ℕ
 error_lines found = flat_map (λ x. if is_error x.kind then x.line ∷ [] else []) found
 
--- the lines of the statements that are told to allow nothing
+-- the lines of the findings of statements that allow nothing
 abbrev pub nothing_lines : List Finding → List ℕ
 nothing_lines found = flat_map (λ x. if is_of_nothing x.kind then x.line ∷ [] else []) found
 
--- the lines of the statements that are told to repeat an earlier one
+-- the lines of the findings of statements that repeat an earlier one
 abbrev pub repeat_lines : List Finding → List ℕ
 repeat_lines found = flat_map (λ x. if is_of_repeat x.kind then x.line ∷ [] else []) found
 
@@ -76,7 +76,7 @@ allows_nothing xs (DeclareAttribute w) = false
 allows_nothing xs (GiveAttributes m ms) = false
 allows_nothing xs (Allow a) = has_grant a.classes && not (grants_something xs (Allow a))
 
--- whatever the statement x grants to a declared type on a declared type, y grants too
+-- y grants whatever x grants to a declared type on a declared type
 abbrev pub grants_no_more : List LinedStatement → Statement → Statement → Bool
 grants_no_more xs x y = not (list_any
     (λ p. list_any
@@ -89,13 +89,13 @@ grants_no_more xs x y = not (list_any
 abbrev pub repeats : List LinedStatement → List LinedStatement → Statement → Bool
 repeats xs before x = grants_something xs x && list_any (λ y. grants_no_more xs x y.statement) before
 
--- the lines of those statements that repeat one that comes before them
+-- the lines of those statements that repeat an earlier one
 abbrev pub lines_repeated : List LinedStatement → List LinedStatement → List LinedStatement → List ℕ
 lines_repeated xs before [] = []
 lines_repeated xs before (y ∷ ys) =
     (if repeats xs before y.statement then y.line ∷ [] else []) ++ lines_repeated xs (before ++ y ∷ []) ys
 
--- the same, of the members
+-- the same, by the members
 abbrev pub grants_with : List Member → Statement → Bool
 grants_with members x = list_any (λ p. gives_some (permission_name p) members members x) every_permission
 
@@ -127,20 +127,20 @@ is_useless_with members (Allow a) =
 abbrev pub useless_line : List Member → LinedStatement → List ℕ
 useless_line members x = if is_useless_with members x.statement then x.line ∷ [] else []
 
--- of what was added nothing is an error, nor that a statement allows nothing or repeats another
+-- no finding that was added is an error, or a statement that allows nothing or repeats another
 abbrev pub Quiet : List Finding → List Finding → Type 0
 Quiet old new =
     (error_lines new ≡ error_lines old) × (nothing_lines new ≡ nothing_lines old) × (repeat_lines new ≡ repeat_lines old)
 
--- of what was added nothing is an error, these are the lines of statements that allow nothing, and those the lines of
--- statements that repeat another
+-- no finding that was added is an error; these lines of statements that allow nothing were added, and
+-- these of statements that repeat another
 abbrev pub TellsUseless : List Finding → List Finding → List ℕ → List ℕ → Type 0
 TellsUseless old new nothing repeated =
     (error_lines new ≡ error_lines old) × (nothing_lines new ≡ nothing_lines old ++ nothing)
     × (repeat_lines new ≡ repeat_lines old ++ repeated)
 
--- What is found in a text. If it is no policy one error is told, at the line of its first fault. If it is one
--- no error is, and those statements are told to allow nothing that do, and those to repeat an earlier one that do.
+-- The findings of a text. A text that is not a policy has one error, at the line of its first fault. A policy has
+-- none, and its findings include exactly the statements that allow nothing, and exactly those that repeat one.
 pub data Judges (text : List ℕ) : List Finding → Type 0 where
   faulty : (f : TokenFault) (found : List Finding) → Says text (Err f) → error_lines found ≡ f.line ∷ []
       → Judges text found

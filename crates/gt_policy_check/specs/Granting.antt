@@ -1,4 +1,4 @@
--- Which types a statement allows what, by the names that stand for them.
+-- What a statement grants to which types, by the names that stand for them.
 use Rattle.std.specs.Prelude.{ℕ, Bool, false, ◌&&◌, ◌||◌, not, List}
 use Rattle.std.specs.List.{list_any}
 use Rattle.std.specs.Str.{bytes_eq}
@@ -12,23 +12,23 @@ use Rattle.gt_policy.specs.declared.statements.Statement.TheVariants.{DeclareTyp
 use Rattle.gt_policy.specs.declared.statements.Statement.TheVariants.{Allow}
 use Rattle.gt_policy_check.specs.declared.members.Member.{Member}
 
--- an item puts a type of these names into its set (SELinux policy language)
+-- an item puts a type with these names into its set (SELinux policy language)
 abbrev pub puts_in : List (List ℕ) → SetElement → Bool
 puts_in names (With m) = list_any (λ v. bytes_eq v m.name) names
 puts_in names (Without m) = false
 puts_in names Itself = false
 
--- an item takes a type of these names out of its set (SELinux policy language)
+-- an item takes a type with these names out of its set (SELinux policy language)
 abbrev pub takes_out : List (List ℕ) → SetElement → Bool
 takes_out names (With m) = false
 takes_out names (Without m) = list_any (λ v. bytes_eq v m.name) names
 takes_out names Itself = false
 
--- a set holds a type of these names (SELinux policy language)
+-- a set holds a type with these names (SELinux policy language)
 abbrev pub elements_hold : List (List ℕ) → List SetElement → Bool
 elements_hold names items = list_any (λ i. puts_in names i) items && not (list_any (λ i. takes_out names i) items)
 
--- the target set holds the target, or says `self` and the two are one (SELinux policy language: allow)
+-- the target set holds the target, or contains `self` and the two are one (SELinux policy language: allow)
 abbrev pub reaches_by : Member → Member → Allowance → Bool
 reaches_by s t a = elements_hold t.names a.target || (list_any is_self a.target && bytes_eq s.name t.name)
 
@@ -36,11 +36,11 @@ reaches_by s t a = elements_hold t.names a.target || (list_any is_self a.target 
 abbrev pub gives_source : List ℕ → Member → Allowance → Bool
 gives_source w s a = (has_grant a.classes && lists_word a.perms w) && elements_hold s.names a.source
 
--- a grant to the source on some of the targets (SELinux policy language: allow)
+-- the source is granted the permission on some of the targets (SELinux policy language: allow)
 abbrev pub gives_by : List ℕ → List Member → Member → Allowance → Bool
 gives_by w targets s a = gives_source w s a && list_any (λ t. reaches_by s t a) targets
 
--- a statement grants it to some of the sources on some of the targets
+-- a statement grants the permission to some of the sources on some of the targets
 abbrev pub gives_some : List ℕ → List Member → List Member → Statement → Bool
 gives_some w sources targets (DeclareType v ms) = false
 gives_some w sources targets (DeclareAttribute v) = false
@@ -53,25 +53,25 @@ is_near_miss w targets s a =
     (has_grant a.classes && (lists_word a.perms w || elements_hold s.names a.source))
     && list_any (λ t. reaches_by s t a) targets
 
--- a statement that comes near
+-- a statement is a near miss for some of the sources
 abbrev pub near_some : List ℕ → List Member → List Member → Statement → Bool
 near_some w sources targets (DeclareType v ms) = false
 near_some w sources targets (DeclareAttribute v) = false
 near_some w sources targets (GiveAttributes m ms) = false
 near_some w sources targets (Allow a) = list_any (λ s. is_near_miss w targets s a) sources
 
--- a statement grants it to the source on the target
+-- a statement grants the permission to the source on the target
 abbrev pub gives_one : List ℕ → Member → Member → Statement → Bool
 gives_one w s t (DeclareType v ms) = false
 gives_one w s t (DeclareAttribute v) = false
 gives_one w s t (GiveAttributes m ms) = false
 gives_one w s t (Allow a) = gives_source w s a && reaches_by s t a
 
--- of a source to which both may grant it, a statement reaches a target on which the other does not
+-- the statement reaches a target on which the other does not grant the permission to this source
 abbrev pub exceeds_on : List ℕ → List Member → Allowance → Statement → Member → Bool
 exceeds_on w targets a other s = list_any (λ t. reaches_by s t a && not (gives_one w s t other)) targets
 
--- a statement grants it to some of the types on some of them, where the other does not
+-- a statement grants the permission to some type on some type on which the other does not
 abbrev pub exceeds_some : List ℕ → List Member → Statement → Statement → Bool
 exceeds_some w members (DeclareType v ms) other = false
 exceeds_some w members (DeclareAttribute v) other = false

@@ -15,7 +15,8 @@ names_given t (DeclareAttribute w) = []
 names_given t (GiveAttributes m ms) = if bytes_eq m.name t then map (λ n. n.name) ms else []
 names_given t (Allow a) = []
 
--- the names that stand for a type: its own, and those of the attributes that statements give it (SELinux policy language)
+-- the names that stand for a type: its own, and those of the attributes that statements give it (SELinux policy
+-- language)
 abbrev pub names_in_lines : List LinedStatement → List ℕ → List (List ℕ)
 names_in_lines xs t = t ∷ flat_map (λ x. names_given t x.statement) xs
 
@@ -23,7 +24,7 @@ names_in_lines xs t = t ∷ flat_map (λ x. names_given t x.statement) xs
 abbrev pub membership_of : List LinedStatement → List ℕ → Member
 membership_of xs t = record { name = t; names = names_in_lines xs t }
 
--- the type is asked for: by its name, or as any
+-- the type is asked for: by its name, or as any type
 abbrev pub is_asked : Option (List ℕ) → List ℕ → Bool
 is_asked (Some wanted) t = bytes_eq t wanted
 is_asked None t = true

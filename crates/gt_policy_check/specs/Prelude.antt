@@ -1,4 +1,4 @@
--- The names of other crates, and of the code, that the definitions here speak of.
+-- The names of other crates, and of the code, that the definitions here use.
 pub use Rattle.gt_policy_check.specs.declared.findings.Finding.{Finding}
 pub use Rattle.gt_policy_check.specs.declared.findings.FindingKind.{FindingKind}
 pub use Rattle.gt_policy_check.specs.declared.findings.FindingKind.TheVariants.{AllowsNothing, Fault, NeverAsked, NeverMapped}

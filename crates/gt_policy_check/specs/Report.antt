@@ -9,7 +9,7 @@ use Rattle.gt_policy_check.specs.declared.findings.FindingKind.TheVariants.{Neve
 use Rattle.gt_policy_check.specs.declared.findings.FindingKind.TheVariants.{Repeats, NeverNamed, NoDomain, NeverMatters, NeverMapped}
 use Rattle.gt_policy_check.specs.declared.findings.FindingKind.TheVariants.{Note}
 
--- how bad a finding is
+-- the severity of a finding
 abbrev pub severity_text : FindingKind → List ℕ
 severity_text Fault = codes "error"
 severity_text OtherClass = codes "warning"
@@ -28,7 +28,7 @@ abbrev pub heading_text : List ℕ → Finding → List ℕ
 heading_text file x = file ++ codes ":" ++ decimal x.line ++ codes ":" ++ decimal x.column ++ codes ": "
     ++ severity_text x.kind ++ codes ": " ++ x.message.items ++ codes "\n"
 
--- a finding as an object on a line of its own (JSON Lines)
+-- a finding as an object on one line (JSON Lines)
 abbrev pub object_text : List ℕ → Finding → List ℕ
 object_text file x = codes "{\"file\":" ++ quoted file ++ codes ",\"line\":" ++ decimal x.line
     ++ codes ",\"column\":" ++ decimal x.column ++ codes ",\"severity\":\"" ++ severity_text x.kind

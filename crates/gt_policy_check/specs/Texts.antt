@@ -23,7 +23,7 @@ item_text (With m) = m.name
 item_text (Without m) = codes "-" ++ m.name
 item_text Itself = codes "self"
 
--- an item with no `-`
+-- an item without `-`
 abbrev pub is_kept : SetElement → Bool
 is_kept (With m) = true
 is_kept (Without m) = false
@@ -60,13 +60,13 @@ abbrev pub allow_text : Allowance → List ℕ
 allow_text a = codes "allow" ++ set_text a.source ++ set_text a.target ++ codes ":" ++ list_text a.classes
     ++ perms_text a.perms ++ codes ";"
 
--- an item is this very type
+-- an item is exactly this type
 abbrev pub names_type : List ℕ → SetElement → Bool
 names_type t (With m) = bytes_eq m.name t
 names_type t (Without m) = false
 names_type t Itself = false
 
--- ` by NAME`, of the attribute that an item names
+-- ` by NAME` for the attribute that an item names
 abbrev pub item_by_text : SetElement → List ℕ
 item_by_text (With m) = codes " by " ++ m.name
 item_by_text (Without m) = []
@@ -77,12 +77,12 @@ abbrev pub by_text : Option SetElement → List ℕ
 by_text (Some i) = item_by_text i
 by_text None = []
 
--- by which attribute a type came into a set: the first that it has; nothing if it is named itself
+-- the attribute through which a set holds a type: the first that it has; nothing if the set names the type
 abbrev pub way_text : Member → List SetElement → List ℕ
 way_text m items = if list_any (λ i. names_type m.name i) items then []
     else by_text (find (λ i. puts_in m.names i) items)
 
--- a type that the set holds, and by which attribute
+-- a type that the set holds, and through which attribute
 abbrev pub held_text : List SetElement → Member → List ℕ
 held_text items m = if elements_hold m.names items then codes " " ++ m.name ++ way_text m items else []
 
@@ -90,11 +90,11 @@ held_text items m = if elements_hold m.names items then codes " " ++ m.name ++ w
 abbrev pub all_held_text : List SetElement → List Member → List ℕ
 all_held_text items members = flat_map (λ m. held_text items m) members
 
--- ` self` for a set that says it
+-- ` self` for a set that contains it
 abbrev pub self_text : List SetElement → List ℕ
 self_text items = if list_any is_self items then codes " self" else []
 
--- which of the sources and targets the sets of a statement hold
+-- the sources and targets that the sets of a statement hold
 abbrev pub note_text : List Member → List Member → Allowance → List ℕ
 note_text sources targets a = codes "  #" ++ all_held_text a.source sources ++ codes " ->"
     ++ all_held_text a.target targets ++ self_text a.target ++ codes "\n"
@@ -110,6 +110,6 @@ report_entry file line sources targets (DeclareAttribute w) = []
 report_entry file line sources targets (GiveAttributes m ms) = []
 report_entry file line sources targets (Allow a) = place_text file line ++ allow_text a ++ note_text sources targets a
 
--- the same, of a statement with its line
+-- the same for a statement with its line
 abbrev pub report_entry_text : List ℕ → List Member → List Member → LinedStatement → List ℕ
 report_entry_text file sources targets x = report_entry file x.line sources targets x.statement

@@ -1,4 +1,4 @@
--- What is answered, and by which statements.
+-- The answer to a question, and its statements.
 use Rattle.std.specs.Prelude.{◌≡◌, ℕ, Bool, ◌==◌, List, [], ◌++◌, codes, length, filter, Option, is_none, if◌then◌else◌}
 use Rattle.std.specs.List.{flat_map, list_any}
 use Rattle.std.specs.Option.{option_map}
@@ -17,7 +17,7 @@ use Rattle.gt_policy_check.specs.Granting.{gives_some, near_some}
 use Rattle.gt_policy_check.specs.Members.{is_asked, members_of}
 use Rattle.gt_policy_check.specs.Texts.{report_entry_text}
 
--- the name that is asked for, none for any type
+-- the name that is asked for; none for any type
 abbrev pub source_asked : WhyQuestion → Option (List ℕ)
 source_asked q = option_map (λ a. a.now) q.source
 
@@ -28,7 +28,7 @@ target_asked q = option_map (λ a. a.now) q.target
 abbrev pub types_asked : List LinedStatement → Option (List ℕ) → List (List ℕ)
 types_asked xs asked = filter (is_asked asked) (types_in (statements_in xs))
 
--- the statement grants the permission to some source that is asked for, on some target that is
+-- the statement grants the permission to some source that is asked for, on some target that is asked for
 abbrev pub grants_asked : List LinedStatement → WhyQuestion → Statement → Bool
 grants_asked xs q x = list_any
     (λ s. list_any (λ t. statement_grants (statements_in xs) s t q.perm.now x) (types_asked xs (target_asked q)))
@@ -38,23 +38,23 @@ grants_asked xs q x = list_any
 abbrev pub is_near : List LinedStatement → WhyQuestion → Statement → Bool
 is_near xs q x = near_some q.perm.now (members_of xs (source_asked q)) (members_of xs (target_asked q)) x
 
--- the line of a statement, if it is one of them
+-- the line of a statement, if it passes the test
 abbrev pub entry_if : (Statement → Bool) → List ℕ → List Member → List Member → LinedStatement → List ℕ
 entry_if test file sources targets x = if test x.statement then report_entry_text file sources targets x else []
 
--- the lines of those of the statements
+-- the lines of the statements that pass the test
 abbrev pub entries_if : (Statement → Bool) → List ℕ → List Member → List Member → List LinedStatement → List ℕ
 entries_if test file sources targets xs = flat_map (λ x. entry_if test file sources targets x) xs
 
--- what these statements answer for these sources and targets
+-- the answer of these statements for these sources and targets
 abbrev pub answer_by : List ℕ → List Member → List Member → List LinedStatement → WhyAnswer
 answer_by w sources targets xs = if is_none (permission_of w) then NoPermission
     else (if length sources == 0 then NoSource
     else (if length targets == 0 then NoTarget
     else (if list_any (λ x. gives_some w sources targets x.statement) xs then Allowed else Denied)))
 
--- the statements that are listed under an answer: those that grant the permission if it is allowed, and else those that
--- come near
+-- the statements that are listed under an answer: those that grant the permission if it is allowed, and else the
+-- near misses
 abbrev pub is_listed_under : WhyAnswer → List ℕ → List Member → List Member → Statement → Bool
 is_listed_under Allowed w sources targets = gives_some w sources targets
 is_listed_under answer w sources targets = near_some w sources targets
@@ -69,20 +69,20 @@ lines_with NoSource file w sources targets xs = []
 lines_with NoTarget file w sources targets xs = []
 lines_with NoPermission file w sources targets xs = []
 
--- what a policy answers: allowed if some statement grants what is asked
+-- the answer of a policy: allowed if some statement grants what is asked
 abbrev pub why_answer : List LinedStatement → WhyQuestion → WhyAnswer
 why_answer xs q = if is_none (permission_of q.perm.now) then NoPermission
     else (if length (types_asked xs (source_asked q)) == 0 then NoSource
     else (if length (types_asked xs (target_asked q)) == 0 then NoTarget
     else (if list_any (λ x. grants_asked xs q x.statement) xs then Allowed else Denied)))
 
--- the lines of the statements that pass
+-- the lines of the statements that pass the test
 abbrev pub entries_of : (Statement → Bool) → List ℕ → List LinedStatement → WhyQuestion → List ℕ
 entries_of test file xs q =
     flat_map (report_entry_text file (members_of xs (source_asked q)) (members_of xs (target_asked q)))
     (filter (λ x. test x.statement) xs)
 
--- The lines of an answer. For an allowed question they are those of exactly the statements that grant it, in the
+-- The lines of an answer: for an allowed question those of exactly the statements that grant it, in the
 -- order of the text.
 abbrev pub lines_of : WhyAnswer → List ℕ → List LinedStatement → WhyQuestion → List ℕ
 lines_of Allowed file xs q = codes "allowed\n" ++ entries_of (grants_asked xs q) file xs q
@@ -91,6 +91,6 @@ lines_of NoSource file xs q = []
 lines_of NoTarget file xs q = []
 lines_of NoPermission file xs q = []
 
--- the answer is what the statements say, with its lines
+-- the answer is that of the statements, with its lines
 abbrev pub IsExplained : List ℕ → WhyQuestion → List LinedStatement → Explanation → Type 0
 IsExplained file q xs e = (e.answer ≡ why_answer xs q) × (e.lines.items ≡ lines_of e.answer file xs q)

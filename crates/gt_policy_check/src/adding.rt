@@ -1,4 +1,4 @@
-//! Findings that are added to those before.
+//! Adds findings.
 ghost use Rattle.std.specs.Prelude.{◌≡◌, ◌∷◌, [], true, false, OnOk};
 ghost use Rattle.gt_policy_check.specs.Check.{Quiet, TellsUseless, is_error, is_of_nothing, is_of_repeat};
 
@@ -7,7 +7,7 @@ use crate::findings::{Finding, FindingKind};
 use crate::places::{LineTokens, column_of_word};
 use std::alloc::AllocError;
 
-/// Where a finding is: the text, the line with its tokens, and the column at which its statement begins.
+/// The position of a finding: the text, its line with the tokens, and the column at which the statement begins.
 #[derive(Clone, Copy)]
 pub(crate) struct Place<'t> {
     pub bytes: &'t [u8],
@@ -16,7 +16,7 @@ pub(crate) struct Place<'t> {
     pub column: u32,
 }
 
-/// Adds a finding that isn't an error, nor about a statement that allows nothing or repeats another.
+/// Adds a finding other than an error, a statement that allows nothing, or a statement that repeats another.
 #[tactic(auto, using(crate::proofs::CheckLemmas::quiet_push))]
 pub(crate) fn push_quiet(found: &mut Vec<Finding>, finding: Finding) -> Result<(), AllocError>
     requires no_error { is_error finding.kind ≡ false }
@@ -28,7 +28,6 @@ pub(crate) fn push_quiet(found: &mut Vec<Finding>, finding: Finding) -> Result<(
     Ok(())
 }
 
-/// Adds a note.
 pub(crate) fn push_note(found: &mut Vec<Finding>, note: FindingNote) -> Result<(), AllocError>
     ensures { OnOk result (Quiet found.old.items found.new.items) }
 {
@@ -43,8 +42,8 @@ pub(crate) fn push_note(found: &mut Vec<Finding>, note: FindingNote) -> Result<(
     )
 }
 
-/// Adds what is found about a word of a line, which isn't an error, nor about a statement that allows nothing or
-/// repeats another.
+/// Adds a finding about a word of a line. Its kind is other than an error, a statement that allows nothing, or a
+/// statement that repeats another.
 pub(crate) fn push_of_word(
     found: &mut Vec<Finding>,
     kind: FindingKind,
@@ -69,7 +68,7 @@ pub(crate) fn push_of_word(
     )
 }
 
-/// Adds that a statement allows nothing.
+/// Adds the finding that a statement allows nothing.
 #[tactic(auto, using(crate::proofs::CheckLemmas::nothing_push))]
 pub(crate) fn push_nothing(found: &mut Vec<Finding>, finding: Finding) -> Result<(), AllocError>
     requires no_error { is_error finding.kind ≡ false }
@@ -81,7 +80,7 @@ pub(crate) fn push_nothing(found: &mut Vec<Finding>, finding: Finding) -> Result
     Ok(())
 }
 
-/// Adds that a statement repeats another.
+/// Adds the finding that a statement repeats another.
 #[tactic(auto, using(crate::proofs::CheckLemmas::repeat_push))]
 pub(crate) fn push_repeat(found: &mut Vec<Finding>, finding: Finding) -> Result<(), AllocError>
     requires no_error { is_error finding.kind ≡ false }

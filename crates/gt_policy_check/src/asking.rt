@@ -1,4 +1,4 @@
-//! Who allows what, and by which statements.
+//! Answers who may do what, and by which statements.
 ghost use Rattle.std.specs.Prelude.{◌≡◌, ◌++◌, List, IfOk, IfErr, OnOk, None, Some, Ok, Err};
 ghost use Rattle.std.specs.List.{list_any};
 ghost use Rattle.gt_policy.specs.Allowing.{Meaning};
@@ -20,7 +20,7 @@ use gt_text::push_text;
 use gt_types::Perms;
 use std::alloc::{AllocError, Global};
 
-/// What is asked: may a type do this to another? No name asks for any type.
+/// A question: may the source do this to the target? None means any declared type.
 #[derive(Clone, Copy)]
 pub struct WhyQuestion<'q> {
     pub source: Option<&'q str>,
@@ -28,30 +28,30 @@ pub struct WhyQuestion<'q> {
     pub perm: &'q str,
 }
 
-/// What a policy answers.
+/// The answer of a policy to a question.
 #[derive(Clone, Copy)]
 pub enum WhyAnswer {
     /// Some statement grants it.
     Allowed,
-    /// No statement does.
+    /// No statement grants it.
     Denied,
-    /// The source isn't a declared type.
+    /// The source is not a declared type.
     NoSource,
-    /// The target isn't a declared type.
+    /// The target is not a declared type.
     NoTarget,
-    /// The word is none of the seven permissions.
+    /// The word is not one of the seven permissions.
     NoPermission,
 }
 
-/// An answer, with the lines of the statements that give it, or of those that come near. A question with a name that
-/// is not there has no line.
+/// An answer, with its lines: those of the statements that grant the permission, or for a denied question those of the
+/// near misses. For the other answers there are no lines.
 #[derive(Drop)]
 pub struct Explanation {
     pub answer: WhyAnswer,
     pub lines: Vec<u8>,
 }
 
-// The types that are asked for, and the permission.
+// A question, with the types that match its source and its target.
 #[derive(Clone, Copy)]
 struct Asked<'m, 'a> {
     sources: &'m [Member<'a>],
@@ -59,7 +59,7 @@ struct Asked<'m, 'a> {
     perm: &'m str,
 }
 
-// Whether some statement grants what is asked.
+// Returns whether some statement grants the permission to a source on a target.
 fn is_allowed(statements: &[LinedStatement], asked: &Asked) -> bool
     ensures { result ≡ list_any
         (λ x. gives_some asked.now.perm.now asked.now.sources.now asked.now.targets.now x.statement) statements.now }
@@ -72,7 +72,6 @@ fn is_allowed(statements: &[LinedStatement], asked: &Asked) -> bool
     false
 }
 
-// What these statements answer.
 fn answer_with(statements: &[LinedStatement], asked: &Asked) -> WhyAnswer
     ensures { result ≡ answer_by asked.now.perm.now asked.now.sources.now asked.now.targets.now statements.now }
 {
@@ -89,7 +88,7 @@ fn answer_with(statements: &[LinedStatement], asked: &Asked) -> WhyAnswer
     }
 }
 
-// Whether a statement is listed under an answer: it grants the permission if that is allowed, and else comes near.
+// Returns whether a statement is listed: under Allowed if it grants the permission, and else if it is a near miss.
 fn is_listed(answer: WhyAnswer, statement: &Statement, asked: &Asked) -> bool
     ensures { result ≡ is_listed_under answer asked.now.perm.now asked.now.sources.now asked.now.targets.now
         statement.now }
@@ -100,7 +99,7 @@ fn is_listed(answer: WhyAnswer, statement: &Statement, asked: &Asked) -> bool
     }
 }
 
-// Appends the lines of the statements that are listed under the answer.
+// Appends the lines of the listed statements.
 fn push_listed(
     out: &mut Vec<u8>,
     answer: WhyAnswer,
@@ -120,7 +119,6 @@ fn push_listed(
     Ok(())
 }
 
-// Appends the lines of an answer.
 fn push_lines(
     out: &mut Vec<u8>,
     answer: WhyAnswer,
@@ -144,7 +142,7 @@ fn push_lines(
     }
 }
 
-// What these statements answer, with its lines.
+// Answers for these sources and targets, with the lines.
 fn answered(
     alloc: Global,
     file: &str,
@@ -162,7 +160,7 @@ fn answered(
     Ok(Explanation { answer, lines })
 }
 
-// What these statements answer to a question.
+// Answers a question.
 fn explained(
     alloc: Global,
     file: &str,
@@ -182,11 +180,13 @@ fn explained(
     Ok(explanation)
 }
 
-/// Whether the policy of a text allows what is asked, with a line for each allow statement that grants it: `FILE:LINE:
-/// STATEMENT  # SOURCES -> TARGETS`, with the types asked for that its sets hold, and the attribute by which each came
-/// there. For a denied question the lines are those of the statements that have the target, and the permission or the
-/// source. A text that isn't a policy answers its first fault, and refused memory the fault
-/// [`PolicyFaultKind::Memory`], with line 0.
+/// Answers whether the policy of a text allows what is asked, with a line for each allow statement that grants it:
+/// `FILE:LINE: STATEMENT  # SOURCES -> TARGETS`. The sources and targets are the types asked for that the sets of the
+/// statement hold, each with the attribute through which the set holds it. For a denied question, the lines are those
+/// of the near misses: they have the target, and the permission or the source.
+///
+/// The error is the first fault of a text that is not a policy. If an allocation fails, it is
+/// [`PolicyFaultKind::Memory`] with line 0.
 pub fn why(
     alloc: Global,
     file: &str,

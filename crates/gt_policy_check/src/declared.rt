@@ -1,9 +1,9 @@
-//! The declarations of a text's names, with their lines and columns.
+//! The names that a text declares, with their lines and columns.
 use crate::places::{bytes_of, column_of, tokens_in};
 use gt_text::text_of;
 use std::alloc::{AllocError, Global};
 
-/// A name that is declared, as a type or as an attribute, and where.
+/// A declared name: whether it is a type or an attribute, and its position.
 #[derive(Clone, Copy)]
 pub(crate) struct Declared<'a> {
     pub name: &'a str,
@@ -12,7 +12,7 @@ pub(crate) struct Declared<'a> {
     pub column: u32,
 }
 
-// Whether the name after this word is a type or an attribute; none if it declares nothing.
+// Returns what the name after this word is declared as: true for a type, false for an attribute.
 fn declares(word: &[u8]) -> Option<bool> {
     if word == b"type".as_slice() {
         return Some(true);
@@ -23,7 +23,7 @@ fn declares(word: &[u8]) -> Option<bool> {
     None
 }
 
-// Adds a name, if the word before it declares it as something.
+// Adds a name if the word before it declares it.
 fn push_name<'a>(
     names: &mut Vec<Declared<'a>>,
     before: Option<bool>,
@@ -42,7 +42,8 @@ fn push_name<'a>(
     Ok(())
 }
 
-// Adds the names that a line declares, after what the word before it declares, and answers what its last word does.
+// Adds the names that a line declares. `before` and the result are what the word before the line, and its last word,
+// declare the next name as.
 fn push_declared<'a>(
     alloc: Global,
     names: &mut Vec<Declared<'a>>,
@@ -60,7 +61,7 @@ fn push_declared<'a>(
     Ok(before)
 }
 
-/// The names after `type` and `attribute`, in the order of the text. The text may have faults.
+/// Returns the names after `type` and `attribute`, in the order of the text. The text may have faults.
 pub(crate) fn declared_in<'a>(
     alloc: Global,
     text: &'a str,

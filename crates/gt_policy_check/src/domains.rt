@@ -1,4 +1,4 @@
-//! Types that nothing names, and what the domains of a script make of a policy.
+//! Warnings about types that no statement names, and about types and statements that no domain of a script uses.
 ghost use Rattle.std.specs.Prelude.{OnOk};
 ghost use Rattle.gt_policy_check.specs.Check.{Quiet};
 
@@ -11,7 +11,7 @@ use crate::useless::allows_something;
 use gt_policy::{LinedStatement, Statement, TextPiece};
 use std::alloc::{AllocError, Global};
 
-/// A policy that is judged: its text, its statements and types, and for a script the types that its domains have.
+/// A policy that is checked: its text, statements and types, and for a script the types of its domains.
 #[derive(Clone, Copy)]
 pub(crate) struct Judged<'p, 'a> {
     pub bytes: &'p [u8],
@@ -20,7 +20,7 @@ pub(crate) struct Judged<'p, 'a> {
     pub worn: Option<&'p [Member<'a>]>,
 }
 
-/// The types of a policy that domains of a script have, by the names of those types.
+/// Returns the types of the policy with these names.
 pub(crate) fn worn_members<'a>(
     alloc: Global,
     statements: &[LinedStatement<'a>],
@@ -35,7 +35,7 @@ pub(crate) fn worn_members<'a>(
     Ok(members)
 }
 
-// The type of this name, if it is among these.
+// Finds the type with this name.
 fn member_named<'m, 'a>(members: &'m [Member<'a>], name: &TextPiece) -> Option<&'m Member<'a>> {
     for member in members {
         if is_same(&member.name, name) {
@@ -45,7 +45,7 @@ fn member_named<'m, 'a>(members: &'m [Member<'a>], name: &TextPiece) -> Option<&
     None
 }
 
-// Whether some allow statement has a type in a set.
+// Returns whether some allow statement has the type in a set.
 fn names_member(statements: &[LinedStatement], member: &Member) -> bool {
     for stated in statements {
         if names_type(&stated.statement, member) {
@@ -55,7 +55,7 @@ fn names_member(statements: &[LinedStatement], member: &Member) -> bool {
     false
 }
 
-// Whether some allow statement has the type of this name in a set.
+// Does the same for the type of a name. Returns true for a name that is not a type.
 fn is_named(policy: &Judged, name: &TextPiece) -> bool {
     match member_named(policy.members, name) {
         Some(member) => names_member(policy.statements, member),
@@ -63,7 +63,7 @@ fn is_named(policy: &Judged, name: &TextPiece) -> bool {
     }
 }
 
-// Whether there is a script, and no domain of it has this type.
+// Returns whether there is a script, and none of its domains has this type.
 fn has_no_domain(policy: &Judged, name: &TextPiece) -> bool {
     match policy.worn {
         Some(worn) => member_named(worn, name).is_none(),
@@ -71,7 +71,7 @@ fn has_no_domain(policy: &Judged, name: &TextPiece) -> bool {
     }
 }
 
-/// Warns that no allow statement names a type, or that no domain has it.
+/// Warns of a type that no allow statement names, or that no domain has.
 pub(crate) fn warn_type(
     alloc: Global,
     found: &mut Vec<Finding>,
@@ -93,7 +93,7 @@ pub(crate) fn warn_type(
     Ok(())
 }
 
-// Whether there is a script, and a statement allows something, but nothing to domains of the script.
+// Returns whether there is a script, and the statement allows something, but nothing to its domains.
 fn never_matters(statement: &Statement, policy: &Judged) -> bool {
     match policy.worn {
         Some(worn) => {
@@ -103,7 +103,7 @@ fn never_matters(statement: &Statement, policy: &Judged) -> bool {
     }
 }
 
-/// Warns of a statement that allows nothing to domains of the script.
+/// Warns of a statement that allows nothing to the domains of the script.
 pub(crate) fn warn_matter(
     alloc: Global,
     found: &mut Vec<Finding>,

@@ -1,4 +1,4 @@
-//! Where the fault of a text is, and what would fit there.
+//! Explains the fault of a text: its position, and what was expected there.
 use crate::declared::{Declared, declared_in};
 use crate::nearest::nearest;
 use crate::places::{
@@ -10,7 +10,8 @@ use gt_policy::{Policy, PolicyFault, PolicyFaultKind};
 use gt_text::{push_text, text_of};
 use std::alloc::{AllocError, Global};
 
-/// What a statement may go on with. A permission serves for any name, since it is one wherever a name fits.
+/// Tokens that may continue a statement, with what each is called. A permission stands for any name, since it fits
+/// wherever a name fits.
 const CANDIDATES: &[(&str, &str)] = &[
     ("allow", "a statement"),
     (";", "\";\""),
@@ -35,7 +36,7 @@ pub(crate) const PERMISSIONS: [&str; 7] = [
     "query",
 ];
 
-/// What is said beside an error or a warning, and where.
+/// A note on an error or a warning.
 #[derive(Drop)]
 pub(crate) struct FindingNote {
     pub line: u32,
@@ -43,7 +44,7 @@ pub(crate) struct FindingNote {
     pub message: Vec<u8>,
 }
 
-/// Where a fault is in its line, and what is said of it.
+/// The explanation of a fault: its column, the message, and perhaps a note.
 #[derive(Drop)]
 pub(crate) struct Explained {
     pub column: u32,
@@ -51,7 +52,7 @@ pub(crate) struct Explained {
     pub note: Option<FindingNote>,
 }
 
-// The line on which a text stops.
+// Returns the line on which a text ends, counted from 1.
 fn last_line(bytes: &[u8]) -> u32 {
     let mut line: u32 = 1;
     for byte in bytes {
@@ -62,7 +63,7 @@ fn last_line(bytes: &[u8]) -> u32 {
     line
 }
 
-// Whether a fault is past a line. A name that is not declared yet is none.
+// Returns whether a fault is beyond a line. An undeclared name doesn't count, since it may be declared further on.
 fn is_past(fault: &PolicyFault, last: u32) -> Result<bool, AllocError> {
     match fault.kind {
         PolicyFaultKind::Memory => Err(AllocError),
@@ -71,7 +72,7 @@ fn is_past(fault: &PolicyFault, last: u32) -> Result<bool, AllocError> {
     }
 }
 
-// Whether a text that is cut off here has no fault so far.
+// Returns whether the text has no fault up to the end of `front`.
 fn fits_so_far(alloc: Global, front: &[u8]) -> Result<bool, AllocError> {
     let Ok(text) = text_of(front) else {
         return Ok(false);
@@ -82,15 +83,15 @@ fn fits_so_far(alloc: Global, front: &[u8]) -> Result<bool, AllocError> {
     }
 }
 
-// Whether a text that is cut off here, and goes on with a token on the next line, has no fault up to that token.
+// Returns whether the text has no fault up to the end of `front` and a token on the next line.
 fn fits(alloc: Global, front: &[u8], token: &str) -> Result<bool, AllocError> {
     let mut bytes = Vec::from_slice(alloc, front)?;
     push_both(&mut bytes, "\n", token)?;
     fits_so_far(alloc, bytes.as_slice())
 }
 
-// Which of a line's tokens is the first that does not fit. A text with no fault up to a token has none up to the tokens
-// before it.
+// Finds the first token of a line that does not fit. Binary search serves, since a text with no fault up to a token has
+// none up to the tokens before it.
 fn misfit(alloc: Global, bytes: &[u8], line: &LineTokens) -> Result<usize, AllocError> {
     let mut low = 0;
     let mut high = line.tokens.len();
@@ -111,7 +112,7 @@ fn misfit(alloc: Global, bytes: &[u8], line: &LineTokens) -> Result<usize, Alloc
     Ok(low)
 }
 
-// Appends one more of the things that are expected, after the others.
+// Appends one of the expected things.
 fn push_expected(out: &mut Vec<u8>, shown: &str) -> Result<(), AllocError> {
     if out.is_empty() {
         push_both(out, "expected ", shown)
@@ -120,7 +121,7 @@ fn push_expected(out: &mut Vec<u8>, shown: &str) -> Result<(), AllocError> {
     }
 }
 
-// Appends in words what a text that is cut off here may go on with.
+// Appends what may follow `front`.
 fn push_all_expected(alloc: Global, out: &mut Vec<u8>, front: &[u8]) -> Result<(), AllocError> {
     for (token, shown) in CANDIDATES {
         if fits(alloc, front, token)? {
@@ -130,14 +131,14 @@ fn push_all_expected(alloc: Global, out: &mut Vec<u8>, front: &[u8]) -> Result<(
     Ok(())
 }
 
-// Appends a word in quotes, as its line is shown.
+// Appends a word in quotes.
 fn push_quoted(out: &mut Vec<u8>, word: &str) -> Result<(), AllocError> {
     push_text(out, "\"")?;
     push_all_shown(out, word)?;
     push_text(out, "\"")
 }
 
-// Appends the name that may be meant, if there is one.
+// Appends the name that may be meant.
 fn push_meant(out: &mut Vec<u8>, meant: Option<&str>) -> Result<(), AllocError> {
     let Some(name) = meant else {
         return Ok(());
@@ -147,7 +148,7 @@ fn push_meant(out: &mut Vec<u8>, meant: Option<&str>) -> Result<(), AllocError> 
     push_text(out, "?")
 }
 
-/// Appends the name that a misspelt one may be meant as, if there is one.
+/// Appends the name that a misspelt word may be meant as, if there is one.
 pub fn push_hint(
     alloc: Global,
     out: &mut Vec<u8>,
@@ -158,27 +159,27 @@ pub fn push_hint(
     push_meant(out, meant)
 }
 
-// Appends a word in quotes, and what is said of it.
+// Appends a word in quotes and a text.
 fn push_said(out: &mut Vec<u8>, word: &str, said: &str) -> Result<(), AllocError> {
     push_quoted(out, word)?;
     push_text(out, said)
 }
 
-/// A word in quotes, and what is said of it.
+/// Makes a message of a word in quotes and a text.
 pub fn said_of(alloc: Global, word: &str, said: &str) -> Result<Vec<u8>, AllocError> {
     let mut out = Vec::new(alloc);
     push_said(&mut out, word, said)?;
     Ok(out)
 }
 
-/// A text as a message.
+/// Makes a message of a text.
 pub(crate) fn message_of(alloc: Global, text: &str) -> Result<Vec<u8>, AllocError> {
     let mut message = Vec::new(alloc);
     push_text(&mut message, text)?;
     Ok(message)
 }
 
-// Appends the last token of a text, as what a fault comes after.
+// Appends ` after` and the last token before the fault.
 fn push_after(out: &mut Vec<u8>, last: &[u8]) -> Result<(), AllocError> {
     let Ok(word) = text_of(last) else {
         return Ok(());
@@ -190,7 +191,7 @@ fn push_after(out: &mut Vec<u8>, last: &[u8]) -> Result<(), AllocError> {
     push_quoted(out, word)
 }
 
-// The last token of a line; the one before if it has none.
+// Finds the last token of a line. Returns `before` if it has none.
 fn last_token_in<'a>(
     alloc: Global,
     line: &'a [u8],
@@ -203,7 +204,6 @@ fn last_token_in<'a>(
     }
 }
 
-// The last token of a text.
 fn last_token<'a>(alloc: Global, text: &'a [u8]) -> Result<&'a [u8], AllocError> {
     let mut last: &'a [u8] = &[];
     let Ok(text) = text_of(text) else {
@@ -215,8 +215,8 @@ fn last_token<'a>(alloc: Global, text: &'a [u8]) -> Result<&'a [u8], AllocError>
     Ok(last)
 }
 
-// Where a text ends in front of a token that fits nowhere, and the column of that: the end of the token before it, if
-// that is on the same line.
+// Returns the length of the line up to the token before the misfit, and the column there. For the first token of a line
+// the length is 0, and the column is that of the token.
 fn end_before(line: &LineTokens, misfit: usize) -> (usize, u32) {
     if misfit > 0 {
         if let Some(token) = line.tokens.get(misfit - 1) {
@@ -229,7 +229,7 @@ fn end_before(line: &LineTokens, misfit: usize) -> (usize, u32) {
     }
 }
 
-// Explains a token that fits nowhere: what was expected, at the end of the token before.
+// Explains a token that fits nowhere, by what was expected after the token before it.
 fn explain_syntax(
     alloc: Global,
     explained: &mut Explained,
@@ -243,7 +243,7 @@ fn explain_syntax(
     push_after(&mut explained.message, last_token(alloc, front)?)
 }
 
-// The column of the token that does not fit.
+// Returns the column of the token that does not fit.
 fn misfit_column(alloc: Global, bytes: &[u8], line: &LineTokens) -> Result<u32, AllocError> {
     let place = misfit(alloc, bytes, line)?;
     match line.tokens.get(place) {
@@ -252,7 +252,7 @@ fn misfit_column(alloc: Global, bytes: &[u8], line: &LineTokens) -> Result<u32, 
     }
 }
 
-// Notes where a name is declared.
+// Adds a note at the declaration of a name.
 fn note_here(
     alloc: Global,
     explained: &mut Explained,
@@ -268,7 +268,6 @@ fn note_here(
     Ok(())
 }
 
-// The declaration of a name, if it has one.
 fn declaration<'d, 'a>(declared: &'d [Declared<'a>], name: &str) -> Option<&'d Declared<'a>> {
     for one in declared {
         if one.name == name {
@@ -278,7 +277,7 @@ fn declaration<'d, 'a>(declared: &'d [Declared<'a>], name: &str) -> Option<&'d D
     None
 }
 
-// Explains a name that is declared as something else than is needed.
+// Explains a name that is declared as something else than what is needed.
 fn explain_other(
     alloc: Global,
     explained: &mut Explained,
@@ -293,7 +292,7 @@ fn explain_other(
     note_here(alloc, explained, declared, " is declared here")
 }
 
-// The name that is declared and nearest to one that is not.
+// Finds the declared name that is nearest to an undeclared one.
 fn nearest_declared<'a>(
     alloc: Global,
     declared: &[Declared<'a>],
@@ -306,7 +305,7 @@ fn nearest_declared<'a>(
     nearest(alloc, name, names.as_slice())
 }
 
-// Notes where the name is declared that may be meant, if there is one.
+// Adds a note at the declaration of the name that may be meant.
 fn note_meant(
     alloc: Global,
     explained: &mut Explained,
@@ -322,7 +321,7 @@ fn note_meant(
     }
 }
 
-// Explains a name that is not declared, by the nearest that is.
+// Explains an undeclared name, by the nearest declared one.
 fn explain_undeclared(
     alloc: Global,
     explained: &mut Explained,
@@ -351,7 +350,7 @@ fn explain_unknown(
     }
 }
 
-// Appends and notes where a name is first declared.
+// Adds the line of the first declaration, and a note there.
 fn tell_first(
     alloc: Global,
     explained: &mut Explained,
@@ -362,7 +361,7 @@ fn tell_first(
     note_here(alloc, explained, first, " is first declared here")
 }
 
-// Explains a name that is declared twice, by the line where it is first.
+// Explains a name that is declared twice.
 fn explain_twice(
     alloc: Global,
     explained: &mut Explained,
@@ -379,7 +378,7 @@ fn explain_twice(
     }
 }
 
-// Explains a word that isn't a permission, by the nearest that is one.
+// Explains a word that is not a permission, by the nearest permission.
 fn explain_permission(
     alloc: Global,
     explained: &mut Explained,
@@ -396,7 +395,7 @@ fn explain_permission(
     push_hint(alloc, &mut explained.message, word, PERMISSIONS.as_slice())
 }
 
-// Explains a word that is not read here.
+// Explains a part of the language that is not supported.
 fn explain_outside(
     alloc: Global,
     explained: &mut Explained,
@@ -409,7 +408,7 @@ fn explain_outside(
     push_said(&mut explained.message, word, said)
 }
 
-/// Explains the fault of a text: where it is in its line, and why.
+/// Explains the fault of a text.
 pub(crate) fn explain(
     alloc: Global,
     explained: &mut Explained,

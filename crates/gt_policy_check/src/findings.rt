@@ -1,4 +1,4 @@
-//! What is wrong or useless in a policy text.
+//! Findings: what is wrong or useless in a policy text.
 ghost use Rattle.std.specs.Prelude.{◌≡◌, ◌∷◌, [], true, is_some, IfOk};
 ghost use Rattle.gt_policy.specs.Shown.{fault_shown};
 ghost use Rattle.gt_policy_check.specs.Check.{Judges, error_lines};
@@ -11,18 +11,18 @@ use gt_policy::{PolicyFault, PolicyFaultKind};
 use gt_types::Memory;
 use std::alloc::{AllocError, Global};
 
-/// What a finding is about.
+/// The kind of a finding.
 #[derive(Clone, Copy, PartialEq, Eq)]
 pub enum FindingKind {
-    /// The text's first fault: it isn't a policy.
+    /// The first fault of the text, which is not a policy.
     Fault,
     /// A class that is not `grant`: its permissions grant nothing here.
     OtherClass,
-    /// Among several classes, a word that isn't a permission of class `grant`.
+    /// Among several classes, a word that is not a permission of class `grant`.
     OtherPermission,
     /// A statement of class `grant` that allows nothing.
     AllowsNothing,
-    /// The permission `transfer`, for which no call asks.
+    /// The permission `transfer`, which no call asks for.
     NeverAsked,
     /// A statement that grants only what an earlier one grants.
     Repeats,
@@ -30,15 +30,15 @@ pub enum FindingKind {
     NeverNamed,
     /// A type that no domain of the script has.
     NoDomain,
-    /// A statement that grants nothing to domains of the script.
+    /// A statement that grants nothing to the domains of the script.
     NeverMatters,
-    /// A label of a script that no map before it has.
+    /// A label of a script that no earlier map has.
     NeverMapped,
-    /// What is said beside the error or the warning before it.
+    /// A note on the error or warning before it.
     Note,
 }
 
-/// Something in a text that is wrong or useless. Lines and columns are counted from 1.
+/// A finding. Lines and columns are counted from 1, columns in bytes.
 #[derive(Drop)]
 pub struct Finding {
     pub kind: FindingKind,
@@ -47,7 +47,7 @@ pub struct Finding {
     pub message: Vec<u8>,
 }
 
-// A text's first fault, on this line, and what is said beside it.
+// Makes the findings for the first fault of a text: an error on this line, and its note.
 fn fault_found(alloc: Global, line: u32, explained: Explained) -> Result<Vec<Finding>, AllocError>
     ensures { IfOk result (λ v. error_lines v.items ≡ line ∷ []) }
 {
@@ -69,7 +69,7 @@ fn fault_found(alloc: Global, line: u32, explained: Explained) -> Result<Vec<Fin
     Ok(found)
 }
 
-// Finds the fault of a text.
+// Returns the findings of a text with a fault.
 fn errors(alloc: Global, text: &str, fault: &PolicyFault) -> Result<Vec<Finding>, Memory>
     ensures line { IfOk result (λ v. error_lines v.items ≡ fault.now.line ∷ []) }
     ensures shown { IfOk result (λ _. is_some (fault_shown fault.now) ≡ true) }
@@ -87,8 +87,7 @@ fn errors(alloc: Global, text: &str, fault: &PolicyFault) -> Result<Vec<Finding>
     Ok(found)
 }
 
-// Finds what is wrong or useless in a policy text, and for the domains of a script, which have these types, if there
-// is one.
+// Returns the findings of a text. `worn` has the types of the domains of a script.
 fn judge(alloc: Global, text: &str, worn: Option<&[&str]>) -> Result<Vec<Finding>, Memory>
     ensures { IfOk result (λ v. Judges text.now v.items) }
 {
@@ -104,17 +103,17 @@ fn judge(alloc: Global, text: &str, worn: Option<&[&str]>) -> Result<Vec<Finding
     }
 }
 
-/// Finds what is wrong or useless in a policy text. A text that isn't a policy has one error, at the line of its first
-/// fault. A policy has none. Its warnings name exactly the statements that allow nothing, and exactly those that repeat
-/// an earlier one.
+/// Checks a policy text. A text that is not a policy has one error, at the line of its first fault. A policy has none.
+/// Its warnings include exactly the statements that allow nothing, and exactly those that repeat an earlier one. The
+/// only Err is a failed allocation.
 pub fn check(alloc: Global, text: &str) -> Result<Vec<Finding>, Memory>
     ensures { IfOk result (λ v. Judges text.now v.items) }
 {
     judge(alloc, text, None)
 }
 
-/// Finds the same in the policy block of a script whose domains have these types. It also warns of types that no domain
-/// has, and of statements that allow nothing to domains of the script.
+/// Checks the policy block of a script whose domains have these types. It also warns of types that no domain has, and
+/// of statements that allow nothing to the domains.
 pub fn check_worn(alloc: Global, text: &str, worn: &[&str]) -> Result<Vec<Finding>, Memory>
     ensures { IfOk result (λ v. Judges text.now v.items) }
 {

@@ -1,4 +1,4 @@
-//! Which types a statement allows what.
+//! What a statement grants to which types.
 ghost use Rattle.std.specs.Prelude.{◌≡◌, ◌&&◌};
 ghost use Rattle.std.specs.List.{list_any};
 ghost use Rattle.std.specs.Str.{bytes_eq};
@@ -11,7 +11,6 @@ ghost use Rattle.gt_policy_check.specs.Granting.{is_near_miss, exceeds_on, excee
 use crate::members::{Member, is_same};
 use gt_policy::{Allowance, Permissions, SetElement, Statement, TextPiece};
 
-// Whether a word is among these.
 fn is_among(words: &[TextPiece], word: &[u8]) -> bool
     ensures { result ≡ list_any (λ v. bytes_eq v word.now) words.now }
 {
@@ -23,14 +22,13 @@ fn is_among(words: &[TextPiece], word: &[u8]) -> bool
     false
 }
 
-/// Whether class `grant` is among the classes.
+/// Returns whether class `grant` is among the classes.
 pub(crate) fn has_grant(classes: &[TextPiece]) -> bool
     ensures { result ≡ has_grant classes.now }
 {
     is_among(classes, "grant".as_bytes())
 }
 
-// Whether the permissions list this one.
 fn lists(perms: &Permissions, word: &str) -> bool
     ensures { result ≡ lists_word perms.now word.now }
 {
@@ -40,7 +38,7 @@ fn lists(perms: &Permissions, word: &str) -> bool
     }
 }
 
-/// Whether an item puts a type of these names into its set.
+/// Returns whether an item puts a type with these names into its set.
 pub(crate) fn puts_in(names: &[TextPiece], item: &SetElement) -> bool
     ensures { result ≡ puts_in names.now item.now }
 {
@@ -51,7 +49,7 @@ pub(crate) fn puts_in(names: &[TextPiece], item: &SetElement) -> bool
     }
 }
 
-// Whether an item takes a type of these names out of its set.
+// Returns whether an item takes a type with these names out of its set.
 fn takes_out(names: &[TextPiece], item: &SetElement) -> bool
     ensures { result ≡ takes_out names.now item.now }
 {
@@ -62,7 +60,6 @@ fn takes_out(names: &[TextPiece], item: &SetElement) -> bool
     }
 }
 
-// Whether some item puts such a type in.
 fn some_puts_in(names: &[TextPiece], items: &[SetElement]) -> bool
     ensures { result ≡ list_any (λ i. puts_in names.now i) items.now }
 {
@@ -74,7 +71,6 @@ fn some_puts_in(names: &[TextPiece], items: &[SetElement]) -> bool
     false
 }
 
-// Whether some item takes such a type out.
 fn some_takes_out(names: &[TextPiece], items: &[SetElement]) -> bool
     ensures { result ≡ list_any (λ i. takes_out names.now i) items.now }
 {
@@ -86,21 +82,20 @@ fn some_takes_out(names: &[TextPiece], items: &[SetElement]) -> bool
     false
 }
 
-/// Whether a set holds a type of these names.
+/// Returns whether a set holds a type with these names.
 pub(crate) fn holds(names: &[TextPiece], items: &[SetElement]) -> bool
     ensures { result ≡ elements_hold names.now items.now }
 {
     some_puts_in(names, items) && !some_takes_out(names, items)
 }
 
-// Whether an item is `self`.
 fn is_self(item: &SetElement) -> bool
     ensures { result ≡ is_self item.now }
 {
     matches!(item, SetElement::Itself)
 }
 
-/// Whether `self` is in a set.
+/// Returns whether a set contains `self`.
 pub(crate) fn says_self(items: &[SetElement]) -> bool
     ensures { result ≡ list_any is_self items.now }
 {
@@ -112,7 +107,7 @@ pub(crate) fn says_self(items: &[SetElement]) -> bool
     false
 }
 
-// Whether a statement's target set holds the target, or has `self` and the two are one.
+// Returns whether the target set holds the target, or contains `self` and the two types are one.
 fn reaches(allowed: &Allowance, source: &Member, target: &Member) -> bool
     ensures { result ≡ reaches_by source.now target.now allowed.now }
 {
@@ -120,7 +115,6 @@ fn reaches(allowed: &Allowance, source: &Member, target: &Member) -> bool
         || (says_self(allowed.target.as_slice()) && is_same(&source.name, &target.name))
 }
 
-// The same, of some of the targets.
 fn reaches_some(allowed: &Allowance, source: &Member, targets: &[Member]) -> bool
     ensures { result ≡ list_any (λ t. reaches_by source.now t allowed.now) targets.now }
 {
@@ -132,7 +126,7 @@ fn reaches_some(allowed: &Allowance, source: &Member, targets: &[Member]) -> boo
     false
 }
 
-// Whether a statement gives the source this permission, on whatever target.
+// Returns whether the statement grants the permission to the source, on whatever target.
 fn gives_source(allowed: &Allowance, source: &Member, perm: &str) -> bool
     ensures { result ≡ gives_source perm.now source.now allowed.now }
 {
@@ -141,14 +135,14 @@ fn gives_source(allowed: &Allowance, source: &Member, perm: &str) -> bool
         && holds(source.names.as_slice(), allowed.source.as_slice())
 }
 
-// Whether a statement grants the permission to the source on some of the targets.
+// Returns whether the statement grants the permission to the source on some of the targets.
 fn gives(allowed: &Allowance, source: &Member, targets: &[Member], perm: &str) -> bool
     ensures { result ≡ gives_by perm.now targets.now source.now allowed.now }
 {
     gives_source(allowed, source, perm) && reaches_some(allowed, source, targets)
 }
 
-// Whether it is granted to some of the sources on some of the targets.
+// Returns whether the statement grants the permission to some of the sources on some of the targets.
 fn gives_any(allowed: &Allowance, sources: &[Member], targets: &[Member], perm: &str) -> bool
     ensures { result ≡ list_any (λ s. gives_by perm.now targets.now s allowed.now) sources.now }
 {
@@ -160,7 +154,7 @@ fn gives_any(allowed: &Allowance, sources: &[Member], targets: &[Member], perm: 
     false
 }
 
-/// Whether a statement grants the permission to some of the sources on some of the targets.
+/// Returns whether a statement grants the permission to some of the sources on some of the targets.
 pub(crate) fn gives_some<'a>(
     statement: &Statement,
     sources: &[Member<'a>],
@@ -175,8 +169,8 @@ pub(crate) fn gives_some<'a>(
     }
 }
 
-// Whether a statement comes near a grant to the source: it lists the permission or holds the source, and reaches some
-// of the targets.
+// Returns whether a statement is a near miss for the source: it reaches some of the targets, and lists the permission
+// or holds the source.
 fn is_near_miss(allowed: &Allowance, source: &Member, targets: &[Member], perm: &str) -> bool
     ensures { result ≡ is_near_miss perm.now targets.now source.now allowed.now }
 {
@@ -186,7 +180,6 @@ fn is_near_miss(allowed: &Allowance, source: &Member, targets: &[Member], perm: 
         && reaches_some(allowed, source, targets)
 }
 
-// Whether a statement comes near a grant to some of the sources.
 fn near_any(allowed: &Allowance, sources: &[Member], targets: &[Member], perm: &str) -> bool
     ensures { result ≡ list_any (λ s. is_near_miss perm.now targets.now s allowed.now) sources.now }
 {
@@ -198,7 +191,7 @@ fn near_any(allowed: &Allowance, sources: &[Member], targets: &[Member], perm: &
     false
 }
 
-/// Whether a statement comes near: it has the target and the permission, or the target and the source.
+/// Returns whether a statement is a near miss: it has a target, and the permission or a source.
 pub(crate) fn near_some(
     statement: &Statement,
     sources: &[Member],
@@ -213,7 +206,7 @@ pub(crate) fn near_some(
     }
 }
 
-// Whether a statement grants the permission to the source on the target.
+// Returns whether a statement grants the permission to the source on the target.
 fn gives_one(statement: &Statement, source: &Member, target: &Member, perm: &str) -> bool
     ensures { result ≡ gives_one perm.now source.now target.now statement.now }
 {
@@ -225,7 +218,7 @@ fn gives_one(statement: &Statement, source: &Member, target: &Member, perm: &str
     }
 }
 
-// Whether a statement that gives the source this permission reaches a target on which another does not grant it.
+// Returns whether a statement that grants the permission to the source does so on a target on which `other` does not.
 fn exceeds_on(
     allowed: &Allowance,
     other: &Statement,
@@ -243,7 +236,7 @@ fn exceeds_on(
     false
 }
 
-// Whether a statement grants the permission to some source on some target where another does not.
+// Returns whether a statement grants the permission to some source on some target on which `other` does not.
 fn exceeds_any(allowed: &Allowance, other: &Statement, members: &[Member], perm: &str) -> bool
     ensures { result ≡ list_any (λ s. gives_source perm.now s allowed.now
         && exceeds_on perm.now members.now allowed.now other.now s) members.now }
@@ -258,7 +251,7 @@ fn exceeds_any(allowed: &Allowance, other: &Statement, members: &[Member], perm:
     false
 }
 
-/// Whether a statement grants the permission to some of the types on some of them where another statement does not.
+/// Returns whether a statement grants the permission to some type on some type on which `other` does not.
 pub(crate) fn exceeds_some<'a>(
     statement: &Statement,
     other: &Statement,
@@ -273,7 +266,7 @@ pub(crate) fn exceeds_some<'a>(
     }
 }
 
-/// Whether the source or the target set of an allow statement holds the type.
+/// Returns whether the source set or the target set of an allow statement holds the type.
 pub(crate) fn names_type(statement: &Statement, member: &Member) -> bool {
     match statement {
         Statement::Allow(allowed) => {

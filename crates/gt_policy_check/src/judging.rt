@@ -1,4 +1,4 @@
-//! What is useless in the statements of a policy.
+//! Warnings about the statements of a policy.
 ghost use Rattle.std.specs.Prelude.{◌≡◌, ◌∷◌, [], map, filter, IfOk, OnOk};
 ghost use Rattle.std.specs.List.{flat_map};
 ghost use Rattle.gt_policy_check.specs.Check.{Quiet, TellsUseless, allows_nothing, error_lines, lines_repeated};
@@ -17,7 +17,7 @@ use gt_policy::{LinedStatement, Statement};
 use gt_text::push_text;
 use std::alloc::{AllocError, Global};
 
-// How many statements at the end of these are allow statements that begin on this line.
+// Counts the allow statements at the end of these that begin on this line.
 fn allows_on(statements: &[LinedStatement], line: u32) -> usize {
     let mut count: usize = 0;
     for stated in statements.iter().rev() {
@@ -31,7 +31,6 @@ fn allows_on(statements: &[LinedStatement], line: u32) -> usize {
     count
 }
 
-// Warns of a statement that allows nothing.
 fn warn_nothing(
     alloc: Global,
     found: &mut Vec<Finding>,
@@ -57,7 +56,7 @@ fn warn_nothing(
     Ok(())
 }
 
-// What is said of a statement that repeats the one on this line.
+// Makes the message for a statement that repeats the one on this line.
 fn repeat_message(alloc: Global, line: u32) -> Result<Vec<u8>, AllocError> {
     let mut message = message_of(alloc, "this statement allows only what the one on line ")?;
     push_number(&mut message, line)?;
@@ -65,12 +64,12 @@ fn repeat_message(alloc: Global, line: u32) -> Result<Vec<u8>, AllocError> {
     Ok(message)
 }
 
-// The column at which a statement on this line begins, which comes after these.
+// Returns the column at which the allow statement after these begins, on this line.
 fn column_after(bytes: &[u8], tokens: &LineTokens, before: &[LinedStatement], line: u32) -> u32 {
     column_of_word(bytes, tokens, b"allow".as_slice(), allows_on(before, line))
 }
 
-// The note of the statement that another repeats, which is on this line and comes after these.
+// Makes the note at a repeated statement, which is on this line and comes after these.
 fn repeat_note(
     alloc: Global,
     bytes: &[u8],
@@ -85,7 +84,7 @@ fn repeat_note(
     })
 }
 
-// Adds that the statement on this line repeats the one on another, which comes after these.
+// Adds the finding that the statement on `line` repeats the one on `first`, which comes after these.
 #[tactic(auto, using(crate::proofs::CheckLemmas::repeat_then_note))]
 fn push_repeated(
     alloc: Global,
@@ -111,7 +110,7 @@ fn push_repeated(
     push_note(found, note)
 }
 
-// Warns of a statement that repeats one of those before it.
+// Warns of a statement that repeats an earlier one.
 fn warn_repeat(
     alloc: Global,
     found: &mut Vec<Finding>,
@@ -132,7 +131,7 @@ fn warn_repeat(
     }
 }
 
-// Warns of what is useless in the parts of a statement.
+// Warns of useless parts of a statement.
 fn warn_parts(
     alloc: Global,
     found: &mut Vec<Finding>,
@@ -149,7 +148,7 @@ fn warn_parts(
     }
 }
 
-// Warns of what is useless in a statement, which is at this place and comes after these.
+// Warns of what is useless in a statement at this position, which comes after these.
 #[tactic(auto, using(crate::proofs::CheckLemmas::tells_all))]
 fn warn_at(
     alloc: Global,
@@ -205,7 +204,7 @@ fn warn_all(alloc: Global, policy: &Judged) -> Result<Vec<Finding>, AllocError>
     Ok(found)
 }
 
-// Warns of what is useless in statements with these types, and for a script with these types of its domains.
+// Does the same with the types of the policy, and those of a script's domains.
 fn warn_with(
     alloc: Global,
     bytes: &[u8],
@@ -227,7 +226,7 @@ fn warn_with(
     warn_all(alloc, &policy)
 }
 
-// The same, with the names of the types of its domains.
+// Does the same with the names of the types of a script's domains.
 fn warn_members(
     alloc: Global,
     bytes: &[u8],
@@ -247,8 +246,7 @@ fn warn_members(
     warn_with(alloc, bytes, statements, members, Some(live.as_slice()))
 }
 
-/// Warns of what is useless in statements, and for the domains of a script, which have these types, if there is a
-/// script.
+/// Warns of what is useless in statements. `worn` has the names of the types of a script's domains.
 pub(crate) fn warnings(
     alloc: Global,
     bytes: &[u8],

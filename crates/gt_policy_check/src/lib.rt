@@ -1,17 +1,16 @@
-//! Who allows what in a policy text, and what is wrong or useless in it.
+//! Who may do what by a policy text, and what is wrong or useless in it.
 //!
-//! [`why`] answers a question: may a type do this to another, and by which allow statements? Each
-//! statement is listed with its line, and with the attribute by which the types came into its sets.
-//! [`check`] finds a text's first fault, or what is useless in a policy, with hints; [`push_report`]
-//! and [`push_json`] write it.
+//! [`why`] answers a question: may a type do this to another, and by which allow statements? Each statement is listed
+//! with its line, and with the attribute through which its sets hold the types. [`check`] finds the first fault of a
+//! text, or what is useless in a policy, with hints; [`push_report`] and [`push_json`] print the findings.
 //!
-//! What holds: the statements listed are exactly those that grant the permission, by the names in them,
-//! or for a denied question those that come near. A text has an error exactly if it isn't a policy, at
-//! the line of its first fault. The warnings name exactly the statements that allow nothing, and
-//! exactly those that repeat an earlier one. The JSON of a finding is its members, as RFC 8259 spells them.
+//! It is proved that the listed statements are exactly those that grant the permission, or for a denied question
+//! exactly the near misses. A text has an error exactly if it is not a policy, at the line of its first fault. The
+//! warnings include exactly the statements that allow nothing, and exactly those that repeat an earlier one. A finding
+//! is printed as JSON by RFC 8259.
 //!
-//! It uses `gt_policy` (the statements of a text), `gt_types` (permissions), `gt_text` (text), `gt_json`
-//! (strings as JSON), `itoa` (numbers), `strsim` (nearest names) and `unicode_width` (columns of a terminal).
+//! It uses `gt_policy` (the statements of a text), `gt_types` (permissions), `gt_text` (text), `gt_json` (strings as
+//! JSON), `itoa` (numbers), `strsim` (nearest names) and `unicode_width` (columns of a terminal).
 #![tactic(auto)]
 
 mod adding;

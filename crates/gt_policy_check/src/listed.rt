@@ -1,4 +1,4 @@
-//! What is useless among the classes and permissions of an allow statement.
+//! Warnings about the classes and permissions of an allow statement.
 ghost use Rattle.std.specs.Prelude.{OnOk};
 ghost use Rattle.gt_policy_check.specs.Check.{Quiet};
 
@@ -10,7 +10,7 @@ use gt_policy::{Allowance, Permissions, TextPiece};
 use gt_types::Perms;
 use std::alloc::{AllocError, Global};
 
-// What is said of a word, and the name that may be meant.
+// Makes the message about a word, with the name that may be meant.
 fn said_with_hint(
     alloc: Global,
     word: &str,
@@ -39,7 +39,7 @@ fn warn_class(
     push_of_word(found, FindingKind::OtherClass, place, class, message)
 }
 
-// Warns of a word that isn't a permission of class `grant`.
+// Warns of a word that is not a permission of class `grant`.
 fn warn_other(
     alloc: Global,
     found: &mut Vec<Finding>,
@@ -53,7 +53,7 @@ fn warn_other(
     push_of_word(found, FindingKind::OtherPermission, place, word, message)
 }
 
-// Warns of a word among the permissions of class `grant` that is none of them, or that no call asks for.
+// Warns of a word that is not a permission of class `grant`, or that no call asks for.
 fn warn_perm(
     alloc: Global,
     found: &mut Vec<Finding>,
@@ -72,7 +72,6 @@ fn warn_perm(
     warn_other(alloc, found, place, word)
 }
 
-// Warns of what is useless among the classes.
 fn warn_classes(
     alloc: Global,
     found: &mut Vec<Finding>,
@@ -87,7 +86,6 @@ fn warn_classes(
     Ok(())
 }
 
-// Warns of what is useless among the permissions.
 fn warn_perms(
     alloc: Global,
     found: &mut Vec<Finding>,
@@ -102,7 +100,7 @@ fn warn_perms(
     Ok(())
 }
 
-/// Warns of what is useless among the words of an allow statement.
+/// Warns of useless classes and permissions of an allow statement.
 pub(crate) fn warn_words(
     alloc: Global,
     found: &mut Vec<Finding>,

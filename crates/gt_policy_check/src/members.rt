@@ -7,21 +7,21 @@ ghost use Rattle.gt_policy_check.specs.Members.{names_given, names_in_lines, is_
 use gt_policy::{Items, LinedStatement, Mention, Statement, TextPiece};
 use std::alloc::{AllocError, Global};
 
-/// A type, and the names that stand for it: its own, and those of the attributes that it has.
+/// A type and the names that stand for it: its name, and those of its attributes.
 #[derive(Drop)]
 pub struct Member<'a> {
     pub name: TextPiece<'a>,
     pub names: Items<TextPiece<'a>>,
 }
 
-/// Whether two pieces are the same text.
+/// Returns whether two pieces are the same text.
 pub(crate) fn is_same(one: &TextPiece, other: &TextPiece) -> bool
     ensures { result ≡ bytes_eq one.now other.now }
 {
     one.as_bytes() == other.as_bytes()
 }
 
-// Adds the names that are mentioned.
+// Adds the names of the mentions.
 fn push_mentions<'a>(
     names: &mut Items<TextPiece<'a>>,
     mentions: &[Mention<'a>],
@@ -58,7 +58,7 @@ fn push_given<'a>(
     Ok(())
 }
 
-// The names that stand for a type.
+// Collects the names that stand for a type.
 fn names_of<'a>(
     alloc: Global,
     statements: &[LinedStatement<'a>],
@@ -74,7 +74,7 @@ fn names_of<'a>(
     Ok(names)
 }
 
-// Whether this type is asked for.
+// Returns whether the type is asked for: by its name, or as any type.
 fn is_asked(asked: Option<&str>, name: &TextPiece) -> bool
     ensures { result ≡ is_asked (option_map (λ a. a.now) asked.entry) name.now }
 {
@@ -107,7 +107,7 @@ fn push_member<'a>(
     Ok(())
 }
 
-/// The declared types that are asked for, in the order of their declarations: the one of this name, or all of them.
+/// Returns the declared type with this name, or all for None, in the order of their declarations.
 pub(crate) fn members_of<'a>(
     alloc: Global,
     statements: &[LinedStatement<'a>],

@@ -3,10 +3,10 @@ use gt_text::text_of;
 use std::alloc::{AllocError, Global};
 use strsim::osa_distance;
 
-/// The most letters by which a misspelt name differs from the one that is meant.
+/// The maximum distance of a misspelt name from the one that is meant, in letters.
 const MOST_SLIPS: usize = 2;
 
-// How many letters two names differ by, none if that is too many.
+// Counts the letters by which two names differ. Returns None if they are equal or differ too much.
 fn slips(alloc: Global, word: &str, name: &str) -> Result<Option<usize>, AllocError> {
     if word.len() > name.len().saturating_add(MOST_SLIPS) {
         return Ok(None);
@@ -21,7 +21,7 @@ fn slips(alloc: Global, word: &str, name: &str) -> Result<Option<usize>, AllocEr
     Ok(Some(distance))
 }
 
-/// The first of the nearest names, of those that differ by one letter or two.
+/// Returns the first of the nearest names, among those that differ by one letter or two.
 pub(crate) fn nearest<'a>(
     alloc: Global,
     word: &str,

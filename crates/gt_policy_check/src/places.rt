@@ -1,14 +1,14 @@
-//! Lines and tokens of a text, by their bytes.
+//! The lines and tokens of a text, as ranges of bytes.
 use std::alloc::{AllocError, Global};
 
-/// Bytes of a text, from one to another.
+/// A range of bytes of a text.
 #[derive(Clone, Copy)]
 pub struct Span {
     pub start: usize,
     pub end: usize,
 }
 
-/// The bytes of a line, without its end. A line past the last is empty, at the end of the text.
+/// Returns the range of a line, without its line feed. A line beyond the last is empty, at the end of the text.
 pub(crate) fn line_span(bytes: &[u8], line: u32) -> Span {
     let mut start = 0;
     let mut ends: u32 = 0;
@@ -30,8 +30,8 @@ pub(crate) fn line_span(bytes: &[u8], line: u32) -> Span {
     }
 }
 
-// Whether a token that began so goes on with this byte: a name with the bytes of names, and a character that is not
-// ASCII with its other bytes.
+// Returns whether a byte continues a token: a byte of names continues a name, and the bytes from 128 up continue a
+// character that is not ASCII.
 fn is_continuation(first: u8, byte: u8) -> bool {
     if first.is_ascii_alphabetic() {
         byte.is_ascii_alphabetic()
@@ -44,7 +44,7 @@ fn is_continuation(first: u8, byte: u8) -> bool {
     }
 }
 
-/// The tokens of a line, up to a comment, counted from the line's first byte.
+/// Returns the tokens of a line, up to a comment. Their ranges are relative to the line.
 pub(crate) fn tokens_in(alloc: Global, line: &[u8]) -> Result<Vec<Span>, AllocError> {
     let mut tokens = Vec::new(alloc);
     let mut open: Option<(usize, u8)> = None;
@@ -71,7 +71,7 @@ pub(crate) fn tokens_in(alloc: Global, line: &[u8]) -> Result<Vec<Span>, AllocEr
     Ok(tokens)
 }
 
-/// The bytes of a span, as far as they go.
+/// Returns the bytes of a range, or none if it is out of range.
 pub(crate) fn bytes_of<'a>(bytes: &'a [u8], span: Span) -> &'a [u8] {
     match bytes.get(span.start..span.end) {
         Some(piece) => piece,
@@ -79,7 +79,7 @@ pub(crate) fn bytes_of<'a>(bytes: &'a [u8], span: Span) -> &'a [u8] {
     }
 }
 
-/// A place in a line as a column, counted from 1.
+/// Returns the column of an offset in a line, counted from 1.
 pub(crate) fn column_of(place: usize) -> u32 {
     match u32::try_from(place) {
         Ok(place) => place.saturating_add(1),
@@ -87,14 +87,14 @@ pub(crate) fn column_of(place: usize) -> u32 {
     }
 }
 
-/// The tokens of a line, and where it is.
+/// The tokens of a line, and its range in the text.
 #[derive(Drop)]
 pub(crate) struct LineTokens {
     pub span: Span,
     pub tokens: Vec<Span>,
 }
 
-/// A line with its tokens.
+/// Returns the tokens of a line, counted from 1.
 pub(crate) fn line_tokens(
     alloc: Global,
     bytes: &[u8],
@@ -105,7 +105,7 @@ pub(crate) fn line_tokens(
     Ok(LineTokens { span, tokens })
 }
 
-/// A text up to a place in one of its lines.
+/// Returns the text up to an offset in one of its lines.
 pub(crate) fn front_of<'a>(bytes: &'a [u8], line: &LineTokens, place: usize) -> &'a [u8] {
     bytes_of(
         bytes,
@@ -116,8 +116,8 @@ pub(crate) fn front_of<'a>(bytes: &'a [u8], line: &LineTokens, place: usize) -> 
     )
 }
 
-/// The column of a word among the tokens of a line, with as many of the same word before it as are skipped; without
-/// one, the column of the line's first token.
+/// Returns the column of a word among the tokens of a line, after `skipped` occurrences of the same word. If there is
+/// none, it is the column of the line's first token.
 pub(crate) fn column_of_word(bytes: &[u8], line: &LineTokens, word: &[u8], skipped: usize) -> u32 {
     let text = bytes_of(bytes, line.span);
     let mut found: usize = 0;

@@ -1,4 +1,4 @@
-//! The statements of a text that is a policy.
+//! Reads the statements of a policy.
 ghost use Rattle.std.specs.Prelude.{◌≡◌, IfOk, IfErr, None, Some, Ok, Err};
 ghost use Rattle.gt_policy.specs.Allowing.{Meaning};
 ghost use Rattle.gt_policy.specs.Lined.{IsLined};
@@ -9,7 +9,7 @@ ghost use Rattle.gt_policy.specs.declared.fault.TokenFault.{TokenFault};
 use gt_policy::{Items, LinedStatement, Policy, PolicyFault, statements_of};
 use std::alloc::Global;
 
-/// The statements of a policy text, each with its line, or the first fault of a text that isn't a policy.
+/// Returns the statements of a policy text, each with its line, or the first fault of a text that is not a policy.
 pub(crate) fn read_policy<'a>(
     alloc: Global,
     text: &'a str,

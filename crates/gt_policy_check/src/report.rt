@@ -1,4 +1,4 @@
-//! Findings as text, as compilers print them.
+//! Findings as text, in the layout of compilers, and as JSON.
 ghost use Rattle.std.specs.Prelude.{◌≡◌, ◌++◌, codes, OnOk};
 ghost use Rattle.std.specs.Fmt.{decimal};
 ghost use Rattle.std.specs.List.{flat_map};
@@ -17,7 +17,7 @@ impl FindingKind {
     ghost use Rattle.std.specs.Prelude.{◌≡◌};
     ghost use Rattle.gt_policy_check.specs.Report.{severity_text};
 
-    /// How bad it is: `error`, `warning` or `note`.
+    /// Returns the severity: `error`, `warning` or `note`.
     pub fn severity(self) -> &'static str
         ensures { result.now ≡ severity_text self }
     {
@@ -29,7 +29,7 @@ impl FindingKind {
     }
 }
 
-// Appends the column of a finding after its line.
+// Appends the line and the column of a finding.
 fn push_position(out: &mut Vec<u8>, finding: &Finding, between: &str) -> Result<(), AllocError>
     ensures { OnOk result (out.new.items ≡ out.old.items
         ++ decimal finding.now.line ++ between.now ++ decimal finding.now.column) }
@@ -39,7 +39,7 @@ fn push_position(out: &mut Vec<u8>, finding: &Finding, between: &str) -> Result<
     push_number(out, finding.column)
 }
 
-// Appends how bad a finding is, and what is said.
+// Appends the severity and the message.
 fn push_said(out: &mut Vec<u8>, finding: &Finding) -> Result<(), AllocError>
     ensures { OnOk result (out.new.items ≡ out.old.items
         ++ severity_text finding.now.kind ++ codes ": " ++ finding.now.message.items ++ codes "\n") }
@@ -49,7 +49,7 @@ fn push_said(out: &mut Vec<u8>, finding: &Finding) -> Result<(), AllocError>
     push_text(out, "\n")
 }
 
-// Appends the first line of a finding: `FILE:LINE:COLUMN: SEVERITY: MESSAGE`.
+// Appends `FILE:LINE:COLUMN: SEVERITY: MESSAGE`.
 fn push_heading(out: &mut Vec<u8>, file: &str, finding: &Finding) -> Result<(), AllocError>
     ensures { OnOk result (out.new.items ≡ out.old.items ++ heading_text file.now finding.now) }
 {
@@ -59,7 +59,7 @@ fn push_heading(out: &mut Vec<u8>, file: &str, finding: &Finding) -> Result<(), 
     push_said(out, finding)
 }
 
-/// Appends a character of a line. A control character could move the terminal's cursor, so it is replaced.
+/// Appends a character of a line. A control character could move the cursor of the terminal, so U+FFFD replaces it.
 pub(crate) fn push_shown(out: &mut Vec<u8>, letter: char) -> Result<(), AllocError> {
     let mut bytes = [0; 4];
     let shown = if letter.is_control() && letter != '\t' {
@@ -70,8 +70,7 @@ pub(crate) fn push_shown(out: &mut Vec<u8>, letter: char) -> Result<(), AllocErr
     push_text(out, shown.encode_utf8(&mut bytes))
 }
 
-// Appends blanks as wide as a character of a line. A tab stays a tab, so that the caret is right whatever a tab's
-// width.
+// Appends blanks as wide as a character of a line. A tab stays a tab, so that the caret is right for any tab width.
 fn push_blank(out: &mut Vec<u8>, letter: char) -> Result<(), AllocError> {
     if letter == '\t' {
         return push_text(out, "\t");
@@ -82,7 +81,7 @@ fn push_blank(out: &mut Vec<u8>, letter: char) -> Result<(), AllocError> {
     Ok(())
 }
 
-// The text of a line, without its end.
+// Returns the text of a line, without its line end.
 fn line_of<'a>(text: &'a str, line: u32) -> &'a str {
     match text_of(bytes_of(text.as_bytes(), line_span(text.as_bytes(), line))) {
         Ok(line) => line.trim_end_matches('\r'),
@@ -90,7 +89,7 @@ fn line_of<'a>(text: &'a str, line: u32) -> &'a str {
     }
 }
 
-/// Appends the characters of a line.
+/// Appends the characters of a line, with control characters replaced.
 pub(crate) fn push_all_shown(out: &mut Vec<u8>, line: &str) -> Result<(), AllocError> {
     for letter in line.chars() {
         push_shown(out, letter)?;
@@ -121,7 +120,8 @@ fn push_excerpt(out: &mut Vec<u8>, text: &str, finding: &Finding) -> Result<(), 
     push_text(out, "^\n")
 }
 
-/// Appends what is found in a text, as compilers print it: each finding with its line, and a caret below its column.
+/// Appends the findings of a text in the layout of compilers: each with its line, and a caret below its column. After
+/// an Err, part of them may have been appended.
 pub fn push_report(
     out: &mut Vec<u8>,
     file: &str,
@@ -135,7 +135,7 @@ pub fn push_report(
     Ok(())
 }
 
-// Appends the severity and the message of a JSON object.
+// Appends the severity and the message as members of a JSON object.
 fn push_members(out: &mut Vec<u8>, finding: &Finding) -> Result<(), AllocError>
     ensures { OnOk result (out.new.items ≡ out.old.items ++ codes ",\"severity\":\""
         ++ severity_text finding.now.kind ++ codes "\",\"message\":" ++ quoted finding.now.message.items) }
@@ -157,8 +157,8 @@ fn push_object(out: &mut Vec<u8>, file: &str, finding: &Finding) -> Result<(), A
     push_text(out, "}\n")
 }
 
-/// Appends what is found in a text as JSON Lines: for each finding an object with `file`, `line`, `column`, `severity`
-/// and `message`.
+/// Appends the findings as JSON Lines: for each an object with `file`, `line`, `column`, `severity` and `message`.
+/// After an Err, part of them may have been appended.
 pub fn push_json(out: &mut Vec<u8>, file: &str, found: &[Finding]) -> Result<(), AllocError>
     ensures { OnOk result (out.new.items ≡ out.old.items ++ flat_map (object_text file.now) found.now) }
 {

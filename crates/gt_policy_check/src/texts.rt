@@ -33,7 +33,7 @@ fn push_item(out: &mut Vec<u8>, item: &SetElement) -> Result<(), AllocError>
     }
 }
 
-// Whether the set is one name, or `self`, which needs no braces.
+// Returns whether the set is one name or `self`, which needs no braces.
 fn is_plain(items: &[SetElement]) -> bool
     ensures { result ≡ is_plain items.now }
 {
@@ -101,7 +101,7 @@ fn push_perms(out: &mut Vec<u8>, perms: &Permissions) -> Result<(), AllocError>
     }
 }
 
-// Appends the sets of an allow statement.
+// Appends the word `allow` and the sets of a statement.
 fn push_sets(out: &mut Vec<u8>, allowed: &Allowance) -> Result<(), AllocError>
     ensures { OnOk result (out.new.items ≡ out.old.items
         ++ codes "allow" ++ set_text allowed.now.source ++ set_text allowed.now.target) }
@@ -111,7 +111,7 @@ fn push_sets(out: &mut Vec<u8>, allowed: &Allowance) -> Result<(), AllocError>
     push_set(out, allowed.target.as_slice())
 }
 
-// Appends an allow statement, on one line.
+// Appends an allow statement on one line.
 fn push_allow(out: &mut Vec<u8>, allowed: &Allowance) -> Result<(), AllocError>
     ensures { OnOk result (out.new.items ≡ out.old.items ++ allow_text allowed.now) }
 {
@@ -122,7 +122,7 @@ fn push_allow(out: &mut Vec<u8>, allowed: &Allowance) -> Result<(), AllocError>
     push_text(out, ";")
 }
 
-// Whether an item is this very type.
+// Returns whether an item is exactly this type.
 fn names_type(name: &TextPiece, item: &SetElement) -> bool
     ensures { result ≡ names_type name.now item.now }
 {
@@ -132,7 +132,7 @@ fn names_type(name: &TextPiece, item: &SetElement) -> bool
     }
 }
 
-// Whether some item is this very type.
+// Returns whether some item is exactly this type.
 fn is_named(name: &TextPiece, items: &[SetElement]) -> bool
     ensures { result ≡ list_any (λ i. names_type name.now i) items.now }
 {
@@ -144,7 +144,7 @@ fn is_named(name: &TextPiece, items: &[SetElement]) -> bool
     false
 }
 
-// Appends that a type came into a set by the attribute of an item.
+// Appends ` by` and the attribute of an item.
 fn push_by(out: &mut Vec<u8>, item: &SetElement) -> Result<(), AllocError>
     ensures { OnOk result (out.new.items ≡ out.old.items ++ item_by_text item.now) }
 {
@@ -154,14 +154,14 @@ fn push_by(out: &mut Vec<u8>, item: &SetElement) -> Result<(), AllocError>
     }
 }
 
-// The first item that puts such a type in.
+// Finds the first item that puts a type with these names in.
 fn first_way<'s, 'a>(names: &[TextPiece], items: &'s [SetElement<'a>]) -> Option<&'s SetElement<'a>>
     ensures { option_map (λ i. i.now) result ≡ find (λ i. puts_in names.now i) items.entry.now }
 {
     items.iter().find(|item| puts_in(names, item))
 }
 
-// Appends by which attribute a type came into a set, of the first item that puts it there.
+// Appends the attribute of the first item that puts a type with these names in.
 fn push_attribute(
     out: &mut Vec<u8>,
     names: &[TextPiece],
@@ -175,7 +175,7 @@ fn push_attribute(
     }
 }
 
-// Appends by which attribute a type came into a set, if it is not named itself.
+// Appends the attribute through which a set holds a type, unless the set names the type.
 fn push_way(out: &mut Vec<u8>, member: &Member, items: &[SetElement]) -> Result<(), AllocError>
     ensures { OnOk result (out.new.items ≡ out.old.items ++ way_text member.now items.now) }
 {
@@ -185,7 +185,7 @@ fn push_way(out: &mut Vec<u8>, member: &Member, items: &[SetElement]) -> Result<
     push_attribute(out, member.names.as_slice(), items)
 }
 
-// Appends a type that a set holds, and by which attribute.
+// Appends a type if the set holds it, and the attribute through which it does.
 fn push_held(out: &mut Vec<u8>, member: &Member, items: &[SetElement]) -> Result<(), AllocError>
     ensures { OnOk result (out.new.items ≡ out.old.items ++ held_text items.now member.now) }
 {
@@ -196,7 +196,6 @@ fn push_held(out: &mut Vec<u8>, member: &Member, items: &[SetElement]) -> Result
     push_way(out, member, items)
 }
 
-// Appends the types that a set holds.
 fn push_all_held(
     out: &mut Vec<u8>,
     members: &[Member],
@@ -210,7 +209,7 @@ fn push_all_held(
     Ok(())
 }
 
-// Appends `self` if a target set has it.
+// Appends `self` if the target set contains it.
 fn push_self(out: &mut Vec<u8>, items: &[SetElement]) -> Result<(), AllocError>
     ensures { OnOk result (out.new.items ≡ out.old.items ++ self_text items.now) }
 {
@@ -221,7 +220,7 @@ fn push_self(out: &mut Vec<u8>, items: &[SetElement]) -> Result<(), AllocError>
     }
 }
 
-// Appends which of these sources and targets the sets of a statement hold.
+// Appends the sources and targets that the sets of a statement hold.
 fn push_note(
     out: &mut Vec<u8>,
     allowed: &Allowance,
@@ -238,7 +237,7 @@ fn push_note(
     push_text(out, "\n")
 }
 
-/// Appends a number, in decimal digits.
+/// Appends a number in decimal digits.
 pub(crate) fn push_number(out: &mut Vec<u8>, number: u32) -> Result<(), AllocError>
     ensures { OnOk result (out.new.items ≡ out.old.items ++ decimal number) }
 {
@@ -246,7 +245,7 @@ pub(crate) fn push_number(out: &mut Vec<u8>, number: u32) -> Result<(), AllocErr
     push_text(out, digits.format(number))
 }
 
-// Appends a place, as compilers write it.
+// Appends a file and a line, in the layout of compilers.
 fn push_place(out: &mut Vec<u8>, file: &str, line: u32) -> Result<(), AllocError>
     ensures { OnOk result (out.new.items ≡ out.old.items ++ place_text file.now line) }
 {
@@ -255,8 +254,8 @@ fn push_place(out: &mut Vec<u8>, file: &str, line: u32) -> Result<(), AllocError
     push_text(out, ": ")
 }
 
-/// Appends the line of an allow statement: where it is, the statement, and which of these sources and targets its sets
-/// hold.
+/// Appends the line of an allow statement: its position, the statement, and the sources and targets that its sets hold.
+/// Appends nothing for another statement.
 pub(crate) fn push_entry(
     out: &mut Vec<u8>,
     file: &str,

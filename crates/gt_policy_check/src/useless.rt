@@ -1,4 +1,4 @@
-//! Which statements allow nothing, or only what an earlier one allows.
+//! Statements that allow nothing, or only what an earlier one allows.
 ghost use Rattle.std.specs.Prelude.{◌≡◌, ◌<◌, length, is_some, IfSome};
 ghost use Rattle.std.specs.List.{position};
 ghost use Rattle.gt_types.specs.Names.{every_permission, permission_name};
@@ -10,14 +10,14 @@ use crate::members::Member;
 use gt_policy::{LinedStatement, Statement};
 use gt_types::Perms;
 
-/// Whether a statement allows something to some of these types.
+/// Returns whether a statement allows some of these types something on some of them.
 pub(crate) fn allows_something(statement: &Statement, members: &[Member]) -> bool
     ensures { result ≡ grants_with members.now statement.now }
 {
     Perms::EVERY.iter().any(|perm| gives_some(statement, members, members, perm.name()))
 }
 
-/// Whether a statement of class `grant` allows nothing.
+/// Returns whether a statement of class `grant` allows nothing.
 pub(crate) fn is_useless(statement: &Statement, members: &[Member]) -> bool
     ensures { result ≡ is_useless_with members.now statement.now }
 {
@@ -29,21 +29,21 @@ pub(crate) fn is_useless(statement: &Statement, members: &[Member]) -> bool
     }
 }
 
-// Whether a statement grants something that another does not.
+// Returns whether a statement grants something that another does not.
 fn exceeds(statement: &Statement, other: &Statement, members: &[Member]) -> bool
     ensures { result ≡ exceeds_with members.now statement.now other.now }
 {
     Perms::EVERY.iter().any(|perm| exceeds_some(statement, other, members, perm.name()))
 }
 
-// Whether a statement grants nothing that another does not.
+// Returns whether a statement grants nothing that another does not.
 fn grants_no_more(statement: &Statement, other: &Statement, members: &[Member]) -> bool
     ensures { result ≡ no_more_with members.now statement.now other.now }
 {
     !exceeds(statement, other, members)
 }
 
-// The place of the first of these statements that grants all that this one does.
+// Finds the first of these statements that grants all that this one does, and returns its index.
 #[tactic(auto, using(crate::proofs::CheckLemmas::position_within))]
 fn first_giving(
     statement: &Statement,
@@ -56,8 +56,8 @@ fn first_giving(
     before.iter().position(|earlier| grants_no_more(statement, &earlier.statement, members))
 }
 
-/// The place of the first statement before one that grants all that it grants. A statement that grants nothing has
-/// none.
+/// Returns the index of the first earlier statement that grants all that this one does; None for a statement that
+/// grants nothing.
 #[tactic(auto, using(crate::proofs::CheckLemmas::some_place))]
 pub(crate) fn repeated(
     statement: &Statement,

@@ -26,7 +26,7 @@ use Rattle.gt_text.specs.Streams.{AppendsBeginning, OfInput}
 use Rattle.gt_policy_list.specs.Writing.{IsListing, Listed, Parsed, WritesRules, text_with}
 use Rattle.gt_policy_list.specs.Listing.{listing}
 
--- the lines went out, or a beginning of them
+-- the lines went out, or a prefix of them
 pub writes : (p : KeptPolicy) (may : ℕ → ℕ → Perms → Bool) (ids : List TypeId) (old new : Option (List ℕ)) (r : Result (Unit {0}) ListingFault) → may ≡ may_of p → AreByName p.types ids → OnOk r (Appends old new (listing p.types may ids))
     → OnErr r (AppendsBeginning old new (listing p.types may ids)) → IfErr r (λ e. (e ≡ faults.Memory) ⊎ (e ≡ faults.Write)) → WritesRules p old new r
 writes p may ids old new (Ok done) same named whole begun few = (ids, named, subst (λ (f : ℕ → ℕ → Perms → Bool). Appends old new (listing p.types f ids)) same whole)
@@ -36,7 +36,7 @@ writes p may ids old new (Err faults.Read) same named whole begun few = elim few
 writes p may ids old new (Err (faults.Utf8 line)) same named whole begun few = elim few [ inl e ↦ cc | inr e ↦ cc ]
 writes p may ids old new (Err (faults.Policy shown)) same named whole begun few = elim few [ inl e ↦ cc | inr e ↦ cc ]
 
--- memory ran out before a line
+-- an allocation failed before a line
 pub writes_nothing : (p : KeptPolicy) (old : Option (List ℕ)) (fault : ListingFault) → fault ≡ faults.Memory → WritesRules p old old (Err fault)
 writes_nothing p old fault is = subst (λ (f : ListingFault). WritesRules p old old (Err f)) (sym is) (inl (keeps_same old))
 
@@ -54,7 +54,7 @@ parsed p m text old new (Err faults.Read) says shows w = absurd w
 parsed p m text old new (Err (faults.Utf8 line)) says shows w = absurd w
 parsed p m text old new (Err (faults.Policy shown)) says shows w = absurd w
 
--- the text is no policy
+-- the text is not a policy
 refused : (line : ℕ) (kind : PolicyFaultKind) (text : List ℕ) (old : Option (List ℕ)) → ((f : policy.TokenFault) → fault_shown (record { line = line; kind = kind }) ≡ Some f → Says text (Err f)) → Parsed text old old (Err (listing_fault_of line kind))
 refused line kinds.Memory text old says = inl (keeps_same old)
 refused line kinds.Syntax text old says = (_, refl, says _ refl, keeps_same old)

@@ -9,7 +9,7 @@ use Rattle.gt_text.specs.declared.fault.ReadFault.TheVariants as reads
 use Rattle.gt_policy_list.specs.declared.fault.ListingFault.{ListingFault}
 use Rattle.gt_policy_list.specs.declared.fault.ListingFault.TheVariants as faults
 
--- what ends a listing that has no policy
+-- the fault of a listing for a fault of the policy
 abbrev pub listing_fault_of : ℕ → PolicyFaultKind → ListingFault
 listing_fault_of line kinds.Memory = faults.Memory
 listing_fault_of line kinds.Syntax = faults.Policy (record { line = line; kind = kinds.Syntax })
@@ -19,12 +19,12 @@ listing_fault_of line (kinds.Permission name) = faults.Policy (record { line = l
 listing_fault_of line (kinds.Outside word) = faults.Policy (record { line = line; kind = kinds.Outside word })
 listing_fault_of line kinds.Limit = faults.Policy (record { line = line; kind = kinds.Limit })
 
--- what ends a listing that has no text
+-- the fault of a listing for a failed read
 abbrev pub listing_read_fault : ReadFault → ListingFault
 listing_read_fault reads.Memory = faults.Memory
 listing_read_fault reads.Read = faults.Read
 
--- what ends a listing, as one line: a fault of the text with its line, or a word
+-- the text of a fault, as one line
 abbrev pub listing_fault_text : ListingFault → List ℕ
 listing_fault_text (faults.Utf8 line) = codes "line " ++ decimal line ++ codes ": utf8"
 listing_fault_text (faults.Policy fault) = fault_text fault.line fault.kind

@@ -1,4 +1,4 @@
--- The lines of the triples that are allowed.
+-- The lines of the allowed triples.
 use Rattle.std.specs.Prelude.{ℕ, Bool, List, ◌++◌, codes, map, filter, flat_map}
 use Rattle.gt_types.specs.Names as names
 use Rattle.gt_types.specs.declared.TypeId.{TypeId}
@@ -23,10 +23,10 @@ pair_triples source target =
 abbrev pub triples_of : List TypeId → List Triple
 triples_of ids = flat_map (λ source. flat_map (λ target. pair_triples source target) ids) ids
 
--- whether a triple is one that may be
+-- a triple is allowed
 abbrev pub is_allowed_triple : (ℕ → ℕ → Perms → Bool) → Triple → Bool
 is_allowed_triple may x = may x.source.0 x.target.0 x.perm
 
--- the lines of those triples of these types that may be, in their order
+-- the lines of the allowed triples of these types, in order
 abbrev pub listing : List (List ℕ) → (ℕ → ℕ → Perms → Bool) → List TypeId → List ℕ
 listing types may ids = flat_map (line_of_triple types) (filter (is_allowed_triple may) (triples_of ids))

@@ -1,4 +1,4 @@
--- What bytes say: a policy, or their first fault.
+-- What bytes are: a policy, or a text with a first fault.
 use Rattle.std.specs.Prelude.{◌≡◌, ◌⊎◌, ◌<◌, ◌≤◌, ℕ, List, length, Some, Ok, Err}
 use Rattle.std.specs.Str.{IsUtf8}
 use Rattle.gt_types.specs.declared.limits.TheConstants.{LONGEST_TEXT}
@@ -16,15 +16,15 @@ use Rattle.gt_policy_list.specs.declared.fault.ListingFault.TheVariants.{Utf8, P
 abbrev pub IsPolicy : List ℕ → Meaning → Type 0
 IsPolicy bytes m = IsUtf8 bytes × Says bytes (Ok m)
 
--- the bytes are not too many, and no UTF-8, from a byte of this line on
+-- the bytes are not too many, and not UTF-8; the first bad byte is on this line
 abbrev pub IsNotUtf8At : List ℕ → ℕ → Type 0
 IsNotUtf8At bytes line = (length bytes ≤ LONGEST_TEXT) × texts.IsBadAt bytes line
 
--- the first fault of the bytes is one of a policy: they are too many, or a text that has it
+-- the first fault of the bytes is one of a policy: they are too many, or a text that has the fault
 abbrev pub IsFaulty : List ℕ → policy.TokenFault → Type 0
 IsFaulty bytes f = ((LONGEST_TEXT < length bytes) ⊎ IsUtf8 bytes) × Says bytes (Err f)
 
--- the bytes are too many, or no UTF-8, and this is their fault
+-- the bytes are too many, or not UTF-8, and this is their fault
 abbrev pub IsNoText : List ℕ → ListingFault → Type 0
 IsNoText bytes (Utf8 line) = IsNotUtf8At bytes line
 IsNoText bytes (Policy shown) = (LONGEST_TEXT < length bytes) × (fault_shown shown ≡ Some (at 1 Limit))

@@ -1,4 +1,4 @@
--- What is written for what is read.
+-- What is written for what was read.
 use Rattle.std.specs.Prelude.{◌≡◌, ◌⊎◌, ℕ, List, Option, Some, Result, Ok, Err}
 use Rattle.std.specs.Io.KnownBytes.{Appends, Keeps}
 use Rattle.gt_types.specs.declared.TypeId.{TypeId}
@@ -13,22 +13,21 @@ use Rattle.gt_policy_list.specs.Listing.{listing}
 use Rattle.gt_policy_list.specs.Reading.{IsPolicy, IsNotUtf8At, IsFaulty}
 use Rattle.gt_text.specs.Streams.{AppendsBeginning}
 
--- the text of a policy: the lines of the triples that it allows, of its types in the byte order of their names
+-- the text of a policy: the lines of the triples that it allows, with its types in the byte order of their names
 abbrev pub IsListing : Meaning → List ℕ → Type 0
 IsListing m text = (ids : List TypeId) × AreByName m.types ids × (text ≡ listing m.types (is_allowed m) ids)
 
--- that text went out
+-- this text went out
 abbrev pub WritesListing : Meaning → Option (List ℕ) → Option (List ℕ) → Type 0
 WritesListing m old new = (text : List ℕ) × IsListing m text × Appends old new text
 
--- a beginning of it went out
+-- a prefix of it went out
 abbrev pub BeginsListing : Meaning → Option (List ℕ) → Option (List ℕ) → Type 0
 BeginsListing m old new = (text : List ℕ) × IsListing m text × AppendsBeginning old new text
 
--- what `policy` wrote for these bytes, if it answers so: at Ok the
--- text of the policy that they are, whole; at a fault
--- of the bytes nothing, and the fault is their first; after a failed write a
--- beginning of that text; if memory is refused that or nothing
+-- What `policy` wrote for these bytes, by its result. At Ok the bytes are a policy, and its whole
+-- text went out. At a fault of the bytes nothing did, and the fault is their first. After a failed write
+-- a prefix of that text went out, and after a failed allocation that or nothing.
 abbrev pub Listed : List ℕ → Option (List ℕ) → Option (List ℕ) → Result (Unit {0}) ListingFault → Type 0
 Listed bytes old new (Ok done) = (m : Meaning) × IsPolicy bytes m × WritesListing m old new
 Listed bytes old new (Err (Utf8 line)) = IsNotUtf8At bytes line × Keeps old new
@@ -38,7 +37,7 @@ Listed bytes old new (Err Write) = (m : Meaning) × IsPolicy bytes m × BeginsLi
 Listed bytes old new (Err Memory) = Keeps old new ⊎ ((m : Meaning) × IsPolicy bytes m × BeginsListing m old new)
 Listed bytes old new (Err Read) = Keeps old new
 
--- the same of a text
+-- the same for a text
 abbrev pub Parsed : List ℕ → Option (List ℕ) → Option (List ℕ) → Result (Unit {0}) ListingFault → Type 0
 Parsed text old new (Ok done) = (m : Meaning) × Says text (Ok m) × WritesListing m old new
 Parsed text old new (Err (Utf8 line)) = ⊥
@@ -48,12 +47,12 @@ Parsed text old new (Err Write) = (m : Meaning) × Says text (Ok m) × BeginsLis
 Parsed text old new (Err Memory) = Keeps old new ⊎ ((m : Meaning) × Says text (Ok m) × BeginsListing m old new)
 Parsed text old new (Err Read) = ⊥
 
--- the lines of what a kept policy allows, of these types in their order
+-- the lines of what a kept policy allows, with these types in their order
 abbrev pub text_with : KeptPolicy → List TypeId → List ℕ
 text_with p ids = listing p.types (may_of p) ids
 
--- what went out of that text: at Ok all of it; after a failed write a
--- beginning; if memory is refused that or nothing
+-- How much of that text went out: at Ok all of it, after a failed write a
+-- prefix, and after a failed allocation that or nothing.
 abbrev pub WritesRules : KeptPolicy → Option (List ℕ) → Option (List ℕ) → Result (Unit {0}) ListingFault → Type 0
 WritesRules p old new (Ok done) = (ids : List TypeId) × AreByName p.types ids × Appends old new (text_with p ids)
 WritesRules p old new (Err Write) =

@@ -1,22 +1,22 @@
-//! Why a listing did not end well.
+//! The errors of a listing.
 use gt_policy::{PolicyFault, PolicyFaultKind};
 use gt_text::{ReadFault, WriteFault};
 use std::alloc::AllocError;
 use std::error::Error;
 use std::fmt;
 
-/// Why a listing did not end well. It prints as one line, without its end.
+/// The error of a listing. It prints as one line, without a line feed.
 #[derive(Debug, Drop)]
 pub enum ListingFault {
-    /// The bytes are no UTF-8, from a byte of this line on. Nothing was written.
+    /// The bytes are not UTF-8, and the first bad byte is on this line, counted from 1. Nothing was written.
     Utf8 { line: usize },
-    /// The first fault of the text, with the number of its line. Nothing was written.
+    /// The first fault of the text, with its line. Nothing was written.
     Policy(PolicyFault),
-    /// Memory was refused. A beginning of the lines was written.
+    /// An allocation failed. A prefix of the lines was written, or nothing.
     Memory,
     /// A read failed, or the text can't be opened. Nothing was written.
     Read,
-    /// A write failed. A beginning of the lines was written.
+    /// A write failed. A prefix of the lines was written.
     Write,
 }
 

@@ -1,4 +1,4 @@
-//! What the definition of a listing comes to.
+//! A law about the definition of a listing.
 ghost use Rattle.std.specs.Prelude.{◌≡◌, ℕ, List, Ok};
 ghost use Rattle.gt_policy.specs.Allowing.{Meaning};
 ghost use Rattle.gt_policy.specs.Whole.{Says};
@@ -6,7 +6,7 @@ ghost use Rattle.gt_policy_list.specs.Writing.{IsListing};
 
 use gt_policy::written_texts;
 
-/// A policy has one listing.
+/// A law: a policy has only one listing.
 pub fn one_listing()
     ensures { (bytes one other : List ℕ) (m : Meaning) →
         Says bytes (Ok m) → IsListing m one → IsListing m other → one ≡ other }

@@ -1,16 +1,14 @@
-//! What `gthost policy` writes: the triples that a policy text allows.
+//! The listing of a policy: the triples that its text allows, as `gthost policy` writes them.
 //!
-//! `policy` takes a policy text from a reader, and writes one line `SOURCE TARGET PERMISSION` for each
-//! triple that it allows. It works over any reader and writer, so the program, a test and a service
-//! drive the same code.
+//! `policy` reads a policy text and writes one line `SOURCE TARGET PERMISSION` for each triple that the text allows. It
+//! takes any reader and writer, so the program, a test and a service drive the same code.
 //!
-//! What holds: the text that went out is the lines of the allowed triples, by source, then by target,
-//! then by permission. It is whole if `policy` answers Ok. A text with a fault writes nothing, and
-//! the fault is the text's first. After a failed write, or if memory is refused, what went out is a
-//! beginning of those lines.
+//! It is proved that the text that goes out is the lines of the allowed triples, by source, then by target, then by
+//! permission, and that it is whole if `policy` returns Ok. For a text with a fault nothing is written, and the error
+//! is the first fault of the text. After a failed write or allocation, a prefix of those lines has gone out.
 //!
-//! It uses `gt_policy` and `gt_allow` (what a text allows), `gt_types` (types and permissions) and
-//! `gt_text` (reads and writes).
+//! It uses `gt_policy` and `gt_allow` (what a text allows), `gt_types` (types and permissions) and `gt_text` (reads and
+//! writes).
 #![tactic(auto)]
 
 mod fault;

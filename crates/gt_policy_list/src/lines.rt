@@ -20,7 +20,6 @@ fn name_at<'p>(policy: &'p Policy, id: TypeId) -> &'p str
     }
 }
 
-// Appends the line of a source, a target and a permission.
 fn push_line(out: &mut Vec<u8>, source: &str, target: &str, perm: Perms) -> Result<(), AllocError>
     ensures { OnOk result (out.new.items ≡ out.old.items ++ triple_line source.now target.now perm) }
 {
@@ -53,7 +52,8 @@ fn push_triple(
     }
 }
 
-/// Appends the lines of a source and a target: one for each permission that the table allows.
+/// Appends the lines of a source and a target: one for each permission that the table allows. After an Err, part of
+/// them may have been appended.
 pub fn push_pair(
     out: &mut Vec<u8>,
     policy: &Policy,

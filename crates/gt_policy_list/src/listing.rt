@@ -1,4 +1,4 @@
-//! A policy in, and the lines of its triples out.
+//! Reads a policy and writes the lines of its triples.
 ghost use Rattle.std.specs.Prelude.{◌≡◌, ◌+◌, ℕ, List, take};
 ghost use Rattle.gt_text.specs.Streams.{OfInput, ConsumesAtMost};
 ghost use Rattle.gt_text.specs.declared.streams.TheConstants.{READ_LIMIT};
@@ -22,7 +22,7 @@ fn list_text<W: Write>(alloc: Global, text: &str, writer: &mut W) -> Result<(), 
     }
 }
 
-// Lists the policy that bytes say, of which those up to the limit were read.
+// Lists the policy of the bytes that were read: all, or the first up to the read limit.
 fn list_bytes<W: Write>(alloc: Global, input: &[u8], writer: &mut W) -> Result<(), ListingFault>
     ensures { (all : List ℕ) → input.now ≡ take (LONGEST_TEXT + 1) all →
         Listed all (W.contents writer.old) (W.contents writer.new) result }
@@ -33,12 +33,12 @@ fn list_bytes<W: Write>(alloc: Global, input: &[u8], writer: &mut W) -> Result<(
     }
 }
 
-/// Lists the triples that the policy of the reader's text allows: one line `SOURCE TARGET
-/// PERMISSION` each, by the name of the source, then of the target, in the order of their bytes, then
-/// by permission: map_read, map_write, unmap, transfer, setup, copy, query.
+/// Reads a policy text and writes one line `SOURCE TARGET PERMISSION` for each triple that it allows. The lines are in
+/// the byte order of the sources, then of the targets, then by permission: map_read, map_write, unmap, transfer, setup,
+/// copy, query.
 ///
-/// It reads at most 1,048,577 bytes. A text with a fault writes nothing. After a failed write, or if memory is
-/// refused, a beginning of the lines was written.
+/// At most 1,048,577 bytes are read. For a text with a fault nothing is written. After a failed write or allocation, a
+/// prefix of the lines was written, or nothing.
 pub fn policy<R: Read, W: Write>(
     alloc: Global,
     reader: &mut R,

@@ -17,7 +17,7 @@ use gt_types::TypeId;
 use std::alloc::Global;
 use std::io::Write;
 
-// Writes the lines of a source with each target in turn, or lets them wait.
+// Appends the lines of a source to those that wait, with each target in turn, and writes them when there are enough.
 fn write_source<W: Write>(
     policy: &Policy,
     table: &AllowTable,
@@ -63,7 +63,8 @@ fn write_sources<W: Write>(
     Ok(())
 }
 
-/// Writes the lines of all triples that the policy allows, by its table.
+/// Writes the lines of all triples that the policy allows, with the types in the byte order of their names. After an
+/// Err, a prefix of them may have gone out.
 pub fn write_policy<W: Write>(
     alloc: Global,
     policy: &Policy,

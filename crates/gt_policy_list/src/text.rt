@@ -8,7 +8,7 @@ use gt_policy::{PolicyFault, PolicyFaultKind};
 use gt_text::text_of;
 use gt_types::LONGEST_TEXT;
 
-/// The bytes as text, or the fault that keeps them from being one: too many, or no UTF-8.
+/// Returns the bytes as text, or the fault of more than 1,048,576 bytes or of bytes that are not UTF-8.
 pub fn policy_text<'a>(bytes: &'a [u8]) -> Result<&'a str, ListingFault>
     ensures text { IfOk result (λ text. text.now ≡ bytes.entry.now) }
     ensures few { IfOk result (λ _. length bytes.entry.now ≤ LONGEST_TEXT) }

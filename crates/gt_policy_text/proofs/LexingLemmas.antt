@@ -9,7 +9,7 @@ use Rattle.gt_policy_text.specs.Lexing.{Place, Between, Naming, goes_on, lexemes
 use Rattle.gt_policy_text.specs.Lexing.{is_name_byte}
 use Rattle.gt_policy_text.specs.Lexing.{StartsToken}
 
--- what goes on with what has begun has no token in it
+-- the bytes that continue what has begun contain no token
 pub lexemes-goes_on : (p : Place) (end line : ℕ) (bs : List ℕ) → lexemes p end line bs ≡ lexemes Between end line (drop (prefix_len (goes_on p) bs) bs)
 lexemes-goes_on p end line [] = refl
 lexemes-goes_on p end line (b ∷ bs) = go (goes_on p b) refl (lexemes-goes_on p end line bs)

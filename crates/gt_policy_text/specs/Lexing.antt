@@ -1,5 +1,5 @@
--- The tokens of a policy text, with their lines. (SELinux policy language;
--- CR, comments inside words and the line of the end: own)
+-- The tokens of a policy text, with their lines. (SELinux policy language; CR, comments inside words and the line of
+-- the end: own)
 use Rattle.std.specs.Prelude.{◌≡◌, ℕ, ◌+◌, ◌==◌, ◌||◌, not, Bool, false, List, [], ◌∷◌, codes, length, if◌then◌else◌}
 use Rattle.std.specs.Prelude.{slice_get, count_by, ◌-◌}
 use Rattle.std.specs.Option.{option_map_or}
@@ -15,7 +15,7 @@ use Rattle.gt_policy_text.specs.declared.lexer.Token.TheVariants.{Comma, Minus, 
 abbrev pub is_letter : ℕ → Bool
 is_letter b = is_ascii_alphabetic b
 
--- a letter, a digit, `_`, `-` or `.`: with these a name goes on (SELinux policy language)
+-- a byte that continues a name: a letter, a digit, `_`, `-` or `.` (SELinux policy language)
 abbrev pub is_name_byte : ℕ → Bool
 is_name_byte b = (((is_letter b || is_ascii_digit b) || (b == 95)) || (b == 45)) || (b == 46)
 
@@ -23,7 +23,7 @@ is_name_byte b = (((is_letter b || is_ascii_digit b) || (b == 95)) || (b == 45))
 abbrev pub is_blank : ℕ → Bool
 is_blank b = ((b == 32) || (b == 9)) || (b == 13)
 
--- the mark that a character is; none of the others occurs outside a comment (SELinux policy language)
+-- the mark of a character, `Bad` if it is not a mark (SELinux policy language)
 unfoldable pub mark_of : ℕ → Token
 mark_of b = if b == 123 then Open
     else (if b == 125 then Close
@@ -34,8 +34,8 @@ mark_of b = if b == 123 then Open
     else (if b == 126 then Tilde
     else (if b == 42 then Star else Bad)))))))
 
--- what the characters of a name spell: one of the five words that are
--- no names, or else a name (SELinux policy language)
+-- the token that the characters of a name spell: one of the five words,
+-- or else a name (SELinux policy language)
 unfoldable pub token_of_word : List ℕ → Token
 token_of_word w = if bytes_eq w (codes "type") then TypeWord
     else (if bytes_eq w (codes "attribute") then AttributeWord
@@ -49,14 +49,14 @@ pub data Place : Type 0 where
   Naming : Place
   Commenting : Place
 
--- whether a character goes on with it: a name's characters with a name, all
--- but a line's end with a comment (SELinux policy language)
+-- whether a character continues it: a name's byte continues a name, and every
+-- byte but a line feed continues a comment (SELinux policy language)
 abbrev pub goes_on : Place → ℕ → Bool
 goes_on Between b = false
 goes_on Naming b = is_name_byte b
 goes_on Commenting b = not (b == 10)
 
--- The tokens of a text from a line on, the last of them its end, which lies on the line `end`. A
+-- The tokens of a text that starts on a line; the last of them is its end, which is on the line `end`. A
 -- name is as long as it can be. (SELinux policy language; the line of the end own)
 abbrev pub lexemes : Place → ℕ → ℕ → List ℕ → List (Token × ℕ)
 lexemes place end line [] = (End, end) ∷ []
@@ -68,17 +68,17 @@ lexemes place end line (b ∷ bs) =
     else (if is_letter b then (token_of_word (take_while is_name_byte (b ∷ bs)), line) ∷ lexemes Naming end line bs
     else (mark_of b, line) ∷ lexemes Between end line bs))))
 
--- no blank, end of a line or comment comes next
+-- the text begins with no blank, line feed or comment
 abbrev pub StartsToken : List ℕ → Type 0
 StartsToken [] = Unit {0}
 StartsToken (b ∷ bs) = ((b == 10) ≡ false) × (is_blank b ≡ false) × ((b == 35) ≡ false)
 
--- what is after a token: nothing after the end
+-- the tokens after a token: none after the end
 abbrev pub behind : Token → List (Token × ℕ) → List (Token × ℕ)
 behind End rest = []
 behind _ rest = rest
 
--- whether text follows the last end of a line
+-- whether bytes follow the last line feed
 abbrev pub has_open_line : List ℕ → Bool
 has_open_line text = option_map_or (λ b. not (b == 10)) (slice_get text (length text - 1)) false
 

@@ -11,7 +11,7 @@ ghost use Rattle.gt_policy_text.specs.declared.lexer.Token.{Token};
 use crate::text::TextPiece;
 use std::marker::Model;
 
-/// A token. `Bad` is a character that begins none, and `End` the end of the text.
+/// A token. `Bad` is a character that begins no token, and `End` the end of the text.
 #[derive(Drop)]
 pub enum Token<'a> {
     Name(TextPiece<'a>),
@@ -32,7 +32,7 @@ pub enum Token<'a> {
     End,
 }
 
-/// A token, with its line.
+/// A token and its line, counted from 1.
 pub type Lexeme<'a> = (Token<'a>, u32);
 
 fn is_name_byte(byte: u8) -> bool
@@ -51,7 +51,7 @@ fn is_blank(byte: u8) -> bool
     byte == b' ' || byte == b'\t' || byte == b'\r'
 }
 
-// How many bytes of a name the text begins with.
+// Returns the length of the name at the front of `text`; 0 if there is none.
 fn name_len(text: &[u8]) -> usize
     ensures value { result ≡ prefix_len name_byte text.now }
     ensures within { result ≤ length text.now }
@@ -64,7 +64,7 @@ fn name_len(text: &[u8]) -> usize
     text.len()
 }
 
-// How many bytes are before the first end of a line.
+// Returns the number of bytes before the first line feed.
 fn line_len(text: &[u8]) -> usize
     ensures value { result ≡ prefix_len (λ b. not (b == 10)) text.now }
     ensures within { result ≤ length text.now }
@@ -95,7 +95,7 @@ fn mark_of<'a>(byte: u8) -> Token<'a>
     }
 }
 
-/// Whether the bytes are these.
+/// Returns whether two byte strings are equal.
 pub fn is_text(bytes: &[u8], wanted: &[u8]) -> bool
     ensures { result ≡ bytes_eq bytes.now wanted.now }
 {
@@ -123,7 +123,7 @@ fn word_of<'a>(word: &'a [u8]) -> Token<'a>
     }
 }
 
-// How many lines end in a text.
+// Counts the line feeds in `text`.
 fn line_ends(text: &[u8]) -> usize
     ensures value { result ≡ count_by (λ b. b == 10) text.now }
     ensures within { result ≤ length text.now }
@@ -137,7 +137,7 @@ fn line_ends(text: &[u8]) -> usize
     ends
 }
 
-// Whether text follows the last end of a line.
+// Returns whether bytes follow the last line feed.
 fn has_open_line(text: &[u8]) -> bool
     ensures { result ≡ has_open_line text.now }
 {
@@ -147,7 +147,7 @@ fn has_open_line(text: &[u8]) -> bool
     }
 }
 
-// The line after the last of a text.
+// Returns the line after the last line of a text.
 #[tactic(auto, unfolding(crate::specs::Lexing::end_line))]
 fn end_line(text: &[u8]) -> u32
     requires { length text.now < 2 ^ 32 - 2 }
@@ -161,7 +161,7 @@ fn end_line(text: &[u8]) -> u32
     }
 }
 
-/// What is left of a text. A contract sees its tokens.
+/// The rest of a text. A contract sees its tokens.
 #[derive(Drop)]
 pub struct Lexer<'a> {
     rest: &'a [u8],
@@ -181,7 +181,7 @@ impl<'a> Model for Lexer<'a> {
     ghost invariant = { λ l. l.line + length l.rest.now < 2 ^ 32 };
 }
 
-// What is left after a comment: the end of its line is a part of it.
+// Skips a comment. The line feed at its end is left.
 fn after_comment<'a>(text: &'a [u8]) -> &'a [u8]
     ensures same { (end line : ℕ) →
         lexemes Commenting end line text.entry.now ≡ lexemes Between end line result.now }
@@ -191,7 +191,7 @@ fn after_comment<'a>(text: &'a [u8]) -> &'a [u8]
     after
 }
 
-// What is left after blanks, ends of lines and comments, and its line.
+// Skips blanks, line feeds and comments. Returns the rest of the text, and the line on which it begins.
 fn skip<'a>(text: &'a [u8], first: u32) -> (&'a [u8], u32)
     requires { first + length text.now < 2 ^ 32 }
     ensures same { (end : ℕ) →
@@ -219,7 +219,7 @@ impl<'a> Lexer<'a> {
     ghost use Rattle.std.specs.Prelude.{◌≡◌, ◌∷◌, ◌≤◌, ◌<◌, ◌^◌, ◌-◌, length};
     ghost use Rattle.gt_policy_text.specs.Lexing.{behind, lexemes_of};
 
-    /// The tokens of a whole text.
+    /// Makes the lexer of a whole text, of fewer than 4,294,967,294 bytes.
     pub fn new(text: &'a [u8]) -> Lexer<'a>
         requires { length text.now < 2 ^ 32 - 2 }
         ensures { result ≡ lexemes_of text.entry.now }
@@ -231,7 +231,7 @@ impl<'a> Lexer<'a> {
         }
     }
 
-    /// The line of the next token, unless that is the end of the text. Nothing is taken.
+    /// Returns the line of the next token, without taking it. At the end of the text the line is unspecified.
     pub fn line(&mut self) -> u32
         ensures same { self.new ≡ self.old }
         ensures line { (token : Token) (n : ℕ) (rest : List (Token × ℕ)) →
@@ -243,7 +243,7 @@ impl<'a> Lexer<'a> {
         line
     }
 
-    /// The next token. The end of the text stays.
+    /// Takes the next token. At the end of the text every call returns `End`.
     pub fn next(&mut self) -> Lexeme<'a>
         ensures front { self.old ≡ result ∷ behind result.0 self.new }
         ensures shorter { length self.new ≤ length self.old }

@@ -2,7 +2,7 @@
 use std::alloc::{AllocError, Global};
 use std::marker::Model;
 
-/// A piece of a policy text, in the text's own bytes. A contract sees the bytes.
+/// A piece of a policy text, borrowed from it. A contract sees the bytes.
 #[derive(Drop)]
 pub struct TextPiece<'a> {
     text: &'a str,
@@ -20,7 +20,7 @@ impl<'a> TextPiece<'a> {
     ghost use Rattle.std.specs.Prelude.{◌≡◌, IfOk, string_bytes};
     ghost use Rattle.std.specs.Str.{IsUtf8};
 
-    /// The piece of these bytes.
+    /// Makes a piece of bytes that are UTF-8.
     pub fn new(bytes: &'a [u8]) -> TextPiece<'a>
         requires { IsUtf8 bytes.now }
         ensures { result ≡ bytes.entry.now }
@@ -31,28 +31,28 @@ impl<'a> TextPiece<'a> {
         }
     }
 
-    /// The same piece, once more.
+    /// Returns a second reference to the same piece.
     pub fn again(&self) -> TextPiece<'a>
         ensures { result ≡ self.now }
     {
         TextPiece { text: self.text }
     }
 
-    /// A text of its own.
+    /// Copies the piece to a `String`.
     pub fn to_string(&self, alloc: Global) -> Result<String, AllocError>
         ensures { IfOk result (λ s. string_bytes s ≡ self.now) }
     {
         String::from_str(alloc, self.text)
     }
 
-    /// Its bytes.
+    /// Returns the bytes of the piece.
     pub fn as_bytes(&self) -> &'a [u8]
         ensures { result.now ≡ self.now }
     {
         self.text.as_bytes()
     }
 
-    /// Its text.
+    /// Returns the piece as text.
     pub fn as_str(&self) -> &'a str
         ensures { result.now ≡ self.now }
     {

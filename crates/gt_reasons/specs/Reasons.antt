@@ -1,4 +1,4 @@
--- Reasons as lines.
+-- The lines of reasons.
 use Rattle.std.specs.Prelude.{◌≡◌, ℕ, ◌-◌, if◌then◌else◌, List, [], ◌∷◌, ◌++◌, codes, decimal}
 use Rattle.std.specs.Char.{is_ascii_control}
 use Rattle.std.specs.List.{flat_map}
@@ -12,7 +12,7 @@ abbrev pub reason_heading : List ℕ → ℕ → ℕ → List ℕ
 reason_heading file line column =
     file ++ codes ":" ++ decimal line ++ codes ":" ++ decimal column ++ codes ": "
 
--- a byte as it is shown: the bytes of U+FFFD for a control character
+-- a byte as it is shown: U+FFFD for a control character
 abbrev pub shown_byte : ℕ → List ℕ
 shown_byte byte = if is_ascii_control byte then 239 ∷ 191 ∷ 189 ∷ [] else byte ∷ []
 
@@ -20,12 +20,12 @@ shown_byte byte = if is_ascii_control byte then 239 ∷ 191 ∷ 189 ∷ [] else 
 abbrev pub quoted_text : List ℕ → List ℕ
 quoted_text word = codes "\"" ++ flat_map shown_byte word ++ codes "\""
 
--- a line was added that tells a reason at this line of the file
+-- one line was appended: a reason at this line of the file
 abbrev pub TellsAt : List ℕ → ℕ → List ℕ → List ℕ → Type 0
 TellsAt file line old new =
     (column : ℕ) × (message : List ℕ) × (new ≡ old ++ reason_heading file line column ++ message ++ codes "\n")
 
--- the limit that a fault is about, 0 where it is about none
+-- the limit that a fault is about; 0 if it is about none
 abbrev pub limit_of : ConfigFault → ℕ
 limit_of faults.NoDomains = 0
 limit_of (faults.TooMany id) = MAX_DOMAINS

@@ -9,7 +9,7 @@ fn is_just(words: &[&[u8]], word: &str) -> bool {
     }
 }
 
-/// Whether the first line with words is a line `policy`.
+/// Returns whether the first line with words is a line `policy`.
 pub fn has_policy(alloc: Global, lines: &[&str]) -> Result<bool, AllocError> {
     for line in lines {
         let words = line_words(alloc, line)?;
@@ -20,8 +20,8 @@ pub fn has_policy(alloc: Global, lines: &[&str]) -> Result<bool, AllocError> {
     Ok(false)
 }
 
-/// The text of the policy block, with as many empty lines before it as the script has lines: its lines have the numbers
-/// that they have in the script. None without a block.
+/// Returns the text of the policy block, with an empty line for each line of the script before it, so that its lines
+/// have their numbers in the script. None if there is no block.
 pub fn block_text(alloc: Global, lines: &[&str]) -> Result<Option<String>, AllocError> {
     let mut text = String::new(alloc);
     let mut is_open = false;

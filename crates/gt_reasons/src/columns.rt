@@ -1,7 +1,7 @@
 //! The columns of the words of a line.
 
-/// The column of a line at which its word with this number begins, from 0 on; the one past its last word if there is
-/// no such word. Columns are counted from 1, in bytes.
+/// Returns the column at which a word of a line begins, in bytes, counted from 1. The words are numbered from 0. If
+/// there is no such word, it is the column after the last word.
 pub fn column_of(line: &[u8], number: usize) -> usize {
     let mut seen: usize = 0;
     let mut end: usize = 0;

@@ -1,7 +1,7 @@
-//! The forms of a script's lines, and what stands at each of their words.
+//! The forms of a script's lines, and what is expected at each word.
 use gt_script_lines::is_word;
 
-/// The form of each line, as docs/FORMATS_SCRIPTS.md writes it. A word in capitals is a part, and any other stands for itself.
+/// The forms of the lines, as in docs/FORMATS_SCRIPTS.md. A word in capitals is a part; any other stands for itself.
 pub const FORMS: [&str; 30] = [
     "triple TYPE TYPE PERMISSION",
     "wear GENERATION",
@@ -35,7 +35,7 @@ pub const FORMS: [&str; 30] = [
     "await ID FLAG",
 ];
 
-// A part of a form: its name, a word that fits, and what is said to be expected there.
+// A part of a form: its name, a word that fits, and the text of what is expected there.
 struct FormPart {
     name: &'static str,
     example: &'static str,
@@ -145,7 +145,7 @@ const PARTS: [FormPart; 20] = [
     },
 ];
 
-/// A word that fits this word of a form.
+/// Returns a word that fits this word of a form.
 pub fn example_of<'f>(word: &'f [u8]) -> &'f [u8] {
     for part in &PARTS {
         if is_word(word, part.name) {
@@ -155,7 +155,7 @@ pub fn example_of<'f>(word: &'f [u8]) -> &'f [u8] {
     word
 }
 
-/// What is expected at this word of a form; nothing for a word that stands for itself.
+/// Returns what is expected at this word of a form; None for a word that stands for itself.
 pub fn expected_at(word: &[u8]) -> Option<&'static str> {
     for part in &PARTS {
         if is_word(word, part.name) {

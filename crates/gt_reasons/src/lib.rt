@@ -1,15 +1,15 @@
-//! Why a script was refused, and why a call of it was: reasons to print beside the fixed lines.
+//! The reasons why a script, or a call of it, was refused: lines to print after the fixed ones.
 //!
-//! A fault line names a line and a word. `push_script_reason` says what that line has wrong: the word that
-//! does not fit and what fits there, the limit that a domain is past, the flag that nobody raises in time.
-//! `push_block_reason` does so for a policy block, and `push_refusals` tells the rules that come near a
-//! call that the policy refused.
+//! A fault line has a line number and a word. `push_script_reason` prints what is wrong in that line: the word that
+//! does not fit and what fits there, the limit that a domain exceeds, the flag that no domain raises in time.
+//! `push_block_reason` does so for a policy block, and `push_refusals` prints the rules that are near misses for a call
+//! that the policy refused.
 //!
-//! What holds: the word told is a word of the line, and the first one that does not fit: up to it the
-//! line goes on as a line that can be read does, with it it can't. Texts beside that are tested.
+//! It is proved that the words before the printed one fit an example of a line, and that the printed one does not fit
+//! the same example. The texts of the reasons are tested.
 //!
-//! It uses `gt_script_lines` and `gt_script` (what lines say, and faults), `gt_policy_check` and `gt_policy` (policies),
-//! `gt_types` (limits), `gt_text` and `gt_text` (texts).
+//! It uses `gt_script_lines` and `gt_script` (lines and faults), `gt_policy_check` and `gt_policy` (policies),
+//! `gt_types` (limits) and `gt_text` (texts).
 #![tactic(auto)]
 
 mod blocks;

@@ -1,4 +1,4 @@
-//! Why a line has the fault `config` or `mode`.
+//! The reasons for the faults `config` and `mode`.
 ghost use Rattle.std.specs.Prelude.{◌≡◌};
 ghost use Rattle.gt_reasons.specs.Reasons.{limit_of};
 
@@ -16,8 +16,8 @@ use gt_types::{
 };
 use std::alloc::{AllocError, Global};
 
-/// The limit that a fault of a domain is about: the most domains, the last number, the most frames, the most table
-/// frames, the last version; 0 for a fault that is about none.
+/// Returns the limit that a fault of a domain is about: the maximum number of domains, the last number of a domain, the
+/// maximum number of frames or table frames, the last version; 0 for a fault that is about none of them.
 pub fn limit_of(fault: ConfigFault) -> u32
     ensures { result ≡ limit_of fault }
 {
@@ -31,7 +31,7 @@ pub fn limit_of(fault: ConfigFault) -> u32
     }
 }
 
-// A number of a line, or one past all limits if it is larger than a domain's can be.
+// Returns a number of a line, or the maximum if it has more than 32 bits.
 fn bounded(number: Number) -> u32 {
     match number.below(1 << 32) {
         Some(small) => small as u32,
@@ -39,7 +39,7 @@ fn bounded(number: Number) -> u32 {
     }
 }
 
-// The domain of a line, with some type; the number past all limits if it is larger than a domain's can be.
+// Makes the domain of a line, with type 0. A number that does not fit becomes the maximum, which exceeds all limits.
 fn domain_of(line: &DomainLine) -> DomainConfig {
     let id = match line.id.below(1 << 16) {
         Some(small) => small as u16,
@@ -54,7 +54,7 @@ fn domain_of(line: &DomainLine) -> DomainConfig {
     }
 }
 
-// A line `domain`, where it stands, and its domain.
+// A line `domain`: its number, the column of its ID, and its domain.
 #[derive(Drop)]
 struct Configured {
     number: usize,
@@ -62,7 +62,7 @@ struct Configured {
     domain: DomainConfig,
 }
 
-// The lines `domain` among these.
+// Finds the lines `domain` among these.
 fn configured_in(alloc: Global, lines: &[&str]) -> Result<Vec<Configured>, AllocError> {
     let mut found = Vec::new(alloc);
     for (i, line) in lines.iter().enumerate() {
@@ -78,7 +78,6 @@ fn configured_in(alloc: Global, lines: &[&str]) -> Result<Vec<Configured>, Alloc
     Ok(found)
 }
 
-// Their domains.
 fn domains_of(alloc: Global, lines: &[Configured]) -> Result<Vec<DomainConfig>, AllocError> {
     let mut domains = Vec::new(alloc);
     for line in lines {
@@ -87,7 +86,7 @@ fn domains_of(alloc: Global, lines: &[Configured]) -> Result<Vec<DomainConfig>, 
     Ok(domains)
 }
 
-// Says where a domain with this number is configured, if one is.
+// Makes the note at the line that configures a domain with this number, if there is one.
 fn first_of(
     alloc: Global,
     lines: &[Configured],
@@ -105,7 +104,7 @@ fn first_of(
     }))
 }
 
-// Appends what a limit is, and says at which word of a line `domain` it is passed.
+// Appends the text of a limit, and returns the index of the word of a line `domain` that exceeds it.
 fn push_limit(out: &mut Vec<u8>, fault: ConfigFault) -> Result<usize, AllocError> {
     let (word, before, after) = match fault {
         ConfigFault::TooMany(_) => (0, "a script has at most ", " domains"),
@@ -128,7 +127,7 @@ const UNDECLARED: &str = " is no type that the policy declares";
 
 const MANY_TYPES: &str = " is one type too many: a script has at most 256";
 
-// Appends that a name is no type of the policy, whose statements these are, and which type may be meant.
+// Appends that a name is not a type that these statements declare, and which type may be meant.
 fn push_undeclared(
     alloc: Global,
     out: &mut Vec<u8>,
@@ -149,7 +148,7 @@ fn push_undeclared(
     push_hint(alloc, out, name, types.as_slice())
 }
 
-// Appends why the type of a domain is none, after the lines before it.
+// Appends why a domain's type is refused, after the lines before it.
 fn push_no_type(
     alloc: Global,
     out: &mut Vec<u8>,
@@ -166,7 +165,7 @@ fn push_no_type(
     }
 }
 
-// Why a line `domain` is refused, after the lines before it: a limit, or else its type.
+// Explains why a line `domain` is refused, after the lines before it: a limit, or else its type.
 fn domain_reason(
     alloc: Global,
     before: &[&str],
@@ -197,7 +196,7 @@ fn domain_reason(
     })
 }
 
-// Appends the numbers of the domains that a script has.
+// Appends the numbers of the domains of a script.
 fn push_numbers(alloc: Global, out: &mut Vec<u8>, lines: &[&str]) -> Result<(), AllocError> {
     push_text(out, " is no domain of this script, which has ")?;
     for (i, line) in configured_in(alloc, lines)?.iter().enumerate() {
@@ -209,7 +208,7 @@ fn push_numbers(alloc: Global, out: &mut Vec<u8>, lines: &[&str]) -> Result<(), 
     Ok(())
 }
 
-/// Why a line of a script has the fault `config`, after the lines before it.
+/// Returns the reason for the fault `config` of a line of a script, after the lines before it.
 pub fn config_reason(alloc: Global, before: &[&str], line: &str) -> Result<Reason, AllocError> {
     let words = line_words(alloc, line)?;
     let read = read_line(words.as_slice());
@@ -226,7 +225,7 @@ pub fn config_reason(alloc: Global, before: &[&str], line: &str) -> Result<Reaso
     Ok(Reason::at(column_of(line.as_bytes(), 1), message))
 }
 
-/// Why a line of a script has the fault `mode`.
+/// Returns the reason for the fault `mode` of a line of a script.
 pub fn mode_reason(alloc: Global, line: &str) -> Result<Reason, AllocError> {
     let words = line_words(alloc, line)?;
     let mut message = Vec::new(alloc);

@@ -5,7 +5,7 @@ ghost use Rattle.gt_reasons.specs.Fitting.{fits, IsFitting};
 use gt_script_lines::read_line;
 use std::alloc::{AllocError, Global};
 
-// Whether a line can be read that begins with so many of these words, and goes on as the example does.
+// Returns whether the first `count` words, continued by the rest of the example, are a line that can be read.
 fn fits<'w>(
     alloc: Global,
     words: &[&'w [u8]],
@@ -21,9 +21,9 @@ fn fits<'w>(
     Ok(read_line(line.as_slice()).is_some())
 }
 
-/// How many first words of a line fit an example: with so many of them it can be read when it goes on as the example
-/// does, and with one more it can't, or there is none in the line or in the example. With no word at all the example
-/// itself has to be read, or the answer is 0.
+/// Returns how many of the first words of a line fit an example: continued by the rest of the example they are a line
+/// that can be read, and with one more word they are not, or the line or the example has no more words. It is 0 if the
+/// first word doesn't fit.
 pub fn fitting<'w>(
     alloc: Global,
     words: &[&'w [u8]],

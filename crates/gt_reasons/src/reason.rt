@@ -1,6 +1,6 @@
-//! A reason, and where its line has it.
+//! A reason, with its column and note.
 
-/// What is said beside a reason, and where.
+/// A note on a reason, at another line.
 #[derive(Drop)]
 pub struct ReasonNote {
     pub line: usize,
@@ -8,7 +8,7 @@ pub struct ReasonNote {
     pub message: Vec<u8>,
 }
 
-/// What is wrong with a line, the column at which that stands, and what is said beside it.
+/// The reason for a fault of a line: the column, the message, and perhaps a note.
 #[derive(Drop)]
 pub struct Reason {
     pub column: usize,
@@ -17,7 +17,7 @@ pub struct Reason {
 }
 
 impl Reason {
-    /// A reason with nothing beside it.
+    /// Makes a reason without a note.
     pub(crate) fn at(column: usize, message: Vec<u8>) -> Reason {
         Reason {
             column,

@@ -1,4 +1,4 @@
-//! The rules that come near a call that the policy refused.
+//! The near misses for calls that the policy refused.
 use crate::blocks::block_text;
 use crate::texts::push_word;
 use gt_policy::PolicyFaultKind;
@@ -7,7 +7,7 @@ use gt_script_lines::{ScriptLine, line_words, read_line, text_lines};
 use gt_text::{push_number, push_text, text_of};
 use std::alloc::{AllocError, Global};
 
-// A call that was refused: the number of its line, and what the policy does not allow.
+// A refused call: the number of its line, and the facts of its refusal.
 #[derive(Clone, Copy)]
 struct RefusedCall<'t> {
     line: &'t str,
@@ -17,7 +17,7 @@ struct RefusedCall<'t> {
     perm: &'t str,
 }
 
-// The refusal of the call of this line, if these words stand between its facts.
+// Splits the facts of a refusal at these words.
 fn refusal_with<'t>(
     line: &'t str,
     facts: &'t str,
@@ -35,7 +35,7 @@ fn refusal_with<'t>(
     })
 }
 
-// The refusal that the object of an answer line tells (docs/FORMATS_SCRIPTS.md, 'JSON Lines').
+// Reads the refusal in the JSON object of an answer (docs/FORMATS_SCRIPTS.md, 'JSON Lines').
 fn refusal_of_object<'t>(line: &'t str) -> Option<RefusedCall<'t>> {
     let members = line.strip_prefix("{\"line\":")?.strip_suffix("\"}")?;
     let (number, rest) = members.split_once(",\"domain\":")?;
@@ -43,7 +43,7 @@ fn refusal_of_object<'t>(line: &'t str) -> Option<RefusedCall<'t>> {
     refusal_with(number, facts, "\",\"target\":\"", "\",\"perm\":\"")
 }
 
-// The refusal that an answer line tells: none of a line with another answer, or of an audit line.
+// Reads the refusal in an answer line. Returns None for another answer, and for an audit line.
 fn refusal_of<'t>(line: &'t str) -> Option<RefusedCall<'t>> {
     let (call, facts) = line.split_once(" N5 -8 source=")?;
     let (number, domain) = call.split_once(' ')?;
@@ -53,7 +53,7 @@ fn refusal_of<'t>(line: &'t str) -> Option<RefusedCall<'t>> {
     refusal_with(number, facts, " target=", " perm=")
 }
 
-// Appends the lines of the statements that come near, and answers whether there is one.
+// Appends the lines of the statements that are near misses. Returns whether there is one.
 fn push_statements(
     alloc: Global,
     out: &mut Vec<u8>,
@@ -82,7 +82,7 @@ fn push_statements(
     Ok(!near.is_empty())
 }
 
-// Appends a triple with its line, if it comes near: it has the target, and the permission or the source.
+// Appends a triple with its line, if it is a near miss: it has the target, and the permission or the source.
 fn push_triple(
     alloc: Global,
     out: &mut Vec<u8>,
@@ -137,7 +137,7 @@ fn push_refusal(out: &mut Vec<u8>, file: &str, refusal: RefusedCall<'_>) -> Resu
     push_text(out, "; near:\n")
 }
 
-// Appends the rules that come near a refusal.
+// Appends the rules that are near misses for a refusal.
 fn push_near(
     alloc: Global,
     out: &mut Vec<u8>,
@@ -157,9 +157,9 @@ fn push_near(
     push_text(out, "none\n")
 }
 
-/// Appends, for each call that the policy refused, the rules of the script that come near: statements of its policy
-/// block, or triples, each with its line. What is refused again is told once. `printed` is the text that a play or a
-/// run printed for the script, or its JSON Lines. After an Err a part of the lines may be there.
+/// Appends, for each call that the policy refused, the rules of the script that are near misses: statements of its
+/// policy block, or triples, each with its line. Repeated refusals are printed once. `printed` is the text that `play`
+/// or `run` printed for the script, or its JSON Lines. After an Err, part of the lines may have been appended.
 pub fn push_refusals(
     alloc: Global,
     out: &mut Vec<u8>,

@@ -1,4 +1,4 @@
-//! Why a script was refused.
+//! The reasons for the faults of a script.
 ghost use Rattle.std.specs.Prelude.{◌≡◌, ◌++◌, OnOk, codes};
 ghost use Rattle.gt_reasons.specs.Reasons.{TellsAt};
 
@@ -15,7 +15,7 @@ use gt_text::{push_number, push_text, text_of};
 use gt_types::LONGEST_TEXT;
 use std::alloc::{AllocError, Global};
 
-// A reason that is about a whole line.
+// Makes a reason that is about a whole line.
 fn reason_of(alloc: Global, text: &str) -> Result<Reason, AllocError> {
     let mut message = Vec::new(alloc);
     push_text(&mut message, text)?;
@@ -30,7 +30,7 @@ fn limit_reason(alloc: Global) -> Result<Reason, AllocError> {
     Ok(Reason::at(1, message))
 }
 
-// The column of the first byte that is no UTF-8.
+// Explains bytes that are not UTF-8, with the column of the first bad byte.
 fn utf8_reason(alloc: Global, input: &[u8]) -> Result<Reason, AllocError> {
     let mut reason = reason_of(alloc, "here stands a byte that is no UTF-8")?;
     if let Err(error) = str::from_utf8(input) {
@@ -45,7 +45,7 @@ fn utf8_reason(alloc: Global, input: &[u8]) -> Result<Reason, AllocError> {
     Ok(reason)
 }
 
-// What a script lacks that comes to its end.
+// Explains a fault at the end of a script.
 fn end_reason(alloc: Global, lines: &[&str], kind: ScriptFaultKind) -> Result<Reason, AllocError> {
     if kind == ScriptFaultKind::Config {
         return reason_of(alloc, "a script has a line domain, and this one has none");
@@ -59,7 +59,7 @@ fn end_reason(alloc: Global, lines: &[&str], kind: ScriptFaultKind) -> Result<Re
     )
 }
 
-// Why the line with this number has a fault of this kind.
+// Explains a fault of a line.
 fn line_reason(alloc: Global, lines: &[&str], fault: &ScriptFault) -> Result<Reason, AllocError> {
     let place = fault.line.saturating_sub(1);
     if place >= lines.len() {
@@ -75,7 +75,7 @@ fn line_reason(alloc: Global, lines: &[&str], fault: &ScriptFault) -> Result<Rea
     }
 }
 
-/// Why a script has this fault, which `parse` or `parse_run` gave for these bytes.
+/// Returns the reason for a fault that `parse` or `parse_run` found in these bytes.
 pub fn script_reason(
     alloc: Global,
     input: &[u8],
@@ -105,8 +105,8 @@ fn push_reason(
     push_text(out, "\n")
 }
 
-/// Appends why a script has this fault, which `parse` or `parse_run` gave for these bytes: a line
-/// `FILE:LINE:COLUMN: REASON`, at the line of the fault. After an Err a part of it may be there.
+/// Appends the reason for a fault that `parse` or `parse_run` found in these bytes: a line `FILE:LINE:COLUMN: REASON`,
+/// at the line of the fault. After an Err, part of it may have been appended.
 pub fn push_script_reason(
     alloc: Global,
     out: &mut Vec<u8>,
@@ -120,7 +120,7 @@ pub fn push_script_reason(
     push_reason(out, file, fault.line, &reason)
 }
 
-// What is said beside an error, if this is a note.
+// Returns the note of an error, if this finding is a note.
 fn note_found(alloc: Global, finding: Option<&Finding>) -> Result<Option<ReasonNote>, AllocError> {
     let Some(note) = finding.filter(|one| one.kind == FindingKind::Note) else {
         return Ok(None);
@@ -132,7 +132,7 @@ fn note_found(alloc: Global, finding: Option<&Finding>) -> Result<Option<ReasonN
     }))
 }
 
-// The error that was found in a policy block, and the note after it.
+// Makes the reason of the findings in a policy block: its error, and the note after it.
 fn reason_found(alloc: Global, found: &[Finding]) -> Result<Reason, AllocError> {
     let [error, others @ ..] = found else {
         return reason_of(alloc, "the policy block has a fault");
@@ -144,7 +144,7 @@ fn reason_found(alloc: Global, found: &[Finding]) -> Result<Reason, AllocError> 
     })
 }
 
-/// What is wrong with the policy block of a script.
+/// Returns the reason for the fault of a script's policy block.
 pub fn block_reason(alloc: Global, input: &[u8]) -> Result<Reason, AllocError> {
     let Ok(text) = text_of(input) else {
         return utf8_reason(alloc, input);
@@ -159,8 +159,8 @@ pub fn block_reason(alloc: Global, input: &[u8]) -> Result<Reason, AllocError> {
     reason_found(alloc, found.as_slice())
 }
 
-/// Appends why the policy block of a script has this fault: a line `FILE:LINE:COLUMN: REASON`, at the line of the
-/// fault. After an Err a part of it may be there.
+/// Appends the reason for a fault of a script's policy block: a line `FILE:LINE:COLUMN: REASON`, at the line of the
+/// fault. After an Err, part of it may have been appended.
 pub fn push_block_reason(
     alloc: Global,
     out: &mut Vec<u8>,
@@ -174,8 +174,8 @@ pub fn push_block_reason(
     push_reason(out, file, fault.line, &reason)
 }
 
-/// Appends why a file was not read: a line `FILE: REASON`, in the system's words. After an Err a part of it may be
-/// there.
+/// Appends why a file was not read: a line `FILE: REASON`, in the words of the system. After an Err, part of it may
+/// have been appended.
 pub fn push_read_reason(out: &mut Vec<u8>, file: &str, said: &[u8]) -> Result<(), AllocError>
     ensures { OnOk result (out.new.items ≡ out.old.items ++ file.now ++ codes ": " ++ said.now ++ codes "\n") }
 {

@@ -1,4 +1,4 @@
-//! Why a line can't be read, or stands where it can't.
+//! The reasons for the fault `syntax`.
 ghost use Rattle.std.specs.Prelude.{IfOk, map};
 ghost use Rattle.gt_reasons.specs.Fitting.{IsMisfit};
 
@@ -13,7 +13,7 @@ use gt_text::{push_text, text_of};
 use gt_types::Perms;
 use std::alloc::{AllocError, Global};
 
-// The words of a form, and words that fit them.
+// Lists a word that fits, for each word of a form.
 fn examples<'f>(alloc: Global, form: &[&'f [u8]]) -> Result<Vec<&'f [u8]>, AllocError> {
     let mut words = Vec::new(alloc);
     for word in form {
@@ -22,7 +22,8 @@ fn examples<'f>(alloc: Global, form: &[&'f [u8]]) -> Result<Vec<&'f [u8]>, Alloc
     Ok(words)
 }
 
-/// The number of the first word, from 0 on, that fits no form of a line; that of the line's words if one is missing.
+/// Returns the maximum number of first words of a line that fit a form. It is the index of the word that does not fit,
+/// or the number of words if one is missing.
 pub fn first_misfit(alloc: Global, words: &[&[u8]]) -> Result<usize, AllocError>
     ensures { IfOk result (IsMisfit (map (λ w. w.now) words.now)) }
 {
@@ -38,7 +39,7 @@ pub fn first_misfit(alloc: Global, words: &[&[u8]]) -> Result<usize, AllocError>
     Ok(most)
 }
 
-// Appends the parts that are expected at this word by the forms that fit up to it, each once, and answers them.
+// Appends what the forms that fit up to this word expect there, each part once, and returns these parts.
 fn push_expected(
     alloc: Global,
     out: &mut Vec<u8>,
@@ -56,7 +57,7 @@ fn push_expected(
     Ok(told)
 }
 
-// Appends which of these parts of forms a misspelt word may be meant as.
+// Appends which word of these parts a misspelt word may be meant as.
 fn push_meant(
     alloc: Global,
     out: &mut Vec<u8>,
@@ -81,7 +82,7 @@ fn push_meant(
 
 const NOTHING_MORE: &str = "nothing more";
 
-// Appends what is expected by the word of a form, or by its end, if that was not told yet.
+// Appends what is expected at the word of a form, or at its end, unless it was appended before.
 fn push_next<'f>(
     out: &mut Vec<u8>,
     told: &mut Vec<&'f [u8]>,
@@ -100,7 +101,7 @@ fn push_next<'f>(
     }
 }
 
-// The reason for words that no line has.
+// Explains words that are not a line of a script.
 fn misfit_reason(alloc: Global, line: &str, words: &[&[u8]]) -> Result<Reason, AllocError> {
     let number = first_misfit(alloc, words)?;
     let mut message = Vec::new(alloc);
@@ -116,7 +117,7 @@ fn misfit_reason(alloc: Global, line: &str, words: &[&[u8]]) -> Result<Reason, A
     Ok(Reason::at(column_of(line.as_bytes(), number), message))
 }
 
-// Where a line may stand, for one that stands elsewhere.
+// Returns where such a line has to be.
 fn place_of(line: &ScriptLine) -> &'static str {
     match line {
         ScriptLine::Triple(_) =>
@@ -135,7 +136,7 @@ fn place_reason(alloc: Global, text: &str) -> Result<Reason, AllocError> {
     Ok(Reason::at(1, message))
 }
 
-/// Why a line of a script has the fault `syntax`: a word does not fit, or the line is out of its place.
+/// Returns the reason for the fault `syntax` of a line: a word does not fit, or the line is out of its place.
 pub fn syntax_reason(alloc: Global, line: &str) -> Result<Reason, AllocError> {
     let words = line_words(alloc, line)?;
     if words

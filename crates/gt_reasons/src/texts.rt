@@ -1,11 +1,11 @@
-//! Pieces of reasons.
+//! Parts of reasons.
 ghost use Rattle.std.specs.Prelude.{◌≡◌, ◌++◌, OnOk};
 ghost use Rattle.gt_reasons.specs.Reasons.{reason_heading, quoted_text, shown_byte};
 
 use gt_text::{push_number, push_text};
 use std::alloc::AllocError;
 
-/// Appends `FILE:LINE:COLUMN: `. After an Err a part of it may be there.
+/// Appends `FILE:LINE:COLUMN: `. After an Err, part of it may have been appended.
 pub fn push_heading(
     out: &mut Vec<u8>,
     file: &str,
@@ -22,10 +22,10 @@ pub fn push_heading(
     push_text(out, ": ")
 }
 
-// The bytes of U+FFFD, which stands for a control character.
+// The bytes of U+FFFD, which replaces a control character.
 const NOT_SHOWN: [u8; 3] = [0xEF, 0xBF, 0xBD];
 
-// Appends a byte. A control character could move the terminal's cursor, so another stands for it.
+// Appends a byte. A control character could move the cursor of the terminal, so U+FFFD replaces it.
 fn push_shown(out: &mut Vec<u8>, byte: u8) -> Result<(), AllocError>
     ensures { OnOk result (out.new.items ≡ out.old.items ++ shown_byte byte) }
 {
@@ -35,7 +35,8 @@ fn push_shown(out: &mut Vec<u8>, byte: u8) -> Result<(), AllocError>
     out.extend_from_slice(&[byte])
 }
 
-/// Appends a word in quotes, with U+FFFD for each control character. After an Err a part of it may be there.
+/// Appends a word in quotes, with U+FFFD for each control character of ASCII. After an Err, part of it may have been
+/// appended.
 pub fn push_word(out: &mut Vec<u8>, word: &[u8]) -> Result<(), AllocError>
     ensures { OnOk result (out.new.items ≡ out.old.items ++ quoted_text word.now) }
 {

@@ -1,4 +1,4 @@
-//! Why a domain waits forever.
+//! The reason for the fault `stuck`.
 use crate::columns::column_of;
 use crate::reason::{Reason, ReasonNote};
 use crate::texts::push_word;
@@ -7,7 +7,7 @@ use gt_script_lines::{is_word, line_words};
 use gt_text::{push_number, push_text, text_of};
 use std::alloc::{AllocError, Global};
 
-// A line by which a domain tells a flag.
+// A line by which a domain raises a flag.
 #[derive(Clone, Copy)]
 struct TellLine<'t> {
     number: usize,
@@ -16,7 +16,7 @@ struct TellLine<'t> {
     flag: &'t [u8],
 }
 
-// The lines by which domains tell flags.
+// Finds the lines by which domains raise flags.
 fn tellers<'t>(alloc: Global, lines: &[&'t str]) -> Result<Vec<TellLine<'t>>, AllocError> {
     let mut found = Vec::new(alloc);
     for (i, line) in lines.iter().enumerate() {
@@ -35,7 +35,7 @@ fn tellers<'t>(alloc: Global, lines: &[&'t str]) -> Result<Vec<TellLine<'t>>, Al
     Ok(found)
 }
 
-// Appends a line by which the flag would be told.
+// Appends a line that would raise the flag.
 fn push_teller(out: &mut Vec<u8>, teller: &TellLine) -> Result<(), AllocError> {
     push_text(out, "; line ")?;
     push_number(out, teller.number)?;
@@ -44,7 +44,7 @@ fn push_teller(out: &mut Vec<u8>, teller: &TellLine) -> Result<(), AllocError> {
     push_text(out, " tells it, and does not come")
 }
 
-// Appends that no line tells a flag, and which one may be meant.
+// Appends that no line raises a flag, and which flag may be meant.
 fn push_untold(
     alloc: Global,
     out: &mut Vec<u8>,
@@ -64,7 +64,7 @@ fn push_untold(
     }
 }
 
-// Appends the lines by which the flag would be told, and answers what is said beside the first of them.
+// Appends the lines that would raise the flag, and returns a note at the first of them.
 fn push_tellers(
     alloc: Global,
     out: &mut Vec<u8>,
@@ -85,7 +85,7 @@ fn push_tellers(
     Ok(note)
 }
 
-// Says where a flag would be told.
+// Makes the note at a line that would raise a flag.
 fn told_here(alloc: Global, teller: &TellLine) -> Result<ReasonNote, AllocError> {
     let mut message = Vec::new(alloc);
     push_word(&mut message, teller.flag)?;
@@ -97,7 +97,7 @@ fn told_here(alloc: Global, teller: &TellLine) -> Result<ReasonNote, AllocError>
     })
 }
 
-/// Why the domain of a line `await` waits forever: the flag, and the lines that would tell it.
+/// Returns the reason why the domain of a line `await` waits for ever: the flag, and the lines that would raise it.
 pub fn stuck_reason(alloc: Global, lines: &[&str], line: &str) -> Result<Reason, AllocError> {
     let words = line_words(alloc, line)?;
     let domain = words.get(1).copied().unwrap_or(&[]);

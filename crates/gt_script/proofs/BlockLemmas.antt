@@ -1,4 +1,4 @@
--- Where the policy block of a script stands.
+-- Where the policy block of a script is.
 use Rattle.std.proofs.Common.{◌≡◌, ◌≢◌, ℕ, suc, ◌+◌, ◌<◌, ◌≤◌, Bool, true, false, List, [], ◌∷◌, ◌++◌, length, take}
 use Rattle.std.proofs.Common.{drop, get_or, Option, None, Some, refl, sym, ap, subst, ◌∙◌, All, Bor, arith, cond, eqb}
 use Rattle.std.proofs.Common.{codes}

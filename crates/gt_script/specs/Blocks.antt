@@ -12,48 +12,48 @@ use Rattle.gt_script.specs.declared.faults.BlockFault.{BlockFault}
 use Rattle.gt_script.specs.declared.faults.ScriptError.{ScriptError}
 use Rattle.gt_script.specs.declared.faults.ScriptError.TheVariants as errors
 
--- the words of a line are just this one
+-- the words of a line are exactly this one
 abbrev pub is_just : List ℕ → List (List ℕ) → Bool
 is_just word [] = false
 is_just word (w ∷ []) = bytes_eq w word
 is_just word (w ∷ v ∷ ws) = false
 
--- the place of the line `policy`, if it is the first line with words
+-- the index of the line `policy`, if it is the first line with words
 abbrev pub opening : List (List ℕ) → Option ℕ
 opening [] = None
 opening (l ∷ ls) = if length (words l) == 0 then option_map (λ n. suc n) (opening ls)
     else (if is_just (codes "policy") (words l) then Some 0 else None)
 
--- the place of the first line `end`
+-- the index of the first line `end`
 abbrev pub closing : List (List ℕ) → Option ℕ
 closing [] = None
 closing (l ∷ ls) = if is_just (codes "end") (words l) then Some 0 else option_map (λ n. suc n) (closing ls)
 
--- a line with its end
+-- a line with its line feed
 abbrev pub closed_block : List ℕ → List ℕ
 closed_block line = line ++ 10 ∷ []
 
--- the text of a policy: the lines of its block, each with its end
+-- the text of a policy: the lines of its block, each with a line feed
 abbrev pub block_text : List (List ℕ) → List ℕ
 block_text lines = flat_map closed_block lines
 
--- a fault of a policy, on a line that has others in front of its text
+-- a fault of a policy whose text follows this number of lines
 abbrev pub fault_in_block : ℕ → policy.TokenFault → policy.TokenFault
 fault_in_block before f = record { line = before + f.line; kind = f.kind }
 
--- the fault in the text that a fault of a block shows; none if memory ran out
+-- the fault of the text; none if an allocation failed
 abbrev pub block_fault_shown : BlockFault → Option policy.TokenFault
 block_fault_shown e = option_map (λ k. record { line = e.line; kind = k }) (kind_shown e.kind)
 
--- the block says these types and what they may do to one another: those of its meaning
+-- the block means these types and what they may do to one another
 abbrev pub Means : List (List ℕ) → Allowed → Type 0
 Means lines a = (m : Meaning) × Says (block_text lines) (Ok m) × (a ≡ allowed_by m)
 
--- the block, after so many lines, has this fault, which is its first
+-- the block, after this number of lines, has this first fault
 abbrev pub IsFaultyBlock : ℕ → List (List ℕ) → policy.TokenFault → Type 0
 IsFaultyBlock before lines g = (f : policy.TokenFault) × Says (block_text lines) (Err f) × (g ≡ fault_in_block before f)
 
--- the policy of a block or its fault, unless memory ran out
+-- the policy of a block or its fault, unless an allocation failed
 abbrev pub IsPolicyOf : ℕ → List (List ℕ) → Result KeptPolicy ScriptError → Type 0
 IsPolicyOf before lines (Ok p) = Means lines (allowed_of p)
 IsPolicyOf before lines (Err errors.Memory) = Unit {0}

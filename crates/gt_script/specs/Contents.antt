@@ -1,4 +1,4 @@
--- What a script holds.
+-- The contents of a script.
 use Rattle.std.specs.Prelude.{ℕ, List, [], Option, Some, None}
 use Rattle.std.specs.Option.{unwrap_or, option_map}
 use Rattle.gt_types.specs.declared.rights.Triple.{Triple}
@@ -8,9 +8,9 @@ use Rattle.gt_script.specs.declared.command.ScriptCommand.{ScriptCommand}
 use Rattle.gt_script.specs.Lists.{NamedRunTask}
 use Rattle.gt_script.specs.declared.script.ScriptStep.{ScriptStep}
 
--- the command that it is for; what the policy of its block says, if it has one; else the names of its types, by
--- their numbers, and its triples; its domains; the lines of its body, which are steps for `play` and orders for `run`;
--- all in the order of their lines; and the number of its line `wear`, if it has one
+-- the command of the script; the policy of its block, if it has one; else the names of its types, by their
+-- numbers, and its triples; the number of its line `wear`, if it has one; its domains; the lines of its body,
+-- which are steps for `play` and orders for `run`; all in the order of their lines
 pub record Contents : Type 0 where
   pub command : ScriptCommand
   pub policy : Option Allowed
@@ -32,7 +32,7 @@ pub record KeptContents : Type 0 where
   pub steps : List ScriptStep
   pub orders : List NamedRunTask
 
--- what a script holds that is kept so
+-- the contents of a kept script
 abbrev pub contents_told : KeptContents → Contents
 contents_told k = record {
   command = k.command;
@@ -45,7 +45,7 @@ contents_told k = record {
   orders = k.orders;
 }
 
--- a script of no line, for this command
+-- a script without lines, for this command
 abbrev pub empty : ScriptCommand → Contents
 empty command =
     record {
@@ -59,7 +59,7 @@ empty command =
       orders = [];
     }
 
--- a script of only a policy block
+-- a script with only a policy block
 abbrev pub with_policy : ScriptCommand → Allowed → Contents
 with_policy command p = record (empty command) { policy = Some p }
 
@@ -67,7 +67,7 @@ with_policy command p = record (empty command) { policy = Some p }
 abbrev pub without_orders : Contents → Contents
 without_orders c = record c { orders = [] }
 
--- the names of the types, with these if there is no policy
+-- the names of the types: those of the policy, or else these
 abbrev pub type_names_with : Option Allowed → List (List ℕ) → List (List ℕ)
 type_names_with None types = types
 type_names_with (Some p) types = p.types

@@ -11,7 +11,7 @@ use Rattle.gt_script.specs.declared.faults.ScriptError.{ScriptError}
 use Rattle.gt_script.specs.declared.faults.ScriptError.TheVariants.{Memory}
 use Rattle.gt_script.specs.declared.faults.ScriptError.TheVariants as errors
 
--- the word of a fault
+-- the word of a kind of fault
 abbrev pub fault_word : ScriptFaultKind → List ℕ
 fault_word Limit = codes "limit"
 fault_word Utf8 = codes "utf8"
@@ -20,17 +20,17 @@ fault_word Config = codes "config"
 fault_word Mode = codes "mode"
 fault_word Stuck = codes "stuck"
 
--- a fault with the number of its line
+-- a fault with its line
 abbrev pub script_fault_text : ScriptFault → List ℕ
 script_fault_text f = codes "line " ++ decimal f.line ++ codes ": " ++ fault_word f.kind
 
--- why there is no script: a fault of its policy block is reported as one of a policy, with its line in the script
+-- the text of an error: a fault of the policy block has its line in the script
 abbrev pub error_text : ScriptError → List ℕ
 error_text Memory = codes "memory"
 error_text (errors.Fault f) = script_fault_text f
 error_text (errors.Policy f) = policy_fault_text f.line f.kind
 
--- a kind of fault of a policy on this line of a script, if it is not refused memory
+-- the error for a kind of fault of a policy, on this line of a script
 abbrev pub error_in_block : ℕ → policy.PolicyFaultKind → ScriptError
 error_in_block line kinds.Memory = Memory
 error_in_block line kinds.Syntax = errors.Policy (record { line = line; kind = kinds.Syntax })

@@ -6,15 +6,15 @@ use Rattle.std.specs.Str.{bytes_eq}
 use Rattle.gt_script.specs.Lists.{NamedRunTask, NamedRunAction}
 use Rattle.gt_script.specs.declared.tasks.RunActionBy.TheVariants as runs
 
--- the texts that are lent
+-- the names behind the references
 abbrev pub names_in : List (Bor (List ℕ)) → List (List ℕ)
 names_in keys = map (λ key. key.now) keys
 
--- the names with this one, which goes last if it is new
+-- the names with this one, which is appended if it is new
 unfoldable pub with_flag : List (List ℕ) → List ℕ → List (List ℕ)
 with_flag names name = if list_any (bytes_eq name) names then names else names ++ name ∷ []
 
--- the flag that a line names, if it names one
+-- the flag of a line, if it has one
 abbrev pub flag_in : NamedRunAction → Option (List ℕ)
 flag_in (runs.Do call) = None
 flag_in (runs.Tell flag) = Some flag
@@ -24,6 +24,6 @@ flag_in (runs.Await flag) = Some flag
 abbrev pub flag_names_of : List NamedRunTask → List (List ℕ)
 flag_names_of orders = fold with_flag [] (filter_map (λ o. flag_in o.deed) orders)
 
--- the number of a flag: the place of its name
+-- the number of a flag: the index of its name
 unfoldable pub flag_number : List (List ℕ) → List ℕ → ℕ
 flag_number names name = position_or_len (bytes_eq name) names

@@ -1,4 +1,4 @@
--- What the parts of a script are, said without the order of reading.
+-- The parts of a script, defined without the order of reading.
 use Rattle.std.specs.Prelude.{◌≡◌, ◌≢◌, ◌≤◌, ◌<◌, ◌+◌, ◌^◌, ◌⊎◌, ℕ, Bool, true, List, [], ◌∷◌, ◌++◌, length, take}
 use Rattle.std.specs.Prelude.{Option, Some, None, Ok, Err, IsSome, IsTrue, All, AllPairs, slice_get, codes}
 use Rattle.gt_script.specs.Prelude.{option_map, option_to_list, is_some, filter_map, enumerate_from, IsUtf8, lines_in}
@@ -13,11 +13,11 @@ use Rattle.gt_script.specs.Script.{domain_written, play_action_in, run_action_in
 use Rattle.gt_script_lines.specs.declared.lines.ScriptLine.TheVariants as line
 use Rattle.gt_script.specs.declared.faults.ScriptError.TheVariants as errors
 
--- what the lines say, each with its number
+-- the lines of a script with their numbers, without those that have no meaning
 abbrev pub lines_said : ℕ → List (List ℕ) → List (ℕ × ScriptLine)
 lines_said n lines = filter_map (λ l. option_map (λ x. (l.0, x)) (line_of (words l.1))) (enumerate_from n lines)
 
--- the triple of a line, if it says one
+-- the triple of a line, if it gives one
 abbrev pub triple_in : List (List ℕ) → ScriptLine → Option Triple
 triple_in types (line.Triple t) = do
   source ← type_named types t.source
@@ -43,7 +43,7 @@ domain_in types (line.Domain d) = do
   domain_written d label
 domain_in types (line.Body id asks) = None
 
--- the step that line n is in a script for this command, if it is one
+-- the step of line n in a script for this command, if it is one
 abbrev pub step_for : ScriptCommand → ℕ → Number → BodyLine → Option ScriptStep
 step_for Play n number asks = do
   id ← number_below (2 ^ 16) number
@@ -51,7 +51,7 @@ step_for Play n number asks = do
   Some (record { line = n; dom = record { 0 = id }; action = action })
 step_for Run n number asks = None
 
--- the order that line n is in a script for this command, if it is one
+-- the order of line n in a script for this command, if it is one
 abbrev pub order_for : ScriptCommand → ℕ → Number → BodyLine → Option NamedRunTask
 order_for Play n number asks = None
 order_for Run n number asks = do
@@ -59,38 +59,38 @@ order_for Run n number asks = do
   order ← run_action_in asks
   Some (record { line = n; dom = record { 0 = id }; deed = order })
 
--- the step of line n, if it is one of the body of a script for `play`
+-- the step of line n, if it is a line of the body of a script for `play`
 abbrev pub step_on : ScriptCommand → ℕ → ScriptLine → Option ScriptStep
 step_on command n (line.Triple t) = None
 step_on command n (line.Wear first) = None
 step_on command n (line.Domain d) = None
 step_on command n (line.Body number asks) = step_for command n number asks
 
--- the order of line n, if it is one of the body of a script for `run`
+-- the order of line n, if it is a line of the body of a script for `run`
 abbrev pub order_on : ScriptCommand → ℕ → ScriptLine → Option NamedRunTask
 order_on command n (line.Triple t) = None
 order_on command n (line.Wear first) = None
 order_on command n (line.Domain d) = None
 order_on command n (line.Body number asks) = order_for command n number asks
 
--- a line is for this command: each but those of the body that are for the other one
+-- a line of the body is for this command
 abbrev pub asks_for : ScriptCommand → BodyLine → Bool
 asks_for Play asks = is_some (play_action_in asks)
 asks_for Run asks = is_some (run_action_in asks)
 
--- the same of any line
+-- a line is for this command: each but those of the body that are for the other one
 abbrev pub is_for : ScriptCommand → ScriptLine → Bool
 is_for command (line.Triple t) = true
 is_for command (line.Wear first) = true
 is_for command (line.Domain d) = true
 is_for command (line.Body number asks) = asks_for command asks
 
--- a line without words, or one that says something
+-- a line without words, or one that has a meaning
 abbrev pub IsLine : List ℕ → Type 0
 IsLine line = (words line ≡ []) ⊎ IsSome (line_of (words line))
 
--- what the lines from number n on say of a script: each part holds what they say of
--- it, in their order; so at most one of them is a line `wear`
+-- The lines, numbered from n, are those of a script: each part holds what they give for it,
+-- in order; so at most one of them is a line `wear`.
 pub record SayParts (n : ℕ) (lines : List (List ℕ)) (c : Contents) : Type 0 where
   pub readable : All IsLine lines
   pub triples : c.triples ≡ filter_map (λ l. triple_in c.types l.1) (lines_said n lines)
@@ -105,8 +105,8 @@ pub record SayParts (n : ℕ) (lines : List (List ℕ)) (c : Contents) : Type 0 
   pub ordered : All (λ o. IsTrue (is_taken c.domains o.dom)) c.orders
   pub some_domain : 1 ≤ length c.domains
 
--- the lines are those of this script for the command, which says by triples what
--- is allowed: any name is a type, and each has one number
+-- The lines are those of this script for the command, and its rights are triples:
+-- any name is a type, and each has one number.
 pub record IsTripleScript (command : ScriptCommand) (lines : List (List ℕ)) (c : Contents) : Type 0 where
   pub for_command : c.command ≡ command
   pub parts : SayParts 1 lines c
@@ -115,8 +115,8 @@ pub record IsTripleScript (command : ScriptCommand) (lines : List (List ℕ)) (c
   pub few_types : length c.types ≤ 256
   pub some_triple : 1 ≤ length c.triples
 
--- the lines have a policy block: in front of it are lines without words and a line `policy`, then the
--- lines of the block, of which none says just `end`, then a line `end` and the others
+-- The lines have a policy block: in front of it are lines without words and a line `policy`, then come the
+-- lines of the block, none of which is exactly `end`, then a line `end` and the rest.
 pub record HasBlock (lines block rest : List (List ℕ)) : Type 0 where
   pub front : List (List ℕ)
   pub opener : List ℕ
@@ -127,12 +127,12 @@ pub record HasBlock (lines block rest : List (List ℕ)) : Type 0 where
   pub inside : All (λ l. words l ≢ codes "end" ∷ []) block
   pub closes : words closer ≡ codes "end" ∷ []
 
--- how many lines are in front of the block, its line `policy` among them
+-- the number of lines in front of the block, its line `policy` among them
 abbrev pub lines_before : {lines block rest : List (List ℕ)} → HasBlock lines block rest → ℕ
 lines_before b = length b.front + 1
 
--- the lines are those of this script for the command, whose policy is that of its block; the
--- lines after the block say the rest, and no triple is one of them
+-- The lines are those of this script for the command, and its policy is that of their block; the
+-- lines after the block give the other parts, without a triple.
 pub record IsPolicyScript (command : ScriptCommand) (lines : List (List ℕ)) (c : Contents) : Type 0 where
   pub for_command : c.command ≡ command
   pub block : List (List ℕ)
@@ -152,8 +152,8 @@ IsScriptFor command lines c = IsTripleScript command lines c ⊎ IsPolicyScript 
 abbrev pub IsScriptOf : List (List ℕ) → Contents → Type 0
 IsScriptOf lines c = IsScriptFor Play lines c
 
--- the fault is that of the line at this place, counted from 0, of lines from number n on
--- that are added to a script, and the lines before it have none
+-- The fault is that of the line at this index, of lines numbered from n that are added to a script, and
+-- the lines before it have none.
 pub record IsFaultOfLine (n : ℕ) (lines : List (List ℕ)) (c : Contents) (f : ScriptFault) : Type 0 where
   pub place : ℕ
   pub line : List ℕ
@@ -163,8 +163,8 @@ pub record IsFaultOfLine (n : ℕ) (lines : List (List ℕ)) (c : Contents) (f :
   pub earlier : with_lines c n (take place lines) ≡ Ok before
   pub here : with_words before f.line (words line) ≡ Err f.kind
 
--- no line has a fault, and what the script of `count` lines lacks is named after the last: syntax if
--- nothing is allowed, config if something is allowed and no domain is configured
+-- No line has a fault, and the fault, after the last of `count` lines, is what the script lacks: syntax if
+-- nothing is allowed, config if something is allowed and no domain is configured.
 pub record IsFaultOfEnd (count n : ℕ) (lines : List (List ℕ)) (c : Contents) (f : ScriptFault) : Type 0 where
   pub all : Contents
   pub earlier : with_lines c n lines ≡ Ok all
@@ -172,7 +172,7 @@ pub record IsFaultOfEnd (count n : ℕ) (lines : List (List ℕ)) (c : Contents)
   pub lacks : ((all.policy ≡ None) × (all.triples ≡ []) × (f.kind ≡ Syntax))
       ⊎ (((1 ≤ length all.triples) ⊎ IsSome all.policy) × (all.domains ≡ []) × (f.kind ≡ Config))
 
--- the first fault of lines from number n on that are added to a script of `count` lines
+-- the first fault of lines numbered from n that are added to a script of `count` lines
 abbrev pub IsFirstScriptFault : ℕ → Contents → ℕ → List (List ℕ) → ScriptFault → Type 0
 IsFirstScriptFault count c n lines f = IsFaultOfLine n lines c f ⊎ IsFaultOfEnd count n lines c f
 
@@ -186,8 +186,8 @@ pub record IsOpen (lines : List (List ℕ)) : Type 0 where
   pub opens : words opener ≡ codes "policy" ∷ []
   pub inside : All (λ l. words l ≢ codes "end" ∷ []) block
 
--- the lines open no block: they are all without words, or the first with
--- words says something else than just `policy`
+-- The lines open no block: they are all without words, or the first with words is
+-- not exactly `policy`.
 pub record HasNoBlock (lines : List (List ℕ)) : Type 0 where
   pub front : List (List ℕ)
   pub others : List (List ℕ)
@@ -205,26 +205,26 @@ pub record IsFaultBehind (command : ScriptCommand) (lines : List (List ℕ)) (f 
   pub first : IsFirstScriptFault (length lines) (with_policy command rights)
       (lines_before has + length block + 2) rest f
 
--- the first fault of the lines, if it is none of a policy
+-- the first fault of the lines, if it is not one of a policy
 abbrev pub IsFaultOfLines : ScriptCommand → List (List ℕ) → ScriptFault → Type 0
 IsFaultOfLines command lines f =
     (HasNoBlock lines × IsFirstScriptFault (length lines) (empty command) 1 lines f)
     ⊎ ((IsOpen lines × (f ≡ record { line = length lines + 1; kind = Syntax }))
     ⊎ IsFaultBehind command lines f)
 
--- the bytes are too many, or no text, and this is their fault
+-- the bytes are too many, or not UTF-8, and this is their fault
 abbrev pub IsUnread : List ℕ → ScriptFault → Type 0
 IsUnread bytes f =
     ((LONGEST_TEXT < length bytes) × (f ≡ record { line = 1; kind = Limit }))
     ⊎ ((length bytes ≤ LONGEST_TEXT) × (¬ IsUtf8 bytes)
     × (f ≡ record { line = line_after (take (utf8_valid_len bytes) bytes); kind = Utf8 }))
 
--- the first fault of the bytes, if it is none of a policy: too many, no text, or the first fault of the lines
+-- the first fault of the bytes, if it is not one of a policy: too many, not UTF-8, or the first fault of the lines
 abbrev pub IsFaultOf : ScriptCommand → List ℕ → ScriptFault → Type 0
 IsFaultOf command bytes f =
     IsUnread bytes f ⊎ ((length bytes ≤ LONGEST_TEXT) × IsUtf8 bytes × IsFaultOfLines command (lines_in bytes) f)
 
--- the first fault of the bytes is that of their policy block, on its own line of them
+-- the first fault of the bytes is that of their policy block, with its line in the script
 pub record IsFaultOfBlock (bytes : List ℕ) (g : policy.TokenFault) : Type 0 where
   pub short : length bytes ≤ LONGEST_TEXT
   pub text : IsUtf8 bytes
@@ -233,13 +233,13 @@ pub record IsFaultOfBlock (bytes : List ℕ) (g : policy.TokenFault) : Type 0 wh
   pub has : HasBlock (lines_in bytes) block rest
   pub faulty : IsFaultyBlock (lines_before has) block g
 
--- memory ran out, or this is the first fault of a script for the command
+-- an allocation failed, or this is the first fault of a script for the command
 abbrev pub StandsFor : ScriptCommand → List ℕ → ScriptError → Type 0
 StandsFor command bytes Memory = Unit {0}
 StandsFor command bytes (errors.Fault f) = IsFaultOf command bytes f
 StandsFor command bytes (errors.Policy e) =
     (g : policy.TokenFault) × (block_fault_shown e ≡ Some g) × IsFaultOfBlock bytes g
 
--- memory ran out, or this is the first fault of a script for `play`
+-- an allocation failed, or this is the first fault of a script for `play`
 abbrev pub ErrorStands : List ℕ → ScriptError → Type 0
 ErrorStands bytes e = StandsFor Play bytes e

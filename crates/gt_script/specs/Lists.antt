@@ -1,20 +1,20 @@
--- A line of the body of a script for `run`, its flag by name or by number.
+-- Tasks with their flags by name or by number.
 use Rattle.std.specs.Prelude.{ℕ, List}
 use Rattle.gt_script.specs.declared.tasks.RunActionBy.{RunActionBy}
 use Rattle.gt_script.specs.declared.tasks.RunTaskBy.{RunTaskBy}
 
--- a line as it is written
+-- a task as it is written
 abbrev pub NamedRunTask : Type 0
 NamedRunTask = RunTaskBy (List ℕ)
 
--- what such a line asks
+-- the action of such a task
 abbrev pub NamedRunAction : Type 0
 NamedRunAction = RunActionBy (List ℕ)
 
--- a line whose flag is named by its number
+-- a task with its flag by number
 abbrev pub RunTask : Type 0
 RunTask = RunTaskBy ℕ
 
--- what such a line has its domain do
+-- the action of such a task
 abbrev pub RunAction : Type 0
 RunAction = RunActionBy ℕ

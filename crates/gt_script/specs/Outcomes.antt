@@ -1,4 +1,4 @@
--- What a function that may run out of memory answers.
+-- Results, unless an allocation failed.
 use Rattle.std.specs.Prelude.{◌≡◌, ℕ, Some, Result, Ok, Err}
 use Rattle.gt_policy.specs.declared.fault.TokenFault as policy
 use Rattle.gt_script.specs.Blocks.{block_fault_shown}
@@ -12,20 +12,20 @@ use Rattle.gt_script.specs.declared.script.Script.{Script}
 use Rattle.gt_script.specs.declared.script.AddError.{AddError}
 use Rattle.gt_script.specs.declared.script.AddError.TheVariants.{Memory, Fault}
 
--- a script with more lines is this one, or has this fault, unless memory ran out
+-- a script with one more line is this one, or has this fault, unless an allocation failed
 abbrev pub AddsLine : Result Script AddError → Result Contents ScriptFaultKind → Type 0
 AddsLine (Ok script) added = added ≡ Ok (contents_told script)
 AddsLine (Err Memory) added = Unit {0}
 AddsLine (Err (Fault kind)) added = added ≡ Err kind
 
--- lines say this script, or have this fault, unless memory ran out; a fault of a policy is none of lines
+-- lines give this script, or have this fault, unless an allocation failed; a fault of a policy is not one of lines
 abbrev pub SaysScript : Result Script ScriptError → Result Contents text.ScriptFault → Type 0
 SaysScript (Ok script) said = said ≡ Ok (contents_told script)
 SaysScript (Err errors.Memory) said = Unit {0}
 SaysScript (Err (errors.Fault fault)) said = said ≡ Err fault
 SaysScript (Err (errors.Policy fault)) said = ⊥
 
--- what is told is this script, or this fault, unless memory ran out
+-- `Told` holds of this script or this fault, unless an allocation failed
 abbrev pub AnswersScript : Result Script ScriptError → (Result Contents Wrong → Type 0) → Type 0
 AnswersScript (Ok script) Told = Told (Ok (contents_told script))
 AnswersScript (Err errors.Memory) Told = Unit {0}
@@ -33,7 +33,7 @@ AnswersScript (Err (errors.Fault fault)) Told = Told (Err (in_script fault))
 AnswersScript (Err (errors.Policy fault)) Told =
     (g : policy.TokenFault) × (block_fault_shown fault ≡ Some g) × Told (Err (in_policy g))
 
--- an error with the number of its line
+-- an error with its line
 abbrev pub on_line : ℕ → AddError → ScriptError
 on_line n Memory = errors.Memory
 on_line n (Fault kind) = errors.Fault (record { line = n; kind = kind })

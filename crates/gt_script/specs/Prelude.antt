@@ -1,4 +1,4 @@
--- The names of other crates, and of the code, that the definitions here speak of.
+-- The names of other crates, and of the code, that the definitions here use.
 pub use Rattle.gt_script_lines.specs.Fields.{◌>>=◌}
 pub use Rattle.gt_script_lines.specs.Lines.{line_of}
 pub use Rattle.gt_script_lines.specs.Numbers.{number_below}

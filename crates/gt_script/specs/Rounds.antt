@@ -1,4 +1,4 @@
--- How domains go on in turn, while flags are raised.
+-- How domains move in turn, while flags are raised.
 use Rattle.std.specs.Prelude.{◌≡◌, ◌≤◌, ◌<◌, ℕ, Bool, true, false, not, List, length, take, Option, Some, None}
 use Rattle.std.specs.Prelude.{slice_get, slice_set, get_or, All, IsTrue}
 use Rattle.std.specs.List.{sum_by}
@@ -16,48 +16,48 @@ flag_holds told flag = get_or told flag false
 abbrev pub HasFlag : List Bool → ℕ → Type 0
 HasFlag told flag = IsTrue (flag_holds told flag)
 
--- each raised flag is one of this set
+-- each raised flag is in this set
 abbrev pub Within : List Bool → (ℕ → Bool) → Type 0
 Within told set = (flag : ℕ) → HasFlag told flag → IsTrue (set flag)
 
--- one for a flag that is not raised
+-- 1 for a flag that is not raised
 abbrev pub is_untold : Bool → ℕ
 is_untold true = 0
 is_untold false = 1
 
--- how many flags are not raised
+-- the number of flags that are not raised
 abbrev pub untold : List Bool → ℕ
 untold told = sum_by is_untold told
 
--- the flag of a task is raised
+-- the flag of an action is raised
 abbrev pub IsDone : List Bool → RunAction → Type 0
 IsDone told (Do call) = Unit {0}
 IsDone told (Tell flag) = HasFlag told flag
 IsDone told (Await flag) = HasFlag told flag
 
--- a domain waits at this deed
+-- a domain waits at this action
 unfoldable pub is_waiting : List Bool → RunAction → Bool
 is_waiting told (Do call) = false
 is_waiting told (Tell flag) = false
 is_waiting told (Await flag) = not (flag_holds told flag)
 
--- the raised flags after this deed
+-- the raised flags after this action
 unfoldable pub told_after : List Bool → RunAction → List Bool
 told_after told (Do call) = told
 told_after told (Tell flag) = slice_set told flag true
 told_after told (Await flag) = told
 
--- this deed raises a flag that is not raised yet
+-- this action raises a flag that is not raised yet
 unfoldable pub is_new : List Bool → RunAction → Bool
 is_new told (Do call) = false
 is_new told (Tell flag) = not (flag_holds told flag)
 is_new told (Await flag) = false
 
--- the domain has come to this place: the flags of its own tasks before it are raised
+-- the domain has come to this position: the flags of its tasks before it are raised
 abbrev pub Comes : List RunTask → DomId → ℕ → List Bool → Type 0
 Comes tasks dom place told = All (λ t. t.dom.0 ≡ dom.0 → IsDone told t.deed) (take place tasks)
 
--- a domain went on to this place and raised flags on its way; the last part says whether one was new
+-- a domain moved to this position and raised the flags of its tasks there; `is_news`: one was new
 pub record WayTo (tasks : List RunTask) (dom : DomId) (old new : List Bool) (place : ℕ) (is_news : Bool) : Type 0 where
   pub comes : Comes tasks dom place new
   pub grown : (flag : ℕ) → HasFlag old flag → HasFlag new flag
@@ -66,22 +66,22 @@ pub record WayTo (tasks : List RunTask) (dom : DomId) (old new : List Bool) (pla
   pub quiet : is_news ≡ false → new ≡ old
   pub loud : is_news ≡ true → untold new < untold old
 
--- a domain at this place waits there for a flag that is not raised, unless it is at its end
+-- a domain at this position waits for a flag that is not raised, unless it is at the end of the tasks
 abbrev pub WaitsFor : List RunTask → DomId → ℕ → List Bool → Type 0
 WaitsFor tasks dom place told = (task : RunTask) → slice_get tasks place ≡ Some task
     → (flag : ℕ) × (task.deed ≡ Await flag) × (task.dom.0 ≡ dom.0) × (flag_holds told flag ≡ false)
 
--- a domain went on as far as raised flags let it
+-- a domain moved as far as the raised flags let it
 abbrev pub TurnGoesOn : List RunTask → DomId → List Bool → List Bool → ℕ → Bool → Type 0
 TurnGoesOn tasks dom old new place is_news =
     (place ≤ length tasks) × WayTo tasks dom old new place is_news × WaitsFor tasks dom place new
 
--- each domain has come to its place
+-- each domain has come to its position
 abbrev pub HaveCome : List RunTask → List DomainConfig → List ℕ → List Bool → Type 0
 HaveCome tasks domains places told = (i : ℕ) (d : DomainConfig) → slice_get domains i ≡ Some d
     → (get_or places i 0 ≤ length tasks) × Comes tasks d.id (get_or places i 0) told
 
--- the first of the domains went on in turn, up to this one
+-- the first `upto` domains moved in turn
 pub record Turning (tasks : List RunTask) (domains : List DomainConfig) (places : List ℕ) (old new : List Bool) (upto : ℕ)
     (is_news : Bool) : Type 0 where
   pub have : HaveCome tasks domains places new

@@ -1,10 +1,10 @@
--- What a script for `run` holds.
+-- The contents of a script for `run`.
 use Rattle.std.specs.Prelude.{ℕ, List}
 use Rattle.gt_script.specs.Contents.{Contents, KeptContents, contents_told}
 use Rattle.gt_script.specs.Lists.{RunTask}
 
--- what comes before the body, as a script without lines of a body; what each line of
--- the body has its domain do, in order; and how many flags there are
+-- the part before the body, as a script without lines of a body; the tasks of the
+-- body, in order; and the number of flags
 pub record RunContents : Type 0 where
   pub head : Contents
   pub tasks : List RunTask
@@ -16,6 +16,6 @@ pub record RunKept : Type 0 where
   pub tasks : List RunTask
   pub flags : ℕ
 
--- what a script holds that is kept so
+-- the contents of a kept script for `run`
 abbrev pub run_told : RunKept → RunContents
 run_told k = record { head = contents_told k.head; tasks = k.tasks; flags = k.flags }

@@ -1,4 +1,4 @@
--- The script for `run` that bytes say, or their first fault.
+-- The script for `run` that bytes mean, or their first fault.
 use Rattle.std.specs.Prelude.{◌≡◌, ◌⊎◌, ◌≤◌, ℕ, ◌==◌, List, filter, length, Some, Result, Ok, Err}
 use Rattle.gt_types.specs.Config.{AreFaultless}
 use Rattle.gt_types.specs.declared.DomId.{DomId}
@@ -22,29 +22,29 @@ use Rattle.gt_script.specs.Lists.{RunTask}
 abbrev pub CanConfigure : Contents → Type 0
 CanConfigure c = AreFaultless c.domains × (1 ≤ length c.domains) × (first_gen c ≤ LAST_GENERATION)
 
--- the list of a domain: its own tasks, in their order
+-- the list of a domain: its tasks, in order
 abbrev pub list_of : List RunTask → DomId → List RunTask
 list_of tasks dom = filter (λ t. t.dom.0 == dom.0) tasks
 
--- what a script that was read for `run` holds: flags are numbered as they first appear in it
+-- the script for `run` of contents that were read for `run`; flags are numbered as they first appear
 abbrev pub run_of : Contents → RunContents
 run_of c = record { head = without_orders c; tasks = tasks_of c; flags = length (flag_names_of c.orders) }
 
--- a script that was read for `run` says this: what it holds, if each domain comes to the end of its
--- list, and else the line where the first one that does not waits for ever
+-- What contents that were read for `run` mean: their script, if each domain comes to the end of its
+-- list, and else a fault at the line where the first one that does not waits for ever.
 abbrev pub RunSays : Contents → Result RunContents Wrong → Type 0
 RunSays c (Ok run) = AllEnd (IsTold (tasks_of c)) (tasks_of c) c.domains × (run ≡ run_of c)
 RunSays c (Err (in_script f)) = IsStuckAt (IsTold (tasks_of c)) (tasks_of c) c.domains f.line × (f.kind ≡ Stuck)
 RunSays c (Err (in_policy g)) = ⊥
 
--- the bytes say this script for `run`, or have this fault, which is their
--- first; that a domain waits for ever is the last of all
+-- The bytes mean this script for `run`, or have this first fault; a domain that waits for ever
+-- is the last one.
 abbrev pub RunTells : List ℕ → Result RunContents Wrong → Type 0
 RunTells bytes (Ok run) = (c : Contents) × TellsFor Run bytes (Ok c) × RunSays c (Ok run)
 RunTells bytes (Err wrong) =
     TellsFor Run bytes (Err wrong) ⊎ ((c : Contents) × TellsFor Run bytes (Ok c) × RunSays c (Err wrong))
 
--- what is told is this script, or this fault, unless memory ran out
+-- `Told` holds of this script or this fault, unless an allocation failed
 abbrev pub RunAnswers : Result RunScript ScriptError → (Result RunContents Wrong → Type 0) → Type 0
 RunAnswers (Ok script) Told = Told (Ok (run_told script))
 RunAnswers (Err errors.Memory) Told = Unit {0}

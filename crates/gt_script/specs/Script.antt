@@ -1,4 +1,4 @@
--- The script that bytes say, its policy block and then line by line, or their first fault.
+-- The script that bytes mean, by its policy block and then line by line, or their first fault.
 use Rattle.std.specs.Prelude.{◌≡◌, ◌⊎◌, ◌<◌, ◌≤◌, ℕ, ◌+◌, ◌==◌, ◌&&◌, ◌||◌, not, Bool, List, [], ◌∷◌, ◌++◌, length}
 use Rattle.std.specs.Prelude.{Option, Some, None, Result, Ok, Err, take, drop, is_none, is_some, ◌^◌, if◌then◌else◌}
 use Rattle.gt_script.specs.Prelude.{option_map, IsUtf8, utf8_valid_len, line_after, LONGEST_TEXT, lines_in, is_taken}
@@ -20,7 +20,7 @@ use Rattle.gt_script_lines.specs.declared.lines.ScriptLine.TheVariants as line
 abbrev pub is_empty : {X : Type 0} → List X → Bool
 is_empty xs = length xs == 0
 
--- the domain that a line writes, if its numbers are not larger than a domain's can be
+-- the domain of a line, if its numbers fit
 unfoldable pub domain_written : DomainLine → TypeId → Option DomainConfig
 domain_written d label = do
   id ← number_below (2 ^ 16) d.id
@@ -44,12 +44,12 @@ is_misplaced c (line.Wear first) = (has_no_rights c || is_some c.wear) || not (i
 is_misplaced c (line.Domain d) = has_no_rights c || has_body c
 is_misplaced c (line.Body id asks) = is_empty c.domains
 
--- what a line adds, or that it is past a limit
+-- the contents after a line, or the fault `config`
 abbrev pub or_config : Option Contents → Result Contents ScriptFaultKind
 or_config (Some c) = Ok c
 or_config None = Err Config
 
--- a script with one triple more
+-- the script with one more triple
 unfoldable pub with_triple : Contents → TripleLine → Result Contents ScriptFaultKind
 with_triple c t = or_config (do
   source ← with_type_name c.types t.source
@@ -60,7 +60,7 @@ with_triple c t = or_config (do
         ++ record { source = source.1; target = target.1; perm = t.perm } ∷ [];
   }))
 
--- the number of a domain's type, which the policy has to declare; if there is none, any name is a type
+-- the number of a domain's type, which the policy has to declare; if there is no policy, any name is a type
 abbrev pub type_named_in : Option Allowed → List (List ℕ) → List ℕ → Option (List (List ℕ) × TypeId)
 type_named_in None types name = with_type_name types name
 type_named_in (Some p) types name = option_map (λ id. (types, id)) (type_named p.types name)
@@ -69,13 +69,13 @@ type_named_in (Some p) types name = option_map (λ id. (types, id)) (type_named 
 abbrev pub with_type_names : Contents → List (List ℕ) × TypeId → Contents × TypeId
 with_type_names c named = (record c { types = named.0 }, named.1)
 
--- a name has this number as that of a domain's type, and the script takes in the
--- name if it is new; none if the name is no type
+-- A name has this number as a domain's type, and is added to the names of the
+-- script if it is new; none if it is not a type.
 abbrev pub GivesTypeNumber : Contents → Contents → List ℕ → Option TypeId → Type 0
 GivesTypeNumber old new name number =
     option_map (λ id. (new, id)) number ≡ option_map (with_type_names old) (type_named_in old.policy old.types name)
 
--- a script with one domain more, which has no fault after those before it
+-- the script with one more domain, which has no fault after those before it
 unfoldable pub with_domain : Contents → DomainLine → Result Contents ScriptFaultKind
 with_domain c d = or_config (do
   label ← type_named_in c.policy c.types d.type_name
@@ -94,7 +94,7 @@ unfoldable pub play_action_in : BodyLine → Option ScriptAction
 play_action_in (bodies.Action a) = Some a
 play_action_in (bodies.Signal s) = None
 
--- what a line of the body is for `run`: a whole call, or what it says of a flag
+-- what a line of the body is for `run`: a whole call, or a flag that is raised or awaited
 unfoldable pub run_action_in : BodyLine → Option NamedRunAction
 run_action_in (bodies.Action (actions.Do call)) = Some (runs.Do call)
 run_action_in (bodies.Action (actions.Begin call)) = None
@@ -103,50 +103,50 @@ run_action_in (bodies.Action (actions.Show gref)) = None
 run_action_in (bodies.Signal (signals.Tell flag)) = Some (runs.Tell flag)
 run_action_in (bodies.Signal (signals.Await flag)) = Some (runs.Await flag)
 
--- what a line adds, or that it is for the other command
+-- the contents after a line, or the fault `mode`
 abbrev pub or_mode : Option Contents → Result Contents ScriptFaultKind
 or_mode (Some c) = Ok c
 or_mode None = Err Mode
 
--- a script for `play` with one step more, on line n
+-- a script for `play` with one more step, on line n
 unfoldable pub with_domain_line : Contents → ℕ → DomId → BodyLine → Result Contents ScriptFaultKind
 with_domain_line c n dom asks = or_mode (do
   action ← play_action_in asks
   Some (record c { steps = c.steps ++ record { line = n; dom = dom; action = action } ∷ [] }))
 
--- a script for `run` with one order more, on line n
+-- a script for `run` with one more order, on line n
 unfoldable pub with_order : Contents → ℕ → DomId → BodyLine → Result Contents ScriptFaultKind
 with_order c n dom asks = or_mode (do
   order ← run_action_in asks
   Some (record c { orders = c.orders ++ record { line = n; dom = dom; deed = order } ∷ [] }))
 
--- a script for this command with a line of the body more
+-- a script for this command with one more line of the body
 abbrev pub with_asked : ScriptCommand → Contents → ℕ → DomId → BodyLine → Result Contents ScriptFaultKind
 with_asked Play c n dom asks = with_domain_line c n dom asks
 with_asked Run c n dom asks = with_order c n dom asks
 
--- a script with a line of the body more, of a domain that is configured
+-- the script with one more line of the body, whose domain is configured
 unfoldable pub with_body_line : Contents → ℕ → Number → BodyLine → Result Contents ScriptFaultKind
 with_body_line c n number asks =
     elim (configured c.domains number) [ None ↦ Err Config | Some dom ↦ with_asked c.command c n dom asks ]
 
--- a script with line n more, which is in its place
+-- the script with line n, which is in its place
 abbrev pub with_placed : Contents → ℕ → ScriptLine → Result Contents ScriptFaultKind
 with_placed c n (line.Triple t) = with_triple c t
 with_placed c n (line.Wear first) = Ok (record c { wear = Some first })
 with_placed c n (line.Domain d) = with_domain c d
 with_placed c n (line.Body id asks) = with_body_line c n id asks
 
--- a script with line n more
+-- the script with line n
 unfoldable pub with_script_line : Contents → ℕ → ScriptLine → Result Contents ScriptFaultKind
 with_script_line c n l = if is_misplaced c l then Err Syntax else with_placed c n l
 
--- the words of line n: none change nothing
+-- the script with the words of line n; a line without words adds nothing
 unfoldable pub with_words : Contents → ℕ → List (List ℕ) → Result Contents ScriptFaultKind
 with_words c n [] = Ok c
 with_words c n (w ∷ ws) = elim (line_of (w ∷ ws)) [ None ↦ Err Syntax | Some l ↦ with_script_line c n l ]
 
--- lines from number n on: the first that adds nothing but a fault gives the fault
+-- the script with lines numbered from n, or the fault of the first faulty line
 abbrev pub with_lines : Contents → ℕ → List (List ℕ) → Result Contents ScriptFault
 with_lines c n [] = Ok c
 with_lines c n (l ∷ ls) = elim (with_words c n (words l)) [
@@ -154,17 +154,17 @@ with_lines c n (l ∷ ls) = elim (with_words c n (words l)) [
   | Err kind ↦ Err (record { line = n; kind = kind })
 ]
 
--- syntax if nothing is allowed (no policy and no triple), config if no domain is configured
+-- a whole script; syntax if nothing is allowed (no policy and no triple), config if no domain is configured
 unfoldable pub completed : ℕ → Contents → Result Contents ScriptFault
 completed count c = if has_no_rights c then Err (record { line = count + 1; kind = Syntax })
     else (if is_empty c.domains then Err (record { line = count + 1; kind = Config }) else Ok c)
 
--- the same of a script that may have a fault already
+-- the same for a script that may have a fault already
 abbrev pub completed_if_ok : ℕ → Result Contents ScriptFault → Result Contents ScriptFault
 completed_if_ok count (Ok c) = completed count c
 completed_if_ok count (Err f) = Err f
 
--- a script with lines from number n on, after which the whole of `count` lines ends
+-- the script with lines numbered from n, after which the whole of `count` lines ends
 abbrev pub whole : ℕ → Contents → ℕ → List (List ℕ) → Result Contents ScriptFault
 whole count c n lines = completed_if_ok count (with_lines c n lines)
 
@@ -173,13 +173,13 @@ pub data Wrong : Type 0 where
   in_script : ScriptFault → Wrong
   in_policy : policy.TokenFault → Wrong
 
--- a script, or a fault that is none of a policy
+-- a script, or a fault that is not one of a policy
 abbrev pub in_result : Result Contents ScriptFault → Result Contents Wrong
 in_result (Ok c) = Ok c
 in_result (Err f) = Err (in_script f)
 
--- the lines after a line `policy` of this number, of which the one at this place is `end`, say this: the rest of
--- a script of `count` lines for this command with the policy of the block, or its fault
+-- The meaning of the lines after the line `policy`, which has the number `first`, if the line at index `end` closes
+-- the block: the rest of a script of `count` lines with the policy of the block, or the fault of the block.
 abbrev pub ClosedSays : ScriptCommand → ℕ → ℕ → List (List ℕ) → ℕ → Result Contents Wrong → Type 0
 ClosedSays command count first lines end said =
     ((p : Allowed) × Means (take end lines) p
@@ -191,18 +191,18 @@ abbrev pub BlockSays : ScriptCommand → ℕ → ℕ → List (List ℕ) → Opt
 BlockSays command count first lines None said = said ≡ Err (in_script (record { line = count + 1; kind = Syntax }))
 BlockSays command count first lines (Some end) said = ClosedSays command count first lines end said
 
--- the lines say this: they begin with a policy block, or have none
+-- the meaning of lines, which begin with a policy block or have none
 abbrev pub LinesSay : ScriptCommand → List (List ℕ) → Option ℕ → Result Contents Wrong → Type 0
 LinesSay command lines None said = said ≡ in_result (whole (length lines) (empty command) 1 lines)
 LinesSay command lines (Some place) said =
     BlockSays command (length lines) (place + 1) (drop (place + 1) lines) (closing (drop (place + 1) lines)) said
 
--- the text says this
+-- the meaning of a text
 abbrev pub TextSays : ScriptCommand → List ℕ → Result Contents Wrong → Type 0
 TextSays command text said = LinesSay command (lines_in text) (opening (lines_in text)) said
 
--- the bytes say this script for the command, or have this fault, which is their first:
--- they are too many, or no text, or it is that of the text
+-- The bytes mean this script for the command, or have this first fault: they are too many, or
+-- not UTF-8, or the text has it.
 abbrev pub TellsFor : ScriptCommand → List ℕ → Result Contents Wrong → Type 0
 TellsFor command bytes said =
     ((LONGEST_TEXT < length bytes) × (said ≡ Err (in_script (record { line = 1; kind = Limit }))))
@@ -210,6 +210,6 @@ TellsFor command bytes said =
     × (said ≡ Err (in_script (record { line = line_after (take (utf8_valid_len bytes) bytes); kind = Utf8 }))))
     ⊎ ((length bytes ≤ LONGEST_TEXT) × IsUtf8 bytes × TextSays command bytes said))
 
--- the bytes say this script for `play`, or have this fault, which is their first
+-- the same for `play`
 abbrev pub TellsScript : List ℕ → Result Contents Wrong → Type 0
 TellsScript bytes said = TellsFor Play bytes said

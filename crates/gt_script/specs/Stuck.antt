@@ -5,34 +5,34 @@ use Rattle.gt_types.specs.declared.config.DomainConfig.{DomainConfig}
 use Rattle.gt_script.specs.Lists.{RunAction, RunTask}
 use Rattle.gt_script.specs.declared.tasks.RunActionBy.TheVariants.{Do, Tell, Await}
 
--- a flag that a task names is below this number
+-- the flag of an action is below this number
 abbrev pub IsBelow : ℕ → RunAction → Type 0
 IsBelow count (Do call) = Unit {0}
 IsBelow count (Tell flag) = flag < count
 IsBelow count (Await flag) = flag < count
 
--- each flag of these tasks is below this number
+-- the flags of these tasks are below this number
 abbrev pub AreNumbered : ℕ → List RunTask → Type 0
 AreNumbered count tasks = All (λ t. IsBelow count t.deed) tasks
 
--- a domain goes past a task if the flags that have this are raised: it waits
--- at no other task than one that awaits another flag
+-- A domain gets beyond a task if these flags are raised: it waits only at a
+-- task that awaits another flag.
 abbrev pub IsPassed : (ℕ → Type 0) → RunAction → Type 0
 IsPassed Told (Do call) = Unit {0}
 IsPassed Told (Tell flag) = Unit {0}
 IsPassed Told (Await flag) = Told flag
 
--- a domain goes past all its own tasks among these
+-- a domain gets beyond all its own tasks among these
 abbrev pub PassesAll : (ℕ → Type 0) → DomId → List RunTask → Type 0
 PassesAll Told dom tasks = All (λ t. t.dom.0 ≡ dom.0 → IsPassed Told t.deed) tasks
 
--- a set of flags is closed: it has each flag that a task raises, if the
--- task's domain goes past all that it has to do before it
+-- A set of flags is closed: it has each flag that a task raises, if the
+-- domain gets beyond all its tasks before that one.
 abbrev pub IsClosed : List RunTask → (ℕ → Bool) → Type 0
 IsClosed tasks set = (at : ℕ) (task : RunTask) (flag : ℕ) → slice_get tasks at ≡ Some task → task.deed ≡ Tell flag
     → PassesAll (λ f. IsTrue (set f)) task.dom (take at tasks) → IsTrue (set flag)
 
--- a flag is raised: each closed set has it, so it is one of the least closed set
+-- a flag is raised: it is in each closed set, so in the least one
 abbrev pub IsTold : List RunTask → ℕ → Type 0
 IsTold tasks flag = (set : ℕ → Bool) → IsClosed tasks set → IsTrue (set flag)
 
@@ -40,7 +40,7 @@ IsTold tasks flag = (set : ℕ → Bool) → IsClosed tasks set → IsTrue (set 
 abbrev pub CanEnd : (ℕ → Type 0) → List RunTask → DomId → Type 0
 CanEnd Told tasks dom = PassesAll Told dom tasks
 
--- a domain goes on as far as the line with this number, where it waits for a flag that is not raised
+-- a domain moves up to the line with this number, where it waits for a flag that is not raised
 pub record WaitsAt (Told : ℕ → Type 0) (tasks : List RunTask) (dom : DomId) (line : ℕ) : Type 0 where
   pub at : ℕ
   pub task : RunTask
@@ -64,7 +64,7 @@ pub record IsStuckAt (Told : ℕ → Type 0) (tasks : List RunTask) (domains : L
   pub others : AllEnd Told tasks (take place domains)
   pub waits : WaitsAt Told tasks domain.id line
 
--- the line where the first of the domains that waits for ever does so; none if each comes to its end
+-- the line at which the first domain waits that does not come to its end; none if each comes there
 abbrev pub IsJudged : (ℕ → Type 0) → List RunTask → List DomainConfig → Option ℕ → Type 0
 IsJudged Told tasks domains None = AllEnd Told tasks domains
 IsJudged Told tasks domains (Some line) = IsStuckAt Told tasks domains line

@@ -1,11 +1,11 @@
--- What the domains of a script for `run` do, line by line.
+-- The tasks of a script for `run`.
 use Rattle.std.specs.Prelude.{ℕ, List, map}
 use Rattle.gt_script.specs.Contents.{Contents}
 use Rattle.gt_script.specs.Flags.{flag_names_of, flag_number}
 use Rattle.gt_script.specs.Lists.{NamedRunTask, NamedRunAction, RunAction, RunTask}
 use Rattle.gt_script.specs.declared.tasks.RunActionBy.TheVariants.{Do, Tell, Await}
 
--- what a line has its domain do, if these are the names of the flags
+-- the action of a line, with its flag as the index of its name
 unfoldable pub deed_of : List (List ℕ) → NamedRunAction → RunAction
 deed_of flags (Do call) = Do call
 deed_of flags (Tell flag) = Tell (flag_number flags flag)
@@ -15,10 +15,10 @@ deed_of flags (Await flag) = Await (flag_number flags flag)
 abbrev pub task_of : List (List ℕ) → NamedRunTask → RunTask
 task_of flags o = record { line = o.line; dom = o.dom; deed = deed_of flags o.deed }
 
--- what these lines have their domains do, in their order
+-- the tasks of these lines, in order
 abbrev pub tasks_for : List (List ℕ) → List NamedRunTask → List RunTask
 tasks_for flags orders = map (task_of flags) orders
 
--- what the lines of a script have its domains do
+-- the tasks of a script
 abbrev pub tasks_of : Contents → List RunTask
 tasks_of c = tasks_for (flag_names_of c.orders) c.orders

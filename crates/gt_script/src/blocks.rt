@@ -1,4 +1,4 @@
-//! The policy block of a script: where it is, and the policy that it says.
+//! The policy block of a script: its lines, and its policy.
 ghost use Rattle.std.specs.Prelude.{◌≡◌, ◌+◌, ◌<◌, ◌^◌, ℕ, List, IfOk, IfSome, map, length, string_bytes};
 ghost use Rattle.gt_script.specs.Blocks.{is_just as says_just, opening as opening_in, closing as closing_in};
 ghost use Rattle.gt_script.specs.Blocks.{block_text as text_in, IsPolicyOf};
@@ -17,7 +17,7 @@ fn is_just(words: &[&[u8]], word: &str) -> bool
     }
 }
 
-/// The place of the line `policy`, if it is the first line with words.
+/// Returns the index of the line `policy`, if it is the first line with words.
 pub fn opening(alloc: Global, lines: &[&str]) -> Result<Option<usize>, AllocError>
     ensures opens { IfOk result (λ place. place ≡ opening_in (map (λ line. line.now) lines.now)) }
     ensures within { IfOk result (λ place. IfSome place (λ i. i < length lines.now)) }
@@ -32,7 +32,7 @@ pub fn opening(alloc: Global, lines: &[&str]) -> Result<Option<usize>, AllocErro
     Ok(None)
 }
 
-/// The place of the first line `end`.
+/// Returns the index of the first line `end`.
 pub fn closing(alloc: Global, lines: &[&str]) -> Result<Option<usize>, AllocError>
     ensures closes { IfOk result (λ place. place ≡ closing_in (map (λ line. line.now) lines.now)) }
     ensures within { IfOk result (λ place. IfSome place (λ i. i < length lines.now)) }
@@ -45,7 +45,7 @@ pub fn closing(alloc: Global, lines: &[&str]) -> Result<Option<usize>, AllocErro
     Ok(None)
 }
 
-// The text of a block's lines.
+// Joins the lines of a block to its text.
 fn block_text(alloc: Global, lines: &[&str]) -> Result<String, AllocError>
     ensures { IfOk result (λ text. string_bytes text ≡ text_in (map (λ line. line.now) lines.now)) }
 {
@@ -57,8 +57,8 @@ fn block_text(alloc: Global, lines: &[&str]) -> Result<String, AllocError>
     Ok(text)
 }
 
-/// The policy that the lines of a block say, or its first fault, if `before` lines come in front
-/// of them in the script.
+/// Parses the policy of the lines of a block. A fault has its line in the script, in which `before` lines precede the
+/// block.
 pub fn read_policy(alloc: Global, before: usize, lines: &[&str]) -> Result<Policy, ScriptError>
     requires { before < 2 ^ 63 }
     ensures { IsPolicyOf before (map (λ line. line.now) lines.now) result }

@@ -1,6 +1,6 @@
 //! The commands that take a script.
 
-/// Which command a script is for.
+/// The command that a script is for: `play` or `run`.
 #[derive(Clone, Copy, Debug, PartialEq, Eq)]
 pub enum ScriptCommand {
     Play,

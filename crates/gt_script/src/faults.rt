@@ -1,47 +1,46 @@
-//! What may be wrong with a script.
+//! The faults of a script.
 use gt_policy::PolicyFault;
 use std::alloc::AllocError;
 use std::error::Error;
 use std::fmt;
 
-/// What is wrong, in the order in which faults of one script are judged.
+/// The kind of a fault, in the order in which the faults of a script are found.
 #[derive(Clone, Copy, Debug, PartialEq, Eq)]
 pub enum ScriptFaultKind {
-    /// The script is too long.
+    /// The script is longer than 1,048,576 bytes.
     Limit,
-    /// A byte that is no UTF-8.
+    /// A byte is not UTF-8.
     Utf8,
-    /// An unknown word, a wrong count of words, a bad number, name, label or hexadecimal text, a part
-    /// out of its place, no rights in front of the domains, or a policy block without `end`.
+    /// An unknown word, a wrong number of words, a bad number, name, label or hexadecimal text, a line out of its
+    /// place, no rights before the domains, or a policy block without `end`.
     Syntax,
-    /// A limit of the domains or types, a type that the policy does not declare, a repeated domain or
-    /// one that is not configured, or no domain at all.
+    /// A limit of the domains or types, a type that the policy does not declare, a domain that is repeated or not
+    /// configured, or no domain at all.
     Config,
-    /// A line that is for the other of the commands `play` and `run`.
+    /// A line that is for the other one of the commands `play` and `run`.
     Mode,
-    /// A list that waits for a flag that is never raised.
+    /// A domain that waits for a flag that is never raised.
     Stuck,
 }
 
 /// The first fault of a script.
 #[derive(Clone, Copy, Debug, PartialEq, Eq)]
 pub struct ScriptFault {
-    /// The number of its line, from 1 on; a fault at the end is one past the last line.
+    /// The number of its line, counted from 1; for a fault at the end, one more than the number of lines.
     pub line: usize,
     pub kind: ScriptFaultKind,
 }
 
-/// The first fault of a script's policy block.
+/// The first fault of the policy block of a script.
 #[derive(Debug, Drop)]
 pub struct BlockFault {
-    /// The number of its line in the script, from 1 on; a fault at the end of the block is on the
-    /// line `end`.
+    /// The number of its line in the script, counted from 1; for a fault at the end of the block, the line of `end`.
     pub line: usize,
-    /// What is wrong with the policy; never `Memory`.
+    /// The kind of the fault; never `Memory`.
     pub kind: gt_policy::PolicyFaultKind,
 }
 
-/// Why there is no script: its first fault, or memory that was refused.
+/// The error of a parse: a failed allocation, or the first fault of the script.
 #[derive(Debug, Drop)]
 pub enum ScriptError {
     Memory,
@@ -53,7 +52,7 @@ impl ScriptError {
     ghost use Rattle.std.specs.Prelude.{◌≡◌, ◌+◌, ◌<◌, ◌^◌};
     ghost use Rattle.gt_script.specs.Faults.{error_in_block};
 
-    // The fault of a policy block that comes after so many lines, or `Memory`.
+    // Makes the error for a fault of a policy block that follows this number of lines.
     pub(crate) fn in_block(before: usize, fault: PolicyFault) -> ScriptError
         requires { before < 2 ^ 63 }
         ensures { result ≡ error_in_block (before + fault.line) fault.kind }

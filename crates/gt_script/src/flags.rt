@@ -9,7 +9,7 @@ use indexmap::IndexSet;
 use std::alloc::{AllocError, Global};
 use std::marker::Model;
 
-/// The names of flags, each once: a flag's number is the place of its name.
+/// The names of flags, each once. The number of a flag is the index of its name.
 #[derive(Drop)]
 pub struct FlagNames<'a> {
     names: IndexSet<&'a [u8]>,
@@ -36,14 +36,14 @@ impl<'a> FlagNames<'a> {
         }
     }
 
-    /// How many flags there are.
+    /// Returns the number of flags.
     pub fn len(&self) -> usize
         ensures { result ≡ length self.now }
     {
         self.names.len()
     }
 
-    // With this flag, which gets the next number if it is new.
+    // Adds a flag with the next number, if it is new.
     #[tactic(auto, unfolding(crate::specs::Flags::with_flag))]
     fn add(&mut self, name: &'a [u8]) -> Result<(), AllocError>
         ensures { OnOk result (self.new ≡ with_flag self.old name.entry.now) }
@@ -52,7 +52,7 @@ impl<'a> FlagNames<'a> {
         Ok(())
     }
 
-    /// The number of a flag; that of the next new one, if it is none of these.
+    /// Returns the number of a flag. A flag that is not among these gets the next number.
     pub fn number(&self, name: &'a [u8]) -> usize
         ensures { result ≡ flag_number self.now name.entry.now }
     {
@@ -60,7 +60,6 @@ impl<'a> FlagNames<'a> {
     }
 }
 
-// The flag that a line names, if it names one.
 fn flag_in<'a>(deed: &RunActionBy<'a, Text<'a>>) -> Option<&'a [u8]>
     ensures { option_map (λ name. name.now) result ≡ flag_in_line deed.now }
 {
@@ -70,7 +69,7 @@ fn flag_in<'a>(deed: &RunActionBy<'a, Text<'a>>) -> Option<&'a [u8]>
     }
 }
 
-/// The flags that the lines name.
+/// Collects the flags of the lines.
 pub fn flags_of<'a>(alloc: Global, orders: &[NamedRunTask<'a>]) -> Result<FlagNames<'a>, AllocError>
     ensures { IfOk result (λ flags. flags ≡ flags_in orders.now) }
 {

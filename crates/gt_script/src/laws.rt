@@ -1,4 +1,4 @@
-//! Laws of what bytes say.
+//! Laws about the meaning of bytes as a script.
 ghost use Rattle.std.specs.Prelude.{◌≡◌, ℕ, List, Result, Err};
 ghost use Rattle.gt_script.specs.Contents.{Contents};
 ghost use Rattle.gt_script.specs.Laws.{IsFaultOf, IsFaultOfBlock};
@@ -9,8 +9,8 @@ ghost use Rattle.gt_policy.specs.declared.fault.TokenFault as policy;
 
 use gt_policy::one_meaning;
 
-/// A law: bytes say one thing, a script or a fault. Whatever two contents the same bytes say are the
-/// same: what is allowed, the types, domains and steps.
+/// A law: bytes mean only one thing, a script or a fault. Two contents that the same bytes mean are the same: what is
+/// allowed, the types, domains and steps.
 pub fn every_text_tells_one_thing()
     ensures { (bytes : List ℕ) (one other : Result Contents Wrong) →
         TellsScript bytes one → TellsScript bytes other → one ≡ other }
@@ -18,8 +18,7 @@ pub fn every_text_tells_one_thing()
     one_meaning();
 }
 
-/// A law: a fault that comes first, of the bytes or of their policy block, is the one that they say. So
-/// there is no other.
+/// A law: a fault that is the first of the bytes, or of their policy block, is what they mean. So there is no other.
 pub fn every_fault_is_reported()
     ensures script { (command : ScriptCommand) (bytes : List ℕ) (f : ScriptFault) →
         IsFaultOf command bytes f → TellsFor command bytes (Err (in_script f)) }

@@ -1,14 +1,15 @@
-//! The script language: what the bytes of a script say, or their first fault.
+//! The script language: parses the bytes of a script, or finds their first fault.
 //!
-//! A script is text of lines and words. Its head is a policy block, or allows triples of types, and
-//! configures domains. Its body is a list of steps, each of one domain. `parse` answers the script,
-//! exactly, or the first fault with its line. Names and labels are borrowed from the bytes.
+//! A script is text of lines and words. Its head is a policy block, or allows triples of types, and configures domains.
+//! Its body is a list of lines, each for one domain. `parse` reads a script for `play` and `parse_run` one for `run`.
+//! Names and labels are borrowed from the bytes. `gt_script_lines` defines the meaning of a line. Whether it may be
+//! where it is depends on the lines before it, and is defined here.
 //!
-//! What a line says is for `gt_script_lines`. Whether it is in its place depends on the lines before it, and
-//! is defined here.
+//! It is proved that the result is exactly the script that the bytes mean, or exactly the first fault with its line,
+//! unless an allocation fails; and that in a script for `run` no domain waits for ever, if every call is answered.
 //!
-//! It uses `gt_types` (domains and triples), `gt_policy` (the policy block), `gt_text` (bytes as
-//! text) and `gt_script_lines`.
+//! It uses `gt_types` (domains and triples), `gt_policy` (the policy block), `gt_text` (bytes as text),
+//! `gt_script_lines` and `indexmap` (the names of flags).
 #![tactic(auto)]
 
 mod blocks;

@@ -1,4 +1,4 @@
-//! A script from its bytes.
+//! Parses a script.
 ghost use Rattle.std.specs.Prelude.{◌≡◌, ◌≤◌, ◌<◌, ◌+◌, ◌^◌, ℕ, List, length, take, map, IfOk, IfErr};
 ghost use Rattle.std.specs.Str.{IsUtf8};
 ghost use Rattle.std.specs.Str.Lines.{lines as lines_in};
@@ -17,8 +17,8 @@ use gt_script_lines::text_lines;
 use gt_types::LONGEST_TEXT;
 use std::alloc::Global;
 
-// The script of `count` lines that has a policy block, from the lines after the line `policy` with the
-// number `first`.
+// Parses a script with a policy block, from the lines after the line `policy`, which has the number `first`. The script
+// has `count` lines.
 fn of_block<'a>(
     alloc: Global,
     command: ScriptCommand,
@@ -46,7 +46,6 @@ fn of_block<'a>(
     }
 }
 
-// The script that the lines say.
 fn of_lines<'a>(
     alloc: Global,
     command: ScriptCommand,
@@ -72,7 +71,7 @@ fn of_text<'a>(
     of_lines(alloc, command, lines.as_slice())
 }
 
-// The bytes as text, if they are not too many.
+// Returns the bytes as text, or the fault of too many bytes or of bytes that are not UTF-8.
 fn script_text<'a>(bytes: &'a [u8]) -> Result<&'a str, ScriptFault>
     ensures text { IfOk result (λ text. text.now ≡ bytes.entry.now) }
     ensures few { IfOk result (λ _. length bytes.entry.now ≤ LONGEST_TEXT) }
@@ -94,8 +93,8 @@ fn script_text<'a>(bytes: &'a [u8]) -> Result<&'a str, ScriptFault>
     }
 }
 
-/// The script that the bytes say for this command, or their first fault. A list that waits for ever is not looked for
-/// here.
+/// Parses a script for a command, or returns the first fault. A domain of a script for `run` that waits for ever is not
+/// a fault here: [`parse_run`](crate::parse_run) finds it.
 pub fn parse_for<'a>(
     alloc: Global,
     command: ScriptCommand,
@@ -105,7 +104,7 @@ pub fn parse_for<'a>(
     ensures holds { IfOk result (λ s. IsScriptFor command (lines_in bytes.entry.now) (contents_told s)) }
     ensures fault { IfErr result (λ e. StandsFor command bytes.entry.now e) }
 
-    // The bytes up to one past the limit decide what all of them say.
+    // The first LONGEST_TEXT + 1 bytes decide what all of them mean.
     ensures beginning { (all : List ℕ) → bytes.entry.now ≡ take (LONGEST_TEXT + 1) all →
         AnswersScript result (TellsFor command all) }
 {
@@ -115,15 +114,15 @@ pub fn parse_for<'a>(
     }
 }
 
-/// The script for `play` that the bytes say, or their first fault: too many bytes, then no UTF-8, then the first line
-/// that is wrong, then what the whole lacks. A policy block is judged as a whole at its end. A line for only `run` is
-/// a fault.
+/// Parses a script for `play`, or returns the first fault. The faults are found in this order: too many bytes, bytes
+/// that are not UTF-8, the first faulty line, what the script lacks. A policy block is checked as a whole at its end. A
+/// line that is only for `run` is a fault. The other error is a failed allocation.
 pub fn parse<'a>(alloc: Global, bytes: &'a [u8]) -> Result<Script<'a>, ScriptError>
     ensures script { AnswersScript result (TellsScript bytes.entry.now) }
     ensures holds { IfOk result (λ s. IsScriptOf (lines_in bytes.entry.now) (contents_told s)) }
     ensures fault { IfErr result (λ e. ErrorStands bytes.entry.now e) }
 
-    // The bytes up to one past the limit decide what all of them say.
+    // The first LONGEST_TEXT + 1 bytes decide what all of them mean.
     ensures beginning { (all : List ℕ) → bytes.entry.now ≡ take (LONGEST_TEXT + 1) all →
         AnswersScript result (TellsScript all) }
 {

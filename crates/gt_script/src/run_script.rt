@@ -1,4 +1,4 @@
-//! A script for `run`: its head, and what its lines have its domains do.
+//! A script for `run`: its head, and the tasks of its domains.
 ghost use Rattle.std.specs.Prelude.{◌≡◌, ◌+◌, ℕ, List, All, IsTrue, take, map, filter, IfOk};
 ghost use Rattle.gt_types.specs.Config.{is_taken};
 ghost use Rattle.gt_types.specs.declared.limits.TheConstants.{LONGEST_TEXT};
@@ -34,28 +34,28 @@ impl<'a> Model for RunScript<'a> {
 }
 
 impl<'a> RunScript<'a> {
-    /// What comes before the body, as a script without steps.
+    /// Returns the part before the body, as a script without steps.
     pub fn head(&self) -> &Script<'a>
         ensures { result.now ≡ self.now.head }
     {
         &self.head
     }
 
-    /// What the lines of the body have their domains do, in the order of the lines.
+    /// Returns the tasks of the body, in the order of their lines.
     pub fn tasks(&self) -> &[RunTask<'a>]
         ensures { result.now ≡ self.now.tasks }
     {
         self.tasks.as_slice()
     }
 
-    /// How many flags the script names. Each flag that a task names is below this number.
+    /// Returns the number of flags. The flags of the tasks are numbered from 0.
     pub fn flags(&self) -> usize
         ensures { result ≡ self.now.flags }
     {
         self.flags
     }
 
-    /// The list of a domain: its own lines, in their order.
+    /// Returns the list of a domain: its tasks, in the order of their lines.
     pub fn list_of<'s>(
         &'s self,
         alloc: Global,
@@ -73,7 +73,7 @@ impl<'a> RunScript<'a> {
     }
 }
 
-// The script for `run` that was read as this one.
+// Makes the script for `run` of a script that was parsed for `run`.
 fn of_script<'a>(alloc: Global, script: Script<'a>) -> Result<RunScript<'a>, ScriptError>
     requires { All (λ o. IsTrue (is_taken (contents_told script).domains o.dom)) (contents_told script).orders }
     ensures { RunAnswers result (RunSays (contents_told script.entry)) }
@@ -94,14 +94,14 @@ fn of_script<'a>(alloc: Global, script: Script<'a>) -> Result<RunScript<'a>, Scr
     })
 }
 
-/// The script for `run` that the bytes say, or their first fault. The faults are those for `play`, but here a line for
-/// only `play` is a fault. Last of all comes a domain that waits for a flag that is never raised.
+/// Parses a script for `run`, or returns the first fault. The faults are those of `parse`, but here a line that is only
+/// for `play` is a fault. The last one is a domain that waits for a flag that is never raised.
 pub fn parse_run<'a>(alloc: Global, bytes: &'a [u8]) -> Result<RunScript<'a>, ScriptError>
     ensures script { RunAnswers result (RunTells bytes.entry.now) }
     ensures holds { IfOk result (λ s. CanConfigure (contents_told s.head)) }
     ensures numbered { IfOk result (λ s. AreNumbered s.flags s.tasks) }
 
-    // The bytes up to one past the limit decide what all of them say.
+    // The first LONGEST_TEXT + 1 bytes decide what all of them mean.
     ensures beginning { (all : List ℕ) → bytes.entry.now ≡ take (LONGEST_TEXT + 1) all →
         RunAnswers result (RunTells all) }
 {

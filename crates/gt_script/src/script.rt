@@ -1,4 +1,4 @@
-//! A script: what its lines say, in order.
+//! A script: the contents of its lines, in order.
 ghost use Rattle.std.specs.Prelude.{◌≡◌, ◌≤◌, ◌<◌, ◌+◌, ◌^◌, length, map, IfOk};
 ghost use Rattle.gt_types.specs.Config.{is_taken};
 ghost use Rattle.gt_script.specs.Script.{domain_written, configured, play_action_in, run_action_in};
@@ -18,7 +18,7 @@ use std::alloc::{AllocError, Global};
 use std::marker::Model;
 use std::mem;
 
-/// What a line of the body asks, with the number of that line and its domain.
+/// A line of the body for `play`, with its number and its domain.
 #[derive(Debug, Drop)]
 pub struct ScriptStep<'a> {
     pub line: usize,
@@ -26,7 +26,7 @@ pub struct ScriptStep<'a> {
     pub action: ScriptAction<'a>,
 }
 
-/// A script without fault. With a policy block it has neither triples nor types of its own.
+/// A script without fault. If it has a policy block, the policy has its rights and types, and there are no triples.
 #[derive(Drop)]
 pub struct Script<'a> {
     command: ScriptCommand,
@@ -94,7 +94,7 @@ fn is_domain(domains: &[DomainConfig], id: DomId) -> bool
     domains.iter().any(|d| d.id == id)
 }
 
-// The domain with this number, if it is configured.
+// Finds the domain with this number, if it is configured.
 #[tactic(auto, unfolding(crate::specs::Script::configured))]
 fn configured(domains: &[DomainConfig], number: Number) -> Option<DomId>
     ensures { result ≡ configured domains.now number }
@@ -107,7 +107,7 @@ fn configured(domains: &[DomainConfig], number: Number) -> Option<DomId>
     }
 }
 
-// What a line of the body is for `play`.
+// Returns what a line of the body is for `play`: an action.
 #[tactic(auto, unfolding(crate::specs::Script::play_action_in))]
 fn play_action_in<'a>(asks: BodyLine<'a>) -> Option<ScriptAction<'a>>
     ensures { result ≡ play_action_in asks.entry }
@@ -118,7 +118,7 @@ fn play_action_in<'a>(asks: BodyLine<'a>) -> Option<ScriptAction<'a>>
     }
 }
 
-// What a line of the body is for `run`.
+// Returns what a line of the body is for `run`: a whole call, or a flag that is raised or awaited.
 #[tactic(auto, unfolding(crate::specs::Script::run_action_in))]
 fn run_action_in<'a>(asks: BodyLine<'a>) -> Option<RunActionBy<'a, Text<'a>>>
     ensures { result ≡ run_action_in asks.entry }
@@ -132,7 +132,7 @@ fn run_action_in<'a>(asks: BodyLine<'a>) -> Option<RunActionBy<'a, Text<'a>>>
     }
 }
 
-// The names of a policy's types, by their numbers.
+// Lists the names of a policy's types, by their numbers.
 fn names_of<'p>(alloc: Global, policy: &'p Policy) -> Result<Vec<Text<'p>>, AllocError>
     ensures { IfOk result (λ names. names.items ≡ policy.entry.now.types) }
 {
@@ -156,7 +156,7 @@ fn copies<'a>(alloc: Global, names: &[Text<'a>]) -> Result<Vec<Text<'a>>, AllocE
     Ok(copies)
 }
 
-// The domain that a line writes, if its numbers are not larger than a domain's can be.
+// Makes the domain of a line, if its numbers fit.
 #[tactic(auto, unfolding(crate::specs::Script::domain_written))]
 fn domain_written(line: &DomainLine, label: TypeId) -> Option<DomainConfig>
     ensures { result ≡ domain_written line.now label }
@@ -198,7 +198,7 @@ impl<'a> Script<'a> {
         }
     }
 
-    // A script with this policy, and nothing more so far.
+    // Makes a script of only a policy.
     pub(crate) fn with_policy(alloc: Global, command: ScriptCommand, policy: Policy) -> Script<'a>
         ensures { contents_told result ≡ with_policy command (allowed_of policy) }
     {
@@ -207,8 +207,8 @@ impl<'a> Script<'a> {
         script
     }
 
-    /// The names of the types, from the policy or from triples and labels: the type with number i has
-    /// the name at place i.
+    /// Returns the names of the types, from the policy or from triples and labels. The index of a name is the number of
+    /// its type.
     pub fn type_names(&self, alloc: Global) -> Result<Vec<Text<'_>>, AllocError>
         ensures { IfOk result (λ names. names.items ≡ type_names (contents_told self.now)) }
     {
@@ -218,35 +218,35 @@ impl<'a> Script<'a> {
         }
     }
 
-    /// The policy of the script's block, if it has one; otherwise its triples are what is allowed.
+    /// Returns the policy of the script's block, if it has one. Otherwise the triples are what is allowed.
     pub fn policy(&self) -> Option<&Policy>
         ensures { option_map (λ p. p.now) result ≡ self.now.policy }
     {
         self.policy.as_ref()
     }
 
-    /// What the triples of the head allow, in their order.
+    /// Returns the triples of the head, in order.
     pub fn triples(&self) -> &[Triple]
         ensures { result.now ≡ self.now.triples }
     {
         self.triples.as_slice()
     }
 
-    /// The first generation of all entries, 0 to 1,048,575: that of the line `wear`, or 0.
+    /// Returns the first generation of all entries, 0 to 1,048,575: that of the line `wear`, or 0.
     pub fn first_gen(&self) -> u32
         ensures { result ≡ first_gen (contents_told self.now) }
     {
         self.wear.unwrap_or(0)
     }
 
-    /// The domains of the run, in their order.
+    /// Returns the domains of the run, in order.
     pub fn domains(&self) -> &[DomainConfig]
         ensures { result.now ≡ self.now.domains }
     {
         self.domains.as_slice()
     }
 
-    // The script without the lines of its body for `run`, and these.
+    // Takes the lines of the body for `run` out of the script.
     pub(crate) fn into_parts(mut self, alloc: Global) -> (Script<'a>, Vec<NamedRunTask<'a>>)
         ensures head { contents_told result.0 ≡ without_orders (contents_told self.entry) }
         ensures orders { result.1.items ≡ (contents_told self.entry).orders }
@@ -255,7 +255,7 @@ impl<'a> Script<'a> {
         (self, orders)
     }
 
-    /// The steps of the body, in their order.
+    /// Returns the steps of the body, in order.
     pub fn steps(&self) -> &[ScriptStep<'a>]
         ensures { result.now ≡ self.now.steps }
     {
@@ -283,7 +283,7 @@ impl<'a> Script<'a> {
         Ok(self)
     }
 
-    // The number of a domain's type, which the policy has to declare; without one any name is a type.
+    // Returns the number of a domain's type, which a policy has to declare. Without a policy any name is a type.
     fn type_number(&mut self, name: &'a [u8]) -> Result<Option<TypeId>, AllocError>
         ensures { IfOk result (GivesTypeNumber (contents_told self.old) (contents_told self.new) name.entry.now) }
     {
@@ -432,7 +432,7 @@ impl<'a> Script<'a> {
         self.with_words(number, words.as_slice())
     }
 
-    // This script with more lines, which come after so many others.
+    // Adds lines, which follow this number of lines.
     pub(crate) fn with_lines(
         self,
         alloc: Global,
@@ -454,7 +454,7 @@ impl<'a> Script<'a> {
         Ok(script)
     }
 
-    // What a script lacks at its end: a policy or a triple, or otherwise a domain.
+    // Checks at the end of the script that there is a policy or a triple, and then that there is a domain.
     #[tactic(auto, unfolding(crate::specs::Script::completed))]
     pub(crate) fn completed(self, count: usize) -> Result<Script<'a>, ScriptError>
         requires { count < 2 ^ 64 - 1 }
@@ -471,7 +471,7 @@ impl<'a> Script<'a> {
         Err(ScriptError::Fault(ScriptFault { line, kind }))
     }
 
-    // This script with the lines after so many others, up to the end of a script of `count` lines.
+    // Adds the lines after `before` others, up to the end of a script of `count` lines.
     pub(crate) fn with_rest(
         self,
         alloc: Global,

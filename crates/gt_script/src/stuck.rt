@@ -1,6 +1,6 @@
-//! Whether each domain of a run comes to the end of its list, if calls are taken as done at once.
+//! Whether each domain of a run comes to the end of its list, if every call is answered.
 //!
-//! Domains go on in turn, each as far as raised flags let it, until a whole turn raises no new flag.
+//! The domains move in turn, each as far as the raised flags let it, until a whole turn raises no new flag.
 ghost use Rattle.std.specs.Prelude.{◌≡◌, ◌≤◌, ◌↔◌, ℕ, Bool, IfOk, All, IsTrue, length};
 ghost use Rattle.gt_types.specs.Config.{is_taken};
 ghost use Rattle.gt_script.specs.Stuck.{IsBelow, AreNumbered, IsClosed, IsTold, IsJudged};
@@ -11,21 +11,21 @@ use crate::tasks::{RunAction, RunTask};
 use gt_types::{DomId, DomainConfig};
 use std::alloc::{AllocError, Global};
 
-// How far a domain came, and whether it raised a flag that was not raised before.
+// How far a domain came, and whether it newly raised a flag.
 #[derive(Clone, Copy)]
 struct DomainProgress {
     place: usize,
     is_news: bool,
 }
 
-// The place to which each domain has come, and for each flag whether it is raised.
+// The position of each domain, and for each flag whether it is raised.
 #[derive(Drop)]
 struct ListPositions {
     places: Vec<usize>,
     told: Vec<bool>,
 }
 
-// The task is one of the domain's own.
+// Returns whether the task is one of the domain.
 fn is_own(task: &RunTask, dom: DomId) -> bool
     ensures { IsTrue result ↔ (task.now.dom.0 ≡ dom.0) }
 {
@@ -35,7 +35,7 @@ fn is_own(task: &RunTask, dom: DomId) -> bool
 impl ListPositions {
     ghost use Rattle.std.specs.Prelude.{◌≡◌, ◌≤◌, length};
 
-    // A domain waits at this deed.
+    // Returns whether a domain waits at this action.
     #[tactic(auto, unfolding(crate::specs::Rounds::is_waiting))]
     fn is_waiting(&self, deed: &RunAction) -> bool
         requires { IsBelow (length self.now.told.items) deed.now }
@@ -47,7 +47,7 @@ impl ListPositions {
         }
     }
 
-    // Raises the flag that this deed raises, if it raises one. Answers whether the flag is newly raised.
+    // Raises the flag of this action, if it raises one. Returns whether the flag is newly raised.
     #[tactic(auto, unfolding(crate::specs::Rounds::told_after, crate::specs::Rounds::is_new))]
     fn tell(&mut self, deed: &RunAction) -> bool
         requires { IsBelow (length self.old.told.items) deed.now }
@@ -65,7 +65,7 @@ impl ListPositions {
         }
     }
 
-    // A domain that is at a place goes on as far as raised flags let it, and raises those on its way.
+    // Moves a domain from a position as far as the raised flags let it, and raises the flags of its tasks there.
     fn go_on(&mut self, tasks: &[RunTask], dom: DomId, from: usize) -> DomainProgress
         requires numbered { AreNumbered (length self.old.told.items) tasks.now }
         requires place { from ≤ length tasks.now }
@@ -89,7 +89,7 @@ impl ListPositions {
         }
     }
 
-    // Each domain in turn goes on from its place. Answers whether one raised a flag that was not raised before.
+    // Moves each domain in turn. Returns whether a flag is newly raised.
     fn turn(&mut self, tasks: &[RunTask], domains: &[DomainConfig]) -> bool
         requires numbered { AreNumbered (length self.old.told.items) tasks.now }
         requires many { length self.old.places.items ≡ length domains.now }
@@ -109,7 +109,7 @@ impl ListPositions {
     }
 }
 
-// The flags that are raised, of so many.
+// Finds the flags that are raised in a run.
 fn raised_flags(
     alloc: Global,
     tasks: &[RunTask],
@@ -133,7 +133,7 @@ fn raised_flags(
     }
 }
 
-// The line where a domain waits, if these flags are raised.
+// Finds the line where a domain waits if these flags are raised.
 fn waiting_line(tasks: &[RunTask], dom: DomId, told: &[bool]) -> Option<usize>
     requires { AreNumbered (length told.now) tasks.now }
     ensures { WaitsIn told.now tasks.now dom result }
@@ -150,7 +150,8 @@ fn waiting_line(tasks: &[RunTask], dom: DomId, told: &[bool]) -> Option<usize>
     None
 }
 
-/// The line where the first of the domains that waits for ever does so, if one does. The tasks name so many flags.
+/// Returns the line at which the first domain waits that does not come to the end of its list; None if every domain
+/// does. The flags of the tasks are numbered below `flags`.
 pub fn stuck_line(
     alloc: Global,
     tasks: &[RunTask],

@@ -1,4 +1,4 @@
-//! What the domains of a script for `run` do, line by line.
+//! The tasks of the domains of a script for `run`.
 ghost use Rattle.std.specs.Prelude.{◌≡◌, IfOk, map};
 ghost use Rattle.gt_script.specs.Tasks.{deed_of, task_of, tasks_for};
 
@@ -7,14 +7,14 @@ use gt_script_lines::{ScriptCall, Text};
 use gt_types::DomId;
 use std::alloc::{AllocError, Global};
 
-/// What a line of the body has its domain do, with its flag as `F` names it.
+/// The action of a task; `F` names the flags.
 #[derive(Debug, Drop)]
 pub enum RunActionBy<'a, F> {
-    /// `do ID CALL`: the call, from its beginning to its answer.
+    /// `do ID CALL`: makes the call from its beginning to its answer.
     Do(ScriptCall<'a>),
     /// `tell ID FLAG`: raises the flag.
     Tell(F),
-    /// `await ID FLAG`: goes on once some domain has raised the flag.
+    /// `await ID FLAG`: waits until some domain has raised the flag.
     Await(F),
 }
 
@@ -26,13 +26,13 @@ pub struct RunTaskBy<'a, F> {
     pub deed: RunActionBy<'a, F>,
 }
 
-/// A line as it is written, its flag by name.
+/// A task as it is written, its flag by name.
 pub(crate) type NamedRunTask<'a> = RunTaskBy<'a, Text<'a>>;
 
-/// What a line has its domain do, its flag by number.
+/// An action, its flag by number.
 pub type RunAction<'a> = RunActionBy<'a, usize>;
 
-/// A line whose flag is named by its number. The list of a domain is its lines, in their order.
+/// A task, its flag by number. The list of a domain is its tasks, in order.
 pub type RunTask<'a> = RunTaskBy<'a, usize>;
 
 #[tactic(auto, unfolding(crate::specs::Tasks::deed_of))]
@@ -54,7 +54,7 @@ fn task_of<'a>(flags: &FlagNames<'a>, order: NamedRunTask<'a>) -> RunTask<'a>
     RunTask { line, dom, deed }
 }
 
-/// What these lines have their domains do, with the numbers of flags in the place of their names.
+/// Replaces the names of flags by their numbers.
 pub fn tasks_for<'a>(
     alloc: Global,
     flags: &FlagNames<'a>,

@@ -7,10 +7,10 @@ use gt_types::TypeId;
 use std::alloc::{AllocError, Global};
 use std::marker::Model;
 
-/// The most types that a run may have.
+/// The maximum number of types of a run.
 pub const MOST_TYPES: usize = 256;
 
-/// The names of the types, each once: a type's number is the place of its name.
+/// The names of the types, each once. The number of a type is the index of its name.
 #[derive(Drop)]
 pub struct TypeNames<'a> {
     names: Vec<Text<'a>>,
@@ -36,7 +36,7 @@ impl<'a> TypeNames<'a> {
     ghost use Rattle.std.specs.Prelude.{[], IfOk};
     ghost use Rattle.gt_script.specs.Types.{GivesNumber};
 
-    /// No names.
+    /// Makes an empty list of names.
     pub fn new(alloc: Global) -> TypeNames<'a>
         ensures { result ≡ [] }
     {
@@ -45,14 +45,14 @@ impl<'a> TypeNames<'a> {
         }
     }
 
-    /// The names, by their numbers.
+    /// Returns the names, by their numbers.
     pub fn as_slice(&self) -> &[Text<'a>]
         ensures { result.now ≡ self.now }
     {
         self.names.as_slice()
     }
 
-    /// The number of a type, which is added if it is new; None if it is one too many.
+    /// Returns the number of a type, which is added if it is new; None if it would be the 257th.
     #[tactic(auto, unfolding(crate::specs::Types::with_type_name))]
     pub fn number(&mut self, name: &'a [u8]) -> Result<Option<TypeId>, AllocError>
         ensures { IfOk result (GivesNumber self.old self.new name.entry.now) }

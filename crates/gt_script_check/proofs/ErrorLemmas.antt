@@ -10,7 +10,7 @@ use Rattle.gt_policy_check.specs.declared.findings.Finding.{Finding}
 no_line : (b : Bool) (n : ℕ) → b ≡ false → (if b then n ∷ [] else []) ≡ []
 no_line b n e = rw e refl
 
--- a finding more that is no error
+-- one more finding, which is not an error
 pub warned : (old new : List Finding) (x : Finding) → is_error x.kind ≡ false → new ≡ old ++ x ∷ [] → error_lines new ≡ error_lines old
 warned old new x fine is =
     ap error_lines is ∙ flat_map-append (λ y. if is_error y.kind then y.line ∷ [] else []) old (x ∷ [])

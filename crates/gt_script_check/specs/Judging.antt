@@ -1,4 +1,4 @@
--- What is told of bytes that are to be a script.
+-- The findings of bytes that should be a script.
 use Rattle.std.specs.Prelude.{◌≡◌, ◌⊎◌, ℕ, List, [], ◌∷◌, Option, Some, None, Ok, Err}
 use Rattle.gt_policy_check.specs.Check.{error_lines}
 use Rattle.gt_policy_check.specs.declared.findings.Finding.{Finding}
@@ -14,8 +14,8 @@ abbrev pub line_of_fault : Wrong → ℕ
 line_of_fault (in_script f) = f.line
 line_of_fault (in_policy g) = g.line
 
--- What is found in bytes. If they are no script for `play`, nor for `run`, one error is told, at the line of their first
--- fault for one of the two. If they are a script for one of them, no error is.
+-- The findings of bytes. If they are a script for neither `play` nor `run`, there is one error, at the line of their
+-- first fault for one of the two. If they are a script for one of them, there is none.
 pub data JudgesScript (bytes : List ℕ) : List Finding → Type 0 where
   for_play : (c : Contents) (found : List Finding) → TellsScript bytes (Ok c) → error_lines found ≡ []
       → JudgesScript bytes found
@@ -25,13 +25,13 @@ pub data JudgesScript (bytes : List ℕ) : List Finding → Type 0 where
       → (error_lines found ≡ line_of_fault play ∷ []) ⊎ (error_lines found ≡ line_of_fault run ∷ [])
       → JudgesScript bytes found
 
--- the line of the fault that an error tells, none where memory was refused
+-- the line of the fault of an error; none for a failed allocation
 abbrev pub error_line : ScriptError → Option ℕ
 error_line Memory = None
 error_line (Fault f) = Some f.line
 error_line (Policy f) = Some f.line
 
--- one error is told, at the line of one of these
+-- there is one error, at the line of one of these
 abbrev pub IsAtEither : ScriptError → ScriptError → List Finding → Type 0
 IsAtEither play run found =
     (line other : ℕ) × (error_line play ≡ Some line) × (error_line run ≡ Some other)

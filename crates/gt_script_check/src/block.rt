@@ -1,4 +1,4 @@
-//! What is useless in the policy block of a script.
+//! Warnings about the policy block of a script.
 ghost use Rattle.std.specs.Prelude.{◌≡◌, OnOk};
 ghost use Rattle.gt_policy_check.specs.Check.{error_lines};
 
@@ -8,7 +8,7 @@ use gt_reasons::block_text;
 use gt_types::Memory;
 use std::alloc::{AllocError, Global};
 
-// Adds those of the findings that are no errors.
+// Adds those of the findings that are not errors.
 fn push_warnings(found: &mut Vec<Finding>, more: Vec<Finding>) -> Result<(), AllocError>
     ensures { OnOk result (error_lines found.new.items ≡ error_lines found.old.items) }
 {
@@ -20,7 +20,7 @@ fn push_warnings(found: &mut Vec<Finding>, more: Vec<Finding>) -> Result<(), All
     Ok(())
 }
 
-/// Tells what is useless in the policy block, if the script has one, for domains of these types.
+/// Warns of what is useless in the policy block, if the script has one, for domains of these types.
 pub(crate) fn warn_block(
     alloc: Global,
     found: &mut Vec<Finding>,

@@ -1,4 +1,4 @@
-//! The error of bytes that are no script.
+//! The error of bytes that are not a script.
 ghost use Rattle.std.specs.Prelude.{◌≡◌, ◌⊎◌, ◌∷◌, [], ℕ, Some, IfOk, OnOk};
 ghost use Rattle.gt_policy_check.specs.Check.{error_lines};
 ghost use Rattle.gt_script_check.specs.Judging.{error_line, IsAtEither};
@@ -10,7 +10,7 @@ use gt_script::{ScriptError, ScriptFaultKind};
 use gt_types::Memory;
 use std::alloc::{AllocError, Global};
 
-// The line of a fault; none of refused memory.
+// Returns the line of a fault; None for a failed allocation.
 fn line_of(error: &ScriptError) -> Option<usize>
     ensures { result ≡ error_line error.now }
 {
@@ -35,7 +35,7 @@ fn reason_of(alloc: Global, input: &[u8], error: &ScriptError) -> Result<Reason,
     }
 }
 
-// Adds what is said beside an error, if anything is.
+// Adds the note of an error, if there is one.
 fn push_note(found: &mut Vec<Finding>, note: Option<ReasonNote>) -> Result<(), AllocError>
     ensures { OnOk result (error_lines found.new.items ≡ error_lines found.old.items) }
 {
@@ -53,7 +53,7 @@ fn push_note(found: &mut Vec<Finding>, note: Option<ReasonNote>) -> Result<(), A
     )
 }
 
-// The finding of a fault on this line. A script has far fewer lines than a number of 32 bits can count.
+// Makes the finding of a fault on this line. A script has far fewer lines than 32 bits can count.
 fn error_at(
     alloc: Global,
     input: &[u8],
@@ -81,7 +81,7 @@ fn error_at(
     Ok(found)
 }
 
-// Whether a line is for the other command.
+// Returns whether the fault is that a line is for the other command.
 fn is_mode(error: &ScriptError) -> bool {
     match error {
         ScriptError::Fault(fault) => fault.kind == ScriptFaultKind::Mode,
@@ -89,8 +89,8 @@ fn is_mode(error: &ScriptError) -> bool {
     }
 }
 
-/// The error of bytes that are no script for `play`, nor for `run`: the one of the two that is further down. If both
-/// are on one line, it is not the one that the line is for the other command.
+/// Returns the error of bytes that are not a script for `play`, nor for `run`: the one of the two faults that is
+/// further down. If both are on one line and one of them is `mode`, it is the other one.
 pub(crate) fn errors(
     alloc: Global,
     input: &[u8],

@@ -1,4 +1,4 @@
-//! What is wrong or useless in a script.
+//! Checks a script.
 ghost use Rattle.std.specs.Prelude.{◌≡◌, ◌+◌, [], ℕ, List, take, IfOk, OnOk};
 ghost use Rattle.gt_types.specs.declared.limits.TheConstants.{LONGEST_TEXT};
 ghost use Rattle.gt_policy_check.specs.Check.{error_lines};
@@ -16,7 +16,7 @@ use gt_text::text_of;
 use gt_types::Memory;
 use std::alloc::{AllocError, Global};
 
-// Tells what is useless in the lines from a place on, whose domains have these types.
+// Warns of what is useless in the lines after the first `start`; the domains of the script have these types.
 fn warn_lines(
     alloc: Global,
     found: &mut Vec<Finding>,
@@ -45,7 +45,7 @@ fn warn_lines(
     Ok(())
 }
 
-// Tells what is useless in a script.
+// Returns the warnings about a script.
 fn warnings(alloc: Global, input: &[u8]) -> Result<Vec<Finding>, Memory>
     ensures { IfOk result (λ v. error_lines v.items ≡ []) }
 {
@@ -61,9 +61,9 @@ fn warnings(alloc: Global, input: &[u8]) -> Result<Vec<Finding>, Memory>
     Ok(found)
 }
 
-/// What is wrong or useless in the script that bytes say, of which those up to the limit were read. Of bytes that are a
-/// script for neither `play` nor `run` it tells one error, at the line of the first fault for one of them. Of a script
-/// it tells no error.
+/// Checks a script, of which `input` is all or the first bytes up to the read limit. Bytes that are a script for
+/// neither `play` nor `run` have one error, at the line of the first fault for one of the two. A script has none. The
+/// only Err is a failed allocation.
 pub fn judge(alloc: Global, input: &[u8]) -> Result<Vec<Finding>, Memory>
     ensures { (all : List ℕ) → input.now ≡ take (LONGEST_TEXT + 1) all →
         IfOk result (λ v. JudgesScript all v.items) }

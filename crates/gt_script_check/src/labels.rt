@@ -1,4 +1,4 @@
-//! The labels of a script that no map before them has.
+//! Warnings about labels that no earlier map has.
 ghost use Rattle.std.specs.Prelude.{◌≡◌, OnOk};
 ghost use Rattle.gt_policy_check.specs.Check.{error_lines};
 
@@ -11,7 +11,7 @@ use gt_script_lines::{
 use gt_text::text_of;
 use std::alloc::{AllocError, Global};
 
-/// A label of a domain, and whether a map gives it or another call needs it.
+/// A label of a domain, and whether its call is a map.
 #[derive(Clone, Copy)]
 pub(crate) struct Label<'t> {
     id: u64,
@@ -19,7 +19,7 @@ pub(crate) struct Label<'t> {
     is_mapped: bool,
 }
 
-// The label of a call, and whether the call is a map.
+// Returns the label of a call, and whether the call is a map.
 fn label_of<'t>(call: &ScriptCall<'t>) -> Option<(&'t [u8], bool)> {
     match call {
         ScriptCall::Map { label, .. } => Some((label.as_bytes(), true)),
@@ -30,7 +30,7 @@ fn label_of<'t>(call: &ScriptCall<'t>) -> Option<(&'t [u8], bool)> {
     }
 }
 
-// The label that a line of a domain has.
+// Returns the label in a line of a domain.
 fn labelled<'t>(id: Number, asks: &BodyLine<'t>) -> Option<Label<'t>> {
     let call = match asks {
         BodyLine::Action(ScriptAction::Do(call)) => call,
@@ -48,7 +48,7 @@ fn labelled<'t>(id: Number, asks: &BodyLine<'t>) -> Option<Label<'t>> {
     }
 }
 
-/// The label that a line has, if it has one.
+/// Returns the label of a line, if it has one.
 pub(crate) fn label_in<'t>(alloc: Global, line: &'t str) -> Result<Option<Label<'t>>, AllocError> {
     let words = line_words(alloc, line)?;
     match read_line(words.as_slice()) {
@@ -57,7 +57,7 @@ pub(crate) fn label_in<'t>(alloc: Global, line: &'t str) -> Result<Option<Label<
     }
 }
 
-// What is said of a label that no map of its domain has so far.
+// Makes the message about a label that no earlier map of its domain has.
 fn message_of(
     alloc: Global,
     label: Label<'_>,
@@ -75,14 +75,14 @@ fn message_of(
     Ok(message)
 }
 
-// Whether some map of the domain has the label.
+// Returns whether some map of the domain has the label.
 fn is_known(mapped: &[Label<'_>], label: Label<'_>) -> bool {
     mapped
         .iter()
         .any(|other| other.id == label.id && other.name == label.name)
 }
 
-/// Tells that the label of a line names no mapping, if none of the maps before has it.
+/// Warns that the label of a line names no mapping, if no earlier map of the domain has it.
 pub(crate) fn warn_label(
     alloc: Global,
     found: &mut Vec<Finding>,
@@ -110,7 +110,7 @@ pub(crate) fn warn_label(
 }
 
 impl<'t> Label<'t> {
-    /// Whether a map gives the label.
+    /// Returns whether the call of the label is a map.
     pub(crate) fn is_mapped(&self) -> bool {
         self.is_mapped
     }

@@ -1,14 +1,14 @@
 //! What is wrong or useless in a script and its policy block.
 //!
-//! [`judge`] tells the first fault of a script, or what is useless in one: what `gt_policy_check` tells of its
-//! policy block, the types that no domain has, the statements and triples that allow nothing to its
-//! domains, and the labels that no map before them has.
+//! [`judge`] finds the error of a script, or what is useless in one: what `gt_policy_check` finds in its policy block,
+//! the types that no domain has, the statements and triples that allow nothing to its domains, and the labels that no
+//! earlier map has.
 //!
-//! What holds: an error is told exactly if the bytes are a script for neither `play` nor `run`, and it
-//! stands at the line of the first fault for one of them. Of a script no error is told.
+//! It is proved that there is an error exactly if the bytes are a script for neither `play` nor `run`, and that it is
+//! at the line of the first fault for one of the two.
 //!
-//! It uses `gt_script` and `gt_script_lines` (scripts and lines), `gt_policy_check` (findings), `gt_reasons` (what a
-//! fault means), `gt_text` (text) and `gt_types`.
+//! It uses `gt_script` and `gt_script_lines` (scripts and lines), `gt_policy` and `gt_policy_check` (findings),
+//! `gt_reasons` (the reasons for faults), `gt_text` (text) and `gt_types`.
 #![tactic(auto)]
 
 mod block;

@@ -1,4 +1,4 @@
-//! The triples of a script that allow nothing to its domains.
+//! Warnings about triples that allow nothing to the domains of the script.
 ghost use Rattle.std.specs.Prelude.{◌≡◌, OnOk};
 ghost use Rattle.gt_policy_check.specs.Check.{error_lines};
 
@@ -9,19 +9,18 @@ use gt_script_lines::{ScriptLine, line_words, read_line};
 use gt_text::text_of;
 use std::alloc::{AllocError, Global};
 
-// A type of a triple that no domain has, and which word of the line it is.
+// A type of a triple that no domain has, and the index of its word in the line.
 #[derive(Clone, Copy)]
 struct Unworn<'t> {
     name: &'t str,
     place: usize,
 }
 
-// Whether no domain has the type.
 fn is_unworn(worn: &[&str], name: &[u8]) -> bool {
     !worn.iter().any(|one| one.as_bytes() == name)
 }
 
-// The first type of a triple that no domain has; none of another line.
+// Finds the first type of a triple that no domain has. Returns None for another line.
 fn unworn_in<'t>(
     alloc: Global,
     line: &'t str,
@@ -42,7 +41,7 @@ fn unworn_in<'t>(
     }
 }
 
-/// Tells that a line is a triple that allows nothing to domains of these types, if it is.
+/// Warns of a triple that allows nothing to domains of these types.
 pub(crate) fn warn_triple(
     alloc: Global,
     found: &mut Vec<Finding>,

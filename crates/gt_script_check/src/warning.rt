@@ -1,11 +1,11 @@
-//! Findings that are no errors.
+//! Findings other than errors.
 ghost use Rattle.std.specs.Prelude.{◌≡◌, false, OnOk};
 ghost use Rattle.gt_policy_check.specs.Check.{error_lines, is_error};
 
 use gt_policy_check::{Finding, FindingKind};
 use std::alloc::AllocError;
 
-/// Whether a finding of this kind is an error.
+/// Returns whether a finding of this kind is an error.
 pub(crate) fn is_error(kind: FindingKind) -> bool
     ensures { result ≡ is_error kind }
 {
@@ -24,7 +24,7 @@ pub(crate) fn is_error(kind: FindingKind) -> bool
     }
 }
 
-/// A column as a number of a finding.
+/// Converts a line or column to a number of a finding.
 pub(crate) fn column_number(column: usize) -> u32 {
     match u32::try_from(column) {
         Ok(column) => column,
@@ -32,7 +32,7 @@ pub(crate) fn column_number(column: usize) -> u32 {
     }
 }
 
-/// Adds a finding that is no error.
+/// Adds a finding that is not an error.
 #[tactic(auto, using(crate::proofs::ErrorLemmas::warned))]
 pub(crate) fn push_warning(found: &mut Vec<Finding>, finding: Finding) -> Result<(), AllocError>
     requires { is_error finding.kind ≡ false }

@@ -1,10 +1,10 @@
-//! The types that the domains of a script have.
+//! The types of the domains of a script.
 use gt_reasons::has_policy;
 use gt_script_lines::{ScriptLine, line_words, read_line};
 use gt_text::text_of;
 use std::alloc::{AllocError, Global};
 
-/// Where the lines after the policy block begin: at the first line, if there is none.
+/// Returns the index of the first line after the policy block; 0 if there is none.
 pub(crate) fn body_start(alloc: Global, lines: &[&str]) -> Result<usize, AllocError> {
     if !has_policy(alloc, lines)? {
         return Ok(0);
@@ -20,7 +20,7 @@ pub(crate) fn body_start(alloc: Global, lines: &[&str]) -> Result<usize, AllocEr
     Ok(lines.len())
 }
 
-/// The types of the lines `domain`.
+/// Returns the types of the lines `domain`.
 pub(crate) fn worn_types<'t>(alloc: Global, lines: &[&'t str]) -> Result<Vec<&'t str>, AllocError> {
     let mut names = Vec::new(alloc);
     for line in lines {

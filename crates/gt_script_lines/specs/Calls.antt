@@ -1,4 +1,4 @@
--- What the words of a call say: REF, DOM and the others as in Fields.
+-- The meaning of the words of a call; REF, DOM and the others are as in Fields.
 use Rattle.std.specs.Prelude.{ℕ, ◌+◌, List, [], ◌∷◌, Option, Some, None, if◌then◌else◌, codes}
 use Rattle.std.specs.Option.{option_map, option_or}
 use Rattle.std.specs.Str.{bytes_eq}
@@ -45,13 +45,13 @@ via_of (dom ∷ mode ∷ to ∷ gref ∷ []) = do
   Some (entries.Via d m t r)
 via_of _ = None
 
--- the entry that a grant publishes, by its kind
+-- the entry of a grant, by its kind
 unfoldable pub entry_of_kind : List ℕ → List (List ℕ) → Option Entry
 entry_of_kind kind args = if bytes_eq kind (codes "page") then page_of args
     else (if bytes_eq kind (codes "sub") then sub_of args
     else (if bytes_eq kind (codes "via") then via_of args else None))
 
--- what follows `grant`: REF and an entry
+-- the words after `grant`: REF and an entry
 unfoldable pub grant_of : List (List ℕ) → Option ScriptCall
 grant_of (gref ∷ kind ∷ args) = do
   r ← reference_word gref
@@ -59,7 +59,7 @@ grant_of (gref ∷ kind ∷ args) = do
   Some (calls.Grant r e)
 grant_of _ = None
 
--- what follows `bytes`: REF HEX
+-- the words after `bytes`: REF HEX
 unfoldable pub grant_bytes_of : List (List ℕ) → Option ScriptCall
 grant_bytes_of (gref ∷ digits ∷ []) = do
   r ← reference_word gref
@@ -67,7 +67,7 @@ grant_bytes_of (gref ∷ digits ∷ []) = do
   Some (calls.GrantBytes r h)
 grant_bytes_of _ = None
 
--- what follows `map`: LABEL DOM REF FLAGS
+-- the words after `map`: LABEL DOM REF FLAGS
 unfoldable pub map_of : List (List ℕ) → Option ScriptCall
 map_of (label ∷ dom ∷ gref ∷ flags ∷ []) = do
   l ← text_where label_word label
@@ -77,14 +77,14 @@ map_of (label ∷ dom ∷ gref ∷ flags ∷ []) = do
   Some (calls.Map l d r f)
 map_of _ = None
 
--- what follows `unmap`: LABEL
+-- the word after `unmap`: LABEL
 unfoldable pub unmap_of : List (List ℕ) → Option ScriptCall
 unmap_of (label ∷ []) = do
   l ← text_where label_word label
   Some (calls.Unmap l)
 unmap_of _ = None
 
--- what follows `load`: LABEL OFF LEN
+-- the words after `load`: LABEL OFF LEN
 unfoldable pub load_of : List (List ℕ) → Option ScriptCall
 load_of (label ∷ off ∷ len ∷ []) = do
   l ← text_where label_word label
@@ -93,7 +93,7 @@ load_of (label ∷ off ∷ len ∷ []) = do
   Some (calls.Load l o n)
 load_of _ = None
 
--- what follows `store`: LABEL OFF HEX
+-- the words after `store`: LABEL OFF HEX
 unfoldable pub store_of : List (List ℕ) → Option ScriptCall
 store_of (label ∷ off ∷ digits ∷ []) = do
   l ← text_where label_word label
@@ -102,7 +102,7 @@ store_of (label ∷ off ∷ digits ∷ []) = do
   Some (calls.Store l o h)
 store_of _ = None
 
--- what follows `peek`: FRAME OFF LEN
+-- the words after `peek`: FRAME OFF LEN
 unfoldable pub peek_of : List (List ℕ) → Option ScriptCall
 peek_of (frame ∷ off ∷ len ∷ []) = do
   f ← u64_word frame
@@ -111,7 +111,7 @@ peek_of (frame ∷ off ∷ len ∷ []) = do
   Some (calls.Peek f o n)
 peek_of _ = None
 
--- what follows `poke`: FRAME OFF HEX
+-- the words after `poke`: FRAME OFF HEX
 unfoldable pub poke_of : List (List ℕ) → Option ScriptCall
 poke_of (frame ∷ off ∷ digits ∷ []) = do
   f ← u64_word frame
@@ -133,12 +133,12 @@ copy_end_of kind dom place off = if bytes_eq kind (codes "gref") then (do
     o ← u16_word off
     Some (record { ptr = f; domid = d; offset = o })) else None)
 
--- this flag if the end is given by a grant reference, and none if it is given by a frame (grant_table.h)
+-- the flag if the end is a grant reference, and 0 if it is a frame (grant_table.h)
 unfoldable pub grant_flag : List ℕ → ℕ → ℕ
 grant_flag kind flag = if bytes_eq kind (codes "gref") then flag else 0
 
--- what follows `copy`: END END LEN, the source first; flag 1 says that the source is given by a reference, flag 2 the
--- same of the destination (grant_table.h)
+-- the words after `copy`: END END LEN, the source first; flag 1 means that the source is a reference, flag 2 that the
+-- destination is one (grant_table.h)
 unfoldable pub copy_of : List (List ℕ) → Option ScriptCall
 copy_of (from_kind ∷ from_dom ∷ from ∷ from_off ∷ to_kind ∷ to_dom ∷ to ∷ to_off ∷ len ∷ []) = do
   s ← copy_end_of from_kind from_dom from from_off
@@ -147,17 +147,17 @@ copy_of (from_kind ∷ from_dom ∷ from ∷ from_off ∷ to_kind ∷ to_dom ∷
   Some (calls.Copy (record { source = s; dest = d; len = n; flags = grant_flag from_kind 1 + grant_flag to_kind 2 }))
 copy_of _ = None
 
--- what follows `revoke`, `withdraw`, `demote`, `promote`, and `show` and its domain: REF
+-- the word after `revoke`, `withdraw`, `demote`, `promote`, and after `show` and its domain: REF
 unfoldable pub only_reference : List (List ℕ) → Option GrantRef
 only_reference (gref ∷ []) = reference_word gref
 only_reference _ = None
 
--- what follows `version` and `setup`: V and N, of 32 bits (grant_table.h)
+-- the word after `version` and `setup`: V and N, of 32 bits (grant_table.h)
 unfoldable pub only_number : List (List ℕ) → Option ℕ
 only_number (number ∷ []) = u32_word number
 only_number _ = None
 
--- what follows `size` and `getversion`: DOM
+-- the word after `size` and `getversion`: DOM
 unfoldable pub only_domain : List (List ℕ) → Option DomId
 only_domain (dom ∷ []) = domain_word dom
 only_domain _ = None
@@ -175,7 +175,7 @@ table_of word args = if bytes_eq word (codes "grant") then grant_of args
     else (if bytes_eq word (codes "size") then option_map calls.QuerySize (only_domain args)
     else (if bytes_eq word (codes "getversion") then option_map calls.GetVersion (only_domain args) else None)))))))))
 
--- a call on a mapping, or one that reaches bytes, by its word
+-- a call on a mapping, or one that reads or writes bytes, by its word
 unfoldable pub access_of : List ℕ → List (List ℕ) → Option ScriptCall
 access_of word args = if bytes_eq word (codes "map") then map_of args
     else (if bytes_eq word (codes "unmap") then unmap_of args
@@ -185,19 +185,19 @@ access_of word args = if bytes_eq word (codes "map") then map_of args
     else (if bytes_eq word (codes "poke") then poke_of args
     else (if bytes_eq word (codes "copy") then copy_of args else None))))))
 
--- a call word and its arguments
+-- a call, by its word and its arguments
 unfoldable pub call_line_of : List (List ℕ) → Option ScriptCall
 call_line_of [] = None
 call_line_of (word ∷ args) = option_or (table_of word args) (access_of word args)
 
--- what follows `tick` and its domain: N
+-- the word after `tick` and its domain: N
 unfoldable pub tick_of : List (List ℕ) → Option ScriptAction
 tick_of (count ∷ []) = do
   n ← tick_word count
   Some (actions.Tick n)
 tick_of _ = None
 
--- what a body line's first word says together with the words after its domain
+-- an action, by the first word of a line and the words after its domain
 unfoldable pub action_of : List ℕ → List (List ℕ) → Option ScriptAction
 action_of word args = if bytes_eq word (codes "do") then option_map actions.Do (call_line_of args)
     else (if bytes_eq word (codes "begin") then option_map actions.Begin (call_line_of args)

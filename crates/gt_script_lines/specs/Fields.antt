@@ -1,4 +1,4 @@
--- What one word says.
+-- The meaning of one word.
 use Rattle.std.specs.Char.{is_ascii_alphabetic, is_ascii_alphanumeric}
 use Rattle.std.specs.List.{list_all}
 use Rattle.std.specs.Prelude.{◌||◌, ◌&&◌, ◌==◌, nat_le, length, ℕ, ◌+◌, ◌^◌, Bool, true, false, List, [], ◌∷◌, Option}
@@ -11,16 +11,16 @@ use Rattle.gt_types.specs.declared.GrantRef.{GrantRef}
 use Rattle.gt_script_lines.specs.Numbers.{decimal_value, below}
 
 infixl 10 ◌>>=◌
--- what follows, if there is a value to follow
+-- the next step, if there is a value
 abbrev pub ◌>>=◌ : {A B : Type 0} → Option A → (A → Option B) → Option B
 None >>= f = None
 (Some x) >>= f = f x
 
--- a byte of a name after its first: a letter, a digit, `_`, `-` or `.` (policy language)
+-- a byte of a name after its first: a letter, a digit, `_`, `-` or `.` (SELinux policy language)
 abbrev pub name_byte : ℕ → Bool
 name_byte b = ((is_ascii_alphanumeric b || (b == 95)) || (b == 45)) || (b == 46)
 
--- a name: a letter, and then such bytes (policy language)
+-- a name: a letter, and then such bytes (SELinux policy language)
 unfoldable pub name_word : List ℕ → Bool
 name_word [] = false
 name_word (b ∷ bs) = is_ascii_alphabetic b && list_all name_byte bs
@@ -78,7 +78,7 @@ tick_word word = do
   n ← number_word 100001 word
   if n == 0 then None else Some n
 
--- a generation of an entry, of which there is a last
+-- a generation of an entry, up to the last one
 unfoldable pub generation_word : List ℕ → Option ℕ
 generation_word word = number_word (LAST_GENERATION + 1) word
 
@@ -86,12 +86,12 @@ generation_word word = number_word (LAST_GENERATION + 1) word
 abbrev pub text_where : (List ℕ → Bool) → List ℕ → Option (List ℕ)
 text_where test word = if test word then Some word else None
 
--- what is before the first colon, and what follows it
+-- the bytes before the first colon, and those after it
 unfoldable pub at_colon : List ℕ → Option (List ℕ × List ℕ)
 at_colon [] = None
 at_colon (b ∷ bs) = if b == 58 then Some ([], bs) else option_map (λ parts. (b ∷ parts.0, parts.1)) (at_colon bs)
 
--- the type of a label `user:role:type`, three names (policy language)
+-- the type of a label `user:role:type` of three names (SELinux policy language)
 unfoldable pub type_word : List ℕ → Option (List ℕ)
 type_word word = do
   first ← at_colon word

@@ -1,4 +1,4 @@
--- Bytes written as hexadecimal text.
+-- Bytes as hexadecimal text.
 use Rattle.std.specs.Prelude.{◌≡◌, ◌⊎◌, ℕ, ◌%◌, ◌==◌, ◌||◌, ◌&&◌, nat_le, Bool, true, List, [], length, codes, Ok}
 use Rattle.std.specs.Prelude.{if◌then◌else◌}
 use Rattle.std.specs.Char.{is_ascii_hexdigit}
@@ -13,10 +13,10 @@ hex_word word =
     bytes_eq word (codes "-")
     || ((length word % 2 == 0 && nat_le (length word) 8192) && list_all is_ascii_hexdigit word)
 
--- the bytes of such a word, two digits for each, the high four bits first
+-- the bytes that such a word encodes, two digits for each, the high four bits first
 unfoldable pub hex_bytes : List ℕ → List ℕ
 hex_bytes word = if bytes_eq word (codes "-") then [] else result_unwrap_or (decode_of word) []
 
--- every such word but `-` is decoded as a whole, and these are its bytes
+-- such a word, unless it is `-`, is decoded as a whole to these bytes
 abbrev pub SaysItsBytes : List ℕ → Type 0
 SaysItsBytes word = hex_word word ≡ true → (word ≡ codes "-") ⊎ (decode_of word ≡ Ok (hex_bytes word))

@@ -1,4 +1,4 @@
--- What the words of a line say.
+-- The meaning of the words of a line.
 use Rattle.std.specs.Prelude.{ℕ, List, [], ◌∷◌, Option, Some, None, if◌then◌else◌, codes}
 use Rattle.std.specs.Option.{option_map}
 use Rattle.std.specs.Str.{bytes_eq}
@@ -14,7 +14,7 @@ use Rattle.gt_script_lines.specs.declared.lines.DomainLine.{DomainLine}
 use Rattle.gt_script_lines.specs.declared.lines.ScriptLine.{ScriptLine}
 use Rattle.gt_script_lines.specs.declared.lines.ScriptLine.TheVariants as lines
 
--- what follows `triple`: SOURCE TARGET PERMISSION
+-- the words after `triple`: SOURCE TARGET PERMISSION
 unfoldable pub triple_of : List (List ℕ) → Option TripleLine
 triple_of (source ∷ target ∷ permission ∷ []) = do
   s ← text_where name_word source
@@ -23,12 +23,12 @@ triple_of (source ∷ target ∷ permission ∷ []) = do
   Some (record { source = s; target = t; perm = p })
 triple_of _ = None
 
--- what follows `wear`: N
+-- the word after `wear`: N
 unfoldable pub wear_of : List (List ℕ) → Option ℕ
 wear_of (first ∷ []) = generation_word first
 wear_of _ = None
 
--- what follows `domain`: ID USER:ROLE:TYPE FRAMES TABLEFRAMES VERSION
+-- the words after `domain`: ID USER:ROLE:TYPE FRAMES TABLEFRAMES VERSION
 unfoldable pub domain_line_of : List (List ℕ) → Option DomainLine
 domain_line_of (id ∷ label ∷ frames ∷ table_frames ∷ version ∷ []) = do
   i ← decimal_number id
@@ -39,12 +39,12 @@ domain_line_of (id ∷ label ∷ frames ∷ table_frames ∷ version ∷ []) = d
   Some (record { id = i; type_name = t; frames = f; table_frames = n; version = v })
 domain_line_of _ = None
 
--- what a line of the body asks, by its word and what follows its domain
+-- the rest of a line of the body, by its first word and the words after its domain
 unfoldable pub body_line_of : List ℕ → List (List ℕ) → Option BodyLine
 body_line_of word args = if is_signal_word word then option_map bodies.Signal (signal_of word args)
     else option_map bodies.Action (action_of word args)
 
--- a line of the body: its word, then ID and what follows
+-- a line of the body: its first word, then ID and the rest
 unfoldable pub body_of : List ℕ → List (List ℕ) → Option ScriptLine
 body_of word [] = None
 body_of word (id ∷ args) = do

@@ -5,11 +5,11 @@ use Rattle.std.specs.Option.{option_map}
 use Rattle.gt_script_lines.specs.declared.numbers.Number.{Number}
 use Rattle.gt_script_lines.specs.declared.numbers.Number.TheVariants.{Small, Huge}
 
--- a number as a value of 64 bits, or that it is 2 ^ 64 or above
+-- a number, exact if it is below 2 ^ 64
 abbrev pub number_of : ℕ → Number
 number_of n = if nat_lt n (2 ^ 64) then Small n else Huge
 
--- digits after a number that was read: they go on with it
+-- the number that these digits continue
 abbrev pub digits_after : ℕ → List ℕ → Option ℕ
 digits_after n [] = Some n
 digits_after n (b ∷ bs) = if is_ascii_digit b then digits_after (n * 10 + (b - 48)) bs else None
@@ -23,11 +23,11 @@ decimal_value (b ∷ bs) = digits_after 0 (b ∷ bs)
 unfoldable pub decimal_number : List ℕ → Option Number
 decimal_number word = option_map number_of (decimal_value word)
 
--- a number that was read, if it is below a limit of at most 64 bits
+-- a number if it is below a limit, of at most 64 bits
 abbrev pub number_below : ℕ → Number → Option ℕ
 number_below limit (Small n) = if nat_lt n limit then Some n else None
 number_below limit Huge = None
 
--- a number, if it is below a limit
+-- a number if it is below a limit
 abbrev pub below : ℕ → ℕ → Option ℕ
 below limit n = if nat_lt n limit then Some n else None

@@ -10,7 +10,7 @@ uncommented line = before_first (λ b. b == 35) line
 abbrev pub is_space : ℕ → Bool
 is_space b = (b == 32) || (b == 9)
 
--- a word has a byte
+-- a word is not empty
 abbrev pub is_nonempty : List ℕ → Bool
 is_nonempty word = not (length word == 0)
 

@@ -1,4 +1,4 @@
-//! The calls that a script can ask for.
+//! The calls of a script.
 ghost use Rattle.std.specs.Prelude.{◌≡◌, ◌≤◌, map};
 ghost use Rattle.gt_script_lines.specs.Calls.{page_of, sub_of, via_of, entry_of_kind, grant_of, map_of, unmap_of, load_of};
 ghost use Rattle.gt_script_lines.specs.Calls.{store_of, peek_of, poke_of, copy_end_of, grant_flag, copy_of, grant_bytes_of};
@@ -13,110 +13,108 @@ use crate::texts::Text;
 use gt_entry::Entry;
 use gt_types::{CopyArgs, DomId, End, GrantRef};
 
-/// The flag of a copy whose source is given by a grant reference: `GNTCOPY_source_gref` of the public header
-/// `grant_table.h`.
+/// The flag of a copy whose source is a grant reference: `GNTCOPY_source_gref` of `grant_table.h`.
 const SOURCE_GREF: u16 = 1;
 
-/// The flag of a copy whose destination is given by a grant reference: `GNTCOPY_dest_gref` of the same header.
+/// The flag of a copy whose destination is a grant reference: `GNTCOPY_dest_gref` of `grant_table.h`.
 const DEST_GREF: u16 = 2;
 
-/// A call as it is written. A domain written `self` is the number 32752. A label names the handle of the last map of
-/// that label.
+/// A call as it is written. A domain written `self` is the number 32752 (`DOMID_SELF` of `xen.h`). A label names the
+/// handle of the last map with that label.
 #[derive(Debug, Drop)]
 pub enum ScriptCall<'a> {
-    /// `grant REF page|sub|via ..`: any entry but the invalid one. In an entry the number of `self` is nobody's.
+    /// `grant REF page|sub|via ..`: publishes an entry, any but the invalid one. In an entry, 32752 names no domain.
     Grant {
         gref: GrantRef,
         entry: Entry,
     },
-    /// `bytes REF HEX`: the entry that these bytes spell, as `hex_bytes` reads them.
+    /// `bytes REF HEX`: publishes the entry that these bytes encode; `hex_bytes` decodes them.
     GrantBytes {
         gref: GrantRef,
         hex: Text<'a>,
     },
-    /// `revoke REF`
+    /// `revoke REF`: makes the entry invalid, if no pin on it is live.
     Revoke {
         gref: GrantRef,
     },
-    /// `withdraw REF`
+    /// `withdraw REF`: makes the entry invalid, and leaves its pins.
     Withdraw {
         gref: GrantRef,
     },
-    /// `demote REF`
+    /// `demote REF`: makes the entry read-only.
     Demote {
         gref: GrantRef,
     },
-    /// `promote REF`
+    /// `promote REF`: makes the entry writable.
     Promote {
         gref: GrantRef,
     },
-    /// `map LABEL DOM REF FLAGS`: the label names the handle that it answers.
+    /// `map LABEL DOM REF FLAGS`: maps, with GNTMAP flags; the label names the handle that the call returns.
     Map {
         label: Text<'a>,
         dom: DomId,
         gref: GrantRef,
         flags: u32,
     },
-    /// `unmap LABEL`
+    /// `unmap LABEL`: ends the mapping.
     Unmap {
         label: Text<'a>,
     },
-    /// `load LABEL OFF LEN`
+    /// `load LABEL OFF LEN`: reads LEN bytes through the mapping, starting at offset OFF.
     Load {
         label: Text<'a>,
         off: u16,
         len: u16,
     },
-    /// `store LABEL OFF HEX`: the bytes, as `hex_bytes` reads them, from `off` on.
+    /// `store LABEL OFF HEX`: writes the bytes, which `hex_bytes` decodes, through the mapping.
     Store {
         label: Text<'a>,
         off: u16,
         hex: Text<'a>,
     },
-    /// `peek FRAME OFF LEN`: of a frame of the caller's own, by its number.
+    /// `peek FRAME OFF LEN`: reads LEN bytes of a frame of the caller.
     Peek {
         frame: u64,
         off: u16,
         len: u16,
     },
-    /// `poke FRAME OFF HEX`: to a frame of the caller's own, the bytes as `hex_bytes` reads them.
+    /// `poke FRAME OFF HEX`: writes the bytes, which `hex_bytes` decodes, to a frame of the caller.
     Poke {
         frame: u64,
         off: u16,
         hex: Text<'a>,
     },
-    /// `copy END END LEN`: `len` bytes from the source, which comes first, to the destination. An end is
-    /// `gref DOM REF OFF`, of what the entry of the domain's table grants, or `frame DOM FRAME OFF`, of a frame of the
-    /// domain's own.
+    /// `copy END END LEN`: copies `len` bytes from the first end, the source, to the second. An end is
+    /// `gref DOM REF OFF`, what an entry of the domain grants, or `frame DOM FRAME OFF`, a frame of the domain.
     Copy(CopyArgs),
-    /// `version V`: any number of 32 bits, also one of no version.
+    /// `version V`: sets the version of the caller's table, to any number of 32 bits.
     SetVersion {
         version: u32,
     },
-    /// `setup N`
+    /// `setup N`: lets the caller's table grow to N frames.
     SetupTable {
         frames: u32,
     },
-    /// `size DOM`
+    /// `size DOM`: asks for the number of frames of the domain's table, and for its maximum.
     QuerySize {
         dom: DomId,
     },
-    /// `getversion DOM`
+    /// `getversion DOM`: asks for the version of the domain's table.
     GetVersion {
         dom: DomId,
     },
 }
 
-/// What a line of the body asks of its domain.
+/// An action of a line of the body.
 #[derive(Debug, Drop)]
 pub enum ScriptAction<'a> {
-    /// `do ID CALL`: the call from its beginning to its answer.
+    /// `do ID CALL`: makes the call from its beginning to its answer.
     Do(ScriptCall<'a>),
-    /// `begin ID CALL`: only the beginning of the call.
+    /// `begin ID CALL`: begins the call.
     Begin(ScriptCall<'a>),
-    /// `tick ID N`: up to N steps, from 1 to 100,000, of the call that the domain has open.
+    /// `tick ID N`: makes up to N steps, 1 to 100,000, of the open call of the domain.
     Tick(u32),
-    /// `show ID REF`: a line on the entry with this reference, which changes nothing.
+    /// `show ID REF`: prints a line about the entry, and changes nothing.
     Show(GrantRef),
 }
 
@@ -305,7 +303,6 @@ fn read_end(kind: &[u8], dom: &[u8], place: &[u8], off: &[u8]) -> Option<End>
     }
 }
 
-// The flag, if the end is given by a grant reference.
 #[tactic(auto, unfolding(crate::specs::Calls::grant_flag))]
 fn grant_flag(kind: &[u8], flag: u16) -> u16
     ensures is { result ≡ grant_flag kind.now flag }
@@ -339,7 +336,7 @@ fn read_copy<'a>(args: &[&'a [u8]]) -> Option<ScriptCall<'a>>
     }
 }
 
-// Only a reference.
+// Reads a reference, if it is the only word.
 #[tactic(auto, unfolding(crate::specs::Calls::only_reference))]
 fn only_reference(args: &[&[u8]]) -> Option<GrantRef>
     ensures { result ≡ only_reference (map (λ word. word.now) args.now) }
@@ -350,7 +347,7 @@ fn only_reference(args: &[&[u8]]) -> Option<GrantRef>
     }
 }
 
-// Only a number of 32 bits.
+// Reads a number of 32 bits, if it is the only word.
 #[tactic(auto, unfolding(crate::specs::Calls::only_number))]
 fn only_number(args: &[&[u8]]) -> Option<u32>
     ensures { result ≡ only_number (map (λ word. word.now) args.now) }
@@ -361,7 +358,7 @@ fn only_number(args: &[&[u8]]) -> Option<u32>
     }
 }
 
-// Only a domain.
+// Reads a domain, if it is the only word.
 #[tactic(auto, unfolding(crate::specs::Calls::only_domain))]
 fn only_domain(args: &[&[u8]]) -> Option<DomId>
     ensures { result ≡ only_domain (map (λ word. word.now) args.now) }
@@ -372,7 +369,7 @@ fn only_domain(args: &[&[u8]]) -> Option<DomId>
     }
 }
 
-// A call on a table: its entries, its version or its size.
+// Reads a call on a table: on its entries, its version or its size.
 #[tactic(auto, unfolding(crate::specs::Calls::table_of))]
 fn read_table_call<'a>(word: &[u8], args: &[&'a [u8]]) -> Option<ScriptCall<'a>>
     ensures { result ≡ table_of word.now (map (λ word. word.now) args.now) }
@@ -418,7 +415,7 @@ fn read_table_call<'a>(word: &[u8], args: &[&'a [u8]]) -> Option<ScriptCall<'a>>
     }
 }
 
-// A call on a mapping, or one that reaches bytes.
+// Reads a call on a mapping, or one that reads or writes bytes.
 #[tactic(auto, unfolding(crate::specs::Calls::access_of))]
 fn read_access_call<'a>(word: &[u8], args: &[&'a [u8]]) -> Option<ScriptCall<'a>>
     ensures { result ≡ access_of word.now (map (λ word. word.now) args.now) }
@@ -463,7 +460,7 @@ fn read_tick<'a>(args: &[&'a [u8]]) -> Option<ScriptAction<'a>>
     }
 }
 
-/// What a body line's first word says together with the words after its domain.
+/// Reads an action by the first word of a line and the words after its domain; None if they are not one.
 #[tactic(auto, unfolding(crate::specs::Calls::action_of))]
 pub fn read_action<'a>(word: &[u8], args: &[&'a [u8]]) -> Option<ScriptAction<'a>>
     ensures { result ≡ action_of word.now (map (λ word. word.now) args.now) }

@@ -1,4 +1,4 @@
-//! What one word says: a number in its range, a domain, a mode, a permission, a name.
+//! Single words: numbers in their ranges, domains, modes, labels, names.
 ghost use Rattle.std.specs.Prelude.{◌≡◌, map};
 ghost use Rattle.std.specs.Option.{option_map};
 ghost use Rattle.std.specs.Str.{bytes_eq};
@@ -11,19 +11,19 @@ use crate::numbers::{Number, decimal};
 use crate::texts::Text;
 use gt_types::{DOMID_SELF, DomId, GrantRef, LAST_GENERATION};
 
-/// The flag of a map for access by processors: `GNTMAP_host_map` of the public header `grant_table.h`.
+/// The flag of a map for access by processors: `GNTMAP_host_map` of `grant_table.h`.
 const HOST_MAP: u32 = 2;
 
-/// The flag of a map that only reads: `GNTMAP_readonly` of the same header.
+/// The flag of a map that only reads: `GNTMAP_readonly` of `grant_table.h`.
 const READONLY: u32 = 4;
 
-/// The most characters of a label after its first.
+/// The maximum number of characters of a label after its first.
 const MAX_LABEL_TAIL: usize = 31;
 
-/// The most steps that a tick may ask for; the least is one.
+/// The maximum number of steps of a tick. The minimum is 1.
 const MOST_TICKS: u64 = 100_000;
 
-/// A number below 2^16.
+/// Reads a number below 2^16.
 #[tactic(auto, unfolding(crate::specs::Fields::u16_word, crate::specs::Numbers::decimal_number))]
 pub fn u16_of(word: &[u8]) -> Option<u16>
     ensures { result ≡ u16_word word.now }
@@ -34,7 +34,7 @@ pub fn u16_of(word: &[u8]) -> Option<u16>
     }
 }
 
-/// A number below 2^32.
+/// Reads a number below 2^32.
 #[tactic(auto, unfolding(crate::specs::Fields::u32_word, crate::specs::Numbers::decimal_number))]
 pub fn u32_of(word: &[u8]) -> Option<u32>
     ensures { result ≡ u32_word word.now }
@@ -45,7 +45,7 @@ pub fn u32_of(word: &[u8]) -> Option<u32>
     }
 }
 
-/// A number below 2^64.
+/// Reads a number below 2^64.
 #[tactic(auto, unfolding(crate::specs::Fields::u64_word, crate::specs::Numbers::decimal_number))]
 pub fn u64_of(word: &[u8]) -> Option<u64>
     ensures { result ≡ u64_word word.now }
@@ -56,7 +56,7 @@ pub fn u64_of(word: &[u8]) -> Option<u64>
     }
 }
 
-/// A grant reference, below 2^32.
+/// Reads a grant reference, a number below 2^32.
 #[tactic(auto, unfolding(crate::specs::Fields::reference_word))]
 pub fn reference(word: &[u8]) -> Option<GrantRef>
     ensures { result ≡ reference_word word.now }
@@ -64,7 +64,7 @@ pub fn reference(word: &[u8]) -> Option<GrantRef>
     Some(GrantRef(u32_of(word)?))
 }
 
-/// A domain by its number, or `self`.
+/// Reads the number of a domain, below 2^16, or `self`, which is 32752 (`DOMID_SELF` of `xen.h`).
 #[tactic(auto, unfolding(crate::specs::Fields::domain_word))]
 pub fn domain(word: &[u8]) -> Option<DomId>
     ensures { result ≡ domain_word word.now }
@@ -75,7 +75,7 @@ pub fn domain(word: &[u8]) -> Option<DomId>
     }
 }
 
-/// `rw` or `ro`: whether it is read-only.
+/// Reads a mode: false for `rw`, true for `ro`.
 #[tactic(auto, unfolding(crate::specs::Fields::mode_word))]
 pub fn mode(word: &[u8]) -> Option<bool>
     ensures { result ≡ mode_word word.now }
@@ -87,7 +87,7 @@ pub fn mode(word: &[u8]) -> Option<bool>
     }
 }
 
-/// The flags of a map: a number, or `rw` for host_map and `ro` for host_map with readonly.
+/// Reads the flags of a map: a number, `rw` for `GNTMAP_host_map`, or `ro` for that with `GNTMAP_readonly`.
 #[tactic(auto, unfolding(crate::specs::Fields::flags_word))]
 pub fn flags(word: &[u8]) -> Option<u32>
     ensures { result ≡ flags_word word.now }
@@ -99,7 +99,7 @@ pub fn flags(word: &[u8]) -> Option<u32>
     }
 }
 
-/// The steps of a tick: 1 to 100,000.
+/// Reads the number of steps of a tick: 1 to 100,000.
 #[tactic(auto, unfolding(crate::specs::Fields::tick_word, crate::specs::Numbers::decimal_number))]
 pub fn tick_count(word: &[u8]) -> Option<u32>
     ensures { result ≡ tick_word word.now }
@@ -110,7 +110,7 @@ pub fn tick_count(word: &[u8]) -> Option<u32>
     }
 }
 
-/// A generation of an entry: 0 to 1,048,575.
+/// Reads a generation of an entry: 0 to 1,048,575.
 #[tactic(auto, unfolding(crate::specs::Fields::generation_word, crate::specs::Numbers::decimal_number))]
 pub fn generation(word: &[u8]) -> Option<u32>
     ensures { result ≡ generation_word word.now }
@@ -121,7 +121,7 @@ pub fn generation(word: &[u8]) -> Option<u32>
     }
 }
 
-/// Whether the word is this text.
+/// Returns whether the word is this text.
 pub fn is_word(word: &[u8], text: &str) -> bool
     ensures { result ≡ bytes_eq word.now text.now }
 {
@@ -174,7 +174,7 @@ fn is_label(word: &[u8]) -> bool
     }
 }
 
-/// A label: a letter, and at most 31 letters, digits or `_`.
+/// Reads a label: a letter, then at most 31 letters, digits or `_`.
 pub fn label<'a>(word: &'a [u8]) -> Option<Text<'a>>
     ensures { result ≡ text_where label_word word.entry.now }
 {
@@ -185,7 +185,7 @@ pub fn label<'a>(word: &'a [u8]) -> Option<Text<'a>>
     }
 }
 
-/// A name as the policy language has them: a letter, then letters, digits, `_`, `-` or `.`.
+/// Reads a name: a letter, then letters, digits, `_`, `-` or `.` (SELinux policy language).
 pub fn name<'a>(word: &'a [u8]) -> Option<Text<'a>>
     ensures { result ≡ text_where name_word word.entry.now }
 {
@@ -196,7 +196,7 @@ pub fn name<'a>(word: &'a [u8]) -> Option<Text<'a>>
     }
 }
 
-// What comes before the first colon, and what comes after it.
+// Splits a word at its first colon.
 #[tactic(auto, unfolding(crate::specs::Fields::at_colon))]
 fn split_at_colon<'a>(word: &'a [u8]) -> Option<(&'a [u8], &'a [u8])>
     ensures { option_map (λ parts. (parts.0.now, parts.1.now)) result ≡ at_colon word.entry.now }
@@ -209,7 +209,7 @@ fn split_at_colon<'a>(word: &'a [u8]) -> Option<(&'a [u8], &'a [u8])>
     None
 }
 
-/// The type of a label `user:role:type`, of which each part is a name.
+/// Reads a label `user:role:type` of three names, and returns the type (SELinux policy language).
 #[tactic(auto, unfolding(crate::specs::Fields::type_word))]
 pub fn label_type<'a>(word: &'a [u8]) -> Option<Text<'a>>
     ensures { result ≡ type_word word.entry.now }

@@ -1,4 +1,4 @@
-//! Bytes written as hexadecimal text.
+//! Bytes as hexadecimal text.
 ghost use Rattle.std.specs.Prelude.{◌≡◌, IfOk};
 ghost use Rattle.std.specs.Char.{is_ascii_hexdigit};
 ghost use Rattle.std.specs.List.{list_all};
@@ -10,7 +10,7 @@ use crate::texts::Text;
 use hex::FromHexError;
 use std::alloc::{AllocError, Global};
 
-/// The most digits that a text may have.
+/// The maximum number of digits of a text: those of the bytes of one frame.
 const MOST_DIGITS: usize = 8_192;
 
 fn are_digits(word: &[u8]) -> bool
@@ -26,7 +26,7 @@ fn is_hex(word: &[u8]) -> bool
     is_word(word, "-") || word.len() % 2 == 0 && word.len() <= MOST_DIGITS && are_digits(word)
 }
 
-/// Hexadecimal text: an even number of digits of either case, at most 8,192, or `-`.
+/// Reads hexadecimal text: an even number of digits of either case, at most 8,192, or `-`.
 pub(crate) fn hex_text<'a>(word: &'a [u8]) -> Option<Text<'a>>
     ensures { result ≡ text_where hex_word word.entry.now }
 {
@@ -37,8 +37,8 @@ pub(crate) fn hex_text<'a>(word: &'a [u8]) -> Option<Text<'a>>
     }
 }
 
-/// The bytes that hexadecimal text says, two digits for each: none for `-`, and none for a text
-/// that is no hexadecimal text.
+/// Decodes hexadecimal text, two digits for each byte. The result is empty for `-`, and for a text that is not
+/// hexadecimal.
 #[tactic(auto, unfolding(crate::specs::Hexadecimal::hex_bytes))]
 pub fn hex_bytes(alloc: Global, text: &Text) -> Result<Vec<u8>, AllocError>
     ensures { IfOk result (λ bytes. bytes.items ≡ bytes_in text.now) }

@@ -1,8 +1,8 @@
-//! Laws of what words say.
+//! A law about hexadecimal text.
 ghost use Rattle.std.specs.Prelude.{ℕ, List};
 ghost use Rattle.gt_script_lines.specs.Hexadecimal.{SaysItsBytes};
 
-/// A law: each hexadecimal text but `-` is decoded as a whole, and says the bytes that its digits spell.
+/// A law: each hexadecimal text but `-` is decoded as a whole, to the bytes that its digits encode.
 #[tactic(auto, using(crate::proofs::HexadecimalLemmas::says_its_bytes))]
 pub fn every_hex_text_says_its_bytes()
     ensures { (word : List ℕ) → SaysItsBytes word }

@@ -1,13 +1,13 @@
-//! What one line of a script says.
+//! The lines of a script, one by one.
 //!
-//! A text is parted into lines and a line into words. `read_line` answers what the words say: a triple, a first
-//! generation, a domain, or what a line of the body asks of its domain. That is an action, or that the domain raises or
-//! awaits a flag. Names, labels and hexadecimal texts are borrowed from the script's bytes, so reading a line takes no
-//! memory but for the list of its words.
+//! `text_lines` splits a text into its lines, and `line_words` a line into its words. `read_line` returns what the
+//! words mean: a triple, a first generation, a domain, or a line of the body, which is an action of its domain or
+//! concerns a flag. Names, labels and hexadecimal texts borrow the bytes of the script, so reading a line allocates
+//! only the list of its words.
 //!
-//! What the words mean is defined by patterns on them, in `specs/`, word by word; each function here answers exactly
-//! that. Whether a line is in its place is not judged here. The crate uses `gt_types` and `gt_entry`,
-//! whose names, numbers and entries the words spell, and `hex`.
+//! The meaning of the words is defined in `specs/` by patterns on them, and it is proved that each function returns
+//! exactly that. `gt_script` checks whether a line may be where it is. The crate uses `gt_types` and `gt_entry` (the
+//! names, numbers and entries that the words give) and `hex`.
 #![tactic(auto)]
 
 mod calls;

@@ -1,4 +1,4 @@
-//! What the words of a line say.
+//! The meaning of a line.
 ghost use Rattle.std.specs.Prelude.{◌≡◌, map};
 ghost use Rattle.gt_script_lines.specs.Lines.{triple_of, wear_of, domain_line_of, body_line_of, body_of, line_of};
 
@@ -9,7 +9,7 @@ use crate::signals::{FlagLine, is_signal_word, read_signal};
 use crate::texts::Text;
 use gt_types::Perms;
 
-/// `triple SOURCE TARGET PERMISSION`
+/// `triple SOURCE TARGET PERMISSION`: the source type has the permission on the target type.
 #[derive(Debug, Drop)]
 pub struct TripleLine<'a> {
     pub source: Text<'a>,
@@ -27,7 +27,7 @@ pub struct DomainLine<'a> {
     pub version: Number,
 }
 
-/// What a line of the body asks of its domain.
+/// A line of the body, after its domain.
 #[derive(Debug, Drop)]
 pub enum BodyLine<'a> {
     /// `do`, `begin`, `tick` or `show`.
@@ -36,14 +36,14 @@ pub enum BodyLine<'a> {
     Signal(FlagLine<'a>),
 }
 
-/// A line of a script, with what its words say.
+/// A line of a script.
 #[derive(Debug, Drop)]
 pub enum ScriptLine<'a> {
     Triple(TripleLine<'a>),
     /// `wear N`: the first generation of all entries.
     Wear(u32),
     Domain(DomainLine<'a>),
-    /// A line of the body: its domain, by a number of any size, and what it asks.
+    /// A line of the body: its domain, by a number of any size, and the rest.
     Body { id: Number, asks: BodyLine<'a> },
 }
 
@@ -111,7 +111,7 @@ fn read_body<'a>(word: &[u8], args: &[&'a [u8]]) -> Option<ScriptLine<'a>>
     }
 }
 
-/// What the words of a line say, if they are those of some line of a script.
+/// Reads a line of a script; None if the words are not one.
 pub fn read_line<'a>(words: &[&'a [u8]]) -> Option<ScriptLine<'a>>
     ensures { result ≡ line_of (map (λ word. word.now) words.now) }
 {

@@ -1,8 +1,8 @@
-//! What a word says as a number.
+//! Decimal numbers.
 ghost use Rattle.std.specs.Prelude.{◌≡◌, ℕ, ◌<◌, ◌+◌, ◌*◌};
 ghost use Rattle.gt_script_lines.specs.Numbers.{number_of, decimal_number, number_below, below as value_below};
 
-/// A decimal number of any size: exact, or that it has more than 64 bits.
+/// A decimal number of any size: exact if it is below 2^64, or only known to be at least that.
 #[derive(Clone, Copy, Debug, PartialEq, Eq)]
 pub enum Number {
     Small(u64),
@@ -26,7 +26,7 @@ impl Number {
         }
     }
 
-    /// The number, if it is below the limit.
+    /// Returns the number if it is below the limit.
     pub fn below(self, limit: u64) -> Option<u64>
         ensures number { result ≡ number_below limit self }
         ensures value { (n : ℕ) → self ≡ number_of n → result ≡ value_below limit n }
@@ -38,7 +38,7 @@ impl Number {
     }
 }
 
-/// The number that a word spells: one decimal digit or more, and nothing else.
+/// Reads a decimal number of one digit or more; None if there is another character.
 #[tactic(auto, unfolding(crate::specs::Numbers::decimal_number))]
 pub fn decimal(word: &[u8]) -> Option<Number>
     ensures { result ≡ decimal_number word.now }

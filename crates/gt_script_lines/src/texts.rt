@@ -4,7 +4,7 @@ ghost use Rattle.std.specs.Prelude.{◌≡◌};
 use std::convert::AsSlice;
 use std::marker::Model;
 
-/// A name, a label or hexadecimal text, in the script's own bytes: ASCII. A contract sees the bytes.
+/// A name, a label or hexadecimal text in ASCII, borrowed from the script. A contract sees the bytes.
 #[derive(Debug, Drop)]
 pub struct Text<'a> {
     bytes: &'a [u8],
@@ -19,14 +19,14 @@ impl<'a> Model for Text<'a> {
 }
 
 impl<'a> Text<'a> {
-    /// These bytes, as a piece of a script.
+    /// Makes a piece of these bytes.
     pub fn new(bytes: &'a [u8]) -> Text<'a>
         ensures { result ≡ bytes.entry.now }
     {
         Text { bytes }
     }
 
-    /// The text's bytes.
+    /// Returns the bytes of the piece.
     pub fn as_bytes(&self) -> &'a [u8]
         ensures { result.now ≡ self.now }
     {

@@ -6,7 +6,7 @@ ghost use Rattle.gt_script_lines.specs.Words.{is_nonempty as nonempty};
 
 use std::alloc::{AllocError, Global};
 
-/// The lines of a text: each ends with LF, and a CR before that is no part of it.
+/// Splits a text into lines at each LF, and drops a CR before it.
 pub fn text_lines<'a>(alloc: Global, text: &'a str) -> Result<Vec<&'a str>, AllocError>
     ensures { IfOk result (λ v. map (λ line. line.now) v.items ≡ lines_in text.entry.now) }
 {
@@ -34,7 +34,7 @@ fn is_nonempty(word: &[u8]) -> bool
     !word.is_empty()
 }
 
-/// The words of a line, parted by spaces and tabs.
+/// Splits a line into its words, at spaces and tabs, up to its comment.
 pub fn line_words<'a>(alloc: Global, line: &'a str) -> Result<Vec<&'a [u8]>, AllocError>
     ensures { IfOk result (λ v. map (λ word. word.now) v.items ≡ words_in line.entry.now) }
 {

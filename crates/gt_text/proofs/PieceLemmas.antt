@@ -9,7 +9,7 @@ use Rattle.std.specs.List.{flat_map}
 use Rattle.gt_text.specs.Laws.{appends_both, appends_nothing, begins_after, begins_longer}
 use Rattle.gt_text.specs.Streams.{AppendsBeginning, Sends}
 
--- a piece more
+-- one more piece
 pub piece_more : {X : Type 0} (f : X → List ℕ) (xs : List X) (i : ℕ) (e : X) (start : List ℕ) → i < length xs → (start ++ flat_map f (take i xs)) ++ f (get_or xs i e) ≡ start ++ flat_map f (take (i + 1) xs)
 piece_more {X = X} f xs i e start within =
     let first : take (i + 1) xs ≡ take i xs ++ get_or xs i e ∷ [] = rw add-one (take-suc xs i e within) in
@@ -30,7 +30,7 @@ split_pieces {X = X} f xs i start =
 
 -- what went out
 
--- of the first pieces a beginning went out, and so of all
+-- of the first pieces a prefix went out, and so of all
 pub begins_pieces : {X : Type 0} (f : X → List ℕ) (xs : List X) (i : ℕ) (start : List ℕ) (a c : Option (List ℕ)) → AppendsBeginning a c (start ++ flat_map f (take i xs)) → AppendsBeginning a c (start ++ flat_map f xs)
 begins_pieces f xs i start a c h =
     subst (λ (l : List ℕ). AppendsBeginning a c l) (split_pieces f xs i start) (begins_longer a c (start ++ flat_map f (take i xs)) (flat_map f (drop i xs)) h)
@@ -44,17 +44,17 @@ pub sends_more : (a b c : Option (List ℕ)) (text waiting more rest : List ℕ)
 sends_more a b c text waiting more rest (sent, split, went) (next, parts, goes) =
     (sent ++ next, ap (λ (l : List ℕ). l ++ more) split ∙ append_assoc sent waiting more ∙ ap (λ (l : List ℕ). sent ++ l) parts ∙ sym (append_assoc sent next rest), appends_both a b c sent next went goes)
 
--- the same, and of what waits a beginning goes out
+-- the same, and of what waits a prefix goes out
 pub begins_more : (a b c : Option (List ℕ)) (text waiting more : List ℕ) → Sends a b text waiting → AppendsBeginning b c (waiting ++ more) → AppendsBeginning a c (text ++ more)
 begins_more a b c text waiting more (sent, split, went) h =
     subst (λ (l : List ℕ). AppendsBeginning a c l) (sym (append_assoc sent waiting more) ∙ ap (λ (l : List ℕ). l ++ more) (sym split)) (begins_after a b c sent (waiting ++ more) went h)
 
--- what went out is a beginning
+-- what went out is a prefix
 pub has_begun : (a b : Option (List ℕ)) (text waiting : List ℕ) → Sends a b text waiting → AppendsBeginning a b text
 has_begun a b text waiting (sent, split, went) =
     subst (λ (l : List ℕ). AppendsBeginning a b l) (sym split) (begins_longer a b sent waiting (length sent, omega arith, subst (λ (l : List ℕ). Appends a b l) (sym (take-length sent)) went))
 
--- what waits goes out, all of it or a beginning
+-- what waits goes out, all of it or a prefix
 pub sends_all : (a b c : Option (List ℕ)) (text waiting : List ℕ) → Sends a b text waiting → Appends b c waiting → Appends a c text
 sends_all a b c text waiting (sent, split, went) h = subst (λ (l : List ℕ). Appends a c l) (sym split) (appends_both a b c sent waiting went h)
 
@@ -68,7 +68,7 @@ step_sent f xs i e start w more given rest a b c within is so_far added goes =
     let next : Sends b c (w ++ f (get_or xs i e)) rest = subst (λ (l : List ℕ). Sends b c l rest) (added ∙ ap (λ (l : List ℕ). w ++ l) is) goes in
     subst (λ (l : List ℕ). Sends a c l rest) (piece_more f xs i e start within) (sends_more a b c (start ++ flat_map f (take i xs)) w (f (get_or xs i e)) rest so_far next)
 
--- the same, of which a beginning goes out
+-- the same, of which a prefix goes out
 pub step_begun : {X : Type 0} (f : X → List ℕ) (xs : List X) (i : ℕ) (e : X) (start w more given : List ℕ) (a b c : Option (List ℕ)) → i < length xs → more ≡ f (get_or xs i e)
     → Sends a b (start ++ flat_map f (take i xs)) w → given ≡ w ++ more → AppendsBeginning b c given → AppendsBeginning a c (start ++ flat_map f xs)
 step_begun f xs i e start w more given a b c within is so_far added goes =

@@ -9,11 +9,11 @@ use Rattle.gt_types.specs.declared.TypeId.{TypeId}
 use Rattle.gt_text.specs.Printing.{type_text}
 use Rattle.gt_text.specs.Texts.{StaysText, AreTexts}
 
--- a text behind a text is a text
+-- a text after a text is a text
 pub text_appended : (new old text : List ℕ) → new ≡ old ++ text → IsUtf8 text → StaysText old new
 text_appended new old text is whole before = subst IsUtf8 (sym is) (IsUtf8-append old text before whole)
 
--- a type's name is a text where all names are
+-- a type's name is a text if all names are
 pub type_is_text : {N : Type 0} (bytes : N → List ℕ) (names : List N) (t : TypeId) → AreTexts bytes names → IsUtf8 (type_text bytes names t)
 type_is_text bytes names t all = at_place bytes names t.0 all
   where

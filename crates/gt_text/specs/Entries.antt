@@ -5,20 +5,20 @@ use Rattle.gt_types.specs.declared.DomId.{DomId}
 use Rattle.gt_entry.specs.declared.entry.Entry.{Entry}
 use Rattle.gt_entry.specs.declared.entry.Entry.TheVariants as entries
 
--- whether the entry is only for reading, as in a grant of a script
+-- the mode of an entry, as a script writes it
 abbrev pub mode_text : Bool → List ℕ
 mode_text true = codes "ro"
 mode_text false = codes "rw"
 
--- `KIND DOM MODE`: the kind of the entry, the domain that it names, and its mode
+-- `KIND DOM MODE`
 abbrev pub entry_kind_text : List ℕ → DomId → Bool → List ℕ
 entry_kind_text kind dom ro = kind ++ codes " " ++ decimal dom.0 ++ codes " " ++ mode_text ro
 
--- the range of a sub-page
+-- the range of a sub-page, in bytes
 abbrev pub range_text : ℕ → ℕ → List ℕ
 range_text off len = part_text (codes "off") off ++ part_text (codes "len") len
 
--- an entry, as a line `show` of a script prints it
+-- an entry, as a script's `show` prints it
 abbrev pub entry_text : Entry → List ℕ
 entry_text entries.Invalid = codes "invalid"
 entry_text (entries.Page dom ro frame) = entry_kind_text (codes "page") dom ro ++ part_text (codes "frame") frame

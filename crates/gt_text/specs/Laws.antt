@@ -1,4 +1,4 @@
--- What writes come to, one after the other.
+-- Successive writes, and the input of a reader that promises no bytes.
 use Rattle.std.proofs.Common.{◌≡◌, ◌≤◌, IfSome, ℕ, ◌+◌, List, [], ◌++◌, length, take, Option, None, Some, Result, Ok}
 use Rattle.std.proofs.Common.{Err, min, refl, ap, sym, subst, ◌∙◌, append_assoc, length-append, arith}
 use Rattle.std.proofs.Math.Seq.{take-append-add}
@@ -23,7 +23,7 @@ appends_both (Some x) None c xs ys p q = absurd p
 appends_both (Some x) (Some y) None xs ys p q = absurd q
 appends_both (Some x) (Some y) (Some z) xs ys p q = q ∙ ap (λ (l : List ℕ). l ++ ys) p ∙ append_assoc x xs ys
 
--- a text went out, and then a beginning of another
+-- a text went out, and then a prefix of another
 pub begins_after : (a b c : Option (List ℕ)) (xs ys : List ℕ) → Appends a b xs → AppendsBeginning b c ys
     → AppendsBeginning a c (xs ++ ys)
 begins_after a b c xs ys p (n, few, q) = (
@@ -32,7 +32,7 @@ begins_after a b c xs ys p (n, few, q) = (
   subst (λ (l : List ℕ). Appends a c l) (sym (take-append-add xs ys n)) (appends_both a b c xs (take n ys) p q),
 )
 
--- a beginning of a text is one of a longer text
+-- a prefix of a text is one of a longer text
 pub begins_longer : (a c : Option (List ℕ)) (xs ys : List ℕ) → AppendsBeginning a c xs → AppendsBeginning a c (xs ++ ys)
 begins_longer a c xs ys (n, few, q) = (
   n,
@@ -40,19 +40,19 @@ begins_longer a c xs ys (n, few, q) = (
   subst (λ (l : List ℕ). Appends a c l) (sym (take-append-le n xs ys few)) q,
 )
 
--- what holds of all bytes that begin with those that were read holds of the input
+-- what holds of all inputs that begin with the bytes that were read holds of the input
 pub of_input : (known : Option (List ℕ)) (bytes : List ℕ) (P : List ℕ → Type 0) → length bytes ≤ 1048577
     → IfSome known (λ all. bytes ≡ take 1048577 all)
     → ((all : List ℕ) → bytes ≡ take 1048577 all → P all) → OfInput known P
 of_input None bytes P few e h = (bytes, few, h bytes (sym (take_all 1048577 bytes few)))
 of_input (Some all) bytes P few e h = h all e
 
--- what holds of all bytes holds of the input
+-- what holds of all inputs holds of the input
 pub of_any_input : (known : Option (List ℕ)) (P : List ℕ → Type 0) → ((all : List ℕ) → P all) → OfInput known P
 of_any_input None P h = ([], omega arith, h [])
 of_any_input (Some all) P h = h all
 
--- a front with no more than n elements, of n + 1 that were asked for, is the whole
+-- if at most n elements came when n + 1 were asked for, they are the whole list
 pub take_whole : (n : ℕ) (xs : List ℕ) → length (take (n + 1) xs) ≤ n → take (n + 1) xs ≡ xs
 take_whole n xs h =
     let few : min (n + 1) (length xs) ≤ n = subst (λ (k : ℕ). k ≤ n) (length-take (n + 1) xs) h in

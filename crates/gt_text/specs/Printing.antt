@@ -1,4 +1,4 @@
--- What answers print.
+-- The texts of types, refusals and values.
 use Rattle.std.specs.Prelude.{ℕ, List, [], ◌++◌, codes, decimal, slice_get}
 use Rattle.std.specs.Option.{option_map_or}
 use Rattle.std.specs.Fmt.{signed_decimal}
@@ -10,11 +10,11 @@ use Rattle.gt_types.specs.declared.denial.Facts.{Facts}
 use Rattle.gt_types.specs.declared.denial.Facts.TheVariants as facts
 use Rattle.gt_types.specs.declared.denial.Denial.{Denial}
 
--- a type by its name: the one at its number
+-- the name of a type: the one at its index, or nothing if the index is out of range
 abbrev pub type_text : {N : Type 0} → (N → List ℕ) → List N → TypeId → List ℕ
 type_text bytes names t = option_map_or bytes (slice_get names t.0) []
 
--- what a refusal rests on, if its line names that; `called` is what types are called
+-- the facts of a refusal, if its line prints them; `called` gives the names of types
 abbrev pub facts_text : (TypeId → List ℕ) → Facts → List ℕ
 facts_text called (facts.Policy source target perm) =
     codes " source=" ++ called source ++ codes " target=" ++ called target ++ codes " perm=" ++ permission_name perm
@@ -23,7 +23,7 @@ facts_text called facts.None = []
 facts_text called (facts.Header dom word) = []
 facts_text called (facts.Entry dom gref word) = []
 
--- a refusal: its rule, its status, and what it rests on
+-- a refusal: its rule, its status and its facts
 abbrev pub denial_text : (TypeId → List ℕ) → Denial → List ℕ
 denial_text called d =
     rule_text d.rule ++ codes " " ++ signed_decimal (status_number d.status) ++ facts_text called d.facts
@@ -32,14 +32,14 @@ denial_text called d =
 abbrev pub part_text : List ℕ → ℕ → List ℕ
 part_text name n = codes " " ++ name ++ codes "=" ++ decimal n
 
--- the answer that is a number of frames
+-- the answer of a call that returns a number of frames
 abbrev pub frames_text : ℕ → List ℕ
 frames_text frames = codes "ok" ++ part_text (codes "frames") frames
 
--- the answer that is the size of a table
+-- the answer of a query of a table's size
 abbrev pub size_text : Size → List ℕ
 size_text size = frames_text size.frames ++ part_text (codes "max") size.max
 
--- the answer that is a version
+-- the answer of a call that returns a version
 abbrev pub version_text : ℕ → List ℕ
 version_text version = codes "ok" ++ part_text (codes "version") version

@@ -1,4 +1,4 @@
-//! Refusals.
+//! The texts of refusals and of the names of types.
 ghost use Rattle.std.specs.Prelude.{◌≡◌, ◌++◌, OnOk};
 ghost use Rattle.gt_text.specs.Printing.{type_text, facts_text, denial_text};
 ghost use Rattle.gt_text.specs.Texts.{StaysText, AreTexts};
@@ -9,7 +9,7 @@ use gt_types::{Denial, Facts, TypeId};
 use std::alloc::AllocError;
 use std::convert::AsSlice;
 
-// The name at a type's number: no bytes if there is none.
+// Returns the name at a type's index in `names`; empty if the index is out of range.
 fn name_of<'n, N: AsSlice<u8>>(names: &'n [N], id: TypeId) -> &'n [u8]
     ensures { result.now ≡ type_text N.items names.entry.now id }
 {
@@ -19,7 +19,7 @@ fn name_of<'n, N: AsSlice<u8>>(names: &'n [N], id: TypeId) -> &'n [u8]
     }
 }
 
-/// Appends the name of a type: the one at its number in `names`, and nothing if there is none.
+/// Appends the name of a type: the one at its index in `names`, or nothing if the index is out of range.
 pub fn push_type<N: AsSlice<u8>>(
     out: &mut Vec<u8>,
     names: &[N],
@@ -32,7 +32,6 @@ pub fn push_type<N: AsSlice<u8>>(
     Ok(())
 }
 
-// Appends a word and the name of a type.
 fn push_called<N: AsSlice<u8>>(
     out: &mut Vec<u8>,
     before: &str,
@@ -46,7 +45,7 @@ fn push_called<N: AsSlice<u8>>(
     push_type(out, names, id)
 }
 
-/// Appends what a refusal rests on, if its line names that. After an Err a part of it may be there.
+/// Appends the facts of a refusal, if its line prints them. After an Err, part of them may have been appended.
 pub fn push_facts<N: AsSlice<u8>>(
     out: &mut Vec<u8>,
     names: &[N],
@@ -74,7 +73,7 @@ pub fn push_facts<N: AsSlice<u8>>(
     }
 }
 
-/// Appends a refusal: its rule, its status, and what it rests on. After an Err a part of it may be there.
+/// Appends a refusal: its rule, its status and its facts. After an Err, part of it may have been appended.
 pub fn push_denial<N: AsSlice<u8>>(
     out: &mut Vec<u8>,
     names: &[N],

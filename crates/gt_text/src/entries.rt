@@ -1,4 +1,4 @@
-//! What answers print of an entry.
+//! The texts of entries.
 ghost use Rattle.std.specs.Prelude.{◌≡◌, ◌++◌, OnOk, codes};
 ghost use Rattle.gt_text.specs.Entries.{mode_text, entry_kind_text, range_text, entry_text};
 ghost use Rattle.gt_text.specs.Texts.{StaysText};
@@ -34,7 +34,7 @@ fn push_range(out: &mut Vec<u8>, off: u16, len: u16) -> Result<(), AllocError>
     push_part(out, "len", len)
 }
 
-/// Appends an entry, as a line `show` of a script prints it. After an Err a part of it may be there.
+/// Appends an entry, as a script's `show` prints it. After an Err, part of it may have been appended.
 pub fn push_entry(out: &mut Vec<u8>, entry: Entry) -> Result<(), AllocError>
     ensures text { OnOk result (out.new.items ≡ out.old.items ++ entry_text entry) }
     ensures stays { OnOk result (StaysText out.old.items out.new.items) }

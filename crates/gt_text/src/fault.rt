@@ -1,17 +1,17 @@
-//! Why bytes did not come in or go out.
+//! The errors of reads and writes.
 use std::error::Error;
 use std::fmt;
 
-/// Why a text was not read.
+/// The error of a read of a text.
 #[derive(Clone, Copy, Debug, PartialEq, Eq)]
 pub enum ReadFault {
-    /// Memory was refused.
+    /// An allocation failed.
     Memory,
     /// A read failed.
     Read,
 }
 
-/// A write failed, or took no byte.
+/// The error of a write: it failed, or it took no byte.
 #[derive(Clone, Copy, Debug, PartialEq, Eq)]
 pub struct WriteFault;
 

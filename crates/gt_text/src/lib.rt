@@ -1,13 +1,13 @@
 //! Texts: read whole, written in lines, and made of what answers print.
 //!
-//! A text is read up to a limit that is one byte past the longest text, so that what was read shows whether there is
-//! more. Lines are buffered until there are enough of them for a write, and a writer that takes a part is given the
-//! rest. Answers and audit lines end in the same words: entries, names of types, refusals, and the values of calls.
+//! A read stops one byte beyond the longest text, so that its length shows whether there was more. Lines are
+//! buffered until there are enough of them for a write, and a writer that takes a part is given the rest. Answers and
+//! audit lines end in the same words: entries, names of types, refusals, and the values of calls.
 //!
 //! What holds over any reader and writer: what was read is what the reader had left, or its first bytes, and the reader
 //! has lost no more than those. What went out is at all times a prefix of the text, and all of it if a call returns Ok.
-//! An error tells whether an allocation, a read or a write failed. Each `push_` function appends exactly its text, for
-//! any names, facts and numbers, and bytes that were UTF-8 stay UTF-8; if an allocation fails, a prefix may be there.
+//! An error gives the cause: an allocation, a read or a write failed. Each `push_` function appends exactly its text,
+//! for any names, facts and numbers, and bytes that were UTF-8 stay UTF-8.
 //!
 //! It uses `gt_types` (the names of rules, fields and permissions), `gt_entry` (entries) and `itoa` (numbers).
 #![tactic(auto)]

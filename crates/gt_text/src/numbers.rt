@@ -1,4 +1,4 @@
-//! Numbers, and parts of a line that have one.
+//! Numbers, and the parts ` NAME=NUMBER` of a line.
 ghost use Rattle.std.specs.Prelude.{◌≡◌, ◌++◌, OnOk, codes};
 ghost use Rattle.gt_text.specs.Texts.{StaysText};
 
@@ -6,7 +6,7 @@ use crate::text::push_text;
 use itoa::{Buffer, Integer};
 use std::alloc::AllocError;
 
-/// Appends a number, in decimal digits.
+/// Appends a number in decimal digits.
 pub fn push_number<I: Integer>(out: &mut Vec<u8>, number: I) -> Result<(), AllocError>
     ensures text { OnOk result (out.new.items ≡ out.old.items ++ I.text number) }
     ensures stays { OnOk result (StaysText out.old.items out.new.items) }
@@ -15,7 +15,7 @@ pub fn push_number<I: Integer>(out: &mut Vec<u8>, number: I) -> Result<(), Alloc
     push_text(out, buffer.format(number))
 }
 
-/// Appends ` NAME=NUMBER`. After an Err a part of it may be there.
+/// Appends ` NAME=NUMBER`. After an Err, part of it may have been appended.
 pub fn push_part<I: Integer>(out: &mut Vec<u8>, name: &str, number: I) -> Result<(), AllocError>
     ensures text { OnOk result (out.new.items ≡ out.old.items
         ++ codes " " ++ name.now ++ codes "=" ++ I.text number) }

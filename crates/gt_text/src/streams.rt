@@ -1,4 +1,4 @@
-//! A whole text in, and lines out.
+//! Whole texts from a reader, and lines to a writer.
 ghost use Rattle.std.specs.Prelude.{◌≡◌, ◌+◌, ◌-◌, ◌<◌, ◌≤◌, OnOk, OnErr, IfOk, IfSome, ◌↔◌, take, drop, length};
 ghost use Rattle.std.specs.Io.KnownBytes.{Appends, Consumes, Keeps};
 ghost use Rattle.std.specs.IoError.{error_kind};
@@ -8,16 +8,16 @@ use crate::fault::{ReadFault, WriteFault};
 use std::alloc::Global;
 use std::io::{Error, ErrorKind, Read, Write};
 
-/// The most bytes that a read takes: one more than a text may have.
+/// The maximum number of bytes that `read_text` reads: one more than a text may have.
 pub const READ_LIMIT: usize = 1_048_577;
 
-// The most bytes that one read of many is given room for.
+// The size of the buffer of one call of `read`, in bytes.
 const PIECE: usize = 4_096;
 
-/// The most bytes that wait for the writer, and one: with so many of them they go out.
+/// The number of waiting bytes at which `send` writes them.
 pub const CHUNK: usize = 65_536;
 
-// Why a text was not read, by the error of a read.
+// Returns the error for a failed call of `read`.
 fn fault_of(error: &Error) -> ReadFault
     ensures { (result ≡ ReadFault.Memory) ↔ (error_kind error.now ≡ ErrorKind.OutOfMemory) }
 {
@@ -28,8 +28,8 @@ fn fault_of(error: &Error) -> ReadFault
     }
 }
 
-// One read, for which there is so much room: whether more may follow. One that is interrupted reads
-// nothing, and more may follow.
+// Makes one call of `read` for at most `room` bytes, and returns whether more bytes may follow. An interrupted call
+// reads nothing, and more may follow.
 fn read_on<R: Read>(reader: &mut R, bytes: &mut Vec<u8>, room: usize) -> Result<bool, ReadFault>
     requires { 0 < room }
     ensures ok { IfOk result (λ more.
@@ -48,9 +48,9 @@ fn read_on<R: Read>(reader: &mut R, bytes: &mut Vec<u8>, room: usize) -> Result<
     }
 }
 
-/// The bytes that the reader has left, or the first 1,048,577 of them if there are more; it loses
-/// those bytes and no other. An Err says whether memory was refused, here or in a read, or a read
-/// failed; the reader has then lost 1,048,577 bytes at most.
+/// Reads the bytes that the reader has left, or the first 1,048,577 of them if there are more. The reader loses those
+/// bytes and no others. An Err gives whether an allocation or a read failed; the reader has then lost at most 1,048,577
+/// bytes.
 pub fn read_text<R: Read>(alloc: Global, reader: &mut R) -> Result<Vec<u8>, ReadFault>
     ensures text { IfOk result (λ bytes.
         IfSome (R.remaining reader.old) (λ all. bytes.items ≡ take READ_LIMIT all)) }
@@ -71,7 +71,7 @@ pub fn read_text<R: Read>(alloc: Global, reader: &mut R) -> Result<Vec<u8>, Read
     Err(ReadFault::Read)
 }
 
-// One write of the front of what is left. It answers how much of the text is written then.
+// Makes one call of `write` for the bytes after the first `done`, and returns how many are written then.
 fn write_front<W: Write>(writer: &mut W, text: &[u8], done: usize) -> Result<usize, WriteFault>
     requires { done < length text.now }
     ensures ok { IfOk result (λ n. (done ≤ n) × (n ≤ length text.now)
@@ -86,8 +86,8 @@ fn write_front<W: Write>(writer: &mut W, text: &[u8], done: usize) -> Result<usi
     }
 }
 
-/// Writes the text, by as many writes as it takes; one that is interrupted is tried again. What went
-/// out is at all times a beginning of the text.
+/// Writes the text, by as many calls of `write` as it takes; an interrupted one is tried again. What went out is at all
+/// times a prefix of the text.
 pub fn write_text<W: Write>(writer: &mut W, text: &[u8]) -> Result<(), WriteFault>
     ensures whole { OnOk result (Appends (W.contents writer.old) (W.contents writer.new) text.now) }
     ensures beginning { AppendsBeginning (W.contents writer.old) (W.contents writer.new) text.now }
@@ -102,8 +102,8 @@ pub fn write_text<W: Write>(writer: &mut W, text: &[u8]) -> Result<(), WriteFaul
     Err(WriteFault)
 }
 
-/// Writes the lines that wait, once there are 65,536 bytes of them: fewer wait then. After an Err a
-/// beginning of them may have gone out.
+/// Writes the waiting lines if they have at least 65,536 bytes, so that fewer wait afterwards. After an Err, a prefix
+/// of them may have gone out.
 pub fn send<W: Write>(writer: &mut W, waiting: &mut Vec<u8>) -> Result<(), WriteFault>
     ensures ok { OnOk result (Sends (W.contents writer.old) (W.contents writer.new)
         waiting.old.items waiting.new.items) }
@@ -117,8 +117,7 @@ pub fn send<W: Write>(writer: &mut W, waiting: &mut Vec<u8>) -> Result<(), Write
     Ok(())
 }
 
-/// Writes the last lines, and lets the writer hand on what it holds. After an Err a beginning of them
-/// may have gone out.
+/// Writes the last lines and flushes the writer. After an Err, a prefix of them may have gone out.
 pub fn finish<W: Write>(writer: &mut W, waiting: &[u8]) -> Result<(), WriteFault>
     ensures whole { OnOk result (Appends (W.contents writer.old) (W.contents writer.new) waiting.now) }
     ensures beginning { AppendsBeginning (W.contents writer.old) (W.contents writer.new) waiting.now }

@@ -5,14 +5,14 @@ ghost use Rattle.gt_text.specs.Texts.{IsBadAt, StaysText};
 
 use std::alloc::AllocError;
 
-// The number of line feeds among the bytes.
+// Counts the line feeds in `bytes`.
 fn newlines(bytes: &[u8]) -> usize
     ensures { result ≡ count_by (λ b. b == 10) bytes.now }
 {
     bytes.iter().filter(|b| **b == b'\n').count()
 }
 
-/// The bytes as text, or the line of the first byte that is not UTF-8. Lines are counted from 1.
+/// Returns the bytes as text, or the line of the first byte that is not UTF-8, counted from 1.
 pub fn text_of<'a>(bytes: &'a [u8]) -> Result<&'a str, usize>
     ensures text { IfOk result (λ text. (text.now ≡ bytes.entry.now) × IsUtf8 bytes.entry.now) }
     ensures line { IfErr result (λ line. IsBadAt bytes.entry.now line) }
@@ -23,7 +23,7 @@ pub fn text_of<'a>(bytes: &'a [u8]) -> Result<&'a str, usize>
     }
 }
 
-/// Appends a text to the bytes. After an Err they are unchanged.
+/// Appends a text. After an Err, `out` is unchanged.
 pub fn push_text(out: &mut Vec<u8>, text: &str) -> Result<(), AllocError>
     ensures ok { OnOk result (out.new.items ≡ out.old.items ++ text.now) }
     ensures stays { OnOk result (StaysText out.old.items out.new.items) }
