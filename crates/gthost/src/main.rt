@@ -1,4 +1,4 @@
-//! The program `gthost`: what its words ask for, done by the library `gt_program`.
+//! The program `gthost`: a `main` over the library `gt_program`.
 #![tactic(auto)]
 
 use std::process::ExitCode;
