@@ -321,7 +321,12 @@ pub fn run_each<'a, R: Threads + Wait + Sync, P: Allows + Sync, G: Gate + Sync, 
     outcome
 }
 
-/// Runs the parts over a new monitor with this configuration and these rights.
+/// Runs the parts over a new monitor with this configuration and these rights, each domain in its own thread, and
+/// writes what they print: the lines of each domain, in the order of the parts, and then their audit lines.
+///
+/// # Errors
+/// A thread that could not be started, and then no list ran and nothing was written; or an allocation or a write that
+/// failed, and then a prefix of a text of the lists was written.
 pub fn run_lists<'a, R: Threads + Wait + Sync, P: Allows + Drop + Sync, G: Gate + Sync, W: Write>(
     context: &RunContext<'_, R, G>,
     config: Config,

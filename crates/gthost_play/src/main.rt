@@ -1,6 +1,11 @@
-//! The commands `play` and `policy` of the program `gthost` in a smaller program: `play [--audit] [FILE]` and `policy
-//! [FILE]`, with the same text, the same line for a fault and the same exit status. It needs fewer crates than the
-//! whole program, so it compiles sooner: the launcher runs it, unproved, until the program is built.
+//! The commands `play` and `policy` of the program `gthost` in a smaller program.
+//!
+//! `gthost_play play [--audit] [FILE]` and `gthost_play policy [FILE]` write the same text, the same line for a fault
+//! and the same exit status as `gthost`. The program needs fewer crates than the whole one, so it compiles sooner: the
+//! launcher runs it, unproved, until `gthost` is built.
+//!
+//! The contracts of `gt_host` and `gt_policy_list` specify what the two commands write. The words, the lines of faults
+//! and the exit statuses are only tested.
 #![tactic(auto)]
 
 use gt_host::{PlayFault, play};

@@ -114,8 +114,8 @@ const IN_A_RING: [Line; 4] = [
     (ONE, Poke(5, 0, &[7; 64]), "ok"),
 ];
 
-// Each copies the frame that the domain before it writes. If they locked the source first, each thread could hold the
-// frame that the next one waits for. They must all end.
+// Each copies the frame that the domain before it writes, in a ring. If a copy locked its source first, each thread
+// could hold the frame that the next one waits for. All must end.
 const COPIES: [(Part, u32); 3] = [
     (
         accesses!(fetch!(3, 0, 0, 5, 0, LEN), Peek(5, 0, LEN)),

@@ -20,7 +20,7 @@ const TAKE: TestCall<'static> = fetch!(1, 0, 0, 3, 0, PAGE_LEN);
 // Copies of the page to which the entries 0 and 1 of domain 2 lead, which are transitive.
 const FOLLOWS: [TestCall<'static>; 2] = [fetch!(2, 0, 0, 3, 0, LEN), fetch!(2, 1, 0, 3, 0, LEN)];
 
-/// What an owner knows of its entry from its own calls.
+/// The owner's knowledge of its entry, from its own calls.
 #[derive(Clone, Copy)]
 pub struct Kept {
     valid: bool,

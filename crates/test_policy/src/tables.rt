@@ -52,7 +52,7 @@ fn compared(policy: &Policy, table: &AllowTable, types: u16) -> (u32, u32) {
     (allowed, other)
 }
 
-// On every triple of the types, and of one undeclared type.
+// Compares them on every triple of the types, and of one undeclared type.
 #[test]
 fn a_table_answers_as_the_walk(rt: HostRuntime) -> Result<(), Fail> {
     let alloc = rt.alloc();
