@@ -1,6 +1,7 @@
 //! Equality of states.
 //!
-//! The contracts need only one direction: where a function here returns true, the values are the same.
+//! Each function here returns true only for equal values, and may return false for them: the search then visits a state
+//! again.
 ghost use Rattle.std.specs.Prelude.{◌≡◌, IsTrue};
 ghost use Rattle.gt_explore_moves.specs.Copies.{SameActor, SameActors, SameWorld};
 ghost use Rattle.gt_explore_moves.specs.Mappings.{labels_of, mapping_pins, label_bytes};

@@ -44,7 +44,7 @@ pub trait TransitionSystem {
     fn advance(&self, state: &mut Self::State, turn: Turn) -> Result<TurnResult, SearchFault>
         ensures { IfOk result (λ led. MovesTo (ways self.now) state.old turn led state.new) };
 
-    /// Returns whether a run may end here. It may also return true where none does.
+    /// Returns whether a run may end here. It may return true in other states too.
     fn is_finished(&self, state: &Self::State) -> bool
         ensures { MayEnd (ways self.now) state.now → IsTrue result };
 

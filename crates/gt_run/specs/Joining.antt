@@ -40,7 +40,7 @@ run_fault_of refusals.Thread = Thread
 run_fault_of refusals.Memory = run_out_of_memory
 
 -- the result of the jobs that were started: if something was refused, nothing was written, and the refusal is the
--- fault; otherwise all were started, and their lists were written
+-- fault; otherwise all were started, and it is the result of their lists
 abbrev pub WroteStarted : {P : Type 0} → (P → AllowRelation) → Option ThreadRefusal → List (ThreadJob P) → Option (List ℕ) → Option (List ℕ)
     → Result (Unit {0}) RunFault → Type 0
 WroteStarted may None duties old new r = WroteLists may duties old new r
