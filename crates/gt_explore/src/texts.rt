@@ -32,7 +32,7 @@ fn is_text(order: &FoundText, text: &[u8]) -> bool
     order.text.as_slice() == text
 }
 
-// Returns the index at which a text belongs among these, in the order of their bytes, or nothing if it is there.
+// Returns the index at which a text belongs among these, in the order of their bytes, or None if it is there.
 fn place_of(texts: &[FoundText], text: &[u8]) -> Option<usize>
     ensures place { IfSome result (λ at. at ≤ length texts.now) }
     ensures apart { IfSome result (λ at. IsApart text.now (texts_of_orders texts.now)) }

@@ -30,7 +30,7 @@ IsNumbered ways old w n new =
 abbrev pub HasEnd : List ReachedList → ℕ → Type 0
 HasEnd ends list = (at : ℕ) × (e : ReachedList) × (slice_get ends at ≡ Some e) × (e.list ≡ list)
 
--- one of these ends has a list that is what is printed from here to there
+-- the list of one of these ends is what is printed from here to there
 abbrev pub IsAmongEnds : {W : Type 0} → (ways : Ways W) → AnswerLists → List ReachedList → ways.Point → ways.Point → Type 0
 IsAmongEnds ways s ends p q = (list : ℕ) × HasEnd ends list × HasListAt s list × PrintsTo ways (rest_by s list) p q
 
@@ -46,7 +46,7 @@ AllByTurn ways s w ends turn =
     (p m : ways.Point) (turns : List Turn) (q : ways.Point) → ways.shows w p → ways.next p turn m
     → GoesTo ways m turns q → IsAmongEnds ways s ends p q
 
--- each of the ends has a list that there is
+-- each of the ends names an existing list
 abbrev pub AllHaveLists : AnswerLists → List ReachedList → Type 0
 AllHaveLists s ends = (at : ℕ) (e : ReachedList) → slice_get ends at ≡ Some e → HasListAt s e.list
 

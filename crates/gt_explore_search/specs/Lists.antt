@@ -37,21 +37,21 @@ HasLine s n bytes = (n < length s.lines.keys) × (items_at s.lines.keys n ≡ by
 abbrev pub HasListAt : AnswerLists → ℕ → Type 0
 HasListAt s n = n < length s.lists.keys
 
--- each line of a list has a number that there is
+-- each line of a list has an existing number
 abbrev pub HasLines : ℕ → List AnswerLine → Type 0
 HasLines count [] = Unit {0}
 HasLines count (l ∷ ls) = (l.number < count) × HasLines count ls
 
--- each list names lines that there are
+-- each list names existing lines
 abbrev pub AllHaveLines : ℕ → List (Vec AnswerLine) → Type 0
 AllHaveLines count [] = Unit {0}
 AllHaveLines count (v ∷ vs) = HasLines count v.items × AllHaveLines count vs
 
--- all lists are whole: each names lines that there are
+-- all lists are whole: each names existing lines
 abbrev pub AreWhole : AnswerLists → Type 0
 AreWhole s = AllHaveLines (length s.lines.keys) s.lists.keys
 
--- the answer, if there is one, has a line that there is
+-- the answer, if there is one, has an existing line
 abbrev pub HasItsLine : AnswerLists → Option AnswerLine → Type 0
 HasItsLine s None = Unit {0}
 HasItsLine s (Some l) = l.number < length s.lines.keys

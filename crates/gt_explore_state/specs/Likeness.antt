@@ -34,13 +34,13 @@ abbrev pub AsksFit : ItemEvent → Type 0
 AsksFit (Began request) = FitsAsked (asked request)
 AsksFit (Stepped step seen) = Unit {0}
 
--- a history stays so with each right item of a domain of the run that uses no handle but one known to it
+-- a history remains one of these with each right item of a domain of the run that uses no handle but one known to it
 abbrev pub LikeReachedGoesOn : Type 0
 LikeReachedGoesOn =
     (s : Setting) (h : History) (i : Item) → IsLikeReached s h → IsInRun s i.actor → IsRight s h i → HappensKnown h i
     → AsksFit i.happened → IsLikeReached s (i ∷ h)
 
--- the empty history is so, in each configuration within the limits
+-- the empty history is one of these, in each configuration within the limits
 abbrev pub LikeReachedStarts : Type 0
 LikeReachedStarts = (config : Config) (may : TypeId → TypeId → Perms → Bool) → IsWithinLimits config
     → IsLikeReached (setting_of config may) []
