@@ -36,7 +36,7 @@ fn refused(fault: StartFault) -> Came {
     }
 }
 
-// Returns rights that are never asked for.
+// Returns empty rights. Nothing that starts here asks them.
 fn nobody(alloc: Global) -> Triples {
     Triples {
         allowed: Vec::new(alloc),

@@ -67,7 +67,7 @@ fn status(guest: &mut AttachedDomain<AllowTable>) -> Option<(EntryKind, u16)> {
     Some((control.kind, control.writes))
 }
 
-// Makes a guest ready for the next one with its number. Returns how many entries are in use.
+// Makes a guest ready for its successor. Returns how many entries are in use.
 fn resets(guest: &mut AttachedDomain<AllowTable>) -> Option<u64> {
     if guest.is_copying() {
         return None;
