@@ -2,8 +2,8 @@
 //!
 //! `bench_frames WORK COUNT` does the work COUNT times, and prints what it did, never a time. WORK is `writes`, `reads`
 //! or `copies` (of 4,096 bytes), `overlaps` (copies of 4,095 bytes within one frame), `words` (writes of 4 bytes),
-//! `named` (copies of 4,096 bytes among all frames of a run), `locks` (of one of these frames), `locked` (copies of
-//! 4,096 bytes under two locks) or `handles` (COUNT in use, then all popped).
+//! `named` (copies of 4,096 bytes among the 1,024 frames of 16 domains), `locks` (of one of these frames), `locked`
+//! (copies of 4,096 bytes under two locks) or `handles` (COUNT in use, then all popped).
 //!
 //! It promises nothing beyond the calls that it makes, and uses `gt_access`, `gt_frames`, `gt_handles` and `gt_types`.
 //! The script `bench/frames.sh` runs and times it.
@@ -90,7 +90,7 @@ fn shift_all(frame: &mut Frame, times: u32) -> u32 {
     times
 }
 
-/// Returns a configuration with as many domains as a run may have, each with as many frames as it may have.
+/// Returns a configuration of 16 domains, each with 64 frames.
 fn config(alloc: Global) -> Result<Config> {
     let mut domains = Vec::new(alloc);
     for id in 0..16u16 {

@@ -7,7 +7,7 @@ fn wanted(word: &str) -> Option<&str> {
     if word == "-" { None } else { Some(word) }
 }
 
-// Returns the answer to a question with an unknown name.
+// Returns the line for a question with an unknown name, and an empty text for other answers.
 fn refusal(answer: WhyAnswer) -> &'static str {
     match answer {
         WhyAnswer::Allowed => "",

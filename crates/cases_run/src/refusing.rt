@@ -160,7 +160,7 @@ impl<'t, R: Threads + Wait + Sync> Trials<'t, R> {
     }
 
     // Lets memory run out before a script is read. Returns the memory that was left to the first run with a wrong
-    // result: a run must end with that fault and write nothing, or end with Ok.
+    // result: a run must end with the fault of memory or of a thread and write nothing, or print its whole text.
     fn untold_at_start(&self, job: Job<'_>, seen: &mut Seen) -> anyhow::Result<Option<usize>> {
         let mut gate = Scarce::new(self.rt, self.alloc, self.flood, Place::Start, 0)?;
         let log = SharedLog::new(self.alloc)?;

@@ -137,7 +137,7 @@ fn stands_by(denial: Denial, one: Rule, other: Rule) -> bool {
     (denial.rule == one || denial.rule == other) && stands(denial)
 }
 
-// Returns whether the call is Ok, or refused so.
+// Returns whether the call is Ok, or refused by one of these two rules with a word that fits it.
 fn is_fair(answer: Result<(), Denial>, one: Rule, other: Rule) -> bool {
     match answer {
         Ok(()) => true,
