@@ -1,13 +1,12 @@
-//! Accesses to frames, and map handles given back, in loops that are timed from outside.
+//! Accesses to frames, and releases of map handles, in loops that are timed from outside.
 //!
-//! `bench_frames WORK COUNT` does the work so many times, and prints what it did, never a time. WORK
-//! is `writes`, `reads` or `copies` (of 4,096 bytes), `overlaps` (copies of 4,095 bytes within one
-//! frame), `words` (writes of 4 bytes), `named` (copies of 4,096 bytes among the 1,024 frames of 16
-//! domains), `locks` (of one of these frames), `locked` (copies of 4,096 bytes under two locks) or
-//! `handles` (that many in use, then all popped).
+//! `bench_frames WORK COUNT` does the work COUNT times, and prints what it did, never a time. WORK is `writes`, `reads`
+//! or `copies` (of 4,096 bytes), `overlaps` (copies of 4,095 bytes within one frame), `words` (writes of 4 bytes),
+//! `named` (copies of 4,096 bytes among the 1,024 frames of 16 domains), `locks` (of one of these frames), `locked`
+//! (copies of 4,096 bytes under two locks) or `handles` (COUNT in use, then all popped).
 //!
-//! It promises nothing beyond the calls that it makes, and uses `gt_frames`, `gt_handles` and
-//! `gt_types`. The script `bench/frames.sh` runs and times it.
+//! It promises nothing beyond the calls that it makes, and uses `gt_access`, `gt_frames`, `gt_handles` and `gt_types`.
+//! The script `bench/frames.sh` runs and times it.
 #![tactic(auto)]
 
 ghost use Rattle.std.specs.Prelude.{◌≡◌};
@@ -28,19 +27,19 @@ const BY_OWNER: Writ = Writ {
     basis: WriteBasis::Owned,
 };
 
-/// The whole of a frame.
+/// The range of a whole frame.
 const WHOLE: Range = Range {
     off: 0,
     len: FRAME_SIZE,
 };
 
-/// All of a frame but its last byte.
+/// The range of a frame without its last byte.
 const BUT_THE_LAST: Range = Range {
     off: 0,
     len: FRAME_SIZE - 1,
 };
 
-/// Writes these bytes to the frame's beginning, and answers how often.
+/// Writes these bytes to the start of the frame. Returns how often.
 fn write_all(frame: &mut Frame, bytes: &[u8], times: u32) -> u32 {
     for done in 0..times {
         if frame.owner() != OWNER || bytes.len() > usize::from(FRAME_SIZE) {
@@ -53,7 +52,7 @@ fn write_all(frame: &mut Frame, bytes: &[u8], times: u32) -> u32 {
     times
 }
 
-/// Reads the frame's beginning over these bytes, and answers how often.
+/// Reads the start of the frame over these bytes. Returns how often.
 fn read_all(frame: &Frame, bytes: Vec<u8>, times: u32) -> u32 {
     let mut bytes = bytes;
     for done in 0..times {
@@ -65,7 +64,7 @@ fn read_all(frame: &Frame, bytes: Vec<u8>, times: u32) -> u32 {
     times
 }
 
-/// Copies one whole frame to another, and answers how often.
+/// Copies one whole frame to another. Returns how often.
 fn copy_all(from: &Frame, to: &mut Frame, times: u32) -> u32 {
     for done in 0..times {
         if to.owner() != OWNER {
@@ -78,7 +77,7 @@ fn copy_all(from: &Frame, to: &mut Frame, times: u32) -> u32 {
     times
 }
 
-/// Moves a frame's bytes up by one, and answers how often.
+/// Moves a frame's bytes up by one. Returns how often.
 fn shift_all(frame: &mut Frame, times: u32) -> u32 {
     for done in 0..times {
         if frame.owner() != OWNER {
@@ -91,7 +90,7 @@ fn shift_all(frame: &mut Frame, times: u32) -> u32 {
     times
 }
 
-/// As many domains as a run may have, each with as many frames as it may have.
+/// Returns a configuration of 16 domains, each with 64 frames.
 fn config(alloc: Global) -> Result<Config> {
     let mut domains = Vec::new(alloc);
     for id in 0..16u16 {
@@ -109,7 +108,7 @@ fn config(alloc: Global) -> Result<Config> {
     })
 }
 
-/// A frame of another domain than the owner's.
+/// Returns a frame of a domain other than the owner.
 fn far() -> FrameName
     ensures { result ≡ record { owner = record { 0 = 15 }; number = 63 } }
 {
@@ -119,7 +118,7 @@ fn far() -> FrameName
     }
 }
 
-/// A frame of the owner's.
+/// Returns a frame of the owner.
 fn near() -> FrameName
     ensures { result ≡ record { owner = record { 0 = 1 }; number = 2 } }
 {
@@ -129,7 +128,7 @@ fn near() -> FrameName
     }
 }
 
-/// Copies one whole frame of the run to another, and answers how often.
+/// Copies one whole frame of the run to another. Returns how often.
 fn copy_named(frames: &mut Frames, times: u32) -> u32 {
     let from = Spot {
         frame: far(),
@@ -150,7 +149,7 @@ fn copy_named(frames: &mut Frames, times: u32) -> u32 {
     times
 }
 
-/// Locks a frame and frees it, and answers how often.
+/// Locks a frame and unlocks it. Returns how often.
 fn lock_all<R: Wait>(rt: &R, pool: &Pool, visits: &mut FrameAccesses, times: u32) -> u32 {
     for done in 0..times {
         match pool.lock(rt, far()) {
@@ -161,7 +160,7 @@ fn lock_all<R: Wait>(rt: &R, pool: &Pool, visits: &mut FrameAccesses, times: u32
     times
 }
 
-/// Copies one whole frame to another under their locks, and answers how often.
+/// Copies one whole frame to another under their locks. Returns how often.
 fn copy_locked<R: Wait>(rt: &R, pool: &Pool, visits: &mut FrameAccesses, times: u32) -> u32 {
     for done in 0..times {
         let Some(mut ends) = pool.lock_both(rt, far(), near()) else {
@@ -176,7 +175,7 @@ fn copy_locked<R: Wait>(rt: &R, pool: &Pool, visits: &mut FrameAccesses, times: 
     times
 }
 
-/// Keeps so many values under handles.
+/// Inserts this number of values under handles.
 fn fill(handles: &mut Handles<u32>, count: u32) {
     for value in 0..count {
         if handles.reserve().is_err() {
@@ -188,7 +187,7 @@ fn fill(handles: &mut Handles<u32>, count: u32) {
     }
 }
 
-/// Pops all values, and answers how many there were.
+/// Pops all values. Returns how many there were.
 fn pop_all(handles: &mut Handles<u32>) -> usize {
     let count = handles.len();
     for done in 0..count {

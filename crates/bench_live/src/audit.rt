@@ -1,24 +1,24 @@
-//! How calls are recorded, and how much is done.
+//! The recording of calls, and the size of a load.
 use gt_types::Allows;
 use test_monitor::TestDomain;
 
-/// How the calls of a domain are recorded.
+/// The recording of the calls of a domain.
 #[derive(Clone, Copy, PartialEq, Eq)]
 pub enum Audit {
-    /// Each record takes its memory as it comes.
+    /// Each record is allocated as it comes.
     On,
-    /// There is room for all records before the first call.
+    /// Space for all records is reserved before the first call.
     Ahead,
-    /// Records are taken as the domain runs, and their room is used again.
+    /// Records are taken as the domain runs, and their space is used again.
     Taken,
     /// No record is kept.
     Off,
 }
 
-/// For how many records room is made ahead: more than a load of a timed run has.
+/// The number of records for which space is reserved ahead: more than a load of a timed run has.
 const RECORDS_AHEAD: usize = 400_000;
 
-/// Has the calls of a domain recorded so. Answers whether it could.
+/// Sets the recording of the calls of a domain. Returns whether it could.
 pub(crate) fn record_calls<P: Allows>(domain: &mut TestDomain<'_, P>, audit: Audit) -> bool {
     match audit {
         Audit::On | Audit::Taken => true,
@@ -30,8 +30,8 @@ pub(crate) fn record_calls<P: Allows>(domain: &mut TestDomain<'_, P>, audit: Aud
     }
 }
 
-/// How much of a load is done: in how many threads, so many rounds in each, its calls recorded so, in a run of so many
-/// domains.
+/// The size of a load: the number of threads, the rounds of each, the recording of its calls, and the number of domains
+/// of the run.
 #[derive(Clone, Copy)]
 pub struct Extent {
     pub threads: usize,

@@ -1,4 +1,4 @@
-//! The loads of bytes: loads and stores through mappings, and copies by reference, through transitive entries too.
+//! The loads of bytes: loads and stores through mappings, and copies by reference, also through transitive entries.
 use crate::audit::{Audit, Extent, record_calls};
 use crate::loads::{FEWEST, FIRST_MAPPER, MIDDLE, MOST, OWNER, POLICY, run_domains, sum_of};
 use anyhow::{Result, bail};
@@ -13,7 +13,7 @@ use std::sync::Wait;
 use std::thread::{self, Threads};
 use test_monitor::{TestDomain, WRITABLE, all_running};
 
-/// What the threads do with bytes.
+/// The work of the threads on bytes.
 #[derive(Clone, Copy, PartialEq, Eq)]
 pub(crate) enum Moves {
     /// Loads into a buffer of the thread's.
@@ -22,7 +22,7 @@ pub(crate) enum Moves {
     Fresh,
     Stores,
     Copies,
-    /// Copies by way of a transitive entry at each end.
+    /// Copies through a transitive entry at each end.
     Forwards,
 }
 
@@ -32,8 +32,8 @@ struct Worker<'m, P: Allows> {
     gref: GrantRef,
 }
 
-// What a thread does in a round: it reads over its buffer, reads so many bytes into fresh memory, writes these, or
-// makes this copy.
+// The access of a thread in a round: it reads over its buffer, reads this number of bytes into fresh memory, writes
+// these bytes, or makes this copy.
 #[derive(Clone, Copy)]
 enum Access<'a> {
     Load,
@@ -42,8 +42,8 @@ enum Access<'a> {
     Copy(CopyArgs),
 }
 
-// The copy that a thread makes: of so many bytes of the owner's page to a frame of its own, or from one page of the
-// owner's to another, each by way of an entry of the domain between.
+// Returns the copy that a thread makes: of this number of bytes, from the owner's page to one of its own frames, or
+// from one page of the owner's to another, through two entries of the middle domain.
 fn copy_of(moves: Moves, gref: GrantRef, len: u16) -> CopyArgs {
     let forwards = moves == Moves::Forwards;
     let dest = gref.0.saturating_add(MOST as u32);
@@ -63,7 +63,7 @@ fn copy_of(moves: Moves, gref: GrantRef, len: u16) -> CopyArgs {
     }
 }
 
-// Makes one access, and answers whether it was done.
+// Makes one access, and returns whether it was done.
 fn access_once<R: Wait, P: Allows>(
     rt: &R,
     domain: &mut TestDomain<'_, P>,
@@ -89,7 +89,7 @@ fn work<R: Wait, P: Allows>(
     rounds: u32,
 ) -> u32 {
     let Worker { mut domain, gref } = worker;
-    // A thread makes its buffer itself, so that no two of them share a cache line.
+    // A thread makes its own buffer, so that no two of them share a cache line.
     let Ok(mut buffer) = vec![in alloc; 0; usize::from(len)] else {
         return 0;
     };
@@ -122,7 +122,7 @@ fn grant_page<P: Allows>(owner: &mut TestDomain<'_, P>, number: u32, dom: DomId)
     owner.grant(number, &page).is_ok()
 }
 
-// Grants a page of the owner's to the domain between, which lets this domain go on to it.
+// Grants a page of the owner's to the middle domain, which forwards this domain to it.
 fn grant_way<P: Allows>(
     owner: &mut TestDomain<'_, P>,
     middle: &mut TestDomain<'_, P>,
@@ -138,7 +138,7 @@ fn grant_way<P: Allows>(
     grant_page(owner, number, MIDDLE) && middle.grant(number, &way).is_ok()
 }
 
-// A worker with the reference of a page that the owner granted to it, or of an entry that leads to one.
+// Returns a worker with the reference of a page that the owner granted to it, or of an entry that leads to one.
 fn worker_with_page<'m, P: Allows>(
     owner: &mut TestDomain<'_, P>,
     middle: &mut TestDomain<'_, P>,
@@ -161,7 +161,7 @@ fn worker_with_page<'m, P: Allows>(
     Ok(Worker { domain, gref })
 }
 
-/// Moves so many bytes at a time, in a run of six domains. Answers how many rounds were done in all.
+/// Moves this number of bytes at a time, in a run of six domains. Returns the number of rounds of all threads.
 pub(crate) fn run_moves<R: Threads + Wait + Sync>(
     rt: &R,
     alloc: Global,

@@ -1,4 +1,4 @@
-//! The loads, and the run that they are of.
+//! The loads of calls, and their run.
 use crate::audit::{Audit, Extent, record_calls};
 use anyhow::{Result, bail};
 use gt_allow::AllowTable;
@@ -11,23 +11,23 @@ use std::alloc::{AllocError, Global};
 use std::thread::{self, Threads};
 use test_monitor::{READ_ONLY, TestDomain, all_running};
 
-/// What the threads do.
+/// The work of the threads.
 #[derive(Clone, Copy, PartialEq, Eq)]
 pub enum Load {
-    /// Each maps an entry of its own, far from the others'.
+    /// Each maps its own entry, far from the others'.
     Apart,
-    /// Each maps an entry of its own, beside the others'.
+    /// Each maps its own entry, next to the others'.
     Adjacent,
-    /// The first is the owner of all entries, who revokes and grants them by turns; the others map one each.
+    /// The first is the owner of all entries, who revokes and grants them by turns. The others map one each.
     Grants,
     /// The same with an owner who withdraws each entry, and grants it once it has no pin.
     Withdrawals,
 }
 
-/// The most threads of a load.
+/// The maximum number of threads of a load.
 pub(crate) const MOST: usize = 4;
 
-/// The fewest domains of a run: the owner, one between and one for each thread.
+/// The minimum number of domains of a run: the owner, the middle and one for each thread.
 pub(crate) const FEWEST: u16 = 6;
 
 /// The domain that grants.
@@ -36,25 +36,25 @@ pub(crate) const OWNER: DomId = DomId(1);
 /// The domain whose transitive entries lead to the owner's pages.
 pub(crate) const MIDDLE: DomId = DomId(2);
 
-/// The domains that map are this one and those after it.
+/// The first of the domains that map; the others follow it.
 pub(crate) const FIRST_MAPPER: u16 = 3;
 
 /// The entry of the first mapper.
 const FIRST: u32 = 64;
 
-/// How far the entries of threads lie apart.
+/// The distance between the entries of threads.
 const APART: u32 = 64;
 
-/// How far they lie apart if they are neighbours.
+/// The same if they are neighbours.
 const ADJACENT: u32 = 1;
 
-/// After how many rounds a mapper's records are taken.
+/// The number of rounds after which a mapper's records are taken.
 const BEFORE_TAKEN: u32 = 128;
 
 /// Each type may map the pages of each and unmap them, and copy.
 pub(crate) const POLICY: &str = "type a_t; allow a_t a_t:grant { map_read map_write unmap copy };";
 
-/// So many entries from the first on, this far apart.
+/// This number of entries, starting at the first, with this distance.
 #[derive(Clone, Copy)]
 struct Spread {
     count: u32,
@@ -62,7 +62,7 @@ struct Spread {
 }
 
 impl Spread {
-    // The entry at this place, by turns, and the domain that maps it.
+    // Returns the entry at this index, cyclically, and the domain that maps it.
     fn at(self, place: u64) -> (u32, DomId) {
         let place = if self.count == 0 {
             0
@@ -74,7 +74,7 @@ impl Spread {
     }
 }
 
-/// What a domain does, with the entries that it maps or grants.
+/// The part of a domain, with the entries that it maps or grants.
 #[derive(Clone, Copy)]
 enum Part {
     Maps(u32),
@@ -98,7 +98,7 @@ fn domain(id: u16, version: u32) -> DomainConfig {
     }
 }
 
-/// So many domains with the numbers from 1 on, with tables of this version: the owner, one between, those of the
+/// Returns this number of domains, numbered from 1, with tables of this version: the owner, the middle, those of the
 /// threads, and others that do nothing.
 pub(crate) fn run_domains(alloc: Global, count: u16, version: u32) -> Result<Config, AllocError> {
     let mut domains = Vec::new(alloc);
@@ -111,7 +111,7 @@ pub(crate) fn run_domains(alloc: Global, count: u16, version: u32) -> Result<Con
     })
 }
 
-// A writable page for the domain.
+// Returns a writable page entry for the domain.
 fn page(dom: DomId) -> Entry {
     Entry::Page {
         dom,
@@ -130,8 +130,8 @@ fn grant_each<P: Allows>(owner: &mut TestDomain<'_, P>, spread: Spread) -> bool 
     all
 }
 
-// Revokes the entries and grants them again by turns, so often, each time with as many tries as it takes. Answers how
-// often: less if entries are worn.
+// Revokes the entries and grants them again by turns, this number of times, each time with as many tries as it takes.
+// Returns how often: fewer times if entries are worn.
 fn revoke_and_grant<P: Allows>(owner: &mut TestDomain<'_, P>, spread: Spread, rounds: u32) -> u32 {
     let mut done = 0;
     'rounds: for turn in 0..u64::MAX {
@@ -146,8 +146,8 @@ fn revoke_and_grant<P: Allows>(owner: &mut TestDomain<'_, P>, spread: Spread, ro
     done
 }
 
-// Withdraws the entries by turns, and grants each again once it has no pin, so often, each time with as many tries as
-// it takes. Answers how often: less if entries are worn.
+// Withdraws the entries by turns, and grants each again once it has no pin, this number of times, each time with as
+// many tries as it takes. Returns how often: fewer times if entries are worn.
 fn withdraw_and_grant<P: Allows>(
     owner: &mut TestDomain<'_, P>,
     spread: Spread,
@@ -170,7 +170,7 @@ fn withdraw_and_grant<P: Allows>(
     done
 }
 
-// Maps an entry and unmaps it, so often, each time with as many tries as it takes.
+// Maps an entry and unmaps it, this number of times, each time with as many tries as it takes.
 fn map_and_unmap<P: Allows>(domain: &mut TestDomain<'_, P>, gref: u32, rounds: u32) -> u32 {
     let mut done = 0;
     'rounds: for _ in 0..u64::MAX {
@@ -184,7 +184,7 @@ fn map_and_unmap<P: Allows>(domain: &mut TestDomain<'_, P>, gref: u32, rounds: u
     done
 }
 
-// The same, in parts after each of which the records are taken.
+// Does the same in parts, after each of which the records are taken.
 fn map_and_take<P: Allows>(
     alloc: Global,
     domain: &mut TestDomain<'_, P>,
@@ -220,7 +220,7 @@ fn work<P: Allows>(alloc: Global, worker: Worker<'_, P>, audit: Audit, rounds: u
     }
 }
 
-// The workers of a load, whose entries are granted.
+// Returns the workers of a load, whose entries are granted.
 fn workers<'m, P: Allows>(
     alloc: Global,
     domains: Vec<TestDomain<'m, P>>,
@@ -271,13 +271,13 @@ fn workers<'m, P: Allows>(
     Ok(workers)
 }
 
-/// How many rounds all threads have done.
+/// Returns the number of rounds of all threads.
 pub(crate) fn sum_of(done: &[u32]) -> u64 {
     done.iter()
         .fold(0, |all, &more| all.saturating_add(u64::from(more)))
 }
 
-/// Runs a load. Answers how many rounds were done in all.
+/// Runs a load. Returns the number of rounds of all threads.
 pub(crate) fn run<R: Threads + Sync>(
     rt: &R,
     alloc: Global,

@@ -1,23 +1,23 @@
 //! Loads of whole calls on a running monitor, in threads, that are timed from outside.
 //!
-//! `bench_live LOAD THREADS ROUNDS` runs a load and prints the rounds that its threads have done, never a time. A round
+//! `bench_live LOAD THREADS ROUNDS` runs a load and prints the number of rounds of its threads, never a time. A round
 //! is a map and an unmap that were both answered Ok, or a revocation or withdrawal and a grant. LOAD is `apart` or
-//! `adjacent` (each thread maps an entry of its own, with entries between them or side by side), `grants` (the first
-//! thread is the owner, who revokes and grants by turns the entries that the others map) or `withdrawals` (the owner
-//! withdraws each and grants it once it has no pin). What the policy allows is in a compiled table.
+//! `adjacent` (each thread maps its own entry, with entries between them or adjacent), `grants` (the first thread is
+//! the owner, who by turns revokes and grants the entries that the others map) or `withdrawals` (the owner withdraws
+//! each and grants it once it has no pin). The policy is a compiled table.
 //!
 //! The loads of bytes are `load-64`, `load-4096`, `store-64`, `store-4096`, `copy-64` and `copy-4096`: each thread has
-//! a page of its own that the owner granted to it, and a round is one access of so many bytes, through its mapping or
-//! as a copy by reference to a frame of its own. A load reads over a buffer of the thread's, and one of `fresh-64` or
-//! `fresh-4096` answers fresh memory. A round of `forward-64` or `forward-4096` is a copy from one page of the owner's
-//! to another, by way of a transitive entry at each end.
+//! its own page, which the owner granted to it, and a round is one access of 64 or 4,096 bytes, through its mapping or
+//! as a copy by reference to one of its own frames. A load reads over a buffer of the thread's, and one of `fresh-64`
+//! or `fresh-4096` returns fresh memory. A round of `forward-64` or `forward-4096` is a copy from one page of the
+//! owner's to another, through a transitive entry at each end.
 //!
-//! The calls are recorded; with a fourth word `off` they are not, with `ahead` each domain makes room for its records
-//! before its first call, and with `taken` each mapper's records are taken while it runs. A fifth word is the number of
-//! domains of a load of calls, from 6 to 64 (6).
+//! The calls are recorded. With a fourth word `off` they are not, with `ahead` each domain reserves space for its
+//! records before its first call, and with `taken` each mapper's records are taken while it runs. A fifth word is the
+//! number of domains of a load of calls, from 6 to 64 (6).
 //!
-//! It promises nothing beyond the calls that it makes, and uses `gt_live` and `test_monitor`. The script `bench/live.sh`
-//! runs and times it beside the bare words and a program in C.
+//! It promises nothing beyond the calls that it makes, and uses `gt_live` and `test_monitor`. The script
+//! `bench/live.sh` runs and times it next to the bare words and a program in C.
 #![tactic(auto)]
 
 mod audit;
@@ -30,7 +30,7 @@ use crate::loads::{FEWEST, Load, run};
 use anyhow::{Result, bail};
 use std::env;
 
-/// What the threads do: calls on entries, or accesses of so many bytes.
+/// The work of the threads: calls on entries, or accesses to bytes.
 #[derive(Clone, Copy)]
 enum Work {
     Calls(Load),

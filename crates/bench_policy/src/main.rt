@@ -1,13 +1,12 @@
-//! A large policy, parsed, compiled and asked, to be timed from outside.
+//! A large policy that is parsed, compiled and asked, timed from outside.
 //!
-//! `bench_policy WORK CLASS COUNT` makes a text of 256 types and COUNT statements
-//! `allow SOURCE TARGET:CLASS *;`, each of another pair of types as long as there are any. WORK is
-//! `make` (nothing more), `parse` (the text is parsed), `compile` (and its table is made), `table`
-//! (and the table is asked for every triple) or `walk` (the text is parsed, and the statements are
-//! walked for each triple of a type on itself). It prints counts, never a time.
+//! `bench_policy WORK CLASS COUNT` makes a text of 256 types and COUNT statements `allow SOURCE TARGET:CLASS *;`, each
+//! of another pair of types as long as there are any. WORK is `make` (nothing more), `parse` (the text is parsed),
+//! `compile` (and its table is made), `table` (and the table is asked for every triple) or `walk` (the text is parsed,
+//! and the statements are walked for each triple of a type on itself). It prints counts, never a time.
 //!
-//! It promises nothing beyond the calls that it makes, and uses `gt_allow`, `gt_policy` and
-//! `gt_types`. The script `bench/policy.sh` runs and times it.
+//! It promises nothing beyond the calls that it makes, and uses `gt_allow`, `gt_policy` and `gt_types`. The script
+//! `bench/policy.sh` runs and times it.
 #![tactic(auto)]
 
 use anyhow::{Result, bail};
@@ -21,7 +20,7 @@ const TYPES: u32 = 256;
 
 const LETTERS: &str = "abcdefghijklmnopqrstuvwxyzABCDEFGHIJKLMNOPQRSTUVWXYZ";
 
-/// Names of one letter or two, so that many statements fit into a text.
+/// Returns names of one letter or two, so that many statements fit into a text.
 fn type_names(alloc: Global) -> Result<Vec<String>, AllocError> {
     let mut names = Vec::new(alloc);
     for first in ["", "a", "b", "c", "d"] {
@@ -55,7 +54,7 @@ fn large_text(alloc: Global, class: &str, count: u32) -> Result<String, AllocErr
     Ok(text)
 }
 
-/// How many permissions the source has on the target.
+/// Counts the permissions that the source has on the target.
 fn count_on<R: Allows>(rights: &R, source: u16, target: u16) -> u32 {
     let mut yes = 0u32;
     for perm in Perms::EVERY {
@@ -66,7 +65,7 @@ fn count_on<R: Allows>(rights: &R, source: u16, target: u16) -> u32 {
     yes
 }
 
-/// How many triples of these types are allowed.
+/// Counts the allowed triples of these types.
 fn count_triples<R: Allows>(rights: &R, types: u16) -> u32 {
     let mut triples = 0u32;
     for source in 0..types {
@@ -77,7 +76,7 @@ fn count_triples<R: Allows>(rights: &R, types: u16) -> u32 {
     triples
 }
 
-/// How many triples of one of these types on itself are allowed.
+/// Counts the allowed triples of one of these types on itself.
 fn count_own<R: Allows>(rights: &R, types: u16) -> u32 {
     let mut triples = 0u32;
     for id in 0..types {

@@ -1,4 +1,4 @@
--- What a mapper needs of the entry that it maps.
+-- The conditions on a mapper and its entry.
 use Rattle.std.specs.Prelude.{◌≡◌, ◌≢◌, ◌⊎◌, ℕ, ◌<◌, ◌≤◌}
 use Rattle.gt_entry.specs.declared.entry.Entry.TheVariants.{Invalid}
 use Rattle.gt_types.specs.declared.Dir.TheVariants.{Read}
@@ -13,23 +13,23 @@ use Rattle.gt_word_table.specs.declared.view.View.{View}
 use Rattle.bench_words.specs.declared.mapper.Target.{Target}
 use Rattle.bench_words.specs.declared.owner.Row.{Row}
 
--- the seat has published no entry from the reference n on
+-- the seat has published no entry at reference n or beyond
 abbrev pub IsUnusedFrom : ℕ → View → Type 0
 IsUnusedFrom n v = (r : ℕ) → n ≤ r → last_of r v ≡ record { generation = 0; entry = Invalid }
 
--- the seat is one of these words', and the row is what it knows of its entry, which is in its table
+-- the seat is one of these words', and the row is its knowledge of its entry, which is in its table
 abbrev pub Owns : Board → SeatOf → GrantRef → Row → Type 0
 Owns b s q row =
     IsSeatOf b s × (q.0 < TABLE_ENTRIES)
     × (last_of q.0 s.view ≡ record { generation = row.generation; entry = row.entry })
 
--- the seat goes on, and the row is what it knows then
+-- the seat stays the same, and the row is then its knowledge
 abbrev pub OwnsStill : SeatOf → SeatOf → GrantRef → Row → Type 0
 OwnsStill s s' q row =
     IsSameSeat s s' × (last_of q.0 s'.view ≡ record { generation = row.generation; entry = row.entry })
 
--- the view has a read pin of a transitive entry of the domain m, another one than t, which forwarded the
--- seat's domain and leads to the entry r of the domain t (after grant_table.h, transitive)
+-- the view has a read pin of a transitive entry of the domain m, which differs from t; the entry forwarded the seat's
+-- domain and leads to the entry r of the domain t (after grant_table.h, transitive)
 pub record KeepsVia (k : Layout) (t r : ℕ) (m : DomId) (v : View) : Type 0 where
   pub owner : ℕ
   pub reference : ℕ
@@ -41,14 +41,14 @@ pub record KeepsVia (k : Layout) (t r : ℕ) (m : DomId) (v : View) : Type 0 whe
   pub named : id_at k.ids owner ≡ m
   pub apart : t ≢ owner
 
--- the target names the seat's own domain, or one whose transitive entry to the
--- target is kept pinned (after grant_table.h, transitive)
+-- the target names the seat's own domain, or one whose transitive entry to the target is kept pinned (after
+-- grant_table.h, transitive)
 abbrev pub MayMap : Board → Target → View → Type 0
 MayMap b x v =
     (id_at b.layout.ids v.position ≡ x.named)
     ⊎ KeepsVia b.layout (position_in b.layout.ids x.granter) x.gref.0 x.named v
 
--- the seat has the pins that it had, but for those of entries of the domain t
+-- the seat has the pins that it had, except for those of entries of the domain t
 abbrev pub KeepsPinsBeyond : ℕ → View → View → Type 0
 KeepsPinsBeyond t v w = (t' r' : ℕ) → t ≢ t' → live_pins (steps_on t' r' w) ≡ live_pins (steps_on t' r' v)
 

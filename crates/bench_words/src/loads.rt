@@ -1,4 +1,4 @@
-//! The loads, and the words that they run on.
+//! The loads, and the words on which they run.
 ghost use Rattle.std.specs.Prelude.{◌≡◌, ◌≢◌, ◌+◌, ◌<◌, All, IfOk, IfSome, length, true};
 ghost use Rattle.gt_word_table.specs.Rule.{layout_of, position_in};
 ghost use Rattle.gt_word_table.specs.Views.{last_of};
@@ -17,40 +17,40 @@ use gt_words::{Seat, Words};
 use std::alloc::{AllocError, Global};
 use std::thread::{self, Threads, join};
 
-/// What the threads do.
+/// The work of the threads.
 #[derive(Clone, Copy, PartialEq, Eq)]
 pub enum Load {
-    /// Each maps an entry of its own, far from the others'.
+    /// Each maps its own entry, far from the others'.
     Apart,
-    /// Each maps an entry of its own, beside the others'.
+    /// Each maps its own entry, next to the others'.
     Adjacent,
     /// All map one entry.
     One,
-    /// The first is the owner of the one entry, who revokes and grants it; the others map it.
+    /// The first is the owner of the one entry, who revokes and grants it. The others map it.
     Grants,
     /// The same with an owner who withdraws the entry, and grants it once it has no pin.
     Withdrawals,
 }
 
-/// The most threads of a load.
+/// The maximum number of threads of a load.
 const MOST: usize = 4;
 
-/// The fewest domains of a run: the owner, the middle and one for each thread.
+/// The minimum number of domains of a run: the owner, the middle and one for each thread.
 pub(crate) const FEWEST: u16 = 6;
 
 /// The domain that grants.
 const OWNER: DomId = DomId(1);
 
-/// The domain that passes its grant on.
+/// The domain that forwards its grant.
 const MIDDLE: DomId = DomId(2);
 
 /// The entry that the threads of a load share, and the first of those that they have for themselves.
 const SHARED: GrantRef = GrantRef(64);
 
-/// How far the entries of threads lie apart.
+/// The distance between the entries of threads.
 const APART: u32 = 64;
 
-/// How far they lie apart if they are neighbours.
+/// The same if they are neighbours.
 const ADJACENT: u32 = 1;
 
 const UNUSED: Row = Row {
@@ -70,7 +70,8 @@ fn domain(id: u16) -> DomainConfig
     }
 }
 
-// So many domains with the numbers from 1 on: the owner, the middle, those of the threads, and others that do nothing.
+// Returns this number of domains, numbered from 1: the owner, the middle, those of the threads, and others that do
+// nothing.
 fn run_domains(alloc: Global, count: u16) -> Result<Config, AllocError>
     ensures { IfOk result (λ c. c.first_gen ≡ 0) }
 {
@@ -84,14 +85,14 @@ fn run_domains(alloc: Global, count: u16) -> Result<Config, AllocError>
     })
 }
 
-// A domain with this number is among these.
+// Returns whether a domain with this number is among these.
 fn is_placed(positions: &Positions, dom: DomId) -> bool
     ensures { result ≡ true → position_in positions.now dom < length positions.now }
 {
     positions.position(dom).is_some()
 }
 
-// The run has this domain.
+// Returns whether the run has this domain.
 fn has_domain(alloc: Global, config: &Config, dom: DomId) -> Result<bool, StartFault>
     ensures { IfOk result (λ b. b ≡ true → HasDomain (layout_of config.now) dom) }
 {
@@ -104,7 +105,7 @@ fn has_domain(alloc: Global, config: &Config, dom: DomId) -> Result<bool, StartF
     Ok(is_placed(&positions, dom))
 }
 
-// The words, the seats of the owner and the middle, and those of the other domains.
+// Makes the words, the seats of the owner and the middle, and those of the other domains.
 fn seats_of(alloc: Global, config: &Config) -> Result<(Words, Seat, Seat, Vec<Seat>), StartFault>
     requires owner { HasDomain (layout_of config.now) OWNER }
     requires middle { HasDomain (layout_of config.now) MIDDLE }
@@ -120,7 +121,7 @@ fn seats_of(alloc: Global, config: &Config) -> Result<(Words, Seat, Seat, Vec<Se
     Ok((words, owner, middle, seats))
 }
 
-// A run of so many domains.
+// Starts a run of this number of domains.
 fn start(alloc: Global, count: u16) -> Result<(Words, Seat, Seat, Vec<Seat>)>
     ensures domains { IfOk result (λ r. HasDomain r.0.layout OWNER × HasDomain r.0.layout MIDDLE) }
     ensures owner { IfOk result (λ r. IsSeatOf r.0 r.1 × IsUnusedFrom 0 r.1.view) }
@@ -139,7 +140,7 @@ fn start(alloc: Global, count: u16) -> Result<(Words, Seat, Seat, Vec<Seat>)>
     Ok((words, owner, middle, seats))
 }
 
-// The transitive entry that passes the shared one on.
+// Returns the transitive entry that leads to the shared one.
 fn via(dom: DomId) -> Entry
     ensures { result ≢ Entry.Invalid }
 {
@@ -151,7 +152,7 @@ fn via(dom: DomId) -> Entry
     }
 }
 
-// So many mappers, to each of which the owner grants an entry, these so far apart.
+// Makes this number of mappers, to each of which the owner grants an entry, with this distance between them.
 fn grant_each(
     alloc: Global,
     words: &Words,
@@ -189,7 +190,8 @@ fn grant_each(
     Ok(mappers)
 }
 
-// A mapper of the shared entry, which the middle passes on to it by a transitive entry, and which keeps that pinned.
+// Makes a mapper of the shared entry, to which the middle forwards it by a transitive entry, and which keeps that
+// pinned.
 fn passed_on(words: &Words, middle: &mut Seat, gref: GrantRef, seat: Seat) -> Option<Mapper>
     requires domains { HasDomain words.now.layout OWNER × HasDomain words.now.layout MIDDLE }
     requires middle { IsSeatOf words.now middle.old × IsUnusedFrom gref.0 middle.old.view }
@@ -208,7 +210,7 @@ fn passed_on(words: &Words, middle: &mut Seat, gref: GrantRef, seat: Seat) -> Op
     through_via(words, seat, gref, target)
 }
 
-// So many mappers of the shared entry.
+// Makes this number of mappers of the shared entry.
 fn pass_on(
     alloc: Global,
     words: &Words,
@@ -237,7 +239,7 @@ fn pass_on(
     Ok(mappers)
 }
 
-// Lets each mapper map and unmap so many times, in a thread of its own. Answers how often they did in all.
+// Lets each mapper map and unmap this number of times, in its own thread. Returns how often they did in all.
 fn map_in_threads<R: Threads + Sync>(
     rt: &R,
     words: &Words,
@@ -257,7 +259,7 @@ fn map_in_threads<R: Threads + Sync>(
     )
 }
 
-// Lets the owner of the shared entry do its part of the load. Answers how often it did.
+// Lets the owner of the shared entry do its part of the load. Returns how often it did.
 fn take_back_and_grant(words: &Words, owner: Seat, row: Row, load: Load, rounds: u32) -> u32
     requires seat { IsSeatOf words.now owner }
     requires own { (OWNER ≡ owner.dom) × HasDomain words.now.layout OWNER }
@@ -269,8 +271,8 @@ fn take_back_and_grant(words: &Words, owner: Seat, row: Row, load: Load, rounds:
     }
 }
 
-/// Runs a load in so many threads of a run of so many domains. Each thread does so many rounds. Answers how many were
-/// done in all.
+/// Runs a load in this number of threads of a run of this number of domains, with this number of rounds per thread.
+/// Returns the number of rounds of all threads.
 pub(crate) fn run<R: Threads + Sync>(
     rt: &R,
     alloc: Global,

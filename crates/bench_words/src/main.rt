@@ -1,14 +1,14 @@
 //! Loads on the words of grant entries, in threads, that are timed from outside.
 //!
-//! `bench_words LOAD THREADS ROUNDS` runs a load and prints the rounds that its threads have done, never a
-//! time. A round is a map and an unmap that were taken, or a revocation or withdrawal and a grant. LOAD is `apart`,
-//! `adjacent` (each thread maps an entry of its own, with entries between them or side by side), `one`
-//! (all map the same entry, by a transitive entry each), `grants` (the first thread is the owner, who
-//! revokes and grants the one entry again, and the others map it) or `withdrawals` (the owner withdraws it
-//! and grants it again once it has no pin). A fourth word is the number of domains, from 6 to 64 (6).
+//! `bench_words LOAD THREADS ROUNDS` runs a load and prints the number of rounds of its threads, never a time. A round
+//! is a map and an unmap that succeeded, or a revocation or withdrawal and a grant. LOAD is `apart`, `adjacent` (each
+//! thread maps its own entry, with entries between them or adjacent), `one` (all map the same entry, by a transitive
+//! entry each), `grants` (the first thread is the owner, who revokes and grants the one entry again, and the others map
+//! it) or `withdrawals` (the owner withdraws it and grants it again once it has no pin). A fourth word is the number of
+//! domains, from 6 to 64 (6).
 //!
-//! It promises nothing beyond the calls that it makes, and uses `gt_words`. The script `bench/words.sh` runs and
-//! times it beside two programs in C.
+//! It promises nothing beyond the calls that it makes, and uses `gt_words` and `gt_word_table`. The script
+//! `bench/words.sh` runs and times it next to two programs in C.
 #![tactic(auto)]
 
 mod loads;

@@ -10,7 +10,7 @@ use gt_entry::{BodyWord, Control, Entry, EntryKind, Header};
 use gt_types::{Dir, DomId, GrantRef, MAX_PINS, Range, TABLE_ENTRIES, Use};
 use gt_words::{Pin, Seat, Words};
 
-/// An entry to be mapped, and the domain that it is granted to: the mapper's own, or one whose transitive entry to it
+/// An entry to be mapped, and the domain to which it is granted: the mapper's own, or one whose transitive entry to it
 /// the mapper keeps pinned.
 #[derive(Clone, Copy)]
 pub struct Target {
@@ -19,7 +19,7 @@ pub struct Target {
     pub named: DomId,
 }
 
-/// A domain that is to map.
+/// A domain that maps.
 #[derive(Drop)]
 pub struct Mapper {
     pub seat: Seat,
@@ -56,7 +56,8 @@ fn look(words: &Words, seat: &mut Seat, dom: DomId, gref: GrantRef) -> Sight
     Sight { word, entry }
 }
 
-// Looks at an entry and reads its frame, as a map does. None if it is no page, since nothing else can be mapped.
+// Looks at an entry and reads its frame, as a map does. Returns None if it is not a page, since nothing else can be
+// mapped.
 #[inline(always)]
 fn look_at_page(words: &Words, seat: &mut Seat, dom: DomId, gref: GrantRef) -> Option<Sight>
     requires seat { IsSeatOf words.now seat.old }
@@ -78,7 +79,7 @@ fn look_at_page(words: &Words, seat: &mut Seat, dom: DomId, gref: GrantRef) -> O
     Some(Sight { word, entry })
 }
 
-// Tries once to map the entry, if it is a page of the table and granted to the domain named.
+// Tries once to map the entry, if it is a page of the table and granted to the named domain.
 fn map(words: &Words, seat: &mut Seat, target: Target) -> Option<Pin>
     requires seat { IsSeatOf words.now seat.old }
     requires entry { IsEntryOf words.now target.granter target.gref }
@@ -127,7 +128,7 @@ fn map_once(words: &Words, seat: &mut Seat, target: Target) -> bool
     true
 }
 
-/// Maps the entry and unmaps it, so many times, each time with as many tries as it takes. Answers how often.
+/// Maps the entry and unmaps it, this number of times, each time with as many tries as it takes. Returns how often.
 pub(crate) fn map_and_unmap(words: &Words, mapper: Mapper, rounds: u32) -> u32
     requires seat { IsSeatOf words.now mapper.seat }
     requires entry { IsEntryOf words.now mapper.target.granter mapper.target.gref }
@@ -146,8 +147,8 @@ pub(crate) fn map_and_unmap(words: &Words, mapper: Mapper, rounds: u32) -> u32
     done
 }
 
-/// A mapper of the target that keeps a transitive entry to it pinned: the entry `gref` of the domain that the target
-/// names. None if that is no such entry, or the pin was missed.
+/// Makes a mapper of the target that keeps a transitive entry to it pinned: the entry `gref` of the domain that the
+/// target names. Returns None if that is not such an entry, or the pin was missed.
 pub(crate) fn through_via(
     words: &Words,
     mut seat: Seat,

@@ -1,4 +1,4 @@
-//! An owner, who knows its own entries from its own calls.
+//! An owner, which knows its own entries from its own calls.
 ghost use Rattle.std.specs.Prelude.{◌≡◌, ◌≢◌, ◌+◌, ◌<◌, ℕ};
 ghost use Rattle.gt_entry.specs.Spelling.{IsSpelled};
 ghost use Rattle.gt_word_table.specs.Views.{last_of, own_body};
@@ -9,7 +9,7 @@ use gt_entry::{BodyWord, Control, Entry};
 use gt_types::{DomId, GrantRef, LAST_GENERATION, TABLE_ENTRIES};
 use gt_words::{Seat, Words};
 
-/// What an owner keeps of one of its entries.
+/// The owner's knowledge of one of its entries.
 #[derive(Clone, Copy)]
 pub struct Row {
     pub entry: Entry,
@@ -34,8 +34,7 @@ fn store_body(words: &Words, seat: &mut Seat, gref: GrantRef, entry: Entry)
     }
 }
 
-/// Publishes an entry in place of the invalid one, and answers whether it did: not if the old one is not invalid, or
-/// worn.
+/// Publishes an entry instead of the invalid one. Returns whether it did: not if the old one is not invalid, or worn.
 pub(crate) fn publish(
     words: &Words,
     seat: &mut Seat,
@@ -61,7 +60,7 @@ pub(crate) fn publish(
     true
 }
 
-/// Revokes the entry, and answers whether it did: not if it has pins, or is invalid.
+/// Revokes the entry. Returns whether it did: not if it has pins, or is invalid.
 pub(crate) fn revoke(words: &Words, seat: &mut Seat, gref: GrantRef, row: &mut Row) -> bool
     requires owner { Owns words.now seat.old gref row.old }
     ensures owner { OwnsStill seat.old seat.new gref row.new }
@@ -77,8 +76,8 @@ pub(crate) fn revoke(words: &Words, seat: &mut Seat, gref: GrantRef, row: &mut R
     true
 }
 
-/// Withdraws the entry by one exchange from the word that it finds, and answers whether it did: not if it is invalid,
-/// or if pins came or went meanwhile.
+/// Withdraws the entry by one exchange from the word that it finds. Returns whether it did: not if it is invalid, or if
+/// pins came or went in between.
 pub(crate) fn withdraw(
     words: &Words,
     seat: &mut Seat,
@@ -101,7 +100,7 @@ pub(crate) fn withdraw(
     true
 }
 
-/// A writable page for the domain.
+/// Returns a writable page entry for the domain.
 pub(crate) fn page(dom: DomId) -> Entry
     ensures { result ≢ Entry.Invalid }
 {
@@ -112,8 +111,8 @@ pub(crate) fn page(dom: DomId) -> Entry
     }
 }
 
-/// Revokes the entry and grants it to the domain again, so many times, each time with as many tries as it takes.
-/// Answers how often: less if the entry is worn.
+/// Revokes the entry and grants it to the domain again, this number of times, each time with as many tries as it takes.
+/// Returns how often: fewer times if the entry is worn.
 pub(crate) fn revoke_and_grant(
     words: &Words,
     mut seat: Seat,
@@ -137,8 +136,8 @@ pub(crate) fn revoke_and_grant(
     done
 }
 
-/// Withdraws the entry, and grants it to the domain again once it has no pin, so many times, each time with as many
-/// tries as it takes. Answers how often: less if the entry is worn.
+/// Withdraws the entry, and grants it to the domain again once it has no pin, this number of times, each time with as
+/// many tries as it takes. Returns how often: fewer times if the entry is worn.
 pub(crate) fn withdraw_and_grant(
     words: &Words,
     mut seat: Seat,

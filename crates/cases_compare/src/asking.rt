@@ -1,4 +1,4 @@
-//! A core and running domains that are asked the same.
+//! A core and running domains that get the same calls.
 use crate::scarce::{Place, Scarce};
 use anyhow::bail;
 use gt_core::{Answer, Begun, Core, Request, Ticked};
@@ -8,11 +8,11 @@ use std::alloc::Global;
 use std::sync::Wait;
 use test_monitor::TestDomain;
 
-// No call takes more steps.
+// The maximum number of steps of a call.
 const MOST_STEPS: u32 = 71;
 
-/// A core, and the running domains of a monitor with the same configuration. A call that was refused memory on the
-/// monitor and has a record is counted.
+/// A core, and the running domains of a monitor with the same configuration. It counts the calls with a record that
+/// failed on the monitor for want of memory.
 #[derive(Drop)]
 pub struct Both<'m> {
     pub core: Core<ScriptPolicy>,
@@ -20,16 +20,16 @@ pub struct Both<'m> {
     pub refused: usize,
 }
 
-/// What came of a call on both.
+/// The result of a call on both.
 #[derive(Drop)]
 pub enum Asked {
     Alike(Answer),
     Otherwise,
-    /// The monitor was refused memory, and the core was not asked.
+    /// An allocation of the monitor failed, and the core did not get the call.
     Refused,
 }
 
-// The next tick, in the memory that it finds; none if memory was refused.
+// Makes the next tick once. Returns None if an allocation failed.
 fn tick_once(
     core: &mut Core<ScriptPolicy>,
     scarce: &mut Scarce,
@@ -41,7 +41,7 @@ fn tick_once(
     Ok(ticked)
 }
 
-// The next tick, made again each time that memory is refused.
+// Makes the next tick, again each time that an allocation fails.
 fn ticked(
     core: &mut Core<ScriptPolicy>,
     scarce: &mut Scarce,
@@ -57,7 +57,7 @@ fn ticked(
     bail!("memory")
 }
 
-// The open call's answer, once its steps are made.
+// Makes the steps of the open call, and returns its answer.
 fn ended(
     core: &mut Core<ScriptPolicy>,
     scarce: &mut Scarce,
@@ -72,7 +72,7 @@ fn ended(
     bail!("a call of the core does not end")
 }
 
-// A call of the core, begun in the memory that it finds; none if memory was refused.
+// Begins a call of the core once. Returns None if an allocation failed.
 fn begin_once(
     core: &mut Core<ScriptPolicy>,
     scarce: &mut Scarce,
@@ -85,7 +85,7 @@ fn begin_once(
     Ok(begun)
 }
 
-// A call of the core, begun again each time that memory is refused.
+// Begins a call of the core, again each time that an allocation fails.
 fn begun(
     core: &mut Core<ScriptPolicy>,
     scarce: &mut Scarce,
@@ -101,7 +101,7 @@ fn begun(
     bail!("memory")
 }
 
-// A whole call of the core.
+// Makes a whole call of the core.
 fn on_core(
     core: &mut Core<ScriptPolicy>,
     scarce: &mut Scarce,
@@ -115,7 +115,7 @@ fn on_core(
     }
 }
 
-// Whether two answers are the same, with the word or bytes that they carry.
+// Returns whether two answers are the same, with the word or bytes that they carry.
 fn is_same(one: &Answer, other: &Answer) -> bool {
     match (one, other) {
         (Answer::Done, Answer::Done) => true,
@@ -131,7 +131,7 @@ fn is_same(one: &Answer, other: &Answer) -> bool {
     }
 }
 
-/// The place of a domain among those configured.
+/// Returns the position of a domain among those configured.
 pub fn place_of(domains: &[DomainConfig], dom: DomId) -> usize {
     domains
         .iter()
@@ -147,7 +147,7 @@ fn is_of_memory(answer: &Answer) -> bool {
 }
 
 impl<'m> Both<'m> {
-    // What the domain at this place on the monitor answers.
+    // Returns the answer of the domain at this position on the monitor.
     fn on_monitor<R: Wait>(
         &mut self,
         rt: &R,
@@ -170,7 +170,7 @@ impl<'m> Both<'m> {
         Ok(live)
     }
 
-    /// Asks the domain at this place on the monitor, and then on the core.
+    /// Makes a call of the domain at this position on the monitor, and then on the core.
     pub fn ask<R: Wait>(
         &mut self,
         rt: &R,
@@ -191,7 +191,7 @@ impl<'m> Both<'m> {
         }
     }
 
-    /// Whether both answer the same, if a call that was refused memory is made again.
+    /// Returns whether both answer the same. A call whose allocation fails is made again.
     pub fn agrees<R: Wait>(
         &mut self,
         rt: &R,

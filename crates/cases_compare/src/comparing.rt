@@ -1,4 +1,4 @@
-//! One script on both.
+//! One script on the core and on the monitor.
 use crate::asking::{Asked, Both, place_of};
 use crate::scarce::Scarce;
 use crate::texts::text_difference;
@@ -12,13 +12,13 @@ use std::alloc::Global;
 use std::sync::Wait;
 use test_monitor::{READ_ONLY, all_running};
 
-// So many entries of each domain are looked at after each call.
+// The number of entries of each domain that are compared after each call.
 const ENTRIES: u32 = 9;
 
 const PAGE: u16 = 4_096;
 
-/// What came of a script: its calls, how many were Ok, which were refused memory, and the first difference, if there is
-/// one.
+/// The result of a script: its calls, how many were Ok, in which of them allocations failed, and the first difference,
+/// if there is one.
 #[derive(Drop)]
 pub struct Compared {
     pub calls: usize,
@@ -27,14 +27,14 @@ pub struct Compared {
     pub difference: Option<String>,
 }
 
-// What both show besides answers differs here.
+// The first thing other than an answer that differs.
 #[derive(Clone, Copy)]
 enum Shows {
     Frame(u16, u64),
     Entry(u16, u32),
 }
 
-// The configuration that the script writes.
+// Returns the configuration in the script.
 fn configured(alloc: Global, script: &Script<'_>) -> anyhow::Result<Config> {
     Ok(Config {
         domains: Vec::from_slice(alloc, script.domains())?,
@@ -49,7 +49,7 @@ fn rights(alloc: Global, script: &Script<'_>) -> anyhow::Result<ScriptPolicy> {
     }
 }
 
-// The first frame of a domain, or the first entry, in which both differ. The entries are mapped by the last domain.
+// Returns the first frame of a domain, or the first entry, in which both differ. The last domain maps the entries.
 fn shown_of<R: Wait>(
     rt: &R,
     alloc: Global,
@@ -82,7 +82,7 @@ fn shown_of<R: Wait>(
     Ok(None)
 }
 
-// The first of all domains' frames and entries in which both differ.
+// Returns the first of all domains' frames and entries in which both differ.
 fn shown_by_all<R: Wait>(
     rt: &R,
     alloc: Global,
@@ -108,7 +108,7 @@ fn call_of<'b, 'a>(step: &'b ScriptStep<'a>) -> anyhow::Result<&'b ScriptCall<'a
     }
 }
 
-// What came of the call of a line.
+// The result of the call of a line.
 #[derive(Clone, Copy)]
 enum Came {
     Done,
@@ -117,8 +117,8 @@ enum Came {
     Differs(Shows),
 }
 
-// What a call is answered on both. Each time that the monitor was refused memory, both show what they did before, and
-// the call is made again.
+// Returns the answer of a call on both. Each time that an allocation of the monitor fails, both must show what they did
+// before, and the call is made again.
 fn answered<R: Wait>(
     rt: &R,
     alloc: Global,
@@ -142,7 +142,7 @@ fn answered<R: Wait>(
     Ok(Err(Came::Otherwise))
 }
 
-// Makes the call of a line on both, adds the line of its answer, and compares what both show then.
+// Makes the call of a line on both, appends the line of its answer, and compares what both then show.
 fn call_made<'a, R: Wait>(
     rt: &R,
     alloc: Global,
@@ -172,7 +172,7 @@ fn call_made<'a, R: Wait>(
     }
 }
 
-// What differs at a line, if anything does.
+// Returns what differs at a line, if anything does.
 fn difference_at(alloc: Global, line: usize, came: Came) -> anyhow::Result<Option<String>> {
     Ok(match came {
         Came::Done | Came::Denied => None,
@@ -186,7 +186,7 @@ fn difference_at(alloc: Global, line: usize, came: Came) -> anyhow::Result<Optio
     })
 }
 
-// All lines of a script on both.
+// Compares all lines of a script on both.
 fn lines_compared<'a, R: Wait>(
     rt: &R,
     alloc: Global,
@@ -242,7 +242,7 @@ fn lines_compared<'a, R: Wait>(
     })
 }
 
-// A core that the script configures.
+// Makes a core with the script's configuration.
 fn core_of(alloc: Global, script: &Script<'_>) -> anyhow::Result<Core<ScriptPolicy>> {
     let (config, allowed) = (configured(alloc, script)?, rights(alloc, script)?);
     match Core::new(alloc, config, allowed) {
@@ -251,7 +251,7 @@ fn core_of(alloc: Global, script: &Script<'_>) -> anyhow::Result<Core<ScriptPoli
     }
 }
 
-/// Plays a script on both; with `is_refusing` each request for memory of each call is refused once.
+/// Plays a script on both. With `is_refusing` each allocation of each call fails once.
 pub fn compare<R: Wait>(
     rt: &R,
     alloc: Global,

@@ -1,21 +1,21 @@
-//! Asks running domains and the core the same, and compares all that both answer.
+//! A program that makes the same calls on running domains and on the core, and compares all answers.
 //!
 //! The words of the command line are names. `data/x.gt` is for the name `x`: the head of a script, a line `====`, and
-//! bodies parted by lines `----`. Each body is a script with that head, whose lines are all `do`. Its calls are made
+//! bodies separated by lines `----`. Each body is a script with that head, whose lines are all `do`. Its calls are made
 //! one after the other on one thread, by the domains of a monitor and by a core of the same configuration. After each
 //! call these are compared:
 //!
-//! - the answer, with the word that a refusal rests on;
+//! - the answer, with the word that decided a refusal;
 //! - every byte of every frame of every domain;
 //! - what the last domain of the script finds in the first entries of each domain when it maps them: the header, or the
 //!   entry's word with its kind, owner part, pins and generation. A script that grants nothing to its last domain is
 //!   changed by none of this.
 //!
-//! At the end the lines that these answers print, and the records of the domains but the last, are compared with the
-//! text of `gt_host::play` with its audit. What is printed of a name are the scripts, the calls and those of them that
-//! were Ok, or the first difference. After the word `--refusing` each request for memory of each call is refused in
-//! turn, on the monitor and on the core, and lines say which calls of each script were refused where. A script is added
-//! by its lines in a file, and costs no proof. Others are made by `bench/compare.sh`, as many as are asked for.
+//! At the end the lines that these answers print, and the records of the domains except the last, are compared with the
+//! text of `gt_host::play` with its audit. For each name the program prints the scripts, the calls and those that were
+//! Ok, or the first difference. After the word `--refusing` each allocation of each call fails in turn, on the monitor
+//! and on the core, and lines report which calls of each script failed and where. A script is added by its lines in a
+//! file, and costs no proof. `bench/compare.sh` makes others.
 #![tactic(auto)]
 
 mod asking;
@@ -29,7 +29,7 @@ use std::fs;
 use std::rt::Runtime;
 use std::sync::Wait;
 
-/// What came of the scripts of a file.
+/// The results of the scripts of a file.
 #[derive(Drop)]
 struct Tally {
     scripts: usize,
@@ -37,7 +37,7 @@ struct Tally {
     done: usize,
 }
 
-// Compares the bodies one after the other, to the first one that differs.
+// Compares the bodies one after the other, up to the first one that differs.
 fn compare_all<R: Wait>(
     rt: &R,
     alloc: Global,

@@ -1,18 +1,18 @@
-//! Memory that is refused to calls, each request in turn.
+//! Memory of calls of which each allocation fails in turn.
 use anyhow::bail;
 use gt_core::Request;
 use std::alloc::{AllocError, Global};
 use test_flood::Flood;
 
-// What a call finds grows by so many bytes each time that it is refused, and so often at most.
+// A call gets this number of further bytes each time that it fails, and this number of times at most.
 const STEP: usize = 16;
 
 const TRIES: usize = 4_096;
 
-// The comparisons after a refusal find so much memory.
+// The number of bytes for the comparisons after a failure.
 const GAP: usize = 1 << 20;
 
-/// Where a call was refused memory.
+/// The part of a call whose allocation failed.
 #[derive(Clone, Copy)]
 pub enum Place {
     Monitor,
@@ -20,8 +20,8 @@ pub enum Place {
     Tick,
 }
 
-/// How much memory a call finds: all that there is, or none at first and a little more each time that it is refused.
-/// It keeps the names of the calls that were refused, at each place.
+/// The memory of a call: all that there is, or none at first and a little more each time that it fails. It keeps the
+/// names of the calls that failed, for each part.
 #[derive(Drop)]
 pub struct Scarce {
     flood: Option<Flood>,
@@ -32,7 +32,7 @@ pub struct Scarce {
     tick: String,
 }
 
-// The name of a call that takes memory. No other is refused any.
+// Returns the name of a call that allocates. No other call may fail so.
 fn name_of(request: Request<'_>) -> &'static str {
     match request {
         Request::Map { .. } => " map",
@@ -46,7 +46,7 @@ fn name_of(request: Request<'_>) -> &'static str {
 }
 
 impl Scarce {
-    /// Memory is refused by the system at most.
+    /// Makes plentiful memory: at most the system refuses some.
     pub fn plenty(alloc: Global) -> Scarce {
         Scarce {
             flood: None,
@@ -58,7 +58,7 @@ impl Scarce {
         }
     }
 
-    /// The same, or each request of a call is refused once.
+    /// Makes the same, or memory in which each allocation of a call fails once.
     pub fn new(alloc: Global, is_refusing: bool) -> Result<Scarce, AllocError> {
         let mut scarce = Scarce::plenty(alloc);
         if is_refusing {
@@ -67,16 +67,16 @@ impl Scarce {
         Ok(scarce)
     }
 
-    /// The next call finds no memory at first. Answers how often it may be asked: twice if memory is plenty, since the
-    /// system may refuse one request.
+    /// Prepares the next call, which gets no memory at first. Returns how often it may be made: twice if memory is
+    /// plentiful, since the system may refuse one allocation.
     pub fn begin(&mut self) -> usize {
         self.bytes = 0;
-        // What was freed before may wait in lists of small blocks. Only a whole flood takes it.
+        // Memory that was freed may wait in lists of small blocks. Only a whole flood takes it.
         self.is_closed = false;
         if self.flood.is_some() { TRIES } else { 2 }
     }
 
-    /// From here on there is only what the call may find.
+    /// Leaves only the memory of the call.
     pub fn close(&mut self) -> anyhow::Result<()> {
         let Some(flood) = &mut self.flood else {
             return Ok(());
@@ -92,14 +92,14 @@ impl Scarce {
         Ok(())
     }
 
-    /// From here on there is memory for the comparisons.
+    /// Leaves memory for the comparisons.
     pub fn lift(&mut self) {
         if let Some(flood) = &mut self.flood {
             let _ = flood.let_through(GAP);
         }
     }
 
-    /// From here on there is memory for all else.
+    /// Leaves memory for everything else.
     pub fn open(&mut self) {
         self.is_closed = false;
         if let Some(flood) = &mut self.flood {
@@ -107,7 +107,7 @@ impl Scarce {
         }
     }
 
-    /// A call was refused memory here, and finds a little more from now on.
+    /// Notes a failure in this part of a call, and gives it a little more memory.
     pub fn refused(&mut self, place: Place, request: Request<'_>) -> Result<(), AllocError> {
         self.bytes = self.bytes.saturating_add(STEP);
         let names = match place {
@@ -122,7 +122,7 @@ impl Scarce {
         Ok(())
     }
 
-    /// Which calls were refused, and where; nothing if memory is plenty.
+    /// Returns which calls failed, and in which part, or nothing if memory is plentiful.
     pub fn said(&self, alloc: Global) -> Result<String, AllocError> {
         let Scarce {
             monitor,

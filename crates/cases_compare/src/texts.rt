@@ -1,4 +1,4 @@
-//! The text of a run: the lines of its answers, and the records of its domains.
+//! The text of a play compared with the lines of the answers and the records of the domains.
 use crate::asking::Both;
 use anyhow::bail;
 use gt_audit::push_line;
@@ -8,7 +8,7 @@ use gt_types::DomainConfig;
 use std::alloc::Global;
 use test_monitor::TestDomain;
 
-// The audit lines of this domain among those of a text.
+// Returns the audit lines of this domain among those of a text.
 fn lines_of(alloc: Global, text: &str, dom: u16) -> anyhow::Result<String> {
     let begins = format!(in alloc; "audit {dom} ")?;
     let mut out = String::new(alloc);
@@ -21,7 +21,7 @@ fn lines_of(alloc: Global, text: &str, dom: u16) -> anyhow::Result<String> {
     Ok(out)
 }
 
-// The audit lines of a domain's records.
+// Returns the audit lines of a domain's records.
 fn lines_told(
     alloc: Global,
     domain: &TestDomain<'_, ScriptPolicy>,
@@ -34,8 +34,8 @@ fn lines_told(
     Ok(String::from_utf8(told)?)
 }
 
-// The first domain but the last whose records aren't those of a text. How many records there are in all, with those
-// that were lost, and how many the text has.
+// Returns the first domain, except the last, whose records are not those of a text, the number of all records with the
+// lost ones, and the number of records in the text.
 fn records_compared(
     alloc: Global,
     audited: &str,
@@ -58,9 +58,9 @@ fn records_compared(
     Ok((first, told_of, wanted_of))
 }
 
-/// The first thing in which the text of `play` differs: the lines of the answers, or the records of a domain but the
-/// last. If memory was refused, only records are counted: a call that was refused has one more, and a record that
-/// found none counts as lost.
+/// Returns the first thing in which the text of `play` differs: the lines of the answers, or the records of a domain
+/// except the last. If allocations failed, only records are counted: a failed call has one more, and a record that
+/// could not be allocated counts as lost.
 pub fn text_difference(
     alloc: Global,
     script: &str,

@@ -1,10 +1,9 @@
-//! Tells dumps of grant tables, and prints what `gt_entries` writes for each.
+//! A program that decodes dumps of grant tables, and prints what `gt_entries` writes for each.
 //!
-//! A word of the command line is one case: the version of the table, the file with its dump, and then
-//! `hex` if the file is hexadecimal text, `all` if entries of zeros are told too, and `script`
-//! if the lines are to be calls of domain 1. `args` has the cases, `data/` the dumps, which
-//! `tools/entries.c` makes from Xen's header, and `stdout` what must be printed. Its lines were
-//! written from what that program names. A case is added there; that costs no proof.
+//! A word of the command line is one case: the version of the table, the file with its dump, and then `hex` if the file
+//! is hexadecimal text, `all` if entries of zeros are printed too, and `script` if the lines are to be calls of domain
+//! 1. `args` has the cases, `data/` the dumps, which `tools/entries.c` makes from Xen's header, and `stdout` the
+//! expected output. Its lines were written from what that program names. A case is added there; that costs no proof.
 //!
 //! It uses `gt_entries` (the lines), `gt_types` (domains) and `anyhow` (errors).
 #![tactic(auto)]
@@ -14,7 +13,7 @@ use gt_types::DomId;
 use std::fs::File;
 use std::io;
 
-// What a case asks.
+// Returns the options of a case.
 fn asked_of(case: &str) -> DumpOptions {
     let has = |word: &str| case.split(' ').any(|it| it == word);
     DumpOptions {

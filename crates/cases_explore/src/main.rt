@@ -1,9 +1,9 @@
-//! Explores scripts, and prints all texts that each may give.
+//! A program that explores scripts, and prints all texts that each may give.
 //!
-//! The words of the command line are the names: the script `x` is `data/x.gt`. `stdout` has what must be printed: the
-//! texts, which a second program found over all orders. Each text has a witness, which is played: if its answers are
-//! not those of the text, a line says so. A script is added by its file, its name in `args` and its texts in `stdout`;
-//! that costs no proof.
+//! The words of the command line are the names: the script `x` is `data/x.gt`. `stdout` has the expected output: the
+//! texts, which a second program found over all orders. Each text has a witness, which is played. If its answers are
+//! not those of the text, a line reports it. A script is added by its file, its name in `args` and its texts in
+//! `stdout`; that costs no proof.
 #![tactic(auto)]
 
 use anyhow::bail;
@@ -12,10 +12,10 @@ use gt_host::play;
 use std::alloc::Global;
 use std::fs;
 
-// The most states of a script.
+// The maximum number of states of a script.
 const LIMIT: usize = 100_000;
 
-// What `explore` writes for a script: its texts, or the witness of this number.
+// Returns what `explore` writes for a script: its texts, or the witness of this number.
 fn explored(alloc: Global, script: &[u8], witness: Option<usize>) -> anyhow::Result<Vec<u8>> {
     let mut out = Vec::new(alloc);
     let mut reader = script;
@@ -30,7 +30,7 @@ fn explored(alloc: Global, script: &[u8], witness: Option<usize>) -> anyhow::Res
     }
 }
 
-// What `play` prints for a script.
+// Returns what `play` prints for a script.
 fn played(alloc: Global, script: &[u8]) -> anyhow::Result<Vec<u8>> {
     let mut out = Vec::new(alloc);
     let mut reader = script;
@@ -40,7 +40,7 @@ fn played(alloc: Global, script: &[u8]) -> anyhow::Result<Vec<u8>> {
     }
 }
 
-// The domain of an answer.
+// Returns the domain of an answer.
 fn domain_of(answer: &str) -> u16 {
     match answer.split_once(' ') {
         Some((dom, _)) => dom.parse::<u16>().unwrap_or(0),
@@ -48,7 +48,7 @@ fn domain_of(answer: &str) -> u16 {
     }
 }
 
-// The answers of a text without the numbers of their lines, those of the first domain first.
+// Returns the answers of a text without the numbers of their lines, those of the first domain first.
 fn answers(alloc: Global, text: &str) -> anyhow::Result<String> {
     let mut answers = Vec::new(alloc);
     for line in text.lines() {
@@ -65,7 +65,7 @@ fn answers(alloc: Global, text: &str) -> anyhow::Result<String> {
     Ok(all)
 }
 
-// What is wrong with the witness of a text.
+// Returns what is wrong with the witness of a text.
 fn misled(
     alloc: Global,
     script: &[u8],

@@ -1,11 +1,11 @@
-//! What each beginning of a text prints.
+//! The output for each prefix of a text.
 use crate::policies::listed;
 use crate::scripts::{said_of, script_named};
 use std::alloc::Global;
 use std::fs;
 use std::rt::Runtime;
 
-// What a beginning of a script prints with its records, or what is listed of one of a policy.
+// Returns what a prefix of a script prints with its records, or the listing of one of a policy.
 fn outcome(alloc: Global, text: &[u8], is_policy: bool) -> anyhow::Result<String> {
     if is_policy {
         return listed(alloc, text);
@@ -13,7 +13,7 @@ fn outcome(alloc: Global, text: &[u8], is_policy: bool) -> anyhow::Result<String
     Ok(said_of(alloc, text, true)?.text)
 }
 
-// Each outcome that differs from that of the beginning with one byte less, after its count of bytes.
+// Returns each outcome that differs from that of the prefix with one byte less, after its count of bytes.
 fn outcomes(alloc: Global, text: &[u8], is_policy: bool) -> anyhow::Result<String> {
     let mut out = String::new(alloc);
     let mut before = String::from_str(alloc, "none")?;
@@ -28,8 +28,8 @@ fn outcomes(alloc: Global, text: &[u8], is_policy: bool) -> anyhow::Result<Strin
     Ok(out)
 }
 
-/// What the beginnings of a script print with their records: from the empty one to the whole, each time that it
-/// changes. If a beginning prints other lines with its records than without, one more line says so.
+/// Returns what the prefixes of a script print with their records, from the empty one to the whole, each time that it
+/// changes. If a prefix prints other lines with its records than without, one more line reports it.
 pub fn script_beginnings<R: Runtime + AllocGlobal>(
     rt: &R,
     alloc: Global,
@@ -39,7 +39,7 @@ pub fn script_beginnings<R: Runtime + AllocGlobal>(
     outcomes(alloc, script.as_slice(), false)
 }
 
-/// The same of a policy: what is listed of each beginning.
+/// Returns the same for a policy: the listing of each prefix.
 pub fn policy_beginnings<R: Runtime>(rt: &R, alloc: Global, name: &str) -> anyhow::Result<String> {
     let path = format!(in alloc; "{name}.te")?;
     let text = fs::read(rt, path.as_str())?;

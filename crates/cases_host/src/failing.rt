@@ -3,8 +3,8 @@ use gt_host::{PlayFault, play};
 use std::alloc::Global;
 use test_failing::{FailingReader, FailingWriter, failing_line};
 
-// Each read fails after so many bytes, for each number of them. The first number after which `play` answers another
-// fault, or writes something.
+// Lets each read fail after N bytes, for each N. Returns the first N after which `play` returns another fault, or
+// writes something.
 fn untold_read(alloc: Global, script: &[u8], audit: bool) -> Option<usize> {
     for left in 0..script.len() {
         let mut reader = FailingReader::new(script, left);
@@ -18,8 +18,8 @@ fn untold_read(alloc: Global, script: &[u8], audit: bool) -> Option<usize> {
     None
 }
 
-// Each write fails after so many bytes, for each number of them; then only the flush, and then nothing. The first
-// number after which `play` answers otherwise, or what went out is no beginning of the text.
+// Lets each write fail after N bytes, for each N; then only the flush, and then nothing. Returns the first N after
+// which `play` returns something else, or what went out is not a prefix of the text.
 fn untold_write(alloc: Global, script: &[u8], text: &[u8], audit: bool) -> Option<usize> {
     for left in 0..text.len() + 2 {
         let is_short = left <= text.len();
@@ -38,7 +38,7 @@ fn untold_write(alloc: Global, script: &[u8], text: &[u8], audit: bool) -> Optio
     None
 }
 
-/// What a script prints, with or without its records, and whether each read and each write that fails is told.
+/// Returns what a script prints, with or without its records, and whether each failed read and write was reported.
 pub fn failing_said(alloc: Global, script: &[u8], audit: bool) -> anyhow::Result<String> {
     let mut text = Vec::new(alloc);
     let mut reader = script;

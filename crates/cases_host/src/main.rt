@@ -1,18 +1,19 @@
-//! Plays worked scripts and lists worked policies, and prints what each prints, under its name.
+//! A program that plays worked scripts and lists worked policies, and prints the output of each under its name.
 //!
 //! The words of the command line are the names. The script `x` is `data/x.gt`, as the program `gthost` plays it. Those
-//! after the word `--audit` are printed with their records. `args` names them all, and `stdout` has what they must
-//! print: the answers of the calls, line by line, or the script's first fault. Each is played with its audit and
-//! without, and if that changes an answer, or adds a line of no record, a line says so. After the word `--failing` each
-//! read and each write fails after each count of bytes, and a line says whether all of these were told; after
-//! `--failing-audit` the same with the records. After the word `--policy` come policies: `x` is `data/x.te`, as
-//! `gthost` lists it. After `--beginnings` each beginning of a script is played, from no byte to the whole, and what it
-//! prints stands after its count of bytes if it differs from what one byte less prints; after `--policy-beginnings`
-//! those of a policy are listed. After `--refusing`, `--refusing-audit` and `--policy-refusing` each request for memory
-//! is refused in turn, and a line says whether all of these were told. A script or policy is added by its file, its
-//! name in `args` and its lines in `stdout`; that costs no proof.
+//! after the word `--audit` are printed with their records. `args` names them all, and `stdout` has the expected
+//! output: the answers of the calls, line by line, or the script's first fault. Each is played with its audit and
+//! without. If that changes an answer, or adds a line that is not a record, a line reports it.
 //!
-//! If memory is refused, the program ends with status 1, and what it printed is a beginning of `stdout`.
+//! After the word `--failing` each read and each write fails after each count of bytes, and a line states whether all
+//! failures were reported; after `--failing-audit` the same with the records. After the word `--policy` come policies:
+//! `x` is `data/x.te`, as `gthost` lists it. After `--beginnings` each prefix of a script is played, from no byte to
+//! the whole. Its output is printed after its count of bytes if it differs from that of one byte less. After
+//! `--policy-beginnings` the prefixes of a policy are listed. After `--refusing`, `--refusing-audit` and
+//! `--policy-refusing` each allocation fails in turn, and a line states whether all failures were reported. A script or
+//! policy is added by its file, its name in `args` and its lines in `stdout`; that costs no proof.
+//!
+//! If an allocation of the program itself fails, it ends with status 1, and its output is a prefix of `stdout`.
 #![tactic(auto)]
 
 mod beginnings;
@@ -28,7 +29,7 @@ use policies::policy_said;
 use refusing::{policy_refused, script_refused};
 use scripts::{Played, script_named, script_said};
 
-// What is done with the names that follow.
+// The treatment of the names that follow.
 #[derive(Clone, Copy)]
 enum Mode {
     Play,
@@ -41,7 +42,7 @@ enum Mode {
     PolicyRefusing,
 }
 
-// The mode that a word names, if it is no name of a file.
+// Returns the mode that a word names, if it is not the name of a file.
 fn mode_named(word: &str) -> Option<Mode> {
     match word {
         "--audit" => Some(Mode::Audit),
@@ -57,7 +58,7 @@ fn mode_named(word: &str) -> Option<Mode> {
     }
 }
 
-// A text that went to its end.
+// Returns a text that was written completely.
 fn whole(text: String) -> Played {
     Played {
         text,

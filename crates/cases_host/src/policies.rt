@@ -1,10 +1,10 @@
-//! What policies allow.
+//! Listings of policies.
 use gt_policy_list::policy;
 use std::alloc::Global;
 use std::fs;
 use std::rt::Runtime;
 
-/// What is listed of a text, and the fault as it prints, if there is one.
+/// Returns the listing of a text, and the fault as it prints, if there is one.
 pub fn listed(alloc: Global, mut text: &[u8]) -> anyhow::Result<String> {
     let mut written = Vec::new(alloc);
     let outcome = policy(alloc, &mut text, &mut written);
@@ -15,7 +15,7 @@ pub fn listed(alloc: Global, mut text: &[u8]) -> anyhow::Result<String> {
     Ok(out)
 }
 
-// What comes of each line in the place of the `@`, with the line.
+// Returns the results of a text with each of these lines instead of the `@`, with the line.
 fn tried(alloc: Global, text: &str, lines: &str) -> anyhow::Result<String> {
     let mut out = String::new(alloc);
     for line in lines.lines() {
@@ -27,7 +27,7 @@ fn tried(alloc: Global, text: &str, lines: &str) -> anyhow::Result<String> {
     Ok(out)
 }
 
-/// What is listed of a policy. If its text has a line `====`, the lines below that are tried in the place of the `@`
+/// Returns the listing of a policy. If its text has a line `====`, the lines below that are tried instead of the `@`
 /// above it, one after the other.
 pub fn policy_said<R: Runtime>(rt: &R, alloc: Global, name: &str) -> anyhow::Result<String> {
     let path = format!(in alloc; "{name}.te")?;

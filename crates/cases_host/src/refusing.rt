@@ -1,4 +1,4 @@
-//! Scripts and policies that are refused memory, each request in turn.
+//! Scripts and policies of which each allocation fails in turn.
 use crate::scripts::script_named;
 use gt_host::{PlayFault, play};
 use gt_policy_list::{ListingFault, policy};
@@ -7,17 +7,17 @@ use std::fs;
 use std::rt::Runtime;
 use test_flood::Flood;
 
-// No worked script prints more.
+// More bytes than any worked script prints.
 const ROOM: usize = 65_536;
 
-// What is let through grows by so many bytes, and so often at most.
+// The memory grows by this number of bytes, and this number of times at most.
 const STEP: usize = 16;
 
 const TRIES: usize = 65_536;
 
 const GAP: usize = STEP * TRIES;
 
-/// What is done with a text.
+/// A task on a text.
 #[derive(Clone, Copy)]
 pub enum Job {
     Play,
@@ -25,7 +25,7 @@ pub enum Job {
     List,
 }
 
-// How a text went to its end.
+// The end of a task.
 #[derive(Clone, Copy, PartialEq, Eq)]
 enum End {
     Whole,
@@ -48,8 +48,9 @@ fn done(alloc: Global, job: Job, mut text: &[u8], written: &mut Vec<u8>) -> End 
     }
 }
 
-// Does the job with no memory at first, and then with more and more, until it is done. Answers the amount with which
-// it was done, or ended otherwise than it must: with other lines than a beginning of the whole, or with another fault.
+// Does the job with no memory at first, and then with more and more, until it succeeds. Returns the amount with which
+// it succeeded or had a wrong result (lines that are not a prefix of the whole, or another fault), and whether the
+// result was right.
 fn refused(
     alloc: Global,
     flood: &mut Flood,
@@ -74,7 +75,7 @@ fn refused(
     (bytes, false)
 }
 
-// What a text prints, and whether each request for memory that is refused is told.
+// Returns what a text prints, and whether each failed allocation was reported.
 fn said(alloc: Global, job: Job, text: &[u8]) -> anyhow::Result<String> {
     let mut whole = Vec::new(alloc);
     if done(alloc, job, text, &mut whole) != End::Whole {
@@ -95,7 +96,7 @@ fn said(alloc: Global, job: Job, text: &[u8]) -> anyhow::Result<String> {
     Ok(out)
 }
 
-/// What a script prints, with or without its records, and whether each request for memory that is refused is told.
+/// Returns what a script prints, with or without its records, and whether each failed allocation was reported.
 pub fn script_refused<R: Runtime + AllocGlobal>(
     rt: &R,
     alloc: Global,
@@ -107,7 +108,7 @@ pub fn script_refused<R: Runtime + AllocGlobal>(
     said(alloc, job, script.as_slice())
 }
 
-/// The same of a policy: what is listed of it.
+/// Returns the same for a policy: its listing.
 pub fn policy_refused<R: Runtime>(rt: &R, alloc: Global, name: &str) -> anyhow::Result<String> {
     let path = format!(in alloc; "{name}.te")?;
     let text = fs::read(rt, path.as_str())?;

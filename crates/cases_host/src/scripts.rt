@@ -1,22 +1,22 @@
-//! What scripts print.
+//! The output of scripts.
 use gt_host::{PlayFault, play};
 use std::alloc::Global;
 use std::fs;
 use std::rt::Runtime;
 
-// No worked script prints more.
+// More bytes than any worked script prints.
 const ROOM: usize = 65_536;
 
-/// What a play wrote.
+/// The output of a play.
 #[derive(Drop)]
 pub struct Played {
     /// The text, with the fault if the script has one.
     pub text: String,
-    /// Whether memory was refused, so that the text may end early.
+    /// Whether an allocation failed, so that the text may end early.
     pub is_refused: bool,
 }
 
-// What a script prints. The room for its text is asked for before.
+// Returns what a script prints. The space for its text is reserved before.
 fn play_once(alloc: Global, mut script: &[u8], audit: bool) -> anyhow::Result<Played> {
     let mut written = Vec::with_capacity(alloc, ROOM)?;
     let outcome = play(alloc, &mut script, &mut written, audit);
@@ -30,7 +30,7 @@ fn play_once(alloc: Global, mut script: &[u8], audit: bool) -> anyhow::Result<Pl
     Ok(Played { text, is_refused })
 }
 
-// The text, and then lines of records.
+// Returns whether the audited text is the text, followed by lines of records.
 fn adds_records(text: &str, audited: &str) -> bool {
     match audited.strip_prefix(text) {
         Some(rest) => rest.lines().all(|line| line.starts_with("audit ")),
@@ -38,7 +38,7 @@ fn adds_records(text: &str, audited: &str) -> bool {
     }
 }
 
-/// The bytes of a script.
+/// Returns the bytes of a script.
 pub fn script_named<R: Runtime + AllocGlobal>(
     rt: &R,
     alloc: Global,
@@ -48,7 +48,8 @@ pub fn script_named<R: Runtime + AllocGlobal>(
     Ok(fs::read(rt, path.as_str())?)
 }
 
-/// What a text prints as a script, with or without its records. If its audit prints other lines, one more says so.
+/// Returns what a text prints as a script, with or without its records. If its audit prints other lines, one more line
+/// reports it.
 pub fn said_of(alloc: Global, script: &[u8], audit: bool) -> anyhow::Result<Played> {
     let mut said = play_once(alloc, script, audit)?;
     if said.is_refused {
@@ -70,7 +71,7 @@ pub fn said_of(alloc: Global, script: &[u8], audit: bool) -> anyhow::Result<Play
     Ok(said)
 }
 
-/// What a script prints, with or without its records, as [`said_of`] says it.
+/// Returns what a script prints, with or without its records, as [`said_of`] does.
 pub fn script_said<R: Runtime + AllocGlobal>(
     rt: &R,
     alloc: Global,

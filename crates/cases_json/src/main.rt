@@ -1,10 +1,10 @@
-//! Writes texts as JSON Lines, and prints what `gt_json` writes for each, under the text's name.
+//! A program that writes texts as JSON Lines, and prints what `gt_json` writes for each, under the text's name.
 //!
-//! The words of the command line are the names of texts in `data/`: `run.txt` has lines that `play` and `run` print,
-//! of each form some, `policy.txt` such of `policy`, `entries.txt` such of `entries`, and `odd.txt` lines that
-//! none of them prints. `args` names them, and `stdout` has what must be printed. It was written by
-//! `tools/json_lines.py`, which makes JSON of texts in its own way, checks it by another reader, and makes the
-//! text of it again. After `odd.txt` a line says whether each write that fails was told.
+//! The words of the command line are the names of texts in `data/`: `run.txt` has lines of `play` and `run`, some of
+//! each form, `policy.txt` lines of `policy`, `entries.txt` lines of `entries`, and `odd.txt` lines that none of them
+//! prints. `args` names them, and `stdout` has the expected output. It was written by `tools/json_lines.py`, which
+//! makes JSON of texts independently, checks it by another reader, and makes the text of it again. After `odd.txt` a
+//! line states whether each failed write was reported.
 #![tactic(auto)]
 
 use anyhow::bail;
@@ -13,7 +13,7 @@ use std::alloc::Global;
 use std::fs;
 use test_failing::{FailingWriter, failing_line};
 
-// The command that prints a text of this name.
+// Returns the command that prints a text of this name.
 fn printed_by(name: &str) -> PrintedText {
     match name {
         "policy.txt" => PrintedText::Policy,
@@ -22,8 +22,8 @@ fn printed_by(name: &str) -> PrintedText {
     }
 }
 
-// Each write fails after so many bytes, for each number of them; then only the flush, and then nothing. The first
-// number after which the answer is another, or what went out is no beginning of the JSON.
+// Lets each write fail after N bytes, for each N; then only the flush, and then nothing. Returns the first N after
+// which the answer is another, or what went out is not a prefix of the JSON.
 fn untold_write(alloc: Global, printed: PrintedText, text: &[u8], json: &[u8]) -> Option<usize> {
     for left in 0..json.len().saturating_add(2) {
         let is_short = left <= json.len();

@@ -1,8 +1,8 @@
-//! Asks worked policies who allows what, and checks them, and prints what is said.
+//! A program that checks worked policies with `gt_policy_check`, and asks them who allows what.
 //!
 //! The words of the command line are names of policies `data/NAME.te`, which are checked. After the word `--why` they
-//! come in fours: a name, and the source, target and permission that are asked for, with `-` for any type. `args` has
-//! the words, and `stdout` what they must print. A policy is added by its file, its name in `args` and its lines in
+//! come in fours: a name, and the source, target and permission of a question, with `-` for any type. `args` has the
+//! words, and `stdout` the expected output. A policy is added by its file, its name in `args` and its lines in
 //! `stdout`; a question by its words and lines. That costs no proof.
 #![tactic(auto)]
 
@@ -13,7 +13,7 @@ use questions::answer_said;
 use reports::{report_said, wide_said};
 use std::fs;
 
-// The index of the first question.
+// Returns the index of the first question.
 fn questions_from(words: &[String]) -> usize {
     for (i, word) in words.iter().enumerate() {
         if word.as_str() == "--why" {

@@ -1,13 +1,13 @@
-//! What is answered.
+//! The answers to questions.
 use gt_policy_check::{WhyAnswer, WhyQuestion, why};
 use std::alloc::Global;
 
-// The type that a word asks for, none for any.
+// Returns the type that a word names, or None for any type.
 fn wanted(word: &str) -> Option<&str> {
     if word == "-" { None } else { Some(word) }
 }
 
-// What is said of a question about a name that there is not.
+// Returns the line for a question with an unknown name, and an empty text for other answers.
 fn refusal(answer: WhyAnswer) -> &'static str {
     match answer {
         WhyAnswer::Allowed => "",
@@ -18,7 +18,7 @@ fn refusal(answer: WhyAnswer) -> &'static str {
     }
 }
 
-/// The lines of an answer, or the policy's fault as it prints.
+/// Returns the lines of an answer, or the policy's fault as it prints.
 pub fn answer_said(
     alloc: Global,
     file: &str,

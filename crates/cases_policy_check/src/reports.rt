@@ -1,8 +1,8 @@
-//! What is wrong or useless in policies.
+//! The findings of policies.
 use gt_policy_check::{Finding, FindingKind, check, push_json, push_report};
 use std::alloc::Global;
 
-/// What is found in a policy, as text and then as JSON.
+/// Returns the findings of a policy, as text and then as JSON.
 pub fn report_said(alloc: Global, file: &str, text: &str) -> anyhow::Result<String> {
     let found = check(alloc, text)?;
     let mut said = Vec::new(alloc);
@@ -11,10 +11,10 @@ pub fn report_said(alloc: Global, file: &str, text: &str) -> anyhow::Result<Stri
     Ok(String::from_utf8(said)?)
 }
 
-// Letters that take two columns and one, a mark over the one before it, and a control character.
+// Letters that take two columns and one, a combining mark, and a control character.
 const WIDE: &str = "日本 e\u{301}\u{1b}x";
 
-/// What is printed of a finding at the end of a line of such letters.
+/// Returns what is printed of a finding at the end of a line of such letters.
 pub fn wide_said(alloc: Global) -> anyhow::Result<String> {
     let mut found = Vec::new(alloc);
     found.push(Finding {

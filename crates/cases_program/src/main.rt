@@ -1,10 +1,10 @@
-//! Tries command lines of the program `gthost`, and prints what each writes, with its exit status.
+//! A program that tries command lines of the program `gthost`, and prints what each writes, with its exit status.
 //!
-//! Each word of this program's own command line is a command line of `gthost`, whose words are between
-//! blanks. After `full: ` comes one whose texts go to a writer that is full, and after `unflushed: ` one whose texts go
-//! to a writer that takes all and can't hand it on. What `gthost` writes to the standard error goes to the standard
-//! output here, so that `stdout` has it. `args` has the command lines, `data/` their files, and `stdin` the text for
-//! those that name none. A command line is added there; that costs no proof.
+//! Each word of this program's own command line is a command line of `gthost`, whose words are separated by blanks.
+//! After `full: ` comes one whose texts go to a writer that is full, and after `unflushed: ` one whose texts go to a
+//! writer that takes all and fails to flush. What `gthost` writes to the standard error goes to the standard output
+//! here, so that `stdout` has it. `args` has the command lines, `data/` their files, and `stdin` the text for those
+//! that name none. A command line is added there; that costs no proof.
 #![tactic(auto)]
 
 use gt_program::{System, obey};
@@ -15,7 +15,7 @@ use std::rt::Runtime;
 use std::sync::Wait;
 use std::thread::Threads;
 
-// The standard output, in the place of the standard error.
+// The standard output, used as the standard error.
 #[derive(Drop)]
 struct Screen<'r, R> {
     rt: &'r R,
@@ -31,7 +31,7 @@ impl<'r, R: Print> Eprint for Screen<'r, R> {
     }
 }
 
-// A writer that is full: it takes nothing, or it takes all and can't hand it on.
+// A full writer: it takes nothing, or it takes all and fails to flush.
 #[derive(Clone, Copy, PartialEq, Eq)]
 enum Full {
     TakesNothing,
@@ -58,7 +58,7 @@ impl Write for Full {
     }
 }
 
-// A command line, and the full writer that its prefix names.
+// Returns a command line, and the full writer that its prefix names.
 fn full_named(line: &str) -> Option<(Full, &str)> {
     if let Some(line) = line.strip_prefix("full: ") {
         return Some((Full::TakesNothing, line));
@@ -77,7 +77,7 @@ fn words_of(alloc: Global, line: &str) -> Result<Vec<String>, AllocError> {
     Ok(words)
 }
 
-// Does what a command line asks for, and answers the exit status.
+// Does what a command line asks for, and returns the exit status.
 fn try_line<R: Runtime + AllocGlobal + Threads + Wait + Sync>(
     rt: &R,
     line: &str,

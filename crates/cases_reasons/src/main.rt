@@ -1,9 +1,10 @@
-//! Gives scripts to `play` or `run`, and prints why each was refused, or which rules come near what its policy refused.
+//! A program that gives scripts to `play` or `run`, and prints why each was refused, or the near misses of what its
+//! policy refused.
 //!
-//! `data/cases.txt` has the scripts, each after a line `== play NAME` or `== run NAME`, which says the command that the
-//! script is given to. `stdout` has what must be printed under that line: the fixed line of the fault, and the reason
-//! that `gt_reasons` adds; or the reasons alone, for a script that was played. The lines of `stdout` were
-//! written by hand, from docs/FORMATS_SCRIPTS.md. A case is added to both files; that costs no proof.
+//! `data/cases.txt` has the scripts, each after a line `== play NAME` or `== run NAME` with its command. `stdout` has
+//! the expected output under that line: the fixed line of the fault, and the reason that `gt_reasons` adds; or only the
+//! reasons, for a script that was played. The lines of `stdout` were written by hand, from docs/FORMATS_SCRIPTS.md. A
+//! case is added to both files; that costs no proof.
 #![tactic(auto)]
 
 use anyhow::bail;
@@ -16,7 +17,7 @@ use std::io::Write;
 
 const FILE: &str = "x.gt";
 
-// Why the script is refused, or the rules that come near.
+// Returns why the script is refused, or the near misses.
 fn play_said(alloc: Global, script: &[u8]) -> anyhow::Result<Vec<u8>> {
     let mut text = Vec::new(alloc);
     let mut said = Vec::new(alloc);
@@ -36,7 +37,7 @@ fn play_said(alloc: Global, script: &[u8]) -> anyhow::Result<Vec<u8>> {
     Ok(said)
 }
 
-// The same of a script for `run`, which is only read.
+// Returns the same for a script for `run`, which is only parsed.
 fn run_said(alloc: Global, script: &[u8]) -> anyhow::Result<Vec<u8>> {
     let mut said = Vec::new(alloc);
     match parse_run(alloc, script) {

@@ -1,4 +1,4 @@
-//! What each beginning of a script prints.
+//! The output for each prefix of a script.
 use crate::running::run_text;
 use gt_audit::SharedLog;
 use gt_run::FlagGate;
@@ -6,7 +6,7 @@ use std::alloc::Global;
 use std::sync::Wait;
 use std::thread::Threads;
 
-// The text, and then lines of records.
+// Returns whether the audited text is the text, followed by lines of records.
 fn adds_records(text: &str, audited: &str) -> bool {
     match audited.strip_prefix(text) {
         Some(rest) => rest.lines().all(|line| line.starts_with("audit ")),
@@ -14,7 +14,8 @@ fn adds_records(text: &str, audited: &str) -> bool {
     }
 }
 
-// What a text prints as a script with its records. If it prints other lines without them, one more says so.
+// Returns what a text prints as a script with its records. If it prints other lines without them, one more line reports
+// it.
 fn outcome<R: Threads + Wait + Sync>(
     rt: &R,
     alloc: Global,
@@ -31,7 +32,7 @@ fn outcome<R: Threads + Wait + Sync>(
     Ok(audited)
 }
 
-/// What the beginnings of a script print with their records: from the empty one to the whole, each time that it
+/// Returns what the prefixes of a script print with their records, from the empty one to the whole, each time that it
 /// changes, after the count of bytes.
 pub fn beginnings_said<R: Threads + Wait + Sync>(
     rt: &R,

@@ -7,8 +7,8 @@ use std::sync::Wait;
 use std::thread::Threads;
 use test_failing::failing_line;
 
-// Each read fails after so many bytes, for each number of them. The first number after which `run` answers another
-// fault, or writes something.
+// Lets each read fail after N bytes, for each N. Returns the first N after which `run` returns another fault, or writes
+// something.
 fn untold_read<R: Threads + Wait + Sync>(
     rt: &R,
     alloc: Global,
@@ -25,8 +25,8 @@ fn untold_read<R: Threads + Wait + Sync>(
     Ok(None)
 }
 
-// Each write fails after so many bytes, for each number of them; then only the flush, and then nothing. The first
-// number after which `run` answers otherwise, or what went out is no beginning of the text with its audit lines.
+// Lets each write fail after N bytes, for each N; then only the flush, and then nothing. Returns the first N after
+// which `run` returns something else, or what went out is not a prefix of the text with its audit lines.
 fn untold_write<R: Threads + Wait + Sync>(
     rt: &R,
     alloc: Global,
@@ -47,7 +47,7 @@ fn untold_write<R: Threads + Wait + Sync>(
     Ok(None)
 }
 
-/// What a script prints with its audit lines, and whether each read and each write that fails is told.
+/// Returns what a script prints with its audit lines, and whether each failed read and write was reported.
 pub fn failing_said<R: Threads + Wait + Sync>(
     rt: &R,
     alloc: Global,

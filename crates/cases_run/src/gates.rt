@@ -1,4 +1,4 @@
-//! Runs at gates of limited turns.
+//! Gates that end the wait after a number of turns.
 use crate::running::run_text;
 use gt_audit::SharedLog;
 use gt_run::Gate;
@@ -11,20 +11,20 @@ use std::thread::Threads;
 
 const TURNS: u64 = 100_000_000;
 
-// Whom a gate lets on.
+// The domains that a gate lets through.
 #[derive(Clone, Copy, PartialEq, Eq)]
 enum Way {
-    /// Nobody, and it says so at once.
+    /// None, and it returns false at once.
     Closed,
-    /// Nobody, after all turns.
+    /// None, after all turns.
     Deaf,
-    /// Whoever comes, whatever flag it waits for, once so many callers are there.
+    /// Each that comes, whatever flag it waits for, once this number of callers are there.
     Meeting(u64),
-    /// A domain whose flag is raised.
+    /// Each whose flag is raised.
     Flags,
 }
 
-// Records of a domain in a log: all below this number are there, and no more. They are looked for where a flag is
+// A check that a log has all records of a domain below this number, and no others. It is made each time that a flag is
 // awaited, and each time that this one is raised.
 #[derive(Clone, Copy)]
 struct Look<'l> {
@@ -45,7 +45,7 @@ impl<'l> Look<'l> {
     }
 }
 
-/// A gate that gives up after so many turns. It may look into a log where a flag is raised and where one is awaited.
+/// A gate that returns false after a number of turns. It may check a log when a flag is raised and when one is awaited.
 #[derive(Drop)]
 pub struct Turns<'l> {
     way: Way,
@@ -75,23 +75,23 @@ impl<'l> Turns<'l> {
         }
     }
 
-    /// A gate that lets nobody on.
+    /// Makes a gate that lets no domain through.
     pub fn closed() -> Turns<'l> {
         Turns::new(Way::Closed, None)
     }
 
-    /// A gate that hears nobody: it lets nobody on after all turns.
+    /// Makes a gate that lets no domain through after all turns.
     pub fn deaf() -> Turns<'l> {
         Turns::new(Way::Deaf, None)
     }
 
-    /// A gate at which so many callers meet, whatever they wait for.
+    /// Makes a gate at which this number of callers meet, whatever they wait for.
     pub fn meeting(callers: u64) -> Turns<'l> {
         Turns::new(Way::Meeting(callers), None)
     }
 
-    /// A gate that lets a domain on once its flag is raised. It looks whether all records below this number are there,
-    /// of this domain, and no more.
+    /// Makes a gate that lets a domain through once its flag is raised. It checks whether all records of this domain
+    /// below this number are there, and no others.
     pub fn looking(log: &'l SharedLog, dom: DomId, wanted: u64, flag: usize) -> Turns<'l> {
         let look = Look {
             log,
@@ -102,7 +102,7 @@ impl<'l> Turns<'l> {
         Turns::new(Way::Flags, Some(look))
     }
 
-    /// Whether a look found them: each time that the flag was raised, and where one was awaited.
+    /// Returns whether a check found them: each time that the flag was raised, and when one was awaited.
     pub fn found(&self) -> (bool, bool) {
         let is_early = self.before.load(Ordering::SeqCst);
         (
@@ -111,7 +111,7 @@ impl<'l> Turns<'l> {
         )
     }
 
-    // Notes what the look finds where a flag is raised.
+    // Notes the result of the check when a flag is raised.
     fn note_told(&self, flag: usize) {
         let Some(look) = self.look else {
             return;
@@ -126,14 +126,14 @@ impl<'l> Turns<'l> {
         }
     }
 
-    // Notes if the look finds what it looks for where a flag is awaited.
+    // Notes if the check succeeds when a flag is awaited.
     fn note_awaited(&self) {
         if self.look.is_some_and(|look| look.has_all()) {
             self.at_pass.store(true, Ordering::SeqCst);
         }
     }
 
-    // Whether it lets the domain on now.
+    // Returns whether it lets the domain through now.
     fn lets_on(&self, flag: usize) -> bool {
         match self.way {
             Way::Closed | Way::Deaf => false,
@@ -170,7 +170,7 @@ impl<'l> Gate for Turns<'l> {
     }
 }
 
-/// What a script prints at this gate.
+/// Returns what a script prints at this gate.
 pub fn gate_said<R: Threads + Wait + Sync>(
     rt: &R,
     alloc: Global,
@@ -181,8 +181,8 @@ pub fn gate_said<R: Threads + Wait + Sync>(
     ended.said(alloc)
 }
 
-/// What a script prints with its audit lines, and whether a gate finds both records of domain 2 each time that the
-/// second flag is raised, or where one is awaited; and how many records there are in the end.
+/// Returns what a script prints with its audit lines, whether a gate finds both records of domain 2 each time that the
+/// second flag is raised, or when one is awaited, and how many records there are in the end.
 pub fn records_said<R: Threads + Wait + Sync>(
     rt: &R,
     alloc: Global,

@@ -1,36 +1,36 @@
-//! The text of a run that was refused memory beside the whole text.
+//! The text of a run whose allocations failed, compared with the whole text.
 
 use std::str::Lines;
 
-// What a call is answered that finds no memory.
+// The answer of a call whose allocation failed.
 const REFUSED: &str = "N26 -1";
 
-/// What a text lacks of the whole one, or has in its place.
+/// The difference of a text from the whole one.
 #[derive(Clone, Copy)]
 pub struct Shortage {
     /// The line of the script whose call was answered N26, the last one if there are several.
     pub denied: Option<usize>,
-    /// How many lines of records are missing.
+    /// The number of missing lines of records.
     pub missing: u64,
-    /// How many records it tells as lost.
+    /// The number of records that it reports as lost.
     pub lost: u64,
     /// Whether it ends before the last answer.
     pub is_short: bool,
 }
 
 impl Shortage {
-    /// Whether it is the whole text.
+    /// Returns whether it is the whole text.
     pub fn is_nothing(&self) -> bool {
         self.denied.is_none() && self.missing == 0 && self.lost == 0 && !self.is_short
     }
 
-    /// Whether each call has its answer, and each record is there or told as lost.
+    /// Returns whether each call has its answer, and each record is there or reported as lost.
     pub fn is_told(&self) -> bool {
         !self.is_short && self.missing == self.lost
     }
 }
 
-// The same line, or the line of the same call that found no memory.
+// Returns whether the line is the same, or that of the same call with a failed allocation.
 fn is_alike(line: &str, said: &str) -> bool {
     if line == said {
         return true;
@@ -41,8 +41,8 @@ fn is_alike(line: &str, said: &str) -> bool {
     }
 }
 
-// Passes over the lines of the whole text up to the one that was said, and answers how many these are: records. None if
-// that line comes nowhere, or only after the line of an answer.
+// Skips the lines of the whole text up to this one, and returns how many these are: records. Returns None if that line
+// is not there, or only after the line of an answer.
 fn passed_over<'a>(rest: &mut Lines<'a>, said: &str) -> Option<u64> {
     let mut missing = 0u64;
     while let Some(line) = rest.next() {
@@ -57,8 +57,8 @@ fn passed_over<'a>(rest: &mut Lines<'a>, said: &str) -> Option<u64> {
     None
 }
 
-/// What a text lacks of the whole one: answers at its end, records anywhere. None if it has anything else than the
-/// lines of the whole one, in their order, each of them whole.
+/// Returns what a text lacks of the whole one: answers at its end, records anywhere. Returns None if it has anything
+/// other than whole lines of the whole one, in their order.
 pub fn lacks(whole: &str, text: &str) -> Option<Shortage> {
     let mut found = Shortage {
         denied: None,

@@ -7,13 +7,13 @@ use std::fmt::Write;
 use std::sync::Wait;
 use std::thread::Threads;
 
-// A call that one domain makes over and over, in a script of no more than 1,048,576 bytes.
+// A call that one domain makes repeatedly, in a script of at most 1,048,576 bytes.
 #[derive(Clone, Copy)]
 struct Long {
     call: &'static str,
     count: usize,
     answer: &'static str,
-    // Empty if it runs without records.
+    // Empty if the run has no records.
     record: &'static str,
 }
 
@@ -31,7 +31,7 @@ const UNMAPS: Long = Long {
     record: "audit 1 unmap - - : N6 -4",
 };
 
-// The body begins at line 3.
+// Returns the script. Its body begins at line 3.
 fn script(alloc: Global, long: Long) -> Result<String, AllocError> {
     let mut text = String::new(alloc);
     let _ = writeln!(text, "triple a_t a_t query");
@@ -42,7 +42,7 @@ fn script(alloc: Global, long: Long) -> Result<String, AllocError> {
     Ok(text)
 }
 
-// What it prints.
+// Returns what it prints.
 fn answers(alloc: Global, long: Long) -> Result<String, AllocError> {
     let mut text = String::new(alloc);
     for before in 0..long.count {
@@ -56,7 +56,7 @@ fn answers(alloc: Global, long: Long) -> Result<String, AllocError> {
     Ok(text)
 }
 
-/// Whether the longest lists print what they must, with records and without.
+/// Returns whether the longest lists print the expected lines, with records and without.
 pub fn long_said<R: Threads + Wait + Sync>(rt: &R, alloc: Global) -> anyhow::Result<String> {
     let mut out = String::new(alloc);
     for long in [QUERIES, UNMAPS] {

@@ -1,22 +1,23 @@
-//! Runs worked scripts and prints what each prints, under its name.
+//! A program that runs worked scripts, and prints the output of each under its name.
 //!
 //! The words of the command line are the names. The script `x` is `data/x.gt`, as the program `gthost` runs it. `args`
-//! names them all, and `stdout` has what they must print. A script is added by its file, its name in `args` and its
-//! lines in `stdout`. A word of `args` that begins with `--` says how the scripts after it are run:
+//! names them all, and `stdout` has the expected output. A script is added by its file, its name in `args` and its
+//! lines in `stdout`. A word of `args` that begins with `--` specifies how the scripts after it are run:
 //!
 //! - `--audit`: with their audit lines.
-//! - `--failing`: each read and each write fails after each count of bytes, and a line says whether all were told.
-//! - `--closed` and `--deaf`: at a gate that gives up, at once or after all its turns.
-//! - `--two-meet` and `--three-meet`: at a gate that lets domains on once so many are there.
-//! - `--told` and `--awaited`: at a gate that looks for both records of domain 2. A line says whether it found them
-//!   each time that the second flag was raised, or where one was awaited, and how many records the log has.
-//! - `--beginnings`: each beginning of the script, from no byte to the whole, with its records and without. What it
-//!   prints stands after its count of bytes if it differs from what one byte less prints.
-//! - `--refusing`: threads and memory are refused in turn, each with its records, and lines say what came of that. It
-//!   comes first, since a thread that found memory leaves some to those that come after it. `--run` ends it.
+//! - `--failing`: each read and each write fails after each count of bytes, and a line states whether all were
+//!   reported.
+//! - `--closed` and `--deaf`: at a gate that lets no domain through, at once or after all its turns.
+//! - `--two-meet` and `--three-meet`: at a gate that lets domains through once two or three are there.
+//! - `--told` and `--awaited`: at a gate that checks for both records of domain 2. A line states whether it found them
+//!   each time that the second flag was raised, or when one was awaited, and how many records the log has.
+//! - `--beginnings`: each prefix of the script, from no byte to the whole, with its records and without. Its output is
+//!   printed after its count of bytes if it differs from that of one byte less.
+//! - `--refusing`: threads and allocations fail in turn, each with the records, and lines report the results. It comes
+//!   first, since a thread that could allocate leaves memory to those that come after it. `--run` ends it.
 //!
-//! No name comes after two more words. After `--many` as many domains as a run may have, with long lists that are made
-//! here, meet at a gate. After `--long` one domain has as many lines as a script has room for.
+//! Two more words have no name after them. After `--many` as many domains as a run may have, with long lists that are
+//! made here, meet at a gate. After `--long` one domain has as many lines as a script has room for.
 #![tactic(auto)]
 
 mod beginnings;
@@ -44,7 +45,7 @@ use std::rt::Runtime;
 use std::sync::Wait;
 use std::thread::Threads;
 
-// How the scripts that follow are run.
+// The treatment of the scripts that follow.
 #[derive(Clone, Copy)]
 enum Mode {
     Run,
@@ -59,7 +60,7 @@ enum Mode {
     Refusing,
 }
 
-// The mode that a word names, if it is no name of a file.
+// Returns the mode that a word names, if it is not the name of a file.
 fn mode_named(word: &str) -> Option<Mode> {
     match word {
         "--audit" => Some(Mode::Audit),
@@ -95,7 +96,7 @@ fn run_file<R: Runtime + Threads + Wait + Sync>(
     Ok(())
 }
 
-// Runs a file and prints what is said of that.
+// Runs a file in a mode, and prints the result.
 fn try_file<R: Runtime + Threads + Wait + Sync>(
     rt: &R,
     alloc: Global,

@@ -11,8 +11,8 @@ const DOMAINS: u16 = MAX_DOMAINS as u16;
 
 const ROUNDS: u16 = 100;
 
-// The script, whose body begins after a line for each domain and one more: all domains meet, and then each does what
-// no other sees, four calls a round.
+// Returns the script, whose body begins after a line for each domain and one more. All domains meet, and then each does
+// what no other sees, four calls per round.
 fn script(alloc: Global) -> Result<String, AllocError> {
     let mut text = String::new(alloc);
     let _ = writeln!(text, "triple a_t a_t map_read");
@@ -32,7 +32,7 @@ fn script(alloc: Global) -> Result<String, AllocError> {
     Ok(text)
 }
 
-// What it prints.
+// Returns what it prints.
 fn answers(alloc: Global) -> Result<String, AllocError> {
     let mut text = String::new(alloc);
     let mut line = u32::from(DOMAINS) + 1;
@@ -49,7 +49,7 @@ fn answers(alloc: Global) -> Result<String, AllocError> {
     Ok(text)
 }
 
-/// Whether as many domains as a run may have print the same in each of two runs.
+/// Returns whether as many domains as a run may have print the same in each of two runs.
 pub fn many_said<R: Threads + Wait + Sync>(rt: &R, alloc: Global) -> anyhow::Result<String> {
     let script = script(alloc)?;
     let wanted = answers(alloc)?;

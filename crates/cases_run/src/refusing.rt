@@ -1,4 +1,4 @@
-//! Runs that are refused threads and memory, each in turn.
+//! Runs in which threads and allocations fail, each in turn.
 use crate::likeness::{Shortage, lacks};
 use crate::running::{run_recorded, run_text};
 use crate::scarce::{End, GAP, Place, Scarce, run_scarce};
@@ -10,11 +10,11 @@ use std::sync::{Mutex, Wait};
 use std::thread::Threads;
 use test_flood::Flood;
 
-// No worked script prints more.
+// More bytes than any worked script prints.
 const ROOM: usize = 65_536;
 
-// What is left grows by so many bytes at first, and then by pages. A domain's thread has no heap while the flood
-// stands, so each of its blocks takes pages of its own.
+// The memory grows by this number of bytes at first, and then by pages. A domain's thread has no heap while the flood
+// is closed, so each of its blocks takes its own pages.
 const STEP: usize = 16;
 
 const FINE: usize = 32_768;
@@ -23,8 +23,8 @@ const PAGE: usize = 4_096;
 
 const TRIES: usize = 4_096;
 
-// A stack takes a little less: 8 MiB and its guard. So much is kept for each until it is wanted, since a flood that
-// was closed may leave no piece of that size.
+// A stack takes a little less: 8 MiB and its guard. This is kept for each until it is wanted, since a flood that was
+// closed may leave no piece of that size.
 const STACK: usize = 9 << 20;
 
 // A script, and what it prints with its records.
@@ -34,7 +34,7 @@ struct Job<'a> {
     whole: &'a str,
 }
 
-// What was refused in runs whose memory ran out.
+// The failures in runs whose memory ran out.
 #[derive(Drop)]
 struct Seen {
     thread: bool,
@@ -53,7 +53,7 @@ impl Seen {
         }
     }
 
-    // Adds what a run came to that ended so.
+    // Adds the result of a run.
     fn add(&mut self, script: &str, end: End, lacked: Shortage) -> Result<(), AllocError> {
         self.memory = self.memory || end == End::Memory;
         self.lost = self.lost || lacked.lost > 0;
@@ -78,7 +78,7 @@ impl Seen {
     }
 }
 
-// What a run lacks of the whole text, if it ended as it may: well, or for want of memory.
+// Returns what a run lacks of the whole text, if its end is allowed: Ok, or a failed allocation.
 fn judged(job: Job<'_>, end: End, text: &[u8]) -> Option<Shortage> {
     let lacked = lacks(job.whole, str::from_utf8(text).ok()?)?;
     match end {
@@ -95,8 +95,8 @@ fn count_of(script: &str, start: &str) -> usize {
         .count()
 }
 
-// Lets so many threads run and end. The C library keeps their stacks, and so many more threads get one of those where
-// there is no room for others.
+// Runs this number of threads to their end. The C library keeps their stacks, and as many further threads get one of
+// those if there is no room for others.
 fn keep_stacks<R: Threads + Wait + Sync>(
     rt: &R,
     alloc: Global,
@@ -113,7 +113,7 @@ fn keep_stacks<R: Threads + Wait + Sync>(
     Ok(())
 }
 
-// What was seen, unless a run went otherwise than it must.
+// Returns what was seen, unless a run had a wrong result.
 fn place_said(
     alloc: Global,
     place: &str,
@@ -126,7 +126,7 @@ fn place_said(
     }
 }
 
-// What the runs share: threads, memory, and the flood that takes most of it.
+// The environment of the runs: threads, memory, and the flood that takes most of it.
 #[derive(Drop)]
 struct Trials<'t, R: Wait> {
     rt: &'t R,
@@ -135,8 +135,8 @@ struct Trials<'t, R: Wait> {
 }
 
 impl<'t, R: Threads + Wait + Sync> Trials<'t, R> {
-    // Each thread is refused in turn. So many are there before a run that did not end with that fault, or that ran a
-    // list.
+    // Refuses each thread in turn. Returns the number of threads before the first run that did not end with that fault,
+    // or that ran a list.
     fn untold_thread(&self, script: &str) -> anyhow::Result<Option<usize>> {
         let mut text = Vec::with_capacity(self.alloc, ROOM)?;
         let count = count_of(script, "domain ");
@@ -159,8 +159,8 @@ impl<'t, R: Threads + Wait + Sync> Trials<'t, R> {
         Ok(None)
     }
 
-    // Memory runs out before a script is read. So much was left to a run that went otherwise than it must: it ends with
-    // that fault and writes nothing, or it ends well.
+    // Lets memory run out before a script is read. Returns the memory that was left to the first run with a wrong
+    // result: a run must end with the fault of memory or of a thread and write nothing, or print its whole text.
     fn untold_at_start(&self, job: Job<'_>, seen: &mut Seen) -> anyhow::Result<Option<usize>> {
         let mut gate = Scarce::new(self.rt, self.alloc, self.flood, Place::Start, 0)?;
         let log = SharedLog::new(self.alloc)?;
@@ -185,7 +185,8 @@ impl<'t, R: Threads + Wait + Sync> Trials<'t, R> {
         Ok(Some(left))
     }
 
-    // Memory runs out at a place where lists run already. So much was left to a run that went otherwise than it must.
+    // Lets memory run out when lists already run. Returns the memory that was left to the first run with a wrong
+    // result.
     fn untold_from(
         &self,
         job: Job<'_>,
@@ -209,7 +210,7 @@ impl<'t, R: Threads + Wait + Sync> Trials<'t, R> {
         Ok(Some(left))
     }
 
-    // The same for each second flag, the second one first.
+    // Does the same at every second flag, the second one first.
     fn between_flags(&self, job: Job<'_>) -> anyhow::Result<String> {
         let mut seen = Seen::nothing(self.alloc);
         let mut flag = 1usize;
@@ -224,7 +225,7 @@ impl<'t, R: Threads + Wait + Sync> Trials<'t, R> {
         Ok(seen.said(self.alloc, "while lists run")?)
     }
 
-    // What came of threads that are refused.
+    // Returns the result of the runs in which threads are refused.
     fn threads_said(&self, script: &str) -> anyhow::Result<String> {
         Ok(match self.untold_thread(script)? {
             None => {
@@ -250,10 +251,10 @@ impl<'t, R: Threads + Wait + Sync> Trials<'t, R> {
     }
 }
 
-/// What a script prints with its records, and what is refused where threads and memory run out, at each place and with
-/// more left each time, until it prints all of it. Each domain comes to the gate before it makes a call. The flags are
-/// raised one after the other, and between the second one and the third, the fourth and the fifth and so on a domain
-/// makes a call while no other does anything.
+/// Returns what a script prints with its records, and what fails when threads and memory run out, at each stage and
+/// with more left each time, until it prints all of it. Each domain must come to the gate before it makes a call. The
+/// flags must be raised one after the other. Between the second one and the third, the fourth and the fifth and so on,
+/// a domain makes a call while no other does anything.
 pub fn refusing_said<R: Threads + Wait + Sync>(
     rt: &R,
     alloc: Global,

@@ -14,12 +14,12 @@ pub struct Ended {
 }
 
 impl Ended {
-    /// Whether just this was written, with this fault.
+    /// Returns whether exactly this was written, with this fault.
     pub fn is(&self, out: &[u8], fault: &str) -> bool {
         self.out.as_slice() == out && self.fault.as_str() == fault
     }
 
-    /// What was written, and a line with the fault if there was one.
+    /// Returns what was written, and a line with the fault if there was one.
     pub fn said(&self, alloc: Global) -> anyhow::Result<String> {
         let mut text = String::from_utf8(self.out.clone()?)?;
         if !self.fault.is_empty() {
@@ -30,7 +30,7 @@ impl Ended {
     }
 }
 
-/// Runs a script. Each read fails after so many bytes of it, each write after so many bytes of what is printed.
+/// Runs a script. Each read fails after a number of bytes of it, and each write after a number of bytes of the output.
 pub fn run_failing<R: Threads + Wait + Sync, G: Gate + Sync>(
     rt: &R,
     alloc: Global,
@@ -56,7 +56,7 @@ fn fault_text(alloc: Global, ended: &Result<(), RunFault>) -> Result<String, All
     }
 }
 
-/// Runs a script with its records, of which all is read and written.
+/// Runs a script with its records. All reads and writes succeed.
 pub fn run_recorded<R: Threads + Wait + Sync>(
     rt: &R,
     alloc: Global,
@@ -67,7 +67,7 @@ pub fn run_recorded<R: Threads + Wait + Sync>(
     Ok(run_text(rt, alloc, script, Some(&log), &gate)?)
 }
 
-/// Runs a script of which all is read and written.
+/// Runs a script. All reads and writes succeed.
 pub fn run_text<R: Threads + Wait + Sync, G: Gate + Sync>(
     rt: &R,
     alloc: Global,

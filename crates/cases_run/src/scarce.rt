@@ -1,4 +1,4 @@
-//! Memory that runs out on the way of a run.
+//! Memory that runs out in the course of a run.
 use gt_audit::SharedLog;
 use gt_host::PlayFault;
 use gt_run::{FlagGate, Gate, RunFault, run};
@@ -10,24 +10,25 @@ use std::sync::{Mutex, Wait};
 use std::thread::Threads;
 use test_flood::Flood;
 
-/// So many bytes are held back, or let through, before lists run: a monitor of three domains starts with less.
+/// The number of bytes that are held back, or let through, before lists run. A monitor of three domains starts with
+/// less.
 pub const GAP: usize = 4_000_000;
 
-// So many later on.
+// The same later on.
 const SMALL_GAP: usize = 262_144;
 
-/// Where memory runs out.
+/// The stage of a run in which memory runs out.
 #[derive(Clone, Copy, PartialEq, Eq)]
 pub enum Place {
-    /// Before the script is read, until a domain comes to the gate.
+    /// From before the script is read until a domain comes to the gate.
     Start,
-    /// Where a domain raises this flag, until one raises another.
+    /// From when a domain raises this flag until one raises another.
     Flag(usize),
-    /// Where the first line is written.
+    /// While the first line is written.
     Write,
 }
 
-/// How a run ended.
+/// The end of a run.
 #[derive(Clone, Copy, PartialEq, Eq)]
 pub enum End {
     Done,
@@ -36,7 +37,7 @@ pub enum End {
     Other,
 }
 
-/// A gate that leaves a run only so many bytes from a place on.
+/// A gate that leaves a run only a number of bytes in one stage.
 #[derive(Drop)]
 pub struct Scarce<'r, R: Wait> {
     rt: &'r R,
@@ -67,24 +68,24 @@ impl<'r, R: Wait> Scarce<'r, R> {
         })
     }
 
-    /// The next run finds so many bytes.
+    /// Sets the number of bytes for the next run.
     pub fn leave(&mut self, left: usize) {
         self.left = left;
     }
 
-    /// How often a domain came to the gate.
+    /// Returns how often a domain came to the gate.
     pub fn callers(&self) -> u64 {
         self.callers.load(Ordering::SeqCst)
     }
 
-    /// From here on there is memory.
+    /// Ends the shortage of memory.
     pub fn open(&self) {
         if self.is_closed.swap(false, Ordering::SeqCst) {
             self.flood.lock(self.rt).open();
         }
     }
 
-    // From here on there are only so many bytes.
+    // Begins the shortage of memory.
     fn close(&self) {
         let is_closed = self.is_closed.swap(true, Ordering::SeqCst);
         let gap = if self.place == Place::Start {
@@ -128,7 +129,7 @@ impl<'r, R: Wait> Gate for Scarce<'r, R> {
     }
 }
 
-// Keeps what is written in room that is there.
+// A writer into space that was reserved.
 #[derive(Drop)]
 struct Room<'t, 'g, 'r, R: Wait> {
     taken: &'t mut Vec<u8>,
@@ -149,7 +150,7 @@ impl<'t, 'g, 'r, R: Wait> Write for Room<'t, 'g, 'r, R> {
     }
 }
 
-/// Runs a script at the gate, into a text that has room. How it ended is answered without memory.
+/// Runs a script at the gate, into a text with reserved space. The result needs no memory.
 pub fn run_scarce<R: Threads + Wait + Sync>(
     rt: &R,
     alloc: Global,

@@ -1,11 +1,11 @@
-//! Reads worked scripts and prints what each is read as, or its first fault, under its name.
+//! A program that parses worked scripts, and prints the parsed form of each, or its first fault, under its name.
 //!
-//! The words of the command line are the names. The script `x` is `data/x.gt`, read for `play`; those after the word
-//! `--run` are read for `run`, and those after the word `--cut` are cut off after each count of bytes. A file with a
-//! line `====` has a script above it, and below it lines that are tried in the place of the script's `@`, one after the
-//! other: each is printed after what comes of it. `args` names all files, and `stdout` has what they must print. A
-//! script is added by its file, its name in `args` and its lines in `stdout`, and a line that is tried by itself and
-//! its line in `stdout`; that costs no proof.
+//! The words of the command line are the names. The script `x` is `data/x.gt`, parsed for `play`. Those after the word
+//! `--run` are parsed for `run`, and those after the word `--cut` are cut off after each count of bytes. A file with a
+//! line `====` has a script above it, and below it lines that are tried instead of the script's `@`, one after the
+//! other: each is printed after its result. `args` names all files, and `stdout` has the expected output. A script is
+//! added by its file, its name in `args` and its lines in `stdout`, and a tried line by itself and its line in
+//! `stdout`; that costs no proof.
 #![tactic(auto)]
 
 mod said;
@@ -14,7 +14,7 @@ use said::{cut_said, play_said, run_said};
 use std::alloc::{AllocError, Global};
 use std::fs;
 
-// What comes of each line in the place of the `@`, with the line.
+// Returns the results of a script with each of these lines instead of the `@`, with the line.
 fn tried(alloc: Global, script: &str, lines: &str) -> Result<String, AllocError> {
     let mut out = String::new(alloc);
     for line in lines.lines() {
@@ -26,7 +26,7 @@ fn tried(alloc: Global, script: &str, lines: &str) -> Result<String, AllocError>
     Ok(out)
 }
 
-// What is done with the names that follow.
+// The treatment of the names that follow.
 #[derive(Clone, Copy)]
 enum Mode {
     Play,

@@ -1,4 +1,4 @@
-//! What scripts are read as, in words.
+//! Parsed scripts as texts.
 use gt_policy::Policy;
 use gt_script::{
     RunScript, Script, ScriptAction, ScriptCall, ScriptStep, Text, hex_bytes, parse, parse_run,
@@ -6,8 +6,8 @@ use gt_script::{
 use gt_types::{Allows, DomId, DomainConfig, Perms, Triple, TypeId};
 use std::alloc::{AllocError, Global};
 
-/// What a text is read as for `play`, or its fault: the names of its types, its triples, its domains, its first
-/// generation, its policy and its steps, a line each.
+/// Returns the parsed form of a text for `play`, or its fault: the names of its types, its triples, its domains, its
+/// first generation, its policy and its steps, one per line.
 pub fn play_said(alloc: Global, text: &[u8]) -> Result<String, AllocError> {
     match parse(alloc, text) {
         Ok(script) => script_said(alloc, &script),
@@ -53,7 +53,7 @@ fn domains_said(alloc: Global, domains: &[DomainConfig]) -> Result<String, Alloc
     Ok(out)
 }
 
-// Whether the policy lets type 1 read type 0, set up itself, and set up type 0; nothing if there is none.
+// Returns whether the policy lets type 1 read type 0, set up itself, and set up type 0, or nothing if there is none.
 fn policy_said(alloc: Global, policy: Option<&Policy>) -> Result<String, AllocError> {
     let Some(policy) = policy else {
         return Ok(String::new(alloc));
@@ -64,7 +64,7 @@ fn policy_said(alloc: Global, policy: Option<&Policy>) -> Result<String, AllocEr
     format!(in alloc; "policy {read} {itself} {other}\n")
 }
 
-// The steps: the number of the line, the domain, what it asks, and the bytes of its hexadecimal text.
+// Returns the steps: the number of the line, the domain, its call, and the bytes of its hexadecimal text.
 fn steps_said(alloc: Global, steps: &[ScriptStep<'_>]) -> Result<String, AllocError> {
     let mut out = String::new(alloc);
     for step in steps {
@@ -86,7 +86,7 @@ fn call_bytes(alloc: Global, action: &ScriptAction<'_>) -> Result<String, AllocE
     }
 }
 
-// The hexadecimal text of a call with one.
+// Returns the hexadecimal text of a call that has one.
 fn hex_in<'b, 'a>(action: &'b ScriptAction<'a>) -> Option<&'b Text<'a>> {
     let (ScriptAction::Do(call) | ScriptAction::Begin(call)) = action else {
         return None;
@@ -99,7 +99,8 @@ fn hex_in<'b, 'a>(action: &'b ScriptAction<'a>) -> Option<&'b Text<'a>> {
     }
 }
 
-/// What a text is read as for `run`, or its fault: the lines of domains 1 and 2, a line each, and the number of flags.
+/// Returns the parsed form of a text for `run`, or its fault: the lines of domains 1 and 2, one per line, and the
+/// number of flags.
 pub fn run_said(alloc: Global, text: &[u8]) -> Result<String, AllocError> {
     match parse_run(alloc, text) {
         Ok(script) => lists_said(alloc, &script),
@@ -120,8 +121,8 @@ fn lists_said(alloc: Global, script: &RunScript<'_>) -> Result<String, AllocErro
     Ok(out)
 }
 
-/// Whether a text that was cut off is a script still, or has a fault that can be: never one of memory, and one of a
-/// policy only if the text has a policy.
+/// Returns whether a text that was cut off is still a script, or has an allowed fault: never one of memory, and one of
+/// a policy only if the text has a policy.
 pub fn cut_said(alloc: Global, text: &[u8]) -> Result<String, AllocError> {
     let is_policy = text.starts_with("policy\n".as_bytes());
     for end in 0..text.len() {

@@ -1,9 +1,9 @@
-//! Starts cores and monitors that are refused memory.
+//! A program that starts cores and monitors whose allocations fail.
 //!
-//! A flood takes all memory, and a start finds so many bytes of it: none at first, then more and more, until it is
-//! done. With less each start must answer that memory was refused. What is left grows by 16 bytes as long as it is
-//! small, and again from the last of the larger steps on that was refused; between them are the long lists of words. A
-//! line for each start says whether all went so.
+//! A flood takes all memory, and a start gets a number of bytes of it: none at first, then more and more, until it
+//! succeeds. With less each start must return the fault of memory. The memory grows by 16 bytes as long as it is small,
+//! and again from the last of the larger steps that failed; between them are the long lists of words. A line for each
+//! start states whether all results were right.
 #![tactic(auto)]
 
 mod starting;
@@ -14,7 +14,7 @@ use std::alloc::Global;
 use sweeping::Starts;
 use test_monitor::numbered;
 
-// What starts, and with how many domains.
+// A thing to start, and its number of domains.
 #[derive(Clone, Copy)]
 struct Row {
     name: &'static str,

@@ -1,4 +1,4 @@
-//! One start.
+//! A start of a core or a monitor.
 use gt_core::Core;
 use gt_live::Monitor;
 use gt_types::{Config, DomainConfig, StartFault, Triples};
@@ -6,14 +6,14 @@ use std::alloc::{AllocError, Global};
 use test_flood::Flood;
 use test_monitor::all_running;
 
-/// What starts.
+/// The thing to start.
 #[derive(Clone, Copy)]
 pub enum Kind {
     Core,
     Monitor,
 }
 
-/// What came of a start.
+/// The result of a start.
 #[derive(Clone, Copy, PartialEq, Eq)]
 pub enum Came {
     Started,
@@ -21,7 +21,7 @@ pub enum Came {
     Other,
 }
 
-/// A configuration of these domains.
+/// Returns a configuration of these domains.
 pub fn configured(alloc: Global, domains: &[DomainConfig]) -> Result<Config, AllocError> {
     Ok(Config {
         domains: Vec::from_slice(alloc, domains)?,
@@ -36,14 +36,14 @@ fn refused(fault: StartFault) -> Came {
     }
 }
 
-// What starts here asks nobody.
+// Returns empty rights. Nothing that starts here asks them.
 fn nobody(alloc: Global) -> Triples {
     Triples {
         allowed: Vec::new(alloc),
     }
 }
 
-/// Starts in what the flood lets through. The domains of a monitor leave in as much as they want.
+/// Starts in what the flood lets through. The domains of a monitor leave in as much memory as they want.
 pub fn start(alloc: Global, flood: &mut Flood, kind: Kind, config: Config) -> Came {
     match kind {
         Kind::Core => match Core::new(alloc, config, nobody(alloc)) {

@@ -1,17 +1,17 @@
-//! Starts in more and more memory.
+//! Starts with more and more memory.
 use crate::starting::{Came, Kind, configured, start};
 use gt_types::DomainConfig;
 use std::alloc::{AllocError, Global};
 use test_flood::Flood;
 
-// So much is held back, or let through.
+// The number of bytes that are held back, or let through.
 const GAP: usize = 4_000_000;
 
-// A start of three domains takes less than this much of it.
+// A start of three domains takes less than this number of bytes.
 const MOST: usize = GAP - 100_000;
 
-// What is left grows by so many bytes as long as it is small, and then by a part of itself. From the last amount that
-// was refused it grows by so many bytes once more.
+// The memory grows by this number of bytes as long as it is small, and then by a part of itself. From the last amount
+// that failed it grows by this number of bytes again.
 const STEP: usize = 16;
 
 const SMALL: usize = 16_384;
@@ -20,7 +20,7 @@ const PART: usize = 64;
 
 const TRIES: usize = 4_096;
 
-/// Starts of one kind, over all memory but what is left to each of them.
+/// Starts of one kind, while a flood holds all memory except what is left to each of them.
 #[derive(Drop)]
 pub struct Starts<'d> {
     alloc: Global,
@@ -39,20 +39,20 @@ impl<'d> Starts<'d> {
         })
     }
 
-    /// Gives all memory back.
+    /// Releases all memory.
     pub fn open(&mut self) {
         self.flood.open();
     }
 
-    // From here on each start finds only what is left to it.
+    // Leaves each start only its amount of memory.
     fn close(&mut self) -> Result<(), AllocError> {
         self.flood.open();
         self.flood.close(GAP)
     }
 
-    // Starts with amounts from one to another: the last that was refused, and the first with which it starts, or the
-    // one after the last. None if it ends otherwise. A configuration is there before each start, in the place of the
-    // one before.
+    // Starts with amounts in a range. Returns the last amount that failed, and the first with which it starts, or the
+    // one after the last. Returns None for any other result. Each configuration is made before its start, in the memory
+    // of the one before.
     fn sweep(
         &mut self,
         from: usize,
@@ -86,7 +86,7 @@ impl<'d> Starts<'d> {
         Ok(Some((below, left)))
     }
 
-    /// Whether it is refused with each amount that is not enough, and starts with one that is.
+    /// Returns whether it fails with each amount that is not enough, and starts with one that is.
     pub fn is_told(&mut self) -> Result<bool, AllocError> {
         let Some((below, enough)) = self.sweep(0, MOST, false)? else {
             return Ok(false);

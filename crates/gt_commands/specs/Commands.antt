@@ -1,4 +1,4 @@
--- The commands of the program, and what the words of a command line ask for.
+-- The commands of the program, and the meaning of the words of a command line.
 use Rattle.std.specs.Prelude.{◌≡◌, ◌==◌, Bool, true, false, ℕ, List, [], ◌∷◌, Option, Some, None, Result, MatchResult}
 use Rattle.std.specs.Prelude.{codes, find, if◌then◌else◌, option_map}
 use Rattle.gt_commands.specs.Prelude.{bytes_eq, digits_value, without_leading_plus, HasKind, Kinds, on_top}
@@ -31,11 +31,11 @@ one name = name ∷ []
 abbrev pub file_usage : Usage
 file_usage = record { flags = []; options = []; words = one (codes "file"); needed = [] }
 
--- what the commands take that run a script
+-- the usage of the commands that run a script
 abbrev pub runner_usage : Usage
 runner_usage = record file_usage { flags = codes "audit" ∷ codes "verbose" ∷ []; options = one (codes "format") }
 
--- what each command takes
+-- the usage of each command
 abbrev pub usage_of : Mode → Usage
 usage_of Play = runner_usage
 usage_of Run = runner_usage
@@ -56,7 +56,7 @@ usage_of Entries = record file_usage {
 abbrev pub every_mode : List Mode
 every_mode = Play ∷ Run ∷ Explore ∷ Policy ∷ Rules ∷ Check ∷ Why ∷ Entries ∷ []
 
--- ---- the program, as the parser of command lines takes it
+-- ---- the program, for the parser of command lines
 
 -- gthost with no command, and with a version
 abbrev pub bare_app : App
@@ -74,7 +74,7 @@ with_mode app mode = with_subcommand app (mode_app mode).top
 abbrev pub runners_app : App
 runners_app = with_mode (with_mode (with_mode bare_app Play) Run) Explore
 
--- those and the lists of what a policy allows, and of the rules
+-- with the lists of what a policy allows, and of the rules
 abbrev pub listers_app : App
 listers_app = with_mode (with_mode runners_app Policy) Rules
 
@@ -82,11 +82,11 @@ listers_app = with_mode (with_mode runners_app Policy) Rules
 abbrev pub gthost_app : App
 gthost_app = with_mode (with_mode (with_mode listers_app Check) Why) Entries
 
--- ---- what is asked for
+-- ---- requests
 
--- to play a script, to run one, to explore one, to list a policy, to tell the rules, to check a policy or a script, to
--- say why a policy allows something, or to tell the entries of a dump: with the options and the FILE, none for standard
--- input; help; the version; or nothing that the program does
+-- to play a script, to run one, to explore one, to list a policy, to list the rules, to check a policy or a script, to
+-- explain why a policy allows something, or to print the entries of a dump, with the options and the FILE, none for
+-- standard input; help; the version; or nothing that the program does
 pub data Request : Type 0 where
   to_play : Bool → Bool → Format → Option Text → Request
   to_run : Bool → Bool → Format → Option Text → Request
@@ -100,7 +100,7 @@ pub data Request : Type 0 where
   for_version : Request
   nothing : Request
 
--- `--format text` or `--format json`; text where it is left out
+-- `--format text` or `--format json`; text if it is left out
 abbrev pub format_of : Option Text → Option Format
 format_of None = Some Plain
 format_of (Some word) = if bytes_eq word (codes "text") then Some Plain
@@ -125,17 +125,17 @@ number_up_to most word = if is_unsigned_in 0 most word then Some (digits_value 1
 abbrev pub domain_number : Text → Option ℕ
 domain_number word = number_up_to 65535 word
 
--- `--script DOM`, where it is given
+-- `--script DOM`, if it is given
 abbrev pub script_of : Option Text → Option (Option ℕ)
 script_of None = Some None
 script_of (Some word) = option_map (λ n. Some n) (domain_number word)
 
--- `--witness N`, a number of 64 bits, where it is given
+-- `--witness N`, a number of 64 bits, if it is given
 abbrev pub witness_of : Option Text → Option (Option ℕ)
 witness_of None = Some None
 witness_of (Some word) = option_map (λ n. Some n) (number_up_to 18446744073709551615 word)
 
--- `--states N`; 100,000 where it is left out
+-- `--states N`; 100,000 if it is left out
 abbrev pub states_of : Option Text → Option ℕ
 states_of None = Some 100000
 states_of (Some word) = number_up_to 18446744073709551615 word
@@ -148,7 +148,7 @@ abbrev pub run_with : Option Format → Bool → Bool → Option Text → Reques
 run_with None audit verbose file = nothing
 run_with (Some format) audit verbose file = to_run audit verbose format file
 
--- not both the texts with a word and the script for one of them
+-- either the texts with a word or the script for one of them, not both
 abbrev pub explore_by : Option Text → Option ℕ → ℕ → Option Text → Request
 explore_by None witness states file = to_explore None witness states file
 explore_by (Some word) None states file = to_explore (Some word) None states file
@@ -178,7 +178,7 @@ entries_with (Some version) (Some script) None hex every file = nothing
 entries_with (Some version) (Some script) (Some format) hex every file =
     to_tell_entries version hex every script format file
 
--- what a command asks for, by the values that were given: nothing where one of them is none that it takes
+-- what a command asks for, by the values that were given: nothing if it does not take one of them
 abbrev pub read : Mode → (Text → Option Text) → Request
 read Play value = play_with (format_of (value (codes "format"))) (is_true (value (codes "audit")))
     (is_true (value (codes "verbose"))) (value (codes "file"))
@@ -206,7 +206,7 @@ asked_of_long name None = if bytes_eq (codes "help") name then for_help
     else (if bytes_eq (codes "version") name then for_version else nothing)
 asked_of_long name (Some value) = nothing
 
--- what a first word that is no command asks for: help for `h`, the version for `V`
+-- what a first word that is not a command asks for: help for `h`, the version for `V`
 abbrev pub asked_of_none : Word → Request
 asked_of_none mark = nothing
 asked_of_none (long name value) = asked_of_long name value
@@ -226,9 +226,9 @@ abbrev pub request_in_words : List Text → Request
 request_in_words [] = nothing
 request_in_words (word ∷ rest) = request_by (mode_of word) word rest
 
--- ---- what is answered
+-- ---- answers
 
--- the kinds of error that answer it, beside refused memory
+-- the kinds of error that answer it, apart from a failed allocation
 abbrev pub refusals : Request → Kinds
 refusals for_help = DisplayHelp ∷ []
 refusals for_version = DisplayVersion ∷ []
@@ -250,12 +250,12 @@ asked_by_plan (plans.Why source target permission file) = to_explain (option_map
 asked_by_plan (plans.Entries version hex every script format file) =
     to_tell_entries version hex every script format (option_map (λ f. f.now) file)
 
--- what a plan asks for, and nothing where there is none
+-- what a plan asks for, or nothing if there is none
 abbrev pub asked_by_some : Option Invocation → Request
 asked_by_some None = nothing
 asked_by_some (Some p) = asked_by_plan p
 
--- the plan asks for that, or the error fits it; a line that asks for a command is refused only where memory is
+-- the plan asks for that, or the error fits it; a line that asks for a command is refused only if an allocation fails
 abbrev pub IsInvocationOf : Request → Result Invocation Error → Type 0
 IsInvocationOf request r = MatchResult r (λ p. asked_by_plan p ≡ request) (HasKind (refusals request))
 
@@ -267,7 +267,7 @@ asked_with (Some mode) value = read mode value
 abbrev pub asked_named : Text → List Row → Request
 asked_named name rows = asked_with (mode_of name) (λ id. first_of id rows)
 
--- the plan is what the subcommand asks for that the words name, by its matches
+-- the plan is what the matched subcommand asks for, by its values
 abbrev pub IsPlanOf : Invocation → Option (Text × List Row) → Type 0
 IsPlanOf p None = ⊥
 IsPlanOf p (Some (name, rows)) = asked_by_plan p ≡ asked_named name rows

@@ -1,4 +1,4 @@
--- A letter in place of a long flag.
+-- Letters for long flags.
 use Rattle.std.specs.Prelude.{Bool, true, false, ◌||◌, List, [], ◌∷◌, codes, if◌then◌else◌}
 use Rattle.std.specs.Str.{bytes_eq}
 use Rattle.clap.specs.Words.{Text}
@@ -11,7 +11,7 @@ long_flag word = if bytes_eq word (codes "-v") then codes "--verbose" else word
 abbrev pub is_past_mark : Bool → Text → Bool
 is_past_mark marked word = marked || bytes_eq word (codes "--")
 
--- the word with its long flag; after the mark each word is a plain one
+-- the word with its long flag; after the mark each word is plain
 abbrev pub long_word : Bool → Text → Text
 long_word marked word = if marked then word else long_flag word
 

@@ -1,4 +1,4 @@
--- The names of other crates, and of the code, that the definitions here speak of.
+-- Names of other crates, and of the code, that the definitions here use.
 pub use Rattle.clap.specs.Kinds.{HasKind, Kinds}
 pub use Rattle.clap.specs.Simple.{on_top}
 pub use Rattle.clap.specs.ValueTests.{is_unsigned_in}

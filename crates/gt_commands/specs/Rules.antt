@@ -1,4 +1,4 @@
--- A command's line, as the parser of command lines takes it.
+-- The rules of a command, for the parser of command lines.
 use Rattle.std.specs.Prelude.{true, List, [], ◌∷◌, ◌++◌, Some, map}
 use Rattle.clap.specs.Words.{App, Rule, Text, new_app, new_rule}
 use Rattle.clap.specs.Simple.{on_top}
@@ -28,10 +28,10 @@ free_option name = record (new_rule name) { long = Some name; value_names = 1 }
 abbrev pub needed_option : Text → Rule
 needed_option name = record (new_rule name) { long = Some name; value_names = 1; required = true }
 
--- the words, then the flags, then the options
+-- the rules of the words, then those of the flags, then those of the options
 abbrev pub rules_of : Usage → List Rule
 rules_of u = map (word_rule u) u.words ++ (map flag_rule u.flags ++ map (option_rule u) u.options)
 
--- a command with this line
+-- a command with these rules
 abbrev pub command_app : Text → Usage → App
 command_app name u = on_top (λ s. record s { rules = rules_of u }) (new_app name)

@@ -1,4 +1,4 @@
--- A command's line: its flags, its options and its words, and what words give by them.
+-- The usage of a command: its flags, its options and its words, and the meaning of words by it.
 use Rattle.std.specs.Prelude.{◌==◌, ◌&&◌, Bool, false, not, ℕ, List, [], ◌∷◌, ◌++◌, Option, Some, None, codes, map}
 use Rattle.std.specs.Prelude.{find, option_map}
 use Rattle.std.specs.Prelude.{if◌then◌else◌, slice_get}
@@ -8,8 +8,8 @@ use Rattle.std.specs.Str.{bytes_eq, chars}
 use Rattle.clap.specs.Lexer.{long_of, short_of}
 use Rattle.clap.specs.Words.{Text}
 
--- what a command takes: flags `--NAME`, options `--NAME VALUE`, and words in this order, each under its
--- name; `needed` are those of the options and words that must be given
+-- the usage of a command: flags `--NAME`, options `--NAME VALUE`, and words in this order, each under its name;
+-- `needed` are those of the options and words that must be given
 pub record Usage : Type 0 where
   pub flags : List Text
   pub options : List Text
@@ -19,7 +19,7 @@ pub record Usage : Type 0 where
 abbrev pub is_among : List Text → Text → Bool
 is_among names name = list_any (λ n. bytes_eq n name) names
 
--- what was given so far, in its order: names with their values; the value of a flag is `true`
+-- what was given so far, in order: names with their values; the value of a flag is `true`
 abbrev pub Given : Type 0
 Given = List (Text × Text)
 
@@ -33,18 +33,18 @@ is_given given name = list_any (λ g. bytes_eq g.0 name) given
 abbrev pub is_true : Option Text → Bool
 is_true value = option_map_or (λ text. bytes_eq text (codes "true")) value false
 
--- something that is needed is not given
+-- something needed is not given
 abbrev pub lacks : Usage → Given → Bool
 lacks u given = list_any (λ name. is_among u.needed name && not (is_given given name)) (u.words ++ u.options)
 
--- what a line comes to: it gives this, it asks for help, or it is wrong
+-- the meaning of a line: it gives this, it asks for help, or it is wrong
 pub data Line : Type 0 where
   gives : Given → Line
   asks_help : Line
   wrong : Line
 
--- what a word is: the mark `--`, after which no word is a flag; `--NAME` or `--NAME=VALUE`; short flags,
--- by the first letter; or a plain word
+-- the kinds of words: the mark `--`, after which no word is a flag; `--NAME` or `--NAME=VALUE`; short flags, by the
+-- first letter; or a plain word
 pub data Word : Type 0 where
   mark : Word
   long : Text → Option Text → Word
@@ -55,7 +55,7 @@ abbrev pub short_flags : Option ℕ → Word
 short_flags (Some letter) = short letter
 short_flags None = plain
 
--- a word, by the long flag or the short flags that the parser takes it for
+-- the kind of a word, by the long flag or the short flags that the parser takes it for
 abbrev pub usage_word_with : Option (Text × Option Text) → Option Text → Word
 usage_word_with (Some (name, value)) _ = long name value
 usage_word_with None (Some flags) = short_flags (slice_get (chars flags) 0)
@@ -64,7 +64,7 @@ usage_word_with None None = plain
 abbrev pub usage_word : Text → Word
 usage_word word = if bytes_eq word (codes "--") then mark else usage_word_with (long_of word) (short_of word)
 
--- what comes next, by what was given and the words that can still come
+-- the rest of a line, as a function of what was given and the words that can still come
 abbrev pub Next : Type 0
 Next = Given → List Text → Line
 
@@ -82,12 +82,12 @@ by_word (name ∷ left) word given next = once name word given left next
 abbrev pub line_ended : Usage → Given → Line
 line_ended u given = if lacks u given then wrong else gives given
 
--- after the mark each word is a plain one
+-- after the mark each word is plain
 abbrev pub line_after_mark : Usage → List Text → Given → List Text → Line
 line_after_mark u [] given left = line_ended u given
 line_after_mark u (word ∷ rest) given left = by_word left word given (line_after_mark u rest)
 
--- a flag has no value, and an option has the one that is attached or the word after it; `waiting` goes on with the
+-- a flag has no value, and an option has the one that is attached or the word after it; `waiting` continues with the
 -- option whose value comes next, if there is one
 abbrev pub by_long : Usage → Text → Option Text → Given → List Text → (Option Text → Next) → Line
 by_long u name None given left waiting =
@@ -98,7 +98,7 @@ by_long u name (Some value) given left waiting =
     if is_among u.flags name then wrong
     else (if is_among u.options name then once name value given left (waiting None) else wrong)
 
--- what a word asks for, where no option waits for its value
+-- the meaning of a word, if no option waits for its value
 abbrev pub by_kind : Usage → Word → Text → Given → List Text → Next → (Option Text → Next) → Line
 by_kind u mark word given left marked waiting = marked given left
 by_kind u (long name value) word given left marked waiting = by_long u name value given left waiting
@@ -112,7 +112,7 @@ by_value (long other value) name word given left next = wrong
 by_value (short letter) name word given left next = wrong
 by_value plain name word given left next = once name word given left next
 
--- what the words of a command come to, with the option that waits for its value
+-- the meaning of the words of a command, with the option that waits for its value
 abbrev pub usage_line_of : Usage → List Text → Option Text → Given → List Text → Line
 usage_line_of u [] None given left = line_ended u given
 usage_line_of u [] (Some name) given left = wrong
@@ -121,6 +121,6 @@ usage_line_of u (word ∷ rest) None given left =
 usage_line_of u (word ∷ rest) (Some name) given left =
     by_value (usage_word word) name word given left (usage_line_of u rest None)
 
--- what the words behind a command's name come to
+-- the meaning of the words after a command's name
 abbrev pub line : Usage → List Text → Line
 line u words = usage_line_of u words None [] u.words

@@ -1,6 +1,6 @@
-//! What a command line asks for.
+//! Parsed command lines.
 
-/// What the program is to do.
+/// A command of the program.
 #[derive(Clone, Copy, Debug, PartialEq, Eq)]
 pub enum Mode {
     /// Run a script on the core.
@@ -13,27 +13,27 @@ pub enum Mode {
     Policy,
     /// List the rules by which calls are refused.
     Rules,
-    /// Tell what is wrong or useless in a policy or a script.
+    /// Report what is wrong or useless in a policy or a script.
     Check,
-    /// Tell by which statements a policy allows something.
+    /// Print the statements by which a policy allows something.
     Why,
-    /// Tell the entries of a dump of a grant table.
+    /// Print the entries of a dump of a grant table.
     Entries,
 }
 
-/// How what a command tells is written.
+/// The format of the output of a command.
 #[derive(Clone, Copy, Debug, PartialEq, Eq)]
 pub enum Format {
-    /// As lines to read; findings as compilers print them.
+    /// As lines to read. Findings are printed as compilers print them.
     Text,
-    /// An object a line.
+    /// As JSON, with an object on each line.
     Json,
 }
 
-/// A command with its options. `file` is the FILE, none for the standard input.
+/// A command with its options. `file` is the FILE, or None for the standard input.
 #[derive(Debug, PartialEq, Eq, Drop)]
 pub enum Invocation<'a> {
-    /// `audit`: the audit lines are wanted too; `verbose`: and the reasons of faults and refusals.
+    /// `audit`: print the audit lines too. `verbose`: print the reasons of faults and refusals.
     Play {
         audit: bool,
         verbose: bool,
@@ -46,8 +46,8 @@ pub enum Invocation<'a> {
         format: Format,
         file: Option<&'a str>,
     },
-    /// `find`: only the texts with this word; `witness`: the script for the text of this number instead; `states`: at
-    /// most so many states.
+    /// `find`: only the texts with this word. `witness`: the script for the text of this number instead. `states`: the
+    /// maximum number of states.
     Explore {
         find: Option<&'a str>,
         witness: Option<usize>,
@@ -58,7 +58,7 @@ pub enum Invocation<'a> {
         format: Format,
         file: Option<&'a str>,
     },
-    /// The rule of this name, and all rules if there is none.
+    /// Only the rule of this name, or all rules if there is none.
     Rules {
         rule: Option<&'a str>,
     },
@@ -68,15 +68,15 @@ pub enum Invocation<'a> {
         format: Format,
         file: Option<&'a str>,
     },
-    /// The types are any if there is no name.
+    /// The type is any type if there is no name.
     Why {
         source: Option<&'a str>,
         target: Option<&'a str>,
         permission: &'a str,
         file: Option<&'a str>,
     },
-    /// The table has this version, 1 or 2; the dump is hexadecimal text; entries of zeros are told too; the lines are
-    /// those of a script, whose calls this domain makes.
+    /// `version` is 1 or 2. `hex`: the dump is hexadecimal text. `all`: print entries of zeros too. `script`: print the
+    /// lines of a script in which this domain makes the calls.
     Entries {
         version: u8,
         hex: bool,

@@ -1,10 +1,10 @@
-//! A letter in place of a long flag.
+//! Letters for long flags.
 ghost use Rattle.std.specs.Prelude.{◌≡◌, IfOk, map, string_bytes};
 ghost use Rattle.gt_commands.specs.Letters.{long_word, with_long_flags};
 
 use std::alloc::{AllocError, Global};
 
-// The word with its long flag, before the mark.
+// Returns the word, with `--verbose` for `-v` before the mark.
 fn long_word(alloc: Global, is_marked: bool, word: &str) -> Result<String, AllocError>
     ensures { IfOk result (λ s. string_bytes s ≡ long_word is_marked word.now) }
 {
@@ -15,7 +15,7 @@ fn long_word(alloc: Global, is_marked: bool, word: &str) -> Result<String, Alloc
     }
 }
 
-/// The words with `--verbose` in place of `-v`, up to the mark `--`.
+/// Returns the words with `--verbose` instead of `-v`, up to the mark `--`.
 pub fn with_long_flags(alloc: Global, words: &[String]) -> Result<Vec<String>, AllocError>
     ensures { IfOk result (λ all. map string_bytes all.items ≡ with_long_flags (map string_bytes words.now)) }
 {

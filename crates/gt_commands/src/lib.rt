@@ -1,13 +1,12 @@
-//! The commands of the program `gthost`, and what the words of a command line ask for.
+//! The commands of the program `gthost`, and the meaning of the words of a command line.
 //!
-//! `plan` answers what the words ask for: a command with its options and its FILE. Which flags,
-//! options and words a command takes is data, `usage_of` of specs/Commands.antt; what words give by
-//! them is defined once, for every command, in specs/Usage.antt. The kit's `clap` parses the line and
-//! makes help and refusals.
+//! [`plan`] returns what the words ask for: a command with its options and its FILE. The flags, options and words of a
+//! command are data, `usage_of` of specs/Commands.antt. What words mean by such data is defined once, for every
+//! command, in specs/Usage.antt. The kit's `clap` parses the line and makes help and refusals.
 //!
-//! What holds: a line is answered by the plan that it asks for, and refused only if memory is. Any
-//! other line is refused, with an error of a kind that fits it. It is proved that clap's own walk over
-//! the words comes to the same, for any flags, options and words. The crate uses only `clap`.
+//! A line that asks for a command is answered by its plan, and is refused only if an allocation fails. Any other line
+//! is refused, with an error of a kind that fits it. The proof shows that clap's own walk over the words has the same
+//! result, for any flags, options and words. The crate uses only `clap`.
 #![tactic(auto)]
 
 mod invocation;

@@ -1,4 +1,4 @@
-//! The commands, as the parser of command lines takes them, with the texts of their help.
+//! The commands for the parser of command lines, with the texts of their help.
 ghost use Rattle.std.specs.Prelude.{◌≡◌, IfOk, false, codes};
 ghost use Rattle.clap.specs.Words.{app_of, new_app, rule_of, with_rule};
 ghost use Rattle.clap.specs.declared.builder.command.Command.TheViews.{out-Command as fields_of};
@@ -63,7 +63,7 @@ Try: gthost play examples/first.gt
      gthost explore examples/revoke_race.gt
      gthost policy examples/split_driver.te";
 
-// The FILE of a command.
+// Makes the FILE of a command.
 fn file_word<'a>(alloc: Global, help: &'a str) -> Arg<'a>
     ensures rule { rule_of result ≡ word_rule file_usage (codes "file") }
     ensures local { result.global ≡ false }
@@ -81,7 +81,7 @@ fn flag<'a>(alloc: Global, name: &'a str, help: &'a str) -> Arg<'a>
         .help(help)
 }
 
-// An option that may be left out.
+// Makes an option that may be left out.
 fn free_option<'a>(alloc: Global, id: &'a str, name: &'a str, help: &'a str) -> Arg<'a>
     ensures rule { rule_of result ≡ free_option id.entry.now }
     ensures local { result.global ≡ false }
@@ -89,7 +89,7 @@ fn free_option<'a>(alloc: Global, id: &'a str, name: &'a str, help: &'a str) -> 
     Arg::new(alloc, id).long(id).value_name(name).help(help)
 }
 
-// An option that must be given.
+// Makes an option that must be given.
 fn needed_option<'a>(alloc: Global, id: &'a str, name: &'a str, help: &'a str) -> Arg<'a>
     ensures rule { rule_of result ≡ needed_option id.entry.now }
     ensures local { result.global ≡ false }
@@ -140,7 +140,7 @@ fn run_command<'a>(alloc: Global) -> Result<Command<'a>, AllocError>
         .arg(format_option(alloc, ANSWERS_AS))
 }
 
-// `explore` with what it tells.
+// Makes `explore` with FILE and `--find`.
 fn explore_of_script<'a>(alloc: Global) -> Result<Command<'a>, AllocError>
     ensures { IfOk result (λ c. (app_of c ≡ with_rule (with_rule (new_app (codes "explore"))
         (word_rule file_usage (codes "file"))) (free_option (codes "find"))) × ((fields_of c).has_globals ≡ false)) }
@@ -203,7 +203,7 @@ fn check_command<'a>(alloc: Global) -> Result<Command<'a>, AllocError>
         .arg(format_option(alloc, FINDINGS_AS))
 }
 
-// A word of a question.
+// Makes a word that must be given.
 fn needed_word<'a>(alloc: Global, id: &'a str, name: &'a str, help: &'a str) -> Arg<'a>
     ensures rule { rule_of result ≡ needed_word id.entry.now }
     ensures local { result.global ≡ false }
@@ -214,7 +214,7 @@ fn needed_word<'a>(alloc: Global, id: &'a str, name: &'a str, help: &'a str) -> 
         .help(help)
 }
 
-// `why` with the two types of a question.
+// Makes `why` with its two types.
 fn why_of_types<'a>(alloc: Global) -> Result<Command<'a>, AllocError>
     ensures { IfOk result (λ c. (app_of c ≡ with_rule (with_rule (new_app (codes "why")) (needed_word (codes "source")))
         (needed_word (codes "target"))) × ((fields_of c).has_globals ≡ false)) }
@@ -244,7 +244,7 @@ fn why_command<'a>(alloc: Global) -> Result<Command<'a>, AllocError>
         .arg(file_word(alloc, POLICY_FILE))
 }
 
-// `entries` with its flags.
+// Makes `entries` with FILE and its flags.
 fn entries_of_dump<'a>(alloc: Global) -> Result<Command<'a>, AllocError>
     ensures { IfOk result (λ c. (app_of c ≡ with_rule (with_rule (with_rule (new_app (codes "entries"))
         (word_rule file_usage (codes "file"))) (flag_rule (codes "hex"))) (flag_rule (codes "all")))
@@ -273,7 +273,7 @@ fn entries_command<'a>(alloc: Global) -> Result<Command<'a>, AllocError>
         .arg(format_option(alloc, ENTRIES_AS))
 }
 
-// The program without its commands.
+// Makes the program without its commands.
 fn bare_command<'a>(alloc: Global) -> Command<'a>
     ensures { (app_of result ≡ bare_app) × ((fields_of result).has_globals ≡ false) }
 {
@@ -285,7 +285,7 @@ fn bare_command<'a>(alloc: Global) -> Command<'a>
         .disable_help_subcommand(true)
 }
 
-// The program with the commands that run a script.
+// Adds the commands that run a script.
 fn runners_command<'a>(alloc: Global) -> Result<Command<'a>, AllocError>
     ensures { IfOk result (λ c. (app_of c ≡ runners_app) × ((fields_of c).has_globals ≡ false)) }
 {
@@ -298,7 +298,7 @@ fn runners_command<'a>(alloc: Global) -> Result<Command<'a>, AllocError>
         .subcommand(explore)
 }
 
-// Those, and the commands that list.
+// Adds the commands that list.
 fn listers_command<'a>(alloc: Global) -> Result<Command<'a>, AllocError>
     ensures { IfOk result (λ c. (app_of c ≡ listers_app) × ((fields_of c).has_globals ≡ false)) }
 {
@@ -309,7 +309,7 @@ fn listers_command<'a>(alloc: Global) -> Result<Command<'a>, AllocError>
         .subcommand(rules)
 }
 
-/// The program with its commands.
+/// Makes the program with its commands.
 pub(crate) fn gthost_command<'a>(alloc: Global) -> Result<Command<'a>, AllocError>
     ensures { IfOk result (λ c. app_of c ≡ gthost_app) }
 {

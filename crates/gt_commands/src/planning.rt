@@ -1,4 +1,4 @@
-//! What the words of a command line ask for.
+//! From the words of a command line to a plan.
 ghost use Rattle.std.specs.Prelude.{◌≡◌, IfOk, IfErr, map, drop, string_bytes};
 ghost use Rattle.std.specs.Option.{option_map};
 ghost use Rattle.clap.specs.Words.{subcommand_of, rows_of, found_of, first_of, kind_of};
@@ -15,7 +15,7 @@ use clap::error::ErrorKind;
 use clap::{ArgMatches, Error};
 use std::alloc::Global;
 
-// The command of this name.
+// Returns the command of this name.
 fn mode_of(name: &str) -> Option<Mode>
     ensures { result ≡ mode_of name.now }
 {
@@ -40,14 +40,14 @@ fn mode_of(name: &str) -> Option<Mode>
     }
 }
 
-// The value that was given under a name.
+// Returns the value that was given under a name.
 fn value_of<'a>(matches: &ArgMatches<'a>, id: &str) -> Option<&'a str>
     ensures { option_map (λ v. v.now) result ≡ first_of id.now (rows_of (found_of matches.now)) }
 {
     matches.get_str(id)
 }
 
-// Whether a flag was given.
+// Returns whether a flag was given.
 fn is_set(matches: &ArgMatches<'_>, id: &str) -> bool
     ensures { result ≡ is_true (first_of id.now (rows_of (found_of matches.now))) }
 {
@@ -95,7 +95,7 @@ fn run_with<'a>(
     }
 }
 
-// A search for the texts with a word, or for the script of one of them, and not for both.
+// Plans a search for the texts with a word, or for the script of one of them, but not for both.
 fn explore_by<'a>(
     find: Option<&'a str>,
     witness: Option<usize>,
@@ -202,7 +202,7 @@ fn entries_with<'a>(
     }
 }
 
-// What the values of a command ask for, none if one of them is none that it takes.
+// Returns what the values of a command ask for, or None if the command doesn't take one of them.
 fn read<'a>(mode: Mode, matches: &ArgMatches<'a>) -> Option<Invocation<'a>>
     ensures { asked_by_some result ≡ read mode (λ id. first_of id (rows_of (found_of matches.now))) }
 {
@@ -247,7 +247,7 @@ fn read<'a>(mode: Mode, matches: &ArgMatches<'a>) -> Option<Invocation<'a>>
     }
 }
 
-// What the command of a name asks for.
+// Returns what the command of this name asks for.
 fn named<'a>(name: &str, matches: &ArgMatches<'a>) -> Option<Invocation<'a>>
     ensures { asked_by_some result ≡ asked_named name.now (rows_of (found_of matches.now)) }
 {
@@ -257,7 +257,7 @@ fn named<'a>(name: &str, matches: &ArgMatches<'a>) -> Option<Invocation<'a>>
     }
 }
 
-// The error for a value that an option does not take.
+// Makes the error for a value that an option does not take.
 fn value_error(alloc: Global, message: &str) -> Result<Error, Error>
     ensures ok { IfOk result (λ e. kind_of e ≡ InvalidValue) }
     ensures memory { IfErr result (λ e. kind_of e ≡ OutOfMemory) }
@@ -267,7 +267,7 @@ fn value_error(alloc: Global, message: &str) -> Result<Error, Error>
     Ok(error)
 }
 
-// What the options take of the command whose value is not taken.
+// Returns the message for a value that an option of this command does not take.
 fn value_message(name: &str) -> &'static str {
     if name == "entries" {
         "the value of --version is 1 or 2, that of --script a number below 65536, and that of --format text or json"
@@ -278,7 +278,7 @@ fn value_message(name: &str) -> &'static str {
     }
 }
 
-// What the command of a name asks for, or the error for a value that it does not take.
+// Returns what the command of this name asks for, or the error for a value that it does not take.
 #[tactic(auto, using(crate::proofs::Planned::planned_some, crate::proofs::Planned::planned_none))]
 fn planned<'a>(alloc: Global, name: &str, matches: &ArgMatches<'a>) -> Result<Invocation<'a>, Error>
     ensures { IsInvocationOf (asked_named name.now (rows_of (found_of matches.now))) result }
@@ -292,8 +292,11 @@ fn planned<'a>(alloc: Global, name: &str, matches: &ArgMatches<'a>) -> Result<In
     }
 }
 
-/// What the words of a command line, the program's name first, ask for. A line that asks for a command is refused only
-/// if memory is refused. Any other error prints as the help that was asked for, or as the text for standard error.
+/// Returns what the words of a command line, the program's name first, ask for.
+///
+/// # Errors
+/// A line that asks for a command is refused only if an allocation fails. Any other error prints as the help that was
+/// asked for, or as the text for standard error.
 pub fn plan<'a>(alloc: Global, words: &'a [String]) -> Result<Invocation<'a>, Error>
     ensures answers { IsInvocationOf (request_in_words (drop 1 (map string_bytes words.entry.now))) result }
     ensures matches { IfOk result (λ p. IsPlanOf p (subcommand_of gthost_app (map string_bytes words.entry.now))) }

@@ -6,7 +6,7 @@ ghost use Rattle.gt_commands.specs.Commands.{version_of, witness_of};
 
 use crate::invocation::Format;
 
-/// The format of this name; text where none is given.
+/// Returns the format of this name, or text if none is given.
 pub(crate) fn format_of(value: Option<&str>) -> Option<Format>
     ensures { result ≡ format_of (option_map (λ v. v.now) value.entry) }
 {
@@ -18,14 +18,14 @@ pub(crate) fn format_of(value: Option<&str>) -> Option<Format>
     }
 }
 
-/// The type of this name; `-` is any.
+/// Returns the type of this name; `-` is any type.
 pub(crate) fn type_of<'a>(value: Option<&'a str>) -> Option<&'a str>
     ensures { option_map (λ v. v.now) result ≡ type_of (option_map (λ v. v.now) value.entry) }
 {
     value.filter(|name| *name != "-")
 }
 
-/// The version of a table.
+/// Returns the version of a table.
 pub(crate) fn version_of(value: Option<&str>) -> Option<u8>
     ensures { result ≡ version_of (option_map (λ v. v.now) value.entry) }
 {
@@ -36,7 +36,7 @@ pub(crate) fn version_of(value: Option<&str>) -> Option<u8>
     }
 }
 
-// The number of a domain.
+// Returns the number of a domain.
 fn domain_of(word: &str) -> Option<u16>
     ensures { result ≡ domain_number word.now }
 {
@@ -46,7 +46,7 @@ fn domain_of(word: &str) -> Option<u16>
     }
 }
 
-/// The domain of a script, where one is given; none where the value is no number of a domain.
+/// Returns the domain of a script, if one is given. The outer result is None if the value is not a number below 65,536.
 pub(crate) fn script_of(value: Option<&str>) -> Option<Option<u16>>
     ensures { result ≡ script_of (option_map (λ v. v.now) value.entry) }
 {
@@ -56,7 +56,7 @@ pub(crate) fn script_of(value: Option<&str>) -> Option<Option<u16>>
     }
 }
 
-// A number of 64 bits.
+// Returns a number of 64 bits.
 fn number_of(word: &str) -> Option<usize>
     ensures { result ≡ number_up_to 18446744073709551615 word.now }
 {
@@ -66,7 +66,7 @@ fn number_of(word: &str) -> Option<usize>
     }
 }
 
-/// The number of a text, where one is given; none where the value is no number.
+/// Returns the number of a text, if one is given. The outer result is None if the value is not a number of 64 bits.
 pub(crate) fn witness_of(value: Option<&str>) -> Option<Option<usize>>
     ensures { result ≡ witness_of (option_map (λ v. v.now) value.entry) }
 {
@@ -76,7 +76,7 @@ pub(crate) fn witness_of(value: Option<&str>) -> Option<Option<usize>>
     }
 }
 
-/// The most states; 100,000 where none is given.
+/// Returns the maximum number of states: 100,000 if none is given.
 pub(crate) fn states_of(value: Option<&str>) -> Option<usize>
     ensures { result ≡ states_of (option_map (λ v. v.now) value.entry) }
 {

@@ -15,7 +15,7 @@ texts_of_orders orders = map (λ o. o.text.items) orders
 abbrev pub IsTextAmong : List ℕ → List (List ℕ) → Type 0
 IsTextAmong text texts = (at : ℕ) × (slice_get texts at ≡ Some text)
 
--- it is none of these
+-- it differs from each of these
 abbrev pub IsApart : List ℕ → List (List ℕ) → Type 0
 IsApart text texts = All (λ other. other ≢ text) texts
 
@@ -24,7 +24,7 @@ abbrev pub AreDifferentTexts : List (List ℕ) → Type 0
 AreDifferentTexts [] = Unit {0}
 AreDifferentTexts (text ∷ texts) = IsApart text texts × AreDifferentTexts texts
 
--- an order was added, if its text was not there
+-- an order was added, unless its text was there
 pub record AddsOrder (old : List FoundText) (order : FoundText) (new : List FoundText) : Type 0 where
   pub added : IsAdded old order new
   pub there : IsTextAmong order.text.items (texts_of_orders new)

@@ -1,4 +1,4 @@
--- What is written for a script that is explored.
+-- The output of `explore` for a script.
 use Rattle.std.specs.Prelude.{◌≡◌, ℕ, Bool, true, List, All, Option, Some, None, Result, Ok, Err, option_map}
 use Rattle.std.specs.List.{list_any}
 use Rattle.std.specs.Io.KnownBytes.{Appends, Keeps}
@@ -16,18 +16,18 @@ use Rattle.gt_explore.specs.declared.exploring.ExploreOptions.{ExploreOptions}
 use Rattle.gt_explore.specs.declared.fault.ExploreFault.{ExploreFault}
 use Rattle.gt_explore.specs.declared.fault.ExploreFault.TheVariants.{Play, Texts}
 
--- the word that is asked for
+-- the word searched for
 abbrev pub word_asked : ExploreOptions → Option (List ℕ)
 word_asked asked = option_map (λ word. word.now) asked.find
 
--- these are the texts that a script may give: each of them, all of them, and each once
+-- these are the texts that a script may give, each of them once
 pub record AreTextsOf (c : RunContents) (texts : List (List ℕ)) : Type 0 where
   pub possible : All (MayGive c) texts
   pub whole : (text : List ℕ) → MayGive c text → IsTextAmong text texts
   pub apart : AreDifferentTexts texts
 
--- what is to be written of a script: the texts that it may give, each under its number; or a script for `play` that
--- gives the answers of one of them; and whether a text is asked for
+-- the output for a script: the texts that it may give, each under its number, or a script for `play` that gives the
+-- answers of one of them; and whether a text is wanted
 abbrev pub IsMadeBy : RunContents → Option ℕ → Option (List ℕ) → List ℕ → Bool → Type 0
 IsMadeBy c None find text is_any =
     (texts : List (List ℕ)) × (states : ℕ) × AreTextsOf c texts × (text ≡ texts_told find states texts)
@@ -38,7 +38,7 @@ IsMadeBy c (Some number) find text is_any =
 abbrev pub IsMade : RunContents → ExploreOptions → List ℕ → Bool → Type 0
 IsMade c asked text is_any = IsMadeBy c asked.witness (word_asked asked) text is_any
 
--- what was written of a script
+-- what was written for a script, by the result
 abbrev pub Explores : RunContents → ExploreOptions → Option (List ℕ) → Option (List ℕ) → Result Bool ExploreFault → Type 0
 Explores c asked old new (Ok is_any) = (text : List ℕ) × IsMade c asked text is_any × Appends old new text
 Explores c asked old new (Err (Texts fault)) = Keeps old new
@@ -49,8 +49,8 @@ Explores c asked old new (Err (Play Read)) = ⊥
 Explores c asked old new (Err (Play (Script fault))) = ⊥
 Explores c asked old new (Err (Play (Policy fault))) = ⊥
 
--- what was written for bytes of which this is told: at Ok a whole text of the script, after a failed write a beginning
--- of one, and else nothing; a fault of the script is its first
+-- what was written for bytes that mean this: at Ok a whole text of the script, after a failed write a prefix of one,
+-- and otherwise nothing; a fault of the script is its first
 abbrev pub Explored : ExploreOptions → (Result RunContents Wrong → Type 0) → Option (List ℕ) → Option (List ℕ)
     → Result Bool ExploreFault → Type 0
 Explored asked Told old new (Ok is_any) = (c : RunContents) × Told (Ok c) × Explores c asked old new (Ok is_any)

@@ -1,4 +1,4 @@
--- Why a script was not explored, as one line.
+-- The lines that the faults of an exploration print.
 use Rattle.std.specs.Prelude.{ℕ, List, ◌++◌, codes, decimal}
 use Rattle.gt_host.specs.Faults.{play_fault_text}
 use Rattle.gt_explore.specs.declared.fault.ExploreFault.{ExploreFault}

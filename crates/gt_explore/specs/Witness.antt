@@ -11,11 +11,11 @@ use Rattle.gt_host.specs.Playing.{Played}
 abbrev pub without_number : List ℕ → List ℕ
 without_number line = after_first (λ b. b == 32) line
 
--- what the answers of a domain begin with, after the number of the line
+-- the word with which the answers of a domain begin, after the number of the line
 abbrev pub domain_word : ℕ → List ℕ
 domain_word dom = decimal dom ++ codes " "
 
--- a line begins so
+-- a line begins with this word
 abbrev pub begins_with : List ℕ → List ℕ → Bool
 begins_with word line = bytes_eq word (take (length word) line)
 
@@ -31,7 +31,7 @@ answers_of dom text = filter (begins_with (domain_word dom)) (map without_number
 abbrev pub SameAnswers : List DomainConfig → List ℕ → List ℕ → Type 0
 SameAnswers domains one other = All (λ domain. answers_of domain.id.0 one ≡ answers_of domain.id.0 other) domains
 
--- the script is one for `play`, whose run prints the answers of the text
+-- the script is one for `play` that prints the answers of the text
 pub record GivesAnswers (domains : List DomainConfig) (script text : List ℕ) : Type 0 where
   pub out : List ℕ
   pub played : Played (TellsScript script) false (Some []) (Some out) (Ok tt)

@@ -1,4 +1,4 @@
-//! Whether a script for `play` gives the answers of a text.
+//! A check that a script for `play` gives the answers of a text.
 ghost use Rattle.std.specs.Prelude.{◌≡◌, ◌≢◌, List, [], ◌∷◌, Some, Ok, false, map, IfOk, IsTrue};
 ghost use Rattle.std.specs.Str.{bytes_eq};
 ghost use Rattle.gt_script.specs.Script.{TellsScript};
@@ -12,7 +12,7 @@ use gt_text::{push_number, push_text};
 use gt_types::{DomId, DomainConfig};
 use std::alloc::{AllocError, Global};
 
-// What `play` prints for a script.
+// Returns what `play` prints for a script.
 fn played(alloc: Global, script: &[u8]) -> Result<Vec<u8>, TextsFault>
     ensures { IfOk result (λ out. Played (TellsScript script.now) false (Some []) (Some out.items) (Ok tt)) }
 {
@@ -31,7 +31,7 @@ fn is_end(byte: u8) -> bool
     byte == b'\n'
 }
 
-// A line without its number.
+// Returns a line without its number.
 fn without_number<'t>(line: &'t [u8]) -> &'t [u8]
     ensures { result.now ≡ without_number line.entry.now }
 {
@@ -41,7 +41,7 @@ fn without_number<'t>(line: &'t [u8]) -> &'t [u8]
     }
 }
 
-// What the answers of a domain begin with.
+// Returns the word with which the answers of a domain begin.
 fn domain_word(alloc: Global, dom: DomId) -> Result<Vec<u8>, AllocError>
     ensures { IfOk result (λ word. word.items ≡ domain_word dom.0) }
 {
@@ -57,7 +57,7 @@ fn begins_with(line: &[u8], word: &[u8]) -> bool
     line.starts_with(word)
 }
 
-// The answers of a domain in a text, in their order, without the numbers of their lines.
+// Returns the answers of a domain in a text, in their order, without the numbers of their lines.
 fn answers<'t>(alloc: Global, dom: DomId, text: &'t [u8]) -> Result<Vec<&'t [u8]>, AllocError>
     ensures { IfOk result (λ lines. map (λ line. line.now) lines.items ≡ answers_of dom.0 text.entry.now) }
 {
@@ -68,7 +68,7 @@ fn answers<'t>(alloc: Global, dom: DomId, text: &'t [u8]) -> Result<Vec<&'t [u8]
         .collect(alloc)
 }
 
-// Whether two texts have the same answers of a domain.
+// Returns whether two texts have the same answers of a domain.
 fn has_same(alloc: Global, dom: DomId, one: &[u8], other: &[u8]) -> Result<bool, AllocError>
     ensures { IfOk result (λ b. IsTrue b → answers_of dom.0 one.now ≡ answers_of dom.0 other.now) }
 {
@@ -77,7 +77,7 @@ fn has_same(alloc: Global, dom: DomId, one: &[u8], other: &[u8]) -> Result<bool,
     Ok(ours == theirs)
 }
 
-// Whether two texts have the same answers of each of these domains.
+// Returns whether two texts have the same answers of each of these domains.
 fn same_answers(
     alloc: Global,
     domains: &[DomainConfig],
@@ -94,10 +94,10 @@ fn same_answers(
     Ok(true)
 }
 
-/// Whether `play` prints for the script the answers that the text has of each of these domains.
+/// Returns whether `play` prints for the script the answers that the text has of each of these domains.
 ///
 /// # Errors
-/// `Astray` if it is no script for `play`, and `Memory`.
+/// `Astray` if this is not a script for `play`, and `Memory`.
 pub fn gives_answers(
     alloc: Global,
     domains: &[DomainConfig],

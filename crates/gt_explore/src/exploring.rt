@@ -24,8 +24,8 @@ use gt_text::{read_text, text_of, write_text};
 use std::alloc::Global;
 use std::io::{Read, Write};
 
-/// What is asked: only texts that have a line with this word; a script for the text of this number in place of the
-/// texts; at most so many states.
+/// The options of `explore`: print only texts that have this word; print a script for the text of this number instead
+/// of the texts; meet at most this number of states.
 #[derive(Clone, Copy)]
 pub struct ExploreOptions<'w> {
     pub find: Option<&'w str>,
@@ -33,14 +33,14 @@ pub struct ExploreOptions<'w> {
     pub states: usize,
 }
 
-// What is to be written, and whether a text is asked for.
+// The output, and whether a text is wanted.
 #[derive(Drop)]
 struct ExploreOutput {
     text: Vec<u8>,
     is_any: bool,
 }
 
-// The texts that are asked for.
+// Returns the texts that are wanted.
 fn texts_made(
     alloc: Global,
     asked: &ExploreOptions,
@@ -57,7 +57,7 @@ fn texts_made(
     Ok(ExploreOutput { text, is_any })
 }
 
-// The lines of a script for `play` that gives the text of an order: it was played, and gave it.
+// Returns a script for `play` that gives the text of an order. It was played, and gave it.
 fn script_of(
     alloc: Global,
     source: &[u8],
@@ -79,7 +79,7 @@ fn script_of(
     Ok(text)
 }
 
-// A script for `play` that gives the text of this number.
+// Returns a script for `play` that gives the text of this number.
 fn witness_made(
     alloc: Global,
     source: &[u8],
@@ -103,7 +103,7 @@ fn witness_made(
     Ok(ExploreOutput { text, is_any })
 }
 
-// What is to be written of a script.
+// Returns the output for a script.
 fn make(
     alloc: Global,
     asked: &ExploreOptions,
@@ -121,7 +121,7 @@ fn make(
     }
 }
 
-// Explores a script that was read.
+// Explores a script that was parsed.
 fn explore_script<W: Write>(
     alloc: Global,
     asked: &ExploreOptions,
@@ -142,7 +142,7 @@ fn explore_script<W: Write>(
     }
 }
 
-// Explores the script that bytes say, of which those up to the limit were read.
+// Parses and explores the script in these bytes, which are those read up to the limit.
 fn explore_bytes<W: Write>(
     alloc: Global,
     asked: &ExploreOptions,
@@ -159,13 +159,13 @@ fn explore_bytes<W: Write>(
 }
 
 /// Writes the texts that the script of a reader may give, each under a line `text K of M`, in the order of their bytes,
-/// and at the end a line `states S`. Answers whether one is asked for. With a witness it writes a script for `play`
-/// instead. That one was played before, and each domain had the answers that it has in the text of this number.
+/// and at the end a line `states S`. Returns whether one is wanted. With a witness it writes a script for `play`
+/// instead. That script was played before, and each domain had the answers that it has in the text of this number.
 ///
 /// # Errors
-/// The script's first fault; that its texts were not found, or no script for `play` that gives the one that is asked
-/// for; memory that was refused; or a read or a write that failed.
-/// Only after a failed write a beginning of the text was written.
+/// The script's first fault; that its texts were not found, or no script for `play` that gives the wanted one; an
+/// allocation that failed; or a read or a write that failed. Only after a failed write was anything written: a prefix
+/// of the text.
 pub fn explore<R: Read, W: Write>(
     alloc: Global,
     asked: &ExploreOptions,

@@ -1,4 +1,4 @@
-//! Why a script was not explored.
+//! Faults of an exploration.
 use gt_explore_replay::ReplayFault;
 use gt_explore_search::SearchFault;
 use gt_host::PlayFault;
@@ -7,21 +7,21 @@ use std::alloc::{AllocError, AllocFailed};
 use std::error::Error;
 use std::fmt;
 
-/// Why the texts of a script were not found. It prints as one line, without its end.
+/// The reason that the texts of a script were not found. It prints as one line, without a line end.
 #[derive(Clone, Copy, Debug, PartialEq, Eq)]
 pub enum TextsFault {
-    /// Memory was refused.
+    /// An allocation failed.
     Memory,
     /// There are more states than the limit.
     States,
-    /// In some order this domain comes to its end with a mapping that the policy does not let it unmap.
+    /// In some order this domain reaches its end with a mapping that the policy does not let it unmap.
     Keeps(DomId),
-    /// The search found an order that the core does not follow to its text, a run that came back to a state, or a
+    /// The search found an order that the core does not follow to its text, a run that returned to a state, or a
     /// witness that does not give its text.
     Astray,
     /// No text has the number of the witness.
     Witness,
-    /// The witness ends with mappings, which no line of a script for `play` gives back.
+    /// The witness ends with mappings, which no line of a script for `play` unmaps.
     Ends,
 }
 
@@ -77,11 +77,11 @@ impl From<ReplayFault> for TextsFault {
     }
 }
 
-/// Why a script was not explored. It prints as one line, without its end.
+/// The fault that ended an exploration. It prints as one line, without a line end.
 #[derive(Debug, Drop)]
 pub enum ExploreFault {
-    /// A fault that a play can have too: of the script, of memory, or of a read or a write. Only after a failed write a
-    /// beginning of the text was written.
+    /// A fault that a play can have too: of the script, of memory, or of a read or a write. Only after a failed write
+    /// was anything written: a prefix of the text.
     Play(PlayFault),
     /// The texts of the script were not found. Nothing was written.
     Texts(TextsFault),

@@ -1,4 +1,4 @@
-//! What is written of the texts that a script may give.
+//! The output of `explore`: texts under their numbers.
 ghost use Rattle.std.specs.Prelude.{◌≡◌, ◌++◌, OnOk, IfOk};
 ghost use Rattle.std.specs.List.{list_any};
 ghost use Rattle.std.specs.Option.{option_map};
@@ -17,7 +17,7 @@ fn is_between(byte: u8) -> bool
     byte == b' ' || byte == b'\n'
 }
 
-// Whether a text has this word.
+// Returns whether a text has this word.
 fn has_word(text: &[u8], word: &str) -> bool
     ensures { result ≡ has_word word.now text.now }
 {
@@ -25,7 +25,7 @@ fn has_word(text: &[u8], word: &str) -> bool
         .any(|part| is_word(part, word))
 }
 
-// Whether a text is asked for.
+// Returns whether a text is wanted.
 fn is_wanted(text: &[u8], find: Option<&str>) -> bool
     ensures { result ≡ is_wanted (option_map (λ word. word.now) find.entry) text.now }
 {
@@ -46,7 +46,7 @@ fn push_heading(out: &mut Vec<u8>, number: usize, count: usize) -> Result<(), Al
     push_text(out, "\n")
 }
 
-// Appends a text under its number, if it is asked for.
+// Appends a text under its number, if it is wanted.
 fn push_shown(
     out: &mut Vec<u8>,
     find: Option<&str>,
@@ -73,7 +73,7 @@ fn push_states(out: &mut Vec<u8>, states: usize) -> Result<(), AllocError>
     push_text(out, "\n")
 }
 
-/// Whether one of these texts is asked for.
+/// Returns whether one of these texts is wanted.
 pub fn is_any_wanted(texts: &[FoundText], find: Option<&str>) -> bool
     ensures { result ≡ list_any (λ o. is_wanted (option_map (λ word. word.now) find.entry) o.text.items) texts.now }
 {
@@ -82,7 +82,7 @@ pub fn is_any_wanted(texts: &[FoundText], find: Option<&str>) -> bool
         .any(|order| is_wanted(order.text.as_slice(), find))
 }
 
-/// Appends all that is written of these texts.
+/// Appends the whole output for these texts.
 pub fn push_found_texts(
     out: &mut Vec<u8>,
     find: Option<&str>,

@@ -16,15 +16,15 @@ use gt_explore_search::FoundText;
 use gt_script::RunScript;
 use std::alloc::{AllocError, Global};
 
-/// Texts that a script may give, each with turns that lead to it, in the order of their bytes; and how many states the
-/// search met.
+/// The texts that a script may give, each with turns that lead to it, in the order of their bytes, and the number of
+/// states that the search met.
 #[derive(Drop)]
 pub struct FoundTexts {
     pub texts: Vec<FoundText>,
     pub states: usize,
 }
 
-// Whether the order has this text.
+// Returns whether the order has this text.
 fn is_text(order: &FoundText, text: &[u8]) -> bool
     ensures same { IsTrue result → order.now.text.items ≡ text.now }
     ensures other { (result ≡ false) → order.now.text.items ≢ text.now }
@@ -32,7 +32,7 @@ fn is_text(order: &FoundText, text: &[u8]) -> bool
     order.text.as_slice() == text
 }
 
-// The place of a text among these, in the order of their bytes; none if it is there.
+// Returns the index at which a text belongs among these, in the order of their bytes, or None if it is there.
 fn place_of(texts: &[FoundText], text: &[u8]) -> Option<usize>
     ensures place { IfSome result (λ at. at ≤ length texts.now) }
     ensures apart { IfSome result (λ at. IsApart text.now (texts_of_orders texts.now)) }
@@ -50,7 +50,7 @@ fn place_of(texts: &[FoundText], text: &[u8]) -> Option<usize>
     Some(at)
 }
 
-// Adds an order at the place of its text, if that is not there.
+// Inserts an order at the index of its text, if that text is not there.
 fn add(texts: &mut Vec<FoundText>, order: FoundText) -> Result<(), AllocError>
     ensures { OnOk result (AddsOrder texts.old.items order texts.new.items) }
 {
@@ -63,7 +63,7 @@ fn add(texts: &mut Vec<FoundText>, order: FoundText) -> Result<(), AllocError>
     }
 }
 
-// The order, if the core follows it to its text.
+// Returns the order, if the core follows it to its text.
 fn replayed(alloc: Global, script: &RunScript, order: FoundText) -> Result<FoundText, TextsFault>
     requires { CanConfigure (contents_told script.now.head) }
     ensures same { IfOk result (λ o. o ≡ order) }
@@ -78,7 +78,7 @@ fn replayed(alloc: Global, script: &RunScript, order: FoundText) -> Result<Found
     Ok(order)
 }
 
-// One order for each text that some of these orders have, in the order of their bytes.
+// Returns one order for each text that these orders have, in the order of their bytes.
 fn distinct(
     alloc: Global,
     script: &RunScript,
@@ -97,11 +97,11 @@ fn distinct(
     Ok(texts)
 }
 
-/// The texts that a script may give, if the search meets at most `limit` states. All of them, if the script's flags are
-/// numbered, as those of a script are that was read.
+/// Returns the texts that a script may give, if the search meets at most `limit` states. These are all of them if the
+/// script's flags are numbered, as those of each parsed script are.
 ///
 /// # Errors
-/// `States` past the limit, `Keeps` if a domain can't give back what it has at its end, `Astray` if the search found an
+/// `States` beyond the limit, `Keeps` if a domain can't unmap what it has at its end, `Astray` if the search found an
 /// order that the core does not follow to its text, and `Memory`.
 pub fn texts_of(alloc: Global, script: &RunScript, limit: usize) -> Result<FoundTexts, TextsFault>
     requires { CanConfigure (contents_told script.now.head) }

@@ -10,7 +10,7 @@ use gt_text::{push_number, push_text};
 use gt_types::DomId;
 use std::alloc::{AllocError, Global};
 
-// The number of the first line of the body.
+// Returns the number of the first line of the body.
 fn body_of(tasks: &[RunTask]) -> usize {
     match tasks.first() {
         Some(task) => task.line,
@@ -18,7 +18,7 @@ fn body_of(tasks: &[RunTask]) -> usize {
     }
 }
 
-// The lines before the body.
+// Appends the lines before the body.
 fn push_head(out: &mut Vec<u8>, lines: &[&str], body: usize) -> Result<(), AllocError> {
     for (at, line) in lines.iter().enumerate() {
         if at + 1 < body {
@@ -29,7 +29,7 @@ fn push_head(out: &mut Vec<u8>, lines: &[&str], body: usize) -> Result<(), Alloc
     Ok(())
 }
 
-// The line of a call, as a line that only begins it.
+// Appends the line of a call, as a line that only begins it.
 fn push_begin(
     alloc: Global,
     out: &mut Vec<u8>,
@@ -54,7 +54,7 @@ fn push_tick(out: &mut Vec<u8>, dom: DomId) -> Result<(), AllocError> {
     push_text(out, " 1\n")
 }
 
-// The line that makes the next move of a domain.
+// Appends the line that makes the next move of a domain.
 fn push_move(
     alloc: Global,
     out: &mut Vec<u8>,
@@ -73,12 +73,11 @@ fn push_move(
     }
 }
 
-/// Appends the lines of a script for `play` whose domains make the moves of these turns of the script that `source`
-/// says.
+/// Appends the lines of a script for `play` whose domains make the moves of these turns of the script in `source`.
 ///
 /// # Errors
-/// `Ends` if a domain gives a mapping back at the end of its list, for which there is no line. Part of the lines are
-/// appended then.
+/// `Ends` if a domain unmaps a mapping at the end of its list, for which there is no line. Part of the lines are then
+/// appended.
 pub fn push_witness<'s, 'a>(
     alloc: Global,
     out: &mut Vec<u8>,

@@ -1,5 +1,5 @@
--- When a domain of a state is where a run has brought it on its course. Handles are other ones: in a state their serials
--- are the places of mappings.
+-- When a domain of a state is at the point to which a run has brought it on its course. Its handles are other ones: in
+-- a state their serials are the indices of mappings.
 use Rattle.std.specs.Prelude.{◌≡◌, ◌≤◌, ◌+◌, ◌↔◌, ℕ, suc, List, [], ◌∷◌, length, map, drop, Option, Some, None}
 use Rattle.std.specs.Prelude.{slice_get}
 use Rattle.gt_explore_moves.specs.Prelude.{DomId, HandleMap, Handle, Makes, HeldPin, OpenRequest, Load, Store, Request, asked}
@@ -22,7 +22,7 @@ abbrev pub known_in : SearchContext → SparseTable → HandleMap HeldPin → Ca
 known_in s t mappings =
     knowledge_of s.roster.domains.items s.roster.first_gen (may_by s.rights) t.own.items t.header mappings
 
--- what a domain of a state knows of its own table, and what the policy allows, is so by what happened
+-- what a domain of a state knows of its own table, and what the policy allows, are as the history has them
 pub record KnowsTable (s : Setting) (h : History) (d : DomId) (scene : SearchContext) (t : SparseTable) : Type 0 where
   pub domains : scene.roster.domains.items ≡ s.domains
   pub may : may_by scene.rights ≡ s.may
@@ -36,19 +36,19 @@ no_mappings = record { slots = []; given = 0; room = 0 }
 
 -- mappings
 
--- the mappings of a domain by what happened, the oldest first: their handles, and their pins
+-- the mappings of a domain by the history, the oldest first: their handles, and their pins
 abbrev pub handles_at : History → DomId → List Handle
 handles_at h d = map (λ (m : Handle × HeldPin). m.0) (mappings_at h d.0)
 
 abbrev pub pins_mapped_at : History → DomId → List HeldPin
 pins_mapped_at h d = map (λ (m : Handle × HeldPin). m.1) (mappings_at h d.0)
 
--- the serials rise, from this number on and up to that one
+-- the serials rise, starting at this number and staying below that one
 abbrev pub SerialsRise : ℕ → List Handle → ℕ → Type 0
 SerialsRise low [] high = low ≤ high
 SerialsRise low (handle ∷ more) high = (low ≤ handle.serial) × SerialsRise (suc handle.serial) more high
 
--- each mapping has just the labels that name its handle
+-- each mapping has exactly the labels that name its handle
 abbrev pub LabelsShow : List Named → DomId → List Handle → List (Option (List ℕ)) → Type 0
 LabelsShow named d handles labels =
     (at : ℕ) (handle : Handle) (given : Option (List ℕ)) (label : List ℕ) → slice_get handles at ≡ Some handle
@@ -56,19 +56,19 @@ LabelsShow named d handles labels =
 
 -- calls
 
--- what a domain knows by what happened, with the places of its mappings as the serials of their handles
+-- what a domain knows by the history, with the indices of its mappings as the serials of their handles
 abbrev pub known_by_place : Setting → History → DomId → CallerKnowledge
 known_by_place s h d = record (known_at s h d) { mapping = pin_by_place (pins_mapped_at h d); maps_answered = 0 }
 
--- what is asked through a mapping is asked by the handle whose serial is its place
+-- the request uses the handle whose serial is the index of the run's mapping
 abbrev pub AsksByPlace : List Handle → Handle → OpenRequest → Type 0
 AsksByPlace handles place (Unmap handle) = slice_get handles place.serial ≡ Some handle
 AsksByPlace handles place (Load handle off len) = slice_get handles place.serial ≡ Some handle
 AsksByPlace handles place (Store handle off len) = slice_get handles place.serial ≡ Some handle
 AsksByPlace handles place request = Unit {0}
 
--- the open call of a state asks what that of the run asks, has seen the same, and is about to make the same step; but
--- for handles
+-- the open call of a state has the request of the run's call, has seen the same, and is about to make the same step;
+-- only the handles differ
 pub record GoesAlong (s : Setting) (h : History) (d : DomId) (c : Underway) (o : ActorCall) : Type 0 where
   pub caller : o.call.caller ≡ d
   pub place : Handle
@@ -77,7 +77,7 @@ pub record GoesAlong (s : Setting) (h : History) (d : DomId) (c : Underway) (o :
   pub at : IsAt (known_by_place s h d) o.call (values c)
   pub follows : path (known_by_place s h d) d o.call.request (values c) ≡ Some (Makes o.step)
 
--- the open call is that of the last task that was begun
+-- the open call is that of the last task begun
 pub record IsOfTask (tasks : List RunTask) (next : ℕ) (d : DomId) (line : ℕ) (call : ScriptCall) (task : Option ℕ)
     : Type 0 where
   pub place : ℕ
@@ -89,8 +89,8 @@ pub record IsOfTask (tasks : List RunTask) (next : ℕ) (d : DomId) (line : ℕ)
   pub line_is : of_task.line ≡ line
   pub deed_is : of_task.deed ≡ Do call
 
--- the call under way is the one that a line asks for, by what its labels named when it began, and this is the handle that
--- it gives up
+-- the call in progress is the one that a line asks for, by what its labels named when it began, and this is the handle
+-- that it unmaps
 pub record IsOfLine (d : DomId) (call : ScriptCall) (lost : Option Handle) (c : Underway) : Type 0 where
   pub named : List Named
   pub request : Request
@@ -99,8 +99,8 @@ pub record IsOfLine (d : DomId) (call : ScriptCall) (lost : Option Handle) (c : 
   pub given : c.given ≡ bytes_given_by request
   pub lost_is : lost ≡ given_up request
 
--- what a domain of a state has open is what it has open on its course and by what happened, and it holds the handles of
--- its mappings: all of them, but for the one that it gives back at the end of its list
+-- the open call of a domain in a state is the one on its course and by the history, and the domain has the handles of
+-- its mappings: all of them, except for the one that it unmaps at the end of its list
 abbrev pub ShowsOpen : Setting → History → List RunTask → Course → ℕ → Opened → Option Underway → Option ActorCall → Type 0
 ShowsOpen s h tasks k next resting None None = k.held ≡ handles_at h k.dom
 ShowsOpen s h tasks k next (calling line call lost) (Some c) (Some o) =
@@ -111,13 +111,13 @@ ShowsOpen s h tasks k next giving (Some c) (Some o) =
     × ((handle : Handle) × (c.request ≡ Unmap handle) × (k.held ≡ handles_without handle (handles_at h k.dom)))
 ShowsOpen s h tasks k next opened c o = ⊥
 
--- one for a task that is under way
+-- the number of its open calls: one while it is calling
 abbrev pub tasks_open : Opened → ℕ
 tasks_open resting = 0
 tasks_open (calling line call lost) = 1
 tasks_open giving = 0
 
--- a domain of a state is where this history has brought it on this course through these tasks
+-- a domain of a state is at the point to which this history has brought it on this course through these tasks
 pub record ShowsCalls (s : Setting) (h : History) (tasks : List RunTask) (k : Course) (a : Actor) : Type 0 where
   pub left : k.tasks ≡ drop a.next tasks
   pub begun : a.next ≤ length tasks

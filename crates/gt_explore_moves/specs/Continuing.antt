@@ -1,4 +1,4 @@
--- How an open call goes on in a state: as in the run.
+-- An open call of a state continues as in the run.
 use Rattle.std.specs.Prelude.{◌≡◌, ◌++◌, ℕ, [], ◌∷◌, Option, Some}
 use Rattle.gt_types.specs.declared.DomId.{DomId}
 use Rattle.gt_calls.specs.declared.action.Action.{Action}
@@ -28,8 +28,8 @@ IsGranting (Storing gref entry) = Unit {0}
 IsGranting (StoringSecond gref entry) = Unit {0}
 IsGranting phase = ⊥
 
--- as far as what is left to do of this call asks for it, the domain knows in the state what it knew by what happened: its
--- own entries only while one is being granted
+-- as far as the rest of this call needs it, the domain knows in the state what it knows by the history: its own entries
+-- only while one is being granted
 pub record StillKnows (s : Setting) (h : History) (d : DomId) (scene : SearchContext) (t : SparseTable) (call : Call) : Type 0 where
   pub domains : scene.roster.domains.items ≡ s.domains
   pub may : may_by scene.rights ≡ s.may
@@ -37,12 +37,12 @@ pub record StillKnows (s : Setting) (h : History) (d : DomId) (scene : SearchCon
   pub generations : (p : Phase) → call.phase ≡ Some p → IsGranting p
       → own_generation scene.roster.first_gen t.own.items ≡ (λ r. generation_at s h d.0 r)
 
--- the call of the run with this step too
+-- the call of the run, with this step appended
 abbrev pub stepped_call : Setting → History → DomId → Underway → Step → Underway
 stepped_call s h d c z = record c { steps = c.steps ++ (z, seen_by s h d z) ∷ [] }
 
--- after this step of the run the call goes on as there: it is open along it, if the domain knows the same then; or it ends
--- with the same verdict
+-- after this step of the run the call continues as there: it is open along it, if the domain then knows the same; or it
+-- ends with the same verdict
 abbrev pub GoesOnAsRun : Setting → History → DomId → Underway → Step → Option ℕ → Call → Action → Type 0
 GoesOnAsRun s h d c z task call (Makes y) =
     (g : History) → SameKnown s h g d

@@ -1,4 +1,4 @@
--- States of a search once more, and domains at the start.
+-- Copies of states, and domains at the start.
 use Rattle.std.specs.Prelude.{◌≡◌, List, [], ◌∷◌, None}
 use Rattle.gt_explore_moves.specs.Mappings.{labels_of, mapping_pins}
 use Rattle.gt_explore_moves.specs.declared.actor.Actor.{Actor}
@@ -11,14 +11,14 @@ pub record IsFirstActor (a : Actor) : Type 0 where
   pub mappings : a.mappings.items ≡ []
   pub open_call : a.«open» ≡ None
 
--- the other domain is as far, with the same mappings under the same labels, and the same call open
+-- the other domain is at the same task, with the same mappings under the same labels, and the same call open
 pub record SameActor (one other : Actor) : Type 0 where
   pub next : other.next ≡ one.next
   pub pins : mapping_pins other.mappings.items ≡ mapping_pins one.mappings.items
   pub labels : labels_of other.mappings.items ≡ labels_of one.mappings.items
   pub open_call : other.«open» ≡ one.«open»
 
--- each of the domains is the same as the one at its place
+-- each of the domains is the same as the one at its position
 abbrev pub SameActors : List Actor → List Actor → Type 0
 SameActors [] [] = Unit {0}
 SameActors (a ∷ more) (b ∷ rest) = SameActor a b × SameActors more rest

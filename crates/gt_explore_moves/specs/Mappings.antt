@@ -19,17 +19,17 @@ labels_of ms = map (λ m. label_bytes m.label) ms
 abbrev pub mapping_pins : List LabelledMapping → List HeldPin
 mapping_pins ms = map (λ m. m.held) ms
 
--- a label, unless it is the one given to another mapping
+-- a label, unless another mapping gets it
 abbrev pub unless_given : Option (List ℕ) → Option (List ℕ) → Option (List ℕ)
 unless_given None old = old
 unless_given (Some label) None = None
 unless_given (Some label) (Some old) = if bytes_eq old label then None else Some old
 
--- these labels, but for the one given to another mapping
+-- these labels, without the one that another mapping gets
 abbrev pub apart_from : Option (List ℕ) → List (Option (List ℕ)) → List (Option (List ℕ))
 apart_from given labels = map (unless_given given) labels
 
--- the mappings without the one at the place that is the serial of this handle
+-- the mappings without the one whose index is the serial of this handle
 abbrev pub given_back : PinHolder → List LabelledMapping → List LabelledMapping
 given_back (ByHandle handle) ms = take handle.serial ms ++ drop (suc handle.serial) ms
 given_back (ByLeg number) ms = ms

@@ -1,4 +1,4 @@
--- The handles under which a call finds the mappings of a state: the serial of each is the place of its mapping.
+-- The handles under which a call finds the mappings of a state: the serial of each is the index of its mapping.
 use Rattle.std.specs.Prelude.{◌≡◌, ℕ, suc, List, [], ◌∷◌, length, map, Option, Some, slice_get}
 use Rattle.gt_types.specs.declared.DomId.{DomId}
 use Rattle.gt_handles.specs.declared.handles.Handle.{Handle}
@@ -10,12 +10,13 @@ use Rattle.gt_explore_moves.specs.Mappings.{labels_of, mapping_pins}
 use Rattle.gt_explore_moves.specs.declared.actor.LabelledMapping.{LabelledMapping}
 use Rattle.gt_explore_moves.specs.declared.names.ActorHandles.{ActorHandles}
 
--- the serials of the handles are the numbers from this one on
+-- the serials of the handles are consecutive numbers, starting at this one
 abbrev pub CountFrom : ℕ → List Handle → Type 0
 CountFrom n [] = Unit {0}
 CountFrom n (handle ∷ more) = (handle.serial ≡ n) × CountFrom (suc n) more
 
--- what these labels name, if these are the handles of their mappings: with what was named before, the last one first
+-- what these labels name, if these are the handles of their mappings, in addition to what was named before; the last
+-- one comes first
 abbrev pub place_names_after : DomId → List Handle → List (Option (List ℕ)) → List Named → List Named
 place_names_after dom (handle ∷ handles) (label ∷ labels) named =
     place_names_after dom handles labels (with_name named dom label (Some handle))
@@ -25,7 +26,7 @@ place_names_after dom handles labels named = named
 abbrev pub place_names : DomId → List Handle → List (Option (List ℕ)) → List Named
 place_names dom handles labels = place_names_after dom handles labels []
 
--- each of these mappings has a handle whose serial is its place, by which its pin is found, and which its label names
+-- each of these mappings has a handle whose serial is its index, by which its pin is found, and which its label names
 pub record ArePlaced (dom : DomId) (mappings : List LabelledMapping) (n : ActorHandles) : Type 0 where
   pub pairs : List (Handle × HeldPin)
   pub kept : HasJust n.mappings pairs (length mappings)
@@ -34,6 +35,6 @@ pub record ArePlaced (dom : DomId) (mappings : List LabelledMapping) (n : ActorH
   pub places : CountFrom 0 n.handles.items
   pub labels : AreNamed n.labels (place_names dom n.handles.items (labels_of mappings))
 
--- the pin of the mapping whose place is the serial of this handle
+-- the pin of the mapping whose index is the serial of this handle
 abbrev pub pin_by_place : List HeldPin → Handle → Option HeldPin
 pin_by_place pins handle = slice_get pins handle.serial

@@ -1,4 +1,4 @@
--- The names of other crates that the definitions here speak of.
+-- Names of other crates that the definitions here use.
 pub use Rattle.gt_calls.specs.Asking.{asked, begun_of, bytes_given_by}
 pub use Rattle.gt_calls.specs.Path.{path}
 pub use Rattle.gt_calls.specs.Rules.{CallerKnowledge, entry_in, knowledge_of, own_generation}

@@ -1,4 +1,4 @@
--- What a domain asks and does, under other handles.
+-- The requests and steps of a domain, under other handles.
 use Rattle.std.specs.Prelude.{◌≡◌, ◌<◌, Option}
 use Rattle.gt_handles.specs.declared.handles.Handle.{Handle}
 use Rattle.gt_calls.specs.declared.held.HeldPin.{HeldPin}
@@ -12,14 +12,14 @@ use Rattle.gt_calls.specs.declared.action.Action.TheVariants.{Step as Makes, Don
 use Rattle.gt_calls.specs.declared.judging.TheConstants.{SERIAL_LIMIT}
 use Rattle.gt_calls.specs.Rules.{CallerKnowledge}
 
--- what is asked, with this handle in the place of its own
+-- the request, with this handle instead of its own
 abbrev pub asked_under : Handle → OpenRequest → OpenRequest
 asked_under b (Unmap a) = Unmap b
 asked_under b (Load a off len) = Load b off len
 asked_under b (Store a off len) = Store b off len
 asked_under b request = request
 
--- a step, with this handle in the place of that of the mapping that it gives up
+-- a step, with this handle instead of that of the mapping that it unmaps
 abbrev pub step_under : Handle → Step → Step
 step_under b (Unpin p (ByHandle a)) = Unpin p (ByHandle b)
 step_under b step = step
@@ -28,14 +28,14 @@ abbrev pub action_under : Handle → Action → Action
 action_under b (Makes step) = Makes (step_under b step)
 action_under b (Done verdict) = Done verdict
 
--- this handle finds for the one caller what that of its request finds for the other
+-- this handle finds for the one caller what the handle of its request finds for the other
 abbrev pub FindsSame : (Handle → Option HeldPin) → Handle → (Handle → Option HeldPin) → OpenRequest → Type 0
 FindsSame found b mapping (Unmap a) = found b ≡ mapping a
 FindsSame found b mapping (Load a off len) = found b ≡ mapping a
 FindsSame found b mapping (Store a off len) = found b ≡ mapping a
 FindsSame found b mapping request = Unit {0}
 
--- two callers know the same, but for the names of their mappings and how many maps they were answered
+-- two callers know the same, except for the names of their mappings and the number of maps they were answered
 pub record KnowAlike (k l : CallerKnowledge) : Type 0 where
   pub domains : l.domains ≡ k.domains
   pub may : l.may ≡ k.may

@@ -1,4 +1,4 @@
--- When a state of a search shows a run of a script that has come some way.
+-- When a state of a search shows a run of a script at some point.
 use Rattle.std.specs.Prelude.{◌≡◌, ◌++◌, ℕ, true, List, [], ◌∷◌, length, map, Some, slice_get, slice_set}
 use Rattle.gt_explore_moves.specs.Prelude.{IsWithinLimits, History, setting_of_script, may_by, may_in, CanComeNext}
 use Rattle.gt_explore_moves.specs.Prelude.{HaveAnswered, WereAnswered, history_in, Course, CourseLeads, Happening}
@@ -11,7 +11,7 @@ use Rattle.gt_explore_moves.specs.declared.actor.Actor.{Actor}
 use Rattle.gt_explore_moves.specs.declared.scene.SearchContext.{SearchContext}
 use Rattle.gt_explore_moves.specs.declared.scene.SearchState.{SearchState}
 
--- what all states have in common is of this script
+-- the common data of all states is that of this script
 pub record IsSceneOf (c : RunContents) (scene : SearchContext) : Type 0 where
   pub setting : IsSettingOf scene.roster (setting_of_script c.head)
   pub limits : IsWithinLimits scene.roster
@@ -22,12 +22,12 @@ pub record IsSceneOf (c : RunContents) (scene : SearchContext) : Type 0 where
   pub flags : scene.flags ≡ c.flags
   pub numbered : AreNumbered c.flags c.tasks
 
--- the domain of a course was answered each handle that its labels name, and each that it holds
+-- the domain of a course was given each handle that its labels name, and each that it has
 pub record WasAnsweredAll (h : History) (k : Course) : Type 0 where
   pub named : HaveAnswered h k.named
   pub held : WereAnswered h k.dom.0 k.held
 
--- the state shows a run of the script in which this happened, with its domains at these points of their courses
+-- the state shows a run of the script with this history, with its domains at these points of their courses
 pub record SceneShows (c : RunContents) (scene : SearchContext) (hs : List Happening) (ks : List Course) (w : SearchState) : Type 0 where
   pub domains : map (λ k. k.dom) ks ≡ map (λ d. d.id) c.head.domains
   pub many : length w.actors.items ≡ length ks
@@ -41,8 +41,8 @@ pub record SceneShows (c : RunContents) (scene : SearchContext) (hs : List Happe
   pub told : (flag : ℕ) → IsRaisedBefore (length hs) flag hs → slice_get w.told.items flag ≡ Some true
   pub heard : (flag : ℕ) → slice_get w.told.items flag ≡ Some true → IsRaisedBefore (length hs) flag hs
 
--- if the domain at this place goes on with this choice in a run that the state shows, its move prints what its course's
--- text grows by, and the new state shows the run that has come so far
+-- if the domain at this position moves with this choice in a run that the state shows, its move prints what its
+-- course's text grows by, and the new state shows the run at its new point
 abbrev pub MovesAlong : SearchContext → ℕ → ℕ → SearchState → TurnResult → SearchState → Type 0
 MovesAlong scene place choice old led new =
     (c : RunContents) (hs : List Happening) (ks : List Course) (k j : Course) (x : Happening)

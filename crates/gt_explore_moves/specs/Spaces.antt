@@ -1,4 +1,4 @@
--- A scene as a space of gt_explore_search: its points are those of runs of its script, and its states show them.
+-- A context as a space of gt_explore_search: its points are those of runs of its script, and its states show them.
 use Rattle.std.specs.Prelude.{◌≡◌, ◌++◌, ℕ, zero, suc, List, [], ◌∷◌, length, map, Some, refl, slice_get, slice_set}
 use mathlib.Core.Path.{ap, ◌∙◌}
 use Rattle.gt_types.specs.declared.config.DomainConfig.{DomainConfig}
@@ -16,20 +16,20 @@ use Rattle.gt_explore_search.specs.Ways.{Ways}
 use Rattle.gt_explore_search.specs.declared.exploring.SearchResult.{SearchResult}
 use Rattle.gt_explore_search.specs.declared.exploring.FoundText.{FoundText}
 
--- where a run of a script is: what has happened, and the points of its domains' courses
+-- the point of a run of a script: what has happened, and the points of its domains' courses
 pub record Point : Type 0 where
   pub script : RunContents
   pub happened : List Happening
   pub courses : List Course
 
--- a run of the scene's script begins: nothing has happened, and the domains are before the first lines of their lists
+-- a run of the context's script begins: nothing has happened, and the domains are before the first lines of their lists
 pub record BeginsAt (scene : SearchContext) (p : Point) : Type 0 where
   pub scene_is : IsSceneOf p.script scene
   pub happened : p.happened ≡ []
   pub courses : p.courses ≡ first_courses p.script
 
--- by this turn a run comes from here to there: the domain at its place goes on with its choice, by a happening that may
--- come next
+-- by this turn a run moves from here to there: the domain at its position moves with its choice, by a happening that
+-- may come next
 pub record RunComesTo (p : Point) (turn : Turn) (q : Point) : Type 0 where
   pub script : q.script ≡ p.script
   pub k : Course
@@ -41,7 +41,7 @@ pub record RunComesTo (p : Point) (turn : Turn) (q : Point) : Type 0 where
   pub happened : q.happened ≡ p.happened ++ x ∷ []
   pub courses : q.courses ≡ slice_set p.courses turn.place j
 
--- what the domain at this place has printed
+-- what the domain at this position has printed
 abbrev pub printed_by : List Course → ℕ → List ℕ
 printed_by [] at = []
 printed_by (k ∷ ks) zero = k.text
@@ -58,7 +58,7 @@ pub begins_blank : (scene : SearchContext) (p : Point) → BeginsAt scene p → 
 begins_blank scene p begins at =
     ap (λ ks. printed_by ks at) begins.courses ∙ first_blank p.script _ (λ d. refl) p.script.head.domains at
 
--- the ways of a scene
+-- the runs of a context
 abbrev pub scene_ways : SearchContext → Ways SearchState
 scene_ways scene = record {
   Point = Point;

@@ -1,4 +1,4 @@
--- How the call of a line begins in a state: as in the run.
+-- The call of a line begins in a state as in the run.
 use Rattle.std.specs.Prelude.{◌≡◌, ◌++◌, ◌+◌, ℕ, suc, take, drop, List, ◌∷◌, Option, Some, None, slice_set}
 use Rattle.gt_explore_moves.specs.Prelude.{DomId, Handle, Step, Call, Request, asked, begun_of, History, Setting, known_at}
 use Rattle.gt_explore_moves.specs.Prelude.{ScriptCall, Course, resting, RunTask, Do, TurnResult, Answered, Nowhere, On}
@@ -11,8 +11,8 @@ use Rattle.gt_explore_moves.specs.declared.calls.CallOpening.{CallOpening as Ope
 use Rattle.gt_explore_moves.specs.declared.calls.CallOpening.TheVariants.{Open, Done}
 use Rattle.gt_explore_moves.specs.declared.scene.SearchState.{SearchState}
 
--- a call began in a state as this request begins in the run: over, with the same verdict; or open, if it asks the same
--- but for the handle, which has the place of the mapping as its serial
+-- a call began in a state as this request begins in the run: over, with the same verdict; or open, with the same
+-- request except for the handle, which has the index of the mapping as its serial
 abbrev pub BeginsAsRun : Setting → History → DomId → Request → Opened → Type 0
 BeginsAsRun s h d q (Done verdict) = begun_of (known_at s h d) d q ≡ Some verdict
 BeginsAsRun s h d q (Open call step) =
@@ -20,8 +20,8 @@ BeginsAsRun s h d q (Open call step) =
     × ((p : Request) × (place : Handle) × (asked p ≡ asked_under place (asked q))
     × AsksByPlace (handles_at h d) place (asked q) × OpensAsRun (known_by_place s h d) d p call step)
 
--- an unmap of the mapping at this place began in a state as that of this handle begins in the run: over, with the same
--- verdict; or open, by a handle whose serial is the place
+-- an unmap of the mapping at this index began in a state as that of this handle begins in the run: over, with the same
+-- verdict; or open, by a handle whose serial is the index
 abbrev pub GivesAsRun : Setting → History → DomId → Handle → ℕ → Option Opened → Type 0
 GivesAsRun s h d handle choice None = ⊥
 GivesAsRun s h d handle choice (Some (Done verdict)) = begun_of (known_at s h d) d (Unmap handle) ≡ Some verdict
@@ -29,24 +29,24 @@ GivesAsRun s h d handle choice (Some (Open call step)) =
     (begun_of (known_at s h d) d (Unmap handle) ≡ None)
     × ((place : Handle) × (place.serial ≡ choice) × OpensAsRun (known_by_place s h d) d (Unmap place) call step)
 
--- a domain whose next task began with this call, and has this step to make
+-- a domain whose next task began with this call, whose first step is this
 abbrev pub opened_actor : Actor → Call → Step → Actor
 opened_actor a call step =
     record a { next = a.next + 1; «open» = Some (record { task = Some a.next; call = call; step = step }) }
 
--- a domain that is past its next task
+-- a domain that has skipped its next task
 abbrev pub passed_actor : Actor → Actor
 passed_actor a = record a { next = a.next + 1 }
 
--- a domain that gives a mapping back at the end of its list, and has this step to make
+-- a domain that unmaps a mapping at the end of its list, with this first step
 abbrev pub giving_actor : Actor → Call → Step → Actor
 giving_actor a call step = record a { «open» = Some (record { task = None; call = call; step = step }) }
 
--- a course whose mapping at this place is given back
+-- a course without its mapping at this index
 abbrev pub held_but : Course → ℕ → Course
 held_but k choice = record k { held = take choice k.held ++ drop (suc choice) k.held }
 
--- a move prints just this line
+-- a move prints exactly this line
 abbrev pub PrintsLine : TurnResult → List ℕ → Type 0
 PrintsLine Nowhere line = ⊥
 PrintsLine On line = ⊥
@@ -58,15 +58,15 @@ Grows Nowhere old new = ⊥
 Grows On old new = new ≡ old
 Grows (Answered line) old new = new ≡ old ++ line.items
 
--- a domain at rest is before this line, whose call is to begin
+-- a domain at rest whose next line begins this call
 pub record IsNextCall (k : Course) (t : RunTask) (ts : List RunTask) (call : ScriptCall) : Type 0 where
   pub rest : k.opened ≡ resting
   pub next : k.tasks ≡ t ∷ ts
   pub dom : t.dom ≡ k.dom
   pub deed : t.deed ≡ Do call
 
--- by a move of the domain at this place the state comes to where this history brings the domain on its course, and its
--- table stays as it was
+-- by a move of the domain at this position the state reaches the point to which this history brings the domain on its
+-- course, and its table is unchanged
 pub record MovesAsRun (s : Setting) (h : History) (tasks : List RunTask) (a : Actor) (k j : Course) (old new : SearchState)
     (at : ℕ) (led : TurnResult) : Type 0 where
   pub grows : Grows led k.text j.text
@@ -76,7 +76,7 @@ pub record MovesAsRun (s : Setting) (h : History) (tasks : List RunTask) (a : Ac
   pub ground : new.ground ≡ old.ground
   pub told : new.told ≡ old.told
 
--- the domain at this place goes past its next line, which begins no call, and its table stays as it was
+-- the domain at this position skips its next line, which begins no call, and its table is unchanged
 pub record PassesTo (s : Setting) (h : History) (tasks : List RunTask) (a : Actor) (j : Course) (old new : SearchState) (at : ℕ)
     : Type 0 where
   pub actor : Actor

@@ -1,4 +1,4 @@
--- How the open call of a domain makes its next step in a state: as in the run.
+-- The open call of a domain makes its next step in a state as in the run.
 use Rattle.std.specs.Prelude.{◌≡◌, ◌+◌, ◌≤◌, ◌++◌, ℕ, List, [], ◌∷◌, take, drop, Option, Some, None}
 use Rattle.std.specs.Prelude.{slice_get, slice_set}
 use Rattle.gt_explore_moves.specs.Prelude.{DomainConfig, FRAME_SIZE, Observation, Step, ReadBytes, Unpin, CallResult, Granted, KeptPin}
@@ -18,7 +18,8 @@ use Rattle.gt_explore_moves.specs.declared.actor.ActorCall.{ActorCall}
 use Rattle.gt_explore_moves.specs.declared.scene.SearchContext.{SearchContext}
 use Rattle.gt_explore_moves.specs.declared.scene.SearchState.{SearchState}
 
--- the state shows this history, and the domain at this place is where the history has brought it on this course
+-- the state shows this history, and the domain at this position is at the point to which the history has brought it on
+-- this course
 pub record ShowsAt (s : Setting) (h : History) (scene : SearchContext) (w : SearchState) (at : ℕ) (k : Course) (a : Actor)
     : Type 0 where
   pub setting : IsSettingOf scene.roster s
@@ -33,13 +34,14 @@ pub record ShowsAt (s : Setting) (h : History) (scene : SearchContext) (w : Sear
   pub named : HaveAnswered h k.named
   pub shows : ShowsCalls s h (tasks_at scene at) k a
 
--- by this step of what it has open a domain comes from one point of its course to the next
+-- by this step of its open call a domain moves from one point of its course to the next
 abbrev pub TickLeads : List (List ℕ) → Course → Opened → Item → Course → Type 0
 TickLeads types k resting i j = ⊥
 TickLeads types k (calling line call lost) i j = j ≡ course_after types line call lost k i.answer
 TickLeads types k giving i j = IsDoneIf i.answer × (j ≡ back_after k i.answer)
 
--- by a step of the domain at this place the state comes to where this history brings the domain on its course
+-- by a step of the domain at this position the state reaches the point to which this history brings the domain on its
+-- course
 pub record TicksAsRun (s : Setting) (h : History) (tasks : List RunTask) (k j : Course) (old new : SearchState) (at : ℕ) (led : TurnResult)
     : Type 0 where
   pub grows : Grows led k.text j.text
@@ -50,9 +52,9 @@ pub record TicksAsRun (s : Setting) (h : History) (tasks : List RunTask) (k j : 
   pub pages : PagesShow h new.ground.pages.items
   pub told : new.told ≡ old.told
 
--- what the task of an open call says
+-- the data of an open call's task
 
--- the bytes that a call says, if that is what is to be done
+-- the bytes in a call, if the action is one
 abbrev pub bytes_in : RunAction → List ℕ
 bytes_in (Do call) = call_bytes call
 bytes_in deed = []
@@ -61,7 +63,7 @@ abbrev pub bytes_by : Option RunTask → List ℕ
 bytes_by None = []
 bytes_by (Some t) = bytes_in t.deed
 
--- the task at a place of a list, if there is a place
+-- the task at an index of a list, if there is an index
 abbrev pub task_in : List RunTask → Option ℕ → Option RunTask
 task_in tasks None = None
 task_in tasks (Some place) = slice_get tasks place
@@ -73,12 +75,12 @@ label_given_by deed = None
 
 -- the step
 
--- the mappings of a domain after its step: without the one that this gives up
+-- the mappings of a domain after its step: without the one that the step unmaps
 abbrev pub mappings_after : Step → List LabelledMapping → List LabelledMapping
 mappings_after (Unpin p holder) ms = given_back holder ms
 mappings_after step ms = ms
 
--- the domain at this place is about to make the step of this item, by what it has open
+-- the domain at this position is about to make the step of this item, by its open call
 pub record IsTick (s : Setting) (h : History) (scene : SearchContext) (before : SearchState) (at : ℕ) (k : Course) (a : Actor)
     (o : ActorCall) (i : Item) : Type 0 where
   pub shows : ShowsAt s h scene before at k a
@@ -86,7 +88,7 @@ pub record IsTick (s : Setting) (h : History) (scene : SearchContext) (before : 
   pub event : IsItemOf (Tick k.dom) i
   pub right : IsRight s h i
 
--- the step saw this, and these tables and pages show what has happened with it
+-- the step saw this, and these tables and pages show the history with it
 pub record HasStepped (s : Setting) (h : History) (k : Course) (i : Item) (o : ActorCall) (seen : Observation) (tables : List SparseTable)
     (pages : List SparsePage) : Type 0 where
   pub saw : seen ≡ seen_by s h k.dom o.step
@@ -100,13 +102,14 @@ abbrev pub ReadsInFrame : Step → Type 0
 ReadsInFrame (ReadBytes dom frame off len) = off + len ≤ FRAME_SIZE
 ReadsInFrame step = Unit {0}
 
--- the answer of a call that ends so after this step, but for a handle: a read tells the bytes that the frame holds
+-- the answer of a call that ends after this step with this verdict, except for a handle: a read returns the bytes that
+-- the frame holds
 abbrev pub TellsEnd : History → Step → CallResult → Answer → Type 0
 TellsEnd h (ReadBytes dom frame off len) Granted answer =
     (b : Bytes) × (answer ≡ BytesAnswer b) × (b.bytes.items ≡ take len (drop off (contents_at h dom.0 frame)))
 TellsEnd h step verdict answer = answer ≡ answer_of verdict
 
--- with this verdict a domain has these mappings: one more after a map that is Ok, whose label names no other one
+-- after this verdict a domain has these mappings: one more after a map that is Ok, whose label names no other one
 abbrev pub MapsSo : Option (List ℕ) → CallResult → List LabelledMapping → List LabelledMapping → Type 0
 MapsSo label (KeptPin held) old new =
     (mapping_pins new ≡ mapping_pins old ++ held ∷ []) × (labels_of new ≡ apart_from label (labels_of old) ++ label ∷ [])

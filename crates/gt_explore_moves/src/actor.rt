@@ -12,8 +12,8 @@ pub struct LabelledMapping<'a> {
     pub held: HeldPin,
 }
 
-/// A call under way, with its next step: that of the task at this place of the domain's list, or an unmap at the end of
-/// the list.
+/// An open call with its next step. It is the call of the task at this index of the domain's list, or an unmap at the
+/// end of the list.
 #[derive(Clone, Copy)]
 pub struct ActorCall {
     pub task: Option<usize>,
@@ -24,14 +24,14 @@ pub struct ActorCall {
 /// A domain in a state of the search.
 #[derive(Drop)]
 pub struct Actor<'a> {
-    /// How many tasks of its list it has begun.
+    /// The number of tasks of its list that it has begun.
     pub next: usize,
-    /// The oldest first.
+    /// Oldest first.
     pub mappings: Vec<LabelledMapping<'a>>,
     pub open: Option<ActorCall>,
 }
 
-// The mapping, without its label if that is the one given to another mapping.
+// Returns the mapping, without its label if another mapping gets that label.
 fn unless_given<'a>(mapping: LabelledMapping<'a>, label: Option<&'a [u8]>) -> LabelledMapping<'a>
     ensures pin { result.held ≡ mapping.entry.held }
     ensures label { label_bytes result.label
@@ -45,7 +45,7 @@ fn unless_given<'a>(mapping: LabelledMapping<'a>, label: Option<&'a [u8]>) -> La
     }
 }
 
-// None of these mappings has this label from now on.
+// Removes this label from the mappings.
 fn unlabel<'a>(mappings: &mut Vec<LabelledMapping<'a>>, label: Option<&'a [u8]>)
     ensures pins { mapping_pins mappings.new.items ≡ mapping_pins mappings.old.items }
     ensures labels { labels_of mappings.new.items
@@ -63,7 +63,7 @@ impl<'a> Actor<'a> {
     ghost use Rattle.gt_explore_moves.specs.Copies.{IsFirstActor, SameActor};
     ghost use Rattle.gt_explore_moves.specs.Ticking.{CallIsOver, mappings_after};
 
-    /// A domain before the first task of its list.
+    /// Makes a domain before the first task of its list.
     pub fn new(alloc: Global) -> Actor<'a>
         ensures { IsFirstActor result }
     {
@@ -74,7 +74,7 @@ impl<'a> Actor<'a> {
         }
     }
 
-    /// The same domain once more.
+    /// Copies the domain.
     pub fn copy(&self, alloc: Global) -> Result<Actor<'a>, AllocError>
         ensures { IfOk result (SameActor self.now) }
     {
@@ -85,7 +85,7 @@ impl<'a> Actor<'a> {
         })
     }
 
-    /// It begins its next task with a call, which has this step to make.
+    /// Begins its next task with a call, whose first step is this.
     pub fn start(&mut self, call: Call, step: Step)
         ensures { self.old.next + 1 < 2 ^ 64 → self.new ≡ opened_actor self.old call step }
     {
@@ -94,14 +94,14 @@ impl<'a> Actor<'a> {
         self.open = Some(ActorCall { task, call, step });
     }
 
-    /// It goes past its next task.
+    /// Skips its next task.
     pub fn pass(&mut self)
         ensures { self.old.next + 1 < 2 ^ 64 → self.new ≡ passed_actor self.old }
     {
         self.next = self.next.saturating_add(1);
     }
 
-    /// It begins to give a mapping back at the end of its list, and has this step to make.
+    /// Begins to unmap a mapping at the end of its list, with this first step.
     pub fn give(&mut self, call: Call, step: Step)
         ensures { self.new ≡ giving_actor self.old call step }
     {
@@ -109,7 +109,7 @@ impl<'a> Actor<'a> {
         self.open = Some(ActorCall { task, call, step });
     }
 
-    /// It has a new mapping. Its label names no other one from now on.
+    /// Adds a mapping, and takes its label from the others.
     pub fn map(&mut self, label: Option<&'a [u8]>, held: HeldPin) -> Result<(), AllocError>
         ensures pins { OnOk result
             (mapping_pins self.new.mappings.items ≡ mapping_pins self.old.mappings.items ++ held ∷ []) }
@@ -122,7 +122,7 @@ impl<'a> Actor<'a> {
         Ok(())
     }
 
-    /// It gives up the mapping under this handle, whose serial is the place of the mapping.
+    /// Removes the mapping under this handle, whose serial is the index of the mapping.
     pub fn forget(&mut self, holder: PinHolder)
         ensures mappings { self.new.mappings.items ≡ given_back holder self.old.mappings.items }
         ensures rest { self.new ≡ record self.old { mappings = self.new.mappings } }
@@ -135,7 +135,7 @@ impl<'a> Actor<'a> {
         }
     }
 
-    /// It makes this step: what mapping the step gives up, it has no more.
+    /// Makes this step, and removes the mapping that the step unmaps.
     pub fn make(&mut self, step: Step)
         ensures mappings { self.new.mappings.items ≡ mappings_after step self.old.mappings.items }
         ensures rest { self.new ≡ record self.old { mappings = self.new.mappings } }
@@ -145,7 +145,7 @@ impl<'a> Actor<'a> {
         }
     }
 
-    /// Its call is over with this verdict. A mapping that it gets so has this label.
+    /// Ends its call with this verdict. A mapping that the call made gets this label.
     pub fn close(&mut self, label: Option<&'a [u8]>, verdict: CallResult) -> Result<(), AllocError>
         ensures { OnOk result (CallIsOver (label_bytes label.entry) verdict self.old self.new) }
     {

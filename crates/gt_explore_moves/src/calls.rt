@@ -1,4 +1,4 @@
-//! Calls, by what their domains know.
+//! Calls, as functions of what their domains know.
 ghost use Rattle.std.specs.Prelude.{◌≡◌};
 ghost use Rattle.gt_calls.specs.Following.{Goes, IsLeftAlike};
 ghost use Rattle.gt_calls.specs.Rules.{CallerKnowledge, knows};
@@ -7,14 +7,14 @@ ghost use Rattle.gt_explore_moves.specs.Beginnings.{BeginsAlike, OpensSo};
 use gt_calls::{Action, Call, CallResult, CallStart, CallerState, Observation, Request, Step};
 use gt_types::{Allows, DomId};
 
-/// How a call begins: open, with its first step, or over.
+/// The start of a call: open, with its first step, or over.
 #[derive(Clone, Copy)]
 pub enum CallOpening {
     Open(Call, Step),
     Done(CallResult),
 }
 
-/// How a call begins, by what is known or by what begins it alike.
+/// Starts a call by what is known, or by anything from which it begins the same.
 pub fn open_call<P: Allows>(
     known: &CallerState<'_, P>,
     dom: DomId,
@@ -35,7 +35,7 @@ pub fn open_call<P: Allows>(
     }
 }
 
-/// How a call goes on that saw this.
+/// Continues a call after a step with this observation.
 pub fn go_on<P: Allows>(known: &CallerState<'_, P>, last: Call, seen: Observation) -> (Call, Action)
     ensures caller { result.0.caller ≡ last.caller }
     ensures request { result.0.request ≡ last.request }

@@ -1,4 +1,4 @@
-//! The bytes by which a state is found again.
+//! The keys by which states are found again.
 use crate::actor::{Actor, ActorCall, LabelledMapping};
 use crate::phases::{push, push_held, push_phase};
 use crate::scene::{SearchContext, SearchState};
@@ -7,7 +7,7 @@ use gt_explore_state::{SparsePage, SparseTable};
 use gt_types::GrantRef;
 use std::alloc::AllocError;
 
-// The entries that are not as they were at the start.
+// Appends the entries that are not in their initial state.
 fn push_entries(key: &mut Vec<u8>, first_gen: u32, table: &SparseTable) -> Result<(), AllocError> {
     let untouched = table.word(first_gen, GrantRef(u32::MAX));
     let count = table.counts.len().max(table.own.len());
@@ -52,7 +52,7 @@ fn push_mappings(key: &mut Vec<u8>, mappings: &[LabelledMapping]) -> Result<(), 
     Ok(())
 }
 
-// The place of the mapping that a call gives back.
+// Returns the index of the mapping that a call unmaps.
 fn place_given(open: &ActorCall) -> u64 {
     match open.step {
         gt_calls::Step::Unpin {
@@ -84,7 +84,7 @@ fn push_actor(key: &mut Vec<u8>, actor: &Actor) -> Result<(), AllocError> {
     push_open(key, actor.open.as_ref())
 }
 
-// The bytes of a page that are not zero, with their places.
+// Appends the bytes of a page that are not zero, with their offsets.
 fn push_page(key: &mut Vec<u8>, page: &SparsePage) -> Result<(), AllocError> {
     push(key, u64::from(page.owner.0))?;
     push(key, page.frame)?;
@@ -98,7 +98,7 @@ fn push_page(key: &mut Vec<u8>, page: &SparsePage) -> Result<(), AllocError> {
     push(key, u64::MAX)
 }
 
-// For each flag whether it was raised.
+// Appends for each flag whether it was raised.
 fn push_flags(key: &mut Vec<u8>, told: &[bool]) -> Result<(), AllocError> {
     for flag in told {
         key.push(u8::from(*flag))?;
@@ -106,7 +106,7 @@ fn push_flags(key: &mut Vec<u8>, told: &[bool]) -> Result<(), AllocError> {
     Ok(())
 }
 
-// A number of these bytes (FNV-1a). Few other bytes have the same.
+// Hashes these bytes (FNV-1a), so that different states rarely share a key.
 fn digest(bytes: &[u8]) -> u64 {
     let mut digest: u64 = 0xcbf2_9ce4_8422_2325;
     for byte in bytes {
@@ -116,7 +116,7 @@ fn digest(bytes: &[u8]) -> u64 {
 }
 
 impl<'s, 'a> SearchContext<'s, 'a> {
-    /// Bytes that states which are the same have in common, and few others have.
+    /// Returns bytes that are equal for states that are the same, and rarely for others.
     pub fn key(&self, world: &SearchState<'a>) -> Result<Vec<u8>, AllocError> {
         let mut whole = Vec::new(self.alloc);
         push_flags(&mut whole, world.told.as_slice())?;

@@ -1,16 +1,16 @@
 //! A search for the texts that a script's domains can print, in all orders of their moves.
 //!
-//! `search` goes through the states that a run of a script can come to, each once, and answers an order with its text
-//! for each list of answers that it meets. A state is small: the entries that were touched, the bytes that were
-//! written, the mappings, the open calls and the places of the domains in their lists. The states are a space of
-//! `gt_explore_search`, whose search it is.
+//! [`search`] visits each state that a run of a script can reach once, and returns an order with its text for each list
+//! of answers that it meets. A state is small: the entries that were touched, the bytes that were written, the
+//! mappings, the open calls and the positions of the domains in their lists. The states are a space of
+//! `gt_explore_search`, which does the search.
 //!
-//! What holds: each text that an order of the script gives is that of one of the orders that `search` answers
-//! (`FindsAll` in specs/Spaces.antt). Nothing is claimed of the turns: whoever uses them replays them on the core
-//! (`gt_explore_replay`), which says what they lead to.
+//! It promises that each text that an order of the script gives is that of one of the orders returned (`FindsAll` in
+//! specs/Spaces.antt). Nothing is claimed of the turns: replay them on the core (`gt_explore_replay`) to see what they
+//! lead to.
 //!
-//! It uses `gt_explore_search` (the search), `gt_calls` (what calls do next), `gt_explore_state` (words and bytes), `gt_host` (what lines
-//! ask and print), `gt_script` and `gt_explore_replay` (orders and turns).
+//! It uses `gt_explore_search` (the search), `gt_calls` (the steps of calls), `gt_explore_state` (words and bytes),
+//! `gt_host` (what lines ask and print), `gt_script` and `gt_explore_replay` (orders and turns).
 #![tactic(auto)]
 
 mod actor;

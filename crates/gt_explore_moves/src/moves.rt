@@ -35,7 +35,7 @@ fn entry_fits(entry: Entry)
     ensures { IsEntry entry }
 {}
 
-// A law: what the call of a line asks fits its types.
+// A law: the request of a line's call fits its types.
 fn said_fits(call: &ScriptCall<'_>)
     ensures { (named : List Named) (dom : DomId) (request : Request) →
         SaysRequest named dom call.now request → FitsAsked (asked request) }
@@ -46,7 +46,7 @@ fn said_fits(call: &ScriptCall<'_>)
     }
 }
 
-// The bytes that the call of a task says.
+// Returns the bytes in the call of a task.
 fn bytes_of_task(alloc: Global, task: Option<&RunTask>) -> Result<Vec<u8>, SearchFault>
     ensures { IfOk result (λ bytes. bytes.items ≡ bytes_by (option_map (λ t. t.now) task.entry)) }
 {
@@ -59,7 +59,7 @@ fn bytes_of_task(alloc: Global, task: Option<&RunTask>) -> Result<Vec<u8>, Searc
     }
 }
 
-// The label to which a task gives its mapping.
+// Returns the label to which a task gives its mapping.
 fn label_of<'a>(task: &RunTask<'a>) -> Option<&'a [u8]>
     ensures { label_bytes result ≡ label_given_by task.now.deed }
 {
@@ -69,7 +69,7 @@ fn label_of<'a>(task: &RunTask<'a>) -> Option<&'a [u8]>
     }
 }
 
-// Whether a flag was raised.
+// Returns whether a flag was raised.
 fn is_told(told: &[bool], flag: usize) -> bool
     ensures { result ≡ get_or told.now flag false }
 {
@@ -113,7 +113,7 @@ impl<'s, 'a> SearchContext<'s, 'a> {
     ghost use Rattle.gt_explore_moves.specs.declared.scene.SearchState.{SearchState};
     ghost use Rattle.gt_explore_state.specs.Shows.{PagesShow};
 
-    // What a domain knows, if these are its mappings.
+    // Returns what a domain knows, if these are its mappings.
     fn known<'k>(
         &'k self,
         table: &'k SparseTable,
@@ -130,7 +130,7 @@ impl<'s, 'a> SearchContext<'s, 'a> {
         }
     }
 
-    // How a call begins.
+    // Starts a call.
     fn opening(
         &self,
         table: &SparseTable,
@@ -145,7 +145,8 @@ impl<'s, 'a> SearchContext<'s, 'a> {
         open_call(&self.known(table, mappings), dom, request)
     }
 
-    // How a call goes on that saw this. It asks nothing of the mappings of its domain any more.
+    // Continues a call after a step with this observation. From there on a call doesn't look at the mappings of its
+    // domain.
     fn next(&self, table: &SparseTable, last: ActorCall, seen: Observation) -> (Call, Action)
         ensures caller { result.0.caller ≡ last.call.caller }
         ensures request { result.0.request ≡ last.call.request }
@@ -163,7 +164,7 @@ impl<'s, 'a> SearchContext<'s, 'a> {
         go_on(&self.known(table, &mappings), last.call, seen)
     }
 
-    // The line that the answer of a task prints.
+    // Returns the line that the answer of a task prints.
     fn line(&self, task: &RunTask<'a>, answer: &Answer) -> Result<TurnResult, SearchFault>
         ensures { IfOk result (λ led. PrintsLine led
             (answer_line self.now.types.items task.now.line task.now.dom answer.now)) }
@@ -174,7 +175,7 @@ impl<'s, 'a> SearchContext<'s, 'a> {
         Ok(TurnResult::Answered(out))
     }
 
-    // How the call of a task begins.
+    // Starts the call of a task.
     fn begun(
         &self,
         actor: &Actor<'a>,
@@ -192,7 +193,7 @@ impl<'s, 'a> SearchContext<'s, 'a> {
         Ok(self.opening(table, &names.mappings, task.dom, request))
     }
 
-    // The call of a task begins.
+    // Makes the move that begins the call of a task.
     fn begin(
         &self,
         world: &mut SearchState<'a>,
@@ -228,7 +229,7 @@ impl<'s, 'a> SearchContext<'s, 'a> {
         }
     }
 
-    // How an unmap of a domain's mapping at this place begins, if there is one.
+    // Starts an unmap of a domain's mapping at this index, if there is one.
     fn unmapping(
         &self,
         actor: &Actor<'a>,
@@ -249,7 +250,7 @@ impl<'s, 'a> SearchContext<'s, 'a> {
         Ok(Some(self.opening(table, &names.mappings, dom, request)))
     }
 
-    // A domain at the end of its list begins to give a mapping back.
+    // Makes the move by which a domain at the end of its list begins to unmap a mapping.
     fn give_back(&self, world: &mut SearchState<'a>, turn: Turn) -> Result<TurnResult, SearchFault>
         ensures { (s : Setting) (h : History) (k : Course) (a : Actor) (domain : DomainConfig) (handle : Handle)
             (t : SparseTable) (answer : Option Answer) → slice_get world.old.actors.items turn.place ≡ Some a →
@@ -280,7 +281,7 @@ impl<'s, 'a> SearchContext<'s, 'a> {
         }
     }
 
-    // The bytes that were given to an open call.
+    // Returns the bytes that were passed to an open call.
     fn given(&self, at: usize, open: ActorCall) -> Result<Vec<u8>, SearchFault>
         ensures { IfOk result (λ bytes. bytes.items ≡ bytes_by (task_in (tasks_at self.now at) «open».task)) }
     {
@@ -291,7 +292,7 @@ impl<'s, 'a> SearchContext<'s, 'a> {
         bytes_of_task(self.alloc, task)
     }
 
-    // The open call of a domain makes its step, in tables and pages. This is what the step saw.
+    // Applies the step of a domain's open call to tables and pages, and returns what the step saw.
     fn make(
         &self,
         ground: &mut SparseState,
@@ -309,7 +310,7 @@ impl<'s, 'a> SearchContext<'s, 'a> {
         Ok(seen)
     }
 
-    // The answer of a call that ends so after this step.
+    // Returns the answer of a call that ends after this step with this verdict.
     fn answer(
         &self,
         ground: &SparseState,
@@ -336,7 +337,7 @@ impl<'s, 'a> SearchContext<'s, 'a> {
         }
     }
 
-    // The open call of a task ends so.
+    // Ends the open call of a task.
     fn close_line(
         &self,
         world: &mut SearchState<'a>,
@@ -357,7 +358,7 @@ impl<'s, 'a> SearchContext<'s, 'a> {
         self.line(task, &answer)
     }
 
-    // An unmap at the end of a domain's list ends so.
+    // Ends an unmap at the end of a domain's list.
     fn close_back(
         &self,
         world: &mut SearchState<'a>,
@@ -380,7 +381,7 @@ impl<'s, 'a> SearchContext<'s, 'a> {
         }
     }
 
-    // The open call of a domain ends so.
+    // Ends the open call of a domain.
     fn close(
         &self,
         world: &mut SearchState<'a>,
@@ -404,7 +405,7 @@ impl<'s, 'a> SearchContext<'s, 'a> {
         self.close_line(world, at, task, open.step, verdict)
     }
 
-    // The open call of a domain goes on after its step, which saw this, or ends.
+    // Continues or ends the open call of a domain, after its step saw this.
     fn settle(
         &self,
         world: &mut SearchState<'a>,
@@ -436,7 +437,7 @@ impl<'s, 'a> SearchContext<'s, 'a> {
         }
     }
 
-    // The open call of a domain makes its next step.
+    // Makes the next step of a domain's open call.
     fn tick(
         &self,
         world: &mut SearchState<'a>,
@@ -452,7 +453,7 @@ impl<'s, 'a> SearchContext<'s, 'a> {
         self.settle(world, at, open, seen)
     }
 
-    // A domain raises a flag.
+    // Makes the move by which a domain raises a flag.
     fn raise(&self, world: &mut SearchState<'a>, at: usize, flag: usize) -> TurnResult
         ensures { (s : Setting) (h : History) (k : Course) (t : RunTask) (ts : List RunTask) (a : Actor) →
             slice_get world.old.actors.items at ≡ Some a → ShowsCalls s h (tasks_at self.now at) k a →
@@ -471,7 +472,7 @@ impl<'s, 'a> SearchContext<'s, 'a> {
         TurnResult::On
     }
 
-    // A domain goes past a flag, if that was raised.
+    // Makes the move by which a domain passes a flag, if that was raised.
     fn go_past(&self, world: &mut SearchState<'a>, at: usize, flag: usize) -> TurnResult
         ensures raised { (s : Setting) (h : History) (k : Course) (t : RunTask) (ts : List RunTask) (a : Actor) →
             slice_get world.old.actors.items at ≡ Some a → ShowsCalls s h (tasks_at self.now at) k a →
@@ -491,7 +492,7 @@ impl<'s, 'a> SearchContext<'s, 'a> {
         }
     }
 
-    /// The move of a domain.
+    /// Makes the move of a domain.
     pub fn advance(
         &self,
         world: &mut SearchState<'a>,

@@ -10,7 +10,7 @@ use gt_host::{Labels, name_mapping};
 use gt_types::DomId;
 use std::alloc::Global;
 
-/// The mappings of a domain under handles, whose serials are their places, and its labels.
+/// The mappings of a domain under handles, whose serials are their indices, and its labels.
 #[derive(Drop)]
 pub struct ActorHandles<'a> {
     pub mappings: Handles<HeldPin>,
@@ -18,7 +18,7 @@ pub struct ActorHandles<'a> {
     pub labels: Labels<'a>,
 }
 
-/// The handles and labels of these mappings.
+/// Returns the handles and labels of these mappings.
 pub fn names_of<'a>(
     alloc: Global,
     dom: DomId,

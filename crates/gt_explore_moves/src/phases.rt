@@ -1,16 +1,16 @@
-//! The bytes that tell where an open call is.
+//! The bytes of a key for the phase of an open call.
 use gt_calls::{AccessPath, CallPins, CallResult, HeldPin, Leg, LegPhase, Phase, PinPurpose};
 use gt_script_lines::Text;
 use gt_text::push_denial;
 use gt_types::{Dir, Facts};
 use std::alloc::AllocError;
 
-/// Appends a number.
+/// Appends a number as eight bytes, little-endian.
 pub fn push(key: &mut Vec<u8>, number: u64) -> Result<(), AllocError> {
     key.extend_from_slice(&number.to_le_bytes())
 }
 
-/// Appends a pin: what it is of, what it reaches, and the word that it was taken from.
+/// Appends a pin: its entry and direction, the bodies of that entry, and the word from which it was taken.
 pub fn push_held(key: &mut Vec<u8>, held: &HeldPin) -> Result<(), AllocError> {
     let writes = matches!(held.dir, Dir::Write);
     push(key, u64::from(held.dom.0) * 2 + u64::from(writes))?;
@@ -50,7 +50,7 @@ fn push_pins(key: &mut Vec<u8>, pins: &CallPins) -> Result<(), AllocError> {
     push_route(key, &pins.dest)
 }
 
-// A phase of this number, with so many tries to come.
+// Appends a phase of this number, with this number of tries left.
 fn push_try(key: &mut Vec<u8>, number: u8, more: u8) -> Result<(), AllocError> {
     push(key, u64::from(number) * 256 + u64::from(more))
 }
@@ -108,7 +108,7 @@ fn push_leg(key: &mut Vec<u8>, leg: &Leg) -> Result<(), AllocError> {
     push(key, u64::from(leg.gref.0))
 }
 
-// What a refusal by the policy is about.
+// Appends the types that a refusal by the policy is about.
 fn push_types(key: &mut Vec<u8>, facts: Facts) -> Result<(), AllocError> {
     match facts {
         Facts::Policy { source, target, .. } => {
@@ -119,7 +119,7 @@ fn push_types(key: &mut Vec<u8>, facts: Facts) -> Result<(), AllocError> {
     }
 }
 
-// How a call will end: as its line tells, or with this refusal.
+// Appends the verdict with which a call will end, if it is a refusal.
 fn push_verdict(key: &mut Vec<u8>, verdict: CallResult) -> Result<(), AllocError> {
     let names: &[Text] = &[];
     match verdict {
@@ -133,7 +133,7 @@ fn push_verdict(key: &mut Vec<u8>, verdict: CallResult) -> Result<(), AllocError
     }
 }
 
-/// Appends what is left to do of an open call. What its line tells is left out.
+/// Appends what an open call has left to do. What follows from its line is left out.
 pub fn push_phase(key: &mut Vec<u8>, phase: &Phase) -> Result<(), AllocError> {
     match phase {
         Phase::Storing { .. } => push(key, 1),

@@ -1,4 +1,7 @@
-//! Whether states are the same.
+//! Equality of states.
+//!
+//! Each function here returns true only for equal values, and may return false for them: the search then visits a state
+//! again.
 ghost use Rattle.std.specs.Prelude.{◌≡◌, IsTrue};
 ghost use Rattle.gt_explore_moves.specs.Copies.{SameActor, SameActors, SameWorld};
 ghost use Rattle.gt_explore_moves.specs.Mappings.{labels_of, mapping_pins, label_bytes};
@@ -226,7 +229,7 @@ fn same_aim(one: PinPurpose, other: PinPurpose) -> bool
     }
 }
 
-// Of phases of a call on an own entry. Others are not the same by this test.
+// Compares phases of a call on an own entry. It returns false for all others.
 fn same_own_phase(one: Phase, other: Phase) -> bool
     ensures { IsTrue result → other ≡ one }
 {
@@ -273,7 +276,7 @@ fn same_own_phase(one: Phase, other: Phase) -> bool
     }
 }
 
-// Of the other phases.
+// Compares the other phases.
 fn same_other_phase(one: Phase, other: Phase) -> bool
     ensures { IsTrue result → other ≡ one }
 {
@@ -418,7 +421,7 @@ fn same_flags(one: &[bool], other: &[bool]) -> bool
     true
 }
 
-/// Whether the states are the same.
+/// Returns whether the states are the same.
 pub fn same_worlds(one: &SearchState, other: &SearchState) -> bool
     ensures { IsTrue result → SameWorld one.now other.now }
 {

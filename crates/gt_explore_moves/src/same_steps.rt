@@ -1,10 +1,10 @@
-//! Whether two steps are the same.
+//! Equality of steps.
 ghost use Rattle.std.specs.Prelude.{◌≡◌, IsTrue};
 
 use crate::same::same_held;
 use gt_calls::Step;
 
-// Of steps that look at a word. Others are not the same by this test.
+// Compares steps that look at a word. It returns false for all others.
 fn same_look(one: Step, other: Step) -> bool
     ensures { IsTrue result → other ≡ one }
 {
@@ -25,7 +25,7 @@ fn same_look(one: Step, other: Step) -> bool
     }
 }
 
-// Of steps that change a word.
+// Compares steps that change a word.
 fn same_change(one: Step, other: Step) -> bool
     ensures { IsTrue result → other ≡ one }
 {
@@ -65,7 +65,7 @@ fn same_change(one: Step, other: Step) -> bool
     }
 }
 
-// Of steps on bytes.
+// Compares steps on bytes.
 fn same_access(one: Step, other: Step) -> bool
     ensures { IsTrue result → other ≡ one }
 {

@@ -1,4 +1,4 @@
-//! What all states of a search have in common, and a state.
+//! The context of a search, and its states.
 ghost use Rattle.std.specs.Prelude.{◌≡◌, false, replicate, map, length, All, IfOk};
 ghost use Rattle.gt_host.specs.Playing.{setting_of_script};
 ghost use Rattle.gt_script.specs.Contents.{contents_told};
@@ -17,7 +17,7 @@ use gt_script_lines::Text;
 use gt_types::{Config, DomainConfig, StartFault};
 use std::alloc::{AllocError, Global};
 
-/// What all states of a search have in common.
+/// The data that all states of a search have in common.
 #[derive(Drop)]
 pub struct SearchContext<'s, 'a> {
     pub alloc: Global,
@@ -26,20 +26,20 @@ pub struct SearchContext<'s, 'a> {
     pub types: Vec<Text<'s>>,
     /// The list of each domain, in the order of the domains.
     pub lists: Vec<Vec<&'s RunTask<'a>>>,
-    /// How many flags there are.
+    /// The number of flags.
     pub flags: usize,
 }
 
-/// A state: where the run has come to, but for what was answered.
+/// A state: all that decides how a run can continue, without the answers so far.
 #[derive(Drop)]
 pub struct SearchState<'a> {
     pub actors: Vec<Actor<'a>>,
     pub ground: SparseState,
-    /// For each flag whether it was raised.
+    /// For each flag, whether it was raised.
     pub told: Vec<bool>,
 }
 
-// The same domains once more.
+// Copies these domains.
 fn copy_actors<'a>(alloc: Global, actors: &[Actor<'a>]) -> Result<Vec<Actor<'a>>, AllocError>
     ensures { IfOk result (λ v. SameActors actors.now v.items) }
 {
@@ -54,7 +54,7 @@ impl<'a> SearchState<'a> {
     ghost use Rattle.std.specs.Prelude.{IfOk};
     ghost use Rattle.gt_explore_moves.specs.Copies.{SameWorld};
 
-    /// The same state once more.
+    /// Copies the state.
     pub fn copy(&self, alloc: Global) -> Result<SearchState<'a>, AllocError>
         ensures { IfOk result (SameWorld self.now) }
     {
@@ -69,7 +69,7 @@ impl<'a> SearchState<'a> {
     }
 }
 
-// The domains of a script, found by their numbers.
+// Returns the domains of a script, with an index by their numbers.
 fn roster_of(alloc: Global, script: &Script) -> Result<Roster, SearchFault>
     requires { CanConfigure (contents_told script.now) }
     ensures setting { IfOk result (λ roster. IsSettingOf roster (setting_of_script (contents_told script.now))) }
@@ -86,7 +86,7 @@ fn roster_of(alloc: Global, script: &Script) -> Result<Roster, SearchFault>
     }
 }
 
-// The list of each of these domains.
+// Returns the list of each of these domains.
 fn lists_of<'s, 'a>(
     alloc: Global,
     script: &'s RunScript<'a>,
@@ -102,7 +102,7 @@ fn lists_of<'s, 'a>(
     Ok(lists)
 }
 
-// So many domains before the first tasks of their lists.
+// Makes this number of domains before the first tasks of their lists.
 fn first_actors<'a>(alloc: Global, count: usize) -> Result<Vec<Actor<'a>>, AllocError>
     ensures many { IfOk result (λ actors. length actors.items ≡ count) }
     ensures first { IfOk result (λ actors. All IsFirstActor actors.items) }
@@ -114,7 +114,7 @@ fn first_actors<'a>(alloc: Global, count: usize) -> Result<Vec<Actor<'a>>, Alloc
     Ok(actors)
 }
 
-// So many flags, of which none is raised.
+// Makes this number of flags, none of which is raised.
 fn no_flags(alloc: Global, count: usize) -> Result<Vec<bool>, AllocError>
     ensures many { IfOk result (λ told. length told.items ≡ count) }
     ensures none { IfOk result (λ told. told.items ≡ replicate count false) }
@@ -131,7 +131,7 @@ impl<'s, 'a> SearchContext<'s, 'a> {
     ghost use Rattle.gt_explore_moves.specs.Ends.{tasks_at};
     ghost use Rattle.gt_explore_moves.specs.Scenes.{IsSceneOf, SceneShows};
 
-    /// The common part of the states of a script.
+    /// Makes the context for the states of a script.
     pub fn new(
         alloc: Global,
         script: &'s RunScript<'a>,
@@ -152,7 +152,7 @@ impl<'s, 'a> SearchContext<'s, 'a> {
         })
     }
 
-    /// The state in which nothing has happened.
+    /// Returns the state in which nothing has happened.
     pub fn start(&self) -> Result<SearchState<'a>, AllocError>
         ensures { (c : RunContents) → IsSceneOf c self.now → IfOk result (SceneShows c self.now [] (first_courses c)) }
     {
@@ -167,7 +167,7 @@ impl<'s, 'a> SearchContext<'s, 'a> {
         })
     }
 
-    /// The task at this place of a domain's list.
+    /// Returns the task at this index of a domain's list.
     pub fn task(&self, at: usize, place: usize) -> Option<&'s RunTask<'a>>
         ensures { option_map (λ t. t.now) result ≡ slice_get (tasks_at self.now at) place }
     {

@@ -1,4 +1,4 @@
-//! The search.
+//! The search of a script's run.
 ghost use Rattle.std.specs.Prelude.{IfOk};
 ghost use Rattle.gt_script.specs.Contents.{contents_told};
 ghost use Rattle.gt_script.specs.RunContents.{run_told};
@@ -11,12 +11,12 @@ use gt_explore_search::{SearchFault, SearchResult};
 use gt_script::RunScript;
 use std::alloc::Global;
 
-/// Goes through the states of a script's run, at most `limit` of them. For each text that the script may give it
-/// answers one list of turns that led to it.
+/// Visits the states of a script's run, at most `limit` of them. Returns for each text that the script may give one
+/// list of turns that led to it.
 ///
 /// # Errors
-/// `Memory` if memory was refused; `States` past the limit; `Circle` if a run comes back to a state; `Keeps` if a
-/// domain can't give a mapping back.
+/// `Memory` if an allocation fails; `States` beyond the limit; `Circle` if a run returns to a state; `Keeps` if a
+/// domain can't unmap a mapping.
 pub fn search<'s, 'a>(
     alloc: Global,
     script: &'s RunScript<'a>,

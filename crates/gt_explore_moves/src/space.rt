@@ -1,4 +1,4 @@
-//! A scene as a space: its states, and the turns that lead from one to another.
+//! A search context as a transition system.
 ghost use Rattle.gt_explore_moves.specs.Spaces.{scene_ways};
 
 use crate::same::same_worlds;

@@ -1,5 +1,5 @@
--- When a replay is abreast of an order. It has come as far on each list, by a run of the core that is the same but for
--- the keys of handles, which a run may choose.
+-- When a replay is abreast of an order: it is at the same point of each list, by a run of the core that is the same
+-- except for the keys of handles, which a run may choose.
 use Rattle.std.specs.Prelude.{◌≡◌, ◌≢◌, ℕ, true, false, List, [], ◌∷◌, length, map, Some, None, slice_get, get_or}
 use Rattle.std.specs.Option.{option_map}
 use Rattle.gt_explore_replay.specs.Prelude.{Handle, History, Setting, MayDo, history_after, open_call}
@@ -14,7 +14,7 @@ use Rattle.gt_explore_replay.specs.Courses.{Opened, resting, calling, giving, Co
 abbrev pub history_in : List Happening → History
 history_in hs = history_after [] (trace_in hs)
 
--- the same but for keys
+-- the same except for keys
 
 -- a name without the key of its handle
 abbrev pub bare_name : Named → Named
@@ -26,7 +26,7 @@ SameNames one other = map bare_name one ≡ map bare_name other
 abbrev pub SameHandles : List Handle → List Handle → Type 0
 SameHandles one other = map bare_handle one ≡ map bare_handle other
 
--- both have the same open, and give up the same handle at its end
+-- both have the same open, and unmap the same handle at its end
 abbrev pub IsDoingSo : OpenTask → Opened → Type 0
 IsDoingSo Nothing resting = Unit {0}
 IsDoingSo (Line line call lost) (calling number asked freed) =
@@ -39,28 +39,28 @@ IsDoingSo (Line line call lost) giving = ⊥
 IsDoingSo GivesBack resting = ⊥
 IsDoingSo GivesBack (calling number asked freed) = ⊥
 
--- handles that were answered
+-- handles that were given
 
--- each name has a handle that its domain was answered
+-- each name has a handle that its domain was given
 abbrev pub HaveAnswered : History → List Named → Type 0
 HaveAnswered h [] = Unit {0}
 HaveAnswered h (n ∷ more) = IsGiven h n.dom.0 n.handle × HaveAnswered h more
 
--- the domain was answered each of these
+-- the domain was given each of these
 abbrev pub WereAnswered : History → ℕ → List Handle → Type 0
 WereAnswered h d [] = Unit {0}
 WereAnswered h d (handle ∷ more) = IsGiven h d handle × WereAnswered h d more
 
 -- one domain
 
--- the domain has a call open by what happened exactly if it has something open on its course
+-- the domain has a call open by the history exactly if it has something open on its course
 abbrev pub IsOpenSo : History → ℕ → Opened → Type 0
 IsOpenSo h d resting = open_call h d ≡ None
 IsOpenSo h d (calling number asked freed) = open_call h d ≢ None
 IsOpenSo h d giving = open_call h d ≢ None
 
--- the domain of a replay, where this happened, is as far on its list as that of an order, where that happened; its list
--- names only flags below this number
+-- the domain of a replay with the one history is at the same point of its list as that of an order with the other; its
+-- list names only flags below this number
 pub record WalksAbreast (flags : ℕ) (order replayed : History) (k : Course) (w : Walker) : Type 0 where
   pub dom : w.dom ≡ k.dom
   pub tasks : tasks_left w ≡ k.tasks
@@ -79,13 +79,13 @@ pub record WalksAbreast (flags : ℕ) (order replayed : History) (k : Course) (w
 
 -- all domains
 
--- the next happening of an order may follow what happened
+-- the next happening of an order may follow this history
 abbrev pub CanComeNext : Setting → List Happening → Happening → Type 0
 CanComeNext s hs (did e x) = MayDo s (history_in hs) e x
 CanComeNext s hs (raised d flag) = Unit {0}
 CanComeNext s hs (passed d flag) = IsRaisedBefore (length hs) flag hs
 
--- a replay is abreast of an order that has come so far, with its domains at these points of their courses
+-- a replay is abreast of an order so far, with its domains at these points of their courses
 pub record IsAbreast (c : RunContents) (hs : List Happening) (ks : List Course) (r : Replay) : Type 0 where
   pub setting : setting_in may_by r.core ≡ setting_of_script c.head
   pub types : r.types.items ≡ type_names c.head

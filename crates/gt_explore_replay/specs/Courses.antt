@@ -1,5 +1,5 @@
--- The turns of an order: whose move is next, and which mapping a domain gives back at the end of its list. By its turns
--- the domains of an order come from the first lines of their lists to the ends.
+-- The turns of an order: whose move is next, and which mapping a domain unmaps at the end of its list. By its turns the
+-- domains of an order move from the first lines of their lists to the ends.
 use Rattle.std.specs.Prelude.{◌≡◌, ◌++◌, ℕ, suc, List, [], ◌∷◌, map, take, drop, Option, Some, None, slice_get}
 use Rattle.std.specs.Prelude.{slice_set}
 use Rattle.std.specs.List.{flat_map}
@@ -9,15 +9,15 @@ use Rattle.gt_explore_replay.specs.Prelude.{SaysRequest, handle_given, label_giv
 use Rattle.gt_explore_replay.specs.declared.replay.Turn.{Turn}
 use Rattle.gt_explore_replay.specs.Orders.{Happening, did, raised, passed, given_up, held_after, IsOrderOf}
 
--- what a domain has open on its course: nothing; the call of a line, which gives up this handle if it is answered Ok; or
+-- what a domain has open on its course: nothing; the call of a line, which unmaps this handle if it is answered Ok; or
 -- an unmap at the end of its list
 pub data Opened : Type 0 where
   resting : Opened
   calling : ℕ → ScriptCall → Option Handle → Opened
   giving : Opened
 
--- how far a domain has come: the tasks that it has still to begin, what it has open, what its labels name, what it
--- holds, and what it has printed
+-- the point of a domain on its course: the tasks that it has still to begin, what it has open, what its labels name,
+-- its handles, and what it has printed
 pub record Course : Type 0 where
   pub dom : DomId
   pub tasks : List RunTask
@@ -26,7 +26,7 @@ pub record Course : Type 0 where
   pub held : List Handle
   pub text : List ℕ
 
--- the call of a line has this answer
+-- the course after this answer of the call of a line
 abbrev pub course_answered : List (List ℕ) → ℕ → ScriptCall → Option Handle → Course → Answer → Course
 course_answered types line call lost k answer =
     record {
@@ -38,12 +38,12 @@ course_answered types line call lost k answer =
       text = k.text ++ answer_line types line k.dom answer;
     }
 
--- the call of a line began or went on: with this answer, or it is open
+-- the course after the call of a line began or continued: with this answer, or it is open
 abbrev pub course_after : List (List ℕ) → ℕ → ScriptCall → Option Handle → Course → Option Answer → Course
 course_after types line call lost k None = record k { opened = calling line call lost }
 course_after types line call lost k (Some answer) = course_answered types line call lost k answer
 
--- an unmap at the end of the list did so: with its answer, or it is open
+-- the course after an unmap at the end of the list began or continued: with this answer, or it is open
 abbrev pub back_after : Course → Option Answer → Course
 back_after k None = record k { opened = giving }
 back_after k (Some answer) = record k { opened = resting }
@@ -53,7 +53,7 @@ abbrev pub IsDoneIf : Option Answer → Type 0
 IsDoneIf None = Unit {0}
 IsDoneIf (Some answer) = answer ≡ Done
 
--- by this a domain does what its next line says, and these tasks are left
+-- by this happening a domain takes the action of its next line, and these tasks are left
 abbrev pub ActionLeads : List (List ℕ) → Course → ℕ → List RunTask → RunAction → Happening → Course → Type 0
 ActionLeads types k line left (Tell flag) x j = (x ≡ raised k.dom flag) × (j ≡ record k { tasks = left })
 ActionLeads types k line left (Await flag) x j = (x ≡ passed k.dom flag) × (j ≡ record k { tasks = left })
@@ -62,19 +62,19 @@ ActionLeads types k line left (Do call) x j =
     × (x ≡ did (Begin k.dom request) e)
     × (j ≡ course_after types line call (given_up request) (record k { tasks = left }) (answer_in e))
 
--- by this a domain at the end of its list begins to give back the mapping at this place of those that it has
+-- by this happening a domain at the end of its list begins to unmap its mapping at this index
 abbrev pub GivesAt : Course → ℕ → Happening → Course → Type 0
 GivesAt k choice x j =
     (handle : Handle) × (e : Element) × (slice_get k.held choice ≡ Some handle)
     × (x ≡ did (Begin k.dom (Unmap handle)) e) × IsDoneIf (answer_in e)
     × (j ≡ back_after (record k { held = take choice k.held ++ drop (suc choice) k.held }) (answer_in e))
 
--- by this a domain at rest goes on
+-- by this happening a domain at rest moves
 abbrev pub RestLeads : List (List ℕ) → Course → List RunTask → ℕ → Happening → Course → Type 0
 RestLeads types k [] choice x j = GivesAt k choice x j
 RestLeads types k (t ∷ ts) choice x j = (choice ≡ 0) × ActionLeads types k t.line ts t.deed x j
 
--- by this a domain goes on that has this open
+-- by this happening a domain moves that has this open
 abbrev pub OpenLeads : List (List ℕ) → Course → Opened → ℕ → Happening → Course → Type 0
 OpenLeads types k resting choice x j = RestLeads types k k.tasks choice x j
 OpenLeads types k (calling line call lost) choice x j =
@@ -82,17 +82,17 @@ OpenLeads types k (calling line call lost) choice x j =
 OpenLeads types k giving choice x j =
     (choice ≡ 0) × (e : Element) × (x ≡ did (Tick k.dom) e) × IsDoneIf (answer_in e) × (j ≡ back_after k (answer_in e))
 
--- by this happening a domain comes from one point of its course to the next
+-- by this happening a domain moves from one point of its course to the next
 abbrev pub CourseLeads : List (List ℕ) → Course → ℕ → Happening → Course → Type 0
 CourseLeads types k choice x j = OpenLeads types k k.opened choice x j
 
--- a domain is at its end, with nothing open and nothing held
+-- a domain is at its end, with nothing open and no mapping
 pub record CourseEnds (k : Course) : Type 0 where
   pub tasks : k.tasks ≡ []
   pub opened : k.opened ≡ resting
   pub held : k.held ≡ []
 
--- by these turns, one for each happening, the domains come from these points of their courses to those
+-- by these turns, one for each happening, the domains move from these points of their courses to those
 abbrev pub TurnsLead : List (List ℕ) → List Course → List Happening → List Turn → List Course → Type 0
 TurnsLead types ks [] [] ls = ks ≡ ls
 TurnsLead types ks (x ∷ hs) (t ∷ ts) ls =

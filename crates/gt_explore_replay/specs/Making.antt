@@ -1,4 +1,4 @@
--- What a move of a domain was: the event of the core, what that did, and how far the domain is then.
+-- A move of a domain: the event of the core, what that did, and the domain afterwards.
 use Rattle.std.specs.Prelude.{◌≡◌, ◌≢◌, ◌++◌, ◌+◌, ℕ, suc, List, take, drop, Option, Some, slice_get, IsSome}
 use Rattle.gt_explore_replay.specs.Prelude.{Handle, Request, Unmap, Setting, DoesEvent, CoreState, Begin, Tick, RunTask}
 use Rattle.gt_explore_replay.specs.Prelude.{Observation, Step, Answer, Done, begun_element, ticked_element, Begun, Ticked}
@@ -10,11 +10,11 @@ use Rattle.gt_core.specs.declared.core_state.Ticked.TheVariants as ticked
 use Rattle.gt_explore_replay.specs.Orders.{given_up}
 use Rattle.gt_explore_replay.specs.Walking.{AnswersLine, ClosesCall}
 
--- a line's call asks this, whatever handles the labels name
+-- the call of a line makes this request, whatever handles the labels name
 abbrev pub AsksFor : Walker → ScriptCall → Request → Type 0
 AsksFor v call request = (named : List Named) → AreNamed v.labels named → SaysRequest named v.dom call request
 
--- the call of a line, which gives up this handle, began so: it is open, or it has its answer
+-- the call of a line, which unmaps this handle, began: it is open, or it has its answer
 abbrev pub IsBegunFrom : List (List ℕ) → RunTask → Bor ScriptCall → Option Handle → Walker → Begun → Option Moved
     → Walker → Type 0
 IsBegunFrom types task call lost v begun.Open m w =
@@ -32,19 +32,19 @@ BeginsLine s types old v task call m new w =
     × DoesEvent s old (Begin v.dom request) (begun_element v.dom request b) new
     × IsBegunFrom types task call (given_up request) v b m w
 
--- what a domain has open made a step so: it is open still, or it has its answer
+-- the open call of a domain made a step: it is still open, or it has its answer
 abbrev pub IsTickedFrom : List (List ℕ) → Walker → Ticked → Option Moved → Walker → Type 0
 IsTickedFrom types v (ticked.Step step seen) m w = IsSome m × (w ≡ v)
 IsTickedFrom types v (ticked.Done step seen answer) m w = IsSome m × ClosesCall types answer v w
 IsTickedFrom types v ticked.Idle m w = Unit {0}
 IsTickedFrom types v ticked.NoDomain m w = Unit {0}
 
--- the core made a step of what a domain has open
+-- the core made a step of the open call of a domain
 abbrev pub TicksOpen : Setting → List (List ℕ) → CoreState → Walker → Option Moved → CoreState → Walker → Type 0
 TicksOpen s types old v m new w =
     (t : Ticked) × DoesEvent s old (Tick v.dom) (ticked_element v.dom t) new × IsTickedFrom types v t m w
 
--- an unmap of the mapping at this place began so: it is open
+-- an unmap of the mapping at this index began: it is open
 abbrev pub IsGivenFrom : ℕ → Walker → Begun → Option Moved → Walker → Type 0
 IsGivenFrom choice v begun.Open m w =
     IsSome m × (w ≡ record v { doing = GivesBack; held = w.held })
@@ -53,20 +53,20 @@ IsGivenFrom choice v (begun.Done answer) m w = ⊥
 IsGivenFrom choice v begun.Busy m w = Unit {0}
 IsGivenFrom choice v begun.NoDomain m w = Unit {0}
 
--- the core began an unmap of the mapping at this place, if there is one
+-- the core began an unmap of the mapping at this index, if there is one
 abbrev pub GivesBackAt : Setting → CoreState → Walker → ℕ → Option Moved → CoreState → Walker → Type 0
 GivesBackAt s old v choice m new w =
     (handle : Handle) → slice_get v.held.items choice ≡ Some handle
     → (b : Begun) × DoesEvent s old (Begin v.dom (Unmap handle)) (begun_element v.dom (Unmap handle) b) new
     × IsGivenFrom choice v b m w
 
--- the unmap of the mapping at this place was answered at once, so it was refused
+-- the unmap of the mapping at this index was answered at once, so it was refused
 abbrev pub StartKeeps : Setting → CoreState → Walker → ℕ → CoreState → Type 0
 StartKeeps s old v choice new =
     (handle : Handle) × (answer : Answer) × (slice_get v.held.items choice ≡ Some handle)
     × DoesEvent s old (Begin v.dom (Unmap handle)) (begun_element v.dom (Unmap handle) (begun.Done answer)) new
 
--- a step answered an unmap at the end of a list, and not Ok
+-- a step answered an unmap at the end of a list with a refusal
 abbrev pub StepKeeps : Setting → CoreState → Walker → CoreState → Type 0
 StepKeeps s old v new =
     (step : Step) × (seen : Observation) × (answer : Answer) × (v.doing ≡ GivesBack) × (answer ≢ Done)

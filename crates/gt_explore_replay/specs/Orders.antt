@@ -1,4 +1,4 @@
--- What a script for `run` may answer.
+-- The texts that a script for `run` may give.
 use Rattle.std.specs.Prelude.{◌≡◌, ◌≢◌, ◌<◌, ◌++◌, ◌==◌, not, ℕ, List, [], ◌∷◌, map, filter, All, Option, Some, None}
 use Rattle.std.specs.Prelude.{slice_get}
 use Rattle.gt_explore_replay.specs.Prelude.{domain_of, DomId, DomainConfig, Handle, Request, Unmap, Legal, actor_of, Answer}
@@ -8,14 +8,14 @@ use Rattle.gt_explore_replay.specs.Prelude.{handle_given, label_given, with_name
 
 -- orders
 
--- one thing that happens in a run: an event of the core, and what it did; a domain raises
--- a flag; or a domain that awaits a flag goes past it
+-- one thing that happens in a run: an event of the core, and what it did; a domain raises a flag; or a domain that
+-- awaits a flag passes it
 pub data Happening : Type 0 where
   did : Event → Element → Happening
   raised : DomId → ℕ → Happening
   passed : DomId → ℕ → Happening
 
--- whose it is
+-- the domain that does it
 abbrev pub doer : Happening → DomId
 doer (did e x) = actor_of e
 doer (raised d flag) = d
@@ -25,7 +25,7 @@ doer (passed d flag) = d
 abbrev pub own_happenings : DomId → List Happening → List Happening
 own_happenings dom hs = filter (λ x. (doer x).0 == dom.0) hs
 
--- the events of an order, as the core is asked them
+-- the events of an order, as the core gets them
 abbrev pub events_in : List Happening → List Event
 events_in [] = []
 events_in (did e x ∷ hs) = e ∷ events_in hs
@@ -39,35 +39,35 @@ trace_in (did e x ∷ hs) = x ∷ trace_in hs
 trace_in (raised d flag ∷ hs) = trace_in hs
 trace_in (passed d flag ∷ hs) = trace_in hs
 
--- some domain raises this flag at one of the first places
+-- some domain raises this flag at an earlier index
 abbrev pub IsRaisedBefore : ℕ → ℕ → List Happening → Type 0
 IsRaisedBefore place flag hs = (at : ℕ) × (d : DomId) × (at < place) × (slice_get hs at ≡ Some (raised d flag))
 
--- a domain goes past a flag only after some domain has raised it
+-- a domain passes a flag only after some domain has raised it
 abbrev pub FlagsAreRaised : List Happening → Type 0
 FlagsAreRaised hs = (at : ℕ) (d : DomId) (flag : ℕ) → slice_get hs at ≡ Some (passed d flag)
     → IsRaisedBefore at flag hs
 
 -- what one domain does
 
--- the ticks of a domain, which did this
+-- the ticks of a domain with this trace
 abbrev pub ticks_of : DomId → List Element → List Happening
 ticks_of dom trace = map (λ x. did (Tick dom) x) trace
 
--- an open call goes on to its answer, by ticks of its domain, and after that it goes on so
+-- an open call continues to its answer, by ticks of its domain, and then the rest follows
 abbrev pub CallGoesOn : DomId → (Answer → List Happening → Type 0) → List Happening → Type 0
 CallGoesOn dom After hs =
     (trace : List Element) × (answer : Answer) × (more : List Happening)
     × (hs ≡ ticks_of dom trace ++ more) × EndsWith trace answer × After answer more
 
--- a domain makes the call that is asked, from its beginning to its answer, and after that it goes on so
+-- a domain makes this call, from its beginning to its answer, and then the rest follows
 abbrev pub CallHappens : DomId → Request → (Answer → List Happening → Type 0) → List Happening → Type 0
 CallHappens dom request After hs =
     (first : Element) × (trace : List Element) × (answer : Answer) × (more : List Happening)
     × (hs ≡ did (Begin dom request) first ∷ (ticks_of dom trace ++ more))
     × EndsWith (first ∷ trace) answer × After answer more
 
--- the handle that a request gives up, if it is answered Ok
+-- the handle that a request unmaps, if it is answered Ok
 abbrev pub given_up : Request → Option Handle
 given_up (Unmap handle) = Some handle
 given_up request = None
@@ -76,15 +76,14 @@ given_up request = None
 abbrev pub handles_without : Handle → List Handle → List Handle
 handles_without handle held = filter (λ h. not (h.serial == handle.serial)) held
 
--- what a domain holds after this answer: a map answered Ok gives it a handle,
--- and an unmap answered Ok takes one
+-- the handles of a domain after this answer: a map answered Ok gives it a handle, and an unmap answered Ok takes one
 abbrev pub held_after : List Handle → Option Handle → Answer → List Handle
 held_after held (Some handle) Done = handles_without handle held
 held_after held lost (Mapped handle) = held ++ handle ∷ []
 held_after held lost answer = held
 
--- A domain at the end of its list gives back all that it holds, in this order: by unmaps, each
--- answered Ok. (The running monitor does so when the domain leaves.)
+-- A domain at the end of its list unmaps all its mappings, in this order, and each unmap is answered Ok. (The running
+-- monitor does this when the domain leaves.)
 abbrev pub GivesMappingsBack : DomId → List Handle → List Handle → List Happening → Type 0
 GivesMappingsBack dom [] held hs = (held ≡ []) × (hs ≡ [])
 GivesMappingsBack dom (handle ∷ order) held hs =
@@ -92,12 +91,12 @@ GivesMappingsBack dom (handle ∷ order) held hs =
     × CallHappens dom (Unmap handle)
     (λ answer more. (answer ≡ Done) × GivesMappingsBack dom order (before ++ after) more) hs
 
--- after a call of this line the text goes on with its answer
+-- after a call of this line the text continues with its answer
 abbrev pub Prints : List ℕ → (List ℕ → Type 0) → List ℕ → Type 0
 Prints line Rest text = (rest : List ℕ) × (text ≡ line ++ rest) × Rest rest
 
--- a domain does what a line says, and goes on so with what its labels then name, what it then holds
--- and what it prints after that
+-- a domain takes the action of a line, and the rest follows with what its labels then name, the handles that it then
+-- has, and what it prints after that
 abbrev pub DeedHappens : List (List ℕ) → DomId → List Named → List Handle → ℕ → RunAction
     → (List Named → List Handle → List Happening → List ℕ → Type 0) → List Happening → List ℕ → Type 0
 DeedHappens types dom named held line (Tell flag) Next hs text =
@@ -111,7 +110,7 @@ DeedHappens types dom named held line (Do call) Next hs text =
     (Next (with_name named dom (label_given call) (handle_given answer)) (held_after held (given_up request) answer) more)
     text) hs
 
--- a domain does what its list says, line by line, and then gives back what it holds; this is what it prints
+-- a domain serves its list, line by line, and then unmaps all its mappings; this is what it prints
 abbrev pub FollowsList : List (List ℕ) → DomId → List Named → List Handle → List RunTask → List Happening → List ℕ → Type 0
 FollowsList types dom named held [] hs text = (order : List Handle) × GivesMappingsBack dom order held hs × (text ≡ [])
 FollowsList types dom named held (t ∷ ts) hs text =
@@ -127,14 +126,14 @@ AllFollow c hs (d ∷ ds) text =
     (part : List ℕ) × Prints part (AllFollow c hs ds) text
     × FollowsList (type_names c.head) d.id [] [] (list_of c.tasks d.id) (own_happenings d.id hs) part
 
--- one order of a script's run, and its text: what the core did is a legal trace, each domain follows
--- its list, nobody else does anything, and no flag is passed that was not raised before
+-- one order of a script's run, and its text: what the core did is a legal trace, each domain follows its list, no other
+-- domain does anything, and no flag is passed that was not raised before
 pub record IsOrderOf (c : RunContents) (hs : List Happening) (text : List ℕ) : Type 0 where
   pub legal : Legal (setting_of_script c.head) (events_in hs) (trace_in hs)
   pub follow : AllFollow c hs c.head.domains text
   pub known : All (λ x. domain_of c.head.domains (doer x) ≢ None) hs
   pub flags : FlagsAreRaised hs
 
--- the script may give this text: in some order of its run
+-- the script may give this text: it is the text of some order of its run
 abbrev pub MayGive : RunContents → List ℕ → Type 0
 MayGive c text = (hs : List Happening) × IsOrderOf c hs text

@@ -1,4 +1,4 @@
--- The names of other crates, and of the code, that the definitions here speak of.
+-- Names of other crates, and of the code, that the definitions here use.
 pub use Rattle.gt_calls.specs.declared.action.Observation.{Observation}
 pub use Rattle.gt_calls.specs.declared.action.Step.{Step}
 pub use Rattle.gt_calls.specs.declared.request.Request.{Request}

@@ -1,4 +1,4 @@
--- How far a domain has come on its list, and what a move of it leads to.
+-- The point of a domain on its list, and the result of its moves.
 use Rattle.std.specs.Prelude.{◌≡◌, ◌≢◌, ◌++◌, ◌≤◌, ℕ, true, false, List, [], ◌∷◌, length, drop, map, All, AllPairs}
 use Rattle.std.specs.Prelude.{Option, Some, None, slice_get, get_or}
 use Rattle.gt_explore_replay.specs.Prelude.{domain_of, DomainConfig, Handle, History, Setting, Legal, MayDo, grown}
@@ -15,11 +15,11 @@ use Rattle.gt_explore_replay.specs.Orders.{CallGoesOn, Prints, FollowsList, held
 abbrev pub tasks_left_of : Walker → List RunTask
 tasks_left_of w = map (λ t. t.now) w.tasks.items
 
--- what it has still to begin
+-- the tasks that it has still to begin
 abbrev pub tasks_left : Walker → List RunTask
 tasks_left w = drop w.next (tasks_left_of w)
 
--- what a domain does from here on, and what it prints then, if it has this open and its labels name these handles
+-- what a domain does from here on, and what it then prints, if it has this open and its labels name these handles
 unfoldable pub Continues : List (List ℕ) → Walker → List Named → OpenTask → List Happening → List ℕ → Type 0
 Continues types w named Nothing hs text = FollowsList types w.dom named w.held.items (tasks_left w) hs text
 Continues types w named (Line line call lost) hs text =
@@ -32,8 +32,8 @@ Continues types w named GivesBack hs text =
     CallGoesOn w.dom (λ answer more. (answer ≡ answers.Done)
     × FollowsList types w.dom named w.held.items (tasks_left w) more text) hs
 
--- by this a domain comes from one point of its list to another: what it does from there on is,
--- with this before it, what it does from here on, and it has printed what comes between
+-- by this happening a domain moves from one point of its list to another: what it does from there on, with this before
+-- it, is what it does from here on, and it has printed what comes between
 pub record Moves (types : List (List ℕ)) (v : Walker) (x : Happening) (w : Walker) : Type 0 where
   pub own_move : doer x ≡ v.dom
   pub dom : w.dom ≡ v.dom
@@ -42,12 +42,12 @@ pub record Moves (types : List (List ℕ)) (v : Walker) (x : Happening) (w : Wal
       → (before : List ℕ) × Continues types v named v.doing (x ∷ more) before
       × (v.text.items ++ before ≡ w.text.items ++ rest))
 
--- an event of the core did what it may, the core stands for what that leaves, and by it the domain moved
+-- an event of the core did what it may, the core's state represents the history with it, and by it the domain moved
 abbrev pub WalksTo : Setting → List (List ℕ) → CoreState → Walker → CoreState → Walker → Type 0
 WalksTo s types old v new w = (h : History) → CoreStands s h old
     → (e : Event) × (x : Element) × MayDo s h e x × CoreStands s (grown h x) new × Moves types v (did e x) w
 
--- the call of a line has its answer, which is printed, and which its label and what is held follow
+-- the call of a line has its answer, which is printed, and its label and the handles follow it
 pub record AnswersLine (types : List (List ℕ)) (line : ℕ) (call : ScriptCall) (lost : Option Handle) (answer : Answer)
     (v w : Walker) : Type 0 where
   pub named : (named : List Named) → AreNamed v.labels named
@@ -59,7 +59,7 @@ pub record AnswersLine (types : List (List ℕ)) (line : ℕ) (call : ScriptCall
   pub held : w.held.items ≡ held_after v.held.items lost answer
   pub text : w.text.items ≡ v.text.items ++ answer_line types line v.dom answer
 
--- what a domain has open has its answer
+-- the open task of a domain has this answer
 unfoldable pub IsClosedFrom : List (List ℕ) → OpenTask → Answer → Walker → Walker → Type 0
 IsClosedFrom types Nothing answer v w = ⊥
 IsClosedFrom types (Line line call lost) answer v w = AnswersLine types line call.now lost answer v w
@@ -77,24 +77,24 @@ pub record StartsWalk (tasks : List RunTask) (w : Walker) : Type 0 where
   pub held : w.held.items ≡ []
   pub text : w.text.items ≡ []
 
--- a domain is at the end of its list, with nothing open and nothing held
+-- a domain is at the end of its list, with nothing open and no mapping
 pub record IsAtEnd (w : Walker) : Type 0 where
   pub left : length (tasks_left_of w) ≤ w.next
   pub doing : w.doing ≡ Nothing
   pub held : w.held.items ≡ []
 
--- no two of the domains have one number
+-- no two of the domains have the same number
 abbrev pub HaveOwnIds : List DomainConfig → Type 0
 HaveOwnIds domains = AllPairs (λ d e. d.id.0 ≢ e.id.0) domains
 
--- a domain has come this far: what it did so far, and what it does from here on, follow its list
+-- a domain is at this point: what it did so far, and what it does from here on, follow its list
 abbrev pub HasFollowed : RunContents → List Happening → Walker → Type 0
 HasFollowed c hs w = (named : List Named) × AreNamed w.labels named
     × ((more : List Happening) (rest : List ℕ) → Continues (type_names c.head) w named w.doing more rest
     → FollowsList (type_names c.head) w.dom [] [] (list_of c.tasks w.dom)
     (own_happenings w.dom hs ++ more) (w.text.items ++ rest))
 
--- the run has come this far by what happened
+-- the run has reached this point by this history
 pub record HasWalked (c : RunContents) (hs : List Happening) (r : Replay) : Type 0 where
   pub setting : setting_in may_by r.core ≡ setting_of_script c.head
   pub types : r.types.items ≡ type_names c.head
@@ -107,6 +107,6 @@ pub record HasWalked (c : RunContents) (hs : List Happening) (r : Replay) : Type
   pub apart : HaveOwnIds c.head.domains
   pub followed : (at : ℕ) (w : Walker) → slice_get r.walkers.items at ≡ Some w → HasFollowed c hs w
 
--- one thing more has happened
+-- one more thing has happened
 abbrev pub ComesOn : RunContents → List Happening → Replay → Type 0
 ComesOn c hs r = (x : Happening) × HasWalked c (hs ++ x ∷ []) r

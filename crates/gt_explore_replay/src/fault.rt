@@ -1,13 +1,13 @@
-//! Why an order of a run was not followed.
+//! Faults of a replay.
 use gt_types::{DomId, Memory};
 use std::alloc::{AllocError, AllocFailed};
 
-/// Why an order of a run was not followed.
+/// The reason that an order of a run was not followed.
 #[derive(Clone, Copy, Debug, PartialEq, Eq)]
 pub enum ReplayFault {
-    /// Memory was refused.
+    /// An allocation failed.
     Memory,
-    /// This domain comes to the end of its list with a mapping that the policy does not let it unmap.
+    /// This domain reaches the end of its list with a mapping that the policy does not let it unmap.
     Keeps(DomId),
 }
 

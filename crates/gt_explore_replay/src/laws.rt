@@ -1,4 +1,4 @@
-//! What the definitions of orders come to. The law is a function that does nothing, whose contract is the law.
+//! A law that follows from the definitions of orders. It is a function that does nothing, whose contract is the law.
 ghost use Rattle.std.specs.Prelude.{ℕ, List};
 ghost use Rattle.gt_script.specs.RunContents.{RunContents};
 ghost use Rattle.gt_explore_replay.specs.Courses.{IsTurnedBy};
@@ -6,8 +6,8 @@ ghost use Rattle.gt_explore_replay.specs.Orders.{Happening, IsOrderOf};
 ghost use Rattle.gt_explore_replay.specs.Walking.{HaveOwnIds};
 ghost use Rattle.gt_explore_replay.specs.declared.replay.Turn.{Turn};
 
-/// Each order of a script's run has turns, if no two of its domains have one number: by these its domains come, move by
-/// move, from the first lines of their lists to the ends, and print its text.
+/// States that each order of a script's run has turns, if no two of its domains have the same number: by these turns
+/// its domains move from the first lines of their lists to the ends, and print its text.
 pub fn every_order_has_turns()
     ensures { (c : RunContents) (hs : List Happening) (text : List ℕ) → HaveOwnIds c.head.domains →
         IsOrderOf c hs text → (turns : List Turn) × IsTurnedBy c hs turns text }

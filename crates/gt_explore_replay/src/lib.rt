@@ -1,13 +1,12 @@
-//! What a script for `run` may answer, in any order of its domains' steps.
+//! One order of a script's run, move by move, and the texts that a script for `run` may give.
 //!
-//! A [`Replay`] has the domains of a script at the beginnings of their lists, on a core at rest. Each
-//! `advance` makes the next move of one of them: the beginning of a call, a step of it, a flag that is
-//! raised or passed, or the beginning of a call by which a domain at the end of its list gives a mapping
-//! back. So a list of turns is one order of the run. `text_of` answers its text.
+//! A [`Replay`] has the domains of a script at the beginnings of their lists, on a core at rest. Each `advance` makes
+//! the next move of one of them: the beginning of a call, a step of it, a flag that is raised or passed, or the
+//! beginning of an unmap by a domain at the end of its list. So a list of turns is one order of the run. [`text_of`]
+//! returns its text.
 //!
-//! What holds: each text that `text_of` answers is one that the script may give. `specs/Orders.antt` says
-//! what that is, in the words of gt_core's `Legal`, of the script's lists and of its flags. It speaks of
-//! no turns and of no search.
+//! Each text that `text_of` returns is one that the script may give. `specs/Orders.antt` defines what that is, by
+//! gt_core's `Legal`, the script's lists and its flags, without turns and without a search.
 //!
 //! It uses `gt_script` (scripts), `gt_core` (calls), `gt_host` (what lines ask and print) and `gt_types`.
 #![tactic(auto)]

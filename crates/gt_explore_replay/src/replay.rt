@@ -20,19 +20,19 @@ use gt_script_lines::Text;
 use gt_types::DomainConfig;
 use std::alloc::{AllocError, Global};
 
-/// What a move did.
+/// The kind of a move.
 #[derive(Clone, Copy, Debug, PartialEq, Eq)]
 pub enum Moved {
     /// A flag was raised, or passed.
     Flag,
     /// A call began.
     Began,
-    /// A call made this step, which saw this.
+    /// A call made this step, with this observation.
     Stepped(Step, Observation),
 }
 
-/// Whose move is next: that of the domain at this place of the script's domains. At the end of its list it gives back
-/// the mapping at the place `choice` of those that it has; elsewhere `choice` is not looked at.
+/// The next move: that of the domain at this position among the script's domains. At the end of its list it unmaps the
+/// mapping at the index `choice` of those that it has. Elsewhere `choice` is ignored.
 #[derive(Clone, Copy, Debug, PartialEq, Eq)]
 pub struct Turn {
     pub place: usize,
@@ -49,7 +49,7 @@ pub struct Replay<'s, 'a> {
     types: Vec<Text<'s>>,
 }
 
-// The domains of a script before the first lines of their lists.
+// Returns the domains of a script before the first lines of their lists.
 fn walkers_of<'s, 'a>(
     alloc: Global,
     script: &'s RunScript<'a>,
@@ -66,7 +66,7 @@ fn walkers_of<'s, 'a>(
     Ok(walkers)
 }
 
-// So many flags, of which none is raised.
+// Makes this number of flags, none of which is raised.
 fn no_flags(alloc: Global, count: usize) -> Result<Vec<bool>, AllocError>
     ensures none { IfOk result (λ told. All (λ t. t ≡ false) told.items) }
     ensures many { IfOk result (λ told. length told.items ≡ count) }
@@ -74,7 +74,7 @@ fn no_flags(alloc: Global, count: usize) -> Result<Vec<bool>, AllocError>
     vec![in alloc; false; count]
 }
 
-// A domain raises a flag. Answers whether there is such a flag.
+// Raises a flag. Returns whether there is such a flag.
 fn raise(told: &mut Vec<bool>, flag: usize) -> bool
     ensures raised { IsTrue result → told.new.items ≡ slice_set told.old.items flag true }
     ensures place { flag < length told.old.items → IsTrue result }
@@ -86,7 +86,7 @@ fn raise(told: &mut Vec<bool>, flag: usize) -> bool
     true
 }
 
-// A flag is raised.
+// Returns whether a flag is raised.
 fn is_raised(told: &[bool], flag: usize) -> bool
     ensures raised { IsTrue result → get_or told.now flag false ≡ true }
     ensures passes { get_or told.now flag false ≡ true → IsTrue result }
@@ -109,10 +109,10 @@ impl<'s, 'a> Replay<'s, 'a> {
     ghost use Rattle.gt_explore_replay.specs.Walking.{ComesOn, HasWalked};
     ghost use Rattle.gt_explore_replay.specs.declared.fault.ReplayFault.TheVariants as faults;
 
-    /// The domains of the script before the first lines of their lists, on a core at rest.
+    /// Makes a replay with the domains of the script before the first lines of their lists, on a core at rest.
     ///
     /// # Errors
-    /// `Memory` if memory was refused.
+    /// `Memory` if an allocation fails.
     pub fn new(alloc: Global, script: &'s RunScript<'a>) -> Result<Replay<'s, 'a>, ReplayFault>
         requires { CanConfigure (contents_told script.now.head) }
         ensures walks { IfOk result (HasWalked (run_told script.entry.now) []) }
@@ -134,26 +134,26 @@ impl<'s, 'a> Replay<'s, 'a> {
         })
     }
 
-    /// The core.
+    /// Returns the core.
     pub fn core(&self) -> &Core<ScriptPolicy> {
         &self.core
     }
 
-    /// The domains, in the order of the script.
+    /// Returns the domains, in the order of the script.
     pub fn walkers(&self) -> &[Walker<'s, 'a>] {
         self.walkers.as_slice()
     }
 
-    /// For each flag whether it is raised.
+    /// Returns for each flag whether it is raised.
     pub fn told(&self) -> &[bool] {
         self.told.as_slice()
     }
 
-    /// Makes the next move of a domain. Answers what it did, or None if the domain has no move: it is at its end, or
-    /// awaits a flag that is not raised. The replay is of no use after None, or after an error.
+    /// Makes the next move of a domain. Returns its kind, or None if the domain has no move: it is at its end, or
+    /// awaits a flag that is not raised. The replay cannot be used after None, or after an error.
     ///
     /// # Errors
-    /// `Memory` if memory was refused; `Keeps` if the domain can't give a mapping back.
+    /// `Memory` if an allocation fails; `Keeps` if the domain can't unmap a mapping.
     pub fn advance(&mut self, turn: Turn) -> Result<Option<Moved>, ReplayFault>
         ensures walks { (c : RunContents) (hs : List Happening) → HasWalked c hs self.old →
             IfOk result (λ m. IsSome m → ComesOn c hs self.new) }
@@ -194,7 +194,8 @@ impl<'s, 'a> Replay<'s, 'a> {
         }
     }
 
-    /// The text of the run: the lines of the first domain's answers first. None if some domain is not at its end.
+    /// Returns the text of the run, with the lines of the first domain's answers first, or None if some domain is not
+    /// at its end.
     pub fn text(&self) -> Result<Option<Vec<u8>>, AllocError>
         ensures order { (c : RunContents) (hs : List Happening) → HasWalked c hs self.now →
             IfOk result (λ t. IfSome t (λ text. IsOrderOf c hs text.items)) }
@@ -212,11 +213,11 @@ impl<'s, 'a> Replay<'s, 'a> {
     }
 }
 
-/// The text of a script's run in the order that the turns say. None if some domain is not at its end after them, or
-/// could not take its turn.
+/// Returns the text of a script's run in the order of these turns. Returns None if some domain is not at its end after
+/// them, or could not take its turn.
 ///
 /// # Errors
-/// `Memory` if memory was refused; `Keeps` if a domain can't give a mapping back.
+/// `Memory` if an allocation fails; `Keeps` if a domain can't unmap a mapping.
 pub fn text_of<'s, 'a>(
     alloc: Global,
     script: &'s RunScript<'a>,

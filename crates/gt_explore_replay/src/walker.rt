@@ -13,11 +13,11 @@ use gt_script_lines::{ScriptCall, Text};
 use gt_types::DomId;
 use std::alloc::{AllocError, Global};
 
-/// What a domain has open.
+/// The open task of a domain.
 #[derive(Clone, Copy)]
 pub enum OpenTask<'s, 'a> {
     Nothing,
-    /// The call of a line, which gives up this handle if it is answered Ok.
+    /// The call of a line, which unmaps this handle if it is answered Ok.
     Line {
         line: usize,
         call: &'s ScriptCall<'a>,
@@ -32,7 +32,7 @@ pub enum OpenTask<'s, 'a> {
 pub struct Walker<'s, 'a> {
     pub(crate) dom: DomId,
     pub(crate) tasks: Vec<&'s RunTask<'a>>,
-    // How many of the tasks were begun.
+    // The number of tasks begun.
     pub(crate) next: usize,
     pub(crate) doing: OpenTask<'s, 'a>,
     pub(crate) labels: Labels<'a>,
@@ -42,7 +42,7 @@ pub struct Walker<'s, 'a> {
     pub(crate) text: Vec<u8>,
 }
 
-// The handle that a request gives up, if it is answered Ok.
+// Returns the handle that a request unmaps, if it is answered Ok.
 fn given_up(request: Request<'_>) -> Option<Handle>
     ensures { result ≡ given_up request.entry }
 {
@@ -52,7 +52,7 @@ fn given_up(request: Request<'_>) -> Option<Handle>
     }
 }
 
-// All but the handle with this serial.
+// Returns all but the handle with this serial.
 fn without(alloc: Global, held: &[Handle], handle: Handle) -> Result<Vec<Handle>, AllocError>
     ensures { IfOk result (λ left. left.items ≡ handles_without handle held.now) }
 {
@@ -65,7 +65,7 @@ fn without(alloc: Global, held: &[Handle], handle: Handle) -> Result<Vec<Handle>
     Ok(left)
 }
 
-// What a domain holds after this answer.
+// Updates the handles of a domain after this answer.
 fn hold(
     alloc: Global,
     held: &mut Vec<Handle>,
@@ -89,7 +89,7 @@ impl<'s, 'a> Walker<'s, 'a> {
     ghost use Rattle.gt_explore_replay.specs.Walking.{IsAtEnd, tasks_left_of};
     ghost use Rattle.gt_explore_replay.specs.declared.walker.OpenTask.TheVariants as doing;
 
-    /// The domain of this number before the first line of its list.
+    /// Makes the domain of this number before the first line of its list.
     pub(crate) fn new(alloc: Global, dom: DomId, tasks: Vec<&'s RunTask<'a>>) -> Walker<'s, 'a>
         ensures dom { result.dom ≡ dom }
         ensures tasks { result.tasks.items ≡ tasks.entry.items }
@@ -110,17 +110,17 @@ impl<'s, 'a> Walker<'s, 'a> {
         }
     }
 
-    /// Its domain.
+    /// Returns the number of its domain.
     pub fn dom(&self) -> DomId {
         self.dom
     }
 
-    /// How many lines of its list it has begun.
+    /// Returns how many lines of its list it has begun.
     pub fn begun(&self) -> usize {
         self.next
     }
 
-    /// Whether it has a call open.
+    /// Returns whether it has a call open.
     pub fn is_calling(&self) -> bool
         ensures open { IsTrue result → self.now.doing ≢ doing.Nothing }
         ensures idle { (result ≡ false) → self.now.doing ≡ doing.Nothing }
@@ -131,7 +131,7 @@ impl<'s, 'a> Walker<'s, 'a> {
         }
     }
 
-    /// Whether it is at the end of its list, with no call open and no mapping.
+    /// Returns whether it is at the end of its list, with no call open and no mapping.
     pub fn is_finished(&self) -> bool
         ensures finished { IsTrue result → IsAtEnd self.now }
         ensures end { IsAtEnd self.now → IsTrue result }
@@ -139,7 +139,7 @@ impl<'s, 'a> Walker<'s, 'a> {
         !self.is_calling() && self.next >= self.tasks.len() && self.held.is_empty()
     }
 
-    /// The call of a line that it has open, if it has one.
+    /// Returns the call of a line that it has open, if it has one.
     pub fn call(&self) -> Option<&'s ScriptCall<'a>> {
         match self.doing {
             OpenTask::Line { call, .. } => Some(call),
@@ -147,17 +147,17 @@ impl<'s, 'a> Walker<'s, 'a> {
         }
     }
 
-    /// The handles of its mappings, those of the oldest first.
+    /// Returns the handles of its mappings, oldest first.
     pub fn held(&self) -> &[Handle] {
         self.held.as_slice()
     }
 
-    /// The lines of its answers so far.
+    /// Returns the lines of its answers so far.
     pub fn text(&self) -> &[u8] {
         self.text.as_slice()
     }
 
-    // Goes past its next line, which tells or awaits a flag.
+    // Skips its next line, which raises or awaits a flag.
     pub(crate) fn skip(&mut self) -> Moved
         requires { self.old.next < length self.old.tasks.items }
         ensures { self.new ≡ record self.old { next = self.old.next + 1 } }
@@ -166,7 +166,7 @@ impl<'s, 'a> Walker<'s, 'a> {
         Moved::Flag
     }
 
-    /// Its next task, none at the end of its list.
+    /// Returns its next task, or None at the end of its list.
     pub fn task(&self) -> Option<&'s RunTask<'a>>
         ensures task { option_map (λ t. t.now) result ≡ slice_get (tasks_left_of self.now) self.now.next }
         ensures room { IsSome result → self.now.next < length self.now.tasks.items }
@@ -192,7 +192,7 @@ impl<'s, 'a> Walker<'s, 'a> {
     ghost use Rattle.gt_explore_replay.specs.Walking.{AnswersLine, ClosesCall, WalksTo, tasks_left_of};
     ghost use Rattle.gt_explore_replay.specs.declared.walker.OpenTask.TheVariants as doing;
 
-    // The call of this line has its answer.
+    // Applies the answer of this line's call: its label, the handles, and the text.
     fn answer(
         &mut self,
         alloc: Global,
@@ -252,7 +252,7 @@ impl<'s, 'a> Walker<'s, 'a> {
         }
     }
 
-    // Begins to give one of its mappings back, at the end of its list.
+    // Begins to unmap one of its mappings, at the end of its list.
     pub(crate) fn give_back(
         &mut self,
         core: &mut Core<ScriptPolicy>,
@@ -286,7 +286,7 @@ impl<'s, 'a> Walker<'s, 'a> {
         }
     }
 
-    // What it has open has this answer.
+    // Applies the answer of its open task.
     fn close(&mut self, alloc: Global, types: &[Text], answer: &Answer) -> Result<bool, ReplayFault>
         ensures closes { IfOk result (λ b. IsTrue b → ClosesCall types.now answer.now self.old self.new) }
         ensures open { self.old.doing ≢ doing.Nothing → IfOk result IsTrue }
@@ -309,7 +309,7 @@ impl<'s, 'a> Walker<'s, 'a> {
         }
     }
 
-    // Makes the next step of what it has open.
+    // Makes the next step of its open task.
     pub(crate) fn tick(
         &mut self,
         alloc: Global,

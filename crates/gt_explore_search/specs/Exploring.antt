@@ -1,4 +1,4 @@
--- What a search knows of the states that it has met.
+-- The knowledge of a search about the states that it has met.
 use Rattle.std.specs.Prelude.{◌≡◌, ◌⊎◌, ◌++◌, ◌<◌, ℕ, List, [], ◌∷◌, map, length, Option, Some, slice_get, IfSome}
 use Rattle.gt_explore_replay.specs.declared.replay.Turn.{Turn}
 use Rattle.gt_explore_search.specs.Lists.{HasListAt, AreWhole, GrowsInto, IsEmptyList, HasItsLine, line_by, rest_by}
@@ -15,11 +15,11 @@ use Rattle.gt_explore_search.specs.declared.suffixes.AnswerLists.{AnswerLists}
 
 -- states
 
--- the state with this number shows what this one shows
+-- the state with this number shows all that this one shows
 abbrev pub IsShownAt : {W : Type 0} → Ways W → List W → ℕ → W → Type 0
 IsShownAt {W} ways worlds n w = (v : W) × (slice_get worlds n ≡ Some v) × IsShownSo ways w v
 
--- the state has this number: one that there was, or the next one
+-- the state has this number: that of one already met, or the next one
 abbrev pub IsNumbered : {W : Type 0} → Ways W → List W → W → ℕ → List W → Type 0
 IsNumbered ways old w n new =
     ((new ≡ old) × IsShownAt ways old n w) ⊎ ((n ≡ length old) × (new ≡ old ++ w ∷ []))
@@ -30,36 +30,36 @@ IsNumbered ways old w n new =
 abbrev pub HasEnd : List ReachedList → ℕ → Type 0
 HasEnd ends list = (at : ℕ) × (e : ReachedList) × (slice_get ends at ≡ Some e) × (e.list ≡ list)
 
--- one of these ends has a list that says what is printed from here to there
+-- the list of one of these ends is what is printed from here to there
 abbrev pub IsAmongEnds : {W : Type 0} → (ways : Ways W) → AnswerLists → List ReachedList → ways.Point → ways.Point → Type 0
 IsAmongEnds ways s ends p q = (list : ℕ) × HasEnd ends list × HasListAt s list × PrintsTo ways (rest_by s list) p q
 
--- each way on from what this state shows is among these ends
+-- each run onward from what this state shows is among these ends
 abbrev pub AllAreFound : {W : Type 0} → Ways W → AnswerLists → W → List ReachedList → Type 0
 AllAreFound ways s w ends =
     (p : ways.Point) (turns : List Turn) (q : ways.Point) → ways.shows w p → GoesTo ways p turns q
     → IsAmongEnds ways s ends p q
 
--- each way on by this turn is
+-- each run onward by this turn is
 abbrev pub AllByTurn : {W : Type 0} → Ways W → AnswerLists → W → List ReachedList → Turn → Type 0
 AllByTurn ways s w ends turn =
     (p m : ways.Point) (turns : List Turn) (q : ways.Point) → ways.shows w p → ways.next p turn m
     → GoesTo ways m turns q → IsAmongEnds ways s ends p q
 
--- each of the ends has a list that there is
+-- each of the ends names an existing list
 abbrev pub AllHaveLists : AnswerLists → List ReachedList → Type 0
 AllHaveLists s ends = (at : ℕ) (e : ReachedList) → slice_get ends at ≡ Some e → HasListAt s e.list
 
 -- searches
 
--- a state is done: its ways on are found
+-- a state is done: the runs onward from it are found
 pub record NodeHolds {W : Type 0} (ways : Ways W) (ex : Explorer W) (n : Node) : Type 0 where
   pub world : W
   pub there : slice_get ex.states.worlds.items n.state ≡ Some world
   pub finds : AllAreFound ways ex.suffixes world n.ends.items
   pub lists : AllHaveLists ex.suffixes n.ends.items
 
--- what holds in a search
+-- the invariant of a search
 pub record SearchHolds {W : Type 0} (ways : Ways W) (ex : Explorer W) : Type 0 where
   pub whole : AreWhole ex.suffixes
   pub empty : IsEmptyList ex.suffixes 0
@@ -67,13 +67,13 @@ pub record SearchHolds {W : Type 0} (ways : Ways W) (ex : Explorer W) : Type 0 w
   pub done : (state i : ℕ) → slice_get ex.done.items state ≡ Some (Some i)
       → (n : Node) × (slice_get ex.nodes.items i ≡ Some n) × (n.state ≡ state)
 
--- a search has come on: what there was is there
+-- a search has advanced: what there was is still there
 pub record Grew {W : Type 0} (old new : Explorer W) : Type 0 where
   pub worlds : (more : List W) × (new.states.worlds.items ≡ old.states.worlds.items ++ more)
   pub nodes : (more : List Node) × (new.nodes.items ≡ old.nodes.items ++ more)
   pub suffixes : GrowsInto old.suffixes new.suffixes
 
--- a state's moves are being tried: its ways on by the turns that were tried are found
+-- a state's moves are being tried: its runs onward by the turns tried so far are found
 pub record VisitHolds {W : Type 0} (ways : Ways W) (ex : Explorer W) (v : OpenNode) : Type 0 where
   pub world : W
   pub there : slice_get ex.states.worlds.items v.state ≡ Some world
@@ -88,7 +88,7 @@ pub record VisitHolds {W : Type 0} (ways : Ways W) (ex : Explorer W) (v : OpenNo
 abbrev pub EachVisitHolds : {W : Type 0} → Ways W → Explorer W → List OpenNode → Type 0
 EachVisitHolds ways ex stack = (i : ℕ) (v : OpenNode) → slice_get stack i ≡ Some v → VisitHolds ways ex v
 
--- the end was noted, if it is new
+-- the end was noted, unless it was there
 pub record Notes (v : OpenNode) (e : ReachedList) (w : OpenNode) : Type 0 where
   pub state : w.state ≡ v.state
   pub turns : w.turns ≡ v.turns
@@ -97,7 +97,7 @@ pub record Notes (v : OpenNode) (e : ReachedList) (w : OpenNode) : Type 0 where
   pub has : map (λ e. e.list) v.ends.items ≡ v.lists.keys → HasEnd w.ends.items e.list
   pub numbers : map (λ e. e.list) v.ends.items ≡ v.lists.keys → map (λ e. e.list) w.ends.items ≡ w.lists.keys
 
--- the line is that of the answer that a move of the domain at this place led to
+-- the line is that of the answer that a move of the domain at this position gave
 pub record IsLineOf {W : Type 0} (old : Explorer W) (place : ℕ) (led : TurnResult) (made : Option AnswerLine) (new : Explorer W)
     : Type 0 where
   pub states : new.states ≡ old.states
@@ -116,7 +116,7 @@ pub record TurnLeads {W : Type 0} (ways : Ways W) (ex : Explorer W) (v : OpenNod
       → slice_get ex.states.worlds.items done.state ≡ Some u → (p m : ways.Point) → ways.shows w p → ways.next p turn m
       → ways.shows u m × PrintsTo ways (line_by ex.suffixes line) p m
 
--- the ways on by this turn were gathered
+-- the runs onward by this turn were gathered
 pub record Gathered {W : Type 0} (ways : Ways W) (old : Explorer W) (v : OpenNode) (turn : Turn) (new : Explorer W)
     (w : OpenNode) : Type 0 where
   pub holds : SearchHolds ways new
@@ -148,7 +148,7 @@ pub record SearchFinishes {W : Type 0} (ways : Ways W) (ex : Explorer W) : Type 
   pub there : slice_get ex.states.worlds.items 0 ≡ Some first
   pub shows : ShowsFirst ways first
 
--- for each way of a run from its beginning to its end an order with the same text was found
+-- for each run from its beginning to its end an order with the same text was found
 abbrev pub AllTextsFound : {W : Type 0} → Ways W → SearchResult → Type 0
 AllTextsFound ways found =
     (p : ways.Point) (turns : List Turn) (q : ways.Point) → ways.begins p → GoesTo ways p turns q

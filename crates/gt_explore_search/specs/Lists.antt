@@ -1,30 +1,30 @@
--- What the lists of answers say that is still printed.
+-- The text that a list of answers still has to print.
 use Rattle.std.specs.Prelude.{◌≡◌, ◌++◌, ◌<◌, ◌==◌, ℕ, List, [], ◌∷◌, length, Option, Some, None, slice_get}
 use Rattle.std.specs.Prelude.{zero, suc, if◌then◌else◌}
 use Rattle.std.specs.Global.{Vec}
 use Rattle.gt_explore_search.specs.declared.suffixes.AnswerLine.{AnswerLine}
 use Rattle.gt_explore_search.specs.declared.suffixes.AnswerLists.{AnswerLists}
 
--- the lines before this place are of domains before this one
+-- the lines before this index are of domains at earlier positions
 abbrev pub IsBefore : ℕ → ℕ → List AnswerLine → Type 0
 IsBefore at place list = (k : ℕ) (l : AnswerLine) → k < at → slice_get list k ≡ Some l → l.place < place
 
--- the items of one of these, none if there is no such one
+-- the items of the vector with this number, none if there is no such one
 abbrev pub items_at : {X : Type 0} → List (Vec X) → ℕ → List X
 items_at [] n = []
 items_at (v ∷ vs) zero = v.items
 items_at (v ∷ vs) (suc n) = items_at vs n
 
--- what the domain at this place prints of the lines of a list
+-- what the domain at this position prints of the lines of a list
 abbrev pub printed_of : List (Vec ℕ) → List AnswerLine → ℕ → List ℕ
 printed_of lines [] at = []
 printed_of lines (l ∷ ls) at = (if l.place == at then items_at lines l.number else []) ++ printed_of lines ls at
 
--- what the domain at this place still prints, by the list of this number
+-- what the domain at this position still prints, by the list of this number
 abbrev pub rest_by : AnswerLists → ℕ → ℕ → List ℕ
 rest_by s n at = printed_of s.lines.keys (items_at s.lists.keys n) at
 
--- what the domain at this place prints by an answer, if there is one
+-- what the domain at this position prints by an answer, if there is one
 abbrev pub line_by : AnswerLists → Option AnswerLine → ℕ → List ℕ
 line_by s None at = []
 line_by s (Some l) at = if l.place == at then items_at s.lines.keys l.number else []
@@ -37,26 +37,26 @@ HasLine s n bytes = (n < length s.lines.keys) × (items_at s.lines.keys n ≡ by
 abbrev pub HasListAt : AnswerLists → ℕ → Type 0
 HasListAt s n = n < length s.lists.keys
 
--- each line of a list has a number that there is
+-- each line of a list has an existing number
 abbrev pub HasLines : ℕ → List AnswerLine → Type 0
 HasLines count [] = Unit {0}
 HasLines count (l ∷ ls) = (l.number < count) × HasLines count ls
 
--- each list names lines that there are
+-- each list names existing lines
 abbrev pub AllHaveLines : ℕ → List (Vec AnswerLine) → Type 0
 AllHaveLines count [] = Unit {0}
 AllHaveLines count (v ∷ vs) = HasLines count v.items × AllHaveLines count vs
 
--- all lists are whole: each names lines that there are
+-- all lists are whole: each names existing lines
 abbrev pub AreWhole : AnswerLists → Type 0
 AreWhole s = AllHaveLines (length s.lines.keys) s.lists.keys
 
--- the answer, if there is one, has a line that there is
+-- the answer, if there is one, has an existing line
 abbrev pub HasItsLine : AnswerLists → Option AnswerLine → Type 0
 HasItsLine s None = Unit {0}
 HasItsLine s (Some l) = l.number < length s.lines.keys
 
--- there may be more lines and lists now; those that were there are as they were
+-- there may be more lines and lists now; the earlier ones are unchanged
 pub record GrowsInto (s t : AnswerLists) : Type 0 where
   pub lines : (more : List (Vec ℕ)) × (t.lines.keys ≡ s.lines.keys ++ more)
   pub lists : (more : List (Vec AnswerLine)) × (t.lists.keys ≡ s.lists.keys ++ more)

@@ -1,4 +1,4 @@
-//! The search.
+//! The depth-first search over the states of a space.
 ghost use Rattle.std.specs.Prelude.{◌≡◌, ◌⊎◌, ℕ, IfOk, IsTrue, slice_get, Some};
 ghost use Rattle.std.specs.Option.{option_map};
 ghost use Rattle.gt_explore_search.specs.Exploring.{AllTextsFound, SearchStarts};
@@ -18,14 +18,15 @@ pub struct FoundText {
     pub text: Vec<u8>,
 }
 
-/// What a search found: an order for each list of answers, and how many states it met.
+/// The result of a search: an order for each list of answers, and the number of states met.
 #[derive(Drop)]
 pub struct SearchResult {
     pub orders: Vec<FoundText>,
     pub states: usize,
 }
 
-/// The first turn towards an end. It leads to a state that is done, and goes on to the end of that state at this index.
+/// The first turn towards an end. It leads to a state that is done, and continues to the end of that state at this
+/// index.
 #[derive(Clone, Copy)]
 pub struct FirstTurn {
     pub turn: Turn,
@@ -33,15 +34,14 @@ pub struct FirstTurn {
     pub end: usize,
 }
 
-/// A list of answers that a state leads to, by its number. There is no way on from a state in which all domains are at
-/// their ends.
+/// A list of answers that a state leads to, by its number. If all domains are at their ends, there is no turn onward.
 #[derive(Clone, Copy)]
 pub struct ReachedList {
     pub list: usize,
     pub onward: Option<FirstTurn>,
 }
 
-/// A state whose moves have been tried, and the lists of answers that it leads to.
+/// A state whose moves have all been tried, and the lists of answers that it leads to.
 #[derive(Drop)]
 pub struct Node {
     pub state: usize,
@@ -58,7 +58,7 @@ pub struct OpenNode {
     pub ends: Vec<ReachedList>,
 }
 
-/// A search under way. A state that is done has the number of its node.
+/// A search in progress. `done` has the number of the node of each state that is done.
 #[derive(Drop)]
 pub struct Explorer<W> {
     pub alloc: Global,
@@ -73,7 +73,7 @@ impl OpenNode {
     ghost use Rattle.std.specs.Prelude.{◌≡◌, ◌≤◌, Some, IfNone, IfSome, OnOk, length, slice_get};
     ghost use Rattle.gt_explore_search.specs.Exploring.{Notes};
 
-    // The turn that is to be tried next.
+    // Returns the turn to try next.
     fn turn(&self) -> Option<Turn>
         ensures turn { IfSome result (λ t. slice_get self.now.turns.items self.now.next ≡ Some t) }
         ensures over { IfNone result (length self.now.turns.items ≤ self.now.next) }
@@ -96,14 +96,14 @@ impl OpenNode {
     }
 }
 
-// The node with this number.
+// Returns the node with this number.
 fn node_at(nodes: &[Node], node: usize) -> Option<&Node>
     ensures { option_map (λ n. n.now) result ≡ slice_get nodes.now node }
 {
     nodes.get(node)
 }
 
-// The state with this number has this node from now on.
+// Records that the state with this number has this node.
 fn set_done(done: &mut Vec<Option<usize>>, state: usize, node: usize)
     ensures { (s i : ℕ) → slice_get done.new.items s ≡ Some (Some i) →
         (slice_get done.old.items s ≡ Some (Some i)) ⊎ ((s ≡ state) × (i ≡ node)) }
@@ -114,7 +114,7 @@ fn set_done(done: &mut Vec<Option<usize>>, state: usize, node: usize)
     done[state] = Some(node);
 }
 
-// The move led nowhere.
+// Returns whether the move led nowhere.
 fn leads_nowhere(led: &TurnResult) -> bool
     ensures { IsTrue result → led.now ≡ TurnResult.Nowhere }
 {
@@ -131,7 +131,7 @@ impl<W: Drop> Explorer<W> {
     ghost use Rattle.gt_explore_search.specs.Exploring.{Stepped};
     ghost use Rattle.gt_explore_search.specs.Exploring.{AllTextsFound, IsLineOf, SearchStarts, SearchFinishes};
 
-    // The node of a state that is done.
+    // Returns the number of the node of a state, if the state is done.
     fn node_of(&self, state: usize) -> Option<usize>
         ensures { IfSome result (λ node. slice_get self.now.done.items state ≡ Some (Some node)) }
     {
@@ -141,7 +141,7 @@ impl<W: Drop> Explorer<W> {
         self.done[state]
     }
 
-    // The state is met for the first time: its moves are to be tried.
+    // Opens a state that is met for the first time. Its moves are to be tried.
     fn visit<S: TransitionSystem<State = W>>(
         &mut self,
         space: &S,
@@ -173,7 +173,7 @@ impl<W: Drop> Explorer<W> {
         Ok(visit)
     }
 
-    // The line of the answer that a move of the domain at this place led to.
+    // Returns the line of the answer that a move of the domain at this position gave.
     fn line(&mut self, place: usize, led: TurnResult) -> Result<Option<AnswerLine>, AllocError>
         ensures { IfOk result (λ line. IsLineOf self.old place led line self.new) }
     {
@@ -186,7 +186,7 @@ impl<W: Drop> Explorer<W> {
         }
     }
 
-    // A turn of the state led to another one, which is done, and printed this line.
+    // Gathers the ends of a turn that led to a state that is done, and printed this line.
     fn gather<S: TransitionSystem<State = W>>(
         &mut self,
         _space: &S,
@@ -218,8 +218,8 @@ impl<W: Drop> Explorer<W> {
         Ok(())
     }
 
-    // Tries the turn of the state that is next. Answers the state that it leads to, if that is new; the turn is tried
-    // once more when that one is done.
+    // Tries this turn of the state. Returns the state that it leads to, if that is new. The turn is then tried again
+    // when that state is done.
     fn step<S: TransitionSystem<State = W>>(
         &mut self,
         space: &S,
@@ -254,7 +254,7 @@ impl<W: Drop> Explorer<W> {
         Ok(None)
     }
 
-    // All moves of the state have been tried.
+    // Finishes a state whose moves have all been tried.
     fn finish<S: TransitionSystem<State = W>>(
         &mut self,
         _space: &S,
@@ -272,7 +272,7 @@ impl<W: Drop> Explorer<W> {
         Ok(())
     }
 
-    // Goes on with the last of these states. Answers whether there is one.
+    // Continues with the last of these states. Returns whether there was one.
     fn try_next<S: TransitionSystem<State = W>>(
         &mut self,
         space: &S,
@@ -297,7 +297,7 @@ impl<W: Drop> Explorer<W> {
         Ok(true)
     }
 
-    // Goes through all states from this one on.
+    // Visits all states that can be reached from this one.
     fn walk<S: TransitionSystem<State = W>>(
         &mut self,
         space: &S,
@@ -316,13 +316,13 @@ impl<W: Drop> Explorer<W> {
         Err(SearchFault::States)
     }
 
-    // The way on from a state that is done to the end at this index.
+    // Returns the first turn from a state that is done to the end at this index.
     fn onward(&self, node: usize, end: usize) -> Option<FirstTurn> {
         let done = self.nodes.get(node)?;
         done.ends.get(end)?.onward
     }
 
-    // The turns that lead from a state that is done to the end at this index.
+    // Returns the turns that lead from a state that is done to the end at this index.
     fn turns(&self, node: usize, end: usize) -> Result<Vec<Turn>, AllocError> {
         let mut turns = Vec::new(self.alloc);
         let mut next = self.onward(node, end);
@@ -336,7 +336,7 @@ impl<W: Drop> Explorer<W> {
         Ok(turns)
     }
 
-    // Goes through all states of the space.
+    // Visits all states of the space.
     fn run<S: TransitionSystem<State = W>>(&mut self, space: &S) -> Result<(), SearchFault>
         ensures { SearchStarts (S.ways space.now) self.old → OnOk result (SearchFinishes (S.ways space.now) self.new) }
     {
@@ -347,7 +347,7 @@ impl<W: Drop> Explorer<W> {
         self.walk(space, first)
     }
 
-    // What was found: an order for each list of answers that the first state leads to.
+    // Returns an order for each list of answers that the first state leads to.
     fn found<S: TransitionSystem<State = W>>(&self, space: &S) -> Result<SearchResult, SearchFault>
         ensures { SearchFinishes (S.ways space.now) self.now → IfOk result (AllTextsFound (S.ways space.now)) }
     {
@@ -369,7 +369,7 @@ impl<W: Drop> Explorer<W> {
     }
 }
 
-// A search that has met no state yet.
+// Makes a search that has met no state yet.
 fn new_explorer<S: TransitionSystem>(
     alloc: Global,
     space: &S,
@@ -387,7 +387,10 @@ fn new_explorer<S: TransitionSystem>(
     })
 }
 
-/// Goes through the states of a space, at most `limit` of them.
+/// Visits the states of a space, at most `limit` of them, and returns an order for each list of answers found.
+///
+/// # Errors
+/// `States` beyond the limit, `Circle` if a run returns to a state, `Memory`, or a fault of the space.
 pub fn search<S: TransitionSystem>(
     alloc: Global,
     space: &S,

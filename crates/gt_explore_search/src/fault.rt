@@ -1,17 +1,17 @@
-//! Why a search did not come to its end.
+//! Faults of a search.
 use gt_types::{DomId, Memory};
 use std::alloc::{AllocError, AllocFailed};
 
-/// Why a search did not come to its end.
+/// The reason that a search did not finish.
 #[derive(Clone, Copy, Debug, PartialEq, Eq)]
 pub enum SearchFault {
-    /// Memory was refused.
+    /// An allocation failed.
     Memory,
     /// There are more states than the limit.
     States,
-    /// A run came back to a state.
+    /// A run returned to a state.
     Circle,
-    /// In some order this domain comes to the end of its list with a mapping that the policy does not let it unmap.
+    /// In some order this domain reaches the end of its list with a mapping that the policy does not let it unmap.
     Keeps(DomId),
 }
 

@@ -1,10 +1,11 @@
-//! A search for the texts of all ways that runs can go.
+//! A search for the texts of all runs of a transition system.
 //!
-//! A [`TransitionSystem`] has the states that runs can come to, and the turns that lead from one to another. `search` goes through
-//! the states, each once, and answers an order with its text for each list of answers that the first one leads to.
+//! A [`TransitionSystem`] has the states that runs can reach, and the turns that lead from one to another. [`search`]
+//! visits each state once, and returns an order with its text for each list of answers that the first state leads to.
 //!
-//! What holds: each way of a run from its beginning to an end has its text among those that were found
-//! (`AllTextsFound`). It is proved for every space that keeps what `TransitionSystem` promises.
+//! It promises that each run from its beginning to an end has its text among those found (`AllTextsFound`). This is
+//! proved for every space that keeps the promises of `TransitionSystem`. That each text found is a run's is not proved
+//! here: replay its turns.
 //!
 //! It uses `gt_explore_replay` (turns) and `gt_types`.
 #![tactic(auto)]

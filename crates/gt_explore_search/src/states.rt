@@ -7,7 +7,7 @@ use crate::spaces::TransitionSystem;
 use std::alloc::{AllocError, Global};
 use std::collections::HashMap;
 
-/// The states that were met, each with a number. Those that have a key in common are compared.
+/// The states that were met, each with a number. Only those that have a key in common are compared.
 #[derive(Drop)]
 pub struct StateIndex<W> {
     alloc: Global,
@@ -16,7 +16,7 @@ pub struct StateIndex<W> {
 }
 
 impl<W: Drop> StateIndex<W> {
-    /// None yet.
+    /// Makes an empty index.
     pub fn new(alloc: Global) -> StateIndex<W>
         ensures { result.worlds.items ≡ [] }
     {
@@ -27,21 +27,21 @@ impl<W: Drop> StateIndex<W> {
         }
     }
 
-    /// How many there are.
+    /// Returns the number of states.
     pub fn len(&self) -> usize
         ensures { result ≡ length self.now.worlds.items }
     {
         self.worlds.len()
     }
 
-    /// The state with this number.
+    /// Returns the state with this number.
     pub fn world(&self, state: usize) -> Option<&W>
         ensures { option_map (λ w. w.now) result ≡ slice_get self.now.worlds.items state }
     {
         self.worlds.get(state)
     }
 
-    // The state with this key that is the same.
+    // Returns the number of the state with this key that is the same.
     fn find<S: TransitionSystem<State = W>>(
         &self,
         space: &S,
@@ -61,7 +61,7 @@ impl<W: Drop> StateIndex<W> {
         None
     }
 
-    // The new state with this key gets this number.
+    // Files the number of a new state under its key.
     fn keep(&mut self, key: Vec<u8>, number: usize) -> Result<(), AllocError>
         ensures { self.new.worlds ≡ self.old.worlds }
     {
@@ -70,7 +70,7 @@ impl<W: Drop> StateIndex<W> {
         Ok(())
     }
 
-    /// The number of a state with this key. It is the next one if the state is new.
+    /// Returns the number of a state with this key, which is the next one if the state is new.
     pub fn number<S: TransitionSystem<State = W>>(
         &mut self,
         space: &S,

@@ -6,15 +6,15 @@ ghost use Rattle.gt_explore_search.specs.Lists.{IsBefore};
 use indexmap::IndexSet;
 use std::alloc::{AllocError, Global};
 
-/// The line of an answer: the place of its domain, and the number of its bytes.
+/// The line of an answer: the position of its domain, and the number of its bytes.
 #[derive(Clone, Copy, PartialEq, Eq, Hash)]
 pub struct AnswerLine {
     pub place: usize,
     pub number: usize,
 }
 
-/// The lists of answers that were met, each with a number. The empty one has the number 0. A list has the lines of each
-/// domain in their order, those of the first domain first.
+/// The lists of answers that were met, each with a number. The empty list has the number 0. A list has the lines of
+/// each domain in their order, those of the first domain first.
 #[derive(Drop)]
 pub struct AnswerLists {
     alloc: Global,
@@ -22,7 +22,7 @@ pub struct AnswerLists {
     lists: IndexSet<Vec<AnswerLine>>,
 }
 
-// Where the next line of a domain goes, before those that it prints later.
+// Returns the index for the next line of a domain, before those that it prints later.
 fn place_in(list: &[AnswerLine], place: usize) -> usize
     ensures within { result ≤ length list.now }
     ensures before { IsBefore result place list.now }
@@ -37,7 +37,7 @@ fn place_in(list: &[AnswerLine], place: usize) -> usize
     at
 }
 
-// The list with this line before those that its domain prints later.
+// Returns the list with this line before those that its domain prints later.
 fn with_line(
     alloc: Global,
     list: &[AnswerLine],
@@ -58,7 +58,7 @@ impl AnswerLists {
     ghost use Rattle.gt_explore_search.specs.Lists.{AreWhole, GrowsInto, HasLine, HasListAt, IsEmptyList, HasItsLine, IsLonger};
     ghost use Rattle.gt_explore_search.specs.Lists.{line_by, printed_of, rest_by};
 
-    /// Only the empty list.
+    /// Makes an index of only the empty list.
     pub fn new(alloc: Global) -> Result<AnswerLists, AllocError>
         ensures whole { IfOk result AreWhole }
         ensures empty { IfOk result (λ s. IsEmptyList s 0) }
@@ -72,7 +72,7 @@ impl AnswerLists {
         })
     }
 
-    /// The number of a line's bytes.
+    /// Returns the number of a line's bytes.
     pub fn line(&mut self, line: Vec<u8>) -> Result<usize, AllocError>
         ensures grows { OnOk result (GrowsInto self.old self.new) }
         ensures line { IfOk result (λ n. HasLine self.new n line.items) }
@@ -81,7 +81,7 @@ impl AnswerLists {
         Ok(number)
     }
 
-    /// The number of this list with an answer more, if there is one.
+    /// Returns the number of this list with the answer in front, if there is one.
     pub fn longer(&mut self, list: usize, line: Option<AnswerLine>) -> Result<usize, AllocError>
         requires { HasItsLine self.old line }
         ensures grows { OnOk result (GrowsInto self.old self.new) }
@@ -100,7 +100,7 @@ impl AnswerLists {
         Ok(number)
     }
 
-    // What the domain at this place prints of a line.
+    // Returns what the domain at this position prints of a line.
     fn printed(&self, line: AnswerLine, place: usize) -> &[u8]
         ensures { result.now ≡ line_by self.now (Some line) place }
     {
@@ -113,7 +113,7 @@ impl AnswerLists {
         }
     }
 
-    // Appends what the domain at this place prints of these lines.
+    // Appends what the domain at this position prints of these lines.
     fn push_printed(
         &self,
         out: &mut Vec<u8>,
@@ -129,7 +129,7 @@ impl AnswerLists {
         Ok(())
     }
 
-    /// What so many domains print by the list of this number, the first one's lines first.
+    /// Returns what this number of domains print by the list of this number, the first one's lines first.
     pub fn text(&self, list: usize, domains: usize) -> Result<Vec<u8>, AllocError>
         ensures { HasListAt self.now list → IfOk result (λ text.
             text.items ≡ flat_map (rest_by self.now list) (range_with_len 0 domains)) }

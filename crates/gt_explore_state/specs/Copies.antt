@@ -1,4 +1,4 @@
--- Tables and pages once more, and those at the start.
+-- Initial and copied tables and pages.
 use Rattle.std.specs.Prelude.{◌≡◌, ◌%◌, List, [], ◌∷◌}
 use Rattle.gt_types.specs.declared.config.DomainConfig.{DomainConfig}
 use Rattle.gt_explore_state.specs.Tables.{SameTable}
@@ -18,7 +18,7 @@ AreTablesOf (d ∷ ds) (t ∷ ts) = IsTableOf d t × AreTablesOf ds ts
 AreTablesOf [] (t ∷ ts) = ⊥
 AreTablesOf (d ∷ ds) [] = ⊥
 
--- each of the tables has the same header and rows as the one at its place
+-- each of the tables has the same header and rows as the one at its position
 abbrev pub SameTables : List SparseTable → List SparseTable → Type 0
 SameTables [] [] = Unit {0}
 SameTables (t ∷ ts) (u ∷ us) = SameTable t u × SameTables ts us
@@ -31,7 +31,7 @@ pub record SamePage (one other : SparsePage) : Type 0 where
   pub frame : other.frame ≡ one.frame
   pub bytes : other.bytes.items ≡ one.bytes.items
 
--- each of the pages is the same as the one at its place
+-- each of the pages is the same as the one at its index
 abbrev pub SamePages : List SparsePage → List SparsePage → Type 0
 SamePages [] [] = Unit {0}
 SamePages (p ∷ ps) (q ∷ qs) = SamePage p q × SamePages ps qs

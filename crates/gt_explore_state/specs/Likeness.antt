@@ -1,4 +1,4 @@
--- Histories that are, but for the keys of handles, ones that a core stands for.
+-- Histories that differ only in the keys of handles from ones that a core represents.
 use Rattle.std.specs.Prelude.{◌≡◌, ℕ, Bool, [], ◌∷◌, Some, slice_get}
 use Rattle.gt_types.specs.Config.{IsWithinLimits}
 use Rattle.gt_types.specs.declared.TypeId.{TypeId}
@@ -18,7 +18,7 @@ use Rattle.gt_core.specs.declared.trace.ItemEvent.TheVariants.{Began, Stepped}
 use Rattle.gt_core.specs.declared.trace.Item.{Item}
 use Rattle.gt_explore_state.specs.Shows.{IsItemOfStep, IsInRun, LooksInRun, unheld}
 
--- the history is the same, but for the keys of handles, as one that some core stands for
+-- the history differs only in the keys of handles from one that some core represents
 abbrev pub IsLikeReached : Setting → History → Type 0
 IsLikeReached s h = (g : History) × AreAlike s h g × CanBeReached s g
 
@@ -34,13 +34,13 @@ abbrev pub AsksFit : ItemEvent → Type 0
 AsksFit (Began request) = FitsAsked (asked request)
 AsksFit (Stepped step seen) = Unit {0}
 
--- a history stays so with each right item of a domain of the run that asks for no handle but one that is known to it
+-- a history remains one of these with each right item of a domain of the run that uses no handle but one known to it
 abbrev pub LikeReachedGoesOn : Type 0
 LikeReachedGoesOn =
     (s : Setting) (h : History) (i : Item) → IsLikeReached s h → IsInRun s i.actor → IsRight s h i → HappensKnown h i
     → AsksFit i.happened → IsLikeReached s (i ∷ h)
 
--- the empty history is so, in each configuration within the limits
+-- the empty history is one of these, in each configuration within the limits
 abbrev pub LikeReachedStarts : Type 0
 LikeReachedStarts = (config : Config) (may : TypeId → TypeId → Perms → Bool) → IsWithinLimits config
     → IsLikeReached (setting_of config may) []

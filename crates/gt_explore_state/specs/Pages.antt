@@ -21,8 +21,8 @@ padded bytes = bytes ++ replicate (FRAME_SIZE - length bytes) 0
 abbrev pub page_contents : List SparsePage → ℕ → ℕ → List ℕ
 page_contents pages t f = padded (kept_bytes pages t f)
 
--- the pages after these bytes are written to frame f of domain t: that frame has them laid over what it had, and all
--- others are as before
+-- the pages after these bytes are written to frame f of domain t: that frame is overwritten with them, and all others
+-- are unchanged
 abbrev pub WritesPage : List SparsePage → List SparsePage → ℕ → ℕ → ℕ → List ℕ → Type 0
 WritesPage old new t f off bytes =
     (u g : ℕ) → page_contents new u g

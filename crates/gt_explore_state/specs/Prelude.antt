@@ -1,4 +1,4 @@
--- The names of other crates that the definitions here speak of.
+-- Names of other crates that the definitions here use.
 pub use Rattle.gt_calls.specs.Rules.{entry_in, own_generation}
 pub use Rattle.gt_calls.specs.declared.action.Observation.{Observation}
 pub use Rattle.gt_calls.specs.declared.action.Observation.TheVariants.{Taken}

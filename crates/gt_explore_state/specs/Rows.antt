@@ -1,4 +1,4 @@
--- The rows of a domain's entries, of which there are only as many as were touched.
+-- The rows of a domain's entries, up to the last one that was touched.
 use Rattle.std.specs.Prelude.{◌≡◌, ◌==◌, ◌+◌, ℕ, List, Some, slice_index_or, if◌then◌else◌, min}
 use Rattle.gt_types.specs.declared.limits.TheConstants.{LAST_GENERATION}
 use Rattle.gt_entry.specs.declared.change.EntryChange.{EntryChange}
@@ -25,11 +25,11 @@ word_in first own counts r =
     control_word
     (control_with (entry_in own r) (own_generation first own r) (counts_in counts r).reads (counts_in counts r).writes)
 
--- the counts of each entry after entry at has these
+-- the counts of each entry after those of entry `at` become these
 abbrev pub CountsBecome : List PinCounts → List PinCounts → ℕ → PinCounts → Type 0
 CountsBecome old new at c = (r : ℕ) → counts_in new r ≡ (if at == r then c else counts_in old r)
 
--- what the owner knows of each entry after it changes entry at
+-- what the owner knows of each entry after it changes entry `at`
 pub record OwnBecomes (first : ℕ) (old new : List OwnerEntry) (at : ℕ) (change : EntryChange) : Type 0 where
   pub entries : (r : ℕ) → entry_in new r ≡ (if at == r then changed_entry change (entry_in old r) else entry_in old r)
   pub generations : (r : ℕ) → own_generation first new r

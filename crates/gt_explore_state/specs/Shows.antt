@@ -1,4 +1,4 @@
--- When the tables and pages of a small state show what happened.
+-- When the tables and pages of a small state show a history.
 use Rattle.std.specs.Prelude.{◌≡◌, ◌≢◌, ◌==◌, ◌&&◌, ◌+◌, ◌≤◌, ◌<◌, ℕ, List, ◌∷◌, Some, None, length}
 use Rattle.std.specs.Prelude.{slice_get, AllPairs}
 use Rattle.std.specs.Prelude.{count_by, if◌then◌else◌}
@@ -14,7 +14,7 @@ use Rattle.gt_explore_state.specs.Rows.{counts_in}
 use Rattle.gt_explore_state.specs.declared.pages.SparsePage.{SparsePage}
 use Rattle.gt_explore_state.specs.declared.table.SparseTable.{SparseTable}
 
--- the configuration is that of the setting, and no two of its domains have one number
+-- the configuration is that of the setting, and no two of its domains have the same number
 pub record IsSettingOf (c : Config) (s : Setting) : Type 0 where
   pub domains : c.domains.items ≡ s.domains
   pub first : c.first_gen ≡ s.first_generation
@@ -57,13 +57,14 @@ LooksInRun s d (PinStep p) = IsInRun s p.dom
 LooksInRun s d (Exchange gref looked change) = IsInRun s d
 LooksInRun s d step = Unit {0}
 
--- the second list has one pin of this kind less on the entry of this pin, and else as many of each
+-- the second list has one pin of this kind less on the entry of this pin, and otherwise as many of each
 abbrev pub LosesOne : HeldPin → List Pin → List Pin → Type 0
 LosesOne m whole less =
     (t r : ℕ) (k : Dir) → count_by (is_pin_on t r k) whole
     ≡ (if (m.dom.0 == t) && (m.gref.0 == r) && same_dir m.dir k then 1 else 0) + count_by (is_pin_on t r k) less
 
--- there is room in words and frames for what a step of domain d does that saw this, and an unpin gives back a live pin
+-- there is room in words and frames for the effect of a step of domain d with this observation, and an unpin releases a
+-- live pin
 abbrev pub StepFits : Setting → History → DomId → Step → Observation → Type 0
 StepFits s h d (PinStep p) Taken = count_by (is_pin_on p.dom.0 p.gref.0 p.dir) (live h) < MAX_PINS
 StepFits s h d (Exchange gref looked change) Taken = generation_at s h d.0 gref.0 + raise_of change ≤ LAST_GENERATION
@@ -74,13 +75,13 @@ StepFits s h d (WriteBytes dom frame off len) seen = off + len ≤ FRAME_SIZE
 StepFits s h d (CopyBytes from to len) seen = (from.off + len ≤ FRAME_SIZE) × (to.off + len ≤ FRAME_SIZE)
 StepFits s h d step seen = Unit {0}
 
--- a step but for what holds the pin that it gives back
+-- a step, without the holder of the pin that it releases
 abbrev pub unheld : Step → Step
 unheld (Unpin p holder) = Unpin p (ByLeg 0)
 unheld step = step
 
--- the item is of this step, which saw this, of the domain at a place, but for what holds a pin that it gives back; and
--- the step fits
+-- the item is of this step, with this observation, of the domain at a position, except for the holder of a pin that it
+-- releases; and the step fits
 pub record IsItemOfStep (s : Setting) (h : History) (i : Item) (at : ℕ) (step : Step) (seen : Observation) : Type 0 where
   pub domain : DomainConfig
   pub placed : slice_get s.domains at ≡ Some domain
@@ -95,7 +96,7 @@ abbrev pub IsGivenTo : History → DomId → Step → List ℕ → Type 0
 IsGivenTo h d (WriteBytes dom frame off len) given = given ≡ given_in (open_call h d.0)
 IsGivenTo h d step given = Unit {0}
 
--- a step that is right after a history that some core stands for looks at words of a domain of the run, and fits
+-- a step that is right after a history that some core represents looks at words of a domain of the run, and fits
 abbrev pub RightStepsFit : Type 0
 RightStepsFit =
     (s : Setting) (h : History) (i : Item) (at : ℕ) (d : DomainConfig) (made step : Step) (seen : Observation)

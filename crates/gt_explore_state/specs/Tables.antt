@@ -1,4 +1,4 @@
--- What steps see in tables and do to them: the code's own representation, which is here since contracts cite it.
+-- What steps see in tables and do to them. This is the code's own representation, and is here since contracts cite it.
 use Rattle.std.specs.Prelude.{◌≡◌, ◌≢◌, ◌==◌, ◌%◌, ℕ, List, Option, Some, None, length, position, slice_get, nat_lt}
 use Rattle.std.specs.Prelude.{if◌then◌else◌}
 use Rattle.std.specs.Option.{option_and_then}
@@ -38,28 +38,28 @@ pub record OwnChangeOf (first r : ℕ) (change : EntryChange) (old new : SparseT
   pub own : OwnBecomes first old.own.items new.own.items r change
   pub counts : new.counts.items ≡ old.counts.items
 
--- another header is stored, as far as its word has room, and nothing else
+-- another header is stored, as far as its word has room, and nothing else changes
 pub record HeaderStored (version frames : ℕ) (old new : SparseTable) : Type 0 where
   pub header : new.header ≡ record { version = version % 4; frames = frames % 256 }
   pub own : new.own.items ≡ old.own.items
   pub counts : new.counts.items ≡ old.counts.items
 
--- the table at this place, if there is one, becomes so; all others stay
+-- the table at this position, if there is one, becomes so; all others stay
 pub record OneBecomes (place : Option ℕ) (Becomes : SparseTable → SparseTable → Type 0) (old new : List SparseTable) : Type 0 where
   pub many : length new ≡ length old
   pub each : (k : ℕ) (x : SparseTable) → slice_get new k ≡ Some x
       → (y : SparseTable) × (slice_get old k ≡ Some y) × (place ≡ Some k → Becomes y x) × (place ≢ Some k → x ≡ y)
 
--- the place, if there are so many that it is one
+-- the position, if it is below this number
 abbrev pub among : Option ℕ → ℕ → Option ℕ
 among None n = None
 among (Some k) n = if nat_lt k n then Some k else None
 
--- the place of the domain with this number
+-- the position of the domain with this number
 abbrev pub place_of_domain : List DomainConfig → ℕ → Option ℕ
 place_of_domain ds d = position (λ c. c.id.0 == d) ds
 
--- the tables after a step of the domain at a place that saw this
+-- the tables after a step, with this observation, of the domain at a position
 abbrev pub TablesAfter : List DomainConfig → ℕ → ℕ → Step → Observation → List SparseTable → List SparseTable → Type 0
 TablesAfter ds first at (Pin p) Taken old new =
     OneBecomes (place_of_domain ds p.dom.0) (CountsChangeOf p.gref.0 (Pinned p.dir)) old new

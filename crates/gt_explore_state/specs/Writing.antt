@@ -1,4 +1,4 @@
--- What a step leaves of pages: the code's own representation, which is here since contracts cite it.
+-- The effects of steps on pages. This is the code's own representation, and is here since contracts cite it.
 use Rattle.std.specs.Prelude.{◌≡◌, ◌+◌, ◌≤◌, ℕ, List, take, drop}
 use Rattle.gt_types.specs.declared.limits.TheConstants.{FRAME_SIZE}
 use Rattle.gt_types.specs.declared.places.Spot.{Spot}
@@ -7,7 +7,7 @@ use Rattle.gt_calls.specs.declared.action.Step.TheVariants.{Write as WriteBytes,
 use Rattle.gt_explore_state.specs.Pages.{page_contents, WritesPage}
 use Rattle.gt_explore_state.specs.declared.pages.SparsePage.{SparsePage}
 
--- the pages after a copy of so many bytes
+-- the pages after a copy of this number of bytes
 abbrev pub CopiesPage : List SparsePage → List SparsePage → Spot → Spot → ℕ → Type 0
 CopiesPage old new from to len =
     WritesPage old new to.frame.owner.0 to.frame.number to.off

@@ -1,4 +1,4 @@
-//! Tables and pages once more, and those at the start.
+//! Initial and copied tables and pages.
 ghost use Rattle.std.specs.Prelude.{IfOk};
 ghost use Rattle.gt_explore_state.specs.Copies.{AreTablesOf, IsTableOf, SamePages, SameTables};
 
@@ -8,7 +8,7 @@ use gt_entry::Header;
 use gt_types::DomainConfig;
 use std::alloc::{AllocError, Global};
 
-// The table of a domain at the start.
+// Makes the table of a domain at the start.
 fn first_table(alloc: Global, domain: &DomainConfig) -> SparseTable
     ensures { IsTableOf domain.now result }
 {
@@ -19,7 +19,7 @@ fn first_table(alloc: Global, domain: &DomainConfig) -> SparseTable
     SparseTable::new(alloc, header)
 }
 
-/// The tables of these domains, in their order, at the start.
+/// Makes the tables of these domains, in their order, at the start.
 pub fn first_tables(alloc: Global, domains: &[DomainConfig]) -> Result<Vec<SparseTable>, AllocError>
     ensures { IfOk result (λ v. AreTablesOf domains.now v.items) }
 {
@@ -30,7 +30,7 @@ pub fn first_tables(alloc: Global, domains: &[DomainConfig]) -> Result<Vec<Spars
     Ok(tables)
 }
 
-/// The same tables once more.
+/// Copies the tables.
 pub fn copy_tables(alloc: Global, tables: &[SparseTable]) -> Result<Vec<SparseTable>, AllocError>
     ensures { IfOk result (λ v. SameTables tables.now v.items) }
 {
@@ -41,7 +41,7 @@ pub fn copy_tables(alloc: Global, tables: &[SparseTable]) -> Result<Vec<SparseTa
     Ok(copies)
 }
 
-/// The same pages once more.
+/// Copies the pages.
 pub fn copy_pages(alloc: Global, pages: &[SparsePage]) -> Result<Vec<SparsePage>, AllocError>
     ensures { IfOk result (λ v. SamePages pages.now v.items) }
 {

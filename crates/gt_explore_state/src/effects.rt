@@ -1,4 +1,4 @@
-//! What steps do to tables.
+//! The effects of steps on tables.
 ghost use Rattle.std.specs.Prelude.{◌≡◌, OnOk, length};
 ghost use Rattle.gt_explore_state.specs.Tables.{among, CountsChangeOf, HeaderStored, OneBecomes, OwnChangeOf, TablesAfter};
 
@@ -9,7 +9,7 @@ use gt_roster::Roster;
 use gt_types::GrantRef;
 use std::alloc::AllocError;
 
-// The place, if there is a table at it.
+// Returns the position, if there is a table at it.
 fn place_among(tables: &[SparseTable], place: Option<usize>) -> Option<usize>
     ensures { result ≡ among place (length tables.now) }
 {
@@ -57,7 +57,7 @@ fn store_header(tables: &mut [SparseTable], place: Option<usize>, version: u32, 
     }
 }
 
-/// What a step that saw this does to tables, if it is one of the domain at this place.
+/// Applies a step with this observation to the tables, if it is one of the domain at this position.
 pub fn apply_to(
     config: &Roster,
     tables: &mut [SparseTable],

@@ -29,10 +29,10 @@ impl SparseState {
     ghost use Rattle.gt_calls.specs.declared.action.Observation.{Observation};
     ghost use Rattle.gt_explore_state.specs.Shows.{IsGivenTo, IsItemOfStep, IsSettingOf, LooksInRun, PagesShow, TablesShow};
 
-    /// The tables of these domains and the frames of a run, before anything happened.
+    /// Makes the tables of these domains and the frames of a run, before anything happened.
     ///
     /// # Errors
-    /// `AllocError` if memory was refused.
+    /// `AllocError` if an allocation fails.
     pub fn new(alloc: Global, domains: &[DomainConfig]) -> Result<SparseState, AllocError>
         ensures tables { (c : Config) (s : Setting) → IsSettingOf c s → IsWithinLimits c →
             c.domains.items ≡ domains.now → IfOk result (λ g. TablesShow s [] g.tables.items) }
@@ -43,10 +43,10 @@ impl SparseState {
         Ok(SparseState { tables, pages })
     }
 
-    /// The same tables and pages once more.
+    /// Copies the tables and pages.
     ///
     /// # Errors
-    /// `AllocError` if memory was refused.
+    /// `AllocError` if an allocation fails.
     pub fn copy(&self, alloc: Global) -> Result<SparseState, AllocError>
         ensures tables { IfOk result (λ g. SameTables self.now.tables.items g.tables.items) }
         ensures pages { IfOk result (λ g. SamePages self.now.pages.items g.pages.items) }
@@ -60,7 +60,7 @@ impl SparseState {
         Ok(SparseState { tables, pages })
     }
 
-    /// Whether the tables and pages are the same.
+    /// Returns whether the tables and pages are the same.
     pub fn is_same(&self, other: &SparseState) -> bool
         ensures tables { IsTrue result → SameTables self.now.tables.items other.now.tables.items }
         ensures pages { IsTrue result → SamePages self.now.pages.items other.now.pages.items }
@@ -73,7 +73,7 @@ impl SparseState {
             && same_pages(self.pages.as_slice(), other.pages.as_slice())
     }
 
-    /// What a step of the domain sees.
+    /// Returns what a step of the domain sees.
     pub fn see(&self, config: &Roster, actor: DomId, step: Step) -> Observation
         ensures { (s : Setting) (h : History) → IsSettingOf config.now s → TablesShow s h self.now.tables.items →
             LooksInRun s actor step → result ≡ seen_by s h actor step }
@@ -81,10 +81,10 @@ impl SparseState {
         see_in(config, self.tables.as_slice(), actor, step)
     }
 
-    /// What a step of the domain at this place, which saw this, does to the tables.
+    /// Applies to the tables a step, with this observation, of the domain at this position.
     ///
     /// # Errors
-    /// `AllocError` if memory was refused: the tables may then be of no use.
+    /// `AllocError` if an allocation fails. The tables must not be used after that.
     pub fn apply(
         &mut self,
         config: &Roster,
@@ -100,10 +100,10 @@ impl SparseState {
         apply_to(config, self.tables.as_mut_slice(), at, step, seen)
     }
 
-    /// What a step of a call that was given these bytes writes to the pages.
+    /// Writes to the pages what a step writes whose call was given these bytes.
     ///
     /// # Errors
-    /// `AllocError` if memory was refused: the pages may then be of no use.
+    /// `AllocError` if an allocation fails. The pages must not be used after that.
     pub fn write(&mut self, alloc: Global, step: Step, given: &[u8]) -> Result<(), AllocError>
         ensures shows { (s : Setting) (h : History) (i : Item) (at : ℕ) (seen : Observation) →
             PagesShow h self.old.pages.items → IsItemOfStep s h i at step seen → IsGivenTo h i.actor step given.now →
@@ -113,10 +113,10 @@ impl SparseState {
         write_to(alloc, &mut self.pages, step, given)
     }
 
-    /// `len` bytes of a frame from `off` on.
+    /// Reads `len` bytes of a frame, starting at `off`.
     ///
     /// # Errors
-    /// `AllocError` if memory was refused.
+    /// `AllocError` if an allocation fails.
     pub fn read(
         &self,
         alloc: Global,

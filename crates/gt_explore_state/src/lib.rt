@@ -1,9 +1,11 @@
-//! The words and bytes of a small state, which keeps only what is not as it was at the start.
+//! The words and bytes of a small state, which keeps only what differs from the start.
 //!
 //! A domain has rows up to the last entry that was touched, and a frame has bytes up to the last one that was written.
-//! What holds: the functions here read and change them as if all entries had rows, and all frames all their bytes.
+//! The functions here read and change them as if all entries had rows, and all frames all their bytes: the contracts of
+//! [`SparseState`] state this against a history of the run.
 //!
-//! It uses `gt_calls` (what an owner knows of an entry), `gt_entry`, `gt_frames` (what a write leaves) and `gt_types`.
+//! It uses `gt_calls` (what an owner knows of an entry), `gt_core` (histories), `gt_entry`, `gt_frames` (what a write
+//! leaves), `gt_roster` and `gt_types`.
 #![tactic(auto)]
 
 mod copies;

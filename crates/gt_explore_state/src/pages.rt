@@ -8,7 +8,7 @@ use crate::lists::lengthen;
 use gt_types::DomId;
 use std::alloc::{AllocError, Global};
 
-/// The bytes of a frame up to the last one that was written. All others are zero.
+/// The bytes of a frame up to the last one that was written. All later ones are zero.
 #[derive(Drop)]
 pub struct SparsePage {
     pub owner: DomId,
@@ -20,7 +20,7 @@ impl SparsePage {
     ghost use Rattle.std.specs.Prelude.{◌≡◌, ◌==◌, ◌&&◌, IfOk};
     ghost use Rattle.gt_explore_state.specs.Pages.{is_page_of};
 
-    /// The same page once more.
+    /// Copies the page.
     pub fn copy(&self, alloc: Global) -> Result<SparsePage, AllocError>
         ensures owner { IfOk result (λ p. p.owner ≡ self.now.owner) }
         ensures frame { IfOk result (λ p. p.frame ≡ self.now.frame) }
@@ -33,27 +33,27 @@ impl SparsePage {
         })
     }
 
-    // Whether it is of this frame.
+    // Returns whether it is of this frame.
     fn is_of(&self, owner: DomId, frame: u64) -> bool
         ensures { result ≡ is_page_of owner.0 frame self.now }
     {
         self.owner == owner && self.frame == frame
     }
 
-    // Whether it comes after this frame in the order of pages.
+    // Returns whether it comes after this frame in the order of pages.
     fn is_past(&self, owner: DomId, frame: u64) -> bool {
         self.owner.0 > owner.0 || (self.owner == owner && self.frame > frame)
     }
 }
 
-// The place of the first page of a frame.
+// Returns the index of the first page of a frame.
 fn place_in(pages: &[SparsePage], owner: DomId, frame: u64) -> Option<usize>
     ensures { result ≡ position (is_page_of owner.0 frame) pages.now }
 {
     pages.iter().position(|page| page.is_of(owner, frame))
 }
 
-// The bytes that the page of a frame keeps.
+// Returns the bytes that the page of a frame keeps.
 fn kept(pages: &[SparsePage], owner: DomId, frame: u64) -> &[u8]
     ensures { result.now ≡ kept_bytes pages.now owner.0 frame }
 {
@@ -63,7 +63,7 @@ fn kept(pages: &[SparsePage], owner: DomId, frame: u64) -> &[u8]
     }
 }
 
-/// `len` bytes of a frame from `off` on.
+/// Reads `len` bytes of a frame, starting at `off`.
 pub fn read(
     alloc: Global,
     pages: &[SparsePage],
@@ -83,7 +83,7 @@ pub fn read(
     Ok(out)
 }
 
-// The place for a page of a frame that has none. Pages are in the order of their frames.
+// Returns the index for a page of a frame that has none. Pages are in the order of their frames.
 fn place_for(pages: &[SparsePage], owner: DomId, frame: u64) -> usize
     ensures { result ≤ length pages.now }
 {
@@ -93,7 +93,7 @@ fn place_for(pages: &[SparsePage], owner: DomId, frame: u64) -> usize
     }
 }
 
-// The place of the page of a frame, which is made if there is none.
+// Returns the index of the page of a frame, and makes the page if there is none.
 fn place_of(
     alloc: Global,
     pages: &mut Vec<SparsePage>,
@@ -116,7 +116,7 @@ fn place_of(
     Ok(at)
 }
 
-// Lays the bytes over so many of these, from `off` on.
+// Overwrites these bytes, starting at `off`, where there is room.
 fn cover(held: &mut Vec<u8>, off: u16, bytes: &[u8])
     requires { off + length bytes.now ≤ vec_len held.old }
     ensures { held.new.items ≡ overlay held.old.items off bytes.now }
@@ -125,7 +125,7 @@ fn cover(held: &mut Vec<u8>, off: u16, bytes: &[u8])
     held[start..start + bytes.len()].copy_from_slice(bytes);
 }
 
-// Lays the bytes over these, from `off` on.
+// Overwrites these bytes, starting at `off`, and lengthens them if need be.
 fn lay(held: &mut Vec<u8>, off: u16, bytes: &[u8]) -> Result<(), AllocError>
     ensures { off ≤ FRAME_SIZE → OnOk result (padded held.new.items ≡ overlay (padded held.old.items) off bytes.now) }
 {
@@ -134,7 +134,7 @@ fn lay(held: &mut Vec<u8>, off: u16, bytes: &[u8]) -> Result<(), AllocError>
     Ok(())
 }
 
-/// Writes the bytes to a frame, from `off` on.
+/// Writes the bytes to a frame, starting at `off`.
 pub fn write(
     alloc: Global,
     pages: &mut Vec<SparsePage>,

@@ -1,4 +1,4 @@
-//! The rows of a domain's entries. Entries past the rows are as they were at the start.
+//! The rows of a domain's entries. Entries beyond the rows are in their initial state.
 ghost use Rattle.std.specs.Prelude.{◌≡◌, OnOk};
 ghost use Rattle.gt_explore_state.specs.Rows.{counts_in, word_in, CountsBecome, OwnBecomes};
 
@@ -9,7 +9,7 @@ use gt_entry::Control;
 use gt_types::GrantRef;
 use std::alloc::AllocError;
 
-/// The counts of an entry.
+/// Returns the counts of an entry.
 pub fn counts_at(counts: &[PinCounts], gref: GrantRef) -> PinCounts
     ensures { result ≡ counts_in counts.now gref.0 }
 {
@@ -21,7 +21,7 @@ pub fn counts_at(counts: &[PinCounts], gref: GrantRef) -> PinCounts
     }
 }
 
-/// The control word of an entry.
+/// Returns the control word of an entry.
 pub fn word_at(own: &[OwnerEntry], counts: &[PinCounts], first_gen: u32, gref: GrantRef) -> u64
     ensures { result ≡ word_in first_gen own.now counts.now gref.0 }
 {
@@ -30,7 +30,7 @@ pub fn word_at(own: &[OwnerEntry], counts: &[PinCounts], first_gen: u32, gref: G
     Control::of_entry(row.entry(), row.generation(), pins.reads(), pins.writes()).pack()
 }
 
-/// An entry has these counts from now on.
+/// Sets the counts of an entry.
 pub fn set_counts(
     counts: &mut Vec<PinCounts>,
     gref: GrantRef,
@@ -41,7 +41,7 @@ pub fn set_counts(
     put(counts, gref.0 as usize, new, PinCounts::new())
 }
 
-/// Its owner changes an entry.
+/// Applies the owner's change of an entry.
 pub fn change_own(
     own: &mut Vec<OwnerEntry>,
     first_gen: u32,

@@ -1,4 +1,4 @@
-//! Whether tables and pages are the same.
+//! Equality of tables and pages.
 ghost use Rattle.std.specs.Prelude.{◌≡◌, IsTrue};
 ghost use Rattle.gt_explore_state.specs.Copies.{SamePage, SamePages, SameTables};
 ghost use Rattle.gt_explore_state.specs.Tables.{SameTable};
@@ -67,7 +67,7 @@ fn same_page(one: &SparsePage, other: &SparsePage) -> bool
         && one.bytes.as_slice() == other.bytes.as_slice()
 }
 
-/// Whether the tables are the same, each at its place.
+/// Returns whether the tables are the same, each at its position.
 pub fn same_tables(one: &[SparseTable], other: &[SparseTable]) -> bool
     ensures { IsTrue result → SameTables one.now other.now }
 {
@@ -82,7 +82,7 @@ pub fn same_tables(one: &[SparseTable], other: &[SparseTable]) -> bool
     true
 }
 
-/// Whether the pages are the same, each at its place.
+/// Returns whether the pages are the same, each at its index.
 pub fn same_pages(one: &[SparsePage], other: &[SparsePage]) -> bool
     ensures { IsTrue result → SamePages one.now other.now }
 {

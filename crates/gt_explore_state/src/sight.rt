@@ -1,4 +1,4 @@
-//! What steps see.
+//! The words that steps see.
 ghost use Rattle.std.specs.Prelude.{◌≡◌};
 ghost use Rattle.std.specs.Option.{option_copied};
 ghost use Rattle.gt_explore_state.specs.Tables.{table_in, header_in_table, word_seen, body_in_table, step_sees};
@@ -9,7 +9,7 @@ use gt_core::exchange_sees;
 use gt_roster::Roster;
 use gt_types::{DomId, GrantRef};
 
-// The table of the domain with this number.
+// Returns the table of the domain with this number.
 fn table_of<'t>(config: &Roster, tables: &'t [SparseTable], dom: DomId) -> Option<&'t SparseTable>
     ensures { option_copied result ≡ table_in config.now.domains.items tables.now dom.0 }
 {
@@ -53,7 +53,7 @@ fn look_body(
     }
 }
 
-/// What a step of the domain sees.
+/// Returns what a step of the domain sees.
 pub fn see_in(config: &Roster, tables: &[SparseTable], actor: DomId, step: Step) -> Observation
     ensures { result ≡ step_sees config.now.domains.items config.now.first_gen tables.now actor step }
 {

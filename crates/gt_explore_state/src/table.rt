@@ -1,4 +1,4 @@
-//! What a state keeps of a domain's grant table.
+//! A domain's grant table in a small state.
 ghost use Rattle.std.specs.Prelude.{◌≡◌};
 ghost use Rattle.gt_entry.specs.Words.{header_word};
 
@@ -17,7 +17,7 @@ pub struct SparseTable {
     pub counts: Vec<PinCounts>,
 }
 
-// The word of a header.
+// Returns the word of a header.
 fn header_word(header: Header) -> u64
     ensures { result ≡ header_word header }
 {
@@ -30,7 +30,7 @@ impl SparseTable {
     ghost use Rattle.gt_explore_state.specs.Rows.{body_in_rows, word_in};
     ghost use Rattle.gt_explore_state.specs.Tables.{CountsChangeOf, OwnChangeOf, HeaderStored, SameTable};
 
-    /// A table whose entries are all untouched.
+    /// Makes a table whose entries are all untouched.
     pub fn new(alloc: Global, header: Header) -> SparseTable
         ensures header { result.header ≡ header }
         ensures own { result.own.items ≡ [] }
@@ -43,7 +43,7 @@ impl SparseTable {
         }
     }
 
-    /// The same table once more.
+    /// Copies the table.
     pub fn copy(&self, alloc: Global) -> Result<SparseTable, AllocError>
         ensures { IfOk result (SameTable self.now) }
     {
@@ -54,28 +54,28 @@ impl SparseTable {
         })
     }
 
-    /// The header word.
+    /// Returns the header word.
     pub fn header_word(&self) -> u64
         ensures { result ≡ header_word self.now.header }
     {
         header_word(self.header)
     }
 
-    /// The control word of an entry.
+    /// Returns the control word of an entry.
     pub fn word(&self, first_gen: u32, gref: GrantRef) -> u64
         ensures { result ≡ word_in first_gen self.now.own.items self.now.counts.items gref.0 }
     {
         word_at(self.own.as_slice(), self.counts.as_slice(), first_gen, gref)
     }
 
-    /// A body word of an entry.
+    /// Returns a body word of an entry.
     pub fn body(&self, gref: GrantRef, half: BodyWord) -> u64
         ensures { result ≡ body_in_rows self.now.counts.items gref.0 half }
     {
         counts_at(self.counts.as_slice(), gref).body(half)
     }
 
-    /// The pins or a body word of an entry change.
+    /// Changes the pins or a body word of an entry.
     pub fn change_counts(&mut self, gref: GrantRef, change: CountsChange) -> Result<(), AllocError>
         ensures { OnOk result (CountsChangeOf gref.0 change self.old self.new) }
     {
@@ -83,7 +83,7 @@ impl SparseTable {
         set_counts(&mut self.counts, gref, new)
     }
 
-    /// Its owner changes an entry.
+    /// Applies the owner's change of an entry.
     pub fn change_own(
         &mut self,
         first_gen: u32,
@@ -95,7 +95,7 @@ impl SparseTable {
         change_own(&mut self.own, first_gen, gref, change)
     }
 
-    /// Stores the header; its word has room for versions below 4 and 255 frames.
+    /// Stores the header. Its word has room for versions below 4 and 255 frames.
     pub fn store_header(&mut self, version: u32, frames: u32)
         ensures { HeaderStored version frames self.old self.new }
     {

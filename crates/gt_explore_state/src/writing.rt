@@ -1,4 +1,4 @@
-//! What steps do to pages.
+//! The effects of steps on pages.
 ghost use Rattle.std.specs.Prelude.{◌≡◌, ◌+◌, ◌≤◌, OnOk};
 ghost use Rattle.gt_types.specs.declared.limits.TheConstants.{FRAME_SIZE};
 ghost use Rattle.gt_explore_state.specs.Writing.{CopiesPage, IsInFrames, PagesAfter};
@@ -7,7 +7,7 @@ use crate::pages::{SparsePage, read, write};
 use gt_calls::{Spot, Step};
 use std::alloc::{AllocError, Global};
 
-// Copies bytes from a place to another.
+// Copies bytes from one spot to another.
 fn copy(
     alloc: Global,
     pages: &mut Vec<SparsePage>,
@@ -37,7 +37,7 @@ fn copy(
     )
 }
 
-/// What a step of a call that was given these bytes does to pages.
+/// Applies to the pages a step whose call was given these bytes.
 pub fn write_to(
     alloc: Global,
     pages: &mut Vec<SparsePage>,

@@ -1,4 +1,4 @@
--- What a command line comes to: what is written, and the exit status.
+-- The result of a command line: the output, and the exit status.
 use Rattle.std.specs.Prelude.{◌≡◌, ◌⊎◌, ℕ, ◌≤◌, ◌++◌, Bool, true, false, List, Option, Some, None, Result, Ok, Err}
 use Rattle.std.specs.Prelude.{IfSome, codes}
 use Rattle.std.specs.Borrow.{Bor}
@@ -24,7 +24,7 @@ failure_text (failures.File fault) = codes "gthost: " ++ read_word fault
 failure_text (failures.Help fault) = codes "gthost: write"
 failure_text failures.Memory = codes "gthost: memory"
 
--- how a command ended: done, with a good answer or not, or with a failure
+-- the result of a command: a good answer, another one, or a failure
 abbrev pub Ending : Type 0
 Ending = Result Bool Failure
 
@@ -34,7 +34,7 @@ exit_status_of (Ok true) = 0
 exit_status_of (Ok false) = 1
 exit_status_of (Err failure) = 1
 
--- what a command wrote that ended so, where these are the bytes of its text
+-- what a command wrote, by the bytes of its text and by its result
 abbrev pub Doing : Type 1
 Doing = List ℕ → Option (List ℕ) → Option (List ℕ) → Ending → Type 0
 
@@ -44,7 +44,7 @@ Plays format audited input old new (Ok false) = ⊥
 Plays format audited input old new (Err (failures.Play fault)) = PlayedAs format audited input old new (Err fault)
 Plays format audited input old new (Err failure) = ⊥
 
--- nothing was written where memory was refused before the text was read
+-- if an allocation failed before the text was read, nothing was written
 abbrev pub RunsDomains : Format → Bool → Doing
 RunsDomains format audited input old new (Ok true) = RanAs format audited input old new (Ok tt)
 RunsDomains format audited input old new (Ok false) = ⊥
@@ -52,7 +52,7 @@ RunsDomains format audited input old new (Err (failures.Run fault)) = RanAs form
 RunsDomains format audited input old new (Err failures.Memory) = Keeps old new
 RunsDomains format audited input old new (Err failure) = ⊥
 
--- a good answer is that a text is asked for
+-- a good answer is that some text is wanted
 abbrev pub Searches : Searched → Doing
 Searches asked input old new (Ok answer) = Explored asked (RunTells input) old new (Ok answer)
 Searches asked input old new (Err (failures.Explore fault)) = Explored asked (RunTells input) old new (Err fault)
@@ -100,7 +100,7 @@ IsUnopened old new r = ⊥
 abbrev pub Does : Doing → Doing
 Does P input old new r = P input old new r ⊎ IsUnopened old new r
 
--- the bytes that are known of the file that is named, or of the standard input where none is
+-- the known bytes of the named file, or of the standard input if none is named
 abbrev pub known_text : (List ℕ → Option (List ℕ)) → Option (List ℕ) → Option (List ℕ) → Option (List ℕ)
 known_text file input None = input
 known_text file input (Some name) = file name
@@ -109,13 +109,13 @@ known_text file input (Some name) = file name
 abbrev pub known_input : (List ℕ → Option (List ℕ)) → Option (List ℕ) → Option (Bor (List ℕ)) → Option (List ℕ)
 known_input file input name = known_text file input (option_map (λ f. f.now) name)
 
--- the name that lines begin with
+-- the name with which lines begin
 abbrev pub shown_name : Option (List ℕ) → List ℕ
 shown_name None = codes "<stdin>"
 shown_name (Some name) = name
 
--- a command line that is not obeyed: the exit status is 1 where memory is refused, 0 or 1 for help and the version,
--- as they were written or not, and else 2; nothing is written but help and the version
+-- a command line that is not obeyed: the exit status is 1 if an allocation fails, 0 or 1 for help and the version, by
+-- whether they were written, and otherwise 2; nothing is written but help and the version
 pub record FitsKind (kind : ErrorKind) (old new : Option (List ℕ)) (status : ℕ) : Type 0 where
   pub memory : kind ≡ OutOfMemory → status ≡ 1
   pub help : kind ≡ DisplayHelp → status ≤ 1
@@ -123,26 +123,26 @@ pub record FitsKind (kind : ErrorKind) (old new : Option (List ℕ)) (status : �
   pub wrong : (kind ≡ OutOfMemory → ⊥) → (kind ≡ DisplayHelp → ⊥) → (kind ≡ DisplayVersion → ⊥) → status ≡ 2
   pub silent : (kind ≡ DisplayHelp → ⊥) → (kind ≡ DisplayVersion → ⊥) → Keeps old new
 
--- the exit status fits what was done with the text that is named, where its bytes are
--- known; where memory is refused it is 1, and nothing was written
+-- the exit status fits what was done with the named text, if its bytes are known; if an allocation fails it is 1, and
+-- nothing was written
 abbrev pub Works : Doing → Option (List ℕ) → Option (List ℕ) → Option (List ℕ) → ℕ → Type 0
 Works P known old new status =
     IfSome known
     (λ bytes. (r : Ending) × (status ≡ exit_status_of r)
     × (Does P bytes old new r ⊎ ((r ≡ Err failures.Memory) × Keeps old new)))
 
--- the question asks for these names
+-- the question has these names
 abbrev pub IsQuestion : Option (List ℕ) → Option (List ℕ) → List ℕ → WhyQuestion → Type 0
 IsQuestion source target permission q =
     (source_asked q ≡ source) × (target_asked q ≡ target) × (q.perm.now ≡ permission)
 
--- what is asked of a dump
+-- the options for a dump
 abbrev pub IsAsked : ℕ → Bool → Bool → Option ℕ → DumpOptions → Type 0
 IsAsked version hex every script asked =
     (asked.version ≡ version) × (asked.hex ≡ hex) × (asked.all ≡ every)
     × (option_map (λ d. d.0) asked.script ≡ script)
 
--- what is asked of the texts of a script
+-- the options for the texts of a script
 abbrev pub IsSearched : Option (List ℕ) → Option ℕ → ℕ → Searched → Type 0
 IsSearched find witness states asked =
     (word_asked asked ≡ find) × (asked.witness ≡ witness) × (asked.states ≡ states)
@@ -152,20 +152,20 @@ abbrev pub AnswersQuestion : List ℕ → Option (List ℕ) → Option (List ℕ
 AnswersQuestion file source target permission input old new r =
     (q : WhyQuestion) × IsQuestion source target permission q × Explains file q input old new r
 
--- a dump is told as it is asked
+-- a dump is printed with these options
 abbrev pub AnswersDump : ℕ → Bool → Bool → Option ℕ → Format → Doing
 AnswersDump version hex every script format input old new r =
     (asked : DumpOptions) × IsAsked version hex every script asked × AnswersEntries format asked input old new r
 
--- a script is explored as it is asked
+-- a script is explored with these options
 abbrev pub Seeks : Option (List ℕ) → Option ℕ → ℕ → Doing
 Seeks find witness states input old new r =
     (asked : Searched) × IsSearched find witness states asked × Searches asked input old new r
 
--- The exit status fits what was asked for, and what was written does: a script that was played, run or explored, a
--- policy that was listed, a policy or a script that was checked, a question that was answered, a dump that was told, the
--- rules, for which the status is 2 if the name is of none, help, the version, or nothing for words that ask for nothing,
--- whose status is 2 and for which nothing is written. If memory is refused, the status is 1 for all of them.
+-- The exit status fits the request, and so does the output: a script was played, run or explored, a policy was listed,
+-- a policy or a script was checked, a question was answered, a dump was printed, or the rules were, for which the
+-- status is 2 if no rule has the name. Or it is help, the version, or nothing, with status 2, for words that ask for
+-- nothing. If an allocation fails, the status is 1 for all of them.
 abbrev pub Obeys : Request → (List ℕ → Option (List ℕ)) → Option (List ℕ) → Option (List ℕ) → Option (List ℕ) → ℕ
     → Type 0
 Obeys (to_play audited verbose format name) file input old new status =

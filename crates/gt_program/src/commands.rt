@@ -1,4 +1,4 @@
-//! Each command, done with the text that it names.
+//! The execution of each command, with the text that it names.
 ghost use Rattle.std.specs.Prelude.{◌≡◌, IfSome, is_some};
 ghost use Rattle.gt_text.specs.Streams.{OfInput};
 ghost use Rattle.gt_program.specs.Obeying.{known_input, Does, Performs, RunsDomains, Works};
@@ -21,41 +21,41 @@ use std::io::{Read, Write};
 use std::sync::Wait;
 use std::thread::Threads;
 
-/// What is done with a text.
+/// A command on a text.
 #[derive(Clone, Copy)]
 pub enum Work<'w> {
-    /// The script is run on the core, with its audit lines or without.
+    /// Play the script on the core, with its audit lines or without.
     Play {
         audit: bool,
         format: Format,
     },
-    /// The texts are told that the script may give.
+    /// Print the texts that the script may give.
     Explore {
         asked: Searched<'w>,
     },
-    /// What the policy allows is listed.
+    /// List what the policy allows.
     List {
         format: Format,
     },
-    /// What is wrong or useless in the policy, or in the script, is told. The lines begin with the name.
+    /// Report what is wrong or useless in the policy, or in the script. The lines begin with the name.
     Check {
         script: bool,
         file: &'w str,
         json: bool,
     },
-    /// The question about the policy is answered. The lines begin with the name.
+    /// Answer the question about the policy. The lines begin with the name.
     Why {
         file: &'w str,
         question: WhyQuestion<'w>,
     },
-    /// The entries of the dump are told.
+    /// Print the entries of the dump.
     Entries {
         asked: DumpOptions,
         format: Format,
     },
 }
 
-// Does this with the text of a reader, and answers whether the answer is a good one.
+// Executes this with the text of a reader, and returns whether the answer is a good one.
 fn perform<R: Read, W: Write>(
     alloc: Global,
     work: Work,
@@ -98,7 +98,7 @@ fn perform<R: Read, W: Write>(
     }
 }
 
-/// What a command works with: what may wait and start threads, memory, the texts, and the standard error.
+/// The environment of a command: the runtime, memory, the texts, and the standard error.
 #[derive(Drop)]
 pub(crate) struct Context<'c, R, T, E> {
     pub rt: &'c R,
@@ -107,7 +107,7 @@ pub(crate) struct Context<'c, R, T, E> {
     pub err: &'c E,
 }
 
-// Does what was asked for, with the text of the file that is named, or of the standard input.
+// Executes this with the text of the named file, or of the standard input.
 fn perform_on<R, T: TextSource, W: Write, E>(
     context: &Context<R, T, E>,
     work: Work,
@@ -131,7 +131,7 @@ fn perform_on<R, T: TextSource, W: Write, E>(
     }
 }
 
-// The log, if calls are to go into it.
+// Returns the log, if calls are to be recorded.
 fn log_for<'l>(audit: bool, log: &'l SharedLog) -> Option<&'l SharedLog>
     ensures { is_some result ≡ audit }
 {
@@ -170,7 +170,7 @@ fn run_script<R: Threads + Wait + Sync, T, E, I: Read, W: Write>(
     }
 }
 
-// Runs the script of the file that is named, or of the standard input.
+// Runs the script of the named file, or of the standard input.
 fn run_on<R: Threads + Wait + Sync, T: TextSource, W: Write, E>(
     context: &Context<R, T, E>,
     format: Format,
@@ -195,7 +195,7 @@ fn run_on<R: Threads + Wait + Sync, T: TextSource, W: Write, E>(
     }
 }
 
-/// Does what is asked for with the text of the file that is named, or of the standard input.
+/// Executes this with the text of the named file, or of the standard input, and returns the exit status.
 pub(crate) fn work_asked<R, T: TextSource, W: Write, E: Eprint>(
     context: &Context<R, T, E>,
     work: Work,
@@ -210,7 +210,7 @@ pub(crate) fn work_asked<R, T: TextSource, W: Write, E: Eprint>(
     report(context.err, perform_on(context, work, file, out, reasons))
 }
 
-/// Runs a script.
+/// Runs a script, and returns the exit status.
 pub(crate) fn run_asked<R: Threads + Wait + Sync, T: TextSource, W: Write, E: Eprint>(
     context: &Context<R, T, E>,
     format: Format,

@@ -1,8 +1,8 @@
-//! A reader that keeps what goes through it.
+//! A reader that keeps what it reads.
 use std::alloc::Global;
 use std::io::{self, Read, Write};
 
-/// The bytes that were read, as long as there was memory for them, and why the last read failed.
+/// The bytes that were read, as far as they could be allocated, and the reason of the last failed read.
 #[derive(Drop)]
 pub(crate) struct KeptInput {
     bytes: Vec<u8>,
@@ -19,7 +19,7 @@ impl KeptInput {
         }
     }
 
-    /// All bytes; none if memory was refused for some.
+    /// Returns all bytes, or None if some could not be allocated.
     pub(crate) fn bytes(&self) -> Option<&[u8]> {
         if self.is_whole {
             Some(self.bytes.as_slice())
@@ -28,7 +28,7 @@ impl KeptInput {
         }
     }
 
-    /// Why the last read failed, in the system's words; nothing if none did.
+    /// Returns the reason of the last failed read, in the system's words. It is empty if none failed.
     pub(crate) fn fault(&self) -> &[u8] {
         self.fault.as_slice()
     }
@@ -45,7 +45,7 @@ impl KeptInput {
     }
 }
 
-/// A reader, and what was read from it.
+/// A reader with the bytes that were read from it.
 #[derive(Drop)]
 pub(crate) struct CopyingReader<R> {
     inner: R,

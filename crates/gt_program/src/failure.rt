@@ -1,4 +1,4 @@
-//! Why a command did not end well.
+//! Failures of commands.
 ghost use Rattle.std.specs.Prelude.{◌≡◌};
 ghost use Rattle.gt_program.specs.Obeying.{exit_status_of};
 
@@ -12,26 +12,26 @@ use gt_text::{ReadFault, WriteFault};
 use std::error::Error;
 use std::fmt;
 
-/// Why a command did not end well. It prints as one line, without its end.
+/// The failure that ended a command. It prints as one line, without a line end.
 #[derive(Debug, Drop)]
 pub enum Failure {
     /// A script was not played to its end.
     Play(PlayFault),
     /// The domains of a script were not run to their end.
     Run(RunFault),
-    /// The texts of a script were not found or not told to their end.
+    /// The texts of a script were not found, or not all written.
     Explore(ExploreFault),
     /// A policy was not listed or checked to its end.
     List(ListingFault),
     /// A question was not answered.
     Why(WhyFault),
-    /// A dump was not told to its end.
+    /// A dump was not written to its end.
     Dump(DumpFault),
     /// The file can't be opened. Nothing was written.
     File(ReadFault),
-    /// The help was not written whole.
+    /// The help was not written completely.
     Help(WriteFault),
-    /// Memory was refused before there was anything to do.
+    /// An allocation failed before there was anything to do.
     Memory,
 }
 
@@ -58,7 +58,7 @@ impl fmt::Display for Failure {
 
 impl Error for Failure {}
 
-/// The exit status of a command that ended so: 0 for a good answer, and 1 for another and for a failure.
+/// Returns the exit status of a command with this result: 0 for a good answer, and 1 for another and for a failure.
 pub fn exit_status(ending: &Result<bool, Failure>) -> u8
     ensures { result ≡ exit_status_of ending.now }
 {

@@ -1,4 +1,4 @@
-//! Commands with their texts in a format.
+//! Commands in the two formats of their output.
 ghost use Rattle.std.specs.Prelude.{is_some};
 ghost use Rattle.gt_text.specs.Streams.{OfInput};
 ghost use Rattle.gt_program.specs.Formats.{CheckedAs, ListedAs, PlayedAs, RanAs, ToldAs};
@@ -68,7 +68,7 @@ pub(crate) fn list_as<R: Read, W: Write>(
     }
 }
 
-/// Tells the entries of the dump of a reader.
+/// Prints the entries of the dump of a reader.
 pub(crate) fn entries_as<R: Read, W: Write>(
     alloc: Global,
     format: Format,

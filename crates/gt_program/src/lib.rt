@@ -1,15 +1,14 @@
-//! What the program `gthost` does with a command line: the words, what they ask for, and the exit
-//! status.
+//! The program `gthost` over texts: from the words of a command line to the output and the exit status.
 //!
-//! `obey` does what the words of a command line ask for (`plan` of `gt_commands`): it plays, runs or
-//! explores a script, lists or checks a policy, says why a policy allows something, tells the entries of a dump,
-//! or lists the rules. It answers the exit status: 0 for success (of help too), 1 for a fault, for a
-//! policy with an error, for a denied question and for a word that no text has, and 2 for a wrong command line. A fault
-//! goes to the standard error in one line that begins with `gthost: `, and its reasons after it if they are asked for.
+//! [`obey`] does what the words ask for (`plan` of `gt_commands`): it plays, runs or explores a script, lists or checks
+//! a policy, explains why a policy allows something, prints the entries of a dump, or lists the rules. It returns the
+//! exit status: 0 for success (also of help), 1 for a fault, for a policy with an error, for a denied question and for
+//! a word that no text has, and 2 for a wrong command line. A fault goes to the standard error in one line that begins
+//! with `gthost: `, followed by its reasons if they are asked for.
 //!
-//! Texts come by a trait, `TextSource`, and go to any writer. So the contracts say, for texts and a writer
-//! that promise their bytes, what is written for which words and with which status. Tests, and the runs
-//! of the programs above this crate, show that an error comes only if there is one.
+//! Texts come from a trait, [`TextSource`], and go to any writer. So the contracts specify, for texts and a writer with
+//! known bytes, what is written for which words and with which status. That an error comes only if there is one is
+//! tested.
 #![tactic(auto)]
 
 mod commands;

@@ -1,4 +1,4 @@
-//! What a command line asks for, done.
+//! The execution of a command line.
 ghost use Rattle.std.specs.Prelude.{◌≡◌, ◌≤◌, ◌↔◌, IsTrue, drop, map, string_bytes};
 ghost use Rattle.std.specs.Option.{option_map};
 ghost use Rattle.clap.specs.Words.{kind_of};
@@ -24,7 +24,7 @@ use std::io::Write;
 use std::sync::Wait;
 use std::thread::Threads;
 
-// Reports why a command did not end well, if it did not. A failed write of that is not reported.
+// Reports the failure of a command, if it failed. A failed write of the report is not reported.
 pub(crate) fn report<E: Eprint>(err: &E, ending: Result<bool, Failure>) -> u8
     ensures { result ≡ exit_status_of ending }
 {
@@ -48,7 +48,7 @@ fn show_help<W: Write, E: Eprint>(out: &mut W, err: &E, help: &Error) -> u8
     }
 }
 
-// Says why a command line is not obeyed, or writes the help or the version that it asks for.
+// Writes the refusal of a command line, or the help or the version that it asks for.
 fn refuse<W: Write, E: Eprint>(out: &mut W, err: &E, error: &Error) -> u8
     ensures { FitsKind (kind_of error.now) (W.contents out.old) (W.contents out.new) result }
 {
@@ -62,7 +62,7 @@ fn refuse<W: Write, E: Eprint>(out: &mut W, err: &E, error: &Error) -> u8
     2
 }
 
-// The name that lines begin with.
+// Returns the name with which lines begin.
 pub(crate) fn shown_name<'a>(name: Option<&'a str>) -> &'a str
     ensures { result.now ≡ shown_name (option_map (λ f. f.now) name.entry) }
 {
@@ -72,7 +72,7 @@ pub(crate) fn shown_name<'a>(name: Option<&'a str>) -> &'a str
     }
 }
 
-// The domain of this number.
+// Returns the domain of this number.
 fn domain(number: Option<u16>) -> Option<DomId>
     ensures { option_map (λ d. d.0) result ≡ number }
 {
@@ -88,7 +88,7 @@ fn is_json(format: Format) -> bool
     matches!(format, Format::Json)
 }
 
-// Does what the plan says.
+// Executes the plan.
 fn follow<R: Threads + Wait + Sync, T: TextSource, W: Write, E: Eprint>(
     context: &Context<R, T, E>,
     invocation: Invocation,
@@ -198,9 +198,8 @@ fn obey_long<R: Threads + Wait + Sync, T: TextSource, W: Write, E: Eprint>(
     }
 }
 
-/// Does what the words of a command line ask for, the program's name first, and answers the exit
-/// status. Texts, rules, help and version go to `out`; a fault goes to `err`, in one line, and if they are asked for,
-/// its reasons after it.
+/// Does what the words of a command line, the program's name first, ask for, and returns the exit status. Texts, rules,
+/// help and version go to `out`. A fault goes to `err`, in one line, followed by its reasons if they are asked for.
 ///
 /// The status is 0 for success, 1 for a fault of script, policy, dump, file, memory or thread, for a text that was not
 /// written, for a policy with an error, for a denied question and for a word that no text has, and 2 if the words ask

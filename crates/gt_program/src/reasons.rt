@@ -1,4 +1,4 @@
-//! Reasons, told after the line of a fault.
+//! The reasons that are printed after the line of a fault.
 use crate::copying::KeptInput;
 use crate::obeying::shown_name;
 use gt_commands::Invocation;
@@ -8,16 +8,16 @@ use gt_run::RunFault;
 use std::alloc::{AllocError, Global};
 use std::io;
 
-/// The reasons of a command that are to be told: none if it does not ask for them.
+/// The reasons of a command, collected only if it asks for them.
 #[derive(Drop)]
 pub(crate) struct Reasons<'a> {
     alloc: Global,
-    // The name that their lines begin with, if they are asked for.
+    // The name with which their lines begin, if they are asked for.
     file: Option<&'a str>,
     text: Vec<u8>,
 }
 
-// The name that reasons begin with, if they are asked for.
+// Returns the name with which reasons begin, if they are asked for.
 fn named<'a>(verbose: bool, file: Option<&'a str>) -> Option<&'a str> {
     if verbose {
         Some(shown_name(file))
@@ -26,7 +26,7 @@ fn named<'a>(verbose: bool, file: Option<&'a str>) -> Option<&'a str> {
     }
 }
 
-// Why the script that was read was refused.
+// Returns the reason for which the script that was read was refused.
 fn fault_reason(
     alloc: Global,
     file: &str,
@@ -46,8 +46,8 @@ fn fault_reason(
     Ok(said)
 }
 
-// The rules that come near what the policy refused when the script that was read was played. It is played again: there
-// is only one text.
+// Returns the near misses of what the policy refused when the script that was read was played. It is played again,
+// since a play of a script always has the same output.
 fn play_refusals(alloc: Global, file: &str, input: &KeptInput) -> Result<Vec<u8>, AllocError> {
     let mut said = Vec::new(alloc);
     let mut text = Vec::new(alloc);
@@ -60,7 +60,7 @@ fn play_refusals(alloc: Global, file: &str, input: &KeptInput) -> Result<Vec<u8>
     Ok(said)
 }
 
-// The rules that come near what the policy refused when the script that was read was run, and wrote this text.
+// Returns the near misses of what the policy refused when the script that was read was run, and wrote this text.
 fn run_refusals(
     alloc: Global,
     file: &str,
@@ -74,7 +74,7 @@ fn run_refusals(
     Ok(said)
 }
 
-// Why a file was not opened.
+// Returns the reason for which a file was not opened.
 fn unread(alloc: Global, file: &str, error: &io::Error) -> Result<Vec<u8>, AllocError> {
     let mut said = Vec::new(alloc);
     let words = format!(in alloc; "{error}")?;
@@ -83,7 +83,7 @@ fn unread(alloc: Global, file: &str, error: &io::Error) -> Result<Vec<u8>, Alloc
 }
 
 impl<'a> Reasons<'a> {
-    /// The reasons of what is asked for; none yet.
+    /// Makes an empty collection of the reasons of this command.
     pub(crate) fn of(alloc: Global, invocation: &Invocation<'a>) -> Reasons<'a> {
         let file = match invocation {
             Invocation::Play { verbose, file, .. } => named(*verbose, *file),
@@ -97,19 +97,19 @@ impl<'a> Reasons<'a> {
         }
     }
 
-    /// Whether they are asked for.
+    /// Returns whether reasons are asked for.
     pub(crate) fn are_asked(&self) -> bool {
         self.file.is_some()
     }
 
-    // Adds lines; nothing if there was no memory for them.
+    // Adds lines, if they could be allocated.
     fn add(&mut self, said: Result<Vec<u8>, AllocError>) {
         if let Ok(said) = said {
             let _ = self.text.extend_from_slice(said.as_slice());
         }
     }
 
-    /// Adds those of a script that was read, and whose play ended so.
+    /// Adds the reasons of a script that was read, and whose play had this result.
     pub(crate) fn add_play(&mut self, input: &KeptInput, ending: &Result<(), PlayFault>) {
         if let Some(file) = self.file {
             let said = match ending {
@@ -120,7 +120,7 @@ impl<'a> Reasons<'a> {
         }
     }
 
-    /// Adds those of a script that was read, and whose run wrote this text and ended so.
+    /// Adds the reasons of a script that was read, and whose run wrote this text and had this result.
     pub(crate) fn add_run(
         &mut self,
         input: &KeptInput,
@@ -138,7 +138,7 @@ impl<'a> Reasons<'a> {
         self.add(said);
     }
 
-    /// Adds why the file was not opened.
+    /// Adds the reason for which the file was not opened.
     pub(crate) fn add_unread(&mut self, error: &io::Error) {
         if let Some(file) = self.file {
             let said = unread(self.alloc, file, error);
@@ -146,7 +146,7 @@ impl<'a> Reasons<'a> {
         }
     }
 
-    /// Tells them.
+    /// Prints them.
     pub(crate) fn tell<E: Eprint>(&self, err: &E) {
         if self.text.is_empty() {
             return;

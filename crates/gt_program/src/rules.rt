@@ -37,7 +37,7 @@ const RULES: [Rule; 26] = [
     Rule::N26,
 ];
 
-// The header's name of a status.
+// Returns the name of a status in `grant_table.h`.
 fn header_name(status: Status) -> &'static str {
     match status {
         Status::GeneralError => "GNTST_general_error",
@@ -51,7 +51,7 @@ fn header_name(status: Status) -> &'static str {
     }
 }
 
-// Why the rule refuses a call.
+// Returns the reason for which the rule refuses a call.
 fn reason(rule: Rule) -> &'static str {
     match rule {
         Rule::N1 =>
@@ -86,7 +86,7 @@ fn reason(rule: Rule) -> &'static str {
     }
 }
 
-// What the caller may do.
+// Returns the remedy for the caller.
 fn remedy(rule: Rule) -> &'static str {
     match rule {
         Rule::N1 => "name a domain of the run",
@@ -132,7 +132,7 @@ fn write_rule<W: Write>(out: &mut W, rule: Rule) -> io::Result<()> {
     )
 }
 
-// Whether the text is the rule's name: its number has neither a sign nor a zero before it.
+// Returns whether the text is the rule's name, whose number has neither a sign nor a leading zero.
 fn is_named(rule: Rule, name: &str) -> bool {
     let Some(number) = name.strip_prefix("N") else {
         return false;
@@ -141,7 +141,7 @@ fn is_named(rule: Rule, name: &str) -> bool {
         && number.parse::<u8>() == Ok(rule.number())
 }
 
-// Writes the rule of this name, or all rules if there is no name, and answers whether there is any.
+// Writes the rule of this name, or all rules if there is no name, and returns whether there was any.
 fn write_rules<W: Write>(out: &mut W, name: Option<&str>) -> io::Result<bool> {
     let mut is_any = false;
     for rule in RULES {
@@ -154,8 +154,8 @@ fn write_rules<W: Write>(out: &mut W, name: Option<&str>) -> io::Result<bool> {
     Ok(is_any)
 }
 
-/// Writes the line of the rule of this name, or of each rule if there is no name, and answers the exit status: 0; 1
-/// if they could not be written; 2 if no rule has that name.
+/// Writes the line of the rule of this name, or of each rule if there is no name. Returns the exit status: 0; 1 if they
+/// could not be written; 2 if no rule has that name.
 pub(crate) fn tell_rules<W: Write, E: Eprint>(out: &mut W, err: &E, name: Option<&str>) -> u8
     ensures { result ≤ 2 }
 {

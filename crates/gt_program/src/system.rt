@@ -29,13 +29,13 @@ impl<'r, R: Runtime> TextSource for System<'r, R> {
     }
 }
 
-// The words of the command line, the program's name first.
+// Returns the words of the command line, the program's name first.
 fn words_of<R: Runtime + AllocGlobal>(rt: &R) -> io::Result<Vec<String>> {
     let words = std::env::args(rt)?.collect(rt.alloc())?;
     Ok(words)
 }
 
-/// Does what the words of the program's command line ask for, and answers the exit status.
+/// Does what the words of the program's command line ask for, and returns the exit status.
 pub fn run<R: Runtime + AllocGlobal + Threads + Wait + Sync>(rt: &R) -> u8 {
     let words = match words_of(rt) {
         Ok(words) => words,

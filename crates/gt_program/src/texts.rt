@@ -1,13 +1,13 @@
-//! The texts that commands work on.
+//! The sources of the texts that commands work on.
 use gt_text::ReadFault;
 use std::io::{self, ErrorKind, Read};
 
-/// The texts that commands work on: files by their names, and the standard input. An implementation may promise the
-/// bytes of some of them; a contract then speaks of those.
+/// A source of texts: files by their names, and the standard input. An implementation may promise the bytes of some of
+/// them, and contracts then state results for those bytes.
 pub trait TextSource {
     ghost use Rattle.std.specs.Prelude.{◌≡◌, ℕ, List, Option, None, Some, IfOk, IfSome};
 
-    /// A file that is open.
+    /// An open file.
     type File: Read + Drop;
 
     /// The standard input.
@@ -18,16 +18,16 @@ pub trait TextSource {
 
     ghost input: { Self → Option (List ℕ) } = { λ _. None };
 
-    /// The file of this name, from its beginning.
+    /// Opens the file of this name, at its beginning.
     fn open(&self, name: &str) -> io::Result<Self::File>
         ensures { IfOk result (λ f. IfSome (file self.now name.now) (λ all. Self.File.remaining f ≡ Some all)) };
 
-    /// The standard input.
+    /// Returns the standard input.
     fn input(&self) -> Self::Input
         ensures { IfSome (input self.now) (λ all. Self.Input.remaining result ≡ Some all) };
 }
 
-/// What the error is called of a file that was not opened.
+/// Returns the fault for a file that could not be opened.
 pub(crate) fn read_fault(error: &io::Error) -> ReadFault {
     if error.kind() == ErrorKind::OutOfMemory {
         ReadFault::Memory

@@ -1,4 +1,4 @@
-//! Scripts that are played or run, and the reasons of what they come to.
+//! Plays and runs of scripts, with their reasons.
 ghost use Rattle.std.specs.Prelude.{is_some};
 ghost use Rattle.gt_text.specs.Streams.{OfInput};
 ghost use Rattle.gt_program.specs.Formats.{PlayedAs, RanAs, Relays};
@@ -16,7 +16,7 @@ use std::io::{Read, Write};
 use std::sync::Wait;
 use std::thread::Threads;
 
-/// Plays the script of a reader, and adds the reasons that are asked for.
+/// Plays the script of a reader, and adds the reasons, if they are asked for.
 pub(crate) fn play_with_reasons<R: Read, W: Write>(
     alloc: Global,
     format: Format,
@@ -37,7 +37,7 @@ pub(crate) fn play_with_reasons<R: Read, W: Write>(
     ending
 }
 
-/// How the domains of a script are run: by these threads, with a log or without, at this gate, and told in a format.
+/// The settings of a run: its threads, with a log or without, its gate, and the format of its output.
 #[derive(Drop)]
 pub(crate) struct RunSettings<'r, R, G> {
     pub rt: &'r R,
@@ -67,7 +67,7 @@ fn run_settled<R: Threads + Wait + Sync, I: Read, W: Write, G: Gate + Sync>(
     )
 }
 
-// Writes the text that a run wrote to memory with this answer. A write to memory fails only for want of it.
+// Writes the text that a run with this result wrote to memory. A write to memory fails only if an allocation does.
 fn relay<W: Write>(text: &[u8], ending: Result<(), RunFault>, out: &mut W) -> Result<(), RunFault>
     ensures { Relays text.now ending (W.contents out.old) (W.contents out.new) result }
 {
@@ -82,8 +82,8 @@ fn relay<W: Write>(text: &[u8], ending: Result<(), RunFault>, out: &mut W) -> Re
     }
 }
 
-/// Runs the script of a reader, its domains in threads, and adds the reasons that are asked for. The text of a run
-/// can't be had again, so it is kept in memory then, and goes out at the end.
+/// Runs the script of a reader, its domains in threads, and adds the reasons, if they are asked for. In that case the
+/// text is kept in memory and written at the end, since a second run may print another.
 pub(crate) fn run_with_reasons<R: Threads + Wait + Sync, I: Read, W: Write, G: Gate + Sync>(
     settings: &RunSettings<R, G>,
     reader: &mut I,

@@ -1,4 +1,4 @@
--- What a domain that runs is asked, and how it is answered.
+-- The requests of a running domain, and their answers.
 use Rattle.std.specs.Prelude.{◌≡◌, ℕ, List, Result, Ok, Err, OnOk, OnErr}
 use Rattle.gt_run.specs.Prelude.{Size, Denial, Copying, Reading, Writing, Handle, Tells, Hypercall, HeldPin}
 use Rattle.gt_run.specs.Prelude.{Request, Answer, Domain, Monitor, IsCopiedBy, IsReadBy, IsWrittenBy}
@@ -10,32 +10,32 @@ use Rattle.gt_audit.specs.declared.record.Hypercall.TheVariants as hypercalls
 use Rattle.gt_calls.specs.declared.request.Request.TheVariants as requests
 use Rattle.gt_core.specs.declared.trace.Answer.TheVariants as answers
 
--- a domain beside the monitor of its run
+-- a domain with the monitor of its run
 pub record Stand (P : Type 0) : Type 0 where
   pub monitor : Monitor P
   pub domain : Domain
 
--- what a call answers that gives no value
+-- the answer of a call that gives no value
 abbrev pub plain_answer : {R : Type 0} → Result R Denial → Answer
 plain_answer (Ok done) = answers.Done
 plain_answer (Err denial) = answers.Denied denial
 
--- what a map answers: the handle of the mapping
+-- the answer of a map: the handle of the mapping
 abbrev pub mapped_answer : Result Handle Denial → Answer
 mapped_answer (Ok handle) = answers.Mapped handle
 mapped_answer (Err denial) = answers.Denied denial
 
--- what a call answers that tells how many frames a table then has
+-- the answer of a call that returns how many frames a table then has
 abbrev pub frames_answer : Result ℕ Denial → Answer
 frames_answer (Ok frames) = answers.Frames frames
 frames_answer (Err denial) = answers.Denied denial
 
--- what a call answers that tells a table's size
+-- the answer of a call that returns a table's size
 abbrev pub size_answer : Result Size Denial → Answer
 size_answer (Ok size) = answers.Size size
 size_answer (Err denial) = answers.Denied denial
 
--- what a call answers that tells a table's version
+-- the answer of a call that returns a table's version
 abbrev pub version_answer : Result ℕ Denial → Answer
 version_answer (Ok version) = answers.Version version
 version_answer (Err denial) = answers.Denied denial
@@ -45,13 +45,13 @@ abbrev pub HasBytes : List ℕ → Answer → Type 0
 HasBytes bytes (answers.Bytes b) = b.bytes.items ≡ bytes
 HasBytes bytes answer = ⊥
 
--- what a call answers that reads: the bytes of its receipt
+-- the answer of a call that reads: the bytes of its receipt
 abbrev pub IsReadAnswer : Result Reading Denial → Answer → Type 0
 IsReadAnswer (Ok r) answer = HasBytes r.bytes answer
 IsReadAnswer (Err denial) answer = answer ≡ answers.Denied denial
 
--- The domain d was asked this, answered so, and is e after it: the answer tells how its own call of that name was
--- answered, and so what that call did, to its mappings and its records too.
+-- The domain d got this request, gave this answer, and is e after it. The answer is that of the domain's own call of
+-- that name, so it shows what the call did, also to its mappings and its records.
 abbrev pub AnswersCall : {P : Type 0} → (P → AllowRelation) → Monitor P → Domain → Request → Answer → Domain → Type 0
 AnswersCall may m d (requests.Map dom gref flags) answer e =
     (r : Result Handle Denial) × (answer ≡ mapped_answer r)
@@ -96,7 +96,7 @@ AnswersCall may m d (requests.Copy args) answer e =
 AnswersCall may m d request answer e =
     (r : Result (Unit {0}) Denial) × (answer ≡ plain_answer r) × AnswersQuietly may m d request (verdict_of r) e
 
--- the same of a domain that keeps its number and its seat, and is of the monitor after it
+-- the same of a domain that keeps its number and its seat, and belongs to the monitor afterwards
 abbrev pub Asks : {P : Type 0} → (P → AllowRelation) → Monitor P → Domain → Request → Answer → Domain → Type 0
 Asks may m d request answer e =
     (e.seat.dom ≡ d.seat.dom) × AnswersCall may m d request answer e × StaysIn may m d e

@@ -1,4 +1,4 @@
--- What the threads of a run come to as they are joined, one after the other.
+-- The results of the threads of a run as they are joined, one after the other.
 use Rattle.std.specs.Prelude.{◌≡◌, ◌⊎◌, ℕ, Bool, List, Option, Some, None, Result, Ok, Err, IsTrue}
 use Rattle.std.specs.Io.KnownBytes.{Appends, Keeps}
 use Rattle.gt_live.specs.Domains.{AllowRelation}
@@ -13,21 +13,20 @@ use Rattle.gt_run.specs.Printing.{BeginsLists, Served, WritesLists, all_lost, au
 use Rattle.gt_run.specs.Runs.{WroteLists}
 use Rattle.gt_run.specs.Serving.{counted}
 
--- the fault of a run that had begun to write: memory was refused, or a write failed
+-- the fault of a run that had begun to write: an allocation failed, or a write failed
 abbrev pub IsLate : RunFault → Type 0
 IsLate fault = (fault ≡ run_out_of_memory) ⊎ (fault ≡ not_written)
 
--- a text that is whole or not is written if all went well before: it went out, or a
--- beginning of it; after a fault nothing goes out, and the fault stays
+-- a text, whole or not, is written if all went well before: it went out, or a prefix of it; after a fault nothing goes
+-- out, and the fault stays
 abbrev pub WritesNext : Result (Unit {0}) RunFault → Bool → List ℕ → Option (List ℕ) → Option (List ℕ)
     → Result (Unit {0}) RunFault → Type 0
 WritesNext (Err before) whole text old new r = (r ≡ Err before) × Keeps old new
 WritesNext (Ok well) whole text old new (Ok done) = IsTrue whole × Appends old new text
 WritesNext (Ok well) whole text old new (Err fault) = IsLate fault × AppendsBeginning old new text
 
--- what was joined so far, with these audit lines and so many records lost: the lines of
--- the lists went out, and these tell of the same calls; or, after a
--- fault, a beginning of the lines
+-- the result of what was joined so far, with these audit lines and this number of lost records: the lines of the lists
+-- went out, and the audit lines are of the same calls; or, after a fault, a prefix of the lines
 abbrev pub Joins : {P : Type 0} → (P → AllowRelation) → List (ThreadJob P) → List ℕ → ℕ → Option (List ℕ) → Option (List ℕ)
     → Result (Unit {0}) RunFault → Type 0
 Joins {P} may duties audit lost old new (Ok done) =
@@ -35,13 +34,13 @@ Joins {P} may duties audit lost old new (Ok done) =
     × (lost ≡ counted (all_lost all))
 Joins may duties audit lost old new (Err fault) = IsLate fault × BeginsLists may duties old new
 
--- the fault of a run that has not a thread for each domain
+-- the fault of a run in which some domain has no thread
 abbrev pub run_fault_of : ThreadRefusal → RunFault
 run_fault_of refusals.Thread = Thread
 run_fault_of refusals.Memory = run_out_of_memory
 
--- what was written of the duties that were started, if something was refused or nothing:
--- nothing, and what was refused is the fault, unless all were started
+-- the result of the jobs that were started: if something was refused, nothing was written, and the refusal is the
+-- fault; otherwise all were started, and it is the result of their lists
 abbrev pub WroteStarted : {P : Type 0} → (P → AllowRelation) → Option ThreadRefusal → List (ThreadJob P) → Option (List ℕ) → Option (List ℕ)
     → Result (Unit {0}) RunFault → Type 0
 WroteStarted may None duties old new r = WroteLists may duties old new r

@@ -1,4 +1,4 @@
--- The names of other crates, and of the code, that the definitions here speak of.
+-- Names of other crates, and of the code, that the definitions here use.
 pub use Rattle.gt_audit.specs.Lines.{line_text}
 pub use Rattle.gt_audit.specs.Telling.{Telling, Tells}
 pub use Rattle.gt_audit.specs.declared.record.Hypercall.{Hypercall}

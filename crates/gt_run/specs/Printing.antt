@@ -1,4 +1,4 @@
--- What the lists of a run print, together.
+-- The output of all lists of a run.
 use Rattle.std.specs.Prelude.{◌≡◌, ◌⊎◌, ◌++◌, ℕ, Bool, true, false, List, [], ◌∷◌, map, All, Option, IfOk, is_some}
 use Rattle.std.specs.List.{flat_map, sum_by}
 use Rattle.std.specs.Io.KnownBytes.{Appends}
@@ -12,17 +12,17 @@ use Rattle.gt_run.specs.declared.lists.DomainPart.{DomainPart}
 use Rattle.gt_run.specs.declared.serving.Output.{Output}
 use Rattle.gt_run.specs.Serving.{IsBegun, IsServed, ListOutcome, audit_lines, counted, lost_in}
 
--- a list that was served, what its calls came to, and what it printed
+-- a list that was served, the outcomes of its calls, and what it printed
 pub record Served (P : Type 0) : Type 0 where
   pub duty : ThreadJob P
   pub outcomes : List ListOutcome
   pub text : List ℕ
 
--- each of these lists was served so
+-- each of these lists was served
 abbrev pub AreServed : {P : Type 0} → (P → AllowRelation) → List (Served P) → Type 0
 AreServed may all = All (λ s. IsServed may s.duty s.outcomes s.text) all
 
--- whose lists they are
+-- the jobs of these lists
 abbrev pub duties_in : {P : Type 0} → List (Served P) → List (ThreadJob P)
 duties_in all = map (λ s. s.duty) all
 
@@ -34,17 +34,16 @@ texts_in all = flat_map (λ s. s.text) all
 abbrev pub audits_in : {P : Type 0} → List (Served P) → List ℕ
 audits_in all = flat_map (λ s. audit_lines s.duty.part.types.now s.outcomes) all
 
--- how many records of their calls were lost
+-- the number of lost records of their calls
 abbrev pub all_lost : {P : Type 0} → List (Served P) → ℕ
 all_lost all = sum_by (λ s. lost_in s.outcomes) all
 
--- the whole text of a run: what the lists printed, after that their audit lines, and how many records were lost
+-- the whole text of a run: what the lists printed, then their audit lines, then the number of lost records
 abbrev pub run_text : {P : Type 0} → List (Served P) → List ℕ
 run_text all = texts_in all ++ (audits_in all ++ lost_text (counted (all_lost all)))
 
--- what came of a duty, whose list printed all or did not: what its calls came to is
--- what its text, its audit lines and its count of lost records tell;
--- or its text is that of some first lines
+-- the output of a job whose list printed all or did not: its text, its audit lines and its number of lost records are
+-- those of the outcomes of its calls; or its text is that of some first lines
 abbrev pub CameBy : {P : Type 0} → Bool → (P → AllowRelation) → ThreadJob P → Output → Type 0
 CameBy true may duty o =
     (outcomes : List ListOutcome) × IsServed may duty outcomes o.text.items
@@ -55,44 +54,44 @@ CameBy false may duty o = IsBegun may duty o.text.items
 abbrev pub IsOutputOf : {P : Type 0} → (P → AllowRelation) → ThreadJob P → Output → Type 0
 IsOutputOf may duty o = CameBy o.whole may duty o
 
--- the duties of these parts, in their order, all over this monitor, and with a log or without
+-- the jobs of these parts, in their order, all over this monitor, and with a log or without
 abbrev pub AreDuties : {P : Type 0} → Monitor P → Bool → List DomainPart → List (ThreadJob P) → Type 0
 AreDuties m logged parts duties =
     (map (λ d. d.part) duties ≡ parts) × All (λ d. (d.monitor.now ≡ m) × (is_some d.log ≡ logged)) duties
 
--- the lists of these duties were served, and what they printed went out
+-- the lists of these jobs were served, and what they printed went out
 abbrev pub WritesLists : {P : Type 0} → (P → AllowRelation) → List (ThreadJob P) → List (Served P) → Option (List ℕ)
     → Option (List ℕ) → Type 0
 WritesLists may duties all old new = (duties_in all ≡ duties) × AreServed may all × Appends old new (texts_in all)
 
--- the lists of these duties were served, and their whole text went out
+-- the lists of these jobs were served, and their whole text went out
 abbrev pub WritesAll : {P : Type 0} → (P → AllowRelation) → List (ThreadJob P) → Option (List ℕ) → Option (List ℕ) → Type 0
 WritesAll {P} may duties old new =
     (all : List (Served P)) × (duties_in all ≡ duties) × AreServed may all × Appends old new (run_text all)
 
--- what goes on after those lists that printed all: nothing, or what some first lines of the next list printed
+-- what follows those lists that printed all: nothing, or what some first lines of the next list printed
 abbrev pub PrintsOn : {P : Type 0} → (P → AllowRelation) → List (ThreadJob P) → List ℕ → Type 0
 PrintsOn may [] text = text ≡ []
 PrintsOn may (next ∷ rest) text = (text ≡ []) ⊎ IsBegun may next text
 
--- a beginning of what these lists print went out: the first ones were served, and after
--- what they printed goes nothing, or the beginning of the next one
+-- a prefix of what these lists print went out: the first ones were served, and after what they printed comes nothing,
+-- or a prefix of the next one
 abbrev pub BeginsLists : {P : Type 0} → (P → AllowRelation) → List (ThreadJob P) → Option (List ℕ) → Option (List ℕ) → Type 0
 BeginsLists {P} may duties old new =
     (all : List (Served P)) × (rest : List (ThreadJob P)) × (text : List ℕ)
     × (duties_in all ++ rest ≡ duties) × AreServed may all × PrintsOn may rest text
     × AppendsBeginning old new (texts_in all ++ text)
 
--- a beginning of the whole text of these lists went out
+-- a prefix of the whole text of these lists went out
 abbrev pub BeginsRunText : {P : Type 0} → (P → AllowRelation) → List (ThreadJob P) → Option (List ℕ) → Option (List ℕ)
     → Type 0
 BeginsRunText {P} may duties old new =
     (all : List (Served P)) × (duties_in all ≡ duties) × AreServed may all × AppendsBeginning old new (run_text all)
 
--- a beginning of a whole text that these lists may print went out, if they were served so far
+-- a prefix of a whole text that these lists may print went out, as far as they were served
 abbrev pub BeginsAll : {P : Type 0} → (P → AllowRelation) → List (ThreadJob P) → Option (List ℕ) → Option (List ℕ) → Type 0
 BeginsAll may duties old new = BeginsLists may duties old new ⊎ BeginsRunText may duties old new
 
--- the duties that were promised
+-- the jobs that were promised
 abbrev pub promised : {P : Type 0} → List (PromisedHandle Output (ThreadJob P)) → List (ThreadJob P)
 promised handles = map (λ h. h.promise) handles

@@ -1,4 +1,4 @@
--- What a run writes for what is read.
+-- The output of a run, for its input.
 use Rattle.std.specs.Prelude.{◌≡◌, ◌⊎◌, ℕ, Bool, List, map, All, Option, Some, Result, Ok, Err}
 use Rattle.std.specs.Io.KnownBytes.{Keeps}
 use Rattle.gt_types.specs.declared.config.Config.{Config}
@@ -20,9 +20,9 @@ use Rattle.gt_run.specs.declared.lists.ThreadJob.{ThreadJob}
 use Rattle.gt_run.specs.declared.lists.DomainPart.{DomainPart}
 use Rattle.gt_run.specs.Printing.{AreDuties, BeginsAll, WritesAll}
 
--- What these duties wrote that ended so: at Ok the whole text of their lists; if a
--- thread was refused nothing; after a failed write or for want of
--- memory a beginning of it. No other fault is one of theirs.
+-- The output of these jobs, by the result of the run. At Ok it is the whole text of their lists. If a thread was
+-- refused it is empty. After a failed write or a failed allocation it is a prefix of such a text. There are no other
+-- faults.
 abbrev pub WroteLists : {P : Type 0} → (P → AllowRelation) → List (ThreadJob P) → Option (List ℕ) → Option (List ℕ)
     → Result (Unit {0}) RunFault → Type 0
 WroteLists may duties old new (Ok done) = WritesAll may duties old new
@@ -33,18 +33,18 @@ WroteLists may duties old new (Err (Play Read)) = ⊥
 WroteLists may duties old new (Err (Play (Script fault))) = ⊥
 WroteLists may duties old new (Err (Play (Policy fault))) = ⊥
 
--- such duties wrote their whole text
+-- such jobs wrote their whole text
 abbrev pub Writes : {P : Type 0} → (P → AllowRelation) → (List (ThreadJob P) → Type 0) → Option (List ℕ) → Option (List ℕ)
     → Type 0
 Writes {P} may Are old new = (duties : List (ThreadJob P)) × Are duties × WritesAll may duties old new
 
--- such duties wrote a beginning of their whole text
+-- such jobs wrote a prefix of their whole text
 abbrev pub BeginsToWrite : {P : Type 0} → (P → AllowRelation) → (List (ThreadJob P) → Type 0) → Option (List ℕ)
     → Option (List ℕ) → Type 0
 BeginsToWrite {P} may Are old new = (duties : List (ThreadJob P)) × Are duties × BeginsAll may duties old new
 
--- the same of duties of which this is known; if memory is refused, it may
--- be that none began, and nothing was written
+-- the same of jobs of which this is known; if an allocation fails, it may be that none began, and then nothing was
+-- written
 abbrev pub Wrote : {P : Type 0} → (P → AllowRelation) → (List (ThreadJob P) → Type 0) → Option (List ℕ) → Option (List ℕ)
     → Result (Unit {0}) RunFault → Type 0
 Wrote may Are old new (Ok done) = Writes may Are old new
@@ -55,7 +55,7 @@ Wrote may Are old new (Err (Play Read)) = ⊥
 Wrote may Are old new (Err (Play (Script fault))) = ⊥
 Wrote may Are old new (Err (Play (Policy fault))) = ⊥
 
--- the duties of these parts, over one monitor of this configuration and these rights
+-- the jobs of these parts, over one monitor of this configuration and these rights
 abbrev pub AreUnder : {P : Type 0} → Config → P → Bool → List DomainPart → List (ThreadJob P) → Type 0
 AreUnder {P} config rights logged parts duties =
     (m : Monitor P) × (m.config ≡ config) × (m.rights ≡ rights) × AreDuties m logged parts duties
@@ -72,8 +72,8 @@ AreParts domains tasks names parts = (map (λ p. p.dom) parts ≡ map (λ d. d.i
 abbrev pub AreListsOf : RunContents → List DomainPart → Type 0
 AreListsOf c parts = AreParts c.head.domains c.tasks (type_names c.head) parts
 
--- the duties of a script's parts, over one monitor that has the script's domains and
--- its first generation, and allows what the script allows
+-- the jobs of a script's parts, over one monitor that has the script's domains and its first generation, and allows
+-- what the script allows
 pub record AreOf (c : RunContents) (logged : Bool) (duties : List (ThreadJob ScriptRights)) : Type 0 where
   pub parts : List DomainPart
   pub of_script : AreListsOf c parts
@@ -87,23 +87,22 @@ pub record AreOf (c : RunContents) (logged : Bool) (duties : List (ThreadJob Scr
 abbrev pub WritesScript : RunContents → Bool → Option (List ℕ) → Option (List ℕ) → Type 0
 WritesScript c logged old new = Writes may_by (AreOf c logged) old new
 
--- a beginning of the whole text of the script's lists went out
+-- a prefix of the whole text of the script's lists went out
 abbrev pub BeginsScript : RunContents → Bool → Option (List ℕ) → Option (List ℕ) → Type 0
 BeginsScript c logged old new = BeginsToWrite may_by (AreOf c logged) old new
 
--- what a script wrote whose run ended so, as its lists did
+-- the output of a script's run, by its result
 abbrev pub WroteScript : RunContents → Bool → Option (List ℕ) → Option (List ℕ) → Result (Unit {0}) RunFault → Type 0
 WroteScript c logged old new r = Wrote may_by (AreOf c logged) old new r
 
--- what is told is a script, and of it this holds
+-- this relation gives a script, of which P holds
 abbrev pub OfScript : (Result RunContents Wrong → Type 0) → (RunContents → Type 0) → Type 0
 OfScript Told P = (c : RunContents) × Told (Ok c) × P c
 
--- what `run` wrote, with a log or without, if it answers so for bytes of which this is
--- told: at Ok the text of the script, whole; at a fault of the script
--- nothing, and the fault is the script's first; nothing if a thread was refused; after a
--- failed write a beginning of a text of the script, and so for want of
--- memory, unless nothing
+-- The output of `run`, with a log or without, by its result, for bytes that mean this. At Ok it is the whole text of
+-- the script. At a fault of the script it is empty, and the fault is the script's first. If a thread was refused it is
+-- empty. After a failed write it is a prefix of a text of the script. After a failed allocation it is such a prefix, or
+-- empty.
 abbrev pub Ran : Bool → (Result RunContents Wrong → Type 0) → Option (List ℕ) → Option (List ℕ)
     → Result (Unit {0}) RunFault → Type 0
 Ran logged Told old new (Ok done) = OfScript Told (λ c. WritesScript c logged old new)

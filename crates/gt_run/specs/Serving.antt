@@ -1,4 +1,4 @@
--- What a domain's list does: a call for each of its lines, one after the other.
+-- The run of a domain's list: a call for each of its lines, one after the other.
 use Rattle.std.specs.Prelude.{◌≡◌, ◌⊎◌, ◌++◌, ◌+◌, ◌==◌, ◌^◌, ◌-◌, ℕ, Bool, true, false, List, [], ◌∷◌, length, map}
 use Rattle.std.specs.Prelude.{min, take, codes, Option, None, Some, is_some, slice_get}
 use Rattle.gt_run.specs.Prelude.{AllZip, flat_map, sum_by, DomId, type_text, line_text, Telling, Tells, Record, asked}
@@ -11,42 +11,41 @@ use Rattle.gt_run.specs.Telling.{LogsTrail}
 
 -- calls
 
--- what came of the call of a line: its answer; its record, if that went
--- into the log; and how many records of it were lost
+-- the outcome of the call of a line: its answer; its record, if that went into the log; and the number of its records
+-- that were lost
 pub record ListOutcome : Type 0 where
   pub line : ℕ
   pub answer : Answer
   pub told : List Record
   pub lost : ℕ
 
--- how far a list has come: its domain, what the labels stand for, and what came of its calls so far, in order
+-- the progress of a list: its domain, what the labels name, and the outcomes of its calls so far, in order
 pub record ListProgress : Type 0 where
   pub domain : Domain
   pub named : List Named
   pub outcomes : List ListOutcome
 
--- before its first line no label stands for a handle, and no call was made
+-- before its first line no label names a handle, and no call was made
 abbrev pub list_start : Domain → ListProgress
 list_start d = record { domain = d; named = []; outcomes = [] }
 
--- what became of the record that a call makes, if it makes one: it went into
--- the log, or it was lost; without a log neither
+-- the fate of the record that a call makes, if it makes one: it went into the log, or it was lost; without a log
+-- neither
 abbrev pub Records : Bool → Option Record → List Record → ℕ → Type 0
 Records true (Some r) told lost = ((told ≡ r ∷ []) × (lost ≡ 0)) ⊎ ((told ≡ []) × (lost ≡ 1))
 Records true None told lost = (told ≡ []) × (lost ≡ 0)
 Records false made told lost = (told ≡ []) × (lost ≡ 0)
 
--- the record of a request of this domain, which it made of this and answered so, if such calls are audited
+-- the record of a request of this domain with this answer, if such calls are audited
 abbrev pub record_made : DomId → Domain → Request → Answer → Option Record
 record_made dom d request answer = encoded_record dom (hypercall_of_request (subject_of d) (asked request)) answer
 
--- the duty's calls are recorded
+-- the calls of the job are recorded
 abbrev pub is_logged : {P : Type 0} → ThreadJob P → Bool
 is_logged duty = is_some duty.log
 
--- The call of a line was made: the domain was asked what the line says, by what its
--- labels stood for then, and answered so. What it came to is the one
--- outcome more, and a map answered Ok gives its handle to its label.
+-- The call of a line was made. The domain got the request that the line makes, by what its labels named then, and gave
+-- its answer. Its outcome is appended, and a map answered Ok gives its handle to its label.
 pub record MakesCall {P : Type 0} (may : P → AllowRelation) (duty : ThreadJob P) (line : ℕ) (call : ScriptCall)
     (p q : ListProgress) : Type 0 where
   pub request : Request
@@ -59,13 +58,13 @@ pub record MakesCall {P : Type 0} (may : P → AllowRelation) (duty : ThreadJob 
   pub named : q.named ≡ with_name p.named duty.part.dom (label_given call) (handle_given answer)
   pub outcomes : q.outcomes ≡ p.outcomes ++ record { line = line; answer = answer; told = told; lost = lost } ∷ []
 
--- what a line leads to that has its domain do this: a call is made; a flag told or awaited changes nothing
+-- the effect of a line's action: a call is made; a flag raised or awaited changes nothing
 unfoldable pub DoesDeed : {P : Type 0} → (P → AllowRelation) → ThreadJob P → ℕ → RunAction → ListProgress → ListProgress → Type 0
 DoesDeed may duty line (Do call) p q = MakesCall may duty line call p q
 DoesDeed may duty line (Tell flag) p q = q ≡ p
 DoesDeed may duty line (Await flag) p q = q ≡ p
 
--- what a line leads to that is the domain's, or is not: another's changes nothing
+-- the effect of a line that is the domain's, or is not: another's changes nothing
 abbrev pub DoesWhere : {P : Type 0} → Bool → (P → AllowRelation) → ThreadJob P → RunTask → ListProgress → ListProgress → Type 0
 DoesWhere true may duty task p q = DoesDeed may duty task.line task.deed p q
 DoesWhere false may duty task p q = q ≡ p
@@ -76,7 +75,7 @@ ListLeadsTo may duty p [] q = q ≡ p
 ListLeadsTo may duty p (task ∷ tasks) q =
     (r : ListProgress) × DoesWhere (task.dom.0 == duty.part.dom.0) may duty task p r × ListLeadsTo may duty r tasks q
 
--- what outcomes print
+-- the texts of outcomes
 
 -- the lines of these answers, in order
 abbrev pub answer_lines : List (List ℕ) → DomId → List ListOutcome → List ℕ
@@ -94,7 +93,7 @@ audit_lines names outcomes = flat_map (line_text (type_text (λ name. name) name
 abbrev pub lost_in : List ListOutcome → ℕ
 lost_in outcomes = sum_by (λ o. o.lost) outcomes
 
--- a count of 64 bits, which stays at its largest value
+-- a count of 64 bits, which saturates at its largest value
 abbrev pub counted : ℕ → ℕ
 counted count = min count (2 ^ 64 - 1)
 
@@ -124,7 +123,7 @@ IsAwait (Await flag) = Unit {0}
 abbrev pub gate_line : ℕ → DomId → List ℕ
 gate_line line dom = call_text line dom ++ codes "gate\n"
 
--- a list stops at this line, which awaits a flag, if its gate answers false; this is its last line then
+-- a list stops at this line, which awaits a flag, if its gate answers false; this is then its last line
 pub record Stops (dom : DomId) (tasks : List RunTask) (number : ℕ) (last : List ℕ) : Type 0 where
   pub at : RunTask
   pub own : (at.dom.0 == dom.0) ≡ true
@@ -132,13 +131,12 @@ pub record Stops (dom : DomId) (tasks : List RunTask) (number : ℕ) (last : Lis
   pub awaits : IsAwait at.deed
   pub last_is : last ≡ gate_line at.line dom
 
--- a list ends after so many lines: they are all, and nothing more is printed; or it stops there
+-- a list ends after this number of lines: they are all, and nothing more is printed; or it stops there
 abbrev pub EndsList : DomId → List RunTask → ℕ → List ℕ → Type 0
 EndsList dom tasks number last = ((number ≡ length tasks) × (last ≡ [])) ⊎ Stops dom tasks number last
 
--- The duty's list was served from a domain that had done nothing up to its end: its
--- calls came to these outcomes, and it printed the lines of their
--- answers, and the line of its gate if that ended it
+-- The list of the job was served to its end, from a domain that had done nothing. Its calls had these outcomes. It
+-- printed the lines of their answers, and the line of its gate if that ended it.
 pub record IsServed {P : Type 0} (may : P → AllowRelation) (duty : ThreadJob P) (outcomes : List ListOutcome)
     (text : List ℕ) : Type 0 where
   pub domain : Domain
@@ -151,8 +149,8 @@ pub record IsServed {P : Type 0} (may : P → AllowRelation) (duty : ThreadJob P
   pub ends : EndsList duty.part.dom duty.part.tasks.now number last
   pub prints : text ≡ answer_lines duty.part.types.now duty.part.dom outcomes ++ last
 
--- some first lines of the duty's list were served from a domain that had
--- done nothing, and this is what their calls printed
+-- some first lines of the job's list were served from a domain that had done nothing, and this is what their calls
+-- printed
 pub record IsBegun {P : Type 0} (may : P → AllowRelation) (duty : ThreadJob P) (text : List ℕ) : Type 0 where
   pub domain : Domain
   pub first : IsFirst may duty.monitor.now duty.part.dom domain
@@ -161,17 +159,17 @@ pub record IsBegun {P : Type 0} (may : P → AllowRelation) (duty : ThreadJob P)
   pub leads : ListLeadsTo may duty (list_start domain) (take number duty.part.tasks.now) left
   pub prints : text ≡ answer_lines duty.part.types.now duty.part.dom left.outcomes
 
--- what is kept beside a list
+-- what is kept with a list
 
--- what went into the log, or was lost, are the records of these calls:
--- each record of the domain's trail was pushed
+-- the records that went into the log, or were lost, are those of these calls: each record of the domain's trail was
+-- pushed
 abbrev pub TellsOutcomes : Telling → Option TrailLogger → List ListOutcome → Type 0
 TellsOutcomes trail None outcomes = (records_told outcomes ≡ []) × (lost_in outcomes ≡ 0)
 TellsOutcomes trail (Some t) outcomes =
     (t.next ≡ length trail.records) × (map (λ e. e.1) t.told.told ≡ records_told outcomes)
     × (counted (trail.lost + t.told.lost) ≡ counted (lost_in outcomes))
 
--- the domain and what is kept beside it are where the list has come to
+-- the domain, its labels and its logger are at this point of the list
 pub record IsKeptAt {P : Type 0} (duty : ThreadJob P) (p : ListProgress) (d : Domain) (labels : Labels)
     (teller : Option TrailLogger) : Type 0 where
   pub domain : p.domain ≡ d
@@ -180,7 +178,7 @@ pub record IsKeptAt {P : Type 0} (duty : ThreadJob P) (p : ListProgress) (d : Do
   pub asked : is_some teller ≡ is_logged duty
   pub told : TellsOutcomes d.trail teller p.outcomes
 
--- from each point that is kept so, the call of this line leads to a next one, and prints this
+-- from each point with such a state, the call of this line leads to a next one, and prints this
 abbrev pub Calls : {P : Type 0} → (P → AllowRelation) → ThreadJob P → ℕ → ScriptCall → Domain → Domain → Labels → Labels
     → Option TrailLogger → Option TrailLogger → List ℕ → Type 0
 Calls may duty line call d e before after t u text =
@@ -189,8 +187,8 @@ Calls may duty line call d e before after t u text =
     × (answer_lines duty.part.types.now duty.part.dom q.outcomes
     ≡ answer_lines duty.part.types.now duty.part.dom p.outcomes ++ text)
 
--- the domain made the call of a line: from what the labels stood for it was asked what the
--- line says and answered so, and they stand for what they then do
+-- the domain made the call of a line: it got the request that the line makes, by what the labels named before, gave
+-- this answer, and afterwards the labels name what they then should
 abbrev pub Makes : {P : Type 0} → (P → AllowRelation) → ThreadJob P → ScriptCall → Domain → Domain → Labels → Labels → Answer
     → Type 0
 Makes may duty call d e before after answer =
@@ -203,8 +201,7 @@ abbrev pub StartsTold : {P : Type 0} → ThreadJob P → Domain → Option Trail
 StartsTold duty d teller =
     (d.seat.dom ≡ duty.part.dom) × (is_some teller ≡ is_logged duty) × TellsOutcomes d.trail teller []
 
--- a list was served from this domain on, up to its end; what is kept is
--- where it came to, and the text is what it printed
+-- a list was served to its end, starting at this domain; the logger and the text are those of its calls
 pub record ServesAll {P : Type 0} (may : P → AllowRelation) (duty : ThreadJob P) (d : Domain) (text : List ℕ) (e : Domain)
     (teller : Option TrailLogger) : Type 0 where
   pub left : ListProgress
@@ -223,14 +220,14 @@ pub record ServesSome {P : Type 0} (may : P → AllowRelation) (duty : ThreadJob
   pub leads : ListLeadsTo may duty (list_start d) (take number duty.part.tasks.now) left
   pub prints : text ≡ answer_lines duty.part.types.now duty.part.dom left.outcomes
 
--- a list that printed all, or did not, was served so
+-- a list that printed all, or did not, was served
 abbrev pub Serves : {P : Type 0} → (P → AllowRelation) → ThreadJob P → Domain → Bool → List ℕ → Domain → Option TrailLogger
     → Type 0
 Serves may duty d true text e teller = ServesAll may duty d text e teller
 Serves may duty d false text e teller = ServesSome may duty d text
 
--- what so many first lines of a list came to, if their text is all there or is not:
--- with what is kept beside it, or only some first ones of them
+-- the result of this number of first lines of a list, if their text is whole or is not: with its labels and its logger,
+-- or only some first ones of them
 abbrev pub HasCome : {P : Type 0} → (P → AllowRelation) → ThreadJob P → Domain → Bool → ℕ → List ℕ → Domain → Labels
     → Option TrailLogger → Type 0
 HasCome may duty d true count text e labels teller =

@@ -1,4 +1,4 @@
-//! Why a run did not end well.
+//! Faults of a run.
 use gt_host::PlayFault;
 use gt_text::WriteFault;
 use gt_types::Memory;
@@ -6,12 +6,12 @@ use std::alloc::{AllocError, AllocFailed};
 use std::error::Error;
 use std::fmt;
 
-/// Why a run did not end well. It prints as one line, without its end.
+/// The fault that ended a run. It prints as one line, without a line end.
 #[derive(Debug, Drop)]
 pub enum RunFault {
     /// A fault that a play can have too: of the script, of memory, or of a read or a write.
     Play(PlayFault),
-    /// A thread was refused. No list ran, and nothing was written.
+    /// A thread could not be started. No list ran, and nothing was written.
     Thread,
 }
 

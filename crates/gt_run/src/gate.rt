@@ -7,17 +7,18 @@ use std::sync::{Condvar, Mutex, Wait};
 
 /// The flags on which domains wait for one another, numbered from 0.
 pub trait Gate {
-    /// A domain raises the flag.
+    /// Raises the flag.
     fn tell(&self, flag: usize);
 
-    /// Whether the caller may go on. It may wait until some domain raises the flag.
+    /// Returns whether the caller may continue. It may wait until some domain raises the flag.
     fn pass(&self, flag: usize) -> bool;
 }
 
-/// More flags than a script can name: each takes a line of eight bytes at least.
+/// The number of flags of a [`FlagGate`]: more than a script can name, since each takes a line of at least eight bytes.
 pub const FLAGS: usize = 131_072;
 
-/// The gate of a program: it waits until the flag is raised, however long that takes, and lets the caller on.
+/// The gate of the program. It waits until the flag is raised, however long that takes, and then lets the caller
+/// continue.
 #[derive(Drop)]
 pub struct FlagGate<'r, R: Wait> {
     rt: &'r R,
@@ -26,10 +27,10 @@ pub struct FlagGate<'r, R: Wait> {
 }
 
 impl<'r, R: Wait> FlagGate<'r, R> {
-    /// A gate of [`FLAGS`] flags, none of which is raised.
+    /// Makes a gate of [`FLAGS`] flags, none of which is raised.
     ///
     /// # Errors
-    /// Memory was refused. It is asked for only here.
+    /// The allocation failed. Nothing is allocated later.
     pub fn new(rt: &'r R, alloc: Global) -> Result<Self, Memory> {
         Ok(FlagGate {
             rt,
@@ -39,7 +40,7 @@ impl<'r, R: Wait> FlagGate<'r, R> {
     }
 }
 
-// A flag that the gate has no room for keeps nobody waiting.
+// Returns whether the flag is raised. A flag beyond the room of the gate keeps no one waiting.
 fn is_told(told: &Vec<bool>, flag: usize) -> bool {
     told.get(flag).copied().unwrap_or(true)
 }

@@ -1,9 +1,12 @@
-//! Runs the domains of a script at once, each in a thread of its own.
+//! Runs the domains of a script at the same time, each in its own thread.
 //!
-//! Each domain has a list of lines: calls, which it makes on the monitor of `gt_live`, flags that it
-//! raises, and flags that it awaits at a [`Gate`]. All threads are started before any list begins. The
-//! answers of each domain are written in its own order, those of the first domain first, and the audit
-//! lines after all of them.
+//! Each domain has a list of lines: calls, which it makes on the monitor of `gt_live`, flags that it raises, and flags
+//! that it awaits at a [`Gate`]. No list begins before all threads are started. The answers of each domain are written
+//! in its own order, those of the first domain first, and the audit lines after all of them.
+//!
+//! [`run`] promises that each line printed is the answer of its own call, whatever the schedule, and that none is lost,
+//! doubled or out of order. It depends on the promises of `gt_live` for the calls, of `gt_host` for what a line asks
+//! and prints, and of the standard library for threads. That a thread makes progress is not proved.
 #![tactic(auto)]
 
 mod fault;

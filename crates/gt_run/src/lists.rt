@@ -1,4 +1,4 @@
-//! What the domains of a run do, each in its own order.
+//! The parts of a run and what its threads share.
 use crate::gate::Gate;
 use crate::serving::Output;
 use gt_audit::SharedLog;
@@ -10,8 +10,8 @@ use std::alloc::Global;
 use std::sync::Wait;
 use std::thread::Promise;
 
-/// What all domains of a run use: where it runs, the gate at which they wait for one another, and the log, if their
-/// calls are recorded.
+/// The environment that all domains of a run share: the runtime, the gate at which they wait for one another, and the
+/// log, if their calls are recorded.
 #[derive(Drop)]
 pub struct RunContext<'s, R: Wait, G: Gate> {
     pub rt: &'s R,
@@ -20,7 +20,8 @@ pub struct RunContext<'s, R: Wait, G: Gate> {
     pub log: Option<&'s SharedLog>,
 }
 
-/// A domain's part of a run: its lines among those of all domains, and the names of types that its answers print.
+/// A domain's part of a run: the lines of all domains, of which it serves its own, and the names of types for its
+/// answers.
 #[derive(Clone, Copy)]
 pub struct DomainPart<'s, 'a> {
     pub dom: DomId,
@@ -28,7 +29,7 @@ pub struct DomainPart<'s, 'a> {
     pub types: &'s [Text<'s>],
 }
 
-/// What the thread of a domain is to do: its part, on a monitor, with a record of its calls if there is a log.
+/// The job of a domain's thread: its part, on a monitor, with a record of its calls if there is a log.
 #[derive(Drop)]
 pub struct ThreadJob<'s, 'a, P: Allows> {
     pub part: DomainPart<'s, 'a>,
@@ -36,7 +37,7 @@ pub struct ThreadJob<'s, 'a, P: Allows> {
     pub log: Option<&'s SharedLog>,
 }
 
-// The thread of a domain promises what comes of its duty.
+// The thread of a domain promises the output of its job.
 impl<'s, 'a, P: Allows> Promise<Output> for ThreadJob<'s, 'a, P> {
     ghost use Rattle.gt_run.specs.Printing.{IsOutputOf};
 

@@ -1,4 +1,4 @@
-//! A script in, and the lines of its domains out.
+//! From a script to the output of its domains.
 ghost use Rattle.std.specs.Prelude.{◌≡◌, ℕ, List, take, is_some, IfOk};
 ghost use Rattle.gt_script.specs.Contents.{contents_told};
 ghost use Rattle.gt_script.specs.RunContents.{run_told};
@@ -22,7 +22,7 @@ use std::io::{Read, Write};
 use std::sync::Wait;
 use std::thread::Threads;
 
-// The parts of the domains, in their order.
+// Returns the parts of the domains, in their order.
 fn parts_of<'s, 'a>(
     alloc: Global,
     domains: &[DomainConfig],
@@ -39,7 +39,7 @@ fn parts_of<'s, 'a>(
     Ok(parts)
 }
 
-// Runs a script that was read.
+// Runs a script that was parsed.
 fn run_script<'a, R: Threads + Wait + Sync, G: Gate + Sync, W: Write>(
     rt: &R,
     alloc: Global,
@@ -69,7 +69,7 @@ fn run_script<'a, R: Threads + Wait + Sync, G: Gate + Sync, W: Write>(
     run_lists(&context, config, rights, parts.as_slice(), writer)
 }
 
-// Runs the script that bytes say, of which those up to the limit were read.
+// Parses and runs the script in these bytes, which are those read up to the limit.
 fn run_bytes<R: Threads + Wait + Sync, G: Gate + Sync, W: Write>(
     rt: &R,
     alloc: Global,
@@ -87,17 +87,17 @@ fn run_bytes<R: Threads + Wait + Sync, G: Gate + Sync, W: Write>(
     }
 }
 
-/// Runs the script that the reader has: each domain makes its calls in a thread of its own, and if one awaits a flag
-/// it asks the gate. Writes a line for each answer: those of the first domain first, and each domain's in their order.
-/// If a log is given, calls are recorded in it, and after all other lines come the audit lines of each domain and
-/// how many records were lost.
+/// Runs the script that the reader has. Each domain makes its calls in its own thread, and asks the gate when it awaits
+/// a flag. Writes a line for each answer: those of the first domain first, and each domain's in its order. If there is
+/// a log, calls are recorded in it, and the audit lines of each domain and the number of lost records follow all other
+/// lines.
 ///
-/// Of the reader at most 1,048,577 bytes are read. A script with a fault writes nothing. After a failed write, or
-/// if memory is refused, a beginning of a text of the script was written.
+/// Reads at most 1,048,577 bytes. If the script has a fault, nothing is written. After a failed write, or if an
+/// allocation fails, a prefix of a text of the script was written.
 ///
 /// # Errors
-/// The script's first fault; a thread that was refused, and then no list ran; memory that was refused; or a read or a
-/// write that failed.
+/// The script's first fault; a thread that could not be started, and then no list ran; an allocation that failed; or a
+/// read or a write that failed.
 pub fn run<R: Threads + Wait + Sync, I: Read, W: Write, G: Gate + Sync>(
     rt: &R,
     alloc: Global,

@@ -1,4 +1,4 @@
-//! A domain beside the monitor that it came with, so that it can move into a thread.
+//! A domain with its monitor, so that it can move into a thread.
 ghost use Rattle.std.specs.Prelude.{◌≡◌};
 ghost use Rattle.gt_run.specs.Asking.{IsReadAnswer, plain_answer};
 
@@ -10,9 +10,9 @@ use gt_types::{Allows, Denial};
 use std::marker::Model;
 use std::sync::Wait;
 
-/// A domain beside the monitor that it came with. Dropping it finishes the domain.
+/// A domain with the monitor that it belongs to. Dropping it finishes the domain.
 ///
-/// A closure takes nothing that can't be dropped, and a [`Domain`] can't be. So this is what moves into a thread.
+/// A closure captures only values that can be dropped, and a [`Domain`] can't be. So this is what moves into a thread.
 pub struct RunningDomain<'m, P: Allows> {
     monitor: &'m Monitor<P>,
     domain: Domain,
@@ -36,7 +36,7 @@ impl<'m, P: Allows> Drop for RunningDomain<'m, P> {
     }
 }
 
-// The answer of a call that gives no value.
+// Returns the answer of a call that gives no value.
 fn done(answer: Result<(), Denial>) -> Answer
     ensures { result ≡ plain_answer answer }
 {
@@ -79,7 +79,7 @@ impl<'m, P: Allows> RunningDomain<'m, P> {
     ghost use Rattle.gt_live.specs.Domains.{BelongsTo};
     ghost use Rattle.gt_run.specs.Asking.{Asks};
 
-    /// The domain beside its monitor.
+    /// Pairs a domain with its monitor.
     pub fn new(monitor: &'m Monitor<P>, domain: Domain) -> Self
         requires { BelongsTo P.may monitor.now domain }
         ensures { result ≡ record { monitor = monitor.now; domain = domain } }
@@ -87,7 +87,7 @@ impl<'m, P: Allows> RunningDomain<'m, P> {
         RunningDomain { monitor, domain }
     }
 
-    /// The records of its calls so far, in order.
+    /// Returns the records of its calls so far, in order.
     pub fn trail(&self) -> &Trail
         ensures { result.now ≡ self.now.domain.trail }
     {
@@ -102,7 +102,7 @@ impl<'m, P: Allows> RunningDomain<'m, P> {
         domain.finish(monitor)
     }
 
-    /// Makes the call that is asked, and answers as it is answered.
+    /// Makes the call that is requested, and returns its answer.
     pub fn ask<R: Wait>(&mut self, rt: &R, request: Request<'_>) -> Answer
         ensures monitor { self.new.monitor ≡ self.old.monitor }
         ensures asked { Asks P.may self.old.monitor self.old.domain request.entry result self.new.domain }

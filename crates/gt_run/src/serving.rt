@@ -16,16 +16,16 @@ use gt_types::{Allows, DomId, Memory};
 use std::alloc::{AllocError, Global};
 use std::sync::{OnceLock, Wait};
 
-/// What came of a domain's list.
+/// The output of a domain's list.
 #[derive(Drop)]
 pub struct Output {
-    /// The lines of its answers, or a beginning of them.
+    /// The lines of its answers, or a prefix of them.
     pub text: Vec<u8>,
-    /// Whether these are all lines. They are not if memory was refused, or if no list ran.
+    /// Whether the text has all lines. It does not if an allocation failed, or if no list ran.
     pub whole: bool,
-    /// Its audit lines; none if no log was given.
+    /// Its audit lines. There are none if no log was given.
     pub audit: Result<Vec<u8>, Memory>,
-    /// How many of its records were lost; none if no log was given.
+    /// The number of its records that were lost. It is 0 if no log was given.
     pub lost: u64,
 }
 
@@ -57,7 +57,7 @@ struct CallLine<'b, 'a> {
     call: &'b ScriptCall<'a>,
 }
 
-// Makes the call of a line, pushes its record, and answers the line that it prints.
+// Makes the call of a line, pushes its record, and returns the line that it prints.
 fn call_line<'a, R: Wait, P: Allows>(
     rt: &R,
     alloc: Global,
@@ -86,7 +86,7 @@ fn call_line<'a, R: Wait, P: Allows>(
     Ok(text)
 }
 
-// The line of a gate that answered false.
+// Returns the line of a gate that answered false.
 fn gate_line(alloc: Global, line: usize, dom: DomId) -> Result<Vec<u8>, AllocError>
     ensures { IfOk result (λ text. text.items ≡ gate_line line dom) }
 {
@@ -99,7 +99,7 @@ fn gate_line(alloc: Global, line: usize, dom: DomId) -> Result<Vec<u8>, AllocErr
     Ok(text)
 }
 
-// Appends a line if it and all before it found memory, and answers whether they did.
+// Appends a line if it and all lines before it could be allocated. Returns whether they could.
 fn has_appended(text: &mut Vec<u8>, whole: bool, line: Result<Vec<u8>, AllocError>) -> bool
     ensures appended { IsTrue result → IsTrue whole × IsOk line
         × IfOk line (λ l. text.new.items ≡ text.old.items ++ l.items) }
@@ -111,8 +111,8 @@ fn has_appended(text: &mut Vec<u8>, whole: bool, line: Result<Vec<u8>, AllocErro
     }
 }
 
-// Serves the lines of a domain, and answers whether all were written. It goes on if memory is refused for a line,
-// since other domains may wait for a flag of this one. Nothing is written after that line.
+// Serves the lines of a domain, and returns whether all were written. It continues if a line cannot be allocated, since
+// other domains may wait for a flag of this one. Nothing is written after that line.
 fn serve<'a, R: Wait, P: Allows, G: Gate>(
     rt: &R,
     alloc: Global,
@@ -151,7 +151,7 @@ fn serve<'a, R: Wait, P: Allows, G: Gate>(
     whole
 }
 
-/// Serves a domain's list once the start is given, and finishes the domain. If the start is called off it serves no
+/// Serves a domain's list once the start is given, and finishes the domain. If the start is called off, it serves no
 /// line.
 pub fn work<'a, R: Wait, P: Allows, G: Gate>(
     rt: &R,

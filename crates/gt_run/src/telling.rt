@@ -1,4 +1,4 @@
-//! What a domain pushes into the log that all share.
+//! The records that a domain pushes into the shared log.
 ghost use Rattle.std.specs.Option.{option_map};
 ghost use Rattle.gt_audit.specs.Telling.{nothing_told};
 ghost use Rattle.gt_run.specs.Telling.{LogsTrail};
@@ -11,7 +11,7 @@ use gt_types::{DomId, Memory};
 use std::alloc::Global;
 use std::sync::Wait;
 
-/// What a domain pushed into the log: each record of its trail under its place there, counted from 0.
+/// The records that a domain has pushed into the log, each under its index in the domain's trail, counted from 0.
 #[derive(Drop)]
 pub struct TrailLogger<'l> {
     told: DomainLog<'l>,
@@ -27,7 +27,7 @@ impl<'l> TrailLogger<'l> {
     ghost use Rattle.gt_run.specs.Serving.{counted};
     ghost use Rattle.gt_run.specs.Telling.{TellsNext};
 
-    /// Nothing was pushed yet.
+    /// Makes a logger that has pushed nothing.
     pub fn new(alloc: Global, log: &'l SharedLog, dom: DomId) -> Self
         ensures { result ≡ record { told = nothing_told dom; next = 0 } }
     {
@@ -37,8 +37,8 @@ impl<'l> TrailLogger<'l> {
         }
     }
 
-    /// Pushes the record that the trail has beyond those pushed, if it has one. A record for which there is no memory
-    /// is lost.
+    /// Pushes the record that the trail has beyond those pushed, if it has one. A record that cannot be allocated is
+    /// lost.
     pub fn tell(&mut self, rt: &impl Wait, trail: &Trail)
         ensures { TellsNext (slice_get trail.now.records self.old.next) (length trail.now.records) self.old self.new }
     {
@@ -48,7 +48,7 @@ impl<'l> TrailLogger<'l> {
         }
     }
 
-    /// The audit lines of the records pushed, as the log has them, in order.
+    /// Returns the audit lines of the records pushed, as the log has them, in order.
     pub fn audit(&self, alloc: Global, types: &[Text]) -> Result<Vec<u8>, Memory>
         ensures { IfOk result (λ text. text.items
             ≡ flat_map (line_text (type_text (λ name. name) types.now)) (map (λ e. e.1) self.now.told.told)) }
@@ -61,7 +61,7 @@ impl<'l> TrailLogger<'l> {
         Ok(text)
     }
 
-    /// How many records of a domain that has left were lost: memory was refused for them in its trail, or in the log.
+    /// Counts the records of a departed domain that could not be allocated, in its trail or in the log.
     pub fn lost(&self, left: &Departed) -> u64
         ensures { result ≡ counted (left.now.trail.lost + self.now.told.lost) }
     {
@@ -69,7 +69,7 @@ impl<'l> TrailLogger<'l> {
     }
 }
 
-/// What a domain pushes into a log, if there is one. Nothing was pushed yet.
+/// Makes the logger of a domain, if there is a log. Nothing was pushed yet.
 pub fn teller_for<'l>(
     alloc: Global,
     log: Option<&'l SharedLog>,

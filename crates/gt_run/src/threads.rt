@@ -1,4 +1,4 @@
-//! A thread for each domain.
+//! Threads for all domains of a run, from their start to their last line.
 ghost use Rattle.std.specs.Prelude.{◌≡◌, ◌≤◌, ◌++◌, ◌⊎◌, All, length, map, is_some};
 ghost use Rattle.std.specs.Prelude.{Err, IfOk, IfErr, IsOk, None, OnOk};
 ghost use Rattle.std.specs.Io.KnownBytes.{Appends};
@@ -40,7 +40,7 @@ fn finish_all<P: Allows>(monitor: &Monitor<P>, domains: Vec<Domain>)
     rest.destroy_empty();
 }
 
-/// Each domain beside its monitor. If there is no memory for that, each is finished.
+/// Pairs each domain with its monitor. If the allocation fails, each domain is finished.
 pub fn all_running<'m, P: Allows>(
     alloc: Global,
     monitor: &'m Monitor<P>,
@@ -62,7 +62,7 @@ pub fn all_running<'m, P: Allows>(
     Ok(all)
 }
 
-// Why there is not a thread for each domain: one was refused, or memory for the list of them.
+// The reason that some domain has no thread: a thread, or memory for the list of threads, was refused.
 #[derive(Clone, Copy)]
 enum ThreadRefusal {
     Thread,
@@ -96,15 +96,15 @@ impl<T: Drop> From<AllocFailed<T>> for ThreadRefusal {
     }
 }
 
-// What was started: the threads in the order of their domains, and what was refused if there is not one for each.
+// The threads that were started, in the order of their domains, and the refusal, if some domain has none.
 #[derive(Drop)]
 struct Started<'s, 'a, P: Allows> {
     handles: Vec<PromisedHandle<Output, ThreadJob<'s, 'a, P>>>,
     refused: Option<ThreadRefusal>,
 }
 
-// Starts a thread for each domain, with its part. It waits for the start before it does anything. Behind a thread that
-// is refused none is started, and the domains that are left are finished.
+// Starts a thread for each domain, with its part. Each thread waits for `start` before it does anything. After a
+// refusal no further thread is started, and the remaining domains are finished.
 fn start_each<'s, 'a, E, R: Wait + Sync, P: Allows + Sync, G: Gate + Sync>(
     scope: &'s Scope<'s, E>,
     context: &RunContext<'s, R, G>,
@@ -151,7 +151,7 @@ fn start_each<'s, 'a, E, R: Wait + Sync, P: Allows + Sync, G: Gate + Sync>(
     }
 }
 
-// What was joined: how it went, the audit lines of the domains, and how many records were lost.
+// The result of joining: the outcome, the audit lines of the domains, and the number of lost records.
 #[derive(Drop)]
 struct Joined {
     outcome: Result<(), RunFault>,
@@ -159,7 +159,7 @@ struct Joined {
     lost: u64,
 }
 
-// Writes what came of a domain's list, if all went well before: whole, or a beginning of it.
+// Writes the text of a domain's list, whole or a prefix of it, if all went well before.
 fn write_next<W: Write>(
     outcome: Result<(), RunFault>,
     writer: &mut W,
@@ -177,7 +177,7 @@ fn write_next<W: Write>(
     }
 }
 
-// Keeps the audit lines of a domain, if all went well before.
+// Appends the audit lines of a domain, if all went well before.
 fn keep_audit(
     outcome: Result<(), RunFault>,
     all: &mut Vec<u8>,
@@ -193,8 +193,7 @@ fn keep_audit(
     Ok(())
 }
 
-// Joins all threads in their order. The lines of each domain are written as it is joined, unless something failed
-// before.
+// Joins all threads in their order. Writes the lines of each domain as it is joined, unless something failed before.
 fn join_each<'s, 'a, R: Threads, P: Allows, W: Write>(
     rt: &R,
     alloc: Global,
@@ -230,7 +229,7 @@ fn join_idle<'s, 'a, R: Threads, P: Allows>(
     }
 }
 
-// Writes the audit lines of all domains, and how many records were lost.
+// Writes the audit lines of all domains, and the number of lost records.
 fn write_audit<W: Write>(
     alloc: Global,
     writer: &mut W,
@@ -248,19 +247,19 @@ fn write_audit<W: Write>(
     Ok(())
 }
 
-// A writer on its way back out of a scope, and how it went there.
+// A writer that a scope returns, with the outcome of the writes.
 #[derive(Drop)]
 struct ReturnedWriter<'w, W> {
     writer: &'w mut W,
     outcome: Result<(), RunFault>,
 }
 
-// Takes a writer back that was lent.
+// Ends the loan of a writer.
 fn take_back<W>(writer: &mut W)
     ensures { writer.new ≡ writer.old }
 {}
 
-// Writes what the threads print, if there is one for each domain.
+// Writes what the threads print, if each domain has one.
 fn write_each<'s, 'a, R: Threads, P: Allows, W: Write>(
     rt: &R,
     alloc: Global,
@@ -284,9 +283,9 @@ fn write_each<'s, 'a, R: Threads, P: Allows, W: Write>(
     write_audit(alloc, writer, audit.as_slice(), lost)
 }
 
-/// Gives each domain a thread of its own, with its part, and writes what they print: the lines of each domain as it is
-/// joined, in their order, and then their audit lines. No list begins before all threads are there. If one is
-/// refused, or memory for the list of them, no list runs.
+/// Gives each domain its own thread, with its part, and writes what they print: the lines of each domain as it is
+/// joined, in their order, and then their audit lines. No list begins before all threads are started. If a thread, or
+/// memory for the list of threads, is refused, no list runs.
 pub fn run_each<'a, R: Threads + Wait + Sync, P: Allows + Sync, G: Gate + Sync, W: Write>(
     context: &RunContext<'_, R, G>,
     monitor: &Monitor<P>,
@@ -322,7 +321,12 @@ pub fn run_each<'a, R: Threads + Wait + Sync, P: Allows + Sync, G: Gate + Sync, 
     outcome
 }
 
-/// Runs parts over a monitor that starts with this configuration and these rights.
+/// Runs the parts over a new monitor with this configuration and these rights, each domain in its own thread, and
+/// writes what they print: the lines of each domain, in the order of the parts, and then their audit lines.
+///
+/// # Errors
+/// A thread that could not be started, and then no list ran and nothing was written; or an allocation or a write that
+/// failed, and then a prefix of a text of the lists was written.
 pub fn run_lists<'a, R: Threads + Wait + Sync, P: Allows + Drop + Sync, G: Gate + Sync, W: Write>(
     context: &RunContext<'_, R, G>,
     config: Config,

@@ -1,4 +1,6 @@
-//! The program `gthost` on a script with a fault: its `main` is this one, and the exit status is 1.
+//! The program `gthost` on a script with a fault.
+//!
+//! Its `main` is that of `gthost`. Its stored run has the exit status 1.
 #![tactic(auto)]
 
 use std::process::ExitCode;

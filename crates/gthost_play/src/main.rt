@@ -1,6 +1,11 @@
-//! The commands `play` and `policy` of the program `gthost`, alone: `play [--audit] [FILE]` and `policy [FILE]`, with
-//! the same text, the same line for a fault and the same exit status. They need fewer crates than the whole program, so
-//! they are compiled sooner: the launcher runs them, unproved, until the program is built.
+//! The commands `play` and `policy` of the program `gthost` in a smaller program.
+//!
+//! `gthost_play play [--audit] [FILE]` and `gthost_play policy [FILE]` write the same text, the same line for a fault
+//! and the same exit status as `gthost`. The program needs fewer crates than the whole one, so it compiles sooner: the
+//! launcher runs it, unproved, until `gthost` is built.
+//!
+//! The contracts of `gt_host` and `gt_policy_list` specify what the two commands write. The words, the lines of faults
+//! and the exit statuses are only tested.
 #![tactic(auto)]
 
 use gt_host::{PlayFault, play};
@@ -17,7 +22,7 @@ enum Command {
     Policy,
 }
 
-/// Why a command did not end well. It prints as one line, without its end.
+/// The failure that ended a command. It prints as one line, without a line end.
 #[derive(Drop)]
 enum Failure {
     Play(PlayFault),
@@ -25,7 +30,7 @@ enum Failure {
     /// The file can't be opened.
     File,
     Memory,
-    /// The words are of no command.
+    /// The words do not name a command.
     Words,
 }
 
@@ -44,7 +49,7 @@ impl fmt::Display for Failure {
 }
 
 impl Failure {
-    // A file that was not opened.
+    // Returns the failure for a file that was not opened.
     fn unopened(error: &io::Error) -> Failure {
         if error.kind() == ErrorKind::OutOfMemory {
             Failure::Memory
@@ -61,7 +66,7 @@ impl Failure {
     }
 }
 
-// The command that the words name, and its FILE.
+// Returns the command in the words, and its FILE.
 fn command_of(words: &[String]) -> Option<(Command, Option<&str>)> {
     match words {
         [_, name] if name.as_str() == "play" => Some((Command::Play { audit: false }, None)),
@@ -82,7 +87,7 @@ fn command_of(words: &[String]) -> Option<(Command, Option<&str>)> {
     }
 }
 
-// Does this with the text of a reader.
+// Executes this with the text of a reader.
 fn perform<R: Runtime + AllocGlobal, I: Read>(
     rt: &R,
     command: Command,
@@ -114,7 +119,7 @@ fn obey<R: Runtime + AllocGlobal>(rt: &R, words: &[String]) -> Result<(), Failur
     }
 }
 
-// The words of the command line, the program's name first.
+// Returns the words of the command line, the program's name first.
 fn words_of<R: Runtime + AllocGlobal>(rt: &R) -> Result<Vec<String>, Failure> {
     match std::env::args(rt) {
         Ok(words) => match words.collect(rt.alloc()) {

@@ -1,4 +1,6 @@
-//! The program `gthost` on a wrong command line: its `main` is this one, and the exit status is 2.
+//! The program `gthost` on a wrong command line.
+//!
+//! Its `main` is that of `gthost`. Its stored run has the exit status 2.
 #![tactic(auto)]
 
 use std::process::ExitCode;

@@ -12,7 +12,7 @@ const POLICY: &[u8] =
 
 const PAGE: GrantRef = GrantRef(7);
 
-// Settings of domains with the numbers from 1 on.
+// Returns settings of domains with consecutive numbers, starting at 1.
 fn settings(alloc: Global, count: u16, label: u16) -> Result<Vec<DomainSettings>, AllocError> {
     let mut all = Vec::new(alloc);
     for place in 0..count {
@@ -45,12 +45,12 @@ fn maps(guest: &mut AttachedDomain<AllowTable>, owner: u16) -> Option<Handle> {
     guest.map(DomId(owner), PAGE, 2).ok()
 }
 
-// Gives a mapping up.
+// Unmaps a mapping.
 fn unmaps(guest: &mut AttachedDomain<AllowTable>, handle: Handle) -> bool {
     !guest.is_copying() && guest.unmap(handle).is_ok()
 }
 
-// The rule by which the page is not revoked.
+// Returns the rule by which a revocation of the page is refused.
 fn kept_by(guest: &mut AttachedDomain<AllowTable>) -> Option<Rule> {
     if guest.is_copying() {
         return None;
@@ -58,7 +58,7 @@ fn kept_by(guest: &mut AttachedDomain<AllowTable>) -> Option<Rule> {
     guest.revoke(PAGE).err().map(|denial| denial.rule)
 }
 
-// The kind of the page's entry, and its pins for writing.
+// Returns the kind of the page's entry, and its pins for writing.
 fn status(guest: &mut AttachedDomain<AllowTable>) -> Option<(EntryKind, u16)> {
     if guest.is_copying() {
         return None;
@@ -67,7 +67,7 @@ fn status(guest: &mut AttachedDomain<AllowTable>) -> Option<(EntryKind, u16)> {
     Some((control.kind, control.writes))
 }
 
-// Makes a guest ready for the next one in its place; how many entries are in use.
+// Makes a guest ready for its successor. Returns how many entries are in use.
 fn resets(guest: &mut AttachedDomain<AllowTable>) -> Option<u64> {
     if guest.is_copying() {
         return None;
@@ -75,7 +75,7 @@ fn resets(guest: &mut AttachedDomain<AllowTable>) -> Option<u64> {
     Some(guest.reset().in_use)
 }
 
-// The guest leaves; how many of its entries are in use.
+// Lets the guest leave. Returns how many of its entries are in use.
 fn leaves(guest: AttachedDomain<AllowTable>) -> Option<u64> {
     if guest.is_copying() {
         return None;
@@ -83,7 +83,7 @@ fn leaves(guest: AttachedDomain<AllowTable>) -> Option<u64> {
     Some(guest.finish().in_use)
 }
 
-// The number of the domain after the one at a place, by turns.
+// Returns the number of the domain after the one at a position, cyclically.
 fn next(place: u16, count: u16) -> u16 {
     let after = place.saturating_add(1);
     if after < count {
@@ -93,7 +93,7 @@ fn next(place: u16, count: u16) -> u16 {
     }
 }
 
-// Each guest grants its page to the next one.
+// Lets each guest grant its page to the next one. Returns how many did.
 fn grant_all(guests: &mut [AttachedDomain<AllowTable>], count: u16) -> u16 {
     let mut done = 0u16;
     let mut place = 0u16;
@@ -106,7 +106,7 @@ fn grant_all(guests: &mut [AttachedDomain<AllowTable>], count: u16) -> u16 {
     done
 }
 
-// Each guest maps the page of the one before it.
+// Lets each guest map the page of the one before it. Returns how many did.
 fn map_all(guests: &mut [AttachedDomain<AllowTable>], count: u16) -> u16 {
     let mut done = 0u16;
     let mut owner = count;
@@ -119,7 +119,7 @@ fn map_all(guests: &mut [AttachedDomain<AllowTable>], count: u16) -> u16 {
     done
 }
 
-// How many guests can't revoke their page, since it is in use.
+// Counts the guests that can't revoke their page, since it is in use.
 fn count_busy(guests: &mut [AttachedDomain<AllowTable>]) -> u16 {
     let mut busy = 0u16;
     for guest in guests.iter_mut() {
@@ -130,7 +130,7 @@ fn count_busy(guests: &mut [AttachedDomain<AllowTable>]) -> u16 {
     busy
 }
 
-// Each guest leaves, the first one first. How many left an entry in use.
+// Lets each guest leave, the first one first. Returns how many left an entry in use.
 fn leave_all(guests: Vec<AttachedDomain<AllowTable>>) -> u16 {
     let mut left = 0u16;
     for guest in guests {
@@ -141,7 +141,7 @@ fn leave_all(guests: Vec<AttachedDomain<AllowTable>>) -> u16 {
     left
 }
 
-// A run of so many domains: how many pages were granted, mapped, in use, and left in use.
+// Makes a run of this number of domains. Returns how many pages were granted, mapped, in use, and left in use.
 fn run(alloc: Global, count: u16) -> Result<(usize, [u16; 4]), AllocError> {
     let label = match type_of(alloc, POLICY, b"guest_t") {
         Ok(id) => id.0,

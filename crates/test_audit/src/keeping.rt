@@ -8,7 +8,7 @@ use std::thread::Threads;
 
 const RECORDS: u64 = 1000;
 
-// A record that differs from that of every other domain and number.
+// Returns a record that differs from that of every other domain and number.
 fn record(dom: u16, number: u64) -> Record {
     Record {
         dom: DomId(dom),
@@ -95,7 +95,7 @@ fn too_much_room_is_refused_before_any_is_taken(rt: HostRuntime) {
     assert_eq!(rt; (trail.len(), trail.lost()), (1, 0));
 }
 
-// Pushes records, and counts those that their token and a look under their number give back.
+// Pushes records, and counts those that their token and a look under their number return.
 fn pushes<R: Wait>(rt: &R, log: &SharedLog, dom: u16) -> u64 {
     let mut same: u64 = 0;
     for number in 0..RECORDS {

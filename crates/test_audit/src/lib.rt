@@ -1,7 +1,7 @@
-//! Tests of records, their lines, and the lists that keep them, over what the crate makes public.
+//! Tests of `gt_audit` (records, their lines, and the lists that keep them), over its public items.
 //!
-//! They say what no contract says: the texts of worked calls, that ample memory loses no record, and what
-//! threads that push side by side find.
+//! They test what no contract specifies: the texts of worked calls, that ample memory loses no record, and what threads
+//! find that push at the same time.
 #![tactic(auto)]
 
 #[cfg(test)]

@@ -3,7 +3,7 @@ use gt_audit::{Hypercall, Record, Reply, line, push_lost};
 use gt_types::{DOMID_SELF, Denial, DomId, End, Facts, Field, GrantRef, Perms, Rule, Size, TypeId};
 use std::test::Fail;
 
-// How a call was answered.
+// The answer of a call.
 #[derive(Clone, Copy)]
 enum Said {
     With(Reply),
@@ -12,7 +12,7 @@ enum Said {
 
 const OK: Said = Said::With(Reply::Done);
 
-// A frame of the caller's own.
+// One of the caller's own frames.
 const OWN: End = End {
     ptr: 3,
     domid: DomId(DOMID_SELF),

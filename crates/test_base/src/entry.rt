@@ -26,7 +26,7 @@ fn packs_the_words_of_entries(rt: HostRuntime) {
     }
 }
 
-// The control word of a page with so many pins.
+// Returns the control word of a page with this number of pins.
 fn pins(reads: u16, writes: u16) -> Control {
     Control::of_entry(page(false, 5), 1, reads, writes)
 }
@@ -214,7 +214,7 @@ fn writes_what_it_reads(rt: HostRuntime) {
     }
 }
 
-// What is read of an entry with these flags: in version 1 a page, and in version 2 words that fit each kind.
+// Decodes an entry with these flags: in version 1 a page, and in version 2 words that fit each kind.
 fn of_flags(version: u32, flags: u16) -> Result<Entry, Field> {
     let [low, high] = flags.to_le_bytes();
     if version == 1 {
@@ -224,7 +224,7 @@ fn of_flags(version: u32, flags: u16) -> Result<Entry, Field> {
     }
 }
 
-// How many flags are refused by a field.
+// Counts the flags that are refused by a field.
 fn refused(version: u32, field: Field) -> u32 {
     let mut count: u32 = 0;
     for flags in 0..=u16::MAX {
@@ -235,11 +235,10 @@ fn refused(version: u32, field: Field) -> u32 {
     count
 }
 
-// Counted by hand. In version 1 three of four flags have another type, and of those that are left half have the reading
-// bit, half of the rest the writing bit, and so on to the sub-page bit. 256 have none of these, and two of them no bit
-// from 9 to 15. In version 2 half of the flags have another type, and of those that are left each bit up to PAT takes
-// half. 1,024 have none of these: 256 are of type 3 with the sub-page bit, and 6 of the others have no bit from 9 to
-// 15.
+// Counted by hand. In version 1 three of four flags have another type. Of the rest half have the reading bit, half of
+// the remaining ones the writing bit, and so on to the sub-page bit. 256 have none of these, and two of them no bit
+// from 9 to 15. In version 2 half of the flags have another type, and of the rest each bit up to PAT takes half. 1,024
+// have none of these: 256 are of type 3 with the sub-page bit, and 6 of the others have no bit from 9 to 15.
 #[test]
 fn counts_the_flags_that_are_refused(rt: HostRuntime) {
     for (field, of_version_1, of_version_2) in [
@@ -258,7 +257,7 @@ fn counts_the_flags_that_are_refused(rt: HostRuntime) {
     }
 }
 
-// The flags that are taken are two in version 1, and six in version 2.
+// Two flags are accepted in version 1, and six in version 2.
 #[test]
 fn takes_two_flags_and_six(rt: HostRuntime) {
     for flags in 0..=u16::MAX {

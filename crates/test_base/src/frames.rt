@@ -1,4 +1,4 @@
-//! Frames: what is written is read, and a refused call can be made again.
+//! Frames: what is written can be read, and a call whose allocation failed can be made again.
 use gt_entry::Entry;
 use gt_frames::{Copied, Frame, Read, Writ, WriteBasis, WriteRecord, Written};
 use gt_types::{DomId, GrantRef, Memory, Range};
@@ -50,10 +50,10 @@ const WHOLE: Range = Range { off: 0, len: 4096 };
 
 const FIRST_FOUR: Range = Range { off: 0, len: 4 };
 
-// Those from the third byte on.
+// The four bytes starting at the third.
 const NEXT_FOUR: Range = Range { off: 2, len: 4 };
 
-// The bytes of a frame from an offset on, as many as there is room for; the room itself if it is too much.
+// Reads the bytes of a frame, starting at an offset, as many as `room` has. Returns `room` itself if that is too many.
 fn bytes(frame: &Frame, off: u16, room: Vec<u8>) -> Vec<u8> {
     if room.len() > 4096 || usize::from(off) + room.len() > 4096 {
         return room;
@@ -89,7 +89,7 @@ fn a_frame_is_copied_to_another(rt: HostRuntime) -> Result<(), Fail> {
     Ok(())
 }
 
-// What is done to two frames of one owner.
+// An action on two frames of one owner.
 #[derive(Clone, Copy)]
 enum Doing {
     Write,
@@ -117,7 +117,7 @@ fn done(rt: &impl Abort, frame: &mut Frame, other: &mut Frame, doing: Doing) -> 
     Ok(())
 }
 
-// Each with the first bytes of both frames after it. An overlapping copy takes what was there.
+// Each action with the first bytes of both frames after it. An overlapping copy takes the bytes that were there before.
 const DONE: [(Doing, [u8; 6], [u8; 6]); 4] = [
     (Doing::Write, [1, 2, 3, 4, 0, 0], [0; 6]),
     (Doing::OneFurther, [1, 1, 2, 3, 4, 0], [0; 6]),
@@ -125,7 +125,7 @@ const DONE: [(Doing, [u8; 6], [u8; 6]); 4] = [
     (Doing::TwoBack, [2, 3, 4, 0, 4, 0], [0, 1, 1, 2, 3, 0]),
 ];
 
-// A frame of the owner's, asked for twice if memory was refused.
+// Makes a frame of the owner. Tries again if the allocation failed.
 fn frame(alloc: Global, number: u64) -> Result<Frame, Memory> {
     match Frame::new(alloc, OWNER, number) {
         Ok(frame) => Ok(frame),
@@ -140,8 +140,8 @@ fn room(alloc: Global) -> Result<Vec<u8>, Memory> {
     }
 }
 
-// With tools/refused.sh, which refuses each request for memory in turn: a call that is
-// refused leaves the frames as they were, and does its work when it is made again.
+// With tools/refused.sh, which makes each allocation fail in turn: a call that fails leaves the frames unchanged, and
+// does its work when it is made again.
 #[test]
 fn a_refused_call_can_be_made_again(rt: HostRuntime) -> Result<(), Fail> {
     let alloc = rt.alloc();

@@ -1,4 +1,4 @@
-//! Handles that are given once, and keys that serve again.
+//! Handles that are given only once, and keys that are used again.
 use gt_handles::{Handle, Handles};
 use std::process::Abort;
 use std::test::Fail;
@@ -30,7 +30,7 @@ fn a_taken_handle_is_not_found_again(rt: HostRuntime) -> Result<(), Fail> {
     Ok(())
 }
 
-// A value that was taken leaves its key to the next; then the values come by their keys.
+// A value that was removed leaves its key to the next. Then the values come by their keys.
 #[test]
 fn the_least_key_is_popped_first(rt: HostRuntime) {
     let mut handles = Handles::new(rt.alloc());
@@ -47,8 +47,8 @@ fn the_least_key_is_popped_first(rt: HostRuntime) {
     assert_eq!(rt; handles.len(), 0);
 }
 
-// With tools/refused.sh, which refuses each request for memory in turn: if room is refused
-// the map stays as it was, and room can be asked for again.
+// With tools/refused.sh, which makes each allocation fail in turn: after a failed reservation the map is unchanged, and
+// the reservation can be tried again.
 #[test]
 fn refused_room_can_be_asked_for_again(rt: HostRuntime) {
     let mut handles = Handles::new(rt.alloc());

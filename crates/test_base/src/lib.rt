@@ -1,7 +1,8 @@
-//! Tests of the crates at the bottom, over what they make public.
+//! Tests of the crates at the bottom, over their public items: `gt_types`, `gt_entry`, `gt_frames`, `gt_handles` and
+//! `gt_text`.
 //!
-//! They say what no contract says: printed texts, worked values of the public header, and that each call
-//! which takes memory succeeds if there is enough.
+//! They test what no contract specifies: printed texts, worked values of `grant_table.h`, and that each call that
+//! allocates succeeds if there is enough memory.
 #![tactic(auto)]
 
 #[cfg(test)]

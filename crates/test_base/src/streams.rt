@@ -7,7 +7,8 @@ use test_failing::{FailingReader, FailingWriter};
 
 const TEXT: &[u8] = b"one line\nand another\n";
 
-// What comes of a reader that ends so after so many bytes, of which it gives some at a time.
+// Returns the result of a reader that fails with this kind after this number of bytes, of which it gives some at a
+// time.
 fn read_behind(
     alloc: Global,
     bytes: &[u8],
@@ -19,7 +20,7 @@ fn read_behind(
     Ok(read_text(alloc, &mut reader)?.len())
 }
 
-// How many bytes are read of so many.
+// Returns how many bytes are read of a text of this length.
 fn length_read(alloc: Global, length: usize) -> Result<usize, ReadFault> {
     let text = vec![in alloc; b' '; length].map_err(|_| ReadFault::Memory)?;
     Ok(read_text(alloc, &mut text.as_slice())?.len())
@@ -38,7 +39,7 @@ fn texts_up_to_the_limit(rt: HostRuntime) -> Result<(), Fail> {
     Ok(())
 }
 
-// A read that fails is answered as what it is; after the limit there is none.
+// A failed read is returned as its kind. Beyond the limit nothing is read.
 #[test]
 fn a_reader_that_fails(rt: HostRuntime) -> Result<(), Fail> {
     let long = vec![in rt.alloc(); b' '; 1_048_600]?;
@@ -92,7 +93,7 @@ fn writes_go_on_until_all_is_out(rt: HostRuntime) -> Result<(), Fail> {
     Ok(())
 }
 
-// So many bytes, how many of them go out, and how many still wait.
+// A number of bytes, how many of them go out, and how many still wait.
 #[test]
 fn lines_wait_for_enough_of_them(rt: HostRuntime) -> Result<(), Fail> {
     for (length, written, left) in [(65_535, 0, 65_535), (65_536, 65_536, 0)] {

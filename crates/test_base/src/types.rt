@@ -1,11 +1,11 @@
-//! Configurations, rights, and the numbers and names of the public header and the policy.
+//! Configurations, rights, and the numbers and names of `grant_table.h` and the policy.
 use gt_types::{
     Allows, Config, ConfigFault, Denial, DomId, DomainConfig, Facts, Field, Perms, Rule, Triple,
     Triples, TypeId,
 };
 use std::test::Fail;
 
-// Domain 1 with the label and the sizes of the first worked script.
+// Domain 1 with the type and the sizes of the first worked script.
 const ONE: DomainConfig = DomainConfig {
     id: DomId(1),
     label: TypeId(0),
@@ -19,7 +19,8 @@ const TWO: DomainConfig = DomainConfig {
     ..ONE
 };
 
-// Domains with the first generation, and what is found of them. A fault of the second domain is named, whatever the
+// Domains with the first generation, and the expected result. A fault of the second domain is reported, whatever the
+// third has.
 // third has.
 const CONFIGS: [(&[DomainConfig], u32, Result<(), ConfigFault>); 11] = [
     (
@@ -138,7 +139,7 @@ fn takes_as_many_domains_as_the_limit(rt: HostRuntime) -> Result<(), Fail> {
     Ok(())
 }
 
-// A rule's name, its status with the number of the header, and no facts.
+// A rule has its name, its status with the number of the header, and no facts.
 #[test]
 fn gives_the_numbers_of_the_header(rt: HostRuntime) -> Result<(), Fail> {
     for (rule, wanted) in [

@@ -1,4 +1,4 @@
-//! All calls, by what is allowed.
+//! All calls, by the rights that they need.
 use crate::copies::{COPIES, PAIRS, TO_MIDDLE};
 use crate::owners::{BY_HANDLE, HANDLE, MAPPING, MAPS, OLDER, OWNERS, PAGE};
 use crate::script::{CALLER, MIDDLE, OWNER, Part, Row, Script, goes, known, rights, three_domains};
@@ -8,7 +8,7 @@ use std::alloc::Global;
 use std::process::Abort;
 use std::test::Fail;
 
-// What each of these pairs of domains may do, and the calls.
+// The permissions, the pairs of domains that have them, and the calls.
 const GROUPS: [(&[Perms], &[(DomId, DomId)], &[Row]); 5] = [
     (&[Perms::COPY], &PAIRS, &COPIES),
     (&[Perms::COPY], &[(CALLER, MIDDLE)], &TO_MIDDLE),
@@ -21,7 +21,7 @@ const GROUPS: [(&[Perms], &[(DomId, DomId)], &[Row]); 5] = [
     (&[Perms::UNMAP], &[(CALLER, OWNER)], &BY_HANDLE),
 ];
 
-// The mappings of the caller: one was taken, and the next has its key.
+// Returns the mappings of the caller: one was unmapped, and the next has its key.
 fn mappings(rt: &impl Abort, alloc: Global) -> Result<Handles<HeldPin>, Memory> {
     let mut mappings = Handles::new(alloc);
     mappings.reserve()?;

@@ -1,4 +1,4 @@
-//! Copies: what is asked, and the parts of each call.
+//! Copies: the requests, and the parts of each call.
 use crate::script::Part::{Body, Control, Header, Leg, LongLeg, Refused, RefusedAt, Try, Unpin};
 use crate::script::{CALLER, GRANTED, HEADER, MIDDLE, OWNER, Part, Row, pin, unseen};
 use gt_calls::Request::Copy;
@@ -37,12 +37,12 @@ const SUB_FOR_CALLER: Entry = sub!(CALLER, 6, 0, 8);
 
 const SUB_FOR_MIDDLE: Entry = sub!(MIDDLE, 6, 0, 8);
 
-// Entries of the middle domain for the caller, which lead to entries of the owner's.
+// Entries of the middle domain for the caller, which lead to entries of the owner.
 const VIA_4: Entry = via!(CALLER, false, OWNER, GrantRef(4));
 
 const VIA_5: Entry = via!(CALLER, false, OWNER, GrantRef(5));
 
-// Read pins of the owner's page: also as a read-only page, with as many read pins as there can be, and as a part.
+// Read pins of the owner's page: also as a read-only page, with the maximum of read pins, and as a part.
 const PAGE: HeldPin = pin!(OWNER, 0, Read, FOR_CALLER, 0x1000_3000_0001);
 
 const READ_ONLY_PAGE: HeldPin = pin!(OWNER, 0, Read, READ_ONLY, 0x1000_3000_0005);
@@ -51,7 +51,7 @@ const FULL_PAGE: HeldPin = pin!(OWNER, 0, Read, FOR_CALLER, 0x1000_3000_fff1);
 
 const SUB_PAGE: HeldPin = pin!(OWNER, 0, Read, SUB_FOR_CALLER, 0x1000_3000_0009);
 
-// The pins of a source through the middle domain: the Via's, and of what it leads to.
+// The pins of a source through the middle domain: of the Via, and of the entry to which it leads.
 const SOURCE_VIA: HeldPin = pin!(MIDDLE, 0, Read, VIA_4, 0x1000_3000_0003);
 
 const BEHIND_SOURCE: HeldPin = pin!(OWNER, 4, Read, page!(MIDDLE, false, 6), 0x1000_2000_0001);
@@ -61,7 +61,7 @@ const DEST_VIA: HeldPin = pin!(MIDDLE, 1, Write, VIA_5, 0x1000_3000_0003);
 
 const BEHIND_DEST: HeldPin = pin!(OWNER, 5, Write, page!(MIDDLE, false, 7), 0x1000_2000_0001);
 
-// In an entry the number of the caller's own domain is no domain, and not the caller.
+// In an entry, the number `DOMID_SELF` is not a domain, and not the caller.
 const VIA_TO_SELF: HeldPin = HeldPin {
     entry: via!(CALLER, false, SELF, GrantRef(4)),
     ..SOURCE_VIA
@@ -74,7 +74,7 @@ const VIA_TO_CALLER: HeldPin = HeldPin {
 
 const PAGE_OF_CALLER: HeldPin = pin!(CALLER, 4, Read, page!(MIDDLE, false, 6), 0x1000_2000_0001);
 
-// Other entries after a Via, and parts of pages in the place of each entry.
+// Other entries after a Via, and parts of pages instead of each entry.
 const VIA_BEHIND_SOURCE: HeldPin = HeldPin {
     entry: via!(MIDDLE, false, CALLER, GrantRef(0)),
     word: 0x1000_2000_0003,
@@ -99,7 +99,7 @@ const SUB_AT_DEST: HeldPin = pin!(MIDDLE, 1, Write, SUB_FOR_CALLER, 0x1000_3000_
 
 const SUB_BEHIND_DEST: HeldPin = pin!(OWNER, 5, Write, SUB_FOR_MIDDLE, 0x1000_2000_0009);
 
-// The places that are copied from and to: in frames of the caller and of the owner.
+// The spots that are copied from and to: in frames of the caller and of the owner.
 const CALLERS_3: Spot = spot!(CALLER, 3, 0);
 
 const CALLERS_4: Spot = spot!(CALLER, 4, 0);
@@ -110,7 +110,7 @@ const OWNERS_6: Spot = spot!(OWNER, 6, 0);
 
 const OWNERS_7: Spot = spot!(OWNER, 7, 0);
 
-// The access.
+// The access of a copy.
 macro_rules! access {
     ($from:expr, $to:expr, $len:expr) => {
         unseen!(CallStep::Copy {
@@ -165,7 +165,7 @@ pub const COPIES: [Row; 15] = [
             GRANTED,
         ],
     ),
-    // A range past a frame is refused.
+    // A range beyond a frame is refused.
     (
         CALLER,
         Copy(copy!(end!(0, OWNER, 1), FRAME_3, 4_096, 1)),
@@ -179,7 +179,7 @@ pub const COPIES: [Row; 15] = [
         1,
         &[Refused(Rule::N4, Facts::None)],
     ),
-    // A large number is no reference.
+    // A number above 32 bits is not a reference.
     (
         CALLER,
         Copy(copy!(end!(4_294_967_296, OWNER, 0), FRAME_3, 4, 1)),
@@ -195,7 +195,7 @@ pub const COPIES: [Row; 15] = [
             ),
         ],
     ),
-    // The page that was looked at first is a sub-page at the next try.
+    // The page that was looked at first is a sub-page in the next try.
     (
         CALLER,
         FROM_OWNER,
@@ -209,7 +209,7 @@ pub const COPIES: [Row; 15] = [
             GRANTED,
         ],
     ),
-    // A word with all pins is looked at twice: the first time it is another then, the second time not.
+    // A word with all pins is looked at twice. The first time it has changed since, the second time not.
     (
         CALLER,
         FROM_OWNER,
@@ -262,7 +262,7 @@ pub const COPIES: [Row; 15] = [
             RefusedAt(Rule::N15, VIA_BEHIND_SOURCE),
         ],
     ),
-    // Beyond a Via the entry must name the owner of the Via, and not the caller.
+    // After a Via the entry must name the owner of the Via, and not the caller.
     (
         CALLER,
         FROM_MIDDLE,
@@ -305,7 +305,7 @@ pub const COPIES: [Row; 15] = [
             RefusedAt(Rule::N13, READ_ONLY_BEHIND_DEST),
         ],
     ),
-    // The longest copy: each first leg misses a sub-page three times, and each second leg takes one in its last try.
+    // The longest copy: each first leg meets a sub-page three times, and each second leg takes one in its last try.
     (
         CALLER,
         THROUGH_MIDDLE,
@@ -322,7 +322,7 @@ pub const COPIES: [Row; 15] = [
     ),
 ];
 
-/// A caller that may copy only to the middle domain: a Via asks for the owners of both frames.
+/// A caller that may copy only to the middle domain: a Via needs the rights to the owners of both frames.
 pub const TO_MIDDLE: [Row; 1] = [(
     CALLER,
     Copy(copy!(FRAME_3, MIDDLE_1, 4, 2)),

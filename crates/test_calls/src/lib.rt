@@ -1,7 +1,7 @@
-//! Tests of calls, over what `gt_calls` makes public: each is a driver that says what its steps saw.
+//! Tests of `gt_calls` over its public items. Each drives a call, and reports to it what its steps saw.
 //!
-//! They say what no contract says: whole calls, step by step, with worked words of the public header, and that
-//! what they need of memory is had if there is enough.
+//! They test what no contract specifies: whole calls, step by step, with worked words of `grant_table.h`, and that
+//! allocations succeed if there is enough memory.
 #![tactic(auto)]
 
 #[cfg(test)]

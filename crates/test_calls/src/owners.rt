@@ -1,4 +1,4 @@
-//! Maps, owners' calls and calls by a handle: what is asked, and the parts of each call.
+//! Maps, owners' calls and calls by a handle: the requests, and the parts of each call.
 use crate::script::Part::{self, Ends, Header, Leg, Refused, RefusedAt, Step, Try};
 use crate::script::{CALLER, GRANTED, OWNER, Row, pin, unseen};
 use gt_calls::{
@@ -12,7 +12,7 @@ use test_rows::page;
 /// The entry of the owner's page.
 pub const PAGE: Entry = page!(CALLER, false, 5);
 
-// Its words without a pin, and with one read pin.
+// Its control words without a pin, and with one read pin.
 const IDLE: u64 = 0x1000_3000_0001;
 
 const PINNED: u64 = 0x1000_3000_0011;
@@ -20,7 +20,7 @@ const PINNED: u64 = 0x1000_3000_0011;
 /// The pin of a map of it.
 pub const MAPPING: HeldPin = pin!(OWNER, 0, Write, PAGE, IDLE);
 
-// A map looked at the page, and misses it.
+// A try of a map of the page that is missed.
 const MISSES_MAPPING: Part = Try(MAPPING, Observation::Missed(PINNED));
 
 const MAP: Request = Request::Map {
@@ -29,7 +29,7 @@ const MAP: Request = Request::Map {
     flags: 2,
 };
 
-/// A map pins what it looked at, or misses it four times.
+/// A map pins the entry that it looked at, or misses it four times.
 pub const MAPS: [Row; 2] = [
     (
         CALLER,
@@ -62,7 +62,7 @@ const WITHDRAW: Request = Request::Withdraw { gref: GrantRef(1) };
 
 const REVOKE: Request = Request::Revoke { gref: GrantRef(1) };
 
-// An exchange by the owner: reference, the word that was looked at, the change, and what it sees.
+// An exchange by the owner: reference, the word that was looked at, the change, and the observation.
 macro_rules! exchange {
     ($gref:expr, $looked:expr, $change:expr, $seen:expr) => {
         Step(
@@ -83,7 +83,7 @@ const STORES_BODY: Part = unseen!(CallStep::StoreBody {
     word: 5,
 });
 
-// A withdrawal looks at an entry with a read pin, and misses it.
+// A withdrawal that looks at an entry with a read pin, and misses it.
 const WITHDRAWAL_LOOKS: Part = Step(
     CallStep::LookControl {
         dom: OWNER,
@@ -99,7 +99,7 @@ const WITHDRAWAL_MISSES: Part = exchange!(
     Observation::Missed(IDLE)
 );
 
-/// An owner that grants or revokes looks at nothing: its entry 0 was never granted, and its entry 1 is of the page.
+/// An owner that grants or revokes looks at nothing. Its entry 0 was never granted, and its entry 1 grants the page.
 pub const OWNERS: [Row; 5] = [
     (
         OWNER,
@@ -160,7 +160,7 @@ pub const OWNERS: [Row; 5] = [
     ),
 ];
 
-// A handle that was taken, and the one that has its key now.
+// A handle that was unmapped, and the one that has its key now.
 pub const OLDER: Handle = Handle { serial: 0, key: 0 };
 
 pub const HANDLE: Handle = Handle { serial: 1, key: 0 };

@@ -20,27 +20,27 @@ pub const CALLER: DomId = DomId(3);
 /// The header word of a table of version 2 and one frame.
 pub const HEADER: u64 = 6;
 
-/// The caller, what it asks, how many actions its call gives, and the parts of the call.
+/// The caller, its request, the number of actions of its call, and the parts of the call.
 pub type Row = (DomId, Request<'static>, usize, &'static [Part]);
 
 /// A part of a call: some of its steps with what they see, or its end.
 #[derive(Clone, Copy)]
 pub enum Part {
-    /// This step, which sees this.
+    /// This step, with this observation.
     Step(Step, Observation),
     /// A look at the header of a domain.
     Header(DomId),
-    /// A look at the control word of the entry of this pin, which is the word that the pin is taken from.
+    /// A look at the control word of the entry of this pin, which is the word from which the pin is taken.
     Control(HeldPin),
     /// The looks at the body words of the entry of this pin.
     Body(HeldPin),
-    /// A try of this pin: the looks at its entry, and the pin, which sees this.
+    /// A try of this pin: the looks at its entry, and the pin, with this observation.
     Try(HeldPin, Observation),
     /// A leg whose first try takes this pin.
     Leg(HeldPin),
-    /// A leg that misses the first pin three times, since there is a read pin more, before it takes the other.
+    /// A leg that misses the first pin three times, since there is one more read pin, before it takes the other.
     LongLeg(HeldPin, HeldPin),
-    /// These pins are given back, the last one first.
+    /// These pins are released, the last one first.
     Unpin(&'static [HeldPin]),
     Ends(CallResult),
     Refused(Rule, Facts),
@@ -48,7 +48,7 @@ pub enum Part {
     RefusedAt(Rule, HeldPin),
 }
 
-/// The call ends, and does what was asked.
+/// The call ends, and has done what was requested.
 pub const GRANTED: Part = Part::Ends(CallResult::Granted);
 
 // A step that sees nothing.
@@ -58,7 +58,7 @@ macro_rules! unseen {
     };
 }
 
-// A pin: domain, reference, direction, entry, and the word that it is taken from.
+// A pin: domain, reference, direction, entry, and the word from which it is taken.
 macro_rules! pin {
     ($dom:expr, $gref:expr, $dir:ident, $entry:expr, $word:expr) => {
         HeldPin {
@@ -74,7 +74,7 @@ macro_rules! pin {
 pub(crate) use pin;
 pub(crate) use unseen;
 
-/// A driver's part of a call: what each step sees, and the action that the call then gives.
+/// A driver's script of a call: what each step sees, and the action that the call then gives.
 #[derive(Drop)]
 pub struct Script {
     pub lines: Vec<(Observation, Action)>,
@@ -82,7 +82,7 @@ pub struct Script {
 }
 
 impl Script {
-    /// The script of these parts.
+    /// Makes the script of these parts.
     pub fn new(alloc: Global, parts: &[Part]) -> Result<Script, Memory> {
         let mut script = Script {
             lines: Vec::new(alloc),
@@ -228,7 +228,7 @@ const DOMAINS: [DomainConfig; 3] = [
     },
 ];
 
-/// Three domains whose labels are numbered as they are.
+/// Returns three domains whose types have their numbers.
 pub fn three_domains(alloc: Global) -> Result<Roster, StartFault> {
     let Ok(domains) = DOMAINS.to_vec(alloc) else {
         return Err(StartFault::Memory);
@@ -240,7 +240,7 @@ pub fn three_domains(alloc: Global) -> Result<Roster, StartFault> {
     Roster::new(alloc, config)
 }
 
-/// The rights to all that is given, of each of these pairs.
+/// Returns all these permissions, for each of these pairs.
 pub fn rights(alloc: Global, perms: &[Perms], pairs: &[(DomId, DomId)]) -> Result<Triples, Memory> {
     let mut allowed = Vec::new(alloc);
     for pair in pairs {
@@ -255,7 +255,7 @@ pub fn rights(alloc: Global, perms: &[Perms], pairs: &[(DomId, DomId)]) -> Resul
     Ok(Triples { allowed })
 }
 
-/// What a domain with a table of version 2 and one frame knows.
+/// Returns what a domain with a table of version 2 and one frame knows.
 pub fn known<'a>(
     config: &'a Roster,
     rights: &'a Triples,
@@ -274,7 +274,7 @@ pub fn known<'a>(
     }
 }
 
-/// Whether the caller's request goes by the script.
+/// Returns whether the caller's request follows the script.
 pub fn goes(
     known: &CallerState<'_, Triples>,
     caller: DomId,

@@ -1,4 +1,4 @@
-//! What is done to a machine in a test, and what comes of it, in words.
+//! The actions of a test on a core, and their results as texts.
 use gt_core::{
     Answer, Begun, Core, Element, EntryView, Event, Handle, Item, ItemEvent, Observation, Request,
     Spot, Step, Ticked,
@@ -17,12 +17,12 @@ pub const PEER: DomId = DomId(2);
 
 pub const OTHER: DomId = DomId(3);
 
-// The flags of a map.
+// The GNTMAP flags of a map.
 pub const WRITABLE: u32 = 2;
 
 pub const READ_ONLY: u32 = 6;
 
-// Requests in one line each: their fields in order. What is mapped is the owner's.
+// Requests in one line each: their fields in order. The entries that are mapped are the owner's.
 macro_rules! grant {
     ($gref:expr, $entry:expr) => {
         Request::Grant {
@@ -89,10 +89,10 @@ pub(crate) use peek;
 pub(crate) use poke;
 pub(crate) use store;
 
-// No call takes more steps.
+// The maximum number of steps of a call.
 const MOST_STEPS: u32 = 71;
 
-/// Three domains whose labels are numbered as they are, with 8 frames and one table frame each.
+/// Returns a configuration of three domains whose types have their numbers, with 8 frames and one table frame each.
 pub fn three_domains(alloc: Global, version: u32) -> Result<Config, Memory> {
     let domain = DomainConfig {
         id: OWNER,
@@ -117,8 +117,8 @@ pub fn three_domains(alloc: Global, version: u32) -> Result<Config, Memory> {
     })
 }
 
-/// The peer and the other may map the owner's pages and unmap them, and may read each other's; each domain may query
-/// each and set up itself.
+/// Returns the rights of most tests. The peer and the other may map and unmap the owner's pages. The owner may map the
+/// peer's pages for reading, and the peer the other's. The owner may set up its own table, and the peer may query it.
 pub fn rights(alloc: Global) -> Result<Triples, Memory> {
     let mut allowed = Vec::new(alloc);
     for (source, target, perm) in [
@@ -142,7 +142,7 @@ pub fn rights(alloc: Global) -> Result<Triples, Memory> {
     Ok(Triples { allowed })
 }
 
-/// A machine of the three domains, in which besides bytes may be copied from the first domain of each pair to the
+/// Starts a core of the three domains. In addition, bytes may be copied from the first domain of each pair to the
 /// second.
 pub fn start(
     alloc: Global,
@@ -160,7 +160,7 @@ pub fn start(
     Core::new(alloc, three_domains(alloc, version)?, rights)
 }
 
-/// What is done to a machine.
+/// An action on a core.
 #[derive(Clone, Copy)]
 pub enum Doing<'a> {
     /// A whole call: its answer.
@@ -169,20 +169,20 @@ pub enum Doing<'a> {
     Steps(DomId, Request<'a>),
     /// Only the beginning of a call.
     Begin(DomId, Request<'a>),
-    /// So many ticks of the domain, or fewer if its call ends: the answer, if it ended.
+    /// This number of ticks of the domain, or fewer if its call ends: the answer, if it ended.
     Tick(DomId, u32),
-    /// A look at an owner's entry from outside.
+    /// A view of an owner's entry from outside.
     Show(u32),
 }
 
-/// What is done, and what must come of it.
+/// An action, and its expected result.
 pub type Row = (Doing<'static>, &'static str);
 
 fn word_said(alloc: Global, word: u64) -> Result<String, AllocError> {
     format!(in alloc; " {word:x}")
 }
 
-/// An answer: `ok` with its values, or the rule that stood and what it rests on: the word that was seen, in
+/// Returns an answer as a text: `ok` with its values, or the rule that refused and what decided it: the word seen, in
 /// hexadecimal digits, the field, or the two types and the permission.
 pub fn answer_said(alloc: Global, answer: &Answer) -> Result<String, AllocError> {
     match answer {
@@ -208,7 +208,7 @@ pub fn answer_said(alloc: Global, answer: &Answer) -> Result<String, AllocError>
     }
 }
 
-/// What a step saw: a word in hexadecimal digits, `taken` or `missed` with the word found; `-` for nothing.
+/// Returns what a step saw: a word in hexadecimal digits, `taken` or `missed` with the word found; `-` for nothing.
 fn seen_said(alloc: Global, seen: Observation) -> Result<String, AllocError> {
     match seen {
         Observation::Nothing => String::from_str(alloc, " -"),
@@ -218,7 +218,7 @@ fn seen_said(alloc: Global, seen: Observation) -> Result<String, AllocError> {
     }
 }
 
-// What an entry shows, with its status word.
+// Returns the view of an entry, with its status word.
 fn shown_said(alloc: Global, shown: Option<EntryView>) -> Result<String, AllocError> {
     let Some(shown) = shown else {
         return String::from_str(alloc, "none");
@@ -233,7 +233,7 @@ fn shown_said(alloc: Global, shown: Option<EntryView>) -> Result<String, AllocEr
     format!(in alloc; "{entry:?} gen={generation} reads={reads} writes={writes} status={status:x}")
 }
 
-// The answer of the open call, if it ends within so many ticks.
+// Returns the answer of the open call, if it ends within this number of ticks.
 fn ended(core: &mut Core<Triples>, dom: DomId, ticks: u32) -> Result<Option<Answer>, Fail> {
     for _ in 0..ticks {
         if let Ticked::Done(_, _, answer) = core.tick(dom)? {
@@ -243,7 +243,7 @@ fn ended(core: &mut Core<Triples>, dom: DomId, ticks: u32) -> Result<Option<Answ
     Ok(None)
 }
 
-// What came of a call that was begun.
+// Returns the result of a call that was begun.
 fn call_said(
     alloc: Global,
     core: &mut Core<Triples>,
@@ -263,7 +263,7 @@ fn call_said(
     Ok(text)
 }
 
-// The steps of the open call with what each saw, and its answer.
+// Returns the steps of the open call with what each saw, and its answer.
 fn steps_said(alloc: Global, core: &mut Core<Triples>, dom: DomId) -> Result<String, Fail> {
     let mut out = String::new(alloc);
     for _ in 0..MOST_STEPS {
@@ -283,8 +283,8 @@ fn steps_said(alloc: Global, core: &mut Core<Triples>, dom: DomId) -> Result<Str
     Ok(out)
 }
 
-// A step, most of them by a letter, with the numbers of its domain and entry or frame. A look at a header is H, at a
-// control word C, at a body word B; a pin is P, an unpin U, the access of a copy A, and a store of a header S.
+// Returns a step, most of them by a letter, with the numbers of its domain and entry or frame. A look at a header is H,
+// at a control word C, at a body word B; a pin is P, an unpin U, the access of a copy A, and a store of a header S.
 fn step_said(alloc: Global, step: Step) -> Result<String, AllocError> {
     match step {
         Step::LookHeader { dom } => format!(in alloc; "H {}", dom.0),
@@ -315,7 +315,7 @@ fn place_said(alloc: Global, place: Spot) -> Result<String, AllocError> {
     )
 }
 
-/// What comes of it.
+/// Takes the action, and returns its result as a text.
 pub fn said(alloc: Global, core: &mut Core<Triples>, doing: Doing<'_>) -> Result<String, Fail> {
     match doing {
         Doing::Do(dom, request) => {
@@ -335,7 +335,8 @@ pub fn said(alloc: Global, core: &mut Core<Triples>, doing: Doing<'_>) -> Result
     }
 }
 
-/// What each event did, a line each: its domain, `begins` or what its step saw, and the answer if the call ended.
+/// Returns what each event did, one line each: its domain, `begins` or what its step saw, and the answer if the call
+/// ended.
 pub fn trace_said(alloc: Global, trace: &[Element]) -> Result<String, AllocError> {
     let mut out = String::new(alloc);
     for element in trace {
@@ -364,7 +365,7 @@ pub fn trace_said(alloc: Global, trace: &[Element]) -> Result<String, AllocError
     Ok(out)
 }
 
-/// So many ticks of the domain.
+/// Appends this number of ticks of the domain.
 pub fn add_ticks(events: &mut Vec<Event<'_>>, dom: DomId, ticks: u32) -> Result<(), Memory> {
     for _ in 0..ticks {
         events.push(Event::Tick(dom))?;
@@ -372,7 +373,7 @@ pub fn add_ticks(events: &mut Vec<Event<'_>>, dom: DomId, ticks: u32) -> Result<
     Ok(())
 }
 
-/// The events of a call: its beginning, and so many ticks.
+/// Appends the events of a call: its beginning, and this number of ticks.
 pub fn add_call<'a>(
     events: &mut Vec<Event<'a>>,
     dom: DomId,

@@ -1,7 +1,7 @@
-//! Tests of the machine over events, over what its crate makes public.
+//! Tests of `gt_core` over its public items.
 //!
-//! They say what no contract says: worked runs with the answer of each call, and that a call goes on if
-//! memory is refused.
+//! They test what no contract specifies: worked runs with the answer of each call, and that a call can continue after a
+//! failed allocation.
 #![tactic(auto)]
 
 #[cfg(test)]

@@ -1,5 +1,5 @@
-//! Runs in which a request for memory is refused. With tools/refused.sh, which refuses each in turn: what is asked
-//! again is answered as it is without a refusal, a tick as well as a beginning.
+//! Runs in which an allocation fails. tools/refused.sh makes each fail in turn: a tick or a beginning that is asked
+//! again is answered as without a failure.
 use crate::doing::{OWNER, PEER, load, peek, poke, rights, start, store, three_domains};
 use crate::runs::{FIRST_HANDLE, GRANT, MAP_RO, MAP_RW, REVOKE};
 use gt_core::{
@@ -11,8 +11,7 @@ use std::process::Abort;
 use std::test::Fail;
 use test_rows::{copy, end};
 
-// A machine of three domains in which bytes may be copied between these pairs. It is asked for twice if memory was
-// refused.
+// Starts a core of three domains in which bytes may be copied between these pairs. Tries again if an allocation failed.
 fn started(
     rt: &impl Abort,
     alloc: Global,
@@ -27,7 +26,7 @@ fn started(
     }
 }
 
-// The next tick, asked for twice if memory was refused: that leaves the core as it was.
+// Makes the next tick, and again if an allocation failed, which must leave the core unchanged.
 fn ticked(rt: &impl Abort, core: &mut Core<Triples>, dom: DomId) -> Result<Ticked, Fail> {
     let before = core.show(OWNER, GrantRef(0));
     match core.tick(dom) {
@@ -39,7 +38,7 @@ fn ticked(rt: &impl Abort, core: &mut Core<Triples>, dom: DomId) -> Result<Ticke
     }
 }
 
-// The answer of the open call, if it has one.
+// Returns the answer of the open call, if it has one.
 fn ended(rt: &impl Abort, core: &mut Core<Triples>, dom: DomId) -> Result<Option<Answer>, Fail> {
     for _ in 0..71 {
         if let Ticked::Done(_, _, answer) = ticked(rt, core, dom)? {
@@ -49,7 +48,7 @@ fn ended(rt: &impl Abort, core: &mut Core<Triples>, dom: DomId) -> Result<Option
     Ok(None)
 }
 
-// The answer of a whole call whose memory may be refused once: that leaves the core as it was.
+// Returns the answer of a whole call in which one allocation may fail, which must leave the core unchanged.
 fn ask(
     rt: &impl Abort,
     core: &mut Core<Triples>,
@@ -72,7 +71,7 @@ fn ask(
     Ok(answer.ok_or("the call is still open")?)
 }
 
-// What a call is answered.
+// The expected answer of a call.
 #[derive(Clone, Copy)]
 enum Told<'a> {
     Done,
@@ -90,7 +89,7 @@ fn is_told(answer: &Answer, told: Told<'_>) -> bool {
     }
 }
 
-// Whole calls, with what each is answered.
+// Makes whole calls, and compares the answer of each.
 fn goes(
     rt: &impl Abort,
     core: &mut Core<Triples>,
@@ -103,7 +102,7 @@ fn goes(
     Ok(())
 }
 
-// The read pins of the owner's entry 0.
+// Counts the read pins of the owner's entry 0.
 fn reads(core: &Core<Triples>) -> Option<u16> {
     match core.show(OWNER, GrantRef(0)) {
         Some(shown) => Some(shown.reads),
@@ -184,7 +183,7 @@ fn poke(bytes: &[u8]) -> Request<'_> {
     poke!(5, 0, bytes)
 }
 
-// A copy of one byte of the owner's page to this offset of a frame of the peer's own.
+// Returns a copy of one byte of the owner's page to this offset of one of the peer's own frames.
 fn copy(offset: u16) -> Request<'static> {
     Request::Copy(copy!(end!(0, OWNER, 0), end!(3, PEER, offset), 1, 1))
 }
@@ -223,7 +222,7 @@ const EVENTS: [Event; 8] = [
     Event::Tick(PEER),
 ];
 
-// Whether the element ends its call with Ok.
+// Returns whether the element ends its call with Ok.
 fn ends_ok(element: Option<&Element>) -> bool {
     match element {
         Some(

@@ -1,4 +1,4 @@
-//! As many pins on one entry as it can have, and the trace of a try that is missed.
+//! As many pins on one entry as it can have, and the trace of a missed try.
 use crate::doing::Doing::{Do, Show};
 use crate::doing::{
     OWNER, PEER, Row, add_call, add_ticks, rights, start, three_domains, trace_said,
@@ -39,7 +39,7 @@ fn all_read_pins_and_one_write_pin(rt: HostRuntime) -> Result<(), Fail> {
     goes(&rt, &mut core, alloc, &BEHIND_ALL_READ_PINS)
 }
 
-// The trace of these events on a machine of the three domains.
+// Returns the trace of these events on a core of the three domains.
 fn played(alloc: Global, events: &[Event<'_>]) -> Result<String, Fail> {
     let trace = play(alloc, three_domains(alloc, 1)?, rights(alloc)?, events)?;
     Ok(trace_said(alloc, &trace)?)

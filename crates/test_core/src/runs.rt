@@ -1,4 +1,4 @@
-//! Whole runs: what is done, and what must come of each.
+//! Whole runs: the actions, with the expected result of each.
 mod accesses;
 mod copies;
 mod tables;
@@ -22,7 +22,8 @@ use std::process::Abort;
 use std::test::Fail;
 use test_rows::page;
 
-/// The version of the tables, the pairs of domains that may be copied from and to, what is done first, and what then.
+/// A run: the version of the tables, the pairs of domains that may be copied from and to, the first actions, and the
+/// others.
 pub type Run = (
     u32,
     &'static [(DomId, DomId)],
@@ -30,7 +31,7 @@ pub type Run = (
     &'static [Row],
 );
 
-// The calls on the owner's entry 0, if nothing else is said; the page is of frame 5 and for the peer.
+// The calls on the owner's entry 0. Most use a page entry with frame 5, for the peer.
 pub const GRANT: Request = grant!(0, page!(PEER, false, 5));
 
 pub const GRANT_RO: Request = grant!(0, page!(PEER, true, 5));
@@ -45,7 +46,7 @@ pub const MAP_RO: Request = map!(0, READ_ONLY);
 
 pub const MAP_RW: Request = map!(0, WRITABLE);
 
-// The first mapping of a domain has the first handle. A key serves again once its mapping was given up.
+// The first mapping of a domain has the first handle. A key is used again once its mapping was unmapped.
 pub const FIRST_HANDLE: Handle = Handle { serial: 0, key: 0 };
 
 pub const SECOND_HANDLE: Handle = Handle { serial: 1, key: 0 };
@@ -64,10 +65,10 @@ const UNMAP_SECOND: Request = Request::Unmap {
     handle: SECOND_HANDLE,
 };
 
-// Another page in its place.
+// Another page in the same entry.
 pub const GRANT_ANOTHER: Request = grant!(0, page!(PEER, false, 6));
 
-// What most runs begin with: a grant, or a grant and a map of it.
+// The first actions of most runs: a grant, or a grant and a map of it.
 pub const GRANTED: [Row; 1] = [(Do(OWNER, GRANT), "ok")];
 
 pub const GRANTED_RO: [Row; 1] = [(Do(OWNER, GRANT_RO), "ok")];
@@ -76,7 +77,7 @@ const MAPPED_RO: [Row; 2] = [(Do(OWNER, GRANT), "ok"), (Do(PEER, MAP_RO), "ok 0.
 
 const MAPPED_RW: [Row; 2] = [(Do(OWNER, GRANT), "ok"), (Do(PEER, MAP_RW), "ok 0.0")];
 
-// Three tries of a map are missed, for a demotion or a promotion since the look of each.
+// Three tries of a map are missed, each because of a demotion or promotion after its look.
 const THREE_MISSED_TRIES: [Row; 9] = [
     (Do(OWNER, GRANT), "ok"),
     (Begin(PEER, MAP_RO), "open"),
@@ -122,7 +123,7 @@ const READ_ONLY_PAGE: [Row; 4] = [
     ),
 ];
 
-// That the entry is of another domain comes before that it is read-only.
+// The check for the domain comes before the one for read-only.
 const ANOTHER_DOMAIN: [Row; 2] = [
     (Do(OTHER, MAP_RW), "N11 100020000005"),
     (Do(PEER, MAP_RW), "N13 100020000005"),
@@ -147,7 +148,7 @@ const FOURTH_TRY: [Row; 2] = [
     ),
 ];
 
-// A frame, and references, past the last ones.
+// A frame, and references, beyond the last ones.
 const PAST_THE_LAST: [Row; 5] = [
     (Do(OWNER, grant!(0, page!(PEER, false, 8))), "ok"),
     (Do(PEER, MAP_RO), "N16 100020000001"),
@@ -168,7 +169,7 @@ const DEMOTED_UNDER_A_PIN: [Row; 5] = [
     ),
 ];
 
-// A handle that was taken names no later mapping, though its key serves again.
+// A handle that was unmapped names no later mapping, though its key is used again.
 const TAKEN_HANDLE: [Row; 7] = [
     (Do(PEER, UNMAP), "ok"),
     (Do(PEER, MAP_RO), "ok 1.0"),
@@ -179,7 +180,7 @@ const TAKEN_HANDLE: [Row; 7] = [
     (Do(PEER, UNMAP_SECOND), "N6"),
 ];
 
-// Each run with the version of the tables; no bytes may be copied from one domain to another.
+// Each run with the version of the tables. No bytes may be copied from one domain to another.
 const RUNS: [Run; 19] = [
     (1, &[], &MAPPED_RW, &REVOKE_BEFORE_THE_UNPIN),
     (1, &[], &GRANTED, &ANOTHER_GRANT_BEFORE_THE_PIN),
@@ -202,7 +203,7 @@ const RUNS: [Run; 19] = [
     (2, &[], &[], &STEPS_OF_GRANTS),
 ];
 
-/// A run: beside each thing done is what comes of it.
+/// Plays a run, and compares the result of each action.
 pub fn goes(
     rt: &impl Abort,
     core: &mut Core<Triples>,
@@ -216,7 +217,7 @@ pub fn goes(
     Ok(())
 }
 
-// Each run goes on a machine of its own.
+// Plays each run on its own core.
 fn all_go(rt: &impl Abort, alloc: Global, runs: &[Run]) -> Result<(), Fail> {
     for (version, pairs, first, then) in runs {
         let mut core = start(alloc, *version, pairs)?;

@@ -1,22 +1,22 @@
--- The ways of two counters that have nothing to do with each other.
+-- The runs of two independent counters.
 use Rattle.std.specs.Prelude.{◌≡◌, ◌⊎◌, ◌++◌, ◌<◌, ◌+◌, ℕ, zero, suc, List, [], ◌∷◌, refl}
 use Rattle.gt_explore_replay.specs.declared.replay.Turn.{Turn}
 use Rattle.gt_explore_search.specs.Ways.{Ways}
 use Rattle.test_explore_search.specs.declared.apart.Apart.{Apart}
 use Rattle.test_explore_search.specs.declared.apart.Place.{Place}
 
--- where a run is: how far each counter has come, and what each has printed
+-- the point of a run: the value of each counter, and what each has printed
 pub record Spot : Type 0 where
   pub first : ℕ
   pub second : ℕ
   pub text : List ℕ
   pub other : List ℕ
 
--- the first counter goes on
+-- the first counter counts
 abbrev pub first_on : Spot → Spot
 first_on p = record { first = p.first + 1; second = p.second; text = p.text ++ p.first ∷ []; other = p.other }
 
--- the second counter goes on
+-- the second counter counts
 abbrev pub second_on : Spot → Spot
 second_on p = record { first = p.first; second = p.second + 1; text = p.text; other = p.other ++ p.second ∷ [] }
 
@@ -26,7 +26,7 @@ first_turn = record { place = 0; choice = 0 }
 abbrev pub second_turn : Turn
 second_turn = record { place = 1; choice = 0 }
 
--- by this turn a counter that is below the limit goes on
+-- by this turn a counter below the limit counts
 abbrev pub CountsOn : ℕ → Spot → Turn → Spot → Type 0
 CountsOn limit p turn q =
     ((turn ≡ first_turn) × (p.first < limit) × (q ≡ first_on p))
@@ -36,7 +36,7 @@ CountsOn limit p turn q =
 abbrev pub IsUnbegun : Spot → Type 0
 IsUnbegun p = (p.first ≡ 0) × (p.second ≡ 0) × (p.text ≡ []) × (p.other ≡ [])
 
--- what the counter at this place has printed
+-- what the counter at this position has printed
 abbrev pub printed_at : Spot → ℕ → List ℕ
 printed_at p zero = p.text
 printed_at p (suc zero) = p.other
@@ -48,7 +48,7 @@ blank_at p first zero = first.2
 blank_at p first (suc zero) = first.3
 blank_at p first (suc (suc at)) = refl
 
--- the ways of two counters
+-- the runs of two counters
 abbrev pub apart_ways : Apart → Ways Place
 apart_ways counters = record {
   Point = Spot;

@@ -1,17 +1,17 @@
--- The ways of two counters.
+-- The runs of two counters.
 use Rattle.std.specs.Prelude.{◌≡◌, ◌⊎◌, ◌++◌, ◌<◌, ◌+◌, ℕ, zero, suc, List, [], ◌∷◌, refl}
 use Rattle.gt_explore_replay.specs.declared.replay.Turn.{Turn}
 use Rattle.gt_explore_search.specs.Ways.{Ways}
 use Rattle.test_explore_search.specs.declared.counters.Counters.{Counters}
 use Rattle.test_explore_search.specs.declared.counters.Tally.{Tally}
 
--- where a run is: how far each counter has come, and what the first one has printed
+-- the point of a run: the value of each counter, and what the first one has printed
 pub record Spot : Type 0 where
   pub first : ℕ
   pub second : ℕ
   pub text : List ℕ
 
--- by this turn a counter that is below the limit goes on; the first one prints how far the second one has come
+-- by this turn a counter below the limit counts; the first one prints the value of the second one
 abbrev pub CountsOn : ℕ → Spot → Turn → Spot → Type 0
 CountsOn limit p turn q =
     ((turn ≡ record { place = 0; choice = 0 }) × (p.first < limit)
@@ -23,7 +23,7 @@ CountsOn limit p turn q =
 abbrev pub IsUnbegun : Spot → Type 0
 IsUnbegun p = (p.first ≡ 0) × (p.second ≡ 0) × (p.text ≡ [])
 
--- what the counter at this place has printed
+-- what the counter at this position has printed
 abbrev pub printed_at : Spot → ℕ → List ℕ
 printed_at p zero = p.text
 printed_at p (suc at) = []
@@ -33,7 +33,7 @@ pub blank_at : (p : Spot) → IsUnbegun p → (at : ℕ) → printed_at p at ≡
 blank_at p first zero = first.2
 blank_at p first (suc at) = refl
 
--- the ways of two counters
+-- the runs of two counters
 abbrev pub counters_ways : Counters → Ways Tally
 counters_ways counters = record {
   Point = Spot;

@@ -1,18 +1,18 @@
-//! Two counters that have nothing to do with each other, as a space with fewer turns.
+//! Two independent counters, as a space with fewer turns.
 ghost use Rattle.test_explore_search.specs.Apart.{apart_ways};
 
 use gt_explore_replay::Turn;
 use gt_explore_search::{SearchFault, TransitionSystem, TurnResult};
 use std::alloc::{AllocError, Global};
 
-/// Two counters that count up to a limit, and print how far they have come.
+/// Two counters that count up to a limit, and print their values.
 #[derive(Drop)]
 pub struct Apart {
     pub alloc: Global,
     pub limit: u8,
 }
 
-/// How far each has come.
+/// The values of both, and a state of the space.
 #[derive(Drop)]
 pub struct Place {
     pub first: u8,

@@ -12,7 +12,7 @@ pub struct Counters {
     pub limit: u8,
 }
 
-/// How far each has come.
+/// The values of both, and a state of the space.
 #[derive(Drop)]
 pub struct Tally {
     pub first: u8,

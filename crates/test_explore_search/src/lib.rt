@@ -1,8 +1,8 @@
-//! Two spaces of two counters, and tests that all their texts are found.
+//! Two spaces of two counters, and tests that `gt_explore_search` finds all their texts.
 //!
-//! Both are a [`Space`], which is proved: so a space can keep what `gt_explore_search` asks of it. In one the first counter
-//! prints at each step how far the second one has come, so its text says in which order they counted. In the other the
-//! counters have nothing to do with each other, and one order is enough.
+//! Both are proved to be a `TransitionSystem`, so a space can keep all its promises. In one the first counter prints at
+//! each step the value of the second one, so its text shows in which order they counted. In the other the counters are
+//! independent, and one order is enough.
 #![tactic(auto)]
 
 mod apart;

@@ -3,7 +3,7 @@ use crate::counters::Counters;
 use gt_explore_search::{SearchResult, search};
 use std::test::Fail;
 
-// Whether an order has this text.
+// Returns whether an order has this text.
 fn has(found: &SearchResult, text: &[u8]) -> bool {
     for order in found.orders.as_slice() {
         if order.text.as_slice() == text {
@@ -13,7 +13,7 @@ fn has(found: &SearchResult, text: &[u8]) -> bool {
     false
 }
 
-// Up to two the first counter's lines rise from 0 to 2: there are six such texts, and nine states.
+// If both count up to two, the first counter's lines rise from 0 to 2: there are six such texts, and nine states.
 #[test]
 fn each_text_of_two_counters_is_found(rt: HostRuntime) -> Result<(), Fail> {
     let alloc = rt.alloc();
@@ -41,7 +41,7 @@ fn one_state_less_is_too_few(rt: HostRuntime) -> Result<(), Fail> {
     Ok(())
 }
 
-// Each counter prints its own way alone: there is one text, and seven states are enough of 16.
+// Each counter prints only its own values: there is one text, and seven states are enough of 16.
 #[test]
 fn the_one_text_of_counters_that_are_apart(rt: HostRuntime) -> Result<(), Fail> {
     let alloc = rt.alloc();

@@ -1,6 +1,6 @@
-//! Readers and writers in memory that fail after so many bytes, for the tests of crates that read and write.
+//! Readers and writers in memory that fail after a number of bytes, for the tests of crates that read and write.
 //!
-//! It promises nothing beyond the traits, and uses no other crate.
+//! They promise nothing beyond the traits `Read` and `Write`. The crate uses no other.
 #![tactic(auto)]
 
 mod lines;

@@ -1,8 +1,8 @@
-//! What a program prints of readers and writers that it let fail.
+//! The report of a program about readers and writers that it let fail.
 use std::alloc::{AllocError, Global};
 
-/// A line about what failed after each count of bytes: that each failure was told, or the first count after which one
-/// was not.
+/// Returns a line about the failures after each count of bytes: that each failure was reported, or the first count
+/// after which one was not.
 pub fn failing_line(
     alloc: Global,
     what: &str,

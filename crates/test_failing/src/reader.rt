@@ -1,7 +1,7 @@
 //! A reader that fails.
 use std::io::{self, ErrorKind, Read};
 
-/// A text of which so many bytes can be read; then each read fails.
+/// A text of which a number of bytes can be read. After them each read fails.
 #[derive(Drop)]
 pub struct FailingReader<'a> {
     bytes: &'a [u8],
@@ -13,7 +13,7 @@ pub struct FailingReader<'a> {
 }
 
 impl<'a> FailingReader<'a> {
-    /// Gives as many bytes as a read asks for, up to `left` of them. Then the connection is reset.
+    /// Makes a reader that gives as many bytes as a read asks for, up to `left` of them. Then the connection is reset.
     pub fn new(bytes: &'a [u8], left: usize) -> FailingReader<'a> {
         FailingReader {
             bytes,
@@ -25,8 +25,8 @@ impl<'a> FailingReader<'a> {
         }
     }
 
-    /// Gives at most `most` bytes a read, with an interruption before each read. After `left` bytes each read fails as
-    /// `end` says.
+    /// Makes a reader that gives at most `most` bytes per read, with an interruption before each read. After `left`
+    /// bytes each read fails with the kind `end`.
     pub fn interrupted(
         bytes: &'a [u8],
         left: usize,

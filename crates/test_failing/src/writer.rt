@@ -1,10 +1,10 @@
 //! A writer that fails.
 use std::io::{self, ErrorKind, Write};
 
-/// Takes so many bytes, a few at a time; then each write fails, and each flush.
+/// A sink for a number of bytes, a few at a time. After them each write fails, and each flush.
 #[derive(Drop)]
 pub struct FailingWriter {
-    /// What was written.
+    /// The bytes written.
     pub taken: Vec<u8>,
     left: usize,
     most: usize,
@@ -14,7 +14,7 @@ pub struct FailingWriter {
 }
 
 impl FailingWriter {
-    /// Takes `left` bytes after those of `taken`, three at a time. Then the pipe is broken.
+    /// Makes a writer that takes `left` bytes after those of `taken`, three at a time. Then the pipe is broken.
     pub fn new(taken: Vec<u8>, left: usize) -> FailingWriter {
         FailingWriter {
             taken,
@@ -26,8 +26,8 @@ impl FailingWriter {
         }
     }
 
-    /// Takes `left` bytes, at most `most` a write, with an interruption before each write. Then each
-    /// write fails as `end` says, or takes nothing.
+    /// Makes a writer that takes `left` bytes, at most `most` per write, with an interruption before each write. Then
+    /// each write fails with the kind `end`, or takes nothing.
     pub fn interrupted(
         taken: Vec<u8>,
         left: usize,
@@ -44,7 +44,7 @@ impl FailingWriter {
         }
     }
 
-    // The end, if it has come.
+    // Returns the end, if it is reached.
     fn is_at_end(&self) -> io::Result<bool> {
         if self.left != 0 {
             return Ok(false);

@@ -1,21 +1,22 @@
-//! All memory of the allocator, and what is let through of it.
+//! A holder of all memory of the allocator.
 use std::alloc::{AllocError, Global};
 
-// The first blocks have these many bytes, and each further one half of that: the largest that a system has addresses
-// for, down to those that only a freed block of the same size can serve.
+// The size of the first blocks in bytes. Each further size is half of that: from the largest that a system has
+// addresses for, down to those that only a freed block of the same size can serve.
 const LARGEST: usize = 1 << 40;
 
-// So many blocks can be held. A system with 2^47 bytes of addresses takes some 8,000 of 16 GiB.
+// The maximum number of blocks. A system with 2^47 bytes of addresses takes some 8,000 of 16 GiB.
 const BLOCKS: usize = 65_536;
 
-// The program's own room while the flood is open. The allocator maps such a block anew each time, and it has no place
-// for another heap of a thread.
+// The program's room while the flood is open. The allocator maps such a block anew each time, and it has no space for
+// another heap of a thread.
 const WINDOW: usize = 48 << 20;
 
-// Blocks below this size are then served from one heap, without a map of their own each.
+// Blocks below this size are then served from one heap, without their own maps.
 const HEAP: usize = 4 << 20;
 
-// Blocks from this size on go by halves, and smaller ones by steps, since a small one may wait in a list of its size.
+// Starting at this size blocks go by halves, and smaller ones by steps, since a small one may wait in a list of its
+// size.
 const SMALL: usize = 2_040;
 
 const STEP: usize = 16;
@@ -31,11 +32,11 @@ pub struct Flood {
 }
 
 impl Flood {
-    /// A flood that is open: some 48 MiB are left to the program.
+    /// Makes an open flood: some 48 MiB are left to the program.
     ///
     /// # Errors
     ///
-    /// If there is no room for the list of blocks, or the window.
+    /// There is no memory for the list of blocks, or for the window.
     pub fn new(alloc: Global) -> Result<Flood, AllocError> {
         let taken = Vec::with_capacity(alloc, BLOCKS)?;
         let heap: Vec<u8> = Vec::with_capacity(alloc, HEAP)?;
@@ -54,12 +55,12 @@ impl Flood {
         Ok(flood)
     }
 
-    /// Takes all that is left. From now on every request is refused, until some of the `gap` bytes are let through:
-    /// less than 4 MiB, which are held as one block.
+    /// Takes all that is left. After that every request fails, until some of the `gap` bytes are let through: less than
+    /// 4 MiB, which are held as one block.
     ///
     /// # Errors
     ///
-    /// If there is no room for that block. Then the flood is open.
+    /// There is no memory for that block. The flood is then open.
     pub fn close(&mut self, gap: usize) -> Result<(), AllocError> {
         self.open();
         let plug = Vec::with_capacity(self.alloc, gap)?;
@@ -70,7 +71,7 @@ impl Flood {
         Ok(())
     }
 
-    /// Lets so many bytes of the gap through, and answers whether the others are held back.
+    /// Lets this number of bytes of the gap through, and returns whether the others are held back.
     pub fn let_through(&mut self, bytes: usize) -> bool {
         self.plug = None;
         if bytes >= self.gap {
@@ -80,13 +81,13 @@ impl Flood {
         self.plug.is_some()
     }
 
-    /// Gives back what was taken since it was made.
+    /// Releases what was taken since it was made.
     pub fn open(&mut self) {
         self.plug = None;
         self.taken.truncate(self.base);
     }
 
-    // Takes blocks of this size until one is refused.
+    // Takes blocks of this size until a request fails.
     fn take_all(&mut self, size: usize) {
         for _ in 0..BLOCKS {
             if self.taken.len() >= BLOCKS {

@@ -27,7 +27,7 @@ impl Allows for Everything {
     }
 }
 
-// The words of two domains, and the seat of the first.
+// Makes the words of two domains, and the seat of the first.
 fn start(rt: &impl Abort, alloc: Global, config: &Config) -> Result<(Words, Seat), StartFault>
     ensures { IfOk result (λ r. IsSeatOf r.0 r.1) }
 {
@@ -39,7 +39,7 @@ fn start(rt: &impl Abort, alloc: Global, config: &Config) -> Result<(Words, Seat
     Ok((words, first))
 }
 
-// Writes four bytes to a frame of its own.
+// Writes four bytes to one of its own frames.
 fn wrote<R: Wait>(
     rt: &R,
     run: &AccessContext<'_, Everything>,
@@ -56,7 +56,7 @@ fn wrote<R: Wait>(
     write_by(rt, run, seat, visits, &AccessPath::Own, name, 0, &BYTES).is_ok()
 }
 
-// The place with this number and offset in a frame of its own.
+// Returns the spot with this number and offset in one of its own frames.
 fn own(seat: &Seat, place: (u64, u16)) -> Spot
     ensures { result ≡ record { frame = record { owner = seat.now.dom; number = place.0 }; off = place.1 } }
 {
@@ -69,7 +69,7 @@ fn own(seat: &Seat, place: (u64, u16)) -> Spot
     }
 }
 
-// Copies four bytes between two frames of its own.
+// Copies four bytes between two of its own frames.
 fn copied<R: Wait>(
     rt: &R,
     run: &AccessContext<'_, Everything>,
@@ -90,7 +90,7 @@ fn copied<R: Wait>(
         && copy_by(rt, run, seat, visits, &routes, source, dest, 4).is_ok()
 }
 
-// The first six bytes of a frame of its own.
+// Returns the first six bytes of one of its own frames.
 fn first_bytes<R: Wait>(
     rt: &R,
     alloc: Global,
@@ -111,7 +111,7 @@ fn first_bytes<R: Wait>(
     Ok(read_by(rt, run, seat, visits, &route, name, range, room))
 }
 
-// If a copy of four bytes begins and ends, frame and offset, whether it is made, and the first bytes of the frame
+// The two ends of a copy of four bytes, each as frame and offset, whether it is made, and the first bytes of the frame
 // written then.
 const COPIES: [((u64, u16), (u64, u16), bool, &str); 5] = [
     ((0, 0), (0, 1), true, "[1, 1, 2, 3, 4, 0]"),

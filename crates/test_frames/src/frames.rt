@@ -23,7 +23,7 @@ fn wrote(frames: &mut Frames, to: Spot, bytes: &[u8]) -> bool {
         && frames.write(to.frame, &writ, to.off, bytes).is_ok()
 }
 
-// Copies as the owner of the second place, if both frames have those ranges.
+// Copies as the owner of the second spot, if both frames have those ranges.
 fn copied(frames: &mut Frames, from: Spot, to: Spot, len: u16) -> bool {
     let writ = writ(to);
     frames.has_range(from.frame, Range { off: from.off, len })
@@ -31,7 +31,7 @@ fn copied(frames: &mut Frames, from: Spot, to: Spot, len: u16) -> bool {
         && frames.copy(&writ, from, to, len).is_ok()
 }
 
-// The first six bytes of a frame.
+// Returns the first six bytes of a frame.
 fn first_bytes(
     alloc: Global,
     frames: &Frames,
@@ -44,9 +44,9 @@ fn first_bytes(
     }
 }
 
-// If a copy begins and ends, its length, whether it is made, and the first bytes of the frame written then: two
-// frames of a domain, forth and back, one frame upwards and downwards over itself, and two frames of two domains, forth
-// and back.
+// The two ends of a copy, its length, whether it is made, and the first bytes of the frame written then: two frames of
+// a domain, in both directions, one frame upwards and downwards over itself, and two frames of two domains, in both
+// directions.
 const COPIES: [(Spot, Spot, u16, bool, &str); 11] = [
     (at!(1, 0, 0), at!(1, 1, 1), 4, true, "[0, 1, 2, 3, 4, 0]"),
     (at!(1, 1, 1), at!(1, 0, 2), 2, true, "[1, 2, 1, 2, 0, 0]"),

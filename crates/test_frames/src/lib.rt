@@ -1,13 +1,12 @@
 //! Tests of the frames of a run: plain (`gt_frames`), under locks, and by a seat of a domain (`gt_access`).
 //!
-//! They say what no contract says. By its contract a call could always answer `None`, `false` or `Memory`: the tests
-//! show that it does its work if there is memory, and what bytes a reader then finds. Each is a table of copies with
-//! the text of the frame that was written; two threads also copy between the same two frames.
+//! They test what no contract specifies. By its contract a call could always answer `None`, `false` or `Memory`. The
+//! tests show that it does its work if there is memory, and which bytes a reader then finds. Each is a table of copies
+//! with the text of the frame that was written. Two threads also copy between the same two frames.
 //!
-//! The domain with the seat meets the conditions of an access by what the calls of its seat ensured.
-//!
-//! The tests of a single frame are in `test_base`. This crate holds no code of its own. It uses `gt_frames`,
-//! `gt_access` and what these name: `gt_calls`, `gt_types` and `gt_words`.
+//! The domain with the seat meets the conditions of an access by what the calls of its seat ensured. The tests of a
+//! single frame are in `test_base`. It uses `gt_frames`, `gt_access` and what these name: `gt_calls`, `gt_roster`,
+//! `gt_types` and `gt_words`.
 #![tactic(auto)]
 
 #[cfg(test)]

@@ -1,4 +1,4 @@
-//! Two domains, places in their frames, and bytes as a text.
+//! Two domains, spots in their frames, and bytes as a text.
 use gt_frames::Read;
 use gt_types::{Config, DomId, DomainConfig, Memory, TypeId};
 use std::alloc::{AllocError, Global};
@@ -11,7 +11,7 @@ const DOMAIN: DomainConfig = DomainConfig {
     version: 1,
 };
 
-/// The domains 1 and 2, each of two frames.
+/// Returns a configuration of the domains 1 and 2, each with two frames.
 pub fn config(alloc: Global) -> Result<Config, Memory> {
     let other = DomainConfig {
         id: DomId(2),
@@ -23,10 +23,10 @@ pub fn config(alloc: Global) -> Result<Config, Memory> {
     })
 }
 
-/// What is written at the beginning.
+/// The bytes written at the start.
 pub const BYTES: [u8; 4] = [1, 2, 3, 4];
 
-// The place in this frame of this domain: their numbers, and the offset.
+// A spot: the numbers of the domain and the frame, and the offset.
 macro_rules! at {
     ($owner:expr, $number:expr, $off:expr) => {
         spot!(DomId($owner), $number, $off)
@@ -35,7 +35,7 @@ macro_rules! at {
 
 pub(crate) use at;
 
-/// The bytes that were read, or that there is no such frame.
+/// Returns the bytes that were read as a text, or that there is no such frame.
 pub fn text(alloc: Global, read: Option<Read>) -> Result<String, AllocError> {
     match read {
         Some(read) => {

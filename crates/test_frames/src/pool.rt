@@ -11,7 +11,7 @@ use std::thread;
 use std::thread::Threads;
 use test_rows::spot;
 
-// The first six bytes of a frame.
+// Returns the first six bytes of a frame.
 fn first_bytes<R: Wait>(
     rt: &R,
     alloc: Global,
@@ -74,9 +74,9 @@ fn copied<R: Wait>(rt: &R, pool: &Pool, visits: &mut FrameAccesses, from: Spot, 
     }
 }
 
-// If a copy begins and ends, whether it is made, and the first bytes of the frame written then: both ends one frame,
-// upwards and downwards over itself, two frames of a domain and of two domains, the lower pool number as source and as
-// destination, and frames that are not there.
+// The two ends of a copy, whether it is made, and the first bytes of the frame written then. Both ends are in one
+// frame, upwards and downwards over itself, in two frames of a domain and of two domains, with the lower pool number as
+// source and as destination, and in frames that do not exist.
 const COPIES: [(Spot, Spot, bool, &str); 7] = [
     (at!(1, 0, 0), at!(1, 0, 1), true, "[1, 1, 2, 3, 4, 0]"),
     (at!(1, 0, 1), at!(1, 0, 0), true, "[1, 2, 3, 4, 4, 0]"),
@@ -87,7 +87,7 @@ const COPIES: [(Spot, Spot, bool, &str); 7] = [
     (at!(3, 0, 0), at!(1, 0, 0), false, "[2, 3, 4, 0, 4, 0]"),
 ];
 
-// The visits of the two domains.
+// Returns the accesses of the two domains.
 fn two_of(rt: &impl Abort, mut all_visits: Vec<FrameAccesses>) -> (FrameAccesses, FrameAccesses) {
     match (all_visits.pop(), all_visits.pop()) {
         (Some(one), Some(other)) => (one, other),
@@ -140,7 +140,7 @@ fn forth_and_back<R: Threads + Wait + Sync>(
     )
 }
 
-// Two threads copy between the same two frames, each the other way: neither waits for good.
+// Two threads copy between the same two frames in opposite directions. Neither waits forever.
 #[test]
 fn two_threads_copy_forth_and_back(rt: HostRuntime) -> Result<(), Fail> {
     let alloc = rt.alloc();

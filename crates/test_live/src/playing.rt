@@ -1,4 +1,4 @@
-//! Runs of a table: lines that domains are asked, with what they must answer, and then threads.
+//! Runs of a table: calls of domains with their expected answers, and then threads.
 use crate::working::{Behind, Part, work_at_once};
 use gt_types::{Allows, Memory, Rule, StartFault};
 use std::alloc::Global;
@@ -7,39 +7,39 @@ use std::sync::Wait;
 use std::thread::Threads;
 use test_monitor::{READ_ONLY, TestCall, TestDomain, TestReply, all_running, rights, start, text};
 
-/// Who asks, counted from 0, what, and the answer.
+/// A line: the index of the domain, counted from 0, its call, and the expected answer.
 pub type Line<'a> = (usize, TestCall<'a>, &'a str);
 
-/// The places of the domains 1, 2 and 3.
+/// The indices of the domains 1, 2 and 3.
 pub const ONE: usize = 0;
 
 pub const TWO: usize = 1;
 
 pub const THREE: usize = 2;
 
-/// What is done in a run.
+/// A stage of a run.
 #[derive(Clone, Copy)]
 pub enum Stage<'a> {
     /// Lines, each with its answer.
     Asked(&'a [Line<'a>]),
-    /// The same, if a line that is refused memory is asked again.
+    /// The same, if a line whose allocation fails is asked again.
     Insisted(&'a [Line<'a>]),
-    /// This domain reads these bytes from this offset on, through its last mapping or in this frame of its own, over a
-    /// buffer that had others.
+    /// This domain fills a buffer that had other bytes, starting at this offset, through its last mapping or from this
+    /// frame of its own, and must get these bytes.
     Fills(usize, Option<u64>, u16, [u8; 5]),
-    /// The last domain maps the first entry of domain 1 for reading, so often.
+    /// The last domain maps the first entry of domain 1 for reading this number of times.
     MapsOften(u32),
-    /// The last domain makes room for so many records, and keeps no more.
+    /// The last domain reserves space for this number of records, and keeps no more.
     KeepsAtMost(usize),
-    /// The last domain leaves, with these records, and so many lost ones.
+    /// The last domain leaves, with these records and this number of lost ones.
     Leaves(&'a str),
-    /// The last domain leaves, with so many records.
+    /// The last domain leaves, with this number of records.
     LeavesMany(usize),
 }
 
-/// A run: its name, how many domains, the version of their tables, the first generation of their entries, and what is
-/// done, stage by stage. Then the last domains do their parts for so many rounds, each in a thread of its own, and
-/// leave these entries idle behind.
+/// A run: its name, the number of domains, the version of their tables, the first generation of their entries, and the
+/// stages. Then the last domains do their parts for this number of rounds, each in its own thread, and must leave these
+/// entries idle.
 #[derive(Clone, Copy)]
 pub struct Row<'a> {
     pub name: &'a str,
@@ -51,7 +51,7 @@ pub struct Row<'a> {
     pub behind: &'a [Behind],
 }
 
-// What the domain at this place answers.
+// Returns the answer of the domain with this index.
 fn said<R: Wait + Abort, P: Allows>(
     rt: &R,
     domains: &mut [TestDomain<'_, P>],
@@ -90,7 +90,7 @@ fn play<R: Wait + Abort, P: Allows>(
     Ok(())
 }
 
-// Whether the domain reads these bytes over a buffer, through its last mapping or in a frame of its own.
+// Returns whether the domain reads these bytes over a buffer, through its last mapping or from one of its own frames.
 fn fills<R: Wait, P: Allows>(
     rt: &R,
     domain: Option<&mut TestDomain<'_, P>>,
@@ -109,7 +109,7 @@ fn fills<R: Wait, P: Allows>(
     done.is_ok() && buffer == wanted
 }
 
-// Maps the first entry of domain 1 for reading so often. Answers how often that was Ok.
+// Maps the first entry of domain 1 for reading this number of times. Returns how often that was Ok.
 fn map_often<P: Allows>(domain: Option<&mut TestDomain<'_, P>>, times: u32) -> u32 {
     let Some(domain) = domain else {
         return 0;
@@ -123,7 +123,7 @@ fn map_often<P: Allows>(domain: Option<&mut TestDomain<'_, P>>, times: u32) -> u
     done
 }
 
-// The domain makes room for so many records, and keeps no more.
+// Lets the domain reserve space for this number of records, and keep no more.
 fn keep_at_most<P: Allows>(
     domain: Option<&mut TestDomain<'_, P>>,
     records: usize,
@@ -136,7 +136,7 @@ fn keep_at_most<P: Allows>(
     Ok(())
 }
 
-// What a domain leaves, as a text: its records and how many were lost.
+// Returns what a domain leaves, as a text: its records and how many were lost.
 fn left<P: Allows>(alloc: Global, domain: Option<TestDomain<'_, P>>) -> Result<String, Memory> {
     let Some(domain) = domain else {
         return Ok(String::new(alloc));
@@ -145,7 +145,7 @@ fn left<P: Allows>(alloc: Global, domain: Option<TestDomain<'_, P>>) -> Result<S
     Ok(format!(in alloc; "{:?} {}", left.records()?.as_slice(), left.lost())?)
 }
 
-// How many records a domain leaves.
+// Counts the records that a domain leaves.
 fn count_left<P: Allows>(domain: Option<TestDomain<'_, P>>) -> Result<usize, Memory> {
     match domain {
         Some(domain) => Ok(domain.finish().records()?.len()),
@@ -153,7 +153,7 @@ fn count_left<P: Allows>(domain: Option<TestDomain<'_, P>>) -> Result<usize, Mem
     }
 }
 
-// Plays a stage, and compares what comes of it.
+// Plays a stage, and compares the results.
 fn make<R: Wait + Abort, P: Allows>(
     rt: &R,
     alloc: Global,
@@ -184,7 +184,7 @@ fn make<R: Wait + Abort, P: Allows>(
     Ok(())
 }
 
-/// Plays a row. Answers how many domains it had at the beginning.
+/// Plays a row. Returns the number of domains at its start.
 pub fn play_row<R: Threads + Wait + Abort + Sync>(
     rt: &R,
     alloc: Global,

@@ -1,5 +1,5 @@
-//! Worked rows, each a list of lines with their answers. A refusal carries the word that decided it, so that what the
-//! entry is, its counts and its generation are compared too.
+//! Worked rows, each a list of lines with their answers. A refusal carries the word that decided it, so the entry, its
+//! counts and its generation are compared too.
 use crate::playing::{Line, ONE, Row, Stage, THREE, TWO, play_row};
 use gt_calls::{CopyArgs, End};
 use gt_entry::Entry;
@@ -12,26 +12,27 @@ use test_monitor::TestCall::{
 use test_monitor::{READ_ONLY, WRITABLE};
 use test_rows::{copy, end, page, sub, via};
 
-// The writable page with frame 5, for domain 2.
+// A writable page entry for domain 2, with frame 5.
 const PAGE: Entry = page!(DomId(2), false, 5);
 
 // The same, read-only.
 const READ_ONLY_PAGE: Entry = page!(DomId(2), true, 5);
 
-// The pages with frame 6 and frame 8, for domain 2. No domain has frame 8.
+// Page entries for domain 2, with frame 6 and with frame 8, which no domain has.
 const PAGE_6: Entry = page!(DomId(2), false, 6);
 
 const PAGE_8: Entry = page!(DomId(2), false, 8);
 
-// Parts of frame 5, for domain 2: its first byte, the whole, and 50 bytes from byte 100 on.
+// Parts of frame 5, for domain 2: its first byte, the whole, and 50 bytes starting at byte 100.
 const FIRST_BYTE: Entry = sub!(DomId(2), 5, 0, 1);
 
 const WHOLE: Entry = sub!(DomId(2), 5, 0, 4096);
 
 const PART: Entry = sub!(DomId(2), 5, 100, 50);
 
-// Transitive entries: for domain 2 to an entry of domain 3 that nobody made, read-only or writable to one of domain 1
-// for domain 3, and for domain 2 to the first of domain 3.
+// Transitive entries. The first is for domain 2 and leads to an entry of domain 3 that was never granted. The next two
+// are for domain 3 and lead to entries of domain 1, read-only or writable. The last is for domain 2 and leads to the
+// first entry of domain 3.
 const VIA_7_OF_THREE: Entry = via!(DomId(2), false, DomId(3), GrantRef(7));
 
 const READ_ONLY_VIA_4_OF_ONE: Entry = via!(DomId(3), true, DomId(1), GrantRef(4));
@@ -40,7 +41,7 @@ const VIA_4_OF_ONE: Entry = via!(DomId(3), false, DomId(1), GrantRef(4));
 
 const VIA_0_OF_THREE: Entry = via!(DomId(2), false, DomId(3), GrantRef(0));
 
-// Four bytes of a frame of the caller's own, one byte on.
+// A copy of four bytes within a frame of the caller's own, to an offset one byte later.
 const OVERLAP: CopyArgs = copy!(
     end!(0, DomId(DOMID_SELF), 0),
     end!(0, DomId(DOMID_SELF), 1),
@@ -64,7 +65,7 @@ const A_MAPPING_IS_COUNTED_AND_GIVEN_UP: [Line; 13] = [
     (TWO, Map(1, 0, 3), "N2 -1"),
 ];
 
-// A withdrawal closes the entry to new pins, and the mapping that is there goes on. Its pin holds back the next grant.
+// A withdrawal closes the entry to new pins, and the existing mapping stays. Its pin holds back the next grant.
 const A_WITHDRAWAL_LEAVES_ITS_PINS: [Line; 12] = [
     (ONE, Grant(0, PAGE), "ok"),
     (TWO, Map(1, 0, WRITABLE), "ok"),

@@ -1,4 +1,4 @@
-//! Runs with more than lines: how many domains they may have, what those leave behind, refused memory, and threads.
+//! Runs with more than lines: how many domains they may have, what those leave, failed allocations, and threads.
 use crate::playing::{Line, ONE, Row, Stage, THREE, TWO, play_row};
 use crate::working::{Access, LEN, Part, UNUSED};
 use gt_calls::{CopyArgs, End};
@@ -11,7 +11,7 @@ use test_monitor::TestCall::{
 use test_monitor::{READ_ONLY, WRITABLE};
 use test_rows::{copy, end, page};
 
-// A run of two domains of which nothing is asked.
+// A run of two domains that make no call.
 const QUIET: Row = Row {
     name: "quiet",
     count: 2,
@@ -36,7 +36,7 @@ const GRANTED: Line = (ONE, Grant(0, page!(DomId(2), false, 5)), "ok");
 
 const REVOKED: [Line; 1] = [(ONE, Revoke(0), "ok")];
 
-// Two maps hold a revocation back until their domain has left. What it leaves are the records of its own calls.
+// Two maps hold a revocation back until their domain has left. It leaves the records of its own calls.
 const PINS_HELD: [Line; 9] = [
     GRANTED,
     (TWO, Map(1, 0, READ_ONLY), "ok"),
@@ -91,7 +91,7 @@ macro_rules! accesses {
     };
 }
 
-// A page is granted to two domains, which map it.
+// A page that is granted to two domains, which map it.
 const MAPPED: [Line; 4] = [
     (ONE, Grant(0, page!(DomId(2), false, 5)), "ok"),
     (ONE, Grant(1, page!(DomId(3), false, 5)), "ok"),
@@ -114,8 +114,8 @@ const IN_A_RING: [Line; 4] = [
     (ONE, Poke(5, 0, &[7; 64]), "ok"),
 ];
 
-// Each copies the frame that the domain before it writes. Locked in the order of the copies, source first, each thread
-// could hold the frame that the next one waits for; they come to an end all the same.
+// Each copies the frame that the domain before it writes, in a ring. If a copy locked its source first, each thread
+// could hold the frame that the next one waits for. All must end.
 const COPIES: [(Part, u32); 3] = [
     (
         accesses!(fetch!(3, 0, 0, 5, 0, LEN), Peek(5, 0, LEN)),
@@ -136,7 +136,7 @@ const OWNS: Part = Part::Owns {
     second: UNUSED,
 };
 
-// Two owners that grant, demote, promote and revoke, beside two domains that map and unmap.
+// Two owners that grant, demote, promote and revoke, while two domains map and unmap.
 const STORM: [(Part, u32); 4] = [
     (OWNS, 25_000),
     (OWNS, 25_000),
@@ -144,20 +144,20 @@ const STORM: [(Part, u32); 4] = [
     (Part::Maps(1), 25_000),
 ];
 
-// Each byte of frame 5 is 55, and each of frame 6 is 66.
+// Each byte of frame 5 is 0x55, and each of frame 6 is 0x66.
 const FILLED: [Line; 2] = [
     (ONE, Poke(5, 0, &[0x55; 4096]), "ok"),
     (ONE, Poke(6, 0, &[0x66; 4096]), "ok"),
 ];
 
-// An owner that withdraws the page which the other domain copies.
+// An owner that withdraws the page while the other domain copies it.
 const TORN: [(Part, u32); 2] = [(Part::Withdraws(UNUSED), 1_000), (Part::Takes, 1_000)];
 
 // The same with revocations.
 const TORN_BY_REVOCATION: [(Part, u32); 2] = [(Part::Revokes(UNUSED), 1_000), (Part::Takes, 1_000)];
 
-// An owner and a domain whose entries lead to the owner's page both grant and revoke, beside two domains that copy
-// through those entries.
+// An owner and a domain whose entries lead to the owner's page both grant and revoke, while two domains copy through
+// those entries.
 const STORM_OF_VIAS: [(Part, u32); 4] = [
     (Part::Toggles(UNUSED), 10_000),
     (
@@ -171,7 +171,7 @@ const STORM_OF_VIAS: [(Part, u32); 4] = [
     (Part::Follows(1), 10_000),
 ];
 
-// Each byte of frame 5 is 55, and domain 2 has it mapped and wrote three bytes.
+// Each byte of frame 5 is 0x55, and domain 2 has it mapped and wrote three bytes.
 const STORED: [Line; 4] = [
     (ONE, Poke(5, 0, &[0x55; 4096]), "ok"),
     (ONE, Grant(0, page!(DomId(2), false, 5)), "ok"),
@@ -328,9 +328,8 @@ const REFUSED: Row = Row {
     ..QUIET
 };
 
-// With tools/refused.sh, which refuses each request for memory in turn: a call that answers N26 is answered, if it is
-// asked again, as it is without a refusal. The start of the run and the texts of answers are all that is refused
-// memory.
+// With tools/refused.sh, which makes each allocation fail in turn: a call that answers N26 is asked again, and is then
+// answered as without a failure. Only the start of the run and the texts of answers allocate.
 #[test]
 fn accesses_with_memory_refused(rt: HostRuntime) -> Result<(), Fail> {
     match play_row(&rt, rt.alloc(), &REFUSED) {

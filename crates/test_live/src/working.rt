@@ -1,4 +1,4 @@
-//! What domains do at once, each in a thread of its own.
+//! The parts of domains that run at the same time, each in its own thread.
 use gt_calls::{CopyArgs, End};
 use gt_entry::{Control, Entry, EntryKind};
 use gt_types::{Allows, DOMID_SELF, Denial, DomId, Facts, GrantRef, Memory, Rule};
@@ -8,19 +8,19 @@ use std::thread::{self, Threads};
 use test_monitor::{READ_ONLY, TestCall, TestDomain, TestReply, WRITABLE};
 use test_rows::{copy, end};
 
-/// So many bytes go with one access.
+/// The number of bytes of one access.
 pub const LEN: u16 = 64;
 
-/// And so many are a page.
+/// The number of bytes of a page.
 pub const PAGE_LEN: u16 = 4096;
 
 // A copy of the whole page of entry 0 of domain 1.
 const TAKE: TestCall<'static> = fetch!(1, 0, 0, 3, 0, PAGE_LEN);
 
-// Copies of the page behind the entries 0 and 1 of domain 2, which are transitive.
+// Copies of the page to which the entries 0 and 1 of domain 2 lead, which are transitive.
 const FOLLOWS: [TestCall<'static>; 2] = [fetch!(2, 0, 0, 3, 0, LEN), fetch!(2, 1, 0, 3, 0, LEN)];
 
-/// What an owner knows of its entry from its own calls.
+/// The owner's knowledge of its entry, from its own calls.
 #[derive(Clone, Copy)]
 pub struct Kept {
     valid: bool,
@@ -28,26 +28,26 @@ pub struct Kept {
     generation: u32,
 }
 
-/// What it knows at the beginning.
+/// Its knowledge at the start.
 pub const UNUSED: Kept = Kept {
     valid: false,
     ro: false,
     generation: 0,
 };
 
-/// A call that writes bytes which are all alike, and one that reads as many, which must be alike.
+/// A call that writes equal bytes, and one that reads as many, which must be equal.
 #[derive(Clone, Copy)]
 pub struct Access {
     pub write: TestCall<'static>,
     pub read: TestCall<'static>,
 }
 
-/// What a domain does, round by round.
+/// The part of a domain, round by round.
 #[derive(Clone, Copy)]
 pub enum Part {
-    /// Grants its entry 0 to domain 2, and takes it back once it is not in use.
+    /// Grants its entry 0 to domain 2, and revokes it once it is not in use.
     Lends,
-    /// Maps the entry 0 of domain 1 and unmaps it. It may be refused if that is not granted yet, or no more.
+    /// Maps the entry 0 of domain 1 and unmaps it. The map may be refused if that entry is not granted.
     Borrows,
     /// Grants, demotes, promotes and revokes by turns its entry 0, which names domain 3, and its entry 1, for domain 4.
     Owns { first: Kept, second: Kept },
@@ -59,14 +59,14 @@ pub enum Part {
     Churns,
     /// Grants its entry 0 to domain 2, the frames 5 and 6 by turns, and withdraws it.
     Withdraws(Kept),
-    /// The same, but takes it back by a revocation.
+    /// The same, with a revocation instead.
     Revokes(Kept),
-    /// Copies the page of entry 0 of domain 1, and looks at all that it took.
+    /// Copies the page of entry 0 of domain 1, and checks all bytes.
     Takes,
     /// Grants and revokes by turns its entry 0, for domain 3, and its entry 1, for domain 4. Both lead to entry 0 of
     /// domain 1.
     Forwards { first: Kept, second: Kept },
-    /// Copies from the page behind this entry of domain 2.
+    /// Copies from the page to which this entry of domain 2 leads.
     Follows(usize),
     Accesses(Access),
 }
@@ -88,7 +88,7 @@ fn page(dom: u16, ro: bool) -> Entry {
     }
 }
 
-// A transitive entry for this domain that leads to entry 0 of domain 1.
+// Returns a transitive entry for this domain that leads to entry 0 of domain 1.
 fn via(dom: u16) -> Entry {
     Entry::Via {
         dom: DomId(dom),
@@ -98,7 +98,7 @@ fn via(dom: u16) -> Entry {
     }
 }
 
-// The page of this frame, for domain 2 to read.
+// Returns the page entry of this frame, for domain 2 to read.
 fn page_of(frame: u64) -> Entry {
     Entry::Page {
         dom: DomId(2),
@@ -107,7 +107,7 @@ fn page_of(frame: u64) -> Entry {
     }
 }
 
-// The control of the word that a refusal carries, if it carries that of an entry.
+// Returns the control of the word in a refusal, if that is an entry's.
 fn control_of(denial: Denial) -> Option<Control> {
     match denial.facts {
         Facts::Entry { word, .. } => Some(Control::unpack(word)),
@@ -115,7 +115,7 @@ fn control_of(denial: Denial) -> Option<Control> {
     }
 }
 
-// Whether the word that the refusal carries bears out its rule.
+// Returns whether the word in the refusal fits its rule.
 fn stands(denial: Denial) -> bool {
     let Some(control) = control_of(denial) else {
         return false;
@@ -132,12 +132,12 @@ fn stands(denial: Denial) -> bool {
     }
 }
 
-// Whether the refusal is by one of these two rules, with a word that bears the rule out.
+// Returns whether the refusal is by one of these two rules, with a word that fits it.
 fn stands_by(denial: Denial, one: Rule, other: Rule) -> bool {
     (denial.rule == one || denial.rule == other) && stands(denial)
 }
 
-// Whether the call is Ok, or so refused.
+// Returns whether the call is Ok, or refused by one of these two rules with a word that fits it.
 fn is_fair(answer: Result<(), Denial>, one: Rule, other: Rule) -> bool {
     match answer {
         Ok(()) => true,
@@ -164,7 +164,7 @@ fn borrow<P: Allows>(domain: &mut TestDomain<'_, P>) -> bool {
     }
 }
 
-// Grants an entry if it is not granted, and keeps what the owner then knows.
+// Grants an entry if it is not granted, and updates what the owner knows.
 fn grant_once<P: Allows>(
     domain: &mut TestDomain<'_, P>,
     gref: u32,
@@ -183,7 +183,7 @@ fn grant_once<P: Allows>(
     granted != was_valid
 }
 
-// Revokes an entry, and keeps what the owner then knows.
+// Revokes an entry, and updates what the owner knows.
 fn revoke_once<P: Allows>(domain: &mut TestDomain<'_, P>, gref: u32, kept: &mut Kept) -> bool {
     let revoked = domain.revoke(gref);
     if revoked.is_ok() {
@@ -192,7 +192,7 @@ fn revoke_once<P: Allows>(domain: &mut TestDomain<'_, P>, gref: u32, kept: &mut 
     is_fair(revoked, Rule::N19, Rule::N19)
 }
 
-// Makes an entry read-only and writable again.
+// Demotes an entry and promotes it again.
 fn turn_once<P: Allows>(domain: &mut TestDomain<'_, P>, gref: u32, kept: &mut Kept) -> bool {
     let demoted = domain.demote(gref);
     if demoted.is_ok() && !kept.ro {
@@ -207,7 +207,7 @@ fn turn_once<P: Allows>(domain: &mut TestDomain<'_, P>, gref: u32, kept: &mut Ke
     is_fair(demoted, Rule::N18, Rule::N19) && is_fair(promoted, Rule::N18, Rule::N18)
 }
 
-// One round of an owner: its entry is granted if it is not, made read-only and writable again, and revoked.
+// Makes one round of an owner: its entry is granted if it is not, demoted, promoted, and revoked.
 fn own_once<P: Allows>(
     domain: &mut TestDomain<'_, P>,
     gref: u32,
@@ -220,7 +220,7 @@ fn own_once<P: Allows>(
     granted && turned && revoked
 }
 
-// One round of a mapper.
+// Makes one round of a mapper.
 fn map_once<P: Allows>(domain: &mut TestDomain<'_, P>, owner: u16, gref: u32, flags: u32) -> bool {
     match domain.map(owner, gref, flags) {
         Ok(()) => domain.unmap().is_ok(),
@@ -232,7 +232,7 @@ fn map_once<P: Allows>(domain: &mut TestDomain<'_, P>, owner: u16, gref: u32, fl
     }
 }
 
-// Whether the refusal carries the word of a withdrawn entry that still has read pins.
+// Returns whether the refusal carries the word of a withdrawn entry that still has read pins.
 fn finds_old_pins(denial: Denial) -> bool {
     match control_of(denial) {
         Some(control) => control.kind == EntryKind::Invalid && control.reads > 0,
@@ -240,7 +240,7 @@ fn finds_old_pins(denial: Denial) -> bool {
     }
 }
 
-// Grants the frame if the entry is not granted. It is refused over the pins that a withdrawal left.
+// Grants the frame if the entry is not granted. The grant may be refused for the pins that a withdrawal left.
 fn grant_frame<P: Allows>(domain: &mut TestDomain<'_, P>, frame: u64, kept: &mut Kept) -> bool {
     match domain.grant(0, &page_of(frame)) {
         Ok(()) => {
@@ -260,7 +260,7 @@ fn grant_frame<P: Allows>(domain: &mut TestDomain<'_, P>, frame: u64, kept: &mut
     }
 }
 
-// Withdraws the entry. It is refused if it is not granted, or if four tries met other pins each.
+// Withdraws the entry. It may be refused if the entry is not granted, or if each of four tries met other pins.
 fn withdraw_once<P: Allows>(domain: &mut TestDomain<'_, P>, kept: &mut Kept) -> bool {
     match domain.withdraw(0) {
         Ok(()) => {
@@ -276,7 +276,7 @@ fn withdraw_once<P: Allows>(domain: &mut TestDomain<'_, P>, kept: &mut Kept) -> 
     }
 }
 
-// The byte that all of so many are that were read, if they are alike: so no write came in between.
+// Returns the byte to which all bytes read are equal, if they are equal and this many: so no write came in between.
 fn byte_of(said: &TestReply, len: u16) -> Option<u8> {
     let TestReply::Bytes(bytes) = said else {
         return None;
@@ -296,12 +296,12 @@ fn byte_of(said: &TestReply, len: u16) -> Option<u8> {
     }
 }
 
-// Whether these are the bytes of a whole page as its owner wrote it: no page is torn.
+// Returns whether these are the bytes of a whole page as its owner wrote it: the page is not torn.
 fn is_whole(said: &TestReply) -> bool {
     matches!(byte_of(said, PAGE_LEN), Some(0x55 | 0x66))
 }
 
-// One round of a domain that copies a page which its owner may withdraw.
+// Makes one round of a domain that copies a page which its owner may withdraw.
 fn take_once<R: Wait, P: Allows>(rt: &R, domain: &mut TestDomain<'_, P>) -> bool {
     match domain.ask(rt, TAKE) {
         TestReply::Done => is_whole(&domain.ask(rt, TestCall::Peek(3, 0, PAGE_LEN))),
@@ -310,7 +310,7 @@ fn take_once<R: Wait, P: Allows>(rt: &R, domain: &mut TestDomain<'_, P>) -> bool
     }
 }
 
-// One round of a domain whose entries lead on: one of them is granted if it is not, and revoked.
+// Makes one round of a domain with transitive entries: one of them is granted if it is not, and revoked.
 fn forward_once<P: Allows>(
     domain: &mut TestDomain<'_, P>,
     gref: u32,
@@ -321,7 +321,7 @@ fn forward_once<P: Allows>(
     revoke_once(domain, gref, kept) && granted
 }
 
-// One round of a domain that copies through an entry which leads on. Either of the two entries may be invalid then, or
+// Makes one round of a domain that copies through a transitive entry. Either of the two entries may then be invalid, or
 // change its pins in each try.
 fn follow_once<R: Wait, P: Allows>(
     rt: &R,
@@ -340,7 +340,7 @@ fn access_once<R: Wait, P: Allows>(rt: &R, domain: &mut TestDomain<'_, P>, acces
     byte_of(&domain.ask(rt, access.read), LEN).is_some() && wrote
 }
 
-// One round of a domain, and whether it was answered as the rules allow.
+// Makes one round of a domain, and returns whether its answers are allowed by the rules.
 fn round_of<R: Wait, P: Allows>(
     rt: &R,
     domain: &mut TestDomain<'_, P>,
@@ -396,7 +396,7 @@ fn work<'m, R: Wait, P: Allows>(rt: &R, worker: Worker<'m, P>) -> Worker<'m, P> 
     }
 }
 
-// All of them at once, each in a thread of its own.
+// Runs all of them, each in its own thread.
 fn at_once<'m, P: Allows + Sync, R: Threads + Wait + Sync>(
     rt: &R,
     workers: Vec<Worker<'m, P>>,
@@ -404,7 +404,7 @@ fn at_once<'m, P: Allows + Sync, R: Threads + Wait + Sync>(
     thread::map_vec(rt, workers, &|worker| work(rt, worker))
 }
 
-// What the owner knows of this entry.
+// Returns what the owner knows of this entry.
 fn kept_of(part: Part, gref: u32) -> Kept {
     match part {
         Part::Owns { first, second } | Part::Forwards { first, second } => {
@@ -415,7 +415,7 @@ fn kept_of(part: Part, gref: u32) -> Kept {
     }
 }
 
-// Whether a map is refused by the word of an entry that is invalid and has no pins, at this generation.
+// Returns whether a map is refused by the word of an entry that is invalid and has no pins, at this generation.
 fn finds_idle<P: Allows>(
     mapper: &mut TestDomain<'_, P>,
     dom: u16,
@@ -436,12 +436,12 @@ fn finds_idle<P: Allows>(
     }
 }
 
-/// An entry that the threads leave behind: the places of its owner and of who may map it, the owner's number, and its
-/// reference.
+/// An entry that the threads leave: the indices of its owner and of a domain that may map it, the owner's number, and
+/// its reference.
 pub type Behind = (usize, usize, u16, u32);
 
-// Whether the entry is idle at the generation that its owner counts, once the owner has taken it back, and then free
-// to be granted again.
+// Returns whether the entry is idle at the generation that its owner counts, once the owner has revoked it, and can
+// then be granted again.
 fn is_idle<P: Allows>(workers: &mut [Worker<'_, P>], behind: Behind) -> bool {
     let (owner, mapper, dom, gref) = behind;
     let Some(one) = workers.get_mut(owner) else {
@@ -465,8 +465,8 @@ fn is_idle<P: Allows>(workers: &mut [Worker<'_, P>], behind: Behind) -> bool {
     }
 }
 
-/// Has the domains do their parts, each in a thread of its own, for so many rounds. Answers whether all calls were
-/// answered as the rules allow, and these entries are idle then.
+/// Lets the domains do their parts, each in its own thread, for this number of rounds. Returns whether all calls were
+/// answered as the rules allow, and these entries are then idle.
 pub fn work_at_once<P: Allows + Sync, R: Threads + Wait + Sync>(
     rt: &R,
     alloc: Global,

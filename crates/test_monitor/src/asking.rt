@@ -1,17 +1,17 @@
-//! What domains are asked, and what they answer.
+//! Calls and answers of domains, as values and texts.
 use gt_calls::CopyArgs;
 use gt_entry::Entry;
 use gt_types::{Denial, Facts, Size};
 use std::alloc::{AllocError, Global};
 
-/// The flags of a map for reading and writing.
+/// The GNTMAP flags of a map for reading and writing.
 pub const WRITABLE: u32 = 2;
 
-/// The flags of a map for reading.
+/// The GNTMAP flags of a map for reading only.
 pub const READ_ONLY: u32 = 6;
 
-/// What a domain is asked. Domains, references and frames are named by their numbers; a mapping is the last one that
-/// the domain made, or one that never was.
+/// A call of a domain, as a value. Domains, references and frames are numbers. A mapping is the last one that the
+/// domain made, or one that never was.
 #[derive(Clone, Copy)]
 pub enum TestCall<'a> {
     Grant(u32, Entry),
@@ -36,7 +36,7 @@ pub enum TestCall<'a> {
     Copy(CopyArgs),
 }
 
-/// How it is answered.
+/// The answer of a call.
 #[derive(Drop)]
 pub enum TestReply {
     Done,
@@ -47,7 +47,7 @@ pub enum TestReply {
     Denied(Denial),
 }
 
-/// An answer as a text: `ok` with its value, or the rule, its status and the word or field that decided.
+/// Returns an answer as a text: `ok` with its value, or the rule, its status and the word or field that decided.
 pub fn text(alloc: Global, said: &TestReply) -> Result<String, AllocError> {
     match said {
         TestReply::Done => format!(in alloc; "ok"),

@@ -1,16 +1,15 @@
-//! Monitors and running domains for tests and timed loads: a call written as a value, and its answer said as a text.
+//! Monitors and running domains for tests and timed loads, with calls as values and answers as texts.
 //!
-//! [`start`] makes a run of so many domains, and [`all_running`] keeps each of them beside its monitor ([`TestDomain`]),
-//! so that it may be let go and may move into a thread. [`TestDomain::ask`] makes the call that an [`TestCall`] names, and
-//! [`text`] says its answer in words, with the word that a refusal carries.
+//! [`start`] makes a run of some domains, and [`all_running`] pairs each of them with its monitor ([`TestDomain`]), so
+//! that it can be dropped and can move into a thread. [`TestDomain::ask`] makes the call that a [`TestCall`] names, and
+//! [`text`] prints its answer, with the word that a refusal carries. [`TestDomain::make`] makes the call of a request
+//! and answers as `gt_core` would.
 //!
-//! What holds: a domain that is let go has left its run, so none keeps a pin; and calls that access no bytes wait for
-//! nobody. What a call answers is left to the tests, which compare it.
+//! A domain that is dropped leaves its run, so none keeps a pin. Calls that access no bytes never wait. The contracts
+//! leave open what a call answers: the tests compare it.
 //!
-//! [`TestDomain::make`] makes the call of a request and answers as `gt_core` would.
-//!
-//! It uses `gt_live`, and what that names: `gt_calls`, `gt_entry`, `gt_frames` and `gt_types`; and the answers of
-//! `gt_core`.
+//! It uses `gt_live`, the crates whose types that names (`gt_audit`, `gt_calls`, `gt_entry`, `gt_frames`, `gt_types`),
+//! and the answers of `gt_core`.
 #![tactic(auto)]
 
 mod asking;

@@ -1,4 +1,4 @@
-//! Domains beside the monitor that they came with.
+//! Domains with their monitor.
 ghost use Rattle.std.specs.Prelude.{All};
 ghost use Rattle.gt_live.specs.Domains.{BelongsTo};
 
@@ -14,7 +14,7 @@ use std::alloc::Global;
 use std::marker::Model;
 use std::sync::Wait;
 
-/// A domain beside its monitor, which leaves the run when it is let go.
+/// A domain with its monitor. It leaves the run when it is dropped.
 pub struct TestDomain<'m, P: Allows> {
     monitor: &'m Monitor<P>,
     domain: Domain,
@@ -43,7 +43,7 @@ impl<'m, P: Allows> Drop for TestDomain<'m, P> {
     }
 }
 
-// The name of no mapping.
+// A handle that names no mapping.
 const NEVER_GIVEN: Handle = Handle {
     serial: u64::MAX,
     key: 0,
@@ -84,7 +84,7 @@ fn read(answer: Result<Read, Denial>) -> TestReply {
     }
 }
 
-// The answer without its value.
+// Drops the value of an answer.
 fn plain<T: Drop>(answer: Result<T, Denial>) -> Result<(), Denial> {
     match answer {
         Ok(_) => Ok(()),
@@ -92,7 +92,7 @@ fn plain<T: Drop>(answer: Result<T, Denial>) -> Result<(), Denial> {
     }
 }
 
-// The answer of a call as the core gives it.
+// Returns the answer of a call as the core gives it.
 fn answer_of(said: TestReply, mapped: Option<Handle>) -> Answer {
     match (said, mapped) {
         (TestReply::Done, Some(handle)) => Answer::Mapped(handle),
@@ -152,17 +152,17 @@ impl<'m, P: Allows> TestDomain<'m, P> {
         }
     }
 
-    /// Gives up the last mapping.
+    /// Unmaps the last mapping.
     pub fn unmap(&mut self) -> Result<(), Denial> {
         self.domain.unmap(self.monitor, self.last)
     }
 
-    /// Reads so many bytes from this offset on through the last mapping.
+    /// Reads this number of bytes, starting at this offset, through the last mapping.
     pub fn load<R: Wait>(&mut self, rt: &R, off: u16, len: u16) -> Result<Read, Denial> {
         self.domain.load(rt, self.monitor, self.last, off, len)
     }
 
-    /// Reads over all of the buffer from this offset on through the last mapping.
+    /// Fills the buffer with bytes, starting at this offset, through the last mapping.
     pub fn load_into<R: Wait>(
         &mut self,
         rt: &R,
@@ -173,7 +173,7 @@ impl<'m, P: Allows> TestDomain<'m, P> {
         plain(self.domain.load_into(rt, self.monitor, handle, off, buffer))
     }
 
-    /// Reads over all of the buffer from this offset on of a frame of its own.
+    /// Fills the buffer with bytes of one of its own frames, starting at this offset.
     pub fn peek_into<R: Wait>(
         &mut self,
         rt: &R,
@@ -184,7 +184,7 @@ impl<'m, P: Allows> TestDomain<'m, P> {
         plain(self.domain.peek_into(rt, self.monitor, frame, off, buffer))
     }
 
-    /// Writes these bytes from this offset on through the last mapping.
+    /// Writes these bytes, starting at this offset, through the last mapping.
     pub fn store<R: Wait>(&mut self, rt: &R, off: u16, bytes: &[u8]) -> Result<(), Denial> {
         plain(self.domain.store(rt, self.monitor, self.last, off, bytes))
     }
@@ -193,7 +193,7 @@ impl<'m, P: Allows> TestDomain<'m, P> {
         plain(self.domain.copy(rt, self.monitor, copy))
     }
 
-    /// Makes the call that is asked, and says its answer.
+    /// Makes the call, and returns its answer.
     pub fn ask<R: Wait>(&mut self, rt: &R, asks: TestCall<'_>) -> TestReply {
         let monitor = self.monitor;
         match asks {
@@ -221,7 +221,7 @@ impl<'m, P: Allows> TestDomain<'m, P> {
         }
     }
 
-    /// Makes the call that is asked, and answers as the core would.
+    /// Makes the call of a request, and answers as the core would.
     pub fn make<R: Wait>(&mut self, rt: &R, request: Request<'_>) -> Answer {
         let monitor = self.monitor;
         let mut mapped = None;
@@ -263,27 +263,27 @@ impl<'m, P: Allows> TestDomain<'m, P> {
         answer_of(said, mapped)
     }
 
-    /// From now on it keeps a record only while it has fewer than so many.
+    /// Limits its trail: it keeps a new record only while it has fewer than this number.
     pub fn keep_at_most(&mut self, records: usize) {
         self.domain.keep_at_most(records);
     }
 
-    /// Makes room for so many more records.
+    /// Reserves space for this number of further records.
     ///
     /// # Errors
     ///
-    /// `Memory`, and it has what it had.
+    /// `Memory`. The space is then unchanged.
     pub fn reserve_records(&mut self, records: usize) -> Result<(), Memory> {
         self.domain.reserve_records(records)
     }
 
-    /// Hands out its records so far, and goes on with none in the room of this trail, whose records go.
+    /// Swaps in `next` (emptied), and returns the records so far.
     pub fn take_records(&mut self, mut next: Trail) -> Trail {
         next.clear();
         self.domain.take_records(next)
     }
 
-    /// Its records so far.
+    /// Returns its records so far.
     ///
     /// # Errors
     ///
@@ -292,7 +292,7 @@ impl<'m, P: Allows> TestDomain<'m, P> {
         self.domain.trail().records()
     }
 
-    /// How many records were lost so far.
+    /// Returns how many records were lost so far.
     pub fn lost(&self) -> u64 {
         self.domain.trail().lost()
     }
@@ -307,7 +307,7 @@ impl<'m, P: Allows> TestDomain<'m, P> {
     }
 }
 
-/// Each domain beside its monitor. If there is no memory for that, each leaves.
+/// Pairs each domain with its monitor. If the allocation fails, each leaves.
 ///
 /// # Errors
 ///

@@ -1,4 +1,4 @@
-//! Runs of a few domains that may do all to each other but transfer pages.
+//! Runs of a few domains that may do everything to each other except transfer pages.
 ghost use Rattle.std.specs.Prelude.{All, IfOk};
 ghost use Rattle.gt_live.specs.Domains.{BelongsTo};
 
@@ -8,7 +8,7 @@ use gt_types::{
 };
 use std::alloc::Global;
 
-/// What the types 1 to 4 may do to each other: all but to transfer.
+/// Allows the types 1 to 4 to do everything to each other except transfer.
 pub fn rights(alloc: Global) -> Result<Triples, Memory> {
     let perms = [
         Perms::MAP_READ,
@@ -33,8 +33,8 @@ pub fn rights(alloc: Global) -> Result<Triples, Memory> {
     Ok(Triples { allowed })
 }
 
-/// So many domains, numbered from 1, of the types with their numbers, with 8 frames and a table of one frame in this
-/// version each.
+/// Returns this number of domains, numbered from 1. Domain N has type N, 8 frames and a table of one frame in this
+/// version.
 pub fn numbered(alloc: Global, count: u16, version: u32) -> Result<Vec<DomainConfig>, Memory> {
     let mut domains = Vec::new(alloc);
     for before in 0..count {
@@ -50,7 +50,7 @@ pub fn numbered(alloc: Global, count: u16, version: u32) -> Result<Vec<DomainCon
     Ok(domains)
 }
 
-/// A run of so many domains, over tables of this version, whose entries begin at this generation.
+/// Starts a run of this number of domains, over tables of this version, whose entries begin at this generation.
 pub fn start<P: Allows + Drop>(
     alloc: Global,
     rights: P,

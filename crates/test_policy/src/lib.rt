@@ -1,7 +1,7 @@
-//! Tests of policies, of their tables and of the listing of what they allow, over what their crates make
-//! public.
+//! Tests of policies, of their tables and of the listing of what they allow (`gt_policy`, `gt_allow`,
+//! `gt_policy_list`), over their public items.
 //!
-//! They say what no contract says: names and numbers of types, texts at the limits and texts that are cut off,
+//! They test what no contract specifies: names and numbers of types, texts at the limits and texts that are cut off,
 //! and readers and writers that fail. Worked texts with what they allow are in `cases_host`.
 #![tactic(auto)]
 

@@ -13,7 +13,7 @@ domU_t dom0_t copy\n\
 domU_t domU_t map_read\n\
 domU_t domU_t copy\n";
 
-// What is listed of a text, and the fault as it prints, if there is one.
+// Returns the listing of a text, and the fault as it prints, if there is one.
 fn listed(alloc: Global, mut text: &[u8]) -> Result<String, Fail> {
     let mut writer = Vec::new(alloc);
     let mut out = match policy(alloc, &mut text, &mut writer) {
@@ -26,7 +26,7 @@ fn listed(alloc: Global, mut text: &[u8]) -> Result<String, Fail> {
     Ok(out)
 }
 
-// If a text was cut off, it is listed or has one fault of a policy.
+// A text that is cut off is listed, or has one fault of a policy.
 #[test]
 fn every_beginning_is_listed_or_refused(rt: HostRuntime) -> Result<(), Fail> {
     for length in 0..GUESTS.len() {
@@ -42,7 +42,8 @@ fn every_beginning_is_listed_or_refused(rt: HostRuntime) -> Result<(), Fail> {
     Ok(())
 }
 
-// A beginning, a text so many times after it, and what is listed or the fault: too many bytes come before bad ones.
+// A prefix, the text after it and how often it is repeated, and the listing or the fault: too many bytes are reported
+// before bad ones.
 const MANY: [(&str, &[u8], usize, &str); 7] = [
     ("type a;", b"allow a a:c d;\n", 65_536, ""),
     (
@@ -72,7 +73,7 @@ fn takes_the_most_statements_and_bytes(rt: HostRuntime) -> Result<(), Fail> {
     Ok(())
 }
 
-// Behind 256 declarations, a line each.
+// The text follows 256 declarations, one per line.
 #[test]
 fn takes_256_types_and_256_attributes(rt: HostRuntime) -> Result<(), Fail> {
     let alloc = rt.alloc();
@@ -120,8 +121,8 @@ fn a_writer_that_fails(rt: HostRuntime) -> Result<(), Fail> {
     Ok(())
 }
 
-// For listings in which one allocation fails. If that is one of `policy`, it answers that memory
-// was refused, and what went out is a beginning of the lines. The test's own room is asked for again.
+// Tests listings in which one allocation fails. If that is one of `policy`, it returns the fault of memory, and a
+// prefix of the lines was written. If it is one of the test itself, it is tried again.
 fn refused_at_most_once(
     rt: &impl Abort,
     alloc: Global,

@@ -1,4 +1,4 @@
-//! Names and numbers of types, what a source may do, and every beginning of a text.
+//! Names and numbers of types, what a source may do, and every prefix of a text.
 use crate::texts::{GUESTS, declarations};
 use bitflags::Flags;
 use gt_policy::{Policy, PolicyFaultKind};
@@ -6,7 +6,7 @@ use gt_types::{Allows, Perms, TypeId};
 use std::alloc::{AllocError, Global};
 use std::test::Fail;
 
-// A beginning is a policy if a statement has just ended, and has one fault elsewhere.
+// A prefix is a policy if a statement has just ended, and otherwise has one fault.
 #[test]
 fn ends_each_beginning_of_a_text(rt: HostRuntime) -> Result<(), Fail> {
     let alloc = rt.alloc();
@@ -23,7 +23,7 @@ fn ends_each_beginning_of_a_text(rt: HostRuntime) -> Result<(), Fail> {
     Ok(())
 }
 
-// How many types a policy has, the names of some of them, and the numbers of some names.
+// Returns how many types a policy has, the names of some of them, and the numbers of some names.
 fn names_said(alloc: Global, policy: &Policy) -> Result<String, AllocError> {
     let count = policy.count();
     let first = policy.name(TypeId(0));
@@ -91,8 +91,7 @@ fn says_what_a_source_may_do(rt: HostRuntime) -> Result<(), Fail> {
     Ok(())
 }
 
-// With tools/refused.sh, which refuses each request for memory in turn: the answer is the same, or the fault is
-// `Memory`.
+// With tools/refused.sh, which makes each allocation fail in turn: the answer is the same, or the fault is `Memory`.
 #[test]
 fn memory(rt: HostRuntime) {
     match Policy::parse(rt.alloc(), COPY_AND_QUERY) {

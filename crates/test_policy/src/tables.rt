@@ -1,4 +1,4 @@
-//! The compiled table beside the walk of the statements: both answer every question alike.
+//! The compiled table compared with the walk of the statements: both answer every question alike.
 use crate::texts::{GUESTS, TAKEN_OUT};
 use bitflags::Flags;
 use gt_allow::AllowTable;
@@ -35,7 +35,7 @@ allow control_t domain:grant query;\n";
 const OF_ANOTHER_CLASS: &str =
     "type a_t; allow a_t a_t:file *; allow a_t a_t:{ grant file } map_red;\n";
 
-// How many triples of so many types the policy allows, and on how many its table answers otherwise.
+// Counts the triples of this number of types that the policy allows, and those on which its table answers otherwise.
 fn compared(policy: &Policy, table: &AllowTable, types: u16) -> (u32, u32) {
     let mut allowed: u32 = 0;
     let mut other: u32 = 0;
@@ -52,7 +52,7 @@ fn compared(policy: &Policy, table: &AllowTable, types: u16) -> (u32, u32) {
     (allowed, other)
 }
 
-// On every triple of the types, and of one type that is not declared.
+// Compares them on every triple of the types, and of one undeclared type.
 #[test]
 fn a_table_answers_as_the_walk(rt: HostRuntime) -> Result<(), Fail> {
     let alloc = rt.alloc();

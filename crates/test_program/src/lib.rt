@@ -1,6 +1,6 @@
-//! Tests of `gt_commands`, over what it makes public.
+//! Tests of `gt_commands` over its public items.
 //!
-//! They say what no contract says: that a command line is answered if there is memory.
+//! They test what no contract specifies: that a command line is answered if there is memory.
 #![tactic(auto)]
 
 #[cfg(test)]

@@ -1,9 +1,9 @@
-//! Command lines, and the plans made of them.
+//! Command lines, and their plans.
 use gt_commands::{Format, Invocation, plan, with_long_flags};
 use std::alloc::{AllocError, Global};
 use std::test::Fail;
 
-// The words of a command line.
+// Returns the words of a command line.
 fn words_of(alloc: Global, line: &str) -> Result<Vec<String>, AllocError> {
     let mut words = Vec::new(alloc);
     for word in line.split(' ') {
@@ -328,7 +328,7 @@ fn a_line_is_planned_as_it_asks(rt: HostRuntime) -> Result<(), Fail> {
     Ok(())
 }
 
-// Lines that are no plan, and whether they are faults.
+// Lines without a plan, and whether they are faults.
 const REFUSED: [(&str, bool); 54] = [
     ("gthost --help", false),
     ("gthost --version", false),

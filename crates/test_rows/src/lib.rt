@@ -1,11 +1,12 @@
-//! Entries, ends of copies and places in one line each, for the rows of tests.
+//! Macros that write entries, ends of copies, copies and spots in one line each, for the rows of tests.
 //!
-//! A table of tests is a constant, and a constant calls no function. So each of these is a macro, with the fields of
-//! its type in their order; domains and references are written as their types have them. The file that calls one
-//! imports the names of the types.
+//! A table of tests is a constant, and a constant calls no function. So these are macros, with the fields of a type in
+//! their order. Domains and references are written as their types have them. The file that calls a macro imports the
+//! names of the types, and this crate uses no other. There is nothing to prove: a call is proved as if its value were
+//! written out.
 #![tactic(auto)]
 
-/// A page: domain, whether it is read-only, and frame.
+/// A page entry: domain, whether it is read-only, and frame.
 #[macro_export]
 macro_rules! page {
     ($dom:expr, $ro:expr, $frame:expr) => {
@@ -17,7 +18,7 @@ macro_rules! page {
     };
 }
 
-/// A writable part of a page: domain, frame, offset and length.
+/// A writable sub-page entry: domain, frame, offset and length.
 #[macro_export]
 macro_rules! sub {
     ($dom:expr, $frame:expr, $off:expr, $len:expr) => {
@@ -69,7 +70,7 @@ macro_rules! copy {
     };
 }
 
-/// A place in a frame: owner, number and offset.
+/// A spot in a frame: owner, number and offset.
 #[macro_export]
 macro_rules! spot {
     ($owner:expr, $number:expr, $off:expr) => {

@@ -1,8 +1,7 @@
-//! Tests of the reader of scripts, over what its crate makes public.
+//! Tests of `gt_script` (the parser of scripts), over its public items.
 //!
-//! They say what no contract says of texts that are too long for a file: those at the limits. Worked scripts with what
-//! they are read as, whole and cut off, are in `cases_script`. Scripts with a fault are there and in
-//! `cases_host`.
+//! They test what no contract specifies of texts at the limits, which are too long for a file. Worked scripts with
+//! their parsed form, whole and cut off, are in `cases_script`. Scripts with a fault are there and in `cases_host`.
 #![tactic(auto)]
 
 #[cfg(test)]

@@ -3,12 +3,12 @@ use gt_script::{ScriptFault, ScriptFaultKind, parse, parse_run};
 use std::alloc::{AllocError, Global};
 use std::test::Fail;
 
-// The beginning of texts whose other lines are made here, too long for a file. They begin at line 4.
+// The first lines of texts whose other lines are made here, too long for a file. The others begin at line 4.
 const HEAD: &str = "triple a_t a_t copy\n\
 domain 1 u:r:a_t 8 1 1\n\
 domain 2 u:r:a_t 8 1 1\n";
 
-// The fault of a text, as it prints; nothing if the text is a script.
+// Returns the fault of a text, as it prints, or nothing if the text is a script.
 fn fault_text(alloc: Global, text: &[u8]) -> Result<String, AllocError> {
     match parse(alloc, text) {
         Ok(_) => Ok(String::new(alloc)),
@@ -16,7 +16,7 @@ fn fault_text(alloc: Global, text: &[u8]) -> Result<String, AllocError> {
     }
 }
 
-// How many flags and tasks a text for `run` has, or its fault.
+// Returns how many flags and tasks a text for `run` has, or its fault.
 fn run_said(alloc: Global, text: &[u8]) -> Result<String, AllocError> {
     match parse_run(alloc, text) {
         Ok(script) => format!(in alloc; "{} {}", script.flags(), script.tasks().len()),
@@ -24,7 +24,7 @@ fn run_said(alloc: Global, text: &[u8]) -> Result<String, AllocError> {
     }
 }
 
-// A script with a line of so many digits, and the fault of it.
+// A script with a line of this number of digits, and its fault.
 #[test]
 fn takes_8192_digits(rt: HostRuntime) -> Result<(), Fail> {
     let alloc = rt.alloc();
@@ -55,7 +55,7 @@ fn takes_1048576_bytes(rt: HostRuntime) -> Result<(), Fail> {
     Ok(())
 }
 
-// Two domains take turns, flag by flag, so each turn of the reader raises one flag more. Then one waits for ever.
+// Two domains take turns, flag by flag, so each turn of the parser raises one more flag. Then one waits forever.
 #[test]
 fn a_long_way_round_ends(rt: HostRuntime) -> Result<(), Fail> {
     let alloc = rt.alloc();

@@ -1,4 +1,4 @@
--- What the tests' caller keeps of a pin.
+-- The pins of the tests' caller.
 use Rattle.std.specs.Prelude.{◌≡◌}
 use Rattle.gt_types.specs.declared.Dir.{Dir}
 use Rattle.gt_types.specs.declared.DomId.{DomId}

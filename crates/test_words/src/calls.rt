@@ -19,14 +19,14 @@ use std::process::Abort;
 /// The entry that the owner uses.
 pub(crate) const ENTRY: GrantRef = GrantRef(0);
 
-/// What the owner keeps of it.
+/// The owner's knowledge of it.
 #[derive(Drop)]
 pub(crate) struct Row {
     pub entry: Entry,
     pub generation: u32,
 }
 
-/// What it keeps at the beginning.
+/// Its knowledge at the start.
 pub(crate) const UNUSED: Row = Row {
     entry: Entry::Invalid,
     generation: 0,
@@ -88,7 +88,8 @@ pub(crate) fn try_pin(
     None
 }
 
-// The owner publishes an entry in place of the invalid one. Answers 0 if its entry is not invalid, or worn.
+// Publishes an entry of the owner instead of the invalid one. Returns 0 as the error if its entry is not invalid, or
+// worn.
 pub(crate) fn publish(
     words: &Words,
     seat: &mut Seat,
@@ -111,7 +112,7 @@ pub(crate) fn publish(
     Ok(())
 }
 
-// The owner revokes its entry, if it has no pins. Answers Ok if it is invalid already.
+// Revokes the owner's entry, if it has no pins. Returns Ok if it is already invalid.
 pub(crate) fn revoke(words: &Words, seat: &mut Seat, row: &mut Row) -> Result<(), u64>
     requires owner { HasRow words.now seat.old row.old.generation row.old.entry }
     ensures owner { HasRowStill seat.old seat.new row.new.generation row.new.entry }
@@ -125,7 +126,7 @@ pub(crate) fn revoke(words: &Words, seat: &mut Seat, row: &mut Row) -> Result<()
     Ok(())
 }
 
-// The owner withdraws its entry with the pins that it has. Answers Ok if it is invalid already.
+// Withdraws the owner's entry with the pins that it has. Returns Ok if it is already invalid.
 pub(crate) fn withdraw(words: &Words, seat: &mut Seat, row: &mut Row) -> Result<(), u64>
     requires owner { HasRow words.now seat.old row.old.generation row.old.entry }
     requires entry { HasDomain words.now.layout seat.old.dom }
@@ -141,7 +142,7 @@ pub(crate) fn withdraw(words: &Words, seat: &mut Seat, row: &mut Row) -> Result<
     Ok(())
 }
 
-// The owner makes its entry read-only or writable, if it is the other and has no write pin that it must not have.
+// Makes the owner's entry read-only or writable, if it is the other and has no write pin that it must not have.
 pub(crate) fn turn(words: &Words, seat: &mut Seat, row: &mut Row, ro: bool) -> Result<bool, u64>
     requires owner { HasRow words.now seat.old row.old.generation row.old.entry }
     requires entry { HasDomain words.now.layout seat.old.dom }
@@ -168,8 +169,8 @@ pub(crate) fn turn(words: &Words, seat: &mut Seat, row: &mut Row, ro: bool) -> R
     Ok(true)
 }
 
-// The other domain pins the entry and gives the pin back, and the owner tries to revoke it in between. Answers what the
-// owner was answered, or nothing if the pin was not taken.
+// Pins the entry for the other domain and releases the pin, while the owner tries to revoke the entry in between.
+// Returns the owner's answer, or nothing if the pin was not taken.
 pub(crate) fn revoke_pinned(
     words: &Words,
     owner: &mut Seat,
@@ -194,8 +195,7 @@ pub(crate) fn revoke_pinned(
     Some(answer)
 }
 
-// The owner withdraws its entry, and grants this one in its place. Answers the word between, and what the grant was
-// answered.
+// Withdraws the owner's entry, and grants this one instead. Returns the word in between, and the answer of the grant.
 fn withdraw_and_grant(
     words: &Words,
     owner: &mut Seat,
@@ -215,9 +215,8 @@ fn withdraw_and_grant(
     (word, early)
 }
 
-// The other domain pins the entry to write, the owner withdraws it, and grants this one in its place before and after
-// the pin is given back. Answers the word between, and what both grants were answered, or nothing if the pin was not
-// taken.
+// Pins the entry for writing by the other domain, withdraws it, and grants this one instead before and after the pin is
+// released. Returns the word in between, and the answers of both grants, or nothing if the pin was not taken.
 pub(crate) fn withdraw_pinned(
     words: &Words,
     owner: &mut Seat,
@@ -244,7 +243,7 @@ pub(crate) fn withdraw_pinned(
     Some((word, early, late))
 }
 
-// Takes a read pin of the entry that was looked at, if it can be.
+// Takes a read pin of the entry that was looked at, if possible.
 fn pin_to_read(
     words: &Words,
     seat: &mut Seat,
@@ -265,7 +264,7 @@ fn pin_to_read(
     }
 }
 
-// The other domain pins the entry twice for reading, and gives one pin back and then the other. Answers the control
+// Pins the entry twice for reading by the other domain, and releases one pin and then the other. Returns the control
 // words that the owner saw with both pins, with one and with none, or nothing if one was not taken.
 pub(crate) fn pin_twice(
     words: &Words,
@@ -296,7 +295,7 @@ pub(crate) fn pin_twice(
     Some((both, one, none))
 }
 
-// Grants a page and revokes it again, so many times.
+// Grants a page and revokes it again, this number of times.
 pub(crate) fn toggle(words: &Words, mut seat: Seat, mut row: Row, times: u32) -> (Seat, Row)
     requires owner { HasRow words.now seat row.generation row.entry }
     ensures owner { HasRow words.now result.0 result.1.generation result.1.entry }
@@ -308,7 +307,7 @@ pub(crate) fn toggle(words: &Words, mut seat: Seat, mut row: Row, times: u32) ->
     (seat, row)
 }
 
-// Looks at an entry, pins it and gives the pin back, so many times.
+// Looks at an entry, pins it and releases the pin, this number of times.
 pub(crate) fn churn(words: &Words, mut seat: Seat, dom: DomId, gref: GrantRef, times: u32)
     requires seat { IsSeatOf words.now seat }
     requires entry { IsEntryOf words.now dom gref }
@@ -343,7 +342,7 @@ fn domain(id: u16) -> DomainConfig
     }
 }
 
-// Domains 1 and 2, each with a table of one frame in version 1.
+// Returns a configuration of the domains 1 and 2, each with a table of one frame in version 1.
 fn two_domains(alloc: Global) -> Result<Config, AllocError>
     ensures ids { IfOk result (λ c. (layout_of c).ids ≡ record { 0 = 1 } ∷ record { 0 = 2 } ∷ []) }
     ensures first { IfOk result (λ c. c.first_gen ≡ 0) }
@@ -357,7 +356,7 @@ fn two_domains(alloc: Global) -> Result<Config, AllocError>
     })
 }
 
-// The words of domains 1 and 2, and their seats.
+// Makes the words of domains 1 and 2, and their seats.
 pub(crate) fn start(alloc: Global) -> Result<(Words, Seat, Seat), StartFault>
     ensures domain { IfOk result (λ r. HasDomain r.0.layout (record { 0 = 1 })) }
     ensures second { IfOk result (λ r. HasDomain r.0.layout (record { 0 = 2 })) }
@@ -374,7 +373,7 @@ pub(crate) fn start(alloc: Global) -> Result<(Words, Seat, Seat), StartFault>
     Ok((words, owner, other))
 }
 
-// The same, and domain 1 has granted a page to domain 2 by its first entry.
+// Makes the same, where domain 1 has granted a page to domain 2 by its first entry.
 pub(crate) fn start_with_page(
     rt: &impl Abort,
     alloc: Global,

@@ -1,4 +1,4 @@
-//! Worked runs of two domains, each written as one text. Words are in base 16, but inside an answer in base 10.
+//! Worked runs of two domains, each written as one text. Words are in base 16, but in base 10 inside an answer.
 use crate::calls::{
     ENTRY, UNUSED, churn, look, page, pin_twice, publish, revoke, revoke_pinned, start,
     start_with_page, toggle, try_pin, turn, withdraw_pinned,
@@ -13,7 +13,7 @@ const OWNER: DomId = DomId(1);
 
 const OTHER: DomId = DomId(2);
 
-// Compares what came of a run with what must.
+// Compares the result of a run with the expected one.
 fn says(rt: &impl Abort, text: &String, wanted: &str) -> Result<(), Fail> {
     assert_eq!(rt; text.as_str(), wanted);
     Ok(())
@@ -35,7 +35,7 @@ fn pins_no_entry_that_was_granted_anew(rt: HostRuntime) -> Result<(), Fail> {
     says(&rt, &text, ANEW)
 }
 
-// What a revocation found under a read pin and under a write pin, and the word with none.
+// The words that a revocation found with a read pin and with a write pin, and the word with none.
 const PINNED: &str = "Some(Err(17592722915345)) Some(Err(17592722980865)) 100020000001 Ok(())";
 
 #[test]
@@ -49,8 +49,8 @@ fn refuses_to_revoke_a_pinned_entry(rt: HostRuntime) -> Result<(), Fail> {
     says(&rt, &text, PINNED)
 }
 
-// The word of a withdrawn entry with a write pin, and what grants before and after the pin was given back answered;
-// then the word of the new entry.
+// The word of a withdrawn entry with a write pin, and the answers of grants before and after the pin was released; then
+// the word of the new entry.
 const WITHDRAWN: &str = "Some((17592186109952, Err(17592186109952), Ok(()))) 200020000001";
 
 #[test]
@@ -62,7 +62,7 @@ fn grants_no_entry_over_pins(rt: HostRuntime) -> Result<(), Fail> {
     says(&rt, &text, WITHDRAWN)
 }
 
-// What the owner saw with two pins, with one of them left, and with none.
+// The owner sees two pins, then one of them, then none.
 #[test]
 fn counts_two_pins_of_one_entry(rt: HostRuntime) -> Result<(), Fail> {
     let (words, mut owner, mut other, _row) = start_with_page(&rt, rt.alloc())?;
@@ -98,7 +98,7 @@ fn finds_each_domain_by_its_number(rt: HostRuntime) -> Result<(), Fail> {
     says(&rt, &text, HEADERS)
 }
 
-// Whether each turn was made, and the word that the other domain saw after it.
+// Whether each change was made, and the word that the other domain saw after it.
 const TURNED: &str = "Ok(true) 200020000005 Ok(true) 300020000001 Ok(false) Ok(())";
 
 #[test]
@@ -116,7 +116,7 @@ fn turns_an_entry(rt: HostRuntime) -> Result<(), Fail> {
     says(&rt, &text, TURNED)
 }
 
-// A thread that grants and revokes beside one that pins leaves the invalid word without pins.
+// A thread that grants and revokes while another pins leaves the invalid word without pins.
 #[test]
 fn grants_beside_pins(rt: HostRuntime) -> Result<(), Fail> {
     let (words, owner, other) = start(rt.alloc())?;

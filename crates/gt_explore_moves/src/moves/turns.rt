@@ -1,4 +1,4 @@
-//! The turns of a state, and which of them go at once.
+//! The turns of a state, and which of them need no alternative.
 ghost use Rattle.std.specs.Prelude.{◌≡◌, ◌++◌, OnOk, false, IfOk};
 ghost use Rattle.gt_explore_moves.specs.Ends.{choices, disturbs_none};
 
@@ -9,7 +9,7 @@ use gt_explore_replay::Turn;
 use gt_script::{RunAction, RunTask};
 use std::alloc::AllocError;
 
-// So many moves of a domain, each with its own choice.
+// Appends this number of moves of a domain, each with its own choice.
 fn push_choices(turns: &mut Vec<Turn>, place: usize, count: usize) -> Result<(), AllocError>
     ensures { OnOk result (turns.new.items ≡ turns.old.items ++ choices place count) }
 {
@@ -19,7 +19,8 @@ fn push_choices(turns: &mut Vec<Turn>, place: usize, count: usize) -> Result<(),
     Ok(())
 }
 
-// Whether a task disturbs no other domain when it is next: it begins a call, raises a flag, or awaits a raised one.
+// Returns whether a task disturbs no other domain when it is next: it begins a call, raises a flag, or awaits a raised
+// one.
 fn disturbs_none(told: &[bool], task: &RunTask) -> bool
     ensures { result ≡ disturbs_none told.now task.now.deed }
 {
@@ -38,21 +39,21 @@ impl<'s, 'a> SearchContext<'s, 'a> {
     ghost use Rattle.gt_explore_moves.specs.Ends.{turns_from};
     ghost use Rattle.gt_explore_moves.specs.declared.scene.SearchState.{SearchState};
 
-    // Whether the domain at this place has no call open, and has begun all tasks of its list.
+    // Returns whether the domain at this position has no call open, and has begun all tasks of its list.
     fn is_ended(&self, place: usize, actor: &Actor<'a>) -> bool
         ensures { result ≡ is_ended self.now place actor.now }
     {
         actor.open.is_none() && self.task(place, actor.next).is_none()
     }
 
-    // Whether it has no mapping either.
+    // Returns whether it also has no mapping.
     fn is_done(&self, place: usize, actor: &Actor<'a>) -> bool
         ensures { result ≡ is_done self.now place actor.now }
     {
         self.is_ended(place, actor) && actor.mappings.is_empty()
     }
 
-    // How many moves it has: at the end of its list it can give back each of its mappings.
+    // Counts its moves: at the end of its list it can unmap each of its mappings.
     fn choices(&self, place: usize, actor: &Actor<'a>) -> usize
         ensures { result ≡ choices_at self.now place actor.now }
     {
@@ -63,7 +64,7 @@ impl<'s, 'a> SearchContext<'s, 'a> {
         }
     }
 
-    // The moves of all domains.
+    // Returns the moves of all domains.
     fn all_turns(&self, world: &SearchState<'a>) -> Result<Vec<Turn>, AllocError>
         ensures { IfOk result (λ turns. turns.items ≡ turns_from self.now 0 world.now.actors.items) }
     {
@@ -74,7 +75,7 @@ impl<'s, 'a> SearchContext<'s, 'a> {
         Ok(turns)
     }
 
-    // Whether the domain at this place has no open call, and its next line disturbs no other domain.
+    // Returns whether the domain at this position has no open call, and its next line disturbs no other domain.
     fn goes_at_once(&self, told: &[bool], place: usize, actor: &Actor<'a>) -> bool
         ensures { result ≡ goes_at_once self.now told.now place actor.now }
     {
@@ -87,7 +88,7 @@ impl<'s, 'a> SearchContext<'s, 'a> {
         }
     }
 
-    // The place of the first such domain.
+    // Returns the position of the first such domain.
     fn at_once(&self, world: &SearchState<'a>) -> Option<usize>
         ensures { IfSome result (λ place. (a : Actor) × (slice_get world.now.actors.items place ≡ Some a)
             × (goes_at_once self.now world.now.told.items place a ≡ true)) }
@@ -100,7 +101,7 @@ impl<'s, 'a> SearchContext<'s, 'a> {
         None
     }
 
-    /// The moves to try: that of a domain which disturbs no other, if there is one, or else all.
+    /// Returns the moves to try: only that of a domain which disturbs no other, if there is one, and otherwise all.
     pub fn turns(&self, world: &SearchState<'a>) -> Result<Vec<Turn>, AllocError>
         ensures { IfOk result (λ turns. AreToBeTried self.now world.now turns.items) }
     {
@@ -114,7 +115,7 @@ impl<'s, 'a> SearchContext<'s, 'a> {
         }
     }
 
-    /// Whether all domains are at the ends of their lists, with no call open and no mapping.
+    /// Returns whether all domains are at the ends of their lists, with no call open and no mapping.
     pub fn is_finished(&self, world: &SearchState<'a>) -> bool
         ensures finished { IsTrue result → AreDone self.now world.now.actors.items }
         ensures end { AreDone self.now world.now.actors.items → IsTrue result }

@@ -4,7 +4,7 @@ use crate::doing::Doing::{Begin, Do, Tick};
 use crate::doing::{OWNER, PEER, Row, load, peek, poke, store};
 use gt_core::Request;
 
-// What one domain stores the other peeks.
+// The bytes that one domain stores are the ones that the other peeks.
 pub const SHARED_PAGE: [Row; 8] = [
     (
         Do(PEER, store!(FIRST_HANDLE, 10, &[0xc0, 0xff, 0xee])),
@@ -22,7 +22,7 @@ pub const SHARED_PAGE: [Row; 8] = [
     (Do(PEER, peek!(5, 10, 3)), "ok [0, 0, 0]"),
 ];
 
-// The range comes before the mapping, and the mapping before what it may do.
+// The range is checked before the mapping, and the mapping before its direction.
 pub const ORDER_OF_ACCESSES: [Row; 11] = [
     (Do(PEER, store!(FIRST_HANDLE, 4096, &[1])), "N3"),
     (Do(PEER, store!(FIRST_HANDLE, 4096, &[])), "N7"),
@@ -37,7 +37,7 @@ pub const ORDER_OF_ACCESSES: [Row; 11] = [
     (Do(OWNER, peek!(7, 4094, 2)), "ok [0, 255]"),
 ];
 
-// A handle that was taken stores nothing.
+// A handle that was unmapped stores nothing.
 pub const STORE_BY_A_TAKEN_HANDLE: [Row; 5] = [
     (Do(PEER, UNMAP), "ok"),
     (Do(PEER, UNMAP), "N6"),
@@ -46,7 +46,7 @@ pub const STORE_BY_A_TAKEN_HANDLE: [Row; 5] = [
     (Do(PEER, store!(SECOND_HANDLE, 0, &[1])), "N7"),
 ];
 
-// The bytes of a store are those of its beginning, and are written with its step.
+// The bytes of a store are those given at its beginning, and are written with its step.
 pub const STORE_WITH_ITS_STEP: [Row; 5] = [
     (Begin(PEER, store!(FIRST_HANDLE, 0, &[1, 2])), "open"),
     (Do(OWNER, peek!(5, 0, 3)), "ok [0, 0, 0]"),

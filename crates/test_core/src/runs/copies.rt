@@ -1,4 +1,4 @@
-//! Copies: by pages, by parts of pages and through transitive entries, with the steps of their paths.
+//! Copies: by pages, by parts of pages and through transitive entries, with their steps.
 use super::tables::GRANT_PART;
 use super::via::{
     COPY_IS_OPEN, OWNERS_MAY, REVOKED_BEFORE_THE_PIN, REVOKED_BEHIND_A_COPY, VIA_TO_A_VIA,
@@ -13,10 +13,10 @@ use gt_entry::Entry;
 use gt_types::{DomId, GrantRef};
 use test_rows::{copy, end, page};
 
-// The caller's own domain, in a request.
+// The caller's own domain (`DOMID_SELF`), in a request.
 pub const SELF: DomId = DomId(0x7FF0);
 
-// Which ends of a copy are named by a grant reference.
+// The flags of a copy: which of its ends are named by a grant reference.
 pub const NONE: u16 = 0;
 
 pub const SOURCE: u16 = 1;
@@ -32,14 +32,14 @@ pub const FRAME_0: End = end!(0, SELF, 0);
 
 pub const FRAME_3: End = end!(3, SELF, 0);
 
-// A copy of so many bytes from this offset of the owner's entry 0 to frame 3 of the caller's own.
+// A copy of this number of bytes, starting at this offset of the owner's entry 0, to frame 3 of the caller's own.
 macro_rules! fetch {
     ($offset:expr, $len:expr) => {
         Copy(copy!(end!(0, OWNER, $offset), FRAME_3, $len, SOURCE))
     };
 }
 
-// A page is copied to its last byte, and not past it; a copy of no bytes at its end is one.
+// A page can be copied up to its last byte, and not beyond it. A copy of no bytes at its end is Ok.
 const PAGE: [Row; 6] = [
     (Do(OWNER, poke!(5, 4094, &[0xab, 0xcd])), "ok"),
     (Do(PEER, fetch!(0, 4096)), "ok"),
@@ -55,7 +55,7 @@ const PAGE: [Row; 6] = [
     (Do(OWNER, REVOKE), "ok"),
 ];
 
-// Part of a page is copied only inside its bytes.
+// Part of a page can be copied only inside its bytes.
 const SUB_PAGE: [Row; 6] = [
     (Do(OWNER, GRANT_PART), "ok"),
     (
@@ -69,7 +69,7 @@ const SUB_PAGE: [Row; 6] = [
     (Do(PEER, fetch!(99, 0)), "N14 100020000009"),
 ];
 
-// The destination is read-only: the pin of the source is given back.
+// The destination is read-only, so the pin of the source is released.
 const READ_ONLY_DEST: [Row; 3] = [
     (Do(OWNER, grant!(1, page!(PEER, true, 6))), "ok"),
     (
@@ -81,7 +81,7 @@ const READ_ONLY_DEST: [Row; 3] = [
     (Do(OWNER, REVOKE), "ok"),
 ];
 
-// An unknown domain comes before unknown flags.
+// The check for an unknown domain comes before the one for unknown flags.
 const FLAGS: [Row; 2] = [
     (Do(PEER, Copy(copy!(OWNER_0, FRAME_3, 1, 4))), "N2"),
     (
@@ -90,13 +90,13 @@ const FLAGS: [Row; 2] = [
     ),
 ];
 
-// A frame of another domain is named by its number.
+// A frame of another domain cannot be named by its number.
 const FOREIGN_FRAME: [Row; 1] = [(
     Do(PEER, Copy(copy!(end!(5, OWNER, 0), FRAME_3, 1, NONE))),
     "N4",
 )];
 
-// The bytes of a copy over itself are those before it.
+// A copy onto an overlapping range writes the bytes that were there before.
 const OVERLAP: [Row; 3] = [
     (Do(OWNER, poke!(0, 0, &[1, 2, 3, 4])), "ok"),
     (
@@ -106,7 +106,7 @@ const OVERLAP: [Row; 3] = [
     (Do(OWNER, peek!(0, 0, 6)), "ok [1, 1, 2, 3, 4, 0]"),
 ];
 
-// Each domain may be copied from to each.
+// Bytes may be copied from each domain to each.
 const ALL: [(DomId, DomId); 9] = [
     (OWNER, OWNER),
     (OWNER, PEER),

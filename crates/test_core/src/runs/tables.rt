@@ -14,12 +14,12 @@ const MAP_300: Request = map!(300, READ_ONLY);
 
 const MAP_256: Request = map!(256, READ_ONLY);
 
-// A sub-page of a whole page.
+// A sub-page entry of a whole page.
 const GRANT_SUB: Request = grant!(0, sub!(PEER, 5, 0, 4096));
 
 const GRANT_VIA: Request = grant!(1, via!(PEER, false, OTHER, GrantRef(7)));
 
-// The owner's calls on its table, and the peer's questions.
+// The owner's calls on its table, and the peer's queries.
 const VERSION_1: Request = Request::SetVersion { version: 1 };
 
 const VERSION_2: Request = Request::SetVersion { version: 2 };
@@ -41,7 +41,7 @@ pub const VERSION_IN_A_MAP: [Row; 5] = [
     (Do(PEER, MAP_300), "N9 6"),
 ];
 
-// Sizes of a table.
+// The sizes of a table.
 pub const SIZES: [Row; 7] = [
     (Do(PEER, MAP_256), "N9 6"),
     (Do(OWNER, Request::SetupTable { frames: 2 }), "ok frames=2"),
@@ -52,7 +52,7 @@ pub const SIZES: [Row; 7] = [
     (Do(PEER, Request::QuerySize { dom: DomId(9) }), "N1"),
 ];
 
-// Sub-pages and transitive entries are not mapped.
+// Sub-pages and transitive entries cannot be mapped.
 pub const NOT_MAPPED: [Row; 4] = [
     (Do(OWNER, GRANT_SUB), "ok"),
     (Do(OWNER, GRANT_VIA), "ok"),

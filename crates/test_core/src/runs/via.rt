@@ -28,7 +28,7 @@ pub const COPY_IS_OPEN: [Row; 4] = [
     (Begin(OTHER, COPY), "open"),
 ];
 
-// The transitive entry is pinned until its copy has given its pins back.
+// The transitive entry is pinned until its copy has released its pins.
 pub const REVOKED_BEHIND_A_COPY: [Row; 8] = [
     (Tick(OTHER, 4), "open"),
     (Do(PEER, REVOKE), "N19 100030000017"),
@@ -82,7 +82,7 @@ pub const OWNERS_MAY: [Row; 4] = [
     (Do(PEER, REVOKE), "ok"),
 ];
 
-// A transitive entry leads to a domain that there is not.
+// A transitive entry leads to a domain that does not exist.
 pub const VIA_TO_NO_DOMAIN: [Row; 3] = [
     (
         Do(PEER, grant!(1, via!(OTHER, true, DomId(9), GrantRef(0)))),
@@ -96,7 +96,7 @@ pub const VIA_TO_NO_DOMAIN: [Row; 3] = [
     (Do(PEER, Request::Revoke { gref: GrantRef(1) }), "ok"),
 ];
 
-// Behind a transitive entry the page must be for the owner of that entry.
+// The page to which a transitive entry leads must be for the owner of that entry.
 pub const VIA_TO_ANOTHERS_PAGE: [Row; 3] = [
     (Do(OWNER, grant!(4, page!(OTHER, true, 6))), "ok"),
     (Do(PEER, GRANT_VIA), "ok"),

@@ -2,7 +2,6 @@ use Rattle.std.proofs.Common.{◌≡◌, ◌++◌, List, [], ◌∷◌, inr, ap,
 use Rattle.gt_explore_replay.specs.declared.replay.Turn.{Turn}
 use Rattle.gt_explore_moves.proofs.scene.SearchContext.turns.Goals as goal
 
--- src/moves.rt:580:5
 pub returns-in_ok-push-in-Some : goal.returns-in_ok-push-in-Some
 returns-in_ok-push-in-Some c = let it = c.in-Some.ensures in
     inr (

@@ -5,7 +5,6 @@ use Rattle.test_explore_search.proofs.Pulling.{first-enough, second-enough}
 use Rattle.test_explore_search.proofs.apart.ApartSpace.turns.Goals.{then-state-self+in_ok-push, else-state-self+in_ok-push-2}
 use Rattle.test_explore_search.proofs.apart.ApartSpace.turns.Goals as goal
 
--- src/apart.rt:44:5
 pub returns : goal.returns
 returns c = elim c.if-state-self.branch [
   | then-state-self+in_ok-push w ↦ first-enough c.args.self.now c.args.state.now c.if-state-self.turns.items w.if-state-self.true
