@@ -1,5 +1,5 @@
 use Rattle.gt_explore_moves.proofs.AtOnce.{enough-turns}
-use Rattle.gt_explore_moves.proofs.space.SceneSpace.turns.Goals as goal
+use Rattle.gt_explore_moves.proofs.space.SearchContextTransitionSystem.turns.Goals as goal
 
 pub returns : goal.returns
 returns c = enough-turns c.args.self.now c.args.state.now _ c.in_ok-turns.ensures
