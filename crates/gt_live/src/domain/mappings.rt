@@ -1,4 +1,8 @@
 //! Map and unmap.
+ghost use Rattle.gt_words.specs.Conditions.{IsSameSeat};
+ghost use Rattle.gt_live.specs.Walks.{Called};
+ghost use Rattle.gt_live.specs.Driving.{Leaves};
+
 use super::{Domain, known_with, outcome_reply, refusal_of};
 use crate::driving::{drive_map, pin_of};
 use crate::monitor::Monitor;

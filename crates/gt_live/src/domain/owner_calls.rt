@@ -1,4 +1,8 @@
 //! An owner's calls on the entries of its table. None waits.
+ghost use Rattle.gt_live.specs.Domains.{AnswersQuietly, StaysIn};
+ghost use Rattle.gt_live.specs.Walks.{Called};
+ghost use Rattle.gt_live.specs.Driving.{Leaves};
+
 use super::{Domain, change_row, done, known_with};
 use crate::monitor::Monitor;
 use crate::owning::{drive_change, judge_own};

@@ -1,4 +1,8 @@
 //! Calls on headers: version, size, and questions about a table. None waits.
+ghost use Rattle.gt_live.specs.Domains.{AnswersQuietly, AnswersTold, StaysIn};
+ghost use Rattle.gt_live.specs.Domains.{frames_granted};
+ghost use Rattle.gt_live.specs.Walks.{Called};
+
 use super::{
     Domain, done, frames_granted, frames_reply, known_with, outcome_reply, refusal_of, size_by,
     size_reply, version_by, version_reply,

@@ -23,7 +23,7 @@ returns g c = λ over.
     let there : slice_get c.args.self.now.nodes.items c.in-Some.first ≡ Some c.in-Some-node_at.done.now =
     ap (λ (l : List Node). slice_get l c.in-Some.first) (sym c.as_slice.ensures.value) ∙ sym c.node_at.ensures ∙ ap (option_map (λ (n : Bor Node). n.now)) c.in-Some-node_at.is in
     let all : length c.as_slice-end-items.result.now ≤ c.ends.end-index = omega (arith, c.ends-test.false) in
-    text_found (g.S.Space.ways c.args.space.now) c.args.self.now over c.in-Some.first (record { orders = c.ends.orders; states = c.len-states.result }) c.in-Some.ensures (λ n at e here is has.
+    text_found (g.S.TransitionSystem.ways c.args.space.now) c.args.self.now over c.in-Some.first (record { orders = c.ends.orders; states = c.len-states.result }) c.in-Some.ensures (λ n at e here is has.
     let same : n.ends.items ≡ c.as_slice-end-items.result.now =
     ap (λ (m : Node). m.ends.items) (same_Some n c.in-Some-node_at.done.now (sym here ∙ there)) ∙ sym c.as_slice-end-items.ensures.value in
     let now : slice_get c.as_slice-end-items.result.now at ≡ Some e = ap (λ (l : List ReachedList). slice_get l at) (sym same) ∙ is in

@@ -3,7 +3,7 @@ use Rattle.gt_explore_search.proofs.exploring.Explorer.run.Goals as goal
 
 pub returns : goal.returns
 returns g c = λ starts.
-    let s = starts_on (g.S.Space.ways c.args.space.now) c.args.self.now c.number.new.self c.in_ok-world.world c.in_ok-state.state starts c.in_ok-state.ensures in
+    let s = starts_on (g.S.TransitionSystem.ways c.args.space.now) c.args.self.now c.number.new.self c.in_ok-world.world c.in_ok-state.state starts c.in_ok-state.ensures in
     let v = c.in_ok-first.ensures.holds s.0 in
-    on_ok c.walk.result (finishes_on (g.S.Space.ways c.args.space.now) (with_states c.args.self.now c.number.new.self) c.visit.new.self c.walk.new.self c.in_ok-world.world s.1 c.in_ok-world.ensures v.1)
+    on_ok c.walk.result (finishes_on (g.S.TransitionSystem.ways c.args.space.now) (with_states c.args.self.now c.number.new.self) c.visit.new.self c.walk.new.self c.in_ok-world.world s.1 c.in_ok-world.ensures v.1)
     (c.walk.ensures v.0 v.2)

@@ -6,7 +6,7 @@ pub tries-init : goal.tries-init
 tries-init g c = λ holds visit. (
   holds,
   grew_same c.args.self.now,
-  each_first (g.S.Space.ways c.args.space.now) c.args.self.now c.new-stack.result.items c.push.new.self.items c.args.first c.new-stack.ensures.items c.in_ok-push.ensures.items visit,
+  each_first (g.S.TransitionSystem.ways c.args.space.now) c.args.self.now c.new-stack.result.items c.push.new.self.items c.args.first c.new-stack.ensures.items c.in_ok-push.ensures.items visit,
 )
 
 pub returns-then-not-branch : goal.returns-then-not-branch

@@ -3,5 +3,5 @@ use Rattle.gt_explore_search.proofs.exploring.Explorer.walk.Given as goal
 
 abbrev pub invariant-tries : goal.invariant-tries
 invariant-tries g l =
-    SearchHolds (g.S.Space.ways l.space) l.fn.self → VisitHolds (g.S.Space.ways l.space) l.fn.self l.fn.first
-    → SearchHolds (g.S.Space.ways l.space) l.self × Grew l.fn.self l.self × EachVisitHolds (g.S.Space.ways l.space) l.self l.stack.items
+    SearchHolds (g.S.TransitionSystem.ways l.space) l.fn.self → VisitHolds (g.S.TransitionSystem.ways l.space) l.fn.self l.fn.first
+    → SearchHolds (g.S.TransitionSystem.ways l.space) l.self × Grew l.fn.self l.self × EachVisitHolds (g.S.TransitionSystem.ways l.space) l.self l.stack.items
