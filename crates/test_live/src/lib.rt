@@ -15,7 +15,7 @@
 #[cfg(test)]
 macro_rules! fetch {
     ($dom:expr, $gref:expr, $off:expr, $frame:expr, $to:expr, $len:expr) => {
-        Asks::Copy(copy!(
+        TestCall::Copy(copy!(
             end!($gref, DomId($dom), $off),
             end!($frame, DomId(DOMID_SELF), $to),
             $len,
