@@ -20,7 +20,7 @@ const SMALL_GAP: usize = 262_144;
 /// The stage of a run in which memory runs out.
 #[derive(Clone, Copy, PartialEq, Eq)]
 pub enum Place {
-    /// From before the script is read until a domain comes to the gate.
+    /// From before the script is read until a domain reaches the gate.
     Start,
     /// From when a domain raises this flag until one raises another.
     Flag(usize),

@@ -9,7 +9,7 @@
 //! pushed for it, whatever was pushed later. What is found under a domain and a number was pushed for them. Only a
 //! push into a shared log may wait.
 //!
-//! It stands on `gt_types` (domains, references, refusals), `gt_text` (the texts of answers), `bitflags`
+//! It uses `gt_types` (domains, references, refusals), `gt_text` (the texts of answers), `bitflags`
 //! (permissions) and `boxcar` (a list that threads share).
 #![tactic(auto)]
 

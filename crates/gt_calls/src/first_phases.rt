@@ -98,7 +98,7 @@ fn writing(dom: DomId, frame: u64, off: u16, len: usize) -> Phase
     })
 }
 
-// Returns the mapping under this handle.
+// Returns the mapping with this handle.
 fn held_at<P: Allows>(known: &CallerState<'_, P>, handle: Handle) -> Option<HeldPin>
     ensures { result ≡ value_of known.now.mappings.now handle }
 {

@@ -130,7 +130,7 @@ impl<P: Allows> Core<P> {
         self.machine.show(dom, gref)
     }
 
-    /// Returns the domain and the reference of the entry that the domain has mapped under this handle. None if the
+    /// Returns the domain and the reference of the entry that the domain has mapped with this handle. None if the
     /// handle names none of its mappings (for example after an unmap), or if the run has no such domain.
     pub fn subject(&self, dom: DomId, handle: Handle) -> Option<(DomId, GrantRef)>
         ensures { (h : History) → CoreStands (setting_in P.may self.now) h self.now.state →

@@ -11,7 +11,7 @@
 //! The definitions: `specs/Legal.antt`, over histories (`specs/History.antt`) and over the rules and paths of
 //! calls, which are those of `gt_calls`. `specs/Standing.antt` defines when a core represents a history.
 //!
-//! It stands on `gt_calls`, `gt_entry`, `gt_frames`, `gt_handles`, `gt_roster` and `gt_types`.
+//! It uses `gt_calls`, `gt_entry`, `gt_frames`, `gt_handles`, `gt_roster` and `gt_types`.
 #![tactic(auto)]
 
 mod accesses;

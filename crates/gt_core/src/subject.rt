@@ -20,7 +20,7 @@ impl DomainState {
 }
 
 impl<P: Allows> Machine<P> {
-    /// Returns the entry that the domain has mapped under this handle.
+    /// Returns the entry that the domain has mapped with this handle.
     pub(crate) fn subject(&self, dom: DomId, handle: Handle) -> Option<(DomId, GrantRef)>
         ensures { (h : History) → DomainsStand (setting_by P.may self.now) h self.now.domains.items →
             result ≡ subject_at (setting_by P.may self.now) h dom handle }

@@ -122,7 +122,7 @@ impl<'a> Actor<'a> {
         Ok(())
     }
 
-    /// Removes the mapping under this handle, whose serial is the index of the mapping.
+    /// Removes the mapping with this handle, whose serial is the index of the mapping.
     pub fn forget(&mut self, holder: PinHolder)
         ensures mappings { self.new.mappings.items ≡ given_back holder self.old.mappings.items }
         ensures rest { self.new ≡ record self.old { mappings = self.new.mappings } }

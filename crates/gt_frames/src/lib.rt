@@ -12,7 +12,7 @@
 //! passes a writ that covers the range. [`Frames`] are all frames of a run, for one thread: a write or a copy
 //! changes the frame named and no other.
 //!
-//! It stands on `gt_types` (names), `gt_entry` (entries, and what they permit) and `bytes` (a lemma on lists).
+//! It uses `gt_types` (names), `gt_entry` (entries, and what they permit) and `bytes` (a lemma on lists).
 #![tactic(auto)]
 
 mod frame;

@@ -26,7 +26,7 @@ pub fn every_script_prints_one_text()
     every_text_tells_one_thing();
 }
 
-/// A law: what a run wrote that stopped early is a prefix of what each run writes that comes to the end.
+/// A law: what a run wrote that stopped early is a prefix of what each run writes that reaches its end.
 pub fn every_beginning_is_of_the_text()
     ensures { (c : Contents) (audit : Bool) (old new : Option (List ℕ)) →
         BeginsRun c audit old new → BeginsEvery c audit old new }

@@ -47,7 +47,7 @@ pub fn call_bytes<'a>(alloc: Global, call: &ScriptCall<'a>) -> Result<Vec<u8>, A
     }
 }
 
-/// Makes the request of a call with these bytes. A label stands for the handle that it names.
+/// Makes the request of a call with these bytes. A label is replaced by the handle that it names.
 #[tactic(auto, unfolding(crate::specs::Runs::request_of))]
 pub fn request_of<'a, 'c>(
     labels: &Labels<'a>,

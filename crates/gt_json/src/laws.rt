@@ -6,7 +6,7 @@ ghost use Rattle.gt_json.specs.Places.{start};
 ghost use Rattle.gt_json.specs.Strings.{SpellsString, escaped};
 ghost use Rattle.gt_json.specs.declared.places.PrintedText.{PrintedText};
 
-/// A law: the members of a line's object give back the line, with blanks between them. So nothing is lost and nothing
+/// A law: the members of a line's object reproduce the line, with blanks between them. So nothing is lost and nothing
 /// added: two lines with the same members are the same.
 pub fn every_line_has_its_object()
     ensures { (printed : PrintedText) (line : List ℕ) →

@@ -25,7 +25,7 @@ pub enum Effect {
     Nothing,
     /// It took this pin.
     Pinned(HeldPin),
-    /// It released the pin of the mapping under this handle.
+    /// It released the pin of the mapping with this handle.
     Unpinned(Handle),
     /// It changed this entry of the caller.
     Changed(GrantRef, EntryChange),

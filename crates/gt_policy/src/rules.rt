@@ -80,7 +80,7 @@ impl Members {
         Members { sets }
     }
 
-    // Returns the types that a name stands for.
+    // Returns the types that a name denotes.
     fn named(&self, symbol: Symbol) -> TypeSet
         ensures { (n : ℕ) → holds result n ≡ stands_for (has self.now) symbol n }
     {

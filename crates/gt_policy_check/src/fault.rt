@@ -10,7 +10,7 @@ use gt_policy::{Policy, PolicyFault, PolicyFaultKind};
 use gt_text::{push_text, text_of};
 use std::alloc::{AllocError, Global};
 
-/// Tokens that may continue a statement, with what each is called. A permission stands for any name, since it fits
+/// Tokens that may continue a statement, with what each is called. A permission represents any name, since it fits
 /// wherever a name fits.
 const CANDIDATES: &[(&str, &str)] = &[
     ("allow", "a statement"),

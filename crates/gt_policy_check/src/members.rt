@@ -7,7 +7,7 @@ ghost use Rattle.gt_policy_check.specs.Members.{names_given, names_in_lines, is_
 use gt_policy::{Items, LinedStatement, Mention, Statement, TextPiece};
 use std::alloc::{AllocError, Global};
 
-/// A type and the names that stand for it: its name, and those of its attributes.
+/// A type and the names that denote it: its name, and those of its attributes.
 #[derive(Drop)]
 pub struct Member<'a> {
     pub name: TextPiece<'a>,
@@ -58,7 +58,7 @@ fn push_given<'a>(
     Ok(())
 }
 
-// Collects the names that stand for a type.
+// Collects the names that denote a type.
 fn names_of<'a>(
     alloc: Global,
     statements: &[LinedStatement<'a>],

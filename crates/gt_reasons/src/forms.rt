@@ -1,7 +1,7 @@
 //! The forms of a script's lines, and what is expected at each word.
 use gt_script_lines::is_word;
 
-/// The forms of the lines, as in docs/FORMATS_SCRIPTS.md. A word in capitals is a part; any other stands for itself.
+/// The forms of the lines, as in docs/FORMATS_SCRIPTS.md. A word in capitals is a part; any other is literal.
 pub const FORMS: [&str; 30] = [
     "triple TYPE TYPE PERMISSION",
     "wear GENERATION",
@@ -155,7 +155,7 @@ pub fn example_of<'f>(word: &'f [u8]) -> &'f [u8] {
     word
 }
 
-/// Returns what is expected at this word of a form; None for a word that stands for itself.
+/// Returns what is expected at this word of a form; None for a literal word.
 pub fn expected_at(word: &[u8]) -> Option<&'static str> {
     for part in &PARTS {
         if is_word(word, part.name) {

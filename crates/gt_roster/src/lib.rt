@@ -7,7 +7,7 @@
 //! it. [`Roster::domain`] returns that domain. A contract sees a [`Roster`] as its configuration. Only the two
 //! `new` allocate.
 //!
-//! It stands on `gt_types`.
+//! It uses `gt_types`.
 #![tactic(auto)]
 
 mod positions;

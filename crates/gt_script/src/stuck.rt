@@ -1,4 +1,4 @@
-//! Whether each domain of a run comes to the end of its list, if every call is answered.
+//! Whether each domain of a run reaches the end of its list, if every call is answered.
 //!
 //! The domains move in turn, each as far as the raised flags let it, until a whole turn raises no new flag.
 ghost use Rattle.std.specs.Prelude.{◌≡◌, ◌≤◌, ◌↔◌, ℕ, Bool, IfOk, All, IsTrue, length};

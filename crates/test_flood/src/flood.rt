@@ -36,7 +36,7 @@ impl Flood {
     ///
     /// # Errors
     ///
-    /// There is no memory for the list of blocks, or for the window.
+    /// The list of blocks, or the window, could not be allocated.
     pub fn new(alloc: Global) -> Result<Flood, AllocError> {
         let taken = Vec::with_capacity(alloc, BLOCKS)?;
         let heap: Vec<u8> = Vec::with_capacity(alloc, HEAP)?;
@@ -60,7 +60,7 @@ impl Flood {
     ///
     /// # Errors
     ///
-    /// There is no memory for that block. The flood is then open.
+    /// That block could not be allocated. The flood is then open.
     pub fn close(&mut self, gap: usize) -> Result<(), AllocError> {
         self.open();
         let plug = Vec::with_capacity(self.alloc, gap)?;

@@ -87,7 +87,7 @@ impl Domain {
     ///
     /// # Errors
     /// The first rule that applies: N1, N2, N5 or N8 at the beginning; N9 with the header's word; N10 to N13, N16, N17
-    /// or N18 with the entry's word. N26 if no rule applies at the beginning and there is no memory for the mapping.
+    /// or N18 with the entry's word. N26 if no rule applies at the beginning and the mapping cannot be allocated.
     /// Mappings and pins are unchanged.
     pub fn map<P: Allows>(
         &mut self,
