@@ -12,10 +12,12 @@ struct gthost_domain {
     bool is_live;
 };
 
-/* The limits of a run. */
+/* The largest number of frames of a domain. The library keeps none of them. */
+#define GTHOST_MAX_FRAMES UINT32_MAX
+
+/* The other limits of a run. */
 enum {
     GTHOST_MAX_DOMAINS = 64,           /* domains of a run */
-    GTHOST_MAX_FRAMES = 64,            /* frames of a domain */
     GTHOST_FRAME_SIZE = 4096,          /* bytes of a frame */
     GTHOST_MAX_TABLE_FRAMES = 16,      /* frames of a grant table */
     GTHOST_LAST_VERSION = 2,           /* of a grant table; the first version is 1 */

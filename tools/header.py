@@ -44,7 +44,7 @@ OWN = {
 }
 # The limits of gt_types that the header names.
 LIMITS = {
-    "MAX_DOMAINS", "MAX_FRAMES", "FRAME_SIZE", "MAX_TABLE_FRAMES", "LAST_VERSION", "MAX_MAPPINGS", "MAX_PINS",
+    "MAX_DOMAINS", "FRAME_SIZE", "MAX_TABLE_FRAMES", "LAST_VERSION", "MAX_MAPPINGS", "MAX_PINS",
     "LAST_GENERATION", "DOMID_SELF", "MOST_RESERVED",
 }
 # The numbers that Xen's public header has too, by its names.

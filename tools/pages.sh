@@ -19,13 +19,16 @@ stored() {
 # The lines below a heading of a help text, without the blanks before them.
 section() { awk -v head="$1:" '$0 == head { on = 1; next } on && !NF { exit } on { sub(/^ +/, ""); print }'; }
 
-commands() { stored --help | section Commands | awk '{ print $1 }'; }
+commands() { stored --help | section Commands | awk '$1 != "help" { print $1 }'; }
 
 # What follows the last options of a text: the paragraphs of --help below them.
 after() { awk '/^Options:/ { on = 1; next } on == 1 && !NF { on = 2; next } on == 2 { print }'; }
 
 # A text as roff takes it.
 roff() { sed -e 's/\\/\\e/g' -e 's/-/\\-/g' -e "s/^\([.']\)/\\\\\&\1/"; }
+
+# The same, with lines `.PP` as they are.
+roff_but_breaks() { sed -e '/^\.PP$/!{s/\\/\\e/g;s/-/\\-/g;s/^\([.'"'"']\)/\\\&\1/;}'; }
 
 # A list of roff from lines `NAME  WHAT IT IS`.
 list() {
@@ -35,7 +38,7 @@ list() {
 
 # The names of the rules, and the permissions that the help of `why` lists.
 rules() { stored rules | awk '{ print $1 }' | tr '\n' ' ' | sed 's/ $//'; }
-permissions() { stored "why -h" | sed -n 's/^ *<PERMISSION> *One of //p' | tr -d ','; }
+permissions() { stored "why -h" | sed -n 's/^ *\[PERMISSION\] *\(map_.*\)$/\1/p' | sed -e 's/,//g' -e 's/ or / /'; }
 
 # The words of the launcher, with what they are.
 launcher_words() { sed -n 's|^#.*\./gthost \([a-z][a-z]*\)\( [][A-Z]*\)\{0,1\}   *\(.*\)$|\1\x1f\3|p' gthost; }
@@ -72,7 +75,7 @@ man() {
     printf '.B gthost\n%s\n.br\n' "$(usage_of "$command" | roff)"
   done
   printf '.SH DESCRIPTION\n'
-  stored --help | after | sed -n '/^The exit status/q;p' | roff
+  stored --help | after | sed -n '/^Exit status/q;p' | roff
   scripts
   printf '.SH COMMANDS\n'
   for command in $(commands); do
@@ -84,7 +87,7 @@ man() {
   printf '.SH OPTIONS\n'
   stored --help | section Options | list
   printf '.SH EXIT STATUS\n'
-  stored --help | after | sed -n '/^The exit status/,/^Try:/{/^Try:/d;p}' | roff
+  stored --help | after | sed -n '/^Exit status/,/^Try:/{/^Try:/d;p}' | sed 's/^$/.PP/' | roff_but_breaks
   printf '.SH LIMITS\n'
   stored --version | sed '1,2d' | { printf '.nf\n'; roff; printf '.fi\n'; }
   printf '.SH FILES\n.I share/gthost/examples\nbelow the folder of the installation: scripts, policies and a dump to try.\n'
@@ -101,7 +104,7 @@ flags() {
 }
 
 # The flags of a command, in one line.
-all_flags() { flags "$1" | cut -d $'\x1f' -f 1 | sed 's/^/--/' | tr '\n' ' ' | sed 's/ $//'; }
+all_flags() { flags "$1" | cut -d $'\x1f' -f 1 | sed -e 's/^/--/' -e 's/^--verbose$/--verbose -v/' | tr '\n' ' ' | sed 's/ $//'; }
 
 # The values of an option: those that its help names, as `text|json`, and of --find the rules.
 values_of() { if [ "$1" = find ]; then rules; else values "$2"; fi; }
@@ -185,6 +188,7 @@ zsh_completion() {
       if [ -n "$value" ]; then
         printf " '--%s=[%s]:value:(%s)'" "$flag" "$(zsh_text "$what")" "$(values_of "$flag" "$value")"
       else
+        if [ "$flag" = verbose ]; then printf " '-v[%s]'" "$(zsh_text "$what")"; fi
         printf " '--%s[%s]'" "$flag" "$(zsh_text "$what")"
       fi
     done
@@ -210,7 +214,8 @@ fish_completion() {
   printf "complete -c gthost -n __fish_use_subcommand -l version -d 'Print version'\n"
   for command in $(commands); do
     flags "$command" | while IFS=$'\x1f' read -r flag value what; do
-      printf "complete -c gthost -n '__fish_seen_subcommand_from %s' -l %s%s -d '%s'\n" "$command" "$flag" \
+      printf "complete -c gthost -n '__fish_seen_subcommand_from %s'%s -l %s%s -d '%s'\n" "$command" \
+        "$([ "$flag" != verbose ] || echo ' -s v')" "$flag" \
         "${value:+ -x -a $quote$(values_of "$flag" "$value")$quote}" "$(fish_text "$what")"
     done
   done

@@ -5,7 +5,7 @@
 # usage: awk -f tools/words.awk -- crates/cases_program/stdout WORD..
 #
 # Exit status 0: a command. Its name, `file` or `input`, the place of its FILE among the words, the FILE, and its options
-# follow, a line each. 3: a text for the standard output. 4: a text for the standard error; the program's exit status is
+# follow, a line each, and then `=PLACE` for each further FILE. 3: a text for the standard output. 4: a text for the standard error; the program's exit status is
 # then 2.
 
 # Reads the text of each command line that is stored.
@@ -33,6 +33,7 @@ function read_commands(    lines, n, i, on, parts) {
     else if (lines[i] == "") on = 0
     else if (on && lines[i] ~ /^  [a-z]/) {
       split(lines[i], parts, " ")
+      if (parts[1] == "help") continue
       commands[++command_count] = parts[1]
       is_command[parts[1]] = 1
     }
@@ -41,7 +42,7 @@ function read_commands(    lines, n, i, on, parts) {
 
 # The options and words of a command, from its usage and the options of its help. Each has its text, as `--format
 # <text|json>`, and `takes` says which take a value.
-function read_options(command,    lines, n, i, on, parts, id, usage) {
+function read_options(command,    lines, n, i, j, on, parts, id, times, usage) {
   option_count = word_count = 0
   split("", is_option); split("", takes); split("", shown); split("", is_needed); split("", word_at)
   n = split(command == "" ? text["gthost --help"] : text["gthost " command " -h"], lines, "\n")
@@ -73,9 +74,12 @@ function read_options(command,    lines, n, i, on, parts, id, usage) {
   }
   n = split(usage, parts, " ")
   for (i = command == "" ? 4 : 3; i <= n; i++) {
+    times = sub(/\.\.\.$/, "", parts[i]) ? 8 : 1
     id = substr(parts[i], 2, length(parts[i]) - 2)
-    word_at[++word_count] = id
-    shown[id] = "<" id ">"
+    for (j = 1; j <= times; j++) {
+      word_at[++word_count] = j == 1 ? id : id " " j
+      shown[word_at[word_count]] = "<" id ">"
+    }
     if (parts[i] ~ /^</) is_needed[id] = 1
   }
   head = command == "" ? "gthost" : "gthost " command
@@ -126,7 +130,7 @@ function refuse_value(message) { finish(4, "error: " message "\n\nFor more infor
 
 # The usage line for the options and words that were used, and those that are needed.
 function usage_of(    i, id, out, done) {
-  if (!used_count) return plain
+  if (!used_count || plain ~ /\.\.\.$/) return plain
   out = head
   for (i = 1; i <= option_count; i++) {
     id = options[i]
@@ -286,36 +290,60 @@ function is_number(word, most) {
   return length(word) < 20 || (length(word) == 20 && word <= "18446744073709551615")
 }
 
+# Refuses the value of an option.
+function refuse_option(id, takes) { refuse("--" id " takes " takes ", not '" given[id] "'", plain) }
+
 # The values that a command takes.
 function check_values(command) {
   if (command == "entries") {
-    if ((given["version"] != "1" && given["version"] != "2") || (("script" in given) && !is_number(given["script"], 65535)) || !is_format())
-      refuse("the value of --version is 1 or 2, that of --script a number below 65536, and that of --format text or json", "gthost <COMMAND>")
+    if (given["version"] != "1" && given["version"] != "2") refuse_option("version", "1 or 2")
+    if (("script" in given) && !is_number(given["script"], 65535)) refuse_option("script", "the number of a domain, below 65536")
   } else if (command == "explore") {
-    if ((("witness" in given) && !is_number(given["witness"], 0)) || (("states" in given) && !is_number(given["states"], 0)) || (("find" in given) && ("witness" in given)))
-      refuse("the values of --witness and --states are numbers, and --find is not given with --witness", "gthost <COMMAND>")
-  } else if (!is_format()) {
-    refuse("the value of --format is text or json", "gthost <COMMAND>")
+    if (("witness" in given) && given["witness"] != "all" && !is_number(given["witness"], 0)) refuse_option("witness", "a number or all")
+    if (("states" in given) && !is_number(given["states"], 0)) refuse_option("states", "a number")
+    if (("find" in given) + ("never" in given) + ("always" in given) + ("witness" in given) > 1)
+      refuse("only one of --find, --never, --always and --witness can be given", plain)
   }
+  if (command == "why" && !("PERMISSION" in given)) {
+    if (!("SOURCE" in given) || ("TARGET" in given))
+      refuse("why takes SOURCE, TARGET and PERMISSION, or one FILE and questions on standard input", plain)
+    given["FILE"] = given["SOURCE"]
+    place["FILE"] = place["SOURCE"]
+  }
+  if (!is_format()) refuse_option("format", "text or json")
 }
 
 function is_format() { return !("format" in given) || given["format"] == "text" || given["format"] == "json" }
 
 # The line of a rule, or of all.
-function show_rules(    lines, n, i) {
+function show_rules(    lines, n, i, number) {
   if (!("RULE" in given)) show(text["gthost rules"])
+  number = given["RULE"]
+  sub(/^[Nn]/, "", number)
   n = split(text["gthost rules"], lines, "\n")
-  for (i = 1; i <= n; i++) if (given["RULE"] != "" && index(lines[i], given["RULE"] " ") == 1 && given["RULE"] ~ /^N[0-9]+$/) show(lines[i] "\n")
-  finish(4, text["gthost rules N27"])
+  for (i = 1; i <= n; i++) if (number ~ /^[1-9][0-9]*$/ && index(lines[i], "N" number " ") == 1) show(lines[i] "\n")
+  finish(4, "gthost: no rule '" given["RULE"] "' (rules are N1 to N26)\n")
+}
+
+# Puts the command before its flags: a flag for reasons goes behind the command, and `help` is the command's `--help`.
+function lead_by_command(    word) {
+  if (n >= 2 && (words[1] == "-v" || words[1] == "--verbose")) {
+    word = words[1]
+    words[1] = words[2]
+    words[2] = word
+  } else if (n >= 1 && words[1] == "help") {
+    if (n >= 2) { words[1] = words[2]; words[2] = "--help" } else { words[1] = "--help" }
+  }
 }
 
 BEGIN {
   read_stored(ARGV[1])
   read_commands()
-  for (i = 2; i < ARGC; i++) {
-    words[++n] = ARGV[i]
-    if (words[n] == "--") marked = 1
-    if (!marked && words[n] == "-v") words[n] = "--verbose"
+  for (i = 2; i < ARGC; i++) words[++n] = ARGV[i]
+  lead_by_command()
+  for (i = 1; i <= n; i++) {
+    if (words[i] == "--") marked = 1
+    if (!marked && words[i] == "-v") words[i] = "--verbose"
   }
   at = walk_top(words, n)
   walk_command(words, n, at)
@@ -326,5 +354,6 @@ BEGIN {
   print place["FILE"]
   print given["FILE"]
   for (i = 1; i <= option_count; i++) if (options[i] in given) print options[i]
+  for (i = 2; i <= 8; i++) if (("FILE " i) in given) print "=" place["FILE " i]
   exit 0
 }

@@ -34,7 +34,7 @@ pub(crate) fn record_calls<P: Allows>(domain: &mut TestDomain<'_, P>, audit: Aud
 /// of the run.
 #[derive(Clone, Copy)]
 pub struct Extent {
-    pub threads: usize,
+    pub threads: u32,
     pub rounds: u32,
     pub audit: Audit,
     pub domains: u16,

@@ -21,83 +21,101 @@
 #![tactic(auto)]
 
 mod audit;
-mod bytes;
 mod loads;
+mod parts;
 
 use crate::audit::{Audit, Extent};
-use crate::bytes::{Moves, run_moves};
-use crate::loads::{FEWEST, Load, run};
+use crate::loads::{FEWEST, Load, MOST, run};
+use crate::parts::Moves;
 use anyhow::{Result, bail};
-use std::env;
+use std::alloc::Global;
+use std::sync::Wait;
+use std::thread::Threads;
 
-/// The work of the threads: calls on entries, or accesses to bytes.
-#[derive(Clone, Copy)]
-enum Work {
-    Calls(Load),
-    Bytes(Moves, u16),
-}
+const LOADS: [(&str, Load); 14] = [
+    ("apart", Load::Apart),
+    ("adjacent", Load::Adjacent),
+    ("grants", Load::Grants),
+    ("withdrawals", Load::Withdrawals),
+    ("load-64", Load::Bytes(Moves::Loads, 64)),
+    ("load-4096", Load::Bytes(Moves::Loads, 4096)),
+    ("fresh-64", Load::Bytes(Moves::Fresh, 64)),
+    ("fresh-4096", Load::Bytes(Moves::Fresh, 4096)),
+    ("store-64", Load::Bytes(Moves::Stores, 64)),
+    ("store-4096", Load::Bytes(Moves::Stores, 4096)),
+    ("copy-64", Load::Bytes(Moves::Copies, 64)),
+    ("copy-4096", Load::Bytes(Moves::Copies, 4096)),
+    ("forward-64", Load::Bytes(Moves::Forwards, 64)),
+    ("forward-4096", Load::Bytes(Moves::Forwards, 4096)),
+];
 
-fn work_of(name: &str) -> Option<Work> {
-    match name {
-        "apart" => Some(Work::Calls(Load::Apart)),
-        "adjacent" => Some(Work::Calls(Load::Adjacent)),
-        "grants" => Some(Work::Calls(Load::Grants)),
-        "withdrawals" => Some(Work::Calls(Load::Withdrawals)),
-        "load-64" => Some(Work::Bytes(Moves::Loads, 64)),
-        "load-4096" => Some(Work::Bytes(Moves::Loads, 4096)),
-        "fresh-64" => Some(Work::Bytes(Moves::Fresh, 64)),
-        "fresh-4096" => Some(Work::Bytes(Moves::Fresh, 4096)),
-        "store-64" => Some(Work::Bytes(Moves::Stores, 64)),
-        "store-4096" => Some(Work::Bytes(Moves::Stores, 4096)),
-        "copy-64" => Some(Work::Bytes(Moves::Copies, 64)),
-        "copy-4096" => Some(Work::Bytes(Moves::Copies, 4096)),
-        "forward-64" => Some(Work::Bytes(Moves::Forwards, 64)),
-        "forward-4096" => Some(Work::Bytes(Moves::Forwards, 4096)),
-        _ => None,
+const AUDITS: [(&str, Audit); 4] = [
+    ("on", Audit::On),
+    ("ahead", Audit::Ahead),
+    ("taken", Audit::Taken),
+    ("off", Audit::Off),
+];
+
+// Returns the word at this position, where 0 is the program's name, or `other` if the line is shorter.
+fn word_at<'w>(words: &'w [String], place: usize, other: &'w str) -> &'w str {
+    match words.get(place) {
+        Some(word) => word.as_str(),
+        None => other,
     }
 }
 
-fn audit_of(name: &str) -> Option<Audit> {
-    match name {
-        "on" => Some(Audit::On),
-        "ahead" => Some(Audit::Ahead),
-        "taken" => Some(Audit::Taken),
-        "off" => Some(Audit::Off),
-        _ => None,
+fn number_at(words: &[String], place: usize, other: &str) -> Result<u32> {
+    Ok(word_at(words, place, other).parse::<u32>()?)
+}
+
+fn load_of(name: &str) -> Result<Load> {
+    for (named, load) in LOADS.iter() {
+        if *named == name {
+            return Ok(*load);
+        }
     }
+    bail!("wanted: LOAD THREADS ROUNDS [AUDIT [DOMAINS]]")
+}
+
+fn audit_of(name: &str) -> Result<Audit> {
+    for (named, audit) in AUDITS.iter() {
+        if *named == name {
+            return Ok(*audit);
+        }
+    }
+    bail!("AUDIT is on, ahead, taken or off")
+}
+
+fn extent_of(words: &[String]) -> Result<Extent> {
+    let threads = number_at(words, 2, "")?;
+    let rounds = number_at(words, 3, "")?;
+    let audit = audit_of(word_at(words, 4, "on"))?;
+    let domains = number_at(words, 5, "6")?;
+    if threads == 0 || threads > MOST || domains < FEWEST || domains > 64 {
+        bail!("threads: 1 to {MOST}, domains: {FEWEST} to 64");
+    }
+    Ok(Extent {
+        threads,
+        rounds,
+        audit,
+        domains: domains as u16,
+    })
+}
+
+// Runs the load that the words name. Returns the number of rounds of its threads.
+fn run_named<R: Threads + Wait + Sync>(rt: &R, alloc: Global, words: &[String]) -> Result<u64> {
+    let load = load_of(word_at(words, 1, ""))?;
+    run(rt, alloc, load, extent_of(words)?)
 }
 
 fn main(rt: HostRuntime) -> Result<()> {
-    let mut words = env::args(&rt)?.skip(1);
-    let (Some(name), Some(threads), Some(rounds)) = (words.next(), words.next(), words.next())
-    else {
-        bail!("wanted: LOAD THREADS ROUNDS [AUDIT [DOMAINS]]");
-    };
-    let audit = match words.next() {
-        Some(word) => audit_of(word.as_str()),
-        None => Some(Audit::On),
-    };
-    let Some(audit) = audit else {
-        bail!("AUDIT is on, ahead, taken or off");
-    };
-    let domains = match words.next() {
-        Some(word) => word.as_str().parse::<u16>()?,
-        None => FEWEST,
-    };
-    let Some(work) = work_of(name.as_str()) else {
-        bail!("no such load: {}", name.as_str());
-    };
-    let threads = threads.as_str().parse::<usize>()?;
-    let extent = Extent {
-        threads,
-        rounds: rounds.as_str().parse::<u32>()?,
-        audit,
-        domains,
-    };
-    let done = match work {
-        Work::Calls(load) => run(&rt, rt.alloc(), load, extent)?,
-        Work::Bytes(moves, len) => run_moves(&rt, rt.alloc(), moves, len, extent)?,
-    };
-    println!(rt; "{} {threads} {done}", name.as_str())?;
+    let words: Vec<String> = std::env::args(&rt)?.collect(rt.alloc())?;
+    let words = words.as_slice();
+    let done = run_named(&rt, rt.alloc(), words)?;
+    println!(rt;
+        "{} {} {done}",
+        word_at(words, 1, ""),
+        word_at(words, 2, "")
+    )?;
     Ok(())
 }

@@ -6,12 +6,12 @@ use Rattle.gt_types.specs.declared.Dir.TheVariants.{Read}
 use Rattle.gt_types.specs.declared.DomId.{DomId}
 use Rattle.gt_words.specs.Conditions.{Board, HasDomain, IsSameSeat, IsSeatOf, SeatOf}
 use Rattle.gt_words.specs.Answers.{Pins}
-use Rattle.gt_word_table.specs.Controls.{LeadsTo}
+use Rattle.gt_word_history.specs.Controls.{LeadsTo}
 use Rattle.gt_words.specs.Laws.{domain_at}
-use Rattle.gt_word_table.specs.Rule.{Layout, id_at, position_in}
-use Rattle.gt_word_table.specs.Views.{IsAmong, last_seen, live_pins, record_seen}
-use Rattle.gt_word_table.specs.declared.view.EntryStep.{EntryStep}
-use Rattle.gt_word_table.specs.declared.view.View.{View}
+use Rattle.gt_word_history.specs.Rule.{Layout, id_at, position_in}
+use Rattle.gt_word_history.specs.Views.{IsAmong, last_seen, live_pins, record_seen}
+use Rattle.gt_word_history.specs.declared.view.EntryStep.{EntryStep}
+use Rattle.gt_word_history.specs.declared.view.View.{View}
 use Rattle.bench_words.specs.Mapping.{KeepsVia}
 
 -- domains with other numbers are found elsewhere

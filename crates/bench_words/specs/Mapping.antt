@@ -6,10 +6,10 @@ use Rattle.gt_types.specs.declared.DomId.{DomId}
 use Rattle.gt_types.specs.declared.GrantRef.{GrantRef}
 use Rattle.gt_types.specs.declared.limits.TheConstants.{TABLE_ENTRIES}
 use Rattle.gt_words.specs.Conditions.{Board, IsEntryOf, IsSameSeat, IsSeatOf, SeatOf}
-use Rattle.gt_word_table.specs.Controls.{ForwardsPin, LeadsTo}
-use Rattle.gt_word_table.specs.Rule.{Layout, id_at, position_in}
-use Rattle.gt_word_table.specs.Views.{IsAmong, LivePin, last_of, live_pins, steps_on}
-use Rattle.gt_word_table.specs.declared.view.View.{View}
+use Rattle.gt_word_history.specs.Controls.{ForwardsPin, LeadsTo}
+use Rattle.gt_word_history.specs.Rule.{Layout, id_at, position_in}
+use Rattle.gt_word_history.specs.Views.{IsAmong, LivePin, last_of, live_pins, steps_on}
+use Rattle.gt_word_history.specs.declared.view.View.{View}
 use Rattle.bench_words.specs.declared.mapper.Target.{Target}
 use Rattle.bench_words.specs.declared.owner.Row.{Row}
 

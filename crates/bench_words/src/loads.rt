@@ -1,7 +1,7 @@
 //! The loads, and the words on which they run.
 ghost use Rattle.std.specs.Prelude.{◌≡◌, ◌≢◌, ◌+◌, ◌<◌, All, IfOk, IfSome, length, true};
-ghost use Rattle.gt_word_table.specs.Rule.{layout_of, position_in};
-ghost use Rattle.gt_word_table.specs.Views.{last_of};
+ghost use Rattle.gt_word_history.specs.Rule.{layout_of, position_in};
+ghost use Rattle.gt_word_history.specs.Views.{last_of};
 ghost use Rattle.gt_words.specs.Conditions.{HasDomain, IsSameSeat, IsSeatOf};
 ghost use Rattle.bench_words.specs.Mapping.{CanMap, IsUnusedFrom};
 

@@ -7,7 +7,7 @@
 //! it) or `withdrawals` (the owner withdraws it and grants it again once it has no pin). A fourth word is the number of
 //! domains, from 6 to 64 (6).
 //!
-//! It promises nothing beyond the calls that it makes, and uses `gt_words` and `gt_word_table`. The script
+//! It promises nothing beyond the calls that it makes, and uses `gt_words` and `gt_word_history`. The script
 //! `bench/words.sh` runs and times it next to two programs in C.
 #![tactic(auto)]
 

@@ -1,8 +1,8 @@
 //! A domain that maps another's entry and unmaps it.
 ghost use Rattle.std.specs.Prelude.{◌≡◌, ◌≢◌, IfSome};
-ghost use Rattle.gt_word_table.specs.Controls.{IsValid, generation_of};
-ghost use Rattle.gt_word_table.specs.Views.{last_seen, record_seen};
-ghost use Rattle.gt_word_table.specs.Rule.{position_in};
+ghost use Rattle.gt_word_history.specs.Controls.{IsValid, generation_of};
+ghost use Rattle.gt_word_history.specs.Views.{last_seen, record_seen};
+ghost use Rattle.gt_word_history.specs.Rule.{position_in};
 ghost use Rattle.gt_words.specs.Conditions.{HasLooked, Holds, IsEntryOf, IsSameSeat, IsSeatOf, KeepsPins};
 ghost use Rattle.bench_words.specs.Mapping.{CanMap, MayMap, KeepsPinsBeyond};
 

@@ -16,83 +16,83 @@
 //! If an allocation of the program itself fails, it ends with status 1, and its output is a prefix of `stdout`.
 #![tactic(auto)]
 
-mod beginnings;
-mod failing;
-mod policies;
 mod refusing;
-mod scripts;
+mod task;
 
-use anyhow::bail;
-use beginnings::{policy_beginnings, script_beginnings};
-use failing::failing_said;
-use policies::policy_said;
-use refusing::{policy_refused, script_refused};
-use scripts::{Played, script_named, script_said};
+use refusing::refused_said;
+use std::alloc::Global;
+use std::sync::Wait;
+use std::thread::Threads;
+use task::Task;
+use test_cases::{Cases, beginnings_said, failing_said, say_all, tried_said};
 
-// The treatment of the names that follow.
+// The treatment of a text.
 #[derive(Clone, Copy)]
-enum Mode {
-    Play,
-    Audit,
-    Failing(bool),
+enum Way {
+    Once,
+    Failing,
     Beginnings,
-    Policy,
-    PolicyBeginnings,
-    Refusing(bool),
-    PolicyRefusing,
+    Refusing,
 }
 
-// Returns the mode that a word names, if it is not the name of a file.
-fn mode_named(word: &str) -> Option<Mode> {
-    match word {
-        "--audit" => Some(Mode::Audit),
-        "--failing" => Some(Mode::Failing(false)),
-        "--failing-audit" => Some(Mode::Failing(true)),
-        "--beginnings" => Some(Mode::Beginnings),
-        "--policy" => Some(Mode::Policy),
-        "--policy-beginnings" => Some(Mode::PolicyBeginnings),
-        "--refusing" => Some(Mode::Refusing(false)),
-        "--refusing-audit" => Some(Mode::Refusing(true)),
-        "--policy-refusing" => Some(Mode::PolicyRefusing),
-        _ => None,
+// A text is a script or a policy, done with or without its records.
+type Mode = (Task, bool, Way);
+
+const MODES: [(&str, Mode); 9] = [
+    ("--audit", (Task::Play, true, Way::Once)),
+    ("--failing", (Task::Play, false, Way::Failing)),
+    ("--failing-audit", (Task::Play, true, Way::Failing)),
+    ("--beginnings", (Task::Play, true, Way::Beginnings)),
+    ("--policy", (Task::List, false, Way::Once)),
+    ("--policy-beginnings", (Task::List, false, Way::Beginnings)),
+    ("--refusing", (Task::Play, false, Way::Refusing)),
+    ("--refusing-audit", (Task::Play, true, Way::Refusing)),
+    ("--policy-refusing", (Task::List, false, Way::Refusing)),
+];
+
+// The scripts and policies, of which the next ones are treated so.
+#[derive(Drop)]
+struct HostCases {
+    mode: Mode,
+}
+
+impl Cases for HostCases {
+    fn takes(&mut self, word: &str) -> bool {
+        for (named, mode) in MODES.iter() {
+            if *named == word {
+                self.mode = *mode;
+                return true;
+            }
+        }
+        false
     }
-}
 
-// Returns a text that was written completely.
-fn whole(text: String) -> Played {
-    Played {
-        text,
-        is_refused: false,
+    fn ending(&self) -> &'static str {
+        match self.mode.0 {
+            Task::Play => "gt",
+            Task::List => "te",
+        }
+    }
+
+    fn said<R: Threads + Wait + Sync>(
+        &self,
+        rt: &R,
+        alloc: Global,
+        text: &[u8],
+    ) -> anyhow::Result<Vec<u8>> {
+        let (task, audit, way) = self.mode;
+        match way {
+            Way::Once => tried_said(rt, &task, alloc, text, audit),
+            Way::Failing => failing_said(rt, &task, alloc, text, audit),
+            Way::Beginnings => beginnings_said(rt, &task, alloc, text),
+            Way::Refusing => refused_said(rt, task, alloc, text, audit),
+        }
     }
 }
 
 fn main(rt: HostRuntime) -> anyhow::Result<()> {
     let alloc = rt.alloc();
     let words: Vec<String> = std::env::args(&rt)?.collect(alloc)?;
-    let mut mode = Mode::Play;
-    for word in words.iter().skip(1) {
-        if let Some(named) = mode_named(word.as_str()) {
-            mode = named;
-            continue;
-        }
-        let said = match mode {
-            Mode::Play => script_said(&rt, alloc, word.as_str(), false)?,
-            Mode::Audit => script_said(&rt, alloc, word.as_str(), true)?,
-            Mode::Failing(audit) => {
-                let script = script_named(&rt, alloc, word.as_str())?;
-                whole(failing_said(alloc, script.as_slice(), audit)?)
-            }
-            Mode::Beginnings => whole(script_beginnings(&rt, alloc, word.as_str())?),
-            Mode::Policy => whole(policy_said(&rt, alloc, word.as_str())?),
-            Mode::PolicyBeginnings => whole(policy_beginnings(&rt, alloc, word.as_str())?),
-            Mode::Refusing(audit) => whole(script_refused(&rt, alloc, word.as_str(), audit)?),
-            Mode::PolicyRefusing => whole(policy_refused(&rt, alloc, word.as_str())?),
-        };
-        let text = &said.text;
-        print!(rt; "== {word}\n{text}")?;
-        if said.is_refused {
-            bail!("memory");
-        }
-    }
-    Ok(())
+    let mode = (Task::Play, false, Way::Once);
+    say_all(&rt, alloc, &mut HostCases { mode }, words.as_slice())
 }

@@ -2,7 +2,7 @@
 use gt_policy_check::{WhyAnswer, WhyQuestion, why};
 use std::alloc::Global;
 
-// Returns the type that a word names, or None for any type.
+// Returns the type or the permission that a word names, or None for any.
 fn wanted(word: &str) -> Option<&str> {
     if word == "-" { None } else { Some(word) }
 }
@@ -30,7 +30,7 @@ pub fn answer_said(
     let question = WhyQuestion {
         source: wanted(source),
         target: wanted(target),
-        perm,
+        perm: wanted(perm),
     };
     match why(alloc, file, text, &question) {
         Ok(explanation) => {

@@ -1,12 +1,12 @@
 //! The findings of policies.
-use gt_policy_check::{Finding, FindingKind, check, push_json, push_report};
+use gt_policy_check::{Finding, FindingKind, ReportForm, check, push_json, push_report};
 use std::alloc::Global;
 
 /// Returns the findings of a policy, as text and then as JSON.
 pub fn report_said(alloc: Global, file: &str, text: &str) -> anyhow::Result<String> {
     let found = check(alloc, text)?;
     let mut said = Vec::new(alloc);
-    push_report(&mut said, file, text, found.as_slice())?;
+    push_report(&mut said, file, text, found.as_slice(), ReportForm::Text)?;
     push_json(&mut said, file, found.as_slice())?;
     Ok(String::from_utf8(said)?)
 }
@@ -24,6 +24,6 @@ pub fn wide_said(alloc: Global) -> anyhow::Result<String> {
         message: Vec::from_slice(alloc, b"the caret stands below the last letter")?,
     })?;
     let mut said = Vec::new(alloc);
-    push_report(&mut said, "wide", WIDE, found.as_slice())?;
+    push_report(&mut said, "wide", WIDE, found.as_slice(), ReportForm::Text)?;
     Ok(String::from_utf8(said)?)
 }

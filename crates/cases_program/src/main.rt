@@ -1,15 +1,17 @@
 //! A program that tries command lines of the program `gthost`, and prints what each writes, with its exit status.
 //!
 //! Each word of this program's own command line is a command line of `gthost`, whose words are separated by blanks.
-//! After `full: ` comes one whose texts go to a writer that is full, and after `unflushed: ` one whose texts go to a
-//! writer that takes all and fails to flush. What `gthost` writes to the standard error goes to the standard output
+//! After `full: ` comes one whose texts go to a writer that is full, after `unflushed: ` one whose texts go to a writer
+//! that takes all and fails to flush, after `asked: ` one with questions as the standard input, and after `terminal: `
+//! one for a terminal of 60 columns with colours. What `gthost` writes to the standard error goes to the standard output
 //! here, so that `stdout` has it. `args` has the command lines, `data/` their files, and `stdin` the text for those
 //! that name none. A command line is added there; that costs no proof.
 #![tactic(auto)]
 
-use gt_program::{System, obey};
+use gt_program::{Outcome, Style, System, TextSource, obey};
 use std::alloc::{AllocError, Global};
 use std::fmt::Display;
+use std::fs::File;
 use std::io::{self, ErrorKind, Write};
 use std::rt::Runtime;
 use std::sync::Wait;
@@ -58,15 +60,66 @@ impl Write for Full {
     }
 }
 
-// Returns a command line, and the full writer that its prefix names.
-fn full_named(line: &str) -> Option<(Full, &str)> {
-    if let Some(line) = line.strip_prefix("full: ") {
-        return Some((Full::TakesNothing, line));
+// The standard input of a command line that answers questions.
+const QUESTIONS: &str = "# what the driver may do
+driver_t - map_write
+control_t - map_write # it only looks
+
+guest driver_t -
+nobody_t - copy
+driver_t guest_a_t
+";
+
+// The files of the system, with the questions as the standard input.
+#[derive(Drop)]
+struct Asked<'r, R> {
+    rt: &'r R,
+}
+
+impl<'r, R: Runtime> TextSource for Asked<'r, R> {
+    type File = R::File;
+
+    type Input = &'static [u8];
+
+    fn open(&self, name: &str) -> io::Result<R::File> {
+        File::open(self.rt, name)
     }
-    match line.strip_prefix("unflushed: ") {
-        Some(line) => Some((Full::HandsNothingOn, line)),
-        None => None,
+
+    fn input(&self) -> &'static [u8] {
+        QUESTIONS.as_bytes()
     }
+}
+
+// A terminal of 60 columns, with colours.
+const TERMINAL: Style = Style {
+    width: Some(60),
+    is_colored: true,
+};
+
+// How a command line is tried, by its prefix.
+#[derive(Clone, Copy, PartialEq, Eq)]
+enum Setting {
+    Plain,
+    Full(Full),
+    Asked,
+    Terminal,
+}
+
+const PREFIXES: [(&str, Setting); 4] = [
+    ("full: ", Setting::Full(Full::TakesNothing)),
+    ("unflushed: ", Setting::Full(Full::HandsNothingOn)),
+    ("asked: ", Setting::Asked),
+    ("terminal: ", Setting::Terminal),
+];
+
+// Returns the setting that the prefix of a line names, and the line without it.
+fn setting_of(line: &str) -> (Setting, &str) {
+    for (prefix, setting) in PREFIXES {
+        if let Some(rest) = line.strip_prefix(prefix) {
+            return (setting, rest);
+        }
+    }
+    (Setting::Plain, line)
 }
 
 fn words_of(alloc: Global, line: &str) -> Result<Vec<String>, AllocError> {
@@ -77,38 +130,54 @@ fn words_of(alloc: Global, line: &str) -> Result<Vec<String>, AllocError> {
     Ok(words)
 }
 
-// Does what a command line asks for, and returns the exit status.
+// Does what words ask for, with this output and style.
+fn try_words<R: Runtime + AllocGlobal + Threads + Wait + Sync, W: Write>(
+    rt: &R,
+    words: &[String],
+    style: Style,
+    out: &mut W,
+) -> Outcome {
+    obey(
+        rt,
+        rt.alloc(),
+        &System { rt },
+        words,
+        style,
+        out,
+        &Screen { rt },
+    )
+}
+
+// Does what a command line asks for, and returns the outcome.
 fn try_line<R: Runtime + AllocGlobal + Threads + Wait + Sync>(
     rt: &R,
     line: &str,
-) -> Result<u8, AllocError> {
-    let alloc = rt.alloc();
-    let texts = System { rt };
-    let screen = Screen { rt };
-    match full_named(line) {
-        Some((mut full, line)) => {
-            let words = words_of(alloc, line)?;
-            Ok(obey(rt, alloc, &texts, words.as_slice(), &mut full, &screen))
-        }
-        None => {
-            let words = words_of(alloc, line)?;
-            Ok(obey(
-                rt,
-                alloc,
-                &texts,
-                words.as_slice(),
-                &mut io::writer(rt),
-                &screen,
-            ))
-        }
-    }
+) -> Result<Outcome, AllocError> {
+    let (setting, line) = setting_of(line);
+    let words = words_of(rt.alloc(), line)?;
+    let words = words.as_slice();
+    Ok(match setting {
+        Setting::Plain => try_words(rt, words, Style::plain(), &mut io::writer(rt)),
+        Setting::Terminal => try_words(rt, words, TERMINAL, &mut io::writer(rt)),
+        Setting::Full(mut full) => try_words(rt, words, Style::plain(), &mut full),
+        Setting::Asked => obey(
+            rt,
+            rt.alloc(),
+            &Asked { rt },
+            words,
+            Style::plain(),
+            &mut io::writer(rt),
+            &Screen { rt },
+        ),
+    })
 }
 
 fn main(rt: HostRuntime) -> io::Result<()> {
     let lines: Vec<String> = std::env::args(&rt)?.collect(rt.alloc())?;
     for line in lines.iter().skip(1) {
         println!(rt; "$ {line}")?;
-        let status = try_line(&rt, line.as_str())?;
+        let outcome = try_line(&rt, line.as_str())?;
+        let status = outcome.exit_status();
         println!(rt; "status {status}")?;
     }
     Ok(())

@@ -1,15 +1,28 @@
 //! Gates that end the wait after a number of turns.
-use crate::running::run_text;
+use crate::running::run_logged;
 use gt_audit::SharedLog;
 use gt_run::Gate;
 use gt_types::DomId;
-use std::alloc::Global;
+use std::alloc::{AllocError, Global};
 use std::hint::spin_loop;
 use std::sync::Wait;
-use std::sync::atomic::{AtomicBool, AtomicU64, Ordering};
+use std::sync::atomic::{AtomicU64, Ordering};
 use std::thread::Threads;
+use test_cases::UNLIMITED;
 
 const TURNS: u64 = 100_000_000;
+
+// A check found the records where the flag was raised, or did not, or found them where a flag was awaited.
+const RAISED: u64 = 1;
+
+const MISSED: u64 = 2;
+
+const AWAITED: u64 = 4;
+
+// Returns the bit of a flag, or none of one past 63.
+fn bit(flag: usize) -> u64 {
+    if flag < 64 { 1 << flag } else { 0 }
+}
 
 // The domains that a gate lets through.
 #[derive(Clone, Copy, PartialEq, Eq)]
@@ -50,11 +63,11 @@ impl<'l> Look<'l> {
 pub struct Turns<'l> {
     way: Way,
     look: Option<Look<'l>>,
-    told: [AtomicBool; 4],
+    // The flags raised below 64, a bit each.
+    told: AtomicU64,
     callers: AtomicU64,
-    at_tell: AtomicBool,
-    before: AtomicBool,
-    at_pass: AtomicBool,
+    // What the checks found, a bit each.
+    found: AtomicU64,
 }
 
 impl<'l> Turns<'l> {
@@ -62,16 +75,9 @@ impl<'l> Turns<'l> {
         Turns {
             way,
             look,
-            told: [
-                AtomicBool::new(false),
-                AtomicBool::new(false),
-                AtomicBool::new(false),
-                AtomicBool::new(false),
-            ],
+            told: AtomicU64::new(0),
             callers: AtomicU64::new(0),
-            at_tell: AtomicBool::new(false),
-            before: AtomicBool::new(false),
-            at_pass: AtomicBool::new(false),
+            found: AtomicU64::new(0),
         }
     }
 
@@ -102,34 +108,32 @@ impl<'l> Turns<'l> {
         Turns::new(Way::Flags, Some(look))
     }
 
-    /// Returns whether a check found them: each time that the flag was raised, and when one was awaited.
-    pub fn found(&self) -> (bool, bool) {
-        let is_early = self.before.load(Ordering::SeqCst);
-        (
-            self.at_tell.load(Ordering::SeqCst) && !is_early,
-            self.at_pass.load(Ordering::SeqCst),
-        )
+    /// Returns whether the checks where the flag was raised all found the records.
+    pub fn found_where_raised(&self) -> bool {
+        self.found.load(Ordering::SeqCst) & (RAISED | MISSED) == RAISED
+    }
+
+    /// Returns whether a check where a flag was awaited found them.
+    pub fn found_where_awaited(&self) -> bool {
+        self.found.load(Ordering::SeqCst) & AWAITED != 0
     }
 
     // Notes the result of the check when a flag is raised.
     fn note_told(&self, flag: usize) {
-        let Some(look) = self.look else {
-            return;
-        };
-        if look.flag == flag {
-            let at = if look.has_all() {
-                &self.at_tell
-            } else {
-                &self.before
-            };
-            at.store(true, Ordering::SeqCst);
+        if let Some(look) = self.look {
+            if look.flag == flag {
+                let found = if look.has_all() { RAISED } else { MISSED };
+                self.found.fetch_or(found, Ordering::SeqCst);
+            }
         }
     }
 
     // Notes if the check succeeds when a flag is awaited.
     fn note_awaited(&self) {
-        if self.look.is_some_and(|look| look.has_all()) {
-            self.at_pass.store(true, Ordering::SeqCst);
+        if let Some(look) = self.look {
+            if look.has_all() {
+                self.found.fetch_or(AWAITED, Ordering::SeqCst);
+            }
         }
     }
 
@@ -138,10 +142,7 @@ impl<'l> Turns<'l> {
         match self.way {
             Way::Closed | Way::Deaf => false,
             Way::Meeting(callers) => self.callers.load(Ordering::SeqCst) >= callers,
-            Way::Flags => match self.told.get(flag) {
-                Some(told) => told.load(Ordering::SeqCst),
-                None => false,
-            },
+            Way::Flags => self.told.load(Ordering::SeqCst) & bit(flag) != 0,
         }
     }
 }
@@ -149,9 +150,7 @@ impl<'l> Turns<'l> {
 impl<'l> Gate for Turns<'l> {
     fn tell(&self, flag: usize) {
         self.note_told(flag);
-        if let Some(told) = self.told.get(flag) {
-            told.store(true, Ordering::SeqCst);
-        }
+        self.told.fetch_or(bit(flag), Ordering::SeqCst);
     }
 
     fn pass(&self, flag: usize) -> bool {
@@ -174,11 +173,28 @@ impl<'l> Gate for Turns<'l> {
 pub fn gate_said<R: Threads + Wait + Sync>(
     rt: &R,
     alloc: Global,
-    script: &str,
+    script: &[u8],
     gate: &Turns<'_>,
-) -> anyhow::Result<String> {
-    let ended = run_text(rt, alloc, script, None, gate)?;
-    ended.said(alloc)
+) -> anyhow::Result<Vec<u8>> {
+    Ok(run_logged(rt, alloc, script, UNLIMITED, None, gate)?)
+}
+
+// Returns the line about the checks of a gate, where the flag was raised or where one was awaited.
+fn records_line(
+    alloc: Global,
+    log: &SharedLog,
+    gate: &Turns<'_>,
+    is_raised: bool,
+) -> Result<String, AllocError> {
+    let (place, found) = if is_raised {
+        ("raised", gate.found_where_raised())
+    } else {
+        ("awaited", gate.found_where_awaited())
+    };
+    format!(in alloc;
+        "records where a flag is {place}: {found}, in the log: {}\n",
+        log.count()
+    )
 }
 
 /// Returns what a script prints with its audit lines, whether a gate finds both records of domain 2 each time that the
@@ -186,23 +202,13 @@ pub fn gate_said<R: Threads + Wait + Sync>(
 pub fn records_said<R: Threads + Wait + Sync>(
     rt: &R,
     alloc: Global,
-    script: &str,
+    script: &[u8],
     is_raised: bool,
-) -> anyhow::Result<String> {
+) -> anyhow::Result<Vec<u8>> {
     let log = SharedLog::new(alloc)?;
     let gate = Turns::looking(&log, DomId(2), 2, 1);
-    let ended = run_text(rt, alloc, script, Some(&log), &gate)?;
-    let (told, passed) = gate.found();
-    let mut out = ended.said(alloc)?;
-    let (place, found) = if is_raised {
-        ("raised", told)
-    } else {
-        ("awaited", passed)
-    };
-    let count = log.count();
-    let line = format!(in alloc;
-        "records where a flag is {place}: {found}, in the log: {count}\n"
-    )?;
-    out.push_str(line.as_str())?;
-    Ok(out)
+    let mut said = run_logged(rt, alloc, script, UNLIMITED, Some(&log), &gate)?;
+    let line = records_line(alloc, &log, &gate, is_raised)?;
+    said.extend_from_slice(line.as_bytes())?;
+    Ok(said)
 }

@@ -57,6 +57,21 @@ fn passed_over<'a>(rest: &mut Lines<'a>, said: &str) -> Option<u64> {
     None
 }
 
+// Notes what a line of the text shows, and skips the lines of the whole text up to it. Returns None if the whole text
+// does not have the line.
+fn note_line(found: &mut Shortage, rest: &mut Lines<'_>, said: &str) -> Option<()> {
+    if let Some(count) = said.strip_prefix("lost ") {
+        found.lost = count.parse().ok()?;
+        return Some(());
+    }
+    let missing = passed_over(rest, said)?;
+    found.missing = found.missing.saturating_add(missing);
+    if said.ends_with(REFUSED) && !said.starts_with("audit ") {
+        found.denied = said.split_once(" ")?.0.parse().ok();
+    }
+    Some(())
+}
+
 /// Returns what a text lacks of the whole one: answers at its end, records anywhere. Returns None if it has anything
 /// other than whole lines of the whole one, in their order.
 pub fn lacks(whole: &str, text: &str) -> Option<Shortage> {
@@ -71,14 +86,7 @@ pub fn lacks(whole: &str, text: &str) -> Option<Shortage> {
     }
     let mut rest = whole.lines();
     for said in text.lines() {
-        if let Some(count) = said.strip_prefix("lost ") {
-            found.lost = count.parse().ok()?;
-            continue;
-        }
-        found.missing = found.missing.saturating_add(passed_over(&mut rest, said)?);
-        if said.ends_with(REFUSED) && !said.starts_with("audit ") {
-            found.denied = said.split_once(" ")?.0.parse().ok();
-        }
+        note_line(&mut found, &mut rest, said)?;
     }
     for line in rest {
         if line.starts_with("audit ") {

@@ -15,35 +15,25 @@
 //!   printed after its count of bytes if it differs from that of one byte less.
 //! - `--refusing`: threads and allocations fail in turn, each with the records, and lines report the results. It comes
 //!   first, since a thread that could allocate leaves memory to those that come after it. `--run` ends it.
-//!
-//! Two more words have no name after them. After `--many` as many domains as a run may have, with long lists that are
-//! made here, meet at a gate. After `--long` one domain has as many lines as a script has room for.
+//! - `--many`, `--queries` and `--unmaps`: the file is the parts of a long script, which are repeated (`made.rt`). The
+//!   output is stated by its number of lines and its digest.
 #![tactic(auto)]
 
-mod beginnings;
-mod failing;
 mod gates;
 mod likeness;
-mod long;
-mod many;
+mod made;
 mod refusing;
 mod running;
 mod scarce;
 
-use beginnings::beginnings_said;
-use failing::failing_said;
 use gates::{Turns, gate_said, records_said};
-use gt_audit::SharedLog;
-use gt_run::{FlagGate, run};
-use long::long_said;
-use many::many_said;
+use made::{Repetition, made_said};
 use refusing::refusing_said;
+use running::RunJob;
 use std::alloc::Global;
-use std::fs::{self, File};
-use std::io;
-use std::rt::Runtime;
 use std::sync::Wait;
 use std::thread::Threads;
+use test_cases::{Cases, Job, UNLIMITED, beginnings_said, failing_said, say_all};
 
 // The treatment of the scripts that follow.
 #[derive(Clone, Copy)]
@@ -58,87 +48,97 @@ enum Mode {
     Awaited,
     Beginnings,
     Refusing,
+    Made(Repetition),
 }
 
-// Returns the mode that a word names, if it is not the name of a file.
-fn mode_named(word: &str) -> Option<Mode> {
-    match word {
-        "--audit" => Some(Mode::Audit),
-        "--failing" => Some(Mode::Failing),
-        "--closed" => Some(Mode::Closed),
-        "--deaf" => Some(Mode::Deaf),
-        "--two-meet" => Some(Mode::Meet(2)),
-        "--three-meet" => Some(Mode::Meet(3)),
-        "--told" => Some(Mode::Told),
-        "--awaited" => Some(Mode::Awaited),
-        "--beginnings" => Some(Mode::Beginnings),
-        "--refusing" => Some(Mode::Refusing),
-        "--run" => Some(Mode::Run),
-        _ => None,
-    }
-}
+// The words of command lines, with what they specify.
+const MODES: [(&str, Mode); 14] = [
+    ("--run", Mode::Run),
+    ("--audit", Mode::Audit),
+    ("--failing", Mode::Failing),
+    ("--closed", Mode::Closed),
+    ("--deaf", Mode::Deaf),
+    ("--two-meet", Mode::Meet(2)),
+    ("--three-meet", Mode::Meet(3)),
+    ("--told", Mode::Told),
+    ("--awaited", Mode::Awaited),
+    ("--beginnings", Mode::Beginnings),
+    ("--refusing", Mode::Refusing),
+    (
+        "--many",
+        Mode::Made(Repetition {
+            first: 10,
+            domains: 64,
+            rounds: 100,
+            audit: false,
+        }),
+    ),
+    (
+        "--queries",
+        Mode::Made(Repetition {
+            first: 1,
+            domains: 1,
+            rounds: 87_000,
+            audit: false,
+        }),
+    ),
+    (
+        "--unmaps",
+        Mode::Made(Repetition {
+            first: 1,
+            domains: 1,
+            rounds: 80_000,
+            audit: true,
+        }),
+    ),
+];
 
-// Runs a file to the standard output, as the program does.
-fn run_file<R: Runtime + Threads + Wait + Sync>(
-    rt: &R,
-    alloc: Global,
-    path: &str,
-    audit: bool,
-) -> anyhow::Result<()> {
-    let mut script = File::open(rt, path)?;
-    let log = SharedLog::new(alloc)?;
-    let shared = if audit { Some(&log) } else { None };
-    let gate = FlagGate::new(rt, alloc)?;
-    let mut out = io::writer(rt);
-    if let Err(fault) = run(rt, alloc, &mut script, &mut out, shared, &gate) {
-        println!(rt; "{fault}")?;
-    }
-    Ok(())
-}
-
-// Runs a file in a mode, and prints the result.
-fn try_file<R: Runtime + Threads + Wait + Sync>(
-    rt: &R,
-    alloc: Global,
-    path: &str,
+// The scripts, of which the next ones are treated so.
+#[derive(Drop)]
+struct RunCases {
     mode: Mode,
-) -> anyhow::Result<()> {
-    let text = fs::read_to_string(rt, path)?;
-    let script = text.as_str();
-    let said = match mode {
-        Mode::Run => return run_file(rt, alloc, path, false),
-        Mode::Audit => return run_file(rt, alloc, path, true),
-        Mode::Failing => failing_said(rt, alloc, script)?,
-        Mode::Closed => gate_said(rt, alloc, script, &Turns::closed())?,
-        Mode::Deaf => gate_said(rt, alloc, script, &Turns::deaf())?,
-        Mode::Meet(count) => gate_said(rt, alloc, script, &Turns::meeting(count))?,
-        Mode::Told => records_said(rt, alloc, script, true)?,
-        Mode::Awaited => records_said(rt, alloc, script, false)?,
-        Mode::Beginnings => beginnings_said(rt, alloc, script)?,
-        Mode::Refusing => refusing_said(rt, alloc, script)?,
-    };
-    print!(rt; "{said}")?;
-    Ok(())
+}
+
+impl Cases for RunCases {
+    fn takes(&mut self, word: &str) -> bool {
+        for (named, mode) in MODES.iter() {
+            if *named == word {
+                self.mode = *mode;
+                return true;
+            }
+        }
+        false
+    }
+
+    fn ending(&self) -> &'static str {
+        "gt"
+    }
+
+    fn said<R: Threads + Wait + Sync>(
+        &self,
+        rt: &R,
+        alloc: Global,
+        text: &[u8],
+    ) -> anyhow::Result<Vec<u8>> {
+        match self.mode {
+            Mode::Run => RunJob.said(rt, alloc, text, false, UNLIMITED),
+            Mode::Audit => RunJob.said(rt, alloc, text, true, UNLIMITED),
+            Mode::Failing => failing_said(rt, &RunJob, alloc, text, true),
+            Mode::Beginnings => beginnings_said(rt, &RunJob, alloc, text),
+            Mode::Closed => gate_said(rt, alloc, text, &Turns::closed()),
+            Mode::Deaf => gate_said(rt, alloc, text, &Turns::deaf()),
+            Mode::Meet(count) => gate_said(rt, alloc, text, &Turns::meeting(count)),
+            Mode::Told => records_said(rt, alloc, text, true),
+            Mode::Awaited => records_said(rt, alloc, text, false),
+            Mode::Refusing => refusing_said(rt, alloc, text),
+            Mode::Made(repetition) => made_said(rt, alloc, text, repetition),
+        }
+    }
 }
 
 fn main(rt: HostRuntime) -> anyhow::Result<()> {
     let alloc = rt.alloc();
     let words: Vec<String> = std::env::args(&rt)?.collect(alloc)?;
-    let mut mode = Mode::Run;
-    for word in words.iter().skip(1) {
-        if let Some(named) = mode_named(word.as_str()) {
-            mode = named;
-        } else if word.as_str() == "--many" {
-            let said = many_said(&rt, alloc)?;
-            print!(rt; "== many\n{said}")?;
-        } else if word.as_str() == "--long" {
-            let said = long_said(&rt, alloc)?;
-            print!(rt; "== long\n{said}")?;
-        } else {
-            println!(rt; "== {word}")?;
-            let path = format!(in alloc; "{word}.gt")?;
-            try_file(&rt, alloc, path.as_str(), mode)?;
-        }
-    }
-    Ok(())
+    let mut cases = RunCases { mode: Mode::Run };
+    say_all(&rt, alloc, &mut cases, words.as_slice())
 }

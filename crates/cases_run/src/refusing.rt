@@ -1,13 +1,13 @@
 //! Runs in which threads and allocations fail, each in turn.
 use crate::likeness::{Shortage, lacks};
-use crate::running::{run_recorded, run_text};
+use crate::made::push_each;
+use crate::running::RunJob;
 use crate::scarce::{End, GAP, Place, Scarce, run_scarce};
 use gt_audit::SharedLog;
-use gt_run::FlagGate;
 use std::alloc::{AllocError, Global};
-use std::fmt::Write;
 use std::sync::{Mutex, Wait};
 use std::thread::Threads;
+use test_cases::{Job, UNLIMITED};
 use test_flood::Flood;
 
 // More bytes than any worked script prints.
@@ -27,13 +27,6 @@ const TRIES: usize = 4_096;
 // closed may leave no piece of that size.
 const STACK: usize = 9 << 20;
 
-// A script, and what it prints with its records.
-#[derive(Clone, Copy)]
-struct Job<'a> {
-    script: &'a str,
-    whole: &'a str,
-}
-
 // The failures in runs whose memory ran out.
 #[derive(Drop)]
 struct Seen {
@@ -41,6 +34,12 @@ struct Seen {
     memory: bool,
     lost: bool,
     calls: String,
+}
+
+// Returns the call of a line of a script.
+fn call_of(script: &str, number: usize) -> &str {
+    let line = script.lines().nth(number.saturating_sub(1)).unwrap_or("");
+    line.split_whitespace().nth(2).unwrap_or("another")
 }
 
 impl Seen {
@@ -53,20 +52,30 @@ impl Seen {
         }
     }
 
-    // Adds the result of a run.
-    fn add(&mut self, script: &str, end: End, lacked: Shortage) -> Result<(), AllocError> {
+    // Notes the end of a run that wrote nothing. Returns whether it is one of memory or of a thread.
+    fn note_start(&mut self, end: End) -> bool {
         self.memory = self.memory || end == End::Memory;
-        self.lost = self.lost || lacked.lost > 0;
-        let Some(number) = lacked.denied else {
-            return Ok(());
-        };
-        let line = script.lines().nth(number.saturating_sub(1)).unwrap_or("");
-        let call = line.split_whitespace().nth(2).unwrap_or("another");
+        self.thread = self.thread || end == End::Thread;
+        end == End::Memory || end == End::Thread
+    }
+
+    // Adds the name of a call.
+    fn add_call(&mut self, call: &str) -> Result<(), AllocError> {
         if !self.calls.contains(call) {
             self.calls.push(' ')?;
             self.calls.push_str(call)?;
         }
         Ok(())
+    }
+
+    // Adds the result of a run.
+    fn add(&mut self, script: &str, end: End, lacked: Shortage) -> Result<(), AllocError> {
+        self.memory = self.memory || end == End::Memory;
+        self.lost = self.lost || lacked.lost > 0;
+        match lacked.denied {
+            Some(number) => self.add_call(call_of(script, number)),
+            None => Ok(()),
+        }
     }
 
     fn said(&self, alloc: Global, place: &str) -> Result<String, AllocError> {
@@ -79,8 +88,8 @@ impl Seen {
 }
 
 // Returns what a run lacks of the whole text, if its end is allowed: Ok, or a failed allocation.
-fn judged(job: Job<'_>, end: End, text: &[u8]) -> Option<Shortage> {
-    let lacked = lacks(job.whole, str::from_utf8(text).ok()?)?;
+fn judged(whole: &str, end: End, text: &[u8]) -> Option<Shortage> {
+    let lacked = lacks(whole, str::from_utf8(text).ok()?)?;
     match end {
         End::Done if lacked.is_told() => Some(lacked),
         End::Memory => Some(lacked),
@@ -89,10 +98,13 @@ fn judged(job: Job<'_>, end: End, text: &[u8]) -> Option<Shortage> {
 }
 
 fn count_of(script: &str, start: &str) -> usize {
-    script
-        .lines()
-        .filter(|line| line.starts_with(start))
-        .count()
+    let mut count = 0usize;
+    for line in script.lines() {
+        if line.starts_with(start) {
+            count = count.saturating_add(1);
+        }
+    }
+    count
 }
 
 // Runs this number of threads to their end. The C library keeps their stacks, and as many further threads get one of
@@ -102,14 +114,11 @@ fn keep_stacks<R: Threads + Wait + Sync>(
     alloc: Global,
     count: usize,
 ) -> anyhow::Result<()> {
-    let mut script = String::new(alloc);
-    writeln!(script, "triple a_t a_t query")?;
-    for before in 0..count {
-        writeln!(script, "domain {} u:r:a_t 1 1 1", before.saturating_add(1))?;
-    }
-    writeln!(script, "tell 1 x")?;
-    let gate = FlagGate::new(rt, alloc)?;
-    run_text(rt, alloc, script.as_str(), None, &gate)?;
+    let mut script = String::from_str(alloc, "triple a_t a_t query\n")?;
+    let end = count.saturating_add(1);
+    push_each(&mut script, alloc, "domain @ u:r:a_t 1 1 1\n", "@", 1..end)?;
+    script.push_str("tell 1 x\n")?;
+    RunJob.said(rt, alloc, script.as_bytes(), false, UNLIMITED)?;
     Ok(())
 }
 
@@ -126,31 +135,48 @@ fn place_said(
     }
 }
 
-// The environment of the runs: threads, memory, and the flood that takes most of it.
+// The result of a run whose memory ran out.
+#[derive(Drop)]
+struct Tried {
+    end: End,
+    text: Vec<u8>,
+    // Whether it wrote nothing, no domain came to the gate, and nothing was recorded.
+    is_quiet: bool,
+}
+
+// A script with what it prints with its records, and the environment of its runs: threads, memory, and the flood that
+// takes most of it.
 #[derive(Drop)]
 struct Trials<'t, R: Wait> {
     rt: &'t R,
     alloc: Global,
     flood: &'t Mutex<Flood>,
+    script: &'t str,
+    whole: &'t str,
 }
 
 impl<'t, R: Threads + Wait + Sync> Trials<'t, R> {
-    // Refuses each thread in turn. Returns the number of threads before the first run that did not end with that fault,
-    // or that ran a list.
-    fn untold_thread(&self, script: &str) -> anyhow::Result<Option<usize>> {
+    // Makes a run that has only these bytes at a stage.
+    fn try_once(&self, place: Place, left: usize) -> anyhow::Result<Tried> {
+        let gate = Scarce::new(self.rt, self.alloc, self.flood, place, left)?;
+        let log = SharedLog::new(self.alloc)?;
         let mut text = Vec::with_capacity(self.alloc, ROOM)?;
-        let count = count_of(script, "domain ");
-        let mut stacks: Vec<Vec<u8>> = Vec::new(self.alloc);
-        for _ in 0..count {
-            stacks.push(Vec::with_capacity(self.alloc, STACK)?)?;
-        }
-        for held in 0..count {
-            let gate = Scarce::new(self.rt, self.alloc, self.flood, Place::Start, GAP)?;
-            let log = SharedLog::new(self.alloc)?;
-            let end = run_scarce(self.rt, self.alloc, script, &log, &gate, &mut text);
-            gate.open();
-            let is_quiet = text.is_empty() && gate.callers() == 0 && log.count() == 0;
-            if end != End::Thread || !is_quiet {
+        let end = run_scarce(self.rt, self.alloc, self.script, &log, &gate, &mut text);
+        gate.open();
+        let is_quiet = text.is_empty() && gate.callers() == 0 && log.count() == 0;
+        Ok(Tried {
+            end,
+            text,
+            is_quiet,
+        })
+    }
+
+    // Refuses each thread in turn: keeps the space of a stack for each at first, and then for one less each time.
+    // Returns the number of threads before the first run that did not end with that fault, or that ran a list.
+    fn untold_thread(&self, mut stacks: Vec<Vec<u8>>) -> anyhow::Result<Option<usize>> {
+        for held in 0..stacks.len() {
+            let tried = self.try_once(Place::Start, GAP)?;
+            if tried.end != End::Thread || !tried.is_quiet {
                 return Ok(Some(held));
             }
             drop(stacks.pop());
@@ -161,49 +187,34 @@ impl<'t, R: Threads + Wait + Sync> Trials<'t, R> {
 
     // Lets memory run out before a script is read. Returns the memory that was left to the first run with a wrong
     // result: a run must end with the fault of memory or of a thread and write nothing, or print its whole text.
-    fn untold_at_start(&self, job: Job<'_>, seen: &mut Seen) -> anyhow::Result<Option<usize>> {
+    fn untold_at_start(&self, seen: &mut Seen) -> anyhow::Result<Option<usize>> {
         let mut gate = Scarce::new(self.rt, self.alloc, self.flood, Place::Start, 0)?;
         let log = SharedLog::new(self.alloc)?;
         let mut text = Vec::with_capacity(self.alloc, ROOM)?;
-        let mut left = 0usize;
+        let (mut left, mut end) = (0usize, End::Other);
         for _ in 0..TRIES {
             gate.leave(left);
-            let end = run_scarce(self.rt, self.alloc, job.script, &log, &gate, &mut text);
-            if gate.callers() > 0 {
-                gate.open();
-                let is_whole = end == End::Done && text.as_slice() == job.whole.as_bytes();
-                return Ok(if is_whole { None } else { Some(left) });
-            }
-            match end {
-                End::Memory if text.is_empty() => seen.memory = true,
-                End::Thread if text.is_empty() => seen.thread = true,
-                _ => break,
+            end = run_scarce(self.rt, self.alloc, self.script, &log, &gate, &mut text);
+            if gate.callers() > 0 || !text.is_empty() || !seen.note_start(end) {
+                break;
             }
             left = left.saturating_add(if left < FINE { STEP } else { PAGE });
         }
         gate.open();
-        Ok(Some(left))
+        let is_whole = end == End::Done && text.as_slice() == self.whole.as_bytes();
+        Ok(if is_whole { None } else { Some(left) })
     }
 
     // Lets memory run out when lists already run. Returns the memory that was left to the first run with a wrong
     // result.
-    fn untold_from(
-        &self,
-        job: Job<'_>,
-        place: Place,
-        seen: &mut Seen,
-    ) -> anyhow::Result<Option<usize>> {
+    fn untold_from(&self, place: Place, seen: &mut Seen) -> anyhow::Result<Option<usize>> {
         let mut left = 0usize;
         for _ in 0..TRIES {
-            let gate = Scarce::new(self.rt, self.alloc, self.flood, place, left)?;
-            let log = SharedLog::new(self.alloc)?;
-            let mut text = Vec::with_capacity(self.alloc, ROOM)?;
-            let end = run_scarce(self.rt, self.alloc, job.script, &log, &gate, &mut text);
-            gate.open();
-            match judged(job, end, text.as_slice()) {
-                None => return Ok(Some(left)),
+            let Tried { end, text, .. } = self.try_once(place, left)?;
+            match judged(self.whole, end, text.as_slice()) {
+                None => break,
                 Some(lacked) if end == End::Done && lacked.is_nothing() => return Ok(None),
-                Some(lacked) => seen.add(job.script, end, lacked)?,
+                Some(lacked) => seen.add(self.script, end, lacked)?,
             }
             left = left.saturating_add(if place == Place::Write { STEP } else { PAGE });
         }
@@ -211,23 +222,25 @@ impl<'t, R: Threads + Wait + Sync> Trials<'t, R> {
     }
 
     // Does the same at every second flag, the second one first.
-    fn between_flags(&self, job: Job<'_>) -> anyhow::Result<String> {
+    fn lists_said(&self) -> anyhow::Result<String> {
         let mut seen = Seen::nothing(self.alloc);
-        let mut flag = 1usize;
-        for _ in 0..count_of(job.script, "tell ") / 2 {
-            let untold = self.untold_from(job, Place::Flag(flag), &mut seen)?;
-            if untold.is_some() {
-                let place = format!(in self.alloc; "from flag {flag} on")?;
-                return Ok(place_said(self.alloc, place.as_str(), &seen, untold)?);
+        let mut untold = None;
+        for pair in 0..count_of(self.script, "tell ") / 2 {
+            if untold.is_none() {
+                let flag = pair.saturating_mul(2).saturating_add(1);
+                untold = self.untold_from(Place::Flag(flag), &mut seen)?;
             }
-            flag = flag.saturating_add(2);
         }
-        Ok(seen.said(self.alloc, "while lists run")?)
+        Ok(place_said(self.alloc, "while lists run", &seen, untold)?)
     }
 
     // Returns the result of the runs in which threads are refused.
-    fn threads_said(&self, script: &str) -> anyhow::Result<String> {
-        Ok(match self.untold_thread(script)? {
+    fn threads_said(&self) -> anyhow::Result<String> {
+        let mut stacks = Vec::new(self.alloc);
+        for _ in 0..count_of(self.script, "domain ") {
+            stacks.push(Vec::with_capacity(self.alloc, STACK)?)?;
+        }
+        Ok(match self.untold_thread(stacks)? {
             None => {
                 String::from_str(
                     self.alloc,
@@ -238,17 +251,48 @@ impl<'t, R: Threads + Wait + Sync> Trials<'t, R> {
         })
     }
 
-    fn start_said(&self, job: Job<'_>) -> anyhow::Result<String> {
+    fn start_said(&self) -> anyhow::Result<String> {
         let mut seen = Seen::nothing(self.alloc);
-        let untold = self.untold_at_start(job, &mut seen)?;
+        let untold = self.untold_at_start(&mut seen)?;
         Ok(place_said(self.alloc, "before lists run", &seen, untold)?)
     }
 
-    fn write_said(&self, job: Job<'_>) -> anyhow::Result<String> {
+    fn write_said(&self) -> anyhow::Result<String> {
         let mut seen = Seen::nothing(self.alloc);
-        let untold = self.untold_from(job, Place::Write, &mut seen)?;
+        let untold = self.untold_from(Place::Write, &mut seen)?;
         Ok(place_said(self.alloc, "while it writes", &seen, untold)?)
     }
+
+    // Appends the results of the runs in which memory runs out.
+    fn push_said(&self, out: &mut String) -> anyhow::Result<()> {
+        out.push_str(self.start_said()?.as_str())?;
+        out.push_str(self.lists_said()?.as_str())?;
+        Ok(out.push_str(self.write_said()?.as_str())?)
+    }
+}
+
+// Appends the results of the runs in which threads are refused, or of those in which memory runs out if the whole text
+// is there.
+fn push_refused<R: Threads + Wait + Sync>(
+    rt: &R,
+    alloc: Global,
+    flood: &Mutex<Flood>,
+    script: &str,
+    whole: &str,
+    out: &mut String,
+) -> anyhow::Result<()> {
+    let trials = Trials {
+        rt,
+        alloc,
+        flood,
+        script,
+        whole,
+    };
+    if whole.is_empty() {
+        out.push_str(trials.threads_said()?.as_str())?;
+        return Ok(());
+    }
+    trials.push_said(out)
 }
 
 /// Returns what a script prints with its records, and what fails when threads and memory run out, at each stage and
@@ -258,22 +302,22 @@ impl<'t, R: Threads + Wait + Sync> Trials<'t, R> {
 pub fn refusing_said<R: Threads + Wait + Sync>(
     rt: &R,
     alloc: Global,
-    script: &str,
-) -> anyhow::Result<String> {
+    script: &[u8],
+) -> anyhow::Result<Vec<u8>> {
+    let text = str::from_utf8(script)?;
     let flood = Mutex::new(Flood::new(alloc)?);
-    let trials = Trials {
+    let mut said = String::new(alloc);
+    // Threads first, before any run leaves its stacks.
+    push_refused(rt, alloc, &flood, text, "", &mut said)?;
+    let mut out = RunJob.said(rt, alloc, script, true, UNLIMITED)?;
+    push_refused(
         rt,
         alloc,
-        flood: &flood,
-    };
-    let threads = trials.threads_said(script)?;
-    let whole = run_recorded(rt, alloc, script)?.said(alloc)?;
-    let job = Job {
-        script,
-        whole: whole.as_str(),
-    };
-    let start = trials.start_said(job)?;
-    let lists = trials.between_flags(job)?;
-    let write = trials.write_said(job)?;
-    Ok(format!(in alloc; "{whole}{threads}{start}{lists}{write}")?)
+        &flood,
+        text,
+        str::from_utf8(out.as_slice())?,
+        &mut said,
+    )?;
+    out.extend_from_slice(said.as_bytes())?;
+    Ok(out)
 }

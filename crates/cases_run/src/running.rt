@@ -4,76 +4,67 @@ use gt_run::{FlagGate, Gate, RunFault, run};
 use std::alloc::{AllocError, Global};
 use std::sync::Wait;
 use std::thread::Threads;
+use test_cases::{Job, Limits};
 use test_failing::{FailingReader, FailingWriter};
 
-/// What a run wrote, and its fault as a text, which is empty if there was none.
-#[derive(Drop)]
-pub struct Ended {
-    pub out: Vec<u8>,
-    pub fault: String,
+// Appends the line of a fault, if there is one.
+fn with_fault(
+    alloc: Global,
+    said: Vec<u8>,
+    ended: Result<(), RunFault>,
+) -> Result<Vec<u8>, AllocError> {
+    let mut said = said;
+    if let Err(fault) = ended {
+        let line = format!(in alloc; "{fault}\n")?;
+        said.extend_from_slice(line.as_bytes())?;
+    }
+    Ok(said)
 }
 
-impl Ended {
-    /// Returns whether exactly this was written, with this fault.
-    pub fn is(&self, out: &[u8], fault: &str) -> bool {
-        self.out.as_slice() == out && self.fault.as_str() == fault
-    }
-
-    /// Returns what was written, and a line with the fault if there was one.
-    pub fn said(&self, alloc: Global) -> anyhow::Result<String> {
-        let mut text = String::from_utf8(self.out.clone()?)?;
-        if !self.fault.is_empty() {
-            text.push_str(self.fault.as_str())?;
-            text.push('\n')?;
-        }
-        Ok(text)
-    }
-}
-
-/// Runs a script. Each read fails after a number of bytes of it, and each write after a number of bytes of the output.
-pub fn run_failing<R: Threads + Wait + Sync, G: Gate + Sync>(
+/// Runs a script, with its records if there is a log. Each read fails after a number of bytes of it, and each write
+/// after a number of bytes of the output. Returns what was written, and a line with the fault if there was one.
+pub fn run_logged<R: Threads + Wait + Sync, G: Gate + Sync>(
     rt: &R,
     alloc: Global,
-    script: &str,
-    limits: (usize, usize),
+    script: &[u8],
+    limits: Limits,
     log: Option<&SharedLog>,
     gate: &G,
-) -> Result<Ended, AllocError> {
-    let (reads, writes) = limits;
-    let mut reader = FailingReader::new(script.as_bytes(), reads);
-    let mut writer = FailingWriter::new(Vec::new(alloc), writes);
+) -> Result<Vec<u8>, AllocError> {
+    let mut reader = FailingReader::new(script, limits.reads);
+    let mut writer = FailingWriter::new(Vec::new(alloc), limits.writes);
     let ended = run(rt, alloc, &mut reader, &mut writer, log, gate);
-    Ok(Ended {
-        out: writer.taken,
-        fault: fault_text(alloc, &ended)?,
-    })
+    with_fault(alloc, writer.taken, ended)
 }
 
-fn fault_text(alloc: Global, ended: &Result<(), RunFault>) -> Result<String, AllocError> {
-    match ended {
-        Ok(()) => Ok(String::new(alloc)),
-        Err(fault) => format!(in alloc; "{fault}"),
-    }
-}
-
-/// Runs a script with its records. All reads and writes succeed.
-pub fn run_recorded<R: Threads + Wait + Sync>(
+/// Runs a script in the same way, with its records if it is audited.
+pub fn run_said<R: Threads + Wait + Sync, G: Gate + Sync>(
     rt: &R,
     alloc: Global,
-    script: &str,
-) -> anyhow::Result<Ended> {
-    let gate = FlagGate::new(rt, alloc)?;
-    let log = SharedLog::new(alloc)?;
-    Ok(run_text(rt, alloc, script, Some(&log), &gate)?)
-}
-
-/// Runs a script. All reads and writes succeed.
-pub fn run_text<R: Threads + Wait + Sync, G: Gate + Sync>(
-    rt: &R,
-    alloc: Global,
-    script: &str,
-    log: Option<&SharedLog>,
+    script: &[u8],
+    audit: bool,
+    limits: Limits,
     gate: &G,
-) -> Result<Ended, AllocError> {
-    run_failing(rt, alloc, script, (usize::MAX, usize::MAX), log, gate)
+) -> Result<Vec<u8>, AllocError> {
+    let log = SharedLog::new(alloc)?;
+    let log = if audit { Some(&log) } else { None };
+    run_logged(rt, alloc, script, limits, log, gate)
+}
+
+/// A run in which a domain waits for a flag until it is raised.
+#[derive(Clone, Copy)]
+pub struct RunJob;
+
+impl Job for RunJob {
+    fn said<R: Threads + Wait + Sync>(
+        &self,
+        rt: &R,
+        alloc: Global,
+        text: &[u8],
+        audit: bool,
+        limits: Limits,
+    ) -> anyhow::Result<Vec<u8>> {
+        let gate = FlagGate::new(rt, alloc)?;
+        Ok(run_said(rt, alloc, text, audit, limits, &gate)?)
+    }
 }

@@ -11,22 +11,12 @@
 mod said;
 
 use said::{cut_said, play_said, run_said};
-use std::alloc::{AllocError, Global};
-use std::fs;
+use std::alloc::Global;
+use std::sync::Wait;
+use std::thread::Threads;
+use test_cases::{Cases, Job, Limits, say_all, tried_said};
 
-// Returns the results of a script with each of these lines instead of the `@`, with the line.
-fn tried(alloc: Global, script: &str, lines: &str) -> Result<String, AllocError> {
-    let mut out = String::new(alloc);
-    for line in lines.lines() {
-        let text = script.replace(alloc, "@", line)?;
-        let said = play_said(alloc, text.as_bytes())?;
-        let said = said.trim_end();
-        out.push_str(format!(in alloc; "{said} | {line}\n")?.as_str())?;
-    }
-    Ok(out)
-}
-
-// The treatment of the names that follow.
+// The treatment of the scripts that follow.
 #[derive(Clone, Copy)]
 enum Mode {
     Play,
@@ -34,32 +24,61 @@ enum Mode {
     Cut,
 }
 
-fn told(alloc: Global, text: &str, mode: Mode) -> Result<String, AllocError> {
-    match mode {
-        Mode::Play => match text.split_once("====\n") {
-            Some((script, lines)) => tried(alloc, script, lines),
-            None => play_said(alloc, text.as_bytes()),
-        },
-        Mode::Run => run_said(alloc, text.as_bytes()),
-        Mode::Cut => cut_said(alloc, text.as_bytes()),
+// The parsed form for `play`, which has no records.
+#[derive(Clone, Copy)]
+struct PlayForm;
+
+impl Job for PlayForm {
+    fn said<R: Threads + Wait + Sync>(
+        &self,
+        _rt: &R,
+        alloc: Global,
+        text: &[u8],
+        _audit: bool,
+        _limits: Limits,
+    ) -> anyhow::Result<Vec<u8>> {
+        Ok(play_said(alloc, text)?.into_bytes())
+    }
+}
+
+// The scripts, of which the next ones are treated so.
+#[derive(Drop)]
+struct ScriptCases {
+    mode: Mode,
+}
+
+impl Cases for ScriptCases {
+    fn takes(&mut self, word: &str) -> bool {
+        let mode = match word {
+            "--run" => Mode::Run,
+            "--cut" => Mode::Cut,
+            _ => return false,
+        };
+        self.mode = mode;
+        true
+    }
+
+    fn ending(&self) -> &'static str {
+        "gt"
+    }
+
+    fn said<R: Threads + Wait + Sync>(
+        &self,
+        rt: &R,
+        alloc: Global,
+        text: &[u8],
+    ) -> anyhow::Result<Vec<u8>> {
+        match self.mode {
+            Mode::Play => tried_said(rt, &PlayForm, alloc, text, false),
+            Mode::Run => Ok(run_said(alloc, text)?.into_bytes()),
+            Mode::Cut => Ok(cut_said(alloc, text)?.into_bytes()),
+        }
     }
 }
 
 fn main(rt: HostRuntime) -> anyhow::Result<()> {
     let alloc = rt.alloc();
     let words: Vec<String> = std::env::args(&rt)?.collect(alloc)?;
-    let mut mode = Mode::Play;
-    for word in words.iter().skip(1) {
-        if word.as_str() == "--run" {
-            mode = Mode::Run;
-        } else if word.as_str() == "--cut" {
-            mode = Mode::Cut;
-        } else {
-            let path = format!(in alloc; "{word}.gt")?;
-            let text = fs::read_to_string(&rt, path.as_str())?;
-            let said = told(alloc, text.as_str(), mode)?;
-            print!(rt; "== {word}\n{said}")?;
-        }
-    }
-    Ok(())
+    let mut cases = ScriptCases { mode: Mode::Play };
+    say_all(&rt, alloc, &mut cases, words.as_slice())
 }

@@ -10,7 +10,7 @@ use Rattle.gt_types.specs.declared.Use.TheVariants.{Map as ForMap, Copy as ForCo
 use Rattle.gt_entry.specs.declared.entry.Entry.{Entry}
 use Rattle.gt_entry.specs.declared.entry.Entry.TheVariants.{Invalid, Page, Sub, Via}
 use Rattle.gt_entry.specs.Permits.{permits, forwards, leads_to, is_of_frame}
-use Rattle.gt_word_table.specs.Rule.{Layout}
+use Rattle.gt_word_history.specs.Rule.{Layout}
 use Rattle.gt_words.specs.Conditions.{SeatOf}
 use Rattle.gt_calls.specs.declared.held.HeldPin.{HeldPin}
 use Rattle.gt_calls.specs.declared.held.AccessPath.{AccessPath}

@@ -22,8 +22,8 @@ pub use Rattle.gt_types.specs.declared.config.DomainConfig.{DomainConfig}
 pub use Rattle.gt_types.specs.declared.limits.TheConstants.{TABLE_ENTRIES}
 pub use Rattle.gt_types.specs.declared.perms.Perms.{Perms}
 pub use Rattle.gt_words.specs.Conditions.{HasDomain, SeatOf}
-pub use Rattle.gt_word_table.specs.Controls.{generation_of}
-pub use Rattle.gt_word_table.specs.Rule.{Layout, position_in}
-pub use Rattle.gt_word_table.specs.Views.{IsAmong, live_pins, steps_on}
-pub use Rattle.gt_word_table.specs.declared.view.EntryRecord.{EntryRecord}
-pub use Rattle.gt_word_table.specs.declared.view.View.{View}
+pub use Rattle.gt_word_history.specs.Controls.{generation_of}
+pub use Rattle.gt_word_history.specs.Rule.{Layout, position_in}
+pub use Rattle.gt_word_history.specs.Views.{IsAmong, live_pins, steps_on}
+pub use Rattle.gt_word_history.specs.declared.view.EntryRecord.{EntryRecord}
+pub use Rattle.gt_word_history.specs.declared.view.View.{View}

@@ -109,6 +109,24 @@ impl Pool {
         Ok((Pool { domains, frames }, visits))
     }
 
+    /// Makes a pool that keeps no frames, and an empty list of accesses for each of `count` domains.
+    ///
+    /// # Errors
+    ///
+    /// `Memory`.
+    pub fn empty(alloc: Global, count: usize) -> Result<(Pool, Vec<FrameAccesses>), Memory>
+        ensures pool { IfOk result (λ r. r.0 ≡ []) }
+        ensures count { IfOk result (λ r. length r.1.items ≡ count) }
+        ensures none { IfOk result (λ r. All (λ visits. visits ≡ []) r.1.items) }
+    {
+        let visits = no_visits(alloc, count)?;
+        let pool = Pool {
+            domains: Vec::new(alloc),
+            frames: Vec::new(alloc),
+        };
+        Ok((pool, visits))
+    }
+
     // Returns the pool number of a frame.
     fn place(&self, name: FrameName) -> Option<usize>
         ensures { result ≡ pool_number self.now name.owner name.number 0 }

@@ -1,5 +1,5 @@
 -- The attached domains of a run at its start.
-use Rattle.std.specs.Prelude.{◌≡◌, ℕ, ◌<◌, List, length, map, HoldsAt, None}
+use Rattle.std.specs.Prelude.{◌≡◌, ℕ, ◌<◌, List, [], length, map, HoldsAt, None}
 use Rattle.gt_types.specs.declared.config.Config.{Config}
 use Rattle.gt_live.specs.Domains.{AllowRelation}
 use Rattle.gt_live.specs.Starting.{IsNewDomain}
@@ -11,13 +11,14 @@ use Rattle.gt_attached.specs.Seated.{Seated}
 abbrev pub beside : {P : Type 0} → Monitor P → Domain → Seated P
 beside m d = record { monitor = m; domain = d; copying = None }
 
--- the attached domains of a new run: they share one monitor, which has this configuration and these rights, and each is
--- the new domain at its position in the configuration
+-- the attached domains of a new run: they share one monitor, which has this configuration and these rights and keeps no
+-- frame, and each is the new domain at its position in the configuration
 pub record AreNewGuests {P : Type 0} (may : P → AllowRelation) (c : Config) (rights : P) (guests : List (Seated P))
     : Type 0 where
   pub monitor : Monitor P
   pub config : monitor.config ≡ c
   pub rights_are : monitor.rights ≡ rights
+  pub no_frames : monitor.pool ≡ []
   pub domains : List Domain
   pub guests_are : guests ≡ map (beside monitor) domains
   pub count : length domains ≡ length c.domains.items

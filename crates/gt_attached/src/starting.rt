@@ -1,7 +1,6 @@
 //! The start of a run, for a caller outside Rattle.
 ghost use Rattle.std.specs.Prelude.{◌≡◌, All, length, map, IfOk, IfErr, OnOk};
-ghost use Rattle.gt_types.specs.Config.{IsWithinLimits};
-ghost use Rattle.gt_words.specs.Answers.{IsStartFault};
+ghost use Rattle.gt_roster.specs.Frameless.{IsFramelessFault, IsRunnable};
 ghost use Rattle.gt_live.specs.Domains.{BelongsTo};
 ghost use Rattle.gt_attached.specs.Starting.{AreNewGuests, beside};
 ghost use Rattle.std.specs.Arc.{arc_value};
@@ -55,22 +54,23 @@ fn all_guests<P: Allows + Drop>(
     }
 }
 
-/// Starts a run, and returns an attached domain for each one configured, in order. They share one monitor, which has
-/// this configuration and these rights.
+/// Starts a run whose frames the caller keeps, and returns an attached domain for each one configured, in order. They
+/// share one monitor, which has this configuration and these rights and keeps no frame. A domain may have any number of
+/// frames from 1 on.
 ///
 /// # Errors
-/// The first fault of the configuration, or `Memory` if it has none and allocation fails. No domain is left.
+/// The first fault of the configuration, where no number of frames is too large; or `Memory`. No domain is left.
 pub fn start<P: Allows + Drop>(
     alloc: Global,
     config: Config,
     rights: P,
 ) -> Result<Vec<AttachedDomain<P>>, StartFault>
-    ensures ok { OnOk result (IsWithinLimits config) }
+    ensures ok { OnOk result (IsRunnable config) }
     ensures guests { IfOk result (λ v. AreNewGuests P.may config rights v.items) }
     ensures count { IfOk result (λ v. length v.items ≡ length config.domains.items) }
-    ensures err { IfErr result (IsStartFault config) }
+    ensures err { IfErr result (IsFramelessFault config) }
 {
-    let (monitor, domains) = match Monitor::new(alloc, config, rights) {
+    let (monitor, domains) = match Monitor::without_frames(alloc, config, rights) {
         Ok(made) => made,
         Err(fault) => return Err(fault),
     };

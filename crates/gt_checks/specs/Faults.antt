@@ -7,6 +7,6 @@ use Rattle.gt_checks.specs.declared.fault.WhyFault.TheVariants as faults
 -- the text of an error
 abbrev pub why_fault_text : WhyFault → List ℕ
 why_fault_text (faults.Text fault) = listing_fault_text fault
-why_fault_text faults.NoSource = codes "source: no such type"
-why_fault_text faults.NoTarget = codes "target: no such type"
-why_fault_text faults.NoPermission = codes "permission: none of the seven"
+why_fault_text faults.NoSource = codes "the source is not a type of the policy"
+why_fault_text faults.NoTarget = codes "the target is not a type of the policy"
+why_fault_text faults.NoPermission = codes "the permission is not one of the seven"

@@ -5,6 +5,7 @@ ghost use Rattle.gt_text.specs.Streams.{OfInput};
 ghost use Rattle.gt_checks.specs.Checking.{Checked, CheckedText};
 
 use crate::telling::tell_findings;
+use gt_policy_check::ReportForm;
 use gt_policy_list::{ListingFault, policy_text};
 use gt_text::read_text;
 use std::alloc::Global;
@@ -14,14 +15,14 @@ use std::io::{Read, Write};
 fn check_text<W: Write>(
     alloc: Global,
     file: &str,
-    json: bool,
+    form: ReportForm,
     text: &str,
     writer: &mut W,
 ) -> Result<bool, ListingFault>
     ensures { CheckedText text.now (W.contents writer.old) (W.contents writer.new) result }
 {
     match gt_policy_check::check(alloc, text) {
-        Ok(found) => tell_findings(alloc, file, json, text, found.as_slice(), writer),
+        Ok(found) => tell_findings(alloc, file, form, text, found.as_slice(), writer),
         Err(_) => Err(ListingFault::Memory),
     }
 }
@@ -30,7 +31,7 @@ fn check_text<W: Write>(
 fn check_bytes<W: Write>(
     alloc: Global,
     file: &str,
-    json: bool,
+    form: ReportForm,
     input: &[u8],
     writer: &mut W,
 ) -> Result<bool, ListingFault>
@@ -38,7 +39,7 @@ fn check_bytes<W: Write>(
         Checked all (W.contents writer.old) (W.contents writer.new) result }
 {
     match policy_text(input) {
-        Ok(text) => check_text(alloc, file, json, text, writer),
+        Ok(text) => check_text(alloc, file, form, text, writer),
         Err(fault) => Err(fault),
     }
 }
@@ -50,7 +51,7 @@ fn check_bytes<W: Write>(
 pub fn check<R: Read, W: Write>(
     alloc: Global,
     file: &str,
-    json: bool,
+    form: ReportForm,
     reader: &mut R,
     writer: &mut W,
 ) -> Result<bool, ListingFault>
@@ -58,7 +59,7 @@ pub fn check<R: Read, W: Write>(
         Checked input (W.contents writer.old) (W.contents writer.new) result) }
 {
     match read_text(alloc, reader) {
-        Ok(input) => check_bytes(alloc, file, json, input.as_slice(), writer),
+        Ok(input) => check_bytes(alloc, file, form, input.as_slice(), writer),
         Err(fault) => Err(ListingFault::from(fault)),
     }
 }

@@ -8,9 +8,9 @@ use std::fmt;
 pub enum WhyFault {
     /// The text is not a policy or was not read, the lines were not written, or an allocation failed.
     Text(ListingFault),
-    /// The source is not a declared type. Nothing was written.
+    /// The source is not a declared type, nor the attribute of one. Nothing was written.
     NoSource,
-    /// The target is not a declared type. Nothing was written.
+    /// The target is not a declared type, nor the attribute of one. Nothing was written.
     NoTarget,
     /// The word is not one of the seven permissions. Nothing was written.
     NoPermission,
@@ -25,9 +25,9 @@ impl fmt::Display for WhyFault {
     fn fmt<W: fmt::Write>(&self, f: &mut fmt::Formatter<W>) -> fmt::Result {
         match self {
             WhyFault::Text(fault) => write!(f, "{fault}"),
-            WhyFault::NoSource => f.write_str("source: no such type"),
-            WhyFault::NoTarget => f.write_str("target: no such type"),
-            WhyFault::NoPermission => f.write_str("permission: none of the seven"),
+            WhyFault::NoSource => f.write_str("the source is not a type of the policy"),
+            WhyFault::NoTarget => f.write_str("the target is not a type of the policy"),
+            WhyFault::NoPermission => f.write_str("the permission is not one of the seven"),
         }
     }
 }

@@ -5,6 +5,7 @@ ghost use Rattle.gt_text.specs.Streams.{OfInput};
 ghost use Rattle.gt_checks.specs.Scripts.{CheckedScript};
 
 use crate::telling::tell_findings;
+use gt_policy_check::ReportForm;
 use gt_policy_list::ListingFault;
 use gt_script_check::judge;
 use gt_text::{read_text, text_of};
@@ -23,7 +24,7 @@ fn shown_text<'a>(input: &'a [u8]) -> &'a str {
 fn check_script_bytes<W: Write>(
     alloc: Global,
     file: &str,
-    json: bool,
+    form: ReportForm,
     input: &[u8],
     writer: &mut W,
 ) -> Result<bool, ListingFault>
@@ -34,7 +35,7 @@ fn check_script_bytes<W: Write>(
         Ok(found) => tell_findings(
             alloc,
             file,
-            json,
+            form,
             shown_text(input),
             found.as_slice(),
             writer,
@@ -50,7 +51,7 @@ fn check_script_bytes<W: Write>(
 pub fn check_script<R: Read, W: Write>(
     alloc: Global,
     file: &str,
-    json: bool,
+    form: ReportForm,
     reader: &mut R,
     writer: &mut W,
 ) -> Result<bool, ListingFault>
@@ -58,7 +59,7 @@ pub fn check_script<R: Read, W: Write>(
         CheckedScript input (W.contents writer.old) (W.contents writer.new) result) }
 {
     match read_text(alloc, reader) {
-        Ok(input) => check_script_bytes(alloc, file, json, input.as_slice(), writer),
+        Ok(input) => check_script_bytes(alloc, file, form, input.as_slice(), writer),
         Err(fault) => Err(ListingFault::from(fault)),
     }
 }

@@ -4,7 +4,7 @@ ghost use Rattle.std.specs.List.{list_any};
 ghost use Rattle.gt_policy_check.specs.Check.{is_error};
 ghost use Rattle.gt_checks.specs.Telling.{TellsFindings};
 
-use gt_policy_check::{Finding, FindingKind, push_json, push_report};
+use gt_policy_check::{Finding, FindingKind, ReportForm, push_json, push_report};
 use gt_policy_list::ListingFault;
 use gt_text::finish;
 use std::alloc::{AllocError, Global};
@@ -22,15 +22,16 @@ fn has_error(found: &[Finding]) -> bool
 fn report(
     alloc: Global,
     file: &str,
-    json: bool,
+    form: ReportForm,
     text: &str,
     found: &[Finding],
 ) -> Result<Vec<u8>, AllocError> {
     let mut out = Vec::new(alloc);
-    if json {
-        push_json(&mut out, file, found)?;
-    } else {
-        push_report(&mut out, file, text, found)?;
+    match form {
+        ReportForm::Json => push_json(&mut out, file, found)?,
+        ReportForm::Text | ReportForm::Colored => {
+            push_report(&mut out, file, text, found, form)?;
+        }
     }
     Ok(out)
 }
@@ -39,14 +40,14 @@ fn report(
 pub(crate) fn tell_findings<W: Write>(
     alloc: Global,
     file: &str,
-    json: bool,
+    form: ReportForm,
     text: &str,
     found: &[Finding],
     writer: &mut W,
 ) -> Result<bool, ListingFault>
     ensures { TellsFindings found.now (W.contents writer.old) (W.contents writer.new) result }
 {
-    let Ok(said) = report(alloc, file, json, text, found) else {
+    let Ok(said) = report(alloc, file, form, text, found) else {
         return Err(ListingFault::Memory);
     };
     match finish(writer, said.as_slice()) {

@@ -1,12 +1,17 @@
 -- The commands of the program, and the meaning of the words of a command line.
 use Rattle.std.specs.Prelude.{◌≡◌, ◌==◌, Bool, true, false, ℕ, List, [], ◌∷◌, Option, Some, None, Result, MatchResult}
-use Rattle.std.specs.Prelude.{codes, find, if◌then◌else◌, option_map}
+use Rattle.std.specs.Prelude.{codes, find, if◌then◌else◌, map, option_map}
 use Rattle.gt_commands.specs.Prelude.{bytes_eq, digits_value, without_leading_plus, HasKind, Kinds, on_top}
 use Rattle.gt_commands.specs.Prelude.{is_unsigned_in, App, Row, Text, first_of, new_app, with_subcommand, Error}
 use Rattle.gt_commands.specs.Prelude.{ArgumentConflict, DisplayHelp, DisplayVersion, InvalidSubcommand, InvalidValue}
 use Rattle.gt_commands.specs.Prelude.{MissingRequiredArgument, MissingSubcommand, TooManyValues, UnknownArgument}
 use Rattle.gt_commands.specs.Prelude.{Format, Plain, Json, Invocation, Mode, Play, Run, Policy, Rules, Check, Why}
 use Rattle.gt_commands.specs.Prelude.{Entries, Explore}
+use Rattle.gt_commands.specs.Files.{names_of}
+use Rattle.gt_explore_verdict.specs.declared.judging.Claim.{Claim}
+use Rattle.gt_explore_verdict.specs.declared.judging.Claim.TheVariants.{Find, Never, Always}
+use Rattle.gt_commands.specs.declared.invocation.Exploration.{Exploration}
+use Rattle.gt_commands.specs.declared.invocation.Exploration.TheVariants as explores
 use Rattle.gt_commands.specs.Rules.{command_app}
 use Rattle.gt_commands.specs.Usage.{Usage, Given, Line, gives, asks_help, wrong, Word, mark, long, short, plain}
 use Rattle.gt_commands.specs.Usage.{usage_word, line, is_true, value_given}
@@ -31,24 +36,38 @@ one name = name ∷ []
 abbrev pub file_usage : Usage
 file_usage = record { flags = []; options = []; words = one (codes "file"); needed = [] }
 
+-- `[--verbose] [FILE]`, which each command takes
+abbrev pub common_usage : Usage
+common_usage = record file_usage { flags = one (codes "verbose") }
+
 -- the usage of the commands that run a script
 abbrev pub runner_usage : Usage
 runner_usage = record file_usage { flags = codes "audit" ∷ codes "verbose" ∷ []; options = one (codes "format") }
+
+-- the names of the words for the FILEs of `check` after the first
+abbrev pub more_files : List Text
+more_files = codes "file2" ∷ codes "file3" ∷ codes "file4" ∷ codes "file5" ∷ codes "file6" ∷ codes "file7"
+    ∷ codes "file8" ∷ []
 
 -- the usage of each command
 abbrev pub usage_of : Mode → Usage
 usage_of Play = runner_usage
 usage_of Run = runner_usage
-usage_of Explore = record file_usage { options = codes "find" ∷ codes "witness" ∷ codes "states" ∷ [] }
-usage_of Policy = record file_usage { options = one (codes "format") }
-usage_of Rules = file_usage
-usage_of Check = record file_usage { flags = one (codes "script"); options = one (codes "format") }
-usage_of Why = record file_usage {
+usage_of Explore = record common_usage {
+  options = codes "find" ∷ codes "never" ∷ codes "always" ∷ codes "witness" ∷ codes "states" ∷ [];
+}
+usage_of Policy = record common_usage { options = one (codes "format") }
+usage_of Rules = common_usage
+usage_of Check = record file_usage {
+  flags = codes "script" ∷ codes "verbose" ∷ [];
+  options = one (codes "format");
+  words = codes "file" ∷ more_files;
+}
+usage_of Why = record common_usage {
   words = codes "source" ∷ codes "target" ∷ codes "permission" ∷ codes "file" ∷ [];
-  needed = codes "source" ∷ codes "target" ∷ codes "permission" ∷ [];
 }
 usage_of Entries = record file_usage {
-  flags = codes "hex" ∷ codes "all" ∷ [];
+  flags = codes "hex" ∷ codes "all" ∷ codes "verbose" ∷ [];
   options = codes "version" ∷ codes "script" ∷ codes "format" ∷ [];
   needed = one (codes "version");
 }
@@ -84,17 +103,26 @@ gthost_app = with_mode (with_mode (with_mode listers_app Check) Why) Entries
 
 -- ---- requests
 
--- to play a script, to run one, to explore one, to list a policy, to list the rules, to check a policy or a script, to
--- explain why a policy allows something, or to print the entries of a dump, with the options and the FILE, none for
--- standard input; help; the version; or nothing that the program does
+-- what an exploration seeks: all texts, the verdict on a claim, a script for the text of a number, or one for each
+pub data Sought : Type 0 where
+  all_texts : Sought
+  a_claim : Claim → Text → Sought
+  one_script : ℕ → Sought
+  all_scripts : Sought
+
+-- To play a script, to run one, to explore one, to list a policy, to list the rules, to check a policy or a script, to
+-- explain why a policy allows something, to answer the questions of the standard input about a policy, or to print the entries of a dump, with the options and the FILE, none for
+-- standard input, and the further FILEs of a check; help; the version; or nothing that the program does. Only `play`, `run` and `policy` need to be asked
+-- for the reasons of a fault: the others take `--verbose` and give the reasons also without it.
 pub data Request : Type 0 where
   to_play : Bool → Bool → Format → Option Text → Request
   to_run : Bool → Bool → Format → Option Text → Request
-  to_explore : Option Text → Option ℕ → ℕ → Option Text → Request
-  to_list : Format → Option Text → Request
+  to_explore : Sought → ℕ → Option Text → Request
+  to_list : Bool → Format → Option Text → Request
   to_tell_rules : Option Text → Request
-  to_check : Bool → Format → Option Text → Request
-  to_explain : Option Text → Option Text → Text → Option Text → Request
+  to_check : Bool → Format → Option Text → List (Option Text) → Request
+  to_explain : Option Text → Option Text → Option Text → Option Text → Request
+  to_explain_each : Text → Request
   to_tell_entries : ℕ → Bool → Bool → Option ℕ → Format → Option Text → Request
   for_help : Request
   for_version : Request
@@ -106,7 +134,7 @@ format_of None = Some Plain
 format_of (Some word) = if bytes_eq word (codes "text") then Some Plain
     else (if bytes_eq word (codes "json") then Some Json else None)
 
--- a type by its name; `-` is any type
+-- a type or a permission by its name; `-` is any
 abbrev pub type_of : Option Text → Option Text
 type_of None = None
 type_of (Some word) = if bytes_eq word (codes "-") then None else Some word
@@ -130,10 +158,22 @@ abbrev pub script_of : Option Text → Option (Option ℕ)
 script_of None = Some None
 script_of (Some word) = option_map (λ n. Some n) (domain_number word)
 
--- `--witness N`, a number of 64 bits, if it is given
-abbrev pub witness_of : Option Text → Option (Option ℕ)
+-- `--witness N`, a number of 64 bits, or `--witness all`, if it is given
+abbrev pub witness_of : Option Text → Option (Option Sought)
 witness_of None = Some None
-witness_of (Some word) = option_map (λ n. Some n) (number_up_to 18446744073709551615 word)
+witness_of (Some word) =
+    if bytes_eq word (codes "all") then Some (Some all_scripts)
+    else option_map (λ n. Some (one_script n)) (number_up_to 18446744073709551615 word)
+
+-- `--find EXPR`, `--never EXPR` or `--always EXPR`, of which only one may be given
+abbrev pub claim_of : Option Text → Option Text → Option Text → Option (Option Sought)
+claim_of None None None = Some None
+claim_of (Some find) None None = Some (Some (a_claim Find find))
+claim_of None (Some never) None = Some (Some (a_claim Never never))
+claim_of None None (Some always) = Some (Some (a_claim Always always))
+claim_of (Some find) (Some never) always = None
+claim_of (Some find) None (Some always) = None
+claim_of None (Some never) (Some always) = None
 
 -- `--states N`; 100,000 if it is left out
 abbrev pub states_of : Option Text → Option ℕ
@@ -148,28 +188,36 @@ abbrev pub run_with : Option Format → Bool → Bool → Option Text → Reques
 run_with None audit verbose file = nothing
 run_with (Some format) audit verbose file = to_run audit verbose format file
 
--- either the texts with a word or the script for one of them, not both
-abbrev pub explore_by : Option Text → Option ℕ → ℕ → Option Text → Request
-explore_by None witness states file = to_explore None witness states file
-explore_by (Some word) None states file = to_explore (Some word) None states file
-explore_by (Some word) (Some number) states file = nothing
+-- a claim or scripts for texts, not both, or the texts
+abbrev pub explore_by : Option Sought → Option Sought → ℕ → Option Text → Request
+explore_by None None states file = to_explore all_texts states file
+explore_by (Some claim) None states file = to_explore claim states file
+explore_by None (Some scripts) states file = to_explore scripts states file
+explore_by (Some claim) (Some scripts) states file = nothing
 
-abbrev pub explore_with : Option Text → Option (Option ℕ) → Option ℕ → Option Text → Request
-explore_with find None states file = nothing
-explore_with find (Some witness) None file = nothing
-explore_with find (Some witness) (Some states) file = explore_by find witness states file
+abbrev pub explore_with : Option (Option Sought) → Option (Option Sought) → Option ℕ → Option Text → Request
+explore_with None witness states file = nothing
+explore_with (Some claim) None states file = nothing
+explore_with (Some claim) (Some witness) None file = nothing
+explore_with (Some claim) (Some witness) (Some states) file = explore_by claim witness states file
 
-abbrev pub list_with : Option Format → Option Text → Request
-list_with None file = nothing
-list_with (Some format) file = to_list format file
+abbrev pub list_with : Option Format → Bool → Option Text → Request
+list_with None verbose file = nothing
+list_with (Some format) verbose file = to_list verbose format file
 
-abbrev pub check_with : Option Format → Bool → Option Text → Request
-check_with None script file = nothing
-check_with (Some format) script file = to_check script format file
+abbrev pub check_with : Option Format → Bool → Option Text → List (Option Text) → Request
+check_with None script file more = nothing
+check_with (Some format) script file more = to_check script format file more
 
+-- `SOURCE TARGET PERMISSION [FILE]`; or one word, which is then the FILE
 abbrev pub why_with : Option Text → Option Text → Option Text → Option Text → Request
-why_with source target None file = nothing
-why_with source target (Some permission) file = to_explain source target permission file
+why_with None target permission file = nothing
+why_with (Some source) None None None = to_explain_each source
+why_with (Some source) None None (Some file) = nothing
+why_with (Some source) None (Some permission) file = nothing
+why_with (Some source) (Some target) None file = nothing
+why_with (Some source) (Some target) (Some permission) file =
+    to_explain (type_of (Some source)) (type_of (Some target)) (type_of (Some permission)) file
 
 abbrev pub entries_with : Option ℕ → Option (Option ℕ) → Option Format → Bool → Bool → Option Text → Request
 entries_with None script format hex every file = nothing
@@ -184,14 +232,16 @@ read Play value = play_with (format_of (value (codes "format"))) (is_true (value
     (is_true (value (codes "verbose"))) (value (codes "file"))
 read Run value = run_with (format_of (value (codes "format"))) (is_true (value (codes "audit")))
     (is_true (value (codes "verbose"))) (value (codes "file"))
-read Explore value = explore_with (value (codes "find")) (witness_of (value (codes "witness")))
+read Explore value = explore_with (claim_of (value (codes "find")) (value (codes "never")) (value (codes "always")))
+    (witness_of (value (codes "witness")))
     (states_of (value (codes "states"))) (value (codes "file"))
-read Policy value = list_with (format_of (value (codes "format"))) (value (codes "file"))
+read Policy value = list_with (format_of (value (codes "format"))) (is_true (value (codes "verbose")))
+    (value (codes "file"))
 read Rules value = to_tell_rules (value (codes "file"))
 read Check value = check_with (format_of (value (codes "format"))) (is_true (value (codes "script")))
+    (value (codes "file")) (map value more_files)
+read Why value = why_with (value (codes "source")) (value (codes "target")) (value (codes "permission"))
     (value (codes "file"))
-read Why value = why_with (type_of (value (codes "source"))) (type_of (value (codes "target")))
-    (value (codes "permission")) (value (codes "file"))
 read Entries value = entries_with (version_of (value (codes "version"))) (script_of (value (codes "script")))
     (format_of (value (codes "format"))) (is_true (value (codes "hex"))) (is_true (value (codes "all"))) (value (codes "file"))
 
@@ -236,17 +286,26 @@ refusals nothing = UnknownArgument ∷ InvalidSubcommand ∷ MissingSubcommand �
     ∷ InvalidValue ∷ MissingRequiredArgument ∷ []
 refusals _ = []
 
+-- what is sought by an exploration
+abbrev pub sought_told : Exploration → Sought
+sought_told explores.Texts = all_texts
+sought_told (explores.Decide claim expression) = a_claim claim expression.now
+sought_told (explores.Witness number) = one_script number
+sought_told explores.Witnesses = all_scripts
+
 -- what a plan asks for
 abbrev pub asked_by_plan : Invocation → Request
 asked_by_plan (plans.Play audit verbose format file) = to_play audit verbose format (option_map (λ f. f.now) file)
 asked_by_plan (plans.Run audit verbose format file) = to_run audit verbose format (option_map (λ f. f.now) file)
-asked_by_plan (plans.Explore find witness states file) =
-    to_explore (option_map (λ f. f.now) find) witness states (option_map (λ f. f.now) file)
-asked_by_plan (plans.Policy format file) = to_list format (option_map (λ f. f.now) file)
+asked_by_plan (plans.Explore asked states file) =
+    to_explore (sought_told asked) states (option_map (λ f. f.now) file)
+asked_by_plan (plans.Policy verbose format file) = to_list verbose format (option_map (λ f. f.now) file)
 asked_by_plan (plans.Rules rule) = to_tell_rules (option_map (λ f. f.now) rule)
-asked_by_plan (plans.Check script format file) = to_check script format (option_map (λ f. f.now) file)
+asked_by_plan (plans.Check script format file more) =
+    to_check script format (option_map (λ f. f.now) file) (names_of more)
 asked_by_plan (plans.Why source target permission file) = to_explain (option_map (λ f. f.now) source)
-    (option_map (λ f. f.now) target) permission.now (option_map (λ f. f.now) file)
+    (option_map (λ f. f.now) target) (option_map (λ f. f.now) permission) (option_map (λ f. f.now) file)
+asked_by_plan (plans.WhyEach file) = to_explain_each file.now
 asked_by_plan (plans.Entries version hex every script format file) =
     to_tell_entries version hex every script format (option_map (λ f. f.now) file)
 

@@ -1,4 +1,6 @@
 pub mod Usage
+pub mod Files
+pub mod Leading
 pub mod Letters
 pub mod Rules
 pub mod Commands

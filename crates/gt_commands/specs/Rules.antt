@@ -9,10 +9,6 @@ use Rattle.gt_commands.specs.Usage.{Usage, is_among}
 abbrev pub word_rule : Usage → Text → Rule
 word_rule u name = record (new_rule name) { value_names = 1; required = is_among u.needed name }
 
--- NAME, which must be given
-abbrev pub needed_word : Text → Rule
-needed_word name = record (new_rule name) { value_names = 1; required = true }
-
 -- --NAME
 abbrev pub flag_rule : Text → Rule
 flag_rule name = record (new_rule name) { long = Some name; action = Some SetTrue }

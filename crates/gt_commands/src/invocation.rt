@@ -1,4 +1,5 @@
 //! Parsed command lines.
+use gt_explore_verdict::Claim;
 
 /// A command of the program.
 #[derive(Clone, Copy, Debug, PartialEq, Eq)]
@@ -30,7 +31,54 @@ pub enum Format {
     Json,
 }
 
-/// A command with its options. `file` is the FILE, or None for the standard input.
+/// What `explore` is asked for.
+#[derive(Clone, Copy, Debug, PartialEq, Eq)]
+pub enum Exploration<'a> {
+    /// All texts.
+    Texts,
+    /// The verdict on a claim about the conditions of this expression.
+    Decide { claim: Claim, expression: &'a str },
+    /// A script for the text of this number.
+    Witness(usize),
+    /// A script for each text.
+    Witnesses,
+}
+
+/// The FILEs of `check` after the first.
+#[derive(Clone, Copy, Debug, PartialEq, Eq)]
+pub struct MoreFiles<'a> {
+    pub second: Option<&'a str>,
+    pub third: Option<&'a str>,
+    pub fourth: Option<&'a str>,
+    pub fifth: Option<&'a str>,
+    pub sixth: Option<&'a str>,
+    pub seventh: Option<&'a str>,
+    pub eighth: Option<&'a str>,
+}
+
+impl<'a> MoreFiles<'a> {
+    ghost use Rattle.std.specs.Prelude.{◌≡◌, map};
+    ghost use Rattle.std.specs.Option.{option_map};
+    ghost use Rattle.gt_commands.specs.Files.{names_of};
+
+    /// Returns their names.
+    pub fn names(&self) -> [Option<&'a str>; 7]
+        ensures { map (option_map (λ v. v.now)) result ≡ names_of self.now }
+    {
+        [
+            self.second,
+            self.third,
+            self.fourth,
+            self.fifth,
+            self.sixth,
+            self.seventh,
+            self.eighth,
+        ]
+    }
+}
+
+/// A command with its options. `file` is the FILE, or None for the standard input. A command without `verbose` explains
+/// its faults in any case.
 #[derive(Debug, PartialEq, Eq, Drop)]
 pub enum Invocation<'a> {
     /// `audit`: print the audit lines too. `verbose`: print the reasons of faults and refusals.
@@ -46,15 +94,15 @@ pub enum Invocation<'a> {
         format: Format,
         file: Option<&'a str>,
     },
-    /// `find`: only the texts with this word. `witness`: the script for the text of this number instead. `states`: the
-    /// maximum number of states.
+    /// `states`: the maximum number of states.
     Explore {
-        find: Option<&'a str>,
-        witness: Option<usize>,
+        asked: Exploration<'a>,
         states: usize,
         file: Option<&'a str>,
     },
+    /// `verbose`: print the reason of a fault.
     Policy {
+        verbose: bool,
         format: Format,
         file: Option<&'a str>,
     },
@@ -62,18 +110,23 @@ pub enum Invocation<'a> {
     Rules {
         rule: Option<&'a str>,
     },
-    /// `script`: the text is a script, not a policy.
+    /// `script`: the text is a script, not a policy. `more`: further FILEs.
     Check {
         script: bool,
         format: Format,
         file: Option<&'a str>,
+        more: MoreFiles<'a>,
     },
-    /// The type is any type if there is no name.
+    /// Any type or any permission, if there is no name.
     Why {
         source: Option<&'a str>,
         target: Option<&'a str>,
-        permission: &'a str,
+        permission: Option<&'a str>,
         file: Option<&'a str>,
+    },
+    /// Answer the questions of the standard input, a line each, about the policy of the file.
+    WhyEach {
+        file: &'a str,
     },
     /// `version` is 1 or 2. `hex`: the dump is hexadecimal text. `all`: print entries of zeros too. `script`: print the
     /// lines of a script in which this domain makes the calls.

@@ -6,15 +6,18 @@
 //!
 //! A line that asks for a command is answered by its plan, and is refused only if an allocation fails. Any other line
 //! is refused, with an error of a kind that fits it. The proof shows that clap's own walk over the words has the same
-//! result, for any flags, options and words. The crate uses only `clap`.
+//! result, for any flags, options and words. The crate uses `clap`, and the claims of `gt_explore_verdict`.
 #![tactic(auto)]
 
+mod help;
 mod invocation;
+mod leading;
 mod letters;
 mod line;
 mod planning;
 mod values;
 
-pub use invocation::{Format, Invocation, Mode};
+pub use invocation::{Exploration, Format, Invocation, Mode, MoreFiles};
+pub use leading::{command_first, leading_word};
 pub use letters::with_long_flags;
-pub use planning::plan;
+pub use planning::{mode_of, plan};

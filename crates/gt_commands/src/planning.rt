@@ -3,20 +3,22 @@ ghost use Rattle.std.specs.Prelude.{◌≡◌, IfOk, IfErr, map, drop, string_by
 ghost use Rattle.std.specs.Option.{option_map};
 ghost use Rattle.clap.specs.Words.{subcommand_of, rows_of, found_of, first_of, kind_of};
 ghost use Rattle.clap.specs.declared.error.kind.ErrorKind.TheVariants.{InvalidValue, OutOfMemory};
+ghost use Rattle.gt_commands.specs.Files.{names_of};
 ghost use Rattle.gt_commands.specs.Usage.{is_true};
 ghost use Rattle.gt_commands.specs.Commands.{request_in_words, asked_by_some, asked_named, check_with, entries_with};
+ghost use Rattle.gt_commands.specs.Commands.{sought_told};
 ghost use Rattle.gt_commands.specs.Commands.{explore_by, explore_with, IsInvocationOf, IsPlanOf, gthost_app, list_with};
-ghost use Rattle.gt_commands.specs.Commands.{mode_of, play_with, read, run_with, why_with};
+ghost use Rattle.gt_commands.specs.Commands.{mode_of, more_files, play_with, read, run_with, why_with};
 
-use crate::invocation::{Format, Invocation, Mode};
+use crate::invocation::{Exploration, Format, Invocation, Mode, MoreFiles};
 use crate::line::gthost_command;
-use crate::values::{format_of, script_of, states_of, type_of, version_of, witness_of};
+use crate::values::{claim_of, format_of, script_of, states_of, type_of, version_of, witness_of};
 use clap::error::ErrorKind;
 use clap::{ArgMatches, Error};
-use std::alloc::Global;
+use std::alloc::{AllocError, Global};
 
-// Returns the command of this name.
-fn mode_of(name: &str) -> Option<Mode>
+/// Returns the command of this name.
+pub fn mode_of(name: &str) -> Option<Mode>
     ensures { result ≡ mode_of name.now }
 {
     if "play" == name {
@@ -95,47 +97,56 @@ fn run_with<'a>(
     }
 }
 
-// Plans a search for the texts with a word, or for the script of one of them, but not for both.
+// Plans a claim about the texts, or scripts for them, but not both.
 fn explore_by<'a>(
-    find: Option<&'a str>,
-    witness: Option<usize>,
+    claim: Option<Exploration<'a>>,
+    witness: Option<Exploration<'a>>,
     states: usize,
     file: Option<&'a str>,
 ) -> Option<Invocation<'a>>
-    ensures { asked_by_some result ≡ explore_by (option_map (λ v. v.now) find.entry) witness states
-        (option_map (λ v. v.now) file.entry) }
+    ensures { asked_by_some result ≡ explore_by (option_map sought_told claim.entry)
+        (option_map sought_told witness.entry) states (option_map (λ v. v.now) file.entry) }
 {
-    if find.is_some() && witness.is_some() {
-        return None;
-    }
+    let asked = match (claim, witness) {
+        (None, None) => Exploration::Texts,
+        (Some(asked), None) | (None, Some(asked)) => asked,
+        (Some(_), Some(_)) => return None,
+    };
     Some(Invocation::Explore {
-        find,
-        witness,
+        asked,
         states,
         file,
     })
 }
 
 fn explore_with<'a>(
-    find: Option<&'a str>,
-    witness: Option<Option<usize>>,
+    claim: Option<Option<Exploration<'a>>>,
+    witness: Option<Option<Exploration<'a>>>,
     states: Option<usize>,
     file: Option<&'a str>,
 ) -> Option<Invocation<'a>>
-    ensures { asked_by_some result ≡ explore_with (option_map (λ v. v.now) find.entry) witness states
-        (option_map (λ v. v.now) file.entry) }
+    ensures { asked_by_some result ≡ explore_with (option_map (option_map sought_told) claim.entry)
+        (option_map (option_map sought_told) witness.entry) states (option_map (λ v. v.now) file.entry) }
 {
-    match (witness, states) {
-        (Some(witness), Some(states)) => explore_by(find, witness, states, file),
+    match (claim, witness, states) {
+        (Some(claim), Some(witness), Some(states)) => explore_by(claim, witness, states, file),
         _ => None,
     }
 }
 
-fn list_with<'a>(format: Option<Format>, file: Option<&'a str>) -> Option<Invocation<'a>>
-    ensures { asked_by_some result ≡ list_with format (option_map (λ v. v.now) file.entry) }
+fn list_with<'a>(
+    format: Option<Format>,
+    verbose: bool,
+    file: Option<&'a str>,
+) -> Option<Invocation<'a>>
+    ensures { asked_by_some result ≡ list_with format verbose (option_map (λ v. v.now) file.entry) }
 {
     match format {
-        Some(format) => Some(Invocation::Policy { format, file }),
+        Some(format) => Some(Invocation::Policy {
+            verbose,
+            format,
+            file,
+        }),
         None => None,
     }
 }
@@ -144,14 +155,17 @@ fn check_with<'a>(
     format: Option<Format>,
     script: bool,
     file: Option<&'a str>,
+    more: MoreFiles<'a>,
 ) -> Option<Invocation<'a>>
-    ensures { asked_by_some result ≡ check_with format script (option_map (λ v. v.now) file.entry) }
+    ensures { asked_by_some result ≡ check_with format script (option_map (λ v. v.now) file.entry)
+        (names_of more.entry) }
 {
     match format {
         Some(format) => Some(Invocation::Check {
             script,
             format,
             file,
+            more,
         }),
         None => None,
     }
@@ -167,14 +181,15 @@ fn why_with<'a>(
         (option_map (λ v. v.now) target.entry) (option_map (λ v. v.now) permission.entry)
         (option_map (λ v. v.now) file.entry) }
 {
-    match permission {
-        Some(permission) => Some(Invocation::Why {
-            source,
-            target,
-            permission,
+    match (source, target, permission, file) {
+        (Some(source), Some(target), Some(permission), file) => Some(Invocation::Why {
+            source: type_of(Some(source)),
+            target: type_of(Some(target)),
+            permission: type_of(Some(permission)),
             file,
         }),
-        None => None,
+        (Some(file), None, None, None) => Some(Invocation::WhyEach { file }),
+        _ => None,
     }
 }
 
@@ -202,6 +217,21 @@ fn entries_with<'a>(
     }
 }
 
+// Returns the FILEs of `check` after the first.
+fn more_files<'a>(matches: &ArgMatches<'a>) -> MoreFiles<'a>
+    ensures { names_of result ≡ map (λ id. first_of id (rows_of (found_of matches.now))) more_files }
+{
+    MoreFiles {
+        second: value_of(matches, "file2"),
+        third: value_of(matches, "file3"),
+        fourth: value_of(matches, "file4"),
+        fifth: value_of(matches, "file5"),
+        sixth: value_of(matches, "file6"),
+        seventh: value_of(matches, "file7"),
+        eighth: value_of(matches, "file8"),
+    }
+}
+
 // Returns what the values of a command ask for, or None if the command doesn't take one of them.
 fn read<'a>(mode: Mode, matches: &ArgMatches<'a>) -> Option<Invocation<'a>>
     ensures { asked_by_some result ≡ read mode (λ id. first_of id (rows_of (found_of matches.now))) }
@@ -222,17 +252,21 @@ fn read<'a>(mode: Mode, matches: &ArgMatches<'a>) -> Option<Invocation<'a>>
             file,
         ),
         Mode::Explore => explore_with(
-            value_of(matches, "find"),
+            claim_of(
+                value_of(matches, "find"),
+                value_of(matches, "never"),
+                value_of(matches, "always"),
+            ),
             witness_of(value_of(matches, "witness")),
             states_of(value_of(matches, "states")),
             file,
         ),
-        Mode::Policy => list_with(format, file),
+        Mode::Policy => list_with(format, is_set(matches, "verbose"), file),
         Mode::Rules => Some(Invocation::Rules { rule: file }),
-        Mode::Check => check_with(format, is_set(matches, "script"), file),
+        Mode::Check => check_with(format, is_set(matches, "script"), file, more_files(matches)),
         Mode::Why => why_with(
-            type_of(value_of(matches, "source")),
-            type_of(value_of(matches, "target")),
+            value_of(matches, "source"),
+            value_of(matches, "target"),
             value_of(matches, "permission"),
             file,
         ),
@@ -258,24 +292,81 @@ fn named<'a>(name: &str, matches: &ArgMatches<'a>) -> Option<Invocation<'a>>
 }
 
 // Makes the error for a value that an option does not take.
-fn value_error(alloc: Global, message: &str) -> Result<Error, Error>
+fn value_error(alloc: Global, usage: &str, message: &str) -> Result<Error, Error>
     ensures ok { IfOk result (λ e. kind_of e ≡ InvalidValue) }
     ensures memory { IfErr result (λ e. kind_of e ≡ OutOfMemory) }
 {
-    let mut command = gthost_command(alloc)?;
+    let mut command = gthost_command(alloc)?.override_usage(usage);
     let error = command.error(ErrorKind::InvalidValue, message)?;
     Ok(error)
 }
 
-// Returns the message for a value that an option of this command does not take.
-fn value_message(name: &str) -> &'static str {
-    if name == "entries" {
-        "the value of --version is 1 or 2, that of --script a number below 65536, and that of --format text or json"
-    } else if name == "explore" {
-        "the values of --witness and --states are numbers, and --find is not given with --witness"
-    } else {
-        "the value of --format is text or json"
+// Returns the usage of the command of this name.
+fn usage_text(name: &str) -> &'static str {
+    let Some(mode) = mode_of(name) else {
+        return "gthost <COMMAND>";
+    };
+    match mode {
+        Mode::Play => "gthost play [OPTIONS] [FILE]",
+        Mode::Run => "gthost run [OPTIONS] [FILE]",
+        Mode::Explore => "gthost explore [OPTIONS] [FILE]",
+        Mode::Policy => "gthost policy [OPTIONS] [FILE]",
+        Mode::Rules => "gthost rules [OPTIONS] [RULE]",
+        Mode::Check => "gthost check [OPTIONS] [FILE]...",
+        Mode::Why => "gthost why [OPTIONS] [SOURCE] [TARGET] [PERMISSION] [FILE]",
+        Mode::Entries => "gthost entries [OPTIONS] --version <1|2> [FILE]",
     }
+}
+
+// Returns what the option takes whose value the command of this name refuses, and the value.
+fn refused_value<'a>(name: &str, matches: &ArgMatches<'a>) -> (&'static str, Option<&'a str>) {
+    let version = value_of(matches, "version");
+    let script = value_of(matches, "script");
+    let witness = value_of(matches, "witness");
+    let states = value_of(matches, "states");
+    if name == "entries" && version_of(version).is_none() {
+        ("--version takes 1 or 2", version)
+    } else if name == "entries" && script_of(script).is_none() {
+        ("--script takes the number of a domain, below 65536", script)
+    } else if witness_of(witness).is_none() {
+        ("--witness takes a number or all", witness)
+    } else if states_of(states).is_none() {
+        ("--states takes a number", states)
+    } else if name == "explore" {
+        (
+            "only one of --find, --never, --always and --witness can be given",
+            None,
+        )
+    } else if name == "why" {
+        (
+            "why takes SOURCE, TARGET and PERMISSION, or one FILE and questions on standard input",
+            None,
+        )
+    } else {
+        ("--format takes text or json", value_of(matches, "format"))
+    }
+}
+
+// Makes the message for a value that the command of this name refuses.
+fn value_message(
+    alloc: Global,
+    name: &str,
+    matches: &ArgMatches<'_>,
+) -> Result<String, AllocError> {
+    let (takes, value) = refused_value(name, matches);
+    match value {
+        Some(value) => format!(in alloc; "{takes}, not '{value}'"),
+        None => String::from_str(alloc, takes),
+    }
+}
+
+// Makes the error for a value that the command of this name refuses.
+fn refusal(alloc: Global, name: &str, matches: &ArgMatches<'_>) -> Result<Error, Error>
+    ensures ok { IfOk result (λ e. kind_of e ≡ InvalidValue) }
+    ensures memory { IfErr result (λ e. kind_of e ≡ OutOfMemory) }
+{
+    let message = value_message(alloc, name, matches)?;
+    value_error(alloc, usage_text(name), message.as_str())
 }
 
 // Returns what the command of this name asks for, or the error for a value that it does not take.
@@ -285,7 +376,7 @@ fn planned<'a>(alloc: Global, name: &str, matches: &ArgMatches<'a>) -> Result<In
 {
     match named(name, matches) {
         Some(invocation) => Ok(invocation),
-        None => match value_error(alloc, value_message(name)) {
+        None => match refusal(alloc, name, matches) {
             Ok(error) => Err(error),
             Err(error) => Err(error),
         },

@@ -2,9 +2,10 @@
 ghost use Rattle.std.specs.Prelude.{◌≡◌};
 ghost use Rattle.std.specs.Option.{option_map};
 ghost use Rattle.gt_commands.specs.Commands.{format_of, domain_number, number_up_to, script_of, states_of, type_of};
-ghost use Rattle.gt_commands.specs.Commands.{version_of, witness_of};
+ghost use Rattle.gt_commands.specs.Commands.{claim_of, sought_told, version_of, witness_of};
 
-use crate::invocation::Format;
+use crate::invocation::{Exploration, Format};
+use gt_explore_verdict::Claim;
 
 /// Returns the format of this name, or text if none is given.
 pub(crate) fn format_of(value: Option<&str>) -> Option<Format>
@@ -18,7 +19,7 @@ pub(crate) fn format_of(value: Option<&str>) -> Option<Format>
     }
 }
 
-/// Returns the type of this name; `-` is any type.
+/// Returns the type or the permission of this name; `-` is any.
 pub(crate) fn type_of<'a>(value: Option<&'a str>) -> Option<&'a str>
     ensures { option_map (λ v. v.now) result ≡ type_of (option_map (λ v. v.now) value.entry) }
 {
@@ -66,13 +67,15 @@ fn number_of(word: &str) -> Option<usize>
     }
 }
 
-/// Returns the number of a text, if one is given. The outer result is None if the value is not a number of 64 bits.
-pub(crate) fn witness_of(value: Option<&str>) -> Option<Option<usize>>
-    ensures { result ≡ witness_of (option_map (λ v. v.now) value.entry) }
+/// Returns what `--witness` asks for, if it is given. The outer result is None if the value is neither `all` nor a number
+/// of 64 bits.
+pub(crate) fn witness_of<'a>(value: Option<&'a str>) -> Option<Option<Exploration<'a>>>
+    ensures { option_map (option_map sought_told) result ≡ witness_of (option_map (λ v. v.now) value.entry) }
 {
     match value {
         None => Some(None),
-        Some(word) => Some(Some(number_of(word)?)),
+        Some("all") => Some(Some(Exploration::Witnesses)),
+        Some(word) => Some(Some(Exploration::Witness(number_of(word)?))),
     }
 }
 
@@ -84,4 +87,23 @@ pub(crate) fn states_of(value: Option<&str>) -> Option<usize>
         None => Some(100_000),
         Some(word) => number_of(word),
     }
+}
+
+/// Returns the claim that is asked for, if one is. The outer result is None if there is more than one.
+pub(crate) fn claim_of<'a>(
+    find: Option<&'a str>,
+    never: Option<&'a str>,
+    always: Option<&'a str>,
+) -> Option<Option<Exploration<'a>>>
+    ensures { option_map (option_map sought_told) result ≡ claim_of (option_map (λ v. v.now) find.entry)
+        (option_map (λ v. v.now) never.entry) (option_map (λ v. v.now) always.entry) }
+{
+    let (claim, expression) = match (find, never, always) {
+        (None, None, None) => return Some(None),
+        (Some(expression), None, None) => (Claim::Find, expression),
+        (None, Some(expression), None) => (Claim::Never, expression),
+        (None, None, Some(expression)) => (Claim::Always, expression),
+        _ => return None,
+    };
+    Some(Some(Exploration::Decide { claim, expression }))
 }

@@ -6,7 +6,7 @@ use Rattle.gt_core.proofs.Words.{domain_of, DomId, GrantRef, Denial, Header, hea
 use Rattle.gt_core.proofs.Words.{CallerKnowledge, path}
 use Rattle.gt_core.proofs.Words.{HeldPin, PinHolder, Request, OpenRequest, Observation, Word, Taken, Step, LookHeader, LookControl}
 use Rattle.gt_core.proofs.Words.{LookBody, PinStep, Exchange}
-use Rattle.gt_core.proofs.Words.{ReadBytes, WriteBytes, CopyBytes, Unpin, StoreBody, Makes, CallResult, Answer}
+use Rattle.gt_core.proofs.Words.{ReadBytes, WriteBytes, CopyBytes, Unpin, StoreBody, StoreHeader, Makes, CallResult, Answer}
 use Rattle.gt_core.proofs.Words.{ItemEvent, Began, Stepped, Item}
 use Rattle.gt_core.proofs.Words.{History, Setting, Underway, open_call, values, known_at, seen_by, exchange_sees}
 use Rattle.gt_core.proofs.Words.{table_at, maps_answered_at}
@@ -18,11 +18,12 @@ use Rattle.gt_core.proofs.Words.{legs_at, by_leg, body_at, stored_at, or_else, B
 use Rattle.gt_core.proofs.Words.{reads_at, writes_at, count_by}
 use Rattle.gt_core.proofs.Words.{zero, suc, eq-eqb, eqb-true, false≢true, Entry, holder_after, Any, EntryChange, Dir, Read}
 use Rattle.gt_core.proofs.Words.{Write, changed_entry_of, header_stored, header_or, one_if_mapped}
-use Rattle.gt_core.specs.Swapping.{is_on_entry, on_entry, OnOtherEntries, with_holder, own_pins, SameEntry, SameOwn}
+use Rattle.gt_core.specs.Swapping.{on_entry, looks_header, stores_header, reads_frames, writes_frames, KeepsPins, LeavesFor}
+use Rattle.gt_core.specs.Swapping.{TouchApart, with_holder, own_pins, SameEntry, SameOwn}
 use Rattle.gt_core.specs.Swapping.{SameLook, SameSight, SameSeen, patches_of, AreApart}
 use Rattle.gt_core.proofs.Steps.Observers.{exchanged-entry, exchanged-raises, kept-entry, kept-raises, kept-table}
 use Rattle.gt_core.proofs.Steps.Observers.{unstored, known-as, gather-append, other-entry, other-raises, other-body}
-use Rattle.gt_core.proofs.Steps.Observers.{other-maps, other-table, other-pins, cond-same}
+use Rattle.gt_core.proofs.Steps.Observers.{other-maps, other-table, other-pins, cond-same, unpinned-live}
 use Rattle.gt_core.specs.FirstRule.{LegNow, leg_now, leg_at, StepsSoFar, looked_at, is_in_body, is_other, misses}
 use Rattle.gt_core.specs.FirstRule.{is_demote, at_entry, rule_at_exchange, rule_at_header}
 use Rattle.gt_core.specs.FirstRule.{rule_before_pin, rule_at_look, rule_at_via, rule_at_pin, first_at, first_in_call}
@@ -40,7 +41,7 @@ use Rattle.gt_core.specs.Prelude.{ForCopy, Publish, ToInvalid, ToReadOnly, IsSpe
 use Rattle.gt_core.specs.Prelude.{Denied, Mapped, Bytes, MAX_TABLE_FRAMES, SpellsItsEntry}
 use Rattle.gt_core.specs.declared.trace.Answer.TheVariants as answers
 use Rattle.gt_core.specs.Legal.{MayDo, IsItemOf, actor_of, grown}
-use Rattle.gt_core.specs.Prelude.{Event, Begin, Tick, Element, Did, Busy, Idle, NoDomain}
+use Rattle.gt_core.specs.Prelude.{Event, Begin, Tick, Element, Did, Busy, Idle, NoDomain, Patch}
 use Rattle.gt_core.proofs.AgreementKept.{open_call-other}
 
 -- pins
@@ -978,43 +979,56 @@ apart-turned s h i j apart = record {
   turned (inl a) = inr a
   turned (inr b) = inl b
 
-begin-idle : (s : Setting) (h : History) (e : Event) (i : Item) (d : DomId) (q : Request) (y : Element)
-    → ((actor_of e).0 == d.0) ≡ false → MayDo s h e (Did i) → MayDo s (i ∷ h) (Begin d q) y
-    → ((j : Item) → y ≢ Did j) → ((l : History) → grown l y ≡ l) → ChangePlaces s h e (Did i) (Begin d q) y
-begin-idle s h e i d q y apart first second none same =
+event-idle : (s : Setting) (h : History) (e : Event) (i : Item) (f : Event) (y : Element)
+    → ((actor_of e).0 == (actor_of f).0) ≡ false → MayDo s h e (Did i) → MayDo s (i ∷ h) f y
+    → ((j : Item) → y ≢ Did j) → ((l : History) → grown l y ≡ l) → ChangePlaces s h e (Did i) f y
+event-idle s h e i f y apart first second none same =
     let own = may-item s h e i first in (
-      idle-may s h i (Begin d q) y (ap (λ (c : DomId). c.0 == d.0) (item-actor e i own.1) ∙ apart) none second,
+      idle-may s h i f y (ap (λ (c : DomId). c.0 == (actor_of f).0) (item-actor e i own.1) ∙ apart) none second,
       subst (λ l. MayDo s l e (Did i)) (sym (same h)) first,
       subst (λ l. SameSeen s l (i ∷ grown h y)) (sym (same (i ∷ h)))
           (subst (λ l. SameSeen s (i ∷ h) (i ∷ l)) (sym (same h)) (seen-none s (i ∷ h))),
     )
 
+-- an event may come before one of another domain that it comes after, if their items are apart
+pub events-first : (s : Setting) (h : History) (e : Event) (x : Element) (f : Event) (y : Element)
+    → ((actor_of e).0 == (actor_of f).0) ≡ false
+    → ((i j : Item) → x ≡ Did i → y ≡ Did j → (i.actor.0 == j.actor.0) ≡ false → AreApart s h i j)
+    → MayDo s h e x → MayDo s (grown h x) f y → ChangePlaces s h e x f y
+events-first s h e Busy f y apart items first second = idle-first s h e f Busy y apart (λ i is. absurd (cc)) refl
+    (λ l. refl) first second
+events-first s h e Idle f y apart items first second = idle-first s h e f Idle y apart (λ i is. absurd (cc)) refl
+    (λ l. refl) first second
+events-first s h e NoDomain f y apart items first second = idle-first s h e f NoDomain y apart
+    (λ i is. absurd (cc)) refl (λ l. refl) first second
+events-first s h e (Did i) f (Did j) apart items first second =
+    let one = may-item s h e i first in
+    let other = may-item s (i ∷ h) f j second in
+    let are = items-apart e f i j one.1 other.1 apart in
+    let it = swapped s h i j (items i j refl refl are) one.2 other.2 in (
+      item-may s h f j (other.0, other.1, it.0),
+      item-may s (j ∷ h) e i (one.0, one.1, it.1),
+      it.2,
+    )
+events-first s h e (Did i) f Busy apart items first second = event-idle s h e i f Busy apart first second
+    (λ j is. absurd (cc)) (λ l. refl)
+events-first s h e (Did i) f NoDomain apart items first second = event-idle s h e i f NoDomain apart first second
+    (λ j is. absurd (cc)) (λ l. refl)
+events-first s h e (Did i) f Idle apart items first second = event-idle s h e i f Idle apart first second
+    (λ j is. absurd (cc)) (λ l. refl)
+
 -- a beginning may come before an event of another domain that it comes after
 pub begins-first : (s : Setting) (h : History) (e : Event) (x : Element) (d : DomId) (q : Request) (y : Element)
     → ((actor_of e).0 == d.0) ≡ false → MayDo s h e x → MayDo s (grown h x) (Begin d q) y
     → ChangePlaces s h e x (Begin d q) y
-begins-first s h e Busy d q y apart first second = idle-first s h e (Begin d q) Busy y apart (λ i is. absurd (cc)) refl
-    (λ l. refl) first second
-begins-first s h e Idle d q y apart first second = idle-first s h e (Begin d q) Idle y apart (λ i is. absurd (cc)) refl
-    (λ l. refl) first second
-begins-first s h e NoDomain d q y apart first second = idle-first s h e (Begin d q) NoDomain y apart
-    (λ i is. absurd (cc)) refl (λ l. refl) first second
-begins-first s h e (Did i) d q (Did j) apart first second =
-    let one = may-item s h e i first in
-    let are = items-apart e (Begin d q) i j one.1 second.1 apart in
-    let back = began-apart s h j i q (apart-back i.actor.0 j.actor.0 are) second.1.1 in
-    let it = swapped s h i j (apart-turned s h i j back) one.2 second.2 in (
-      (second.0, second.1, it.0),
-      item-may s (j ∷ h) e i (one.0, one.1, it.1),
-      it.2,
-    )
-begins-first s h e (Did i) d q Busy apart first second = begin-idle s h e i d q Busy apart first second
-    (λ j is. absurd (cc)) (λ l. refl)
-begins-first s h e (Did i) d q NoDomain apart first second = begin-idle s h e i d q NoDomain apart first second
-    (λ j is. absurd (cc)) (λ l. refl)
-begins-first s h e (Did i) d q Idle apart first second = absurd second
+begins-first s h e x d q y apart first second =
+    events-first s h e x (Begin d q) y apart (λ i j did-i did-j are. apart-turned s h i j
+    (began-apart s h j i q (apart-back i.actor.0 j.actor.0 are) (began y j did-j second))) first second
+  where
+    began : (z : Element) (j : Item) → z ≡ Did j → MayDo s (grown h x) (Begin d q) z → j.happened ≡ Began q
+    began z j is may = (may-item s (grown h x) (Begin d q) j (subst (MayDo s (grown h x) (Begin d q)) is may)).1.1
 
--- steps on words
+-- steps that touch nothing in common
 
 cond-none : {A : Type 0} (a b : Bool) (x : Option A) → (a && b) ≡ false → cond a (cond b x None) None ≡ None
 cond-none a b x none = grind arith
@@ -1027,16 +1041,12 @@ cond-zero a b none = grind arith
 
 -- an item that changes nothing of an entry
 leaves-entry : (h : History) (i : Item) (t r : ℕ) → change_of i t r ≡ None
-    → ((k : Dir) → comes_with (is_held_on t r k) i.happened ≡ 0)
-    → ((k : Dir) (own : List (PinHolder × HeldPin)) → goes_with (is_held_on t r k) i.happened own ≡ 0)
-    → SameEntry (i ∷ h) h t r
-leaves-entry h i t r none comes goes = record {
+    → ((k : Dir) → pins_at (i ∷ h) t r k ≡ pins_at h t r k) → SameEntry (i ∷ h) h t r
+leaves-entry h i t r none pins = record {
   entry = exchanged-entry h i t r ∙ ap (λ c. changed_entry_of c (entry_at h t r)) none;
   raises = exchanged-raises h i t r ∙ ap (λ c. raises_at h t r + raise_after c) none ∙ omega arith;
-  reads = (let e = count-grown t r Read h i in let c = comes Read in let g = goes Read (own_pins h i.actor.0) in
-      omega (arith, e, c, g));
-  writes = (let e = count-grown t r Write h i in let c = comes Write in let g = goes Write (own_pins h i.actor.0) in
-      omega (arith, e, c, g));
+  reads = pins Read;
+  writes = pins Write;
 }
 
 body-left : (h : History) (i : Item) (t r : ℕ) (half : BodyWord) → cond (i.actor.0 == t) (stored_at i.happened r half) None
@@ -1044,92 +1054,181 @@ body-left : (h : History) (i : Item) (t r : ℕ) (half : BodyWord) → cond (i.a
 unfolding body_at
 body-left h i t r half none = ap (λ o. or_else o (body_at h t r half)) none
 
-pin-changes : (d : DomId) (p : HeldPin) (seen : Observation) (a : Option Answer) (t r : ℕ)
-    → change_of (item d (Stepped (PinStep p) seen) a) t r ≡ None
-pin-changes d p seen a t r = cond-same (d.0 == t) None
-
-pin-comes : (t r : ℕ) (p : HeldPin) (seen : Observation) → ((p.dom.0 == t) && (p.gref.0 == r)) ≡ false → (k : Dir)
-    → comes_with (is_held_on t r k) (Stepped (PinStep p) seen) ≡ 0
-pin-comes t r p Taken off k = cond-zero ((p.dom.0 == t) && (p.gref.0 == r)) (same_dir p.dir k) off
-pin-comes t r p seen off k = refl
-
-exchange-off : (d : DomId) (gref : GrantRef) (looked : ℕ) (change : EntryChange) (seen : Observation) (a : Option Answer) (t r : ℕ)
-    → ((d.0 == t) && (gref.0 == r)) ≡ false
-    → change_of (item d (Stepped (Exchange gref looked change) seen) a) t r ≡ None
-exchange-off d gref looked change Taken a t r off = cond-none (d.0 == t) (gref.0 == r) (Some change) off
-exchange-off d gref looked change seen a t r off = cond-same (d.0 == t) None
-
--- what a step on another entry leaves
+-- what a step elsewhere leaves of an entry
 abbrev LeavesWord : History → Item → ℕ → ℕ → Type 0
 LeavesWord h i t r = SameEntry (i ∷ h) h t r × ((half : BodyWord) → body_at (i ∷ h) t r half ≡ body_at h t r half)
 
-word-left : (h : History) (d : DomId) (z : Step) (seen : Observation) (a : Option Answer) (t r : ℕ) → is_on_entry z ≡ true
-    → on_entry d z t r ≡ false → LeavesWord h (item d (Stepped z seen) a) t r
-word-left h d (LookControl dom gref) seen a t r is off = (
-  leaves-entry h (item d (Stepped (LookControl dom gref) seen) a) t r (cond-same (d.0 == t) None) (λ k. refl)
-      (λ k own. refl),
-  λ half. unstored (item d (Stepped (LookControl dom gref) seen) a) h t r half refl,
+abbrev made_step : DomId → Step → Observation → Option Answer → Item
+made_step d z seen a = item d (Stepped z seen) a
+
+step-count : (h : History) (i : Item) (t r : ℕ) (k : Dir)
+    → comes_with (is_held_on t r k) i.happened ≡ 0 → goes_with (is_held_on t r k) i.happened (own_pins h i.actor.0) ≡ 0
+    → pins_at (i ∷ h) t r k ≡ pins_at h t r k
+step-count h i t r k comes goes = let e = count-grown t r k h i in omega (arith, e, comes, goes)
+
+pin-off : (h : History) (d : DomId) (p : HeldPin) (seen : Observation) (a : Option Answer) (t r : ℕ)
+    → ((p.dom.0 == t) && (p.gref.0 == r)) ≡ false → LeavesWord h (made_step d (PinStep p) seen a) t r
+pin-off h d p seen a t r off = (
+  leaves-entry h (made_step d (PinStep p) seen a) t r (changes seen)
+      (λ k. step-count h (made_step d (PinStep p) seen a) t r k (comes seen k) (goes seen k)),
+  λ half. unstored (made_step d (PinStep p) seen a) h t r half refl,
+) where
+  changes : (v : Observation) → change_of (made_step d (PinStep p) v a) t r ≡ None
+  changes v = cond-same (d.0 == t) None
+
+  comes : (v : Observation) (k : Dir) → comes_with (is_held_on t r k) (Stepped (PinStep p) v) ≡ 0
+  comes Taken k = cond-zero ((p.dom.0 == t) && (p.gref.0 == r)) (same_dir p.dir k) off
+  comes v k = refl
+
+  goes : (v : Observation) (k : Dir)
+      → goes_with (is_held_on t r k) (Stepped (PinStep p) v) (own_pins h d.0) ≡ 0
+  goes v k = refl
+
+exchange-off : (h : History) (d : DomId) (gref : GrantRef) (looked : ℕ) (change : EntryChange) (seen : Observation)
+    (a : Option Answer) (t r : ℕ) → ((d.0 == t) && (gref.0 == r)) ≡ false
+    → LeavesWord h (made_step d (Exchange gref looked change) seen a) t r
+exchange-off h d gref looked change seen a t r off = (
+  leaves-entry h (made_step d (Exchange gref looked change) seen a) t r (changes seen)
+      (λ k. step-count h (made_step d (Exchange gref looked change) seen a) t r k refl refl),
+  λ half. unstored (made_step d (Exchange gref looked change) seen a) h t r half refl,
+) where
+  changes : (v : Observation) → change_of (made_step d (Exchange gref looked change) v a) t r ≡ None
+  changes Taken = cond-none (d.0 == t) (gref.0 == r) (Some change) off
+  changes v = cond-same (d.0 == t) None
+
+unpin-off : (h : History) (d : DomId) (p : HeldPin) (holder : PinHolder) (seen : Observation) (a : Option Answer)
+    (t r : ℕ) → KeepsPins h d (Unpin p holder) t r → LeavesWord h (made_step d (Unpin p holder) seen a) t r
+unpin-off h d p holder seen a t r keeps = (
+  leaves-entry h (made_step d (Unpin p holder) seen a) t r (cond-same (d.0 == t) None)
+      (λ k. ap (λ ps. count_by (is_pin_on t r k) ps) (unpinned-live h d p holder seen a) ∙ keeps k),
+  λ half. unstored (made_step d (Unpin p holder) seen a) h t r half refl,
 )
-word-left h d (LookBody dom gref which) seen a t r is off = (
-  leaves-entry h (item d (Stepped (LookBody dom gref which) seen) a) t r (cond-same (d.0 == t) None) (λ k. refl)
-      (λ k own. refl),
-  λ half. unstored (item d (Stepped (LookBody dom gref which) seen) a) h t r half refl,
-)
-word-left h d (StoreBody gref which w) seen a t r is off = (
-  leaves-entry h (item d (Stepped (StoreBody gref which w) seen) a) t r (cond-same (d.0 == t) None) (λ k. refl)
-      (λ k own. refl),
-  λ half. body-left h (item d (Stepped (StoreBody gref which w) seen) a) t r half
+
+word-left : (h : History) (d : DomId) (z : Step) (seen : Observation) (a : Option Answer) (t r : ℕ)
+    → on_entry d z t r ≡ false → KeepsPins h d z t r → LeavesWord h (made_step d z seen a) t r
+word-left h d (PinStep p) seen a t r off keeps = pin-off h d p seen a t r off
+word-left h d (Unpin p holder) seen a t r off keeps = unpin-off h d p holder seen a t r keeps
+word-left h d (Exchange gref looked change) seen a t r off keeps = exchange-off h d gref looked change seen a t r off
+word-left h d (StoreBody gref which w) seen a t r off keeps = (
+  leaves-entry h (made_step d (StoreBody gref which w) seen a) t r (cond-same (d.0 == t) None)
+      (λ k. step-count h (made_step d (StoreBody gref which w) seen a) t r k refl refl),
+  λ half. body-left h (made_step d (StoreBody gref which w) seen a) t r half
       (cond-three (d.0 == t) (gref.0 == r) (same_half which half) (Some w) off),
 )
-word-left h d (PinStep p) seen a t r is off = (
-  leaves-entry h (item d (Stepped (PinStep p) seen) a) t r (pin-changes d p seen a t r) (pin-comes t r p seen off)
-      (λ k own. refl),
-  λ half. unstored (item d (Stepped (PinStep p) seen) a) h t r half refl,
+word-left h d z seen a t r off keeps = (
+  leaves-entry h (made_step d z seen a) t r (cond-same (d.0 == t) None)
+      (λ k. step-count h (made_step d z seen a) t r k refl refl),
+  λ half. unstored (made_step d z seen a) h t r half refl,
 )
-word-left h d (Exchange gref looked change) seen a t r is off = (
-  leaves-entry h (item d (Stepped (Exchange gref looked change) seen) a) t r
-      (exchange-off d gref looked change seen a t r off) (λ k. refl) (λ k own. refl),
-  λ half. unstored (item d (Stepped (Exchange gref looked change) seen) a) h t r half refl,
-)
-word-left h d z seen a t r is off = absurd (false≢true is)
+
+table-left : (s : Setting) (h : History) (d : DomId) (z : Step) (seen : Observation) (a : Option Answer) (t : DomId)
+    → stores_header d z t.0 ≡ false → table_at s (made_step d z seen a ∷ h) t ≡ table_at s h t
+table-left s h d (StoreHeader version frames) seen a t off =
+    other-table s (made_step d (StoreHeader version frames) seen a) h t off
+table-left s h d z seen a t off = kept-table s (made_step d z seen a) h t refl
+
+-- a write elsewhere
+cond-empty : (b c : Bool) (x : Patch) → b ≡ false → cond (b && c) (x ∷ []) [] ≡ []
+cond-empty b c x off = grind arith
+
+none-written : (h : History) (d : DomId) (z : Step) (seen : Observation) (a : Option Answer) (t f : ℕ)
+    → writes_frames z t ≡ false → patches_of h (made_step d z seen a) t f ≡ []
+none-written h d (WriteBytes dom frame off len) seen a t f none = cond-empty (dom.0 == t) (frame == f) _ none
+none-written h d (CopyBytes from to len) seen a t f none = cond-empty (to.frame.owner.0 == t) (to.frame.number == f) _ none
+none-written h d z seen a t f none = refl
+
+bytes-left : (h : History) (d : DomId) (z : Step) (seen : Observation) (a : Option Answer) (t f : ℕ)
+    → writes_frames z t ≡ false → patches_at (made_step d z seen a ∷ h) t f ≡ patches_at h t f
+bytes-left h d z seen a t f none = patches-more h (made_step d z seen a) t f
+    ∙ ap (λ l. patches_at h t f ++ l) (none-written h d z seen a t f none) ∙ append-nil (patches_at h t f)
 
 both-same : (m n : ℕ) → ((m == m) && (n == n)) ≡ true
 both-same m n = grind arith
 
--- so it looks the same to a step on another entry
-word-look : (s : Setting) (h : History) (i : Item) (e : DomId) (y : Step) → is_on_entry y ≡ true
-    → ((t r : ℕ) → on_entry e y t r ≡ true → LeavesWord h i t r) → SameLook s (i ∷ h) h e y
-word-look s h i e (LookControl dom gref) is leaves = (leaves dom.0 gref.0 (both-same dom.0 gref.0)).0
-word-look s h i e (LookBody dom gref half) is leaves = (leaves dom.0 gref.0 (both-same dom.0 gref.0)).1 half
-word-look s h i e (StoreBody gref half w) is leaves = tt
-word-look s h i e (PinStep p) is leaves = (leaves p.dom.0 p.gref.0 (both-same p.dom.0 p.gref.0)).0
-word-look s h i e (Exchange gref looked change) is leaves = leaves e.0 gref.0 (both-same e.0 gref.0)
-word-look s h i e y is leaves = absurd (false≢true is)
+is-same : (m : ℕ) → (m == m) ≡ true
+is-same m = grind arith
 
 not-true : (b : Bool) → (b ≡ true → ⊥) → b ≡ false
 not-true true none = absurd (none refl)
 not-true false none = refl
 
-writes-nothing : (h : History) (d : DomId) (z : Step) (seen : Observation) (a : Option Answer) (t f : ℕ) → is_on_entry z ≡ true
-    → patches_of h (item d (Stepped z seen) a) t f ≡ []
-writes-nothing h d (WriteBytes dom frame off len) seen a t f is = absurd (false≢true is)
-writes-nothing h d (CopyBytes from to len) seen a t f is = absurd (false≢true is)
-writes-nothing h d z seen a t f is = refl
+-- so it looks the same to the step of another domain
+step-look : (s : Setting) (h : History) (d : DomId) (y : Step) (v : Observation) (a : Option Answer) (e : DomId) (z : Step)
+    → LeavesFor h d y e z → SameLook s (made_step d y v a ∷ h) h e z
+step-look s h d y v a e z leaves = by z leaves where
+  word : (x : Step) (t r : ℕ) → LeavesFor h d y e x → on_entry e x t r ≡ true
+      → LeavesWord h (made_step d y v a) t r
+  word x t r l on = word-left h d y v a t r (not-true (on_entry d y t r) (λ yes. l.words t r yes on)) (l.pins t r on)
 
-pub words-apart : (s : Setting) (h : History) (d e : DomId) (y z : Step) (v w : Observation) (a b : Option Answer)
-    → OnOtherEntries d y e z → AreApart s h (item d (Stepped y v) a) (item e (Stepped z w) b)
-words-apart s h d e y z v w a b on = record {
-  actors = on.actors;
-  first = word-look s h (item e (Stepped z w) b) d y on.first
-      (λ t r yes. word-left h e z w b t r on.second (not-true (on_entry e z t r) (λ also. on.apart t r yes also)));
-  second = word-look s h (item d (Stepped y v) a) e z on.second
-      (λ t r yes. word-left h d y v a t r on.first (not-true (on_entry d y t r) (λ also. on.apart t r also yes)));
-  frames = λ t f. inl (writes-nothing h d y v a t f on.first);
-}
+  table : (x : Step) (t : DomId) → LeavesFor h d y e x → looks_header x t.0 ≡ true
+      → table_at s (made_step d y v a ∷ h) t ≡ table_at s h t
+  table x t l on = table-left s h d y v a t (not-true (stores_header d y t.0) (λ yes. l.header t.0 yes on))
 
-pub words-apart-in : (s : Setting) (h : History) (i j : Item) (y z : Step) (v w : Observation)
-    → OnOtherEntries i.actor y j.actor z → i.happened ≡ Stepped y v → j.happened ≡ Stepped z w → AreApart s h i j
-words-apart-in s h i j y z v w on one other =
+  bytes : (x : Step) (t f : ℕ) → LeavesFor h d y e x → reads_frames x t ≡ true
+      → patches_at (made_step d y v a ∷ h) t f ≡ patches_at h t f
+  bytes x t f l on = bytes-left h d y v a t f (not-true (writes_frames y t) (λ yes. l.bytes t yes on))
+
+  by : (x : Step) → LeavesFor h d y e x → SameLook s (made_step d y v a ∷ h) h e x
+  by (LookHeader dom) l = table (LookHeader dom) dom l (is-same dom.0)
+  by (LookControl dom gref) l = (word (LookControl dom gref) dom.0 gref.0 l (both-same dom.0 gref.0)).0
+  by (LookBody dom gref half) l = (word (LookBody dom gref half) dom.0 gref.0 l (both-same dom.0 gref.0)).1 half
+  by (PinStep p) l = (word (PinStep p) p.dom.0 p.gref.0 l (both-same p.dom.0 p.gref.0)).0
+  by (Exchange gref looked change) l = word (Exchange gref looked change) e.0 gref.0 l (both-same e.0 gref.0)
+  by (ReadBytes dom frame off len) l = bytes (ReadBytes dom frame off len) dom.0 frame l (is-same dom.0)
+  by (CopyBytes from to len) l = bytes (CopyBytes from to len) from.frame.owner.0 from.frame.number l
+      (is-same from.frame.owner.0)
+  by x l = tt
+
+steps-apart : (s : Setting) (h : History) (d e : DomId) (y z : Step) (v w : Observation) (a b : Option Answer)
+    → TouchApart h d y e z → AreApart s h (made_step d y v a) (made_step e z w b)
+steps-apart s h d e y z v w a b touch = record {
+  actors = touch.actors;
+  first = step-look s h e z w b d y touch.second;
+  second = step-look s h d y v a e z touch.first;
+  frames = λ t f. by t f (writes_frames y t) refl;
+} where
+  by : (t f : ℕ) (x : Bool) → writes_frames y t ≡ x
+      → (patches_of h (made_step d y v a) t f ≡ []) ⊎ (patches_of h (made_step e z w b) t f ≡ [])
+  by t f false off = inl (none-written h d y v a t f off)
+  by t f true on = inr (none-written h e z w b t f (not-true (writes_frames z t) (λ yes. touch.writes t on yes)))
+
+pub steps-apart-in : (s : Setting) (h : History) (i j : Item) (y z : Step) (v w : Observation)
+    → TouchApart h i.actor y j.actor z → i.happened ≡ Stepped y v → j.happened ≡ Stepped z w → AreApart s h i j
+steps-apart-in s h i j y z v w touch one other =
     subst (λ x. AreApart s h (item i.actor x i.answer) j) (sym one)
     (subst (λ x. AreApart s h (item i.actor (Stepped y v) i.answer) (item j.actor x j.answer)) (sym other)
-    (words-apart s h i.actor j.actor y z v w i.answer j.answer on))
+    (steps-apart s h i.actor j.actor y z v w i.answer j.answer touch))
+
+-- a pin that a holder releases: it stays the same while other domains go on
+
+-- the domain's step releases this pin, if it releases one
+abbrev pub Releases : History → DomId → Step → Type 0
+Releases h d (Unpin p holder) = (t r : ℕ) (k : Dir) → count_by (is_pin_on t r k) (live h)
+    ≡ cond ((p.dom.0 == t) && (p.gref.0 == r) && same_dir p.dir k) 1 0
+    + count_by (is_pin_on t r k) (without d.0 holder (live h))
+Releases h d step = Unit {0}
+
+pub releases-still : (h : History) (i : Item) (d : DomId) (z : Step) → (i.actor.0 == d.0) ≡ false → Releases h d z
+    → Releases (i ∷ h) d z
+releases-still h i d (Unpin p holder) apart releases = λ t r k.
+    let was = count-without (is_held_on t r k) d.0 holder (live h) in
+    let now = count-without (is_held_on t r k) d.0 holder (live (i ∷ h)) in
+    let same = ap (λ own. going (is_held_on t r k) holder own) (other-pins with_holder i h d.0 apart) in
+    let this = releases t r k in
+    omega (arith, was, now, same, this)
+releases-still h i d z apart releases = tt
+
+-- so it releases none elsewhere
+pub keeps-elsewhere : (h : History) (d : DomId) (p : HeldPin) (holder : PinHolder) (t r : ℕ)
+    → Releases h d (Unpin p holder) → ((p.dom.0 == t) && (p.gref.0 == r)) ≡ false → KeepsPins h d (Unpin p holder) t r
+keeps-elsewhere h d p holder t r releases off k =
+    let this = releases t r k in
+    let none = off-count ((p.dom.0 == t) && (p.gref.0 == r)) (same_dir p.dir k) off in
+    let same = and-three (p.dom.0 == t) (p.gref.0 == r) (same_dir p.dir k) in
+    omega (arith, this, none, same)
+  where
+    off-count : (a b : Bool) → a ≡ false → cond {A = ℕ} (a && b) 1 0 ≡ 0
+    off-count a b off = grind arith
+
+    and-three : (a b c : Bool) → cond {A = ℕ} (a && b && c) 1 0 ≡ cond ((a && b) && c) 1 0
+    and-three a b c = grind arith

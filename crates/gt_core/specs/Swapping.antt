@@ -1,11 +1,11 @@
 -- When two histories look the same, and when the items of two domains may change places.
-use Rattle.std.specs.Prelude.{◌≡◌, ◌⊎◌, ◌==◌, ◌&&◌, ℕ, Bool, true, false, List, [], ◌∷◌}
+use Rattle.std.specs.Prelude.{◌≡◌, ◌⊎◌, ◌==◌, ◌&&◌, ℕ, Bool, true, false, List, [], ◌∷◌, count_by}
 use Rattle.gt_core.specs.Prelude.{DomId, PinHolder, HeldPin, Step, LookHeader, LookControl, LookBody, PinStep, Exchange}
-use Rattle.gt_core.specs.Prelude.{Request, Observation, StoreBody, ReadBytes, CopyBytes, BodyWord, Item, ItemEvent, Began, Stepped}
-use Rattle.gt_core.specs.Prelude.{Patch}
+use Rattle.gt_core.specs.Prelude.{Request, Observation, StoreBody, StoreHeader, ReadBytes, WriteBytes, CopyBytes, Unpin}
+use Rattle.gt_core.specs.Prelude.{BodyWord, Item, ItemEvent, Began, Stepped, Patch, Dir}
 use Rattle.gt_core.specs.History.{History, Setting, entry_at, raises_at, body_at, table_at, open_call, live, gather}
 use Rattle.gt_core.specs.History.{reads_at, writes_at, maps_answered_at, patches_at, patches_by, written_by, given_in}
-use Rattle.gt_core.specs.History.{contents_at}
+use Rattle.gt_core.specs.History.{contents_at, is_pin_on, without}
 use Rattle.gt_core.specs.FirstRule.{stood}
 use Rattle.gt_core.specs.Legal.{IsRight}
 
@@ -94,16 +94,7 @@ BeginningsAreApart =
     (s : Setting) (h : History) (i j : Item) (request : Request) → (i.actor.0 == j.actor.0) ≡ false
     → i.happened ≡ Began request → AreApart s h i j
 
--- a step on the control word or on a body word of an entry, except an unpin
-abbrev pub is_on_entry : Step → Bool
-is_on_entry (LookControl dom gref) = true
-is_on_entry (LookBody dom gref half) = true
-is_on_entry (StoreBody gref half word) = true
-is_on_entry (PinStep p) = true
-is_on_entry (Exchange gref looked change) = true
-is_on_entry step = false
-
--- the step of domain d is on entry r of domain t
+-- what the step of domain d reads or changes of the words of an entry, except an unpin: entry r of domain t
 abbrev pub on_entry : DomId → Step → ℕ → ℕ → Bool
 on_entry d (LookControl dom gref) t r = (dom.0 == t) && (gref.0 == r)
 on_entry d (LookBody dom gref half) t r = (dom.0 == t) && (gref.0 == r)
@@ -112,15 +103,51 @@ on_entry d (PinStep p) t r = (p.dom.0 == t) && (p.gref.0 == r)
 on_entry d (Exchange gref looked change) t r = (d.0 == t) && (gref.0 == r)
 on_entry d step t r = false
 
--- steps of two domains that are not on the same entry
-pub record OnOtherEntries (d : DomId) (y : Step) (e : DomId) (z : Step) : Type 0 where
+-- the step looks at the header of domain t
+abbrev pub looks_header : Step → ℕ → Bool
+looks_header (LookHeader dom) t = dom.0 == t
+looks_header step t = false
+
+-- the step of domain d stores the header of domain t
+abbrev pub stores_header : DomId → Step → ℕ → Bool
+stores_header d (StoreHeader version frames) t = d.0 == t
+stores_header d step t = false
+
+-- the step reads a frame of domain t
+abbrev pub reads_frames : Step → ℕ → Bool
+reads_frames (ReadBytes dom frame off len) t = dom.0 == t
+reads_frames (CopyBytes from to len) t = from.frame.owner.0 == t
+reads_frames step t = false
+
+-- the step writes to a frame of domain t
+abbrev pub writes_frames : Step → ℕ → Bool
+writes_frames (WriteBytes dom frame off len) t = dom.0 == t
+writes_frames (CopyBytes from to len) t = to.frame.owner.0 == t
+writes_frames step t = false
+
+-- the step of domain d releases no pin on entry r of domain t
+abbrev pub KeepsPins : History → DomId → Step → ℕ → ℕ → Type 0
+KeepsPins h d (Unpin p holder) t r =
+    (k : Dir) → count_by (is_pin_on t r k) (without d.0 holder (live h)) ≡ count_by (is_pin_on t r k) (live h)
+KeepsPins h d step t r = Unit {0}
+
+-- a step of domain d leaves what one of domain e looks at: the words of entries with their pins, headers, and bytes
+pub record LeavesFor (h : History) (d : DomId) (y : Step) (e : DomId) (z : Step) : Type 0 where
+  pub words : (t r : ℕ) → on_entry d y t r ≡ true → on_entry e z t r ≡ true → ⊥
+  pub pins : (t r : ℕ) → on_entry e z t r ≡ true → KeepsPins h d y t r
+  pub header : (t : ℕ) → stores_header d y t ≡ true → looks_header z t ≡ true → ⊥
+  pub bytes : (t : ℕ) → writes_frames y t ≡ true → reads_frames z t ≡ true → ⊥
+
+-- two steps touch nothing in common: either leaves what the other one looks at, and they write to frames of other
+-- owners
+pub record TouchApart (h : History) (d : DomId) (y : Step) (e : DomId) (z : Step) : Type 0 where
   pub actors : (d.0 == e.0) ≡ false
-  pub first : is_on_entry y ≡ true
-  pub second : is_on_entry z ≡ true
-  pub apart : (t r : ℕ) → on_entry d y t r ≡ true → on_entry e z t r ≡ true → ⊥
+  pub first : LeavesFor h d y e z
+  pub second : LeavesFor h e z d y
+  pub writes : (t : ℕ) → writes_frames y t ≡ true → writes_frames z t ≡ true → ⊥
 
 -- such steps are apart
-abbrev pub StepsOnOtherEntriesAreApart : Type 0
-StepsOnOtherEntriesAreApart =
-    (s : Setting) (h : History) (i j : Item) (y z : Step) (v w : Observation) → OnOtherEntries i.actor y j.actor z
+abbrev pub StepsThatTouchApartAreApart : Type 0
+StepsThatTouchApartAreApart =
+    (s : Setting) (h : History) (i j : Item) (y z : Step) (v w : Observation) → TouchApart h i.actor y j.actor z
     → i.happened ≡ Stepped y v → j.happened ≡ Stepped z w → AreApart s h i j

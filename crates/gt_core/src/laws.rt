@@ -8,7 +8,7 @@ ghost use Rattle.gt_core.specs.Legal.{MayDo, grown};
 ghost use Rattle.gt_core.specs.Shown.{shown_at};
 ghost use Rattle.gt_core.specs.Subject.{subject_at};
 ghost use Rattle.gt_core.specs.Swapping.{ApartChangePlaces, BeginningsAreApart, LookAlikeGoOn};
-ghost use Rattle.gt_core.specs.Swapping.{StepsOnOtherEntriesAreApart};
+ghost use Rattle.gt_core.specs.Swapping.{StepsThatTouchApartAreApart};
 ghost use Rattle.gt_core.specs.TakenBack.{LegalTracesAreHistories, PagesTakenBackAreOutOfReach, PinsAreTakenSince};
 ghost use Rattle.gt_handles.specs.declared.handles.Handle.{Handle};
 ghost use Rattle.gt_core.specs.declared.trace.Event.{Event};
@@ -102,8 +102,9 @@ pub fn every_beginning_is_apart()
     ensures { BeginningsAreApart }
 {}
 
-/// Proves that steps of different domains on words of different entries do not disturb each other. This excludes
-/// unpins.
-pub fn every_step_on_another_entry_is_apart()
-    ensures { StepsOnOtherEntriesAreApart }
+/// Proves that steps of different domains do not disturb each other if they touch nothing in common: no entry, no header
+/// that one of them stores, and no frames of an owner to which one of them writes. An unpin touches the entries on which
+/// it releases a pin.
+pub fn steps_that_touch_apart_are_apart()
+    ensures { StepsThatTouchApartAreApart }
 {}

@@ -37,8 +37,8 @@ pub use laws::{
     every_call_can_begin, every_event_does_one_thing, every_known_handle_has_one_subject,
     every_legal_trace_is_a_legal_history, every_look_alike_goes_on, every_open_call_can_access,
     every_open_call_can_go_on, every_page_taken_back_is_out_of_reach, every_run_can_start,
-    every_step_on_another_entry_is_apart, items_that_are_apart_change_places,
-    no_pin_outlives_its_record,
+    items_that_are_apart_change_places, no_pin_outlives_its_record,
+    steps_that_touch_apart_are_apart,
 };
 pub use machine::answer_of;
 pub use pin_counts::{CountsChange, PinCounts};

@@ -4,3 +4,4 @@ pub mod Script
 pub mod Dumps
 pub mod Faults
 pub mod Prelude
+pub mod Look

@@ -18,6 +18,7 @@ mod input;
 mod laws;
 mod lines;
 mod live;
+mod look;
 mod script;
 mod showing;
 
@@ -27,3 +28,4 @@ pub use fault::DumpFault;
 pub use input::bytes_of;
 pub use laws::only_the_live_bits_are_cleared;
 pub use live::cleared;
+pub use look::{DumpLook, look_of};

@@ -1,100 +1,121 @@
 -- What an order that is added does to the texts.
-use Rattle.std.proofs.Common.{◌≡◌, ◌≢◌, ◌++◌, ◌<◌, ◌≤◌, ◌+◌, ℕ, zero, suc, refl, List, [], ◌∷◌, All, Option, Some}
-use Rattle.std.proofs.Common.{IfSome, drop, take, ap, ◌∙◌}
-use Rattle.std.proofs.Common.{sym, subst, inl, inr, ◌⊎◌, length, get_or, arith, slice_get}
-use Rattle.std.proofs.lemmas.List.Elements.{All-append, All-cons, All-drop, All-head, All-nil, All-push, All-tail}
-use Rattle.std.proofs.lemmas.List.Elements.{All-take}
-use Rattle.std.proofs.lemmas.List.{map-append, take_all, take_more}
-use Rattle.std.proofs.lemmas.Option.{none-some, same_Some}
-use Rattle.std.specs.List.{insert}
+use Rattle.std.proofs.Common.{◌≡◌, ◌≢◌, ◌++◌, ◌<◌, ◌≤◌, ◌+◌, ◌-◌, ℕ, zero, suc, refl, List, [], ◌∷◌, All, Option, Some}
+use Rattle.std.proofs.Common.{IfSome, ap, ◌∙◌, sym, subst, inl, inr, ◌⊎◌, length, get_or, arith, slice_get}
+use Rattle.std.proofs.lemmas.Cmp.{nat_list_cmp_total, tied_itself}
+use Rattle.std.proofs.lemmas.List.Elements.{All-cons, All-nil, All-push}
+use Rattle.std.proofs.lemmas.List.{map-append}
+use Rattle.std.proofs.lemmas.List.Sorted.{Contains-permutation}
+use Rattle.std.proofs.lemmas.Map.Text.{is_eq-slice_cmp}
+use Rattle.std.proofs.lemmas.Option.{none-some, same_Some, get_or_from_slice_get, slice_get-get_or, slice_get_within}
+use Rattle.std.proofs.lemmas.Slice.Eq.{bytes_eq-Decides}
+use Rattle.std.specs.Ordering.{is_eq}
+use Rattle.std.specs.List.Sorted.{IsPermutation}
+use Rattle.std.specs.declared.cmp.Ordering.{Ordering}
+use Rattle.std.specs.declared.cmp.Ordering.TheVariants.{Less, Equal, Greater}
 use Rattle.gt_explore_search.specs.declared.exploring.FoundText.{FoundText}
-use Rattle.gt_explore.specs.Adding.{AddsOrder, AreDifferentTexts, IsAdded, IsTextAmong, IsApart, texts_of_orders}
-
-pub all_added : {X : Type 0} (P : X → Type 0) (old : List X) (x : X) (new : List X) → All P old → P x → IsAdded old x new → All P new
-all_added P old x new all holds (inl same) = subst (λ l. All P l) (sym same) all
-all_added P old x new all holds (inr (at, is)) =
-    subst (λ l. All P l) (sym is) (All-append P (take at old) (x ∷ drop at old) (All-take P at old all) (All-cons P x (drop at old) holds (All-drop P at old all)))
+use Rattle.gt_explore.specs.Adding.{AddsOrder, AreAscending, AreDifferentTexts, IsAdded, IsTextAmong, IsApart, compared}
+use Rattle.gt_explore.specs.Adding.{last_compared, texts_of_orders}
 
 -- what holds of what an option has
 pub some_holds : {X : Type 0} (P : X → Type 0) (o : Option X) (x : X) → IfSome o P → o ≡ Some x → P x
 some_holds P o x holds is = subst (λ p. IfSome p P) is holds
 
--- texts with one more among them
+-- the order of texts
 
-there_inserted : (ts : List (List ℕ)) (at : ℕ) (t : List ℕ) → IsTextAmong t (insert ts at t)
-there_inserted ts zero t = (0, refl)
-there_inserted [] (suc at) t = (0, refl)
-there_inserted (u ∷ ts) (suc at) t = let there = there_inserted ts at t in (suc there.0, there.1)
+below_next : (t u : List ℕ) (ts : List (List ℕ)) → compared t u ≡ Less → All (λ o. compared u o ≡ Less) ts → All (λ o. compared t o ≡ Less) ts
+below_next t u ts lt all = λ k d there. nat_list_cmp_total.trans t u (get_or ts k d) lt (all k d there)
 
-among_inserted : (ts : List (List ℕ)) (at : ℕ) (t u : List ℕ) → IsTextAmong u ts → IsTextAmong u (insert ts at t)
-among_inserted ts zero t u (k, is) = (suc k, is)
-among_inserted [] (suc at) t u (k, is) = absurd (none-some u is)
-among_inserted (v ∷ ts) (suc at) t u (zero, is) = (0, is)
-among_inserted (v ∷ ts) (suc at) t u (suc k, is) = let there = among_inserted ts at t u (k, is) in (suc there.0, there.1)
+-- a text that comes before the first of these comes before each of them
+below_all : (t : List ℕ) (ts : List (List ℕ)) → AreAscending (t ∷ ts) → All (λ o. compared t o ≡ Less) ts
+below_all t [] all = All-nil (λ o. compared t o ≡ Less)
+below_all t (u ∷ ts) all =
+    All-cons (λ o. compared t o ≡ Less) u ts all.0 (below_next t u ts all.0 (below_all u ts all.1))
 
-apart_inserted : (ts : List (List ℕ)) (at : ℕ) (t : List ℕ) → AreDifferentTexts ts → IsApart t ts → AreDifferentTexts (insert ts at t)
-apart_inserted ts zero t apart new = (new, apart)
-apart_inserted [] (suc at) t apart new = (All-nil (λ other. other ≢ t), tt)
-apart_inserted (u ∷ ts) (suc at) t apart new = (
-  all_added (λ other. other ≢ u) ts t (insert ts at t) apart.0 (λ same. All-head (λ other. other ≢ t) u ts new (sym same)) (inr (at, refl)),
-  apart_inserted ts at t apart.1 (All-tail (λ other. other ≢ t) u ts new),
-)
+rest_ascending : (t : List ℕ) (ts : List (List ℕ)) → AreAscending (t ∷ ts) → AreAscending ts
+rest_ascending t [] all = tt
+rest_ascending t (u ∷ ts) all = all.1
 
-texts_inserted : (os : List FoundText) (at : ℕ) (o : FoundText) → texts_of_orders (insert os at o) ≡ insert (texts_of_orders os) at o.text.items
-texts_inserted os zero o = refl
-texts_inserted [] (suc at) o = refl
-texts_inserted (p ∷ os) (suc at) o = ap (λ ts. p.text.items ∷ ts) (texts_inserted os at o)
+-- a text does not come before itself
+not_below : (t o : List ℕ) → compared t o ≡ Less → o ≢ t
+not_below t o lt same =
+    let itself : compared t t ≡ Equal = tied_itself nat_list_cmp_total t in
+    let less : compared t t ≡ Less = subst (λ (u : List ℕ). compared t u ≡ Less) same lt in
+    let clash : Equal ≡ Less = sym itself ∙ less in absurd (cc)
+
+apart_above : (t : List ℕ) (ts : List (List ℕ)) → All (λ o. compared t o ≡ Less) ts → IsApart t ts
+apart_above t ts all = λ k d there. not_below t (get_or ts k d) (all k d there)
+
+-- texts of which each comes before the next one are all different
+pub ascending_apart : (ts : List (List ℕ)) → AreAscending ts → AreDifferentTexts ts
+ascending_apart [] all = tt
+ascending_apart (t ∷ ts) all = (apart_above t ts (below_all t ts all), ascending_apart ts (rest_ascending t ts all))
+
+-- they ascend with a text that comes after the last
+ascending_push : (ts : List (List ℕ)) (t : List ℕ) → AreAscending ts → last_compared ts t ≡ Less → AreAscending (ts ++ t ∷ [])
+ascending_push [] t all lt = tt
+ascending_push (u ∷ []) t all lt = (lt, tt)
+ascending_push (u ∷ v ∷ ts) t all lt = (all.0, ascending_push (v ∷ ts) t all.1 lt)
+
+same_text : (t u : List ℕ) → compared t u ≡ Equal → t ≡ u
+same_text t u is = (bytes_eq-Decides t u).0 (sym (is_eq-slice_cmp t u) ∙ ap is_eq is)
+
+-- a text that is the same as the last is there
+there_last : (ts : List (List ℕ)) (t : List ℕ) → last_compared ts t ≡ Equal → IsTextAmong t ts
+there_last [] t is = absurd (cc)
+there_last (u ∷ []) t is = (0, ap Some (same_text u t is))
+there_last (u ∷ v ∷ ts) t is = let there = there_last (v ∷ ts) t is in (suc there.0, there.1)
+
+there_pushed : (ts : List (List ℕ)) (t : List ℕ) → IsTextAmong t (ts ++ t ∷ [])
+there_pushed [] t = (0, refl)
+there_pushed (u ∷ ts) t = let there = there_pushed ts t in (suc there.0, there.1)
+
+among_pushed : (ts : List (List ℕ)) (t u : List ℕ) → IsTextAmong u ts → IsTextAmong u (ts ++ t ∷ [])
+among_pushed [] t u (k, is) = absurd (none-some u is)
+among_pushed (v ∷ ts) t u (zero, is) = (0, is)
+among_pushed (v ∷ ts) t u (suc k, is) = let there = among_pushed ts t u (k, is) in (suc there.0, there.1)
 
 -- orders
 
--- it was added at a place
-pub adds_new : (old : List FoundText) (at : ℕ) (o : FoundText) (new : List FoundText) → new ≡ insert old at o → IsApart o.text.items (texts_of_orders old) → AddsOrder old o new
-adds_new old at o new is new_text =
-    let texts : texts_of_orders new ≡ insert (texts_of_orders old) at o.text.items = ap texts_of_orders is ∙ texts_inserted old at o in record {
-      added = inr (at, is);
-      there = subst (IsTextAmong o.text.items) (sym texts) (there_inserted (texts_of_orders old) at o.text.items);
-      apart = λ apart. subst AreDifferentTexts (sym texts) (apart_inserted (texts_of_orders old) at o.text.items apart new_text);
+texts_pushed : (os : List FoundText) (o : FoundText) → texts_of_orders (os ++ o ∷ []) ≡ texts_of_orders os ++ o.text.items ∷ []
+texts_pushed os o = map-append (λ (q : FoundText). q.text.items) os (o ∷ [])
+
+-- the last of these orders decides the comparison
+pub compared_last : (os : List FoundText) (at : ℕ) (o : FoundText) (text : List ℕ) → length os ≡ at + 1 → o ≡ get_or os at o
+    → compared o.text.items text ≡ last_compared (texts_of_orders os) text
+compared_last [] at o text many is = absurd (omega arith)
+compared_last (p ∷ []) zero o text many is = ap (λ (q : FoundText). compared q.text.items text) is
+compared_last (p ∷ []) (suc at) o text many is = absurd (omega arith)
+compared_last (p ∷ q ∷ os) zero o text many is = absurd (omega arith)
+compared_last (p ∷ q ∷ os) (suc at) o text many is = compared_last (q ∷ os) at o text (omega arith) is
+
+-- it was added at the end
+pub adds_new : (old : List FoundText) (o : FoundText) (new : List FoundText) → new ≡ old ++ o ∷ [] → last_compared (texts_of_orders old) o.text.items ≡ Less → AddsOrder old o new
+adds_new old o new is after =
+    let texts : texts_of_orders new ≡ texts_of_orders old ++ o.text.items ∷ [] = ap texts_of_orders is ∙ texts_pushed old o in record {
+      added = inr is;
+      there = subst (IsTextAmong o.text.items) (sym texts) (there_pushed (texts_of_orders old) o.text.items);
+      ascending = λ all. subst AreAscending (sym texts) (ascending_push (texts_of_orders old) o.text.items all after);
     }
 
 -- its text was there
-pub adds_none : (old : List FoundText) (o : FoundText) (new : List FoundText) → new ≡ old → IsTextAmong o.text.items (texts_of_orders old) → AddsOrder old o new
-adds_none old o new is there = record {
+pub adds_none : (old : List FoundText) (o : FoundText) (new : List FoundText) → new ≡ old → last_compared (texts_of_orders old) o.text.items ≡ Equal → AddsOrder old o new
+adds_none old o new is last = record {
   added = inl is;
-  there = subst (λ os. IsTextAmong o.text.items (texts_of_orders os)) (sym is) there;
-  apart = λ apart. subst (λ os. AreDifferentTexts (texts_of_orders os)) (sym is) apart;
+  there = subst (λ os. IsTextAmong o.text.items (texts_of_orders os)) (sym is) (there_last (texts_of_orders old) o.text.items last);
+  ascending = λ all. subst (λ os. AreAscending (texts_of_orders os)) (sym is) all;
 }
 
 -- what was among the texts still is
 pub among_added : (old : List FoundText) (o : FoundText) (new : List FoundText) (t : List ℕ) → IsAdded old o new → IsTextAmong t (texts_of_orders old) → IsTextAmong t (texts_of_orders new)
 among_added old o new t (inl is) there = subst (λ os. IsTextAmong t (texts_of_orders os)) (sym is) there
-among_added old o new t (inr (at, is)) there =
-    subst (IsTextAmong t) (sym (ap texts_of_orders is ∙ texts_inserted old at o)) (among_inserted (texts_of_orders old) at o.text.items t there)
-
--- searching
-
--- an order at this place has the text
-pub among_here : (os : List FoundText) (at : ℕ) (o : FoundText) (text : List ℕ) → at < length os → o ≡ get_or os at o → o.text.items ≡ text → IsTextAmong text (texts_of_orders os)
-among_here [] at o text lt is same = absurd (omega arith)
-among_here (p ∷ os) zero o text lt is same = (0, ap Some (ap (λ (q : FoundText). q.text.items) (sym is) ∙ same))
-among_here (p ∷ os) (suc at) o text lt is same = let there = among_here os at o text (omega arith) is same in (suc there.0, there.1)
-
--- none of the orders so far has it, nor has the next one
-pub apart_more : (os : List FoundText) (n : ℕ) (o : FoundText) (text : List ℕ) → n < length os → o ≡ get_or os n o → (o.text.items ≡ text → ⊥) → IsApart text (texts_of_orders (take n os)) → IsApart text (texts_of_orders (take (n + 1) os))
-apart_more os n o text lt is other apart =
-    subst (λ (ps : List FoundText). IsApart text (texts_of_orders ps)) (ap (λ (q : FoundText). take n os ++ q ∷ []) is ∙ sym (take_more os n o lt))
-    (subst (IsApart text) (sym (map-append (λ (q : FoundText). q.text.items) (take n os) (o ∷ [])))
-    (All-push (λ (t : List ℕ). t ≢ text) (texts_of_orders (take n os)) o.text.items apart other))
-
-pub apart_all : (os : List FoundText) (n : ℕ) (text : List ℕ) → length os ≤ n → IsApart text (texts_of_orders (take n os)) → IsApart text (texts_of_orders os)
-apart_all os n text le apart = subst (λ (ps : List FoundText). IsApart text (texts_of_orders ps)) (take_all n os le) apart
-
--- orders one after the other
+among_added old o new t (inr is) there =
+    subst (IsTextAmong t) (sym (ap texts_of_orders is ∙ texts_pushed old o)) (among_pushed (texts_of_orders old) o.text.items t there)
 
 -- what holds of texts holds with that of an order that was added
 pub texts_hold : (P : List ℕ → Type 0) (old : List FoundText) (o : FoundText) (new : List FoundText) → All P (texts_of_orders old) → P o.text.items → IsAdded old o new → All P (texts_of_orders new)
 texts_hold P old o new all holds (inl is) = subst (λ (ps : List FoundText). All P (texts_of_orders ps)) (sym is) all
-texts_hold P old o new all holds (inr (at, is)) =
-    subst (All P) (sym (ap texts_of_orders is ∙ texts_inserted old at o)) (all_added P (texts_of_orders old) o.text.items (insert (texts_of_orders old) at o.text.items) all holds (inr (at, refl)))
+texts_hold P old o new all holds (inr is) =
+    subst (All P) (sym (ap texts_of_orders is ∙ texts_pushed old o)) (All-push P (texts_of_orders old) o.text.items all holds)
 
 -- the text of this order is there, or the order is still to come
 abbrev pub IsThere : FoundText → List FoundText → List FoundText → Type 0
@@ -108,3 +129,9 @@ there_more old new p rest o adds (inr (suc j, is)) = inr (j, is)
 pub there_all : (texts : List FoundText) (o : FoundText) → IsThere o texts [] → IsTextAmong o.text.items (texts_of_orders texts)
 there_all texts o (inl there) = there
 there_all texts o (inr (j, is)) = absurd (none-some o is)
+
+-- what is among orders is among them in another order
+pub moved : (xs ys : List FoundText) (at : ℕ) (x : FoundText) → IsPermutation xs ys → slice_get xs at ≡ Some x → (to : ℕ) × (slice_get ys to ≡ Some x)
+moved xs ys at x moves is =
+    let there = Contains-permutation xs ys x moves (at, slice_get_within xs at x is, get_or_from_slice_get xs at x x is) in
+    (there.0, slice_get-get_or ys there.0 x there.1 ∙ ap Some there.2)

@@ -1,3 +1,4 @@
 pub mod Added
 pub mod Compared
 pub mod Explored
+pub mod Answered

@@ -1,11 +1,14 @@
--- A list of orders whose texts all differ, with one more in it.
-use Rattle.std.specs.Prelude.{◌≡◌, ◌≢◌, ◌⊎◌, ℕ, List, [], ◌∷◌, All, map, Some, slice_get}
-use Rattle.std.specs.List.{insert}
+-- Orders whose texts are in the order of their bytes, with one more order.
+use Rattle.std.specs.Prelude.{◌≡◌, ◌≢◌, ◌⊎◌, ◌++◌, ℕ, List, [], ◌∷◌, All, map, Some, slice_get}
+use Rattle.std.specs.Cmp.Lexicographic.{slice_cmp}
+use Rattle.std.specs.Ordering.{nat_cmp}
+use Rattle.std.specs.declared.cmp.Ordering.{Ordering}
+use Rattle.std.specs.declared.cmp.Ordering.TheVariants.{Less}
 use Rattle.gt_explore_search.specs.declared.exploring.FoundText.{FoundText}
 
--- x was added somewhere, or not at all
+-- x was added at the end, or not at all
 abbrev pub IsAdded : {X : Type 0} → List X → X → List X → Type 0
-IsAdded old x new = (new ≡ old) ⊎ ((at : ℕ) × (new ≡ insert old at x))
+IsAdded old x new = (new ≡ old) ⊎ (new ≡ old ++ x ∷ [])
 
 -- the texts of these orders
 abbrev pub texts_of_orders : List FoundText → List (List ℕ)
@@ -24,8 +27,24 @@ abbrev pub AreDifferentTexts : List (List ℕ) → Type 0
 AreDifferentTexts [] = Unit {0}
 AreDifferentTexts (text ∷ texts) = IsApart text texts × AreDifferentTexts texts
 
+-- two texts by the order of their bytes
+abbrev pub compared : List ℕ → List ℕ → Ordering
+compared one other = slice_cmp nat_cmp one other
+
+-- each text comes before the next one
+abbrev pub AreAscending : List (List ℕ) → Type 0
+AreAscending [] = Unit {0}
+AreAscending (text ∷ []) = Unit {0}
+AreAscending (text ∷ next ∷ texts) = (compared text next ≡ Less) × AreAscending (next ∷ texts)
+
+-- the last of these texts, compared with another; none is before each text
+abbrev pub last_compared : List (List ℕ) → List ℕ → Ordering
+last_compared [] text = Less
+last_compared (last ∷ []) text = compared last text
+last_compared (first ∷ next ∷ texts) text = last_compared (next ∷ texts) text
+
 -- an order was added, unless its text was there
 pub record AddsOrder (old : List FoundText) (order : FoundText) (new : List FoundText) : Type 0 where
   pub added : IsAdded old order new
   pub there : IsTextAmong order.text.items (texts_of_orders new)
-  pub apart : AreDifferentTexts (texts_of_orders old) → AreDifferentTexts (texts_of_orders new)
+  pub ascending : AreAscending (texts_of_orders old) → AreAscending (texts_of_orders new)

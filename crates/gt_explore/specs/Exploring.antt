@@ -1,49 +1,159 @@
 -- The output of `explore` for a script.
-use Rattle.std.specs.Prelude.{◌≡◌, ℕ, Bool, true, List, All, Option, Some, None, Result, Ok, Err, option_map}
-use Rattle.std.specs.List.{list_any}
+use Rattle.std.specs.Prelude.{◌≡◌, ◌+◌, ◌++◌, ◌==◌, ◌&&◌, ℕ, Bool, true, false, List, [], ◌∷◌, All, length, map, Option, Some}
+use Rattle.std.specs.Prelude.{None, Result, Ok, Err, codes, decimal, if◌then◌else◌, is_some, slice_get}
+use Rattle.std.specs.List.{list_all, list_any, position}
+use Rattle.std.specs.Str.{bytes_eq}
 use Rattle.std.specs.Io.KnownBytes.{Appends, Keeps}
 use Rattle.gt_policy.specs.declared.fault.TokenFault as policy
 use Rattle.gt_script.specs.Blocks.{block_fault_shown}
+use Rattle.gt_script.specs.Lists.{RunAction}
 use Rattle.gt_script.specs.RunContents.{RunContents}
 use Rattle.gt_script.specs.Script.{Wrong, in_script, in_policy}
+use Rattle.gt_script.specs.declared.tasks.RunActionBy.TheVariants.{Do, Tell, Await}
 use Rattle.gt_text.specs.Streams.{AppendsBeginning}
 use Rattle.gt_host.specs.declared.fault.PlayFault.TheVariants.{Memory, Read, Write, Script, Policy}
 use Rattle.gt_explore_replay.specs.Orders.{MayGive}
+use Rattle.gt_explore_verdict.specs.Expressions.{Answers, Asked, conditions_in, of_all, of_domain, of_line}
+use Rattle.gt_explore_verdict.specs.Judging.{Means, judged, verdict_at}
+use Rattle.gt_explore_verdict.specs.Satisfying.{satisfies}
+use Rattle.gt_explore_verdict.specs.declared.judging.Claim.{Claim}
+use Rattle.gt_explore_verdict.specs.declared.judging.Claim.TheVariants.{Find, Never, Always}
+use Rattle.gt_explore_verdict.specs.declared.judging.Judgement.{Judgement}
+use Rattle.gt_explore_verdict.specs.declared.judging.Verdict.{Verdict}
+use Rattle.gt_explore_verdict.specs.declared.judging.Verdict.TheVariants.{Holds, Fails, Undecided}
 use Rattle.gt_explore.specs.Adding.{AreDifferentTexts, IsTextAmong}
-use Rattle.gt_explore.specs.Telling.{is_wanted, texts_told}
-use Rattle.gt_explore.specs.Witness.{IsWitness}
+use Rattle.gt_explore.specs.Telling.{Found, counterexample_comment, heading, states_line, texts_told, witness_comment}
+use Rattle.gt_explore.specs.Witness.{GivesAnswers, IsWitness}
 use Rattle.gt_explore.specs.declared.exploring.ExploreOptions.{ExploreOptions}
+use Rattle.gt_explore.specs.declared.exploring.ExploreRequest.{ExploreRequest}
+use Rattle.gt_explore.specs.declared.exploring.ExploreRequest.TheVariants as requests
 use Rattle.gt_explore.specs.declared.fault.ExploreFault.{ExploreFault}
 use Rattle.gt_explore.specs.declared.fault.ExploreFault.TheVariants.{Play, Texts}
 
--- the word searched for
-abbrev pub word_asked : ExploreOptions → Option (List ℕ)
-word_asked asked = option_map (λ word. word.now) asked.find
+-- these are texts that a script may give, each of them once, and all of them if the search is over
+pub record AreTextsOf (c : RunContents) (f : Found) : Type 0 where
+  pub possible : All (MayGive c) f.texts
+  pub whole : f.whole ≡ true → (text : List ℕ) → MayGive c text → IsTextAmong text f.texts
+  pub apart : AreDifferentTexts f.texts
 
--- these are the texts that a script may give, each of them once
-pub record AreTextsOf (c : RunContents) (texts : List (List ℕ)) : Type 0 where
-  pub possible : All (MayGive c) texts
-  pub whole : (text : List ℕ) → MayGive c text → IsTextAmong text texts
-  pub apart : AreDifferentTexts texts
+-- an action is a call, which has an answer
+abbrev pub is_call : RunAction → Bool
+is_call (Do call) = true
+is_call (Tell flag) = false
+is_call (Await flag) = false
 
--- the output for a script: the texts that it may give, each under its number, or a script for `play` that gives the
--- answers of one of them; and whether a text is wanted
-abbrev pub IsMadeBy : RunContents → Option ℕ → Option (List ℕ) → List ℕ → Bool → Type 0
-IsMadeBy c None find text is_any =
-    (texts : List (List ℕ)) × (states : ℕ) × AreTextsOf c texts × (text ≡ texts_told find states texts)
-    × (is_any ≡ list_any (is_wanted find) texts)
-IsMadeBy c (Some number) find text is_any =
-    (texts : List (List ℕ)) × AreTextsOf c texts × IsWitness c.head.domains texts number text × (is_any ≡ true)
+-- the script has a call on the line of a condition, or a domain of that number
+abbrev pub is_askable : RunContents → Answers → Bool
+is_askable c of_all = true
+is_askable c (of_line number) = list_any (λ t. is_call t.deed && bytes_eq (decimal t.line) number) c.tasks
+is_askable c (of_domain number) = list_any (λ d. bytes_eq (decimal d.id.0) number) c.head.domains
 
-abbrev pub IsMade : RunContents → ExploreOptions → List ℕ → Bool → Type 0
-IsMade c asked text is_any = IsMadeBy c asked.witness (word_asked asked) text is_any
+-- the conditions of an expression, each of them about lines or domains that the script has
+pub record AreConditions (c : RunContents) (expression : List ℕ) (conditions : List Asked) : Type 0 where
+  pub read : conditions_in expression ≡ Ok conditions
+  pub askable : list_all (λ asked. is_askable c asked.place) conditions ≡ true
+
+-- which of the texts satisfy the conditions
+abbrev pub satisfied : List Asked → Found → List Bool
+satisfied conditions f = map (satisfies conditions) f.texts
+
+-- the verdict on all texts, if there is nothing to decide
+abbrev pub verdict_of_all : Bool → Verdict
+verdict_of_all whole = if whole then Holds else Undecided
+
+-- the first line of a verdict that no text shows
+abbrev pub verdict_line : Verdict → List ℕ
+verdict_line Holds = codes "holds\n"
+verdict_line Fails = codes "does not hold\n"
+verdict_line Undecided = codes "not decided\n"
+
+-- the output for a claim that no text satisfies the conditions, or that each does: the verdict, or a script for `play`
+-- that gives the first text that shows that it does not hold
+abbrev pub TellsVerdict : RunContents → Found → Verdict → Option ℕ → List ℕ → Type 0
+TellsVerdict c f verdict None text = text ≡ verdict_line verdict ++ states_line f
+TellsVerdict c f verdict (Some at) text =
+    (given : List ℕ) × (script : List ℕ) × (slice_get f.texts at ≡ Some given)
+    × (text ≡ counterexample_comment f (at + 1) given ++ script) × GivesAnswers c.head.domains text given
+
+-- the output for a claim, by whether each text satisfies the conditions, and by the judgement
+abbrev pub TellsClaimBy : RunContents → Claim → Found → List Bool → Judgement → List ℕ → Type 0
+TellsClaimBy c Find f met judgement text = text ≡ texts_told f met
+TellsClaimBy c Never f met judgement text = TellsVerdict c f judgement.verdict judgement.shown_by text
+TellsClaimBy c Always f met judgement text = TellsVerdict c f judgement.verdict judgement.shown_by text
+
+-- the output for a claim on these conditions
+abbrev pub TellsClaim : RunContents → Claim → List Asked → Found → List ℕ → Type 0
+TellsClaim c claim conditions f text =
+    TellsClaimBy c claim f (satisfied conditions f) (judged claim (satisfied conditions f) f.whole) text
+
+-- the index of a text among these
+abbrev pub place_of : List ℕ → List (List ℕ) → Option ℕ
+place_of text texts = position (λ other. bytes_eq other text) texts
+
+-- the output for the question whether a text is one of these: its number
+abbrev pub number_told : Found → Option ℕ → List ℕ
+number_told f None = states_line f
+number_told f (Some at) = heading f.whole (length f.texts) (at + 1) ++ codes "\n" ++ states_line f
+
+-- what a verdict on a text means: the script may give it, or it may not
+abbrev pub MeansGiven : RunContents → List ℕ → Verdict → Type 0
+MeansGiven c text Holds = MayGive c text
+MeansGiven c text Fails = MayGive c text → ⊥
+MeansGiven c text Undecided = Unit {0}
+
+-- the output of a script for each of these texts, each under the number of its text, the first of them under the
+-- number after this one
+abbrev pub TellsWitnesses : RunContents → Found → ℕ → List (List ℕ) → List ℕ → Type 0
+TellsWitnesses c f before [] out = out ≡ []
+TellsWitnesses c f before (text ∷ texts) out =
+    (script : List ℕ) × (rest : List ℕ) × (out ≡ witness_comment f (before + 1) ++ (script ++ rest))
+    × GivesAnswers c.head.domains script text × TellsWitnesses c f (before + 1) texts rest
+
+-- the texts that a script may give, each under its number
+abbrev pub GivesTexts : RunContents → List ℕ → Verdict → Type 0
+GivesTexts c text verdict =
+    (f : Found) × AreTextsOf c f × (text ≡ texts_told f (satisfied [] f)) × (verdict ≡ verdict_of_all f.whole)
+
+-- a claim on the conditions of an expression is decided
+abbrev pub DecidesClaim : RunContents → Claim → List ℕ → List ℕ → Verdict → Type 0
+DecidesClaim c claim expression text verdict =
+    (f : Found) × (conditions : List Asked) × AreTextsOf c f × AreConditions c expression conditions
+    × (verdict ≡ (judged claim (satisfied conditions f) f.whole).verdict) × Means (MayGive c) claim conditions verdict
+    × TellsClaim c claim conditions f text
+
+-- the number of a text that the script may give
+abbrev pub NumbersText : RunContents → List ℕ → List ℕ → Verdict → Type 0
+NumbersText c given text verdict =
+    (f : Found) × AreTextsOf c f × (verdict ≡ verdict_at Find (is_some (place_of given f.texts)) f.whole)
+    × MeansGiven c given verdict × (text ≡ number_told f (place_of given f.texts))
+
+-- a script for `play` that gives the answers of the text of a number
+abbrev pub GivesWitness : RunContents → ℕ → List ℕ → Verdict → Type 0
+GivesWitness c number text verdict =
+    (f : Found) × AreTextsOf c f × IsWitness c.head.domains f.texts number text × (verdict ≡ verdict_of_all f.whole)
+
+-- such a script for each text
+abbrev pub GivesWitnesses : RunContents → List ℕ → Verdict → Type 0
+GivesWitnesses c text verdict =
+    (f : Found) × AreTextsOf c f × TellsWitnesses c f 0 f.texts text × (verdict ≡ verdict_of_all f.whole)
+
+-- the output for a script and the verdict, by the request
+abbrev pub IsMadeBy : RunContents → ExploreRequest → List ℕ → Verdict → Type 0
+IsMadeBy c requests.Texts text verdict = GivesTexts c text verdict
+IsMadeBy c (requests.Decide claim expression) text verdict = DecidesClaim c claim expression.now text verdict
+IsMadeBy c (requests.Has given) text verdict = NumbersText c given.now text verdict
+IsMadeBy c (requests.Witness number) text verdict = GivesWitness c number text verdict
+IsMadeBy c requests.Witnesses text verdict = GivesWitnesses c text verdict
+
+abbrev pub IsMade : RunContents → ExploreOptions → List ℕ → Verdict → Type 0
+IsMade c asked text verdict = IsMadeBy c asked.request text verdict
 
 -- what was written for a script, by the result
-abbrev pub Explores : RunContents → ExploreOptions → Option (List ℕ) → Option (List ℕ) → Result Bool ExploreFault → Type 0
-Explores c asked old new (Ok is_any) = (text : List ℕ) × IsMade c asked text is_any × Appends old new text
+abbrev pub Explores : RunContents → ExploreOptions → Option (List ℕ) → Option (List ℕ) → Result Verdict ExploreFault → Type 0
+Explores c asked old new (Ok verdict) = (text : List ℕ) × IsMade c asked text verdict × Appends old new text
 Explores c asked old new (Err (Texts fault)) = Keeps old new
 Explores c asked old new (Err (Play Write)) =
-    (text : List ℕ) × (is_any : Bool) × IsMade c asked text is_any × AppendsBeginning old new text
+    (text : List ℕ) × (verdict : Verdict) × IsMade c asked text verdict × AppendsBeginning old new text
 Explores c asked old new (Err (Play Memory)) = ⊥
 Explores c asked old new (Err (Play Read)) = ⊥
 Explores c asked old new (Err (Play (Script fault))) = ⊥
@@ -52,8 +162,8 @@ Explores c asked old new (Err (Play (Policy fault))) = ⊥
 -- what was written for bytes that mean this: at Ok a whole text of the script, after a failed write a prefix of one,
 -- and otherwise nothing; a fault of the script is its first
 abbrev pub Explored : ExploreOptions → (Result RunContents Wrong → Type 0) → Option (List ℕ) → Option (List ℕ)
-    → Result Bool ExploreFault → Type 0
-Explored asked Told old new (Ok is_any) = (c : RunContents) × Told (Ok c) × Explores c asked old new (Ok is_any)
+    → Result Verdict ExploreFault → Type 0
+Explored asked Told old new (Ok verdict) = (c : RunContents) × Told (Ok c) × Explores c asked old new (Ok verdict)
 Explored asked Told old new (Err (Texts fault)) = Keeps old new
 Explored asked Told old new (Err (Play Write)) =
     (c : RunContents) × Told (Ok c) × Explores c asked old new (Err (Play Write))

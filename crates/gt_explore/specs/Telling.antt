@@ -1,40 +1,67 @@
--- The output for the texts that a script may give.
-use Rattle.std.specs.Prelude.{◌+◌, ◌++◌, ◌==◌, ◌||◌, ℕ, Bool, true, if◌then◌else◌, List, [], ◌∷◌, length}
-use Rattle.std.specs.Prelude.{Option, Some, None, codes, decimal}
-use Rattle.std.specs.List.{list_any, slice_split}
-use Rattle.std.specs.Str.{bytes_eq}
+-- The output for texts that a script may give.
+use Rattle.std.specs.Prelude.{◌+◌, ◌++◌, ◌==◌, ℕ, Bool, true, false, if◌then◌else◌, List, [], ◌∷◌, length, codes, decimal}
+use Rattle.std.specs.List.{flat_map}
+use Rattle.gt_explore.specs.Adding.{texts_of_orders}
+use Rattle.gt_explore.specs.declared.texts.FoundTexts.{FoundTexts}
 
--- a space or the end of a line
-abbrev pub is_between : ℕ → Bool
-is_between b = (b == 32) || (b == 10)
+-- texts that a script may give, the number of states that the search met, whether these are all texts, and if not, the
+-- number of states on the way to the last of those
+pub record Found : Type 0 where
+  pub texts : List (List ℕ)
+  pub states : ℕ
+  pub whole : Bool
+  pub depth : ℕ
 
--- a text has this word
-abbrev pub has_word : List ℕ → List ℕ → Bool
-has_word word text = list_any (λ part. bytes_eq part word) (slice_split is_between text)
+abbrev pub found_told : FoundTexts → Found
+found_told f = record { texts = texts_of_orders f.texts.items; states = f.states; whole = f.whole; depth = f.depth }
 
--- the text is wanted: it has the word, if one is given
-abbrev pub is_wanted : Option (List ℕ) → List ℕ → Bool
-is_wanted None text = true
-is_wanted (Some word) text = has_word word text
-
--- the line over a text
-abbrev pub heading : ℕ → ℕ → List ℕ
-heading number count = codes "text " ++ decimal number ++ codes " of " ++ decimal count ++ codes "\n"
+-- the number of a text, and how many there are
+abbrev pub heading : Bool → ℕ → ℕ → List ℕ
+heading whole count number =
+    codes "text " ++ decimal number ++ (if whole then codes " of " else codes " of at least ") ++ decimal count
 
 -- a text under its number, if it is wanted
-abbrev pub text_shown : Option (List ℕ) → ℕ → ℕ → List ℕ → List ℕ
-text_shown find count number text = if is_wanted find text then heading number count ++ text else []
+abbrev pub text_shown : Bool → Bool → ℕ → ℕ → List ℕ → List ℕ
+text_shown wanted whole count number text = if wanted then heading whole count number ++ codes "\n" ++ text else []
 
 -- the wanted ones among these texts, the first of them under the number after this one
-abbrev pub texts_listed : Option (List ℕ) → ℕ → ℕ → List (List ℕ) → List ℕ
-texts_listed find count before [] = []
-texts_listed find count before (text ∷ texts) =
-    text_shown find count (before + 1) text ++ texts_listed find count (before + 1) texts
+abbrev pub texts_listed : Bool → ℕ → ℕ → List (List ℕ) → List Bool → List ℕ
+texts_listed whole count before [] wanted = []
+texts_listed whole count before (text ∷ texts) [] = []
+texts_listed whole count before (text ∷ texts) (wants ∷ wanted) =
+    text_shown wants whole count (before + 1) text ++ texts_listed whole count (before + 1) texts wanted
+
+-- the number of states, and that there may be more texts
+abbrev pub states_told : Found → List ℕ
+states_told f =
+    codes "states " ++ decimal f.states
+    ++ (if f.whole then [] else codes ", depth " ++ decimal f.depth ++ codes ": not all texts; raise --states")
 
 -- the last line
-abbrev pub states_line : ℕ → List ℕ
-states_line states = codes "states " ++ decimal states ++ codes "\n"
+abbrev pub states_line : Found → List ℕ
+states_line f = states_told f ++ codes "\n"
 
--- the whole output for these texts
-abbrev pub texts_told : Option (List ℕ) → ℕ → List (List ℕ) → List ℕ
-texts_told find states texts = texts_listed find (length texts) 0 texts ++ states_line states
+-- the whole output for the wanted ones of these texts
+abbrev pub texts_told : Found → List Bool → List ℕ
+texts_told f wanted = texts_listed f.whole (length f.texts) 0 f.texts wanted ++ states_line f
+
+-- a byte of a comment, which goes on after the end of a line
+abbrev pub comment_byte : ℕ → List ℕ
+comment_byte b = if b == 10 then codes "\n# " else b ∷ []
+
+-- a text without its last line end, as a comment of a script
+abbrev pub commented : List ℕ → List ℕ
+commented text = codes "# " ++ flat_map comment_byte text ++ codes "\n"
+
+-- what the comment over a script says that shows that a claim does not hold: the text that it gives, and the number of
+-- states
+abbrev pub counterexample_lines : Found → ℕ → List ℕ → List ℕ
+counterexample_lines f number text =
+    codes "does not hold: " ++ heading f.whole (length f.texts) number ++ codes "\n" ++ text ++ states_told f
+
+abbrev pub counterexample_comment : Found → ℕ → List ℕ → List ℕ
+counterexample_comment f number text = commented (counterexample_lines f number text)
+
+-- the comment over a script that gives the text of this number
+abbrev pub witness_comment : Found → ℕ → List ℕ
+witness_comment f number = commented (heading f.whole (length f.texts) number)

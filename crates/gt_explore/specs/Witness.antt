@@ -27,15 +27,34 @@ is_end b = b == 10
 abbrev pub answers_of : ℕ → List ℕ → List (List ℕ)
 answers_of dom text = filter (begins_with (domain_word dom)) (map without_number (slice_split is_end text))
 
--- two texts have the same answers of each of these domains
-abbrev pub SameAnswers : List DomainConfig → List ℕ → List ℕ → Type 0
-SameAnswers domains one other = All (λ domain. answers_of domain.id.0 one ≡ answers_of domain.id.0 other) domains
+-- the answer of a domain to an unmap, without the number of a line
+abbrev pub ok_line : ℕ → List ℕ
+ok_line dom = domain_word dom ++ codes "ok"
+
+-- these lines, and after them only such lines
+pub record GoesOnWith (with : List ℕ) (lines all : List (List ℕ)) : Type 0 where
+  pub more : List (List ℕ)
+  pub is : all ≡ lines ++ more
+  pub rest : All (λ line. line ≡ with) more
+
+-- a domain has the answers of the text, and after them `ok` for each mapping that it unmaps at the end of its list
+abbrev pub HasAnswers : ℕ → List ℕ → List ℕ → Type 0
+HasAnswers dom text out = GoesOnWith (ok_line dom) (answers_of dom text) (answers_of dom out)
+
+-- so has each of these domains
+abbrev pub HaveAnswers : List DomainConfig → List ℕ → List ℕ → Type 0
+HaveAnswers domains text out = All (λ domain. HasAnswers domain.id.0 text out) domains
 
 -- the script is one for `play` that prints the answers of the text
 pub record GivesAnswers (domains : List DomainConfig) (script text : List ℕ) : Type 0 where
   pub out : List ℕ
   pub played : Played (TellsScript script) false (Some []) (Some out) (Ok tt)
-  pub same : SameAnswers domains text out
+  pub answers : HaveAnswers domains text out
+
+-- the script is this comment and more lines, and gives the answers of the text
+abbrev pub GivesAfter : List DomainConfig → List ℕ → List ℕ → List ℕ → Type 0
+GivesAfter domains comment script text =
+    (lines : List ℕ) × (script ≡ comment ++ lines) × GivesAnswers domains script text
 
 -- the text of this number among these, of which the first has the number 1
 abbrev pub IsTextNumbered : List (List ℕ) → ℕ → List ℕ → Type 0

@@ -1,124 +1,43 @@
 //! The command `explore`.
-ghost use Rattle.std.specs.Prelude.{◌≡◌, ℕ, List, true, IfOk, take};
-ghost use Rattle.std.specs.List.{list_any};
+ghost use Rattle.std.specs.Prelude.{◌≡◌, ℕ, List, true, All, IfOk, length, map, take};
 ghost use Rattle.gt_script.specs.Contents.{contents_told};
 ghost use Rattle.gt_script.specs.RunContents.{run_told};
 ghost use Rattle.gt_script.specs.RunScripts.{CanConfigure, RunTells};
 ghost use Rattle.gt_text.specs.Streams.{ConsumesAtMost, OfInput};
 ghost use Rattle.gt_text.specs.declared.streams.TheConstants.{READ_LIMIT};
 ghost use Rattle.gt_script.specs.Stuck.{AreNumbered};
-ghost use Rattle.gt_explore.specs.Adding.{texts_of_orders};
-ghost use Rattle.gt_explore.specs.Exploring.{Explored, Explores, IsMade, word_asked};
-ghost use Rattle.gt_explore.specs.Telling.{is_wanted, texts_told as told_of};
-ghost use Rattle.gt_explore.specs.Witness.{GivesAnswers, IsWitness};
+ghost use Rattle.gt_explore.specs.Exploring.{Explored, Explores, IsMade};
 
-use crate::checked::gives_answers;
-use crate::fault::{ExploreFault, TextsFault};
-use crate::telling::{is_any_wanted, push_found_texts};
-use crate::texts::{FoundTexts, texts_of};
-use crate::witness::push_witness;
-use gt_explore_search::FoundText;
+use crate::answering::{ExploreOutput, made_of};
+use crate::fault::ExploreFault;
+use gt_explore_verdict::{Claim, Verdict};
 use gt_host::PlayFault;
 use gt_script::{RunScript, parse_run};
-use gt_text::{read_text, text_of, write_text};
+use gt_text::{read_text, write_text};
 use std::alloc::Global;
 use std::io::{Read, Write};
 
-/// The options of `explore`: print only texts that have this word; print a script for the text of this number instead
-/// of the texts; meet at most this number of states.
+/// What `explore` is asked for.
+#[derive(Clone, Copy)]
+pub enum ExploreRequest<'w> {
+    /// Print the texts.
+    Texts,
+    /// Decide a claim on the conditions of an expression. `Find` prints the texts that satisfy them; the other claims
+    /// print the verdict, or the first text that shows that they do not hold with a script for `play` that gives it.
+    Decide { claim: Claim, expression: &'w str },
+    /// Print the number of this text, if it is one of the texts.
+    Has(&'w [u8]),
+    /// Print a script for `play` that gives the text of this number.
+    Witness(usize),
+    /// Print such a script for each text.
+    Witnesses,
+}
+
+/// The options of `explore`: the request, and the largest number of states that the search may meet.
 #[derive(Clone, Copy)]
 pub struct ExploreOptions<'w> {
-    pub find: Option<&'w str>,
-    pub witness: Option<usize>,
+    pub request: ExploreRequest<'w>,
     pub states: usize,
-}
-
-// The output, and whether a text is wanted.
-#[derive(Drop)]
-struct ExploreOutput {
-    text: Vec<u8>,
-    is_any: bool,
-}
-
-// Returns the texts that are wanted.
-fn texts_made(
-    alloc: Global,
-    asked: &ExploreOptions,
-    all: &FoundTexts,
-) -> Result<ExploreOutput, TextsFault>
-    ensures text { IfOk result (λ made. made.text.items
-        ≡ told_of (word_asked asked.now) all.now.states (texts_of_orders all.now.texts.items)) }
-    ensures any { IfOk result (λ made. made.is_any
-        ≡ list_any (λ o. is_wanted (word_asked asked.now) o.text.items) all.now.texts.items) }
-{
-    let mut text = Vec::new(alloc);
-    push_found_texts(&mut text, asked.find, all.states, all.texts.as_slice())?;
-    let is_any = is_any_wanted(all.texts.as_slice(), asked.find);
-    Ok(ExploreOutput { text, is_any })
-}
-
-// Returns a script for `play` that gives the text of an order. It was played, and gave it.
-fn script_of(
-    alloc: Global,
-    source: &[u8],
-    script: &RunScript,
-    order: &FoundText,
-) -> Result<Vec<u8>, TextsFault>
-    requires { CanConfigure (contents_told script.now.head) }
-    ensures { IfOk result (λ text. GivesAnswers script.now.head.domains text.items order.now.text.items) }
-{
-    let Ok(source) = text_of(source) else {
-        return Err(TextsFault::Astray);
-    };
-    let mut text = Vec::new(alloc);
-    push_witness(alloc, &mut text, source, script, order.turns.as_slice())?;
-    let domains = script.head().domains();
-    if !gives_answers(alloc, domains, text.as_slice(), order.text.as_slice())? {
-        return Err(TextsFault::Astray);
-    }
-    Ok(text)
-}
-
-// Returns a script for `play` that gives the text of this number.
-fn witness_made(
-    alloc: Global,
-    source: &[u8],
-    script: &RunScript,
-    all: &FoundTexts,
-    number: usize,
-) -> Result<ExploreOutput, TextsFault>
-    requires { CanConfigure (contents_told script.now.head) }
-    ensures text { IfOk result (λ made.
-        IsWitness script.now.head.domains (texts_of_orders all.now.texts.items) number made.text.items) }
-    ensures any { IfOk result (λ made. made.is_any ≡ true) }
-{
-    let Some(at) = number.checked_sub(1) else {
-        return Err(TextsFault::Witness);
-    };
-    let Some(order) = all.texts.get(at) else {
-        return Err(TextsFault::Witness);
-    };
-    let text = script_of(alloc, source, script, order)?;
-    let is_any = true;
-    Ok(ExploreOutput { text, is_any })
-}
-
-// Returns the output for a script.
-fn make(
-    alloc: Global,
-    asked: &ExploreOptions,
-    source: &[u8],
-    script: &RunScript,
-) -> Result<ExploreOutput, TextsFault>
-    requires fits { CanConfigure (contents_told script.now.head) }
-    requires numbered { AreNumbered script.now.flags script.now.tasks }
-    ensures { IfOk result (λ made. IsMade (run_told script.now) asked.now made.text.items made.is_any) }
-{
-    let all = texts_of(alloc, script, asked.states)?;
-    match asked.witness {
-        Some(number) => witness_made(alloc, source, script, &all, number),
-        None => texts_made(alloc, asked, &all),
-    }
 }
 
 // Explores a script that was parsed.
@@ -128,15 +47,15 @@ fn explore_script<W: Write>(
     source: &[u8],
     script: &RunScript,
     writer: &mut W,
-) -> Result<bool, ExploreFault>
+) -> Result<Verdict, ExploreFault>
     requires fits { CanConfigure (contents_told script.now.head) }
     requires numbered { AreNumbered script.now.flags script.now.tasks }
     ensures { Explores (run_told script.now) asked.now (W.contents writer.old) (W.contents writer.new) result }
 {
-    match make(alloc, asked, source, script) {
+    match made_of(alloc, asked, source, script) {
         Err(fault) => Err(ExploreFault::Texts(fault)),
         Ok(made) => match write_text(writer, made.text.as_slice()) {
-            Ok(()) => Ok(made.is_any),
+            Ok(()) => Ok(made.verdict),
             Err(_) => Err(ExploreFault::Play(PlayFault::Write)),
         },
     }
@@ -148,7 +67,7 @@ fn explore_bytes<W: Write>(
     asked: &ExploreOptions,
     input: &[u8],
     writer: &mut W,
-) -> Result<bool, ExploreFault>
+) -> Result<Verdict, ExploreFault>
     ensures { (all : List ℕ) → input.now ≡ take READ_LIMIT all →
         Explored asked.now (RunTells all) (W.contents writer.old) (W.contents writer.new) result }
 {
@@ -158,20 +77,22 @@ fn explore_bytes<W: Write>(
     }
 }
 
-/// Writes the texts that the script of a reader may give, each under a line `text K of M`, in the order of their bytes,
-/// and at the end a line `states S`. Returns whether one is wanted. With a witness it writes a script for `play`
-/// instead. That script was played before, and each domain had the answers that it has in the text of this number.
+/// Answers a request on the texts that the script of a reader may give. Texts are printed under lines `text K of M`, in
+/// the order of their bytes, with a line `states S` at the end. A script for `play` that is printed was played before,
+/// and each domain had the answers that it has in its text.
+///
+/// The verdict on a request other than a claim is `Holds` if the search met all states, and otherwise `Undecided`. If
+/// it did not, the texts found until then are printed, and the last line has the words `not all texts`.
 ///
 /// # Errors
-/// The script's first fault; that its texts were not found, or no script for `play` that gives the wanted one; an
-/// allocation that failed; or a read or a write that failed. Only after a failed write was anything written: a prefix
-/// of the text.
+/// The script's first fault; a fault of the expression; that no script for `play` gives the wanted text; an allocation
+/// that failed; or a read or a write that failed. Only after a failed write was anything written: a prefix of the text.
 pub fn explore<R: Read, W: Write>(
     alloc: Global,
     asked: &ExploreOptions,
     reader: &mut R,
     writer: &mut W,
-) -> Result<bool, ExploreFault>
+) -> Result<Verdict, ExploreFault>
     ensures text { OfInput (R.remaining reader.old) (λ input.
         Explored asked.now (RunTells input) (W.contents writer.old) (W.contents writer.new) result) }
     ensures read { ConsumesAtMost READ_LIMIT (R.remaining reader.old) (R.remaining reader.new) }

@@ -1,6 +1,7 @@
 //! Faults of an exploration.
 use gt_explore_replay::ReplayFault;
 use gt_explore_search::SearchFault;
+use gt_explore_verdict::ExpressionFault;
 use gt_host::PlayFault;
 use gt_types::DomId;
 use std::alloc::{AllocError, AllocFailed};
@@ -21,8 +22,8 @@ pub enum TextsFault {
     Astray,
     /// No text has the number of the witness.
     Witness,
-    /// The witness ends with mappings, which no line of a script for `play` unmaps.
-    Ends,
+    /// The expression is none, or speaks of a line or a domain that the script does not have.
+    Expression(ExpressionFault),
 }
 
 impl fmt::Display for TextsFault {
@@ -38,7 +39,7 @@ impl fmt::Display for TextsFault {
             TextsFault::Keeps(dom) => write!(f, "domain {} keeps a mapping", dom.0),
             TextsFault::Astray => f.write_str("astray"),
             TextsFault::Witness => f.write_str("no such text"),
-            TextsFault::Ends => f.write_str("the text ends with mappings"),
+            TextsFault::Expression(fault) => write!(f, "{fault}"),
         }
     }
 }
@@ -54,6 +55,15 @@ impl From<AllocError> for TextsFault {
 impl<T: Drop> From<AllocFailed<T>> for TextsFault {
     fn from(_error: AllocFailed<T>) -> TextsFault {
         TextsFault::Memory
+    }
+}
+
+impl From<ExpressionFault> for TextsFault {
+    fn from(error: ExpressionFault) -> TextsFault {
+        match error {
+            ExpressionFault::Memory => TextsFault::Memory,
+            ExpressionFault::Term { .. } => TextsFault::Expression(error),
+        }
     }
 }
 

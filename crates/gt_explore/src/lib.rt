@@ -9,14 +9,17 @@
 //! were compared. That a text is possible depends on the core, and that none is missing on the search.
 #![tactic(auto)]
 
+mod answering;
 mod checked;
+mod conditions;
 mod exploring;
 mod fault;
+mod naming;
 mod telling;
 mod texts;
 mod witness;
 
-pub use exploring::{ExploreOptions, explore};
+pub use exploring::{ExploreOptions, ExploreRequest, explore};
 pub use fault::{ExploreFault, TextsFault};
-pub use texts::{FoundTexts, texts_of};
+pub use texts::{FoundTexts, texts_of, texts_within};
 pub use witness::push_witness;

@@ -1,101 +1,239 @@
-//! The output of `explore`: texts under their numbers.
-ghost use Rattle.std.specs.Prelude.{◌≡◌, ◌++◌, OnOk, IfOk};
-ghost use Rattle.std.specs.List.{list_any};
-ghost use Rattle.std.specs.Option.{option_map};
-ghost use Rattle.gt_explore.specs.Telling.{has_word, heading, is_between, is_wanted, text_shown, states_line};
-ghost use Rattle.gt_explore.specs.Telling.{texts_told};
+//! The output of `explore`: texts under their numbers, verdicts, and the comments over scripts.
+ghost use Rattle.std.specs.Prelude.{◌≡◌, ◌++◌, ◌<◌, [], codes, decimal, if◌then◌else◌, length, IfOk, IfSome, OnOk};
+ghost use Rattle.std.specs.List.{flat_map};
+ghost use Rattle.gt_explore.specs.Exploring.{number_told, verdict_line};
+ghost use Rattle.gt_explore.specs.Telling.{comment_byte, commented, counterexample_comment, counterexample_lines};
+ghost use Rattle.gt_explore.specs.Telling.{found_told, heading};
+ghost use Rattle.gt_explore.specs.Telling.{states_line, states_told, text_shown, texts_listed, texts_told};
+ghost use Rattle.gt_explore.specs.Telling.{witness_comment};
 ghost use Rattle.gt_explore.specs.Adding.{texts_of_orders};
 
+use crate::texts::FoundTexts;
 use gt_explore_search::FoundText;
-use gt_script_lines::is_word;
+use gt_explore_verdict::Verdict;
 use gt_text::{push_number, push_text};
-use std::alloc::AllocError;
+use std::alloc::{AllocError, Global};
 
-fn is_between(byte: u8) -> bool
-    ensures { result ≡ is_between byte }
+// Returns the words between the number of a text and that of all texts.
+fn of_count(whole: bool) -> &'static str
+    ensures { result.now ≡ (if whole then codes " of " else codes " of at least ") }
 {
-    byte == b' ' || byte == b'\n'
+    if whole { " of " } else { " of at least " }
 }
 
-// Returns whether a text has this word.
-fn has_word(text: &[u8], word: &str) -> bool
-    ensures { result ≡ has_word word.now text.now }
-{
-    text.split(|b| is_between(*b))
-        .any(|part| is_word(part, word))
-}
-
-// Returns whether a text is wanted.
-fn is_wanted(text: &[u8], find: Option<&str>) -> bool
-    ensures { result ≡ is_wanted (option_map (λ word. word.now) find.entry) text.now }
-{
-    match find {
-        Some(word) => has_word(text, word),
-        None => true,
-    }
-}
-
-// Appends the line over a text.
-fn push_heading(out: &mut Vec<u8>, number: usize, count: usize) -> Result<(), AllocError>
-    ensures { OnOk result (out.new.items ≡ out.old.items ++ heading number count) }
+// Appends the number of a text, and how many there are.
+fn push_heading(
+    out: &mut Vec<u8>,
+    whole: bool,
+    count: usize,
+    number: usize,
+) -> Result<(), AllocError>
+    ensures { OnOk result (out.new.items ≡ out.old.items ++ heading whole count number) }
 {
     push_text(out, "text ")?;
     push_number(out, number)?;
-    push_text(out, " of ")?;
-    push_number(out, count)?;
-    push_text(out, "\n")
+    push_text(out, of_count(whole))?;
+    push_number(out, count)
 }
 
 // Appends a text under its number, if it is wanted.
 fn push_shown(
     out: &mut Vec<u8>,
-    find: Option<&str>,
+    wanted: bool,
+    whole: bool,
     count: usize,
     number: usize,
     text: &[u8],
 ) -> Result<(), AllocError>
-    ensures { OnOk result (out.new.items
-        ≡ out.old.items ++ text_shown (option_map (λ word. word.now) find.entry) count number text.now) }
+    ensures { OnOk result (out.new.items ≡ out.old.items ++ text_shown wanted whole count number text.now) }
 {
-    if !is_wanted(text, find) {
+    if !wanted {
         return Ok(());
     }
-    push_heading(out, number, count)?;
+    push_heading(out, whole, count, number)?;
+    push_text(out, "\n")?;
     out.extend_from_slice(text)
 }
 
-// Appends the last line.
-fn push_states(out: &mut Vec<u8>, states: usize) -> Result<(), AllocError>
-    ensures { OnOk result (out.new.items ≡ out.old.items ++ states_line states) }
-{
-    push_text(out, "states ")?;
-    push_number(out, states)?;
-    push_text(out, "\n")
-}
-
-/// Returns whether one of these texts is wanted.
-pub fn is_any_wanted(texts: &[FoundText], find: Option<&str>) -> bool
-    ensures { result ≡ list_any (λ o. is_wanted (option_map (λ word. word.now) find.entry) o.text.items) texts.now }
-{
-    texts
-        .iter()
-        .any(|order| is_wanted(order.text.as_slice(), find))
-}
-
-/// Appends the whole output for these texts.
-pub fn push_found_texts(
+// Appends the wanted ones of these texts under their numbers.
+fn push_listed(
     out: &mut Vec<u8>,
-    find: Option<&str>,
-    states: usize,
+    whole: bool,
     texts: &[FoundText],
+    wanted: &[bool],
 ) -> Result<(), AllocError>
-    ensures { OnOk result (out.new.items ≡ out.old.items
-        ++ texts_told (option_map (λ word. word.now) find.entry) states (texts_of_orders texts.now)) }
+    requires { length wanted.now ≡ length texts.now }
+    ensures { OnOk result (out.new.items
+        ≡ out.old.items ++ texts_listed whole (length texts.now) 0 (texts_of_orders texts.now) wanted.now) }
 {
     let mut number = 0;
     'texts: for order in texts {
+        let wants = wanted[number];
         number += 1;
-        push_shown(out, find, texts.len(), number, order.text.as_slice())?;
+        push_shown(
+            out,
+            wants,
+            whole,
+            texts.len(),
+            number,
+            order.text.as_slice(),
+        )?;
     }
-    push_states(out, states)
+    Ok(())
+}
+
+// Appends that there may be more texts, if these are not all.
+fn push_limit(out: &mut Vec<u8>, found: &FoundTexts) -> Result<(), AllocError>
+    ensures { OnOk result (out.new.items ≡ out.old.items ++ (if found.now.whole then []
+        else codes ", depth " ++ decimal found.now.depth ++ codes ": not all texts; raise --states")) }
+{
+    if found.whole {
+        return Ok(());
+    }
+    push_text(out, ", depth ")?;
+    push_number(out, found.depth)?;
+    push_text(out, ": not all texts; raise --states")
+}
+
+// Appends the number of states, and that there may be more texts.
+fn push_states(out: &mut Vec<u8>, found: &FoundTexts) -> Result<(), AllocError>
+    ensures { OnOk result (out.new.items ≡ out.old.items ++ states_told (found_told found.now)) }
+{
+    push_text(out, "states ")?;
+    push_number(out, found.states)?;
+    push_limit(out, found)
+}
+
+// Appends the last line.
+fn push_states_line(out: &mut Vec<u8>, found: &FoundTexts) -> Result<(), AllocError>
+    ensures { OnOk result (out.new.items ≡ out.old.items ++ states_line (found_told found.now)) }
+{
+    push_states(out, found)?;
+    push_text(out, "\n")
+}
+
+/// Appends the whole output for the wanted ones of these texts.
+pub fn push_found_texts(
+    out: &mut Vec<u8>,
+    found: &FoundTexts,
+    wanted: &[bool],
+) -> Result<(), AllocError>
+    requires { length wanted.now ≡ length found.now.texts.items }
+    ensures { OnOk result (out.new.items ≡ out.old.items ++ texts_told (found_told found.now) wanted.now) }
+{
+    push_listed(out, found.whole, found.texts.as_slice(), wanted)?;
+    push_states_line(out, found)
+}
+
+// Returns the first line of a verdict that no text shows.
+fn verdict_line(verdict: Verdict) -> &'static str
+    ensures { result.now ≡ verdict_line verdict }
+{
+    match verdict {
+        Verdict::Holds => "holds\n",
+        Verdict::Fails => "does not hold\n",
+        Verdict::Undecided => "not decided\n",
+    }
+}
+
+/// Appends a verdict that no text shows.
+pub fn push_verdict(
+    out: &mut Vec<u8>,
+    found: &FoundTexts,
+    verdict: Verdict,
+) -> Result<(), AllocError>
+    ensures { OnOk result (out.new.items
+        ≡ out.old.items ++ (verdict_line verdict ++ states_line (found_told found.now))) }
+{
+    push_text(out, verdict_line(verdict))?;
+    push_states_line(out, found)
+}
+
+/// Appends the number of the text at this index, if there is one.
+pub fn push_place(
+    out: &mut Vec<u8>,
+    found: &FoundTexts,
+    place: Option<usize>,
+) -> Result<(), AllocError>
+    requires { IfSome place (λ at. at < length found.now.texts.items) }
+    ensures { OnOk result (out.new.items ≡ out.old.items ++ number_told (found_told found.now) place) }
+{
+    let count = found.texts.len();
+    if let Some(at) = place {
+        push_heading(out, found.whole, count, at + 1)?;
+        push_text(out, "\n")?;
+    }
+    push_states_line(out, found)
+}
+
+// Appends a byte of a comment.
+fn push_comment_byte(out: &mut Vec<u8>, byte: u8) -> Result<(), AllocError>
+    ensures { OnOk result (out.new.items ≡ out.old.items ++ comment_byte byte) }
+{
+    if byte == b'\n' {
+        push_text(out, "\n# ")
+    } else {
+        out.push(byte)?;
+        Ok(())
+    }
+}
+
+// Appends a text without its last line end as a comment of a script.
+fn push_commented(out: &mut Vec<u8>, text: &[u8]) -> Result<(), AllocError>
+    ensures { OnOk result (out.new.items ≡ out.old.items ++ commented text.now) }
+{
+    push_text(out, "# ")?;
+    'bytes: for byte in text {
+        push_comment_byte(out, *byte)?;
+    }
+    push_text(out, "\n")
+}
+
+// Returns the lines of the comment over a script that shows that a claim does not hold.
+fn counterexample_lines(
+    alloc: Global,
+    found: &FoundTexts,
+    number: usize,
+    text: &[u8],
+) -> Result<Vec<u8>, AllocError>
+    ensures { IfOk result (λ lines. lines.items
+        ≡ counterexample_lines (found_told found.now) number text.now) }
+{
+    let mut lines = Vec::new(alloc);
+    push_text(&mut lines, "does not hold: ")?;
+    push_heading(&mut lines, found.whole, found.texts.len(), number)?;
+    push_text(&mut lines, "\n")?;
+    lines.extend_from_slice(text)?;
+    push_states(&mut lines, found)?;
+    Ok(lines)
+}
+
+/// Appends the comment over a script that shows that a claim does not hold.
+pub fn push_counterexample(
+    alloc: Global,
+    out: &mut Vec<u8>,
+    found: &FoundTexts,
+    number: usize,
+    text: &[u8],
+) -> Result<(), AllocError>
+    ensures { OnOk result (out.new.items
+        ≡ out.old.items ++ counterexample_comment (found_told found.now) number text.now) }
+{
+    let lines = counterexample_lines(alloc, found, number, text)?;
+    push_commented(out, lines.as_slice())
+}
+
+/// Appends the comment over a script that gives the text of this number.
+pub fn push_witness_comment(
+    alloc: Global,
+    out: &mut Vec<u8>,
+    found: &FoundTexts,
+    number: usize,
+) -> Result<(), AllocError>
+    ensures { OnOk result (out.new.items
+        ≡ out.old.items ++ witness_comment (found_told found.now) number) }
+{
+    let mut block = Vec::new(alloc);
+    push_heading(&mut block, found.whole, found.texts.len(), number)?;
+    push_commented(out, block.as_slice())
 }

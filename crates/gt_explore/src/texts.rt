@@ -1,65 +1,55 @@
 //! The texts that a script may give.
-ghost use Rattle.std.specs.Prelude.{◌≡◌, ◌≢◌, ◌≤◌, ℕ, List, Some, false, length, slice_get, All};
-ghost use Rattle.std.specs.Prelude.{IfNone, IfOk, IfSome, IsTrue, OnOk};
+ghost use Rattle.std.specs.Prelude.{◌≡◌, ℕ, List, Some, slice_get, All, IfOk, IsTrue, OnOk};
+ghost use Rattle.std.specs.List.Sorted.{IsPermutation};
 ghost use Rattle.gt_script.specs.Contents.{contents_told};
 ghost use Rattle.gt_script.specs.RunContents.{run_told};
 ghost use Rattle.gt_script.specs.RunScripts.{CanConfigure};
 ghost use Rattle.gt_script.specs.Stuck.{AreNumbered};
 ghost use Rattle.gt_explore_replay.specs.Orders.{MayGive};
 ghost use Rattle.gt_explore_search.specs.declared.exploring.FoundText.{FoundText};
-ghost use Rattle.gt_explore.specs.Adding.{AddsOrder, AreDifferentTexts, IsTextAmong, IsApart, texts_of_orders};
+ghost use Rattle.gt_explore.specs.Adding.{AddsOrder, AreAscending, AreDifferentTexts, IsTextAmong, last_compared};
+ghost use Rattle.gt_explore.specs.Adding.{texts_of_orders};
 
 use crate::fault::TextsFault;
-use gt_explore_moves::search;
+use gt_explore_moves::search_within;
 use gt_explore_replay::text_of;
 use gt_explore_search::FoundText;
 use gt_script::RunScript;
 use std::alloc::{AllocError, Global};
+use std::cmp::Ordering;
 
-/// The texts that a script may give, each with turns that lead to it, in the order of their bytes, and the number of
-/// states that the search met.
+/// Texts that a script may give, each with turns that lead to it, in the order of their bytes, and the number of states
+/// that the search met. `whole`: these are all texts. If not, the search met more states than its limit, and `depth` is
+/// the number of states on the way to the last of them.
 #[derive(Drop)]
 pub struct FoundTexts {
     pub texts: Vec<FoundText>,
     pub states: usize,
+    pub whole: bool,
+    pub depth: usize,
 }
 
-// Returns whether the order has this text.
-fn is_text(order: &FoundText, text: &[u8]) -> bool
-    ensures same { IsTrue result → order.now.text.items ≡ text.now }
-    ensures other { (result ≡ false) → order.now.text.items ≢ text.now }
+// Compares the last of these texts with a text; before the first text there is nothing.
+fn last_compared(texts: &[FoundText], text: &[u8]) -> Ordering
+    ensures { result ≡ last_compared (texts_of_orders texts.now) text.now }
 {
-    order.text.as_slice() == text
-}
-
-// Returns the index at which a text belongs among these, in the order of their bytes, or None if it is there.
-fn place_of(texts: &[FoundText], text: &[u8]) -> Option<usize>
-    ensures place { IfSome result (λ at. at ≤ length texts.now) }
-    ensures apart { IfSome result (λ at. IsApart text.now (texts_of_orders texts.now)) }
-    ensures there { IfNone result (IsTextAmong text.now (texts_of_orders texts.now)) }
-{
-    let mut at = 0;
-    'texts: for other in texts {
-        if is_text(other, text) {
-            return None;
-        }
-        if other.text.as_slice() < text {
-            at += 1;
-        }
+    match texts.len().checked_sub(1) {
+        Some(at) => texts[at].text.as_slice().cmp(text),
+        None => Ordering::Less,
     }
-    Some(at)
 }
 
-// Inserts an order at the index of its text, if that text is not there.
-fn add(texts: &mut Vec<FoundText>, order: FoundText) -> Result<(), AllocError>
+// Adds an order whose text comes after all others, unless its text is the last.
+fn add(texts: &mut Vec<FoundText>, order: FoundText) -> Result<(), TextsFault>
     ensures { OnOk result (AddsOrder texts.old.items order texts.new.items) }
 {
-    match place_of(texts.as_slice(), order.text.as_slice()) {
-        Some(at) => {
-            texts.insert(at, order)?;
+    match last_compared(texts.as_slice(), order.text.as_slice()) {
+        Ordering::Less => {
+            texts.push(order)?;
             Ok(())
         }
-        None => Ok(()),
+        Ordering::Equal => Ok(()),
+        Ordering::Greater => Err(TextsFault::Astray),
     }
 }
 
@@ -72,13 +62,21 @@ fn replayed(alloc: Global, script: &RunScript, order: FoundText) -> Result<Found
     let Some(text) = text_of(alloc, script, order.turns.as_slice())? else {
         return Err(TextsFault::Astray);
     };
-    if !is_text(&order, text.as_slice()) {
+    if order.text.as_slice() != text.as_slice() {
         return Err(TextsFault::Astray);
     }
     Ok(order)
 }
 
-// Returns one order for each text that these orders have, in the order of their bytes.
+// Sorts orders by the bytes of their texts.
+fn in_order(mut orders: Vec<FoundText>) -> Result<Vec<FoundText>, AllocError>
+    ensures { IfOk result (λ sorted. IsPermutation orders.items sorted.items) }
+{
+    orders.sort_by(|one, other| one.text.as_slice().cmp(other.text.as_slice()))?;
+    Ok(orders)
+}
+
+// Returns one order for each text that these orders have. They are in the order of the bytes of their texts.
 fn distinct(
     alloc: Global,
     script: &RunScript,
@@ -88,13 +86,47 @@ fn distinct(
     ensures possible { IfOk result (λ texts. All (MayGive (run_told script.now)) (texts_of_orders texts.items)) }
     ensures whole { (at : ℕ) (o : FoundText) → slice_get orders.items at ≡ Some o →
         IfOk result (λ texts. IsTextAmong o.text.items (texts_of_orders texts.items)) }
-    ensures apart { IfOk result (λ texts. AreDifferentTexts (texts_of_orders texts.items)) }
+    ensures ascending { IfOk result (λ texts. AreAscending (texts_of_orders texts.items)) }
 {
     let mut texts = Vec::new(alloc);
     'orders: for order in orders {
         add(&mut texts, replayed(alloc, script, order)?)?;
     }
     Ok(texts)
+}
+
+/// Returns texts that a script may give, if the search meets at most `limit` states all of them, and otherwise those
+/// that it found until then. All of them presumes that the script's flags are numbered, as those of each parsed script
+/// are.
+///
+/// # Errors
+/// `Keeps` if a domain can't unmap what it has at its end, `Astray` if the search found an order that the core does not
+/// follow to its text, and `Memory`.
+pub fn texts_within(
+    alloc: Global,
+    script: &RunScript,
+    limit: usize,
+) -> Result<FoundTexts, TextsFault>
+    requires { CanConfigure (contents_told script.now.head) }
+    ensures possible { IfOk result (λ all. All (MayGive (run_told script.now)) (texts_of_orders all.texts.items)) }
+    ensures whole { (text : List ℕ) → AreNumbered script.now.flags script.now.tasks →
+        MayGive (run_told script.now) text →
+        IfOk result (λ all. IsTrue all.whole → IsTextAmong text (texts_of_orders all.texts.items)) }
+    ensures ascending { IfOk result (λ all. AreAscending (texts_of_orders all.texts.items)) }
+    ensures apart { IfOk result (λ all. AreDifferentTexts (texts_of_orders all.texts.items)) }
+{
+    let partial = search_within(alloc, script, limit)?;
+    let whole = partial.whole;
+    let depth = partial.depth;
+    let states = partial.found.states;
+    let orders = in_order(partial.found.orders)?;
+    let texts = distinct(alloc, script, orders)?;
+    Ok(FoundTexts {
+        texts,
+        states,
+        whole,
+        depth,
+    })
 }
 
 /// Returns the texts that a script may give, if the search meets at most `limit` states. These are all of them if the
@@ -110,8 +142,10 @@ pub fn texts_of(alloc: Global, script: &RunScript, limit: usize) -> Result<Found
         MayGive (run_told script.now) text → IfOk result (λ all. IsTextAmong text (texts_of_orders all.texts.items)) }
     ensures apart { IfOk result (λ all. AreDifferentTexts (texts_of_orders all.texts.items)) }
 {
-    let found = search(alloc, script, limit)?;
-    let states = found.states;
-    let texts = distinct(alloc, script, found.orders)?;
-    Ok(FoundTexts { texts, states })
+    let all = texts_within(alloc, script, limit)?;
+    if all.whole {
+        Ok(all)
+    } else {
+        Err(TextsFault::States)
+    }
 }

@@ -138,4 +138,4 @@ module _ (s : Setting) (h : History) (scene : SearchContext) (place : ℕ) (k : 
 
   -- so it is among the moves of the state
   pub move-listed : (actors : List Actor) (types : List (List ℕ)) (choice : ℕ) (x : Happening) (j : Course) → slice_get actors place ≡ Some a → CourseLeads types k choice x j → IsListed (turns_from scene 0 actors) place choice
-  move-listed actors types choice x j there leads = turn-listed scene actors place a choice there (course-moves types choice x j leads)
+  move-listed actors types choice x j there leads = turn-listed (choices_at scene) actors place a choice there (course-moves types choice x j leads)

@@ -1,5 +1,4 @@
 pub mod AnsweredAtOnce
-pub mod AtOnce
 pub mod Beginnings
 pub mod ByPlace
 pub mod CallBegins
@@ -25,9 +24,13 @@ pub mod OthersStay
 pub mod Placing
 pub mod Renaming
 pub mod SameStep
+pub mod SetsFound
 pub mod ShownBySame
 pub mod SpaceMoves
 pub mod StateComesOn
 pub mod StepOrEnd
+pub mod Touching
+pub mod Undisturbed
 pub mod Unlabelled
 pub mod Ways
+pub mod Within

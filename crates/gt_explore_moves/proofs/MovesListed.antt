@@ -7,7 +7,7 @@ use Rattle.std.proofs.lemmas.List.{append-nil, append_assoc, length-take-le, tak
 use Rattle.std.proofs.lemmas.List.FromFn.{map-range_with_len_more}
 use Rattle.std.proofs.lemmas.Option.{get_or_from_slice_get, slice_get_within}
 use Rattle.gt_explore_replay.specs.declared.replay.Turn.{Turn}
-use Rattle.gt_explore_moves.specs.Ends.{AreDone, choices, choices_at, is_done, turns_from}
+use Rattle.gt_explore_moves.specs.Ends.{AreDone, choices, is_done, turns_by}
 use Rattle.gt_explore_moves.specs.declared.actor.Actor.{Actor}
 use Rattle.gt_explore_moves.specs.declared.scene.SearchContext.{SearchContext}
 use Rattle.std.proofs.lemmas.List.{length-map}
@@ -25,26 +25,26 @@ pub choices-step : (place n : ℕ) (before old new : List Turn) → old ≡ befo
 choices-step place n before old new e f = f ∙ ap (λ (l : List Turn). l ++ record { place = place; choice = n } ∷ []) e
     ∙ append_assoc before (choices place n) (record { place = place; choice = n } ∷ []) ∙ ap (λ (l : List Turn). before ++ l) (choices-more place n)
 
-turns-more : (s : SearchContext) (n : ℕ) (actors : List Actor) (a : Actor) → turns_from s n (actors ++ a ∷ []) ≡ turns_from s n actors ++ choices (n + length actors) (choices_at s (n + length actors) a)
-turns-more s n [] a = append-nil (choices n (choices_at s n a)) ∙ ap (λ (m : ℕ). choices m (choices_at s m a)) (let e : n ≡ n + 0 = omega arith in e)
-turns-more s n (b ∷ more) a =
-    ap (λ (l : List Turn). choices n (choices_at s n b) ++ l) (turns-more s (suc n) more a)
-    ∙ sym (append_assoc (choices n (choices_at s n b)) (turns_from s (suc n) more) (choices (suc n + length more) (choices_at s (suc n + length more) a)))
-    ∙ ap (λ (m : ℕ). (choices n (choices_at s n b) ++ turns_from s (suc n) more) ++ choices m (choices_at s m a)) (let e : suc n + length more ≡ n + suc (length more) = omega arith in e)
+turns-more : (moves : ℕ → Actor → ℕ) (n : ℕ) (actors : List Actor) (a : Actor) → turns_by moves n (actors ++ a ∷ []) ≡ turns_by moves n actors ++ choices (n + length actors) (moves (n + length actors) a)
+turns-more moves n [] a = append-nil (choices n (moves n a)) ∙ ap (λ (m : ℕ). choices m (moves m a)) (let e : n ≡ n + 0 = omega arith in e)
+turns-more moves n (b ∷ more) a =
+    ap (λ (l : List Turn). choices n (moves n b) ++ l) (turns-more moves (suc n) more a)
+    ∙ sym (append_assoc (choices n (moves n b)) (turns_by moves (suc n) more) (choices (suc n + length more) (moves (suc n + length more) a)))
+    ∙ ap (λ (m : ℕ). (choices n (moves n b) ++ turns_by moves (suc n) more) ++ choices m (moves m a)) (let e : suc n + length more ≡ n + suc (length more) = omega arith in e)
 
 -- one domain more
-pub turns-step : (s : SearchContext) (actors : List Actor) (i : ℕ) (a : Actor) (count : ℕ) (old new : List Turn) → i < length actors → a ≡ get_or actors i a → old ≡ turns_from s 0 (take i actors) → new ≡ old ++ choices i count → count ≡ choices_at s i a
-    → new ≡ turns_from s 0 (take (i + 1) actors)
-turns-step s actors i a count old new lt is e f counts =
+pub turns-step : (moves : ℕ → Actor → ℕ) (actors : List Actor) (i : ℕ) (a : Actor) (count : ℕ) (old new : List Turn) → i < length actors → a ≡ get_or actors i a → old ≡ turns_by moves 0 (take i actors) → new ≡ old ++ choices i count → count ≡ moves i a
+    → new ≡ turns_by moves 0 (take (i + 1) actors)
+turns-step moves actors i a count old new lt is e f counts =
     let long : length (take i actors) ≡ i = length-take-le i actors (omega arith) in
-    f ∙ ap (λ (l : List Turn). l ++ choices i count) e ∙ ap (λ (m : ℕ). turns_from s 0 (take i actors) ++ choices i m) counts
-    ∙ ap (λ (m : ℕ). turns_from s 0 (take i actors) ++ choices m (choices_at s m a)) (let g : i ≡ 0 + length (take i actors) = omega arith in g)
-    ∙ sym (turns-more s 0 (take i actors) a)
-    ∙ ap (λ (z : Actor). turns_from s 0 (take i actors ++ z ∷ [])) is
-    ∙ ap (turns_from s 0) (sym (take_more actors i a lt))
+    f ∙ ap (λ (l : List Turn). l ++ choices i count) e ∙ ap (λ (m : ℕ). turns_by moves 0 (take i actors) ++ choices i m) counts
+    ∙ ap (λ (m : ℕ). turns_by moves 0 (take i actors) ++ choices m (moves m a)) (let g : i ≡ 0 + length (take i actors) = omega arith in g)
+    ∙ sym (turns-more moves 0 (take i actors) a)
+    ∙ ap (λ (z : Actor). turns_by moves 0 (take i actors ++ z ∷ [])) is
+    ∙ ap (turns_by moves 0) (sym (take_more actors i a lt))
 
-pub turns-all : (s : SearchContext) (actors : List Actor) (i : ℕ) (turns : List Turn) → length actors ≤ i → turns ≡ turns_from s 0 (take i actors) → turns ≡ turns_from s 0 actors
-turns-all s actors i turns le e = e ∙ ap (turns_from s 0) (take_all i actors le)
+pub turns-all : (moves : ℕ → Actor → ℕ) (actors : List Actor) (i : ℕ) (turns : List Turn) → length actors ≤ i → turns ≡ turns_by moves 0 (take i actors) → turns ≡ turns_by moves 0 actors
+turns-all moves actors i turns le e = e ∙ ap (turns_by moves 0) (take_all i actors le)
 
 -- so many first domains are done
 abbrev pub AreDoneTo : ℕ → SearchContext → List Actor → Type 0
@@ -95,20 +95,20 @@ in-back (y ∷ xs) ys i x e = let r = in-back xs ys i x e in (suc r.0, r.1)
 abbrev pub IsListed : List Turn → ℕ → ℕ → Type 0
 IsListed turns place choice = (n : ℕ) × (slice_get turns n ≡ Some (record { place = place; choice = choice }))
 
-turn-from : (s : SearchContext) (base at : ℕ) (actors : List Actor) (a : Actor) (choice : ℕ) → slice_get actors at ≡ Some a → choice < choices_at s (base + at) a → IsListed (turns_from s base actors) (base + at) choice
-turn-from s base at [] a choice there lt = absurd (none-some a there)
-turn-from s base zero (b ∷ more) a choice there lt =
+turn-from : (f : ℕ → Actor → ℕ) (base at : ℕ) (actors : List Actor) (a : Actor) (choice : ℕ) → slice_get actors at ≡ Some a → choice < f (base + at) a → IsListed (turns_by f base actors) (base + at) choice
+turn-from f base at [] a choice there lt = absurd (none-some a there)
+turn-from f base zero (b ∷ more) a choice there lt =
     let same : base + 0 ≡ base = omega arith in
-    let below : choice < choices_at s base b = subst (λ (z : Actor). choice < choices_at s base z) (sym (same_Some b a there)) (subst (λ (m : ℕ). choice < choices_at s m a) same lt) in
-    subst (λ (m : ℕ). IsListed (turns_from s base (b ∷ more)) m choice) (sym same)
-    (choice, in-front (choices base (choices_at s base b)) (turns_from s (suc base) more) choice (record { place = base; choice = choice }) (in-choices base (choices_at s base b) choice below))
-turn-from s base (suc at) (b ∷ more) a choice there lt =
+    let below : choice < f base b = subst (λ (z : Actor). choice < f base z) (sym (same_Some b a there)) (subst (λ (m : ℕ). choice < f m a) same lt) in
+    subst (λ (m : ℕ). IsListed (turns_by f base (b ∷ more)) m choice) (sym same)
+    (choice, in-front (choices base (f base b)) (turns_by f (suc base) more) choice (record { place = base; choice = choice }) (in-choices base (f base b) choice below))
+turn-from f base (suc at) (b ∷ more) a choice there lt =
     let same : suc base + at ≡ base + suc at = omega arith in
-    let r = turn-from s (suc base) at more a choice there (subst (λ (m : ℕ). choice < choices_at s m a) (sym same) lt) in
-    subst (λ (m : ℕ). IsListed (turns_from s base (b ∷ more)) m choice) same
-    (in-back (choices base (choices_at s base b)) (turns_from s (suc base) more) r.0 (record { place = suc base + at; choice = choice }) r.1)
+    let r = turn-from f (suc base) at more a choice there (subst (λ (m : ℕ). choice < f m a) (sym same) lt) in
+    subst (λ (m : ℕ). IsListed (turns_by f base (b ∷ more)) m choice) same
+    (in-back (choices base (f base b)) (turns_by f (suc base) more) r.0 (record { place = suc base + at; choice = choice }) r.1)
 
 -- each choice that a domain has is among the moves of the domains
-pub turn-listed : (s : SearchContext) (actors : List Actor) (at : ℕ) (a : Actor) (choice : ℕ) → slice_get actors at ≡ Some a → choice < choices_at s at a → IsListed (turns_from s 0 actors) at choice
-turn-listed s actors at a choice there lt = let same : 0 + at ≡ at = omega arith in
-    subst (λ (m : ℕ). IsListed (turns_from s 0 actors) m choice) same (turn-from s 0 at actors a choice there (subst (λ (m : ℕ). choice < choices_at s m a) (sym same) lt))
+pub turn-listed : (f : ℕ → Actor → ℕ) (actors : List Actor) (at : ℕ) (a : Actor) (choice : ℕ) → slice_get actors at ≡ Some a → choice < f at a → IsListed (turns_by f 0 actors) at choice
+turn-listed f actors at a choice there lt = let same : 0 + at ≡ at = omega arith in
+    subst (λ (m : ℕ). IsListed (turns_by f 0 actors) m choice) same (turn-from f 0 at actors a choice there (subst (λ (m : ℕ). choice < f m a) (sym same) lt))

@@ -1,14 +1,12 @@
 -- Which domains of a state are at the ends of their lists, and which moves the domains have.
 use Rattle.std.specs.Prelude.{◌≡◌, ◌++◌, ◌&&◌, ◌==◌, not, nat_le, Bool, if◌then◌else◌, ℕ, suc, List, [], ◌∷◌, length}
 use Rattle.std.specs.Prelude.{map}
-use Rattle.std.specs.Prelude.{◌⊎◌, is_some, true, false, Option, Some, None, slice_get, get_or}
+use Rattle.std.specs.Prelude.{is_some, true, false, Some, slice_get, get_or}
 use Rattle.std.specs.List.{range_with_len}
 use Rattle.gt_explore_replay.specs.declared.replay.Turn.{Turn}
-use Rattle.gt_script.specs.Lists.{RunTask, RunAction}
-use Rattle.gt_script.specs.declared.tasks.RunActionBy.TheVariants.{Await, Do, Tell}
+use Rattle.gt_script.specs.Lists.{RunTask}
 use Rattle.gt_explore_moves.specs.declared.actor.Actor.{Actor}
 use Rattle.gt_explore_moves.specs.declared.scene.SearchContext.{SearchContext}
-use Rattle.gt_explore_moves.specs.declared.scene.SearchState.{SearchState}
 
 -- the list of the domain at this position
 abbrev pub tasks_at : SearchContext → ℕ → List RunTask
@@ -34,32 +32,15 @@ choices place n = map (λ choice. record { place = place; choice = choice }) (ra
 abbrev pub choices_at : SearchContext → ℕ → Actor → ℕ
 choices_at s place a = if is_ended s place a then length a.mappings.items else 1
 
--- the moves of these domains, of which the first is at this position
+-- the moves of these domains, of which the first is at this position, if each has this number of them
+abbrev pub turns_by : (ℕ → Actor → ℕ) → ℕ → List Actor → List Turn
+turns_by count place [] = []
+turns_by count place (a ∷ more) = choices place (count place a) ++ turns_by count (suc place) more
+
+-- the moves of all of them
 abbrev pub turns_from : SearchContext → ℕ → List Actor → List Turn
-turns_from s place [] = []
-turns_from s place (a ∷ more) = choices place (choices_at s place a) ++ turns_from s (suc place) more
+turns_from s place actors = turns_by (choices_at s) place actors
 
--- with these flags raised, the line disturbs no other domain: it begins a call, raises a flag, or awaits a raised one
-abbrev pub disturbs_none : List Bool → RunAction → Bool
-disturbs_none told (Do call) = true
-disturbs_none told (Tell flag) = true
-disturbs_none told (Await flag) = get_or told flag false
-
--- the same of a task, if there is one
-abbrev pub task_disturbs_none : List Bool → Option RunTask → Bool
-task_disturbs_none told None = false
-task_disturbs_none told (Some t) = disturbs_none told t.deed
-
--- the domain at this position has no open call, and its next line disturbs no other domain
-abbrev pub goes_at_once : SearchContext → List Bool → ℕ → Actor → Bool
-goes_at_once s told place a = not (is_some a.«open») && task_disturbs_none told (slice_get (tasks_at s place) a.next)
-
--- the one turn is that of such a domain
-abbrev pub TakesAtOnce : SearchContext → SearchState → List Turn → Type 0
-TakesAtOnce s w turns =
-    (place : ℕ) × (a : Actor) × (slice_get w.actors.items place ≡ Some a)
-    × (goes_at_once s w.told.items place a ≡ true) × (turns ≡ record { place = place; choice = 0 } ∷ [])
-
--- the turns to try: that of a domain which disturbs no other, or all
-abbrev pub AreToBeTried : SearchContext → SearchState → List Turn → Type 0
-AreToBeTried s w turns = (turns ≡ turns_from s 0 w.actors.items) ⊎ TakesAtOnce s w turns
+-- the number of moves of a domain in a set: none of a domain outside
+abbrev pub choices_in : SearchContext → List Bool → ℕ → Actor → ℕ
+choices_in s inside place a = if get_or inside place false then choices_at s place a else 0

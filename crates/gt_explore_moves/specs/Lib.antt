@@ -11,3 +11,4 @@ pub mod Scenes
 pub mod Spaces
 pub mod Starting
 pub mod Ticking
+pub mod Touches

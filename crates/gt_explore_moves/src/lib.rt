@@ -18,12 +18,15 @@ mod calls;
 mod keys;
 mod moves;
 mod names;
+mod partial;
 mod phases;
 mod same;
 mod same_steps;
 mod scene;
 mod searching;
 mod space;
+mod touches;
 
-pub use gt_explore_search::{FoundText, SearchFault, SearchResult};
+pub use gt_explore_search::{FoundText, PartialResult, SearchFault, SearchResult};
+pub use partial::search_within;
 pub use searching::search;

@@ -10,6 +10,7 @@ ghost use Rattle.gt_explore_moves.specs.Mappings.{label_bytes};
 ghost use Rattle.gt_explore_moves.specs.Ticking.{bytes_by, label_given_by};
 ghost use Rattle.gt_types.specs.declared.DomId.{DomId};
 
+mod sets;
 mod turns;
 
 use crate::actor::{Actor, ActorCall};

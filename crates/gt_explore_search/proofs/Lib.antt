@@ -3,3 +3,4 @@ pub mod Gathering
 pub mod Growing
 pub mod Listing
 pub mod Trying
+pub mod Partial

@@ -11,6 +11,10 @@ use gt_explore_replay::Turn;
 use indexmap::IndexSet;
 use std::alloc::{AllocError, Global};
 
+mod partial;
+
+pub use partial::{PartialResult, search_within};
+
 /// A text that a run may give, and turns that led the search to it.
 #[derive(Drop)]
 pub struct FoundText {

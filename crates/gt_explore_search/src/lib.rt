@@ -16,6 +16,6 @@ mod spaces;
 mod states;
 mod suffixes;
 
-pub use exploring::{FoundText, SearchResult, search};
+pub use exploring::{FoundText, PartialResult, SearchResult, search, search_within};
 pub use fault::SearchFault;
 pub use spaces::{TransitionSystem, TurnResult};

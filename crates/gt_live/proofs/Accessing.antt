@@ -19,9 +19,9 @@ use Rattle.gt_entry.specs.declared.entry.Entry.TheVariants.{Invalid, Page, Sub, 
 use Rattle.gt_entry.specs.Entries.{frame_of}
 use Rattle.gt_entry.specs.Permits.{is_of_frame, permits}
 use Rattle.gt_words.specs.Conditions.{SeatOf}
-use Rattle.gt_word_table.specs.Rule.{Layout}
-use Rattle.gt_word_table.specs.History.{Moment}
-use Rattle.gt_word_table.specs.declared.view.View.{View}
+use Rattle.gt_word_history.specs.Rule.{Layout}
+use Rattle.gt_word_history.specs.History.{Moment}
+use Rattle.gt_word_history.specs.declared.view.View.{View}
 use Rattle.gt_access.specs.Routes.{IsPinnedFor, ServesAccess}
 use Rattle.gt_calls.specs.declared.action.Observation.TheVariants.{Nothing}
 use Rattle.gt_calls.specs.declared.action.Step.{Step}

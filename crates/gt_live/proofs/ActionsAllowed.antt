@@ -21,15 +21,15 @@ use Rattle.gt_entry.specs.Spelling.{IsSpelled, idle_word_of, first_body, second_
 use Rattle.gt_entry.specs.Words.{control_of, kind_of, size_of}
 use Rattle.gt_words.specs.Conditions.{CanTurn, HasDomain, Holds, IsIdleOf, IsWordOf}
 use Rattle.gt_words.specs.Answers.{Changes, Pins}
-use Rattle.gt_word_table.specs.Controls.{generation_of, pins_in}
-use Rattle.gt_word_table.specs.Rule.{IsKeptHeader, Layout, id_at, position_in}
-use Rattle.gt_word_table.specs.Views.{HasBody, is_pin, pins_like, IsAmong, LivePin, Seen as Looks, last_of, last_seen}
-use Rattle.gt_word_table.specs.Views.{own_body}
-use Rattle.gt_word_table.specs.Views.{live_pins, record_seen, seen, seen_or_none, steps_on}
+use Rattle.gt_word_history.specs.Controls.{generation_of, pins_in}
+use Rattle.gt_word_history.specs.Rule.{IsKeptHeader, Layout, id_at, position_in}
+use Rattle.gt_word_history.specs.Views.{HasBody, is_pin, pins_like, IsAmong, LivePin, Seen as Looks, last_of, last_seen}
+use Rattle.gt_word_history.specs.Views.{own_body}
+use Rattle.gt_word_history.specs.Views.{live_pins, record_seen, seen, seen_or_none, steps_on}
 use Rattle.gt_entry.specs.declared.change.BodyWord.TheVariants.{First as FirstHalf, Second as SecondHalf}
-use Rattle.gt_word_table.specs.declared.view.EntryRecord.{EntryRecord}
-use Rattle.gt_word_table.specs.History.{Moment}
-use Rattle.gt_word_table.specs.declared.view.View.{View}
+use Rattle.gt_word_history.specs.declared.view.EntryRecord.{EntryRecord}
+use Rattle.gt_word_history.specs.History.{Moment}
+use Rattle.gt_word_history.specs.declared.view.View.{View}
 use Rattle.gt_handles.specs.declared.handles.Handle.{Handle}
 use Rattle.gt_calls.specs.declared.action.Action.TheVariants.{Step as Makes}
 use Rattle.gt_entry.specs.declared.change.EntryChange.{EntryChange}

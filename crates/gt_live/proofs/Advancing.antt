@@ -9,16 +9,16 @@ use Rattle.gt_types.specs.declared.denial.Facts.TheVariants as facts
 use Rattle.gt_entry.specs.declared.change.EntryChange.{EntryChange}
 use Rattle.gt_entry.specs.declared.change.EntryChange.TheVariants.{Publish, Revoke, Withdraw, Demote, Promote}
 use Rattle.gt_entry.specs.Words.{unit_of}
-use Rattle.gt_word_table.specs.Views.{last_of}
+use Rattle.gt_word_history.specs.Views.{last_of}
 use Rattle.gt_words.specs.Conditions.{IsNotEarlier, SeesNoEarlier}
-use Rattle.gt_word_table.specs.Rule.{Layout, position_in}
-use Rattle.gt_word_table.specs.Steps.{changed_word, on_entry, on_header}
-use Rattle.gt_word_table.specs.declared.view.EntryStep.{EntryStep}
-use Rattle.gt_word_table.specs.declared.view.EntryStep.TheVariants.{ChangeMissed, Looked, PinMissed}
-use Rattle.gt_word_table.specs.declared.view.HeaderStep.TheVariants as header
-use Rattle.gt_word_table.specs.History.{Moment}
-use Rattle.gt_word_table.specs.declared.view.SeatStep.{SeatStep}
-use Rattle.gt_word_table.specs.declared.view.View.{View}
+use Rattle.gt_word_history.specs.Rule.{Layout, position_in}
+use Rattle.gt_word_history.specs.Steps.{changed_word, on_entry, on_header}
+use Rattle.gt_word_history.specs.declared.view.EntryStep.{EntryStep}
+use Rattle.gt_word_history.specs.declared.view.EntryStep.TheVariants.{ChangeMissed, Looked, PinMissed}
+use Rattle.gt_word_history.specs.declared.view.HeaderStep.TheVariants as header
+use Rattle.gt_word_history.specs.History.{Moment}
+use Rattle.gt_word_history.specs.declared.view.SeatStep.{SeatStep}
+use Rattle.gt_word_history.specs.declared.view.View.{View}
 use Rattle.gt_calls.specs.declared.action.Action.{Action}
 use Rattle.gt_calls.specs.declared.action.Action.TheVariants.{Step as Makes, Done}
 use Rattle.gt_calls.specs.declared.action.Observation.{Observation}

@@ -8,8 +8,8 @@ use Rattle.gt_entry.specs.declared.change.EntryChange.{EntryChange}
 use Rattle.gt_entry.specs.declared.change.EntryChange.TheVariants.{Publish, Revoke, Withdraw, Demote, Promote}
 use Rattle.gt_entry.specs.declared.entry.Entry.{Entry}
 use Rattle.gt_entry.specs.declared.header.Header.{Header}
-use Rattle.gt_word_table.specs.Rule.{Layout}
-use Rattle.gt_word_table.specs.declared.view.View.{View}
+use Rattle.gt_word_history.specs.Rule.{Layout}
+use Rattle.gt_word_history.specs.declared.view.View.{View}
 use Rattle.gt_calls.specs.Asking.{JudgesBytes, asked, begun_of, bytes_begun, entry_spelled}
 use Rattle.gt_calls.specs.Path.{after_beginning, idle_word, path, path_of, steps_of}
 use Rattle.gt_calls.specs.Rules.{CallerKnowledge, begun, control_with, grant_begun, query_begun}

@@ -14,9 +14,9 @@ use Rattle.gt_entry.specs.declared.entry.Entry.TheVariants.{Invalid, Page, Sub, 
 use Rattle.gt_handles.specs.Handles.{HandleMap, IsEmpty, under}
 use Rattle.gt_handles.specs.declared.handles.HandleSlot.{HandleSlot}
 use Rattle.gt_words.specs.Conditions.{IsWordOf}
-use Rattle.gt_word_table.specs.History.{Moment}
-use Rattle.gt_word_table.specs.Rule.{Layout}
-use Rattle.gt_word_table.specs.declared.view.View.{View}
+use Rattle.gt_word_history.specs.History.{Moment}
+use Rattle.gt_word_history.specs.Rule.{Layout}
+use Rattle.gt_word_history.specs.declared.view.View.{View}
 use Rattle.gt_calls.specs.Path.{Continuation}
 use Rattle.gt_calls.specs.Rules.{entry_in, row_entry}
 use Rattle.gt_calls.specs.declared.action.Observation.TheVariants.{Word}

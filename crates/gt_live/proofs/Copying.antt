@@ -28,15 +28,15 @@ use Rattle.gt_entry.specs.Permits.{forwards, permits}
 use Rattle.gt_entry.specs.Spelling.{entry_of, entry_with}
 use Rattle.gt_entry.specs.Words.{control_of, header_of, is_kind, kind_of, size_of}
 use Rattle.gt_words.specs.Conditions.{CanPin, HasDomain, MayPin}
-use Rattle.gt_word_table.specs.Controls.{ForwardsPin, LeadsTo, PermitsPin, generation_of, pins_in}
+use Rattle.gt_word_history.specs.Controls.{ForwardsPin, LeadsTo, PermitsPin, generation_of, pins_in}
 use Rattle.gt_words.specs.Keeping.{SeesNoEarlier}
 use Rattle.gt_words.specs.Laws.{domain_at}
-use Rattle.gt_word_table.specs.Rule.{Layout, id_at, position_in}
-use Rattle.gt_word_table.specs.Views.{HasBody, Seen as Looks, last_seen, record_seen, seen, seen_or_none, steps_on}
-use Rattle.gt_word_table.specs.Views.{value_or_zero, with_body}
-use Rattle.gt_word_table.specs.declared.view.EntryRecord.{EntryRecord}
-use Rattle.gt_word_table.specs.History.{Moment}
-use Rattle.gt_word_table.specs.declared.view.View.{View}
+use Rattle.gt_word_history.specs.Rule.{Layout, id_at, position_in}
+use Rattle.gt_word_history.specs.Views.{HasBody, Seen as Looks, last_seen, record_seen, seen, seen_or_none, steps_on}
+use Rattle.gt_word_history.specs.Views.{value_or_zero, with_body}
+use Rattle.gt_word_history.specs.declared.view.EntryRecord.{EntryRecord}
+use Rattle.gt_word_history.specs.History.{Moment}
+use Rattle.gt_word_history.specs.declared.view.View.{View}
 use Rattle.gt_calls.specs.declared.action.Action.TheVariants.{Step as Makes}
 use Rattle.gt_types.specs.declared.places.Spot.{Spot}
 use Rattle.gt_calls.specs.declared.action.Observation.{Observation}

@@ -12,15 +12,15 @@ use Rattle.gt_types.specs.declared.config.Config.{Config}
 use Rattle.gt_types.specs.declared.config.DomainConfig.{DomainConfig}
 use Rattle.gt_entry.specs.declared.change.EntryChange.{EntryChange}
 use Rattle.gt_entry.specs.Changes.{changed_entry, raise_of}
-use Rattle.gt_word_table.specs.Controls.{generation_of}
+use Rattle.gt_word_history.specs.Controls.{generation_of}
 use Rattle.gt_words.specs.Conditions.{Board, IsSameSeat, IsSeatOf, SeatOf}
 use Rattle.gt_words.specs.Answers.{Unpins}
 use Rattle.gt_words.specs.Keeping.{Holds, KeepsPins, held}
-use Rattle.gt_word_table.specs.Steps.{changed as becomes}
-use Rattle.gt_word_table.specs.Rule.{Layout, id_at, position_in}
-use Rattle.gt_word_table.specs.Views.{IsAmong, LivePin, is_pin, is_same_dir, last_of, live_pins, pins_like, steps_on}
-use Rattle.gt_word_table.specs.declared.view.EntryRecord.{EntryRecord}
-use Rattle.gt_word_table.specs.declared.view.View.{View}
+use Rattle.gt_word_history.specs.Steps.{changed as becomes}
+use Rattle.gt_word_history.specs.Rule.{Layout, id_at, position_in}
+use Rattle.gt_word_history.specs.Views.{IsAmong, LivePin, is_pin, is_same_dir, last_of, live_pins, pins_like, steps_on}
+use Rattle.gt_word_history.specs.declared.view.EntryRecord.{EntryRecord}
+use Rattle.gt_word_history.specs.declared.view.View.{View}
 use Rattle.gt_handles.specs.declared.handles.Handle.{Handle}
 use Rattle.gt_handles.specs.declared.handles.HandleSlot.{HandleSlot}
 use Rattle.gt_handles.specs.Handles.{HandleMap, count_of, same_handle, under, value_of}

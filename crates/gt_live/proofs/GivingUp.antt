@@ -27,17 +27,17 @@ use Rattle.gt_entry.specs.Bytes.{first_refused}
 use Rattle.gt_entry.specs.Spelling.{entry_of}
 use Rattle.gt_entry.specs.Words.{control_of, header_of, is_kind, pins_of, size_of}
 use Rattle.gt_types.specs.declared.limits.TheConstants.{LAST_GENERATION}
-use Rattle.gt_word_table.specs.History.{StepHistory, Moment}
-use Rattle.gt_word_table.specs.Rule.{Layout, position_in}
-use Rattle.gt_word_table.specs.Steps.{on_entry, on_header}
-use Rattle.gt_word_table.specs.Views.{with_step}
-use Rattle.gt_word_table.specs.declared.view.EntryRecord.{EntryRecord}
-use Rattle.gt_word_table.specs.declared.view.EntryStep.{EntryStep}
-use Rattle.gt_word_table.specs.declared.view.EntryStep.TheVariants.{ChangeMissed, Changed, Looked, PinMissed, Pinned}
-use Rattle.gt_word_table.specs.declared.view.EntryStep.TheVariants.{ReadBody, Unpinned}
-use Rattle.gt_word_table.specs.declared.view.HeaderStep.TheVariants as header
-use Rattle.gt_word_table.specs.declared.view.SeatStep.{SeatStep}
-use Rattle.gt_word_table.specs.declared.view.View.{View}
+use Rattle.gt_word_history.specs.History.{StepHistory, Moment}
+use Rattle.gt_word_history.specs.Rule.{Layout, position_in}
+use Rattle.gt_word_history.specs.Steps.{on_entry, on_header}
+use Rattle.gt_word_history.specs.Views.{with_step}
+use Rattle.gt_word_history.specs.declared.view.EntryRecord.{EntryRecord}
+use Rattle.gt_word_history.specs.declared.view.EntryStep.{EntryStep}
+use Rattle.gt_word_history.specs.declared.view.EntryStep.TheVariants.{ChangeMissed, Changed, Looked, PinMissed, Pinned}
+use Rattle.gt_word_history.specs.declared.view.EntryStep.TheVariants.{ReadBody, Unpinned}
+use Rattle.gt_word_history.specs.declared.view.HeaderStep.TheVariants as header
+use Rattle.gt_word_history.specs.declared.view.SeatStep.{SeatStep}
+use Rattle.gt_word_history.specs.declared.view.View.{View}
 use Rattle.gt_calls.specs.declared.action.Action.{Action}
 use Rattle.gt_calls.specs.declared.action.Action.TheVariants.{Done, Step as Makes}
 use Rattle.gt_calls.specs.declared.action.Observation.{Observation}

@@ -3,12 +3,12 @@ use Rattle.std.proofs.Common.{◌≡◌, ℕ, refl, sym, ap, ◌∙◌, subst, L
 use Rattle.std.specs.Prelude.{is_some}
 use Rattle.gt_types.specs.declared.config.Config.{Config}
 use Rattle.gt_entry.specs.declared.header.Header.{Header}
-use Rattle.gt_types.specs.Config.{IsWithinLimits}
+use Rattle.gt_roster.specs.Frameless.{IsRunnable}
 use Rattle.gt_words.specs.Conditions.{Board, HasDomain}
 use Rattle.gt_words.specs.Laws.{domain_of_run, seat_at}
-use Rattle.gt_word_table.specs.Rule.{IsKeptHeader, Layout, layout_of}
-use Rattle.gt_word_table.specs.Views.{own_table}
-use Rattle.gt_word_table.specs.declared.view.View.{View}
+use Rattle.gt_word_history.specs.Rule.{IsKeptHeader, Layout, layout_of}
+use Rattle.gt_word_history.specs.Views.{own_table}
+use Rattle.gt_word_history.specs.declared.view.View.{View}
 use Rattle.gt_handles.specs.declared.handles.Handle.{Handle}
 use Rattle.gt_handles.specs.Handles.{HandleMap}
 use Rattle.gt_handles.specs.Listing.{IsInserted}
@@ -37,11 +37,11 @@ same-knowledge c may d own h e f =
     ap (λ (os : List OwnerEntry). knowledge_of c.domains.items c.first_gen may os h d.mappings) e ∙ ap (λ (x : Header). knowledge_of c.domains.items c.first_gen may d.own.items x d.mappings) f
 
 -- a domain knows its own
-pub knows-own : (b : Board) (c : Config) (may : AllowRelation) (d : Domain) → IsWithinLimits c → b.layout ≡ layout_of c → IsDomainOf b c may d → IsKeptHeader (own_table d.seat.view) → Knows (knowledge c may d) b.layout d.seat.dom d.seat.view
+pub knows-own : (b : Board) (c : Config) (may : AllowRelation) (d : Domain) → IsRunnable c → b.layout ≡ layout_of c → IsDomainOf b c may d → IsKeptHeader (own_table d.seat.view) → Knows (knowledge c may d) b.layout d.seat.dom d.seat.view
 knows-own b c may d limits run is kept = record {
   named = is.seat.named;
   inside = is.seat.inside;
-  stands = seat_at c b d.seat limits run is.seat;
+  stands = seat_at c b d.seat limits.distinct run is.seat;
   run = λ dm x e. subst (λ (k : Layout). HasDomain k dm) (sym run) ((domain_of_run c dm).0 (ap is_some e));
   header = kept;
   rows = is.rows;

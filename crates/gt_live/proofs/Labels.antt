@@ -3,13 +3,13 @@ use Rattle.std.proofs.Common.{◌≡◌, ◌≢◌, ◌∙◌, ◌<◌, ℕ, zer
 use Rattle.std.proofs.Common.{Some, sym, ap, subst, arith}
 use Rattle.std.proofs.lemmas.Bool.{eq-eqb, ne_eqb}
 use Rattle.gt_types.specs.Names.{domain_of}
-use Rattle.gt_types.specs.Config.{IsWithinLimits}
+use Rattle.gt_roster.specs.Frameless.{IsRunnable}
 use Rattle.gt_types.specs.declared.DomId.{DomId}
 use Rattle.gt_types.specs.declared.config.Config.{Config}
 use Rattle.gt_types.specs.declared.config.DomainConfig.{DomainConfig}
 use Rattle.gt_words.specs.Conditions.{Board, IsSeatOf, SeatOf}
 use Rattle.gt_words.specs.Laws.{id_at-map, length-ids}
-use Rattle.gt_word_table.specs.Rule.{Layout, id_at, layout_of}
+use Rattle.gt_word_history.specs.Rule.{Layout, id_at, layout_of}
 use Rattle.gt_calls.specs.Rules.{label_in, label_of}
 
 -- a domain is found at its place, if its number is at no earlier one
@@ -32,7 +32,7 @@ within b c s run seat =
     subst (λ (n : ℕ). s.view.position < n) (length-ids c.domains.items) inside
 
 -- the label that stands there is its domain's
-pub label-there : (b : Board) (c : Config) (s : SeatOf) (e : DomainConfig) → IsWithinLimits c
+pub label-there : (b : Board) (c : Config) (s : SeatOf) (e : DomainConfig) → IsRunnable c
     → b.layout ≡ layout_of c → IsSeatOf b s
     → (get_or c.domains.items s.view.position e).label ≡ label_of c.domains.items s.dom
 label-there b c s e limits run seat =

@@ -10,8 +10,8 @@ use Rattle.gt_types.specs.Denial.{denial_of}
 use Rattle.gt_entry.specs.Words.{control_of, header_of, is_kind, size_of}
 use Rattle.gt_entry.specs.declared.control.EntryKind.{EntryKind}
 use Rattle.gt_entry.specs.declared.control.EntryKind.TheVariants.{Invalid, Page, Sub, Via}
-use Rattle.gt_word_table.specs.Rule.{Layout}
-use Rattle.gt_word_table.specs.declared.view.View.{View}
+use Rattle.gt_word_history.specs.Rule.{Layout}
+use Rattle.gt_word_history.specs.declared.view.View.{View}
 use Rattle.gt_calls.specs.Legs.{after_header, on_control_word, after_miss, after_relook, after_words, leg_after, leg_step}
 use Rattle.gt_calls.specs.Path.{entry_refusal, held_of, rule_of_try}
 use Rattle.gt_calls.specs.Rules.{first_look}

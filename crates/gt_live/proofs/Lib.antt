@@ -32,3 +32,4 @@ pub mod GivingBack
 pub mod Reaching
 mod Numbers
 pub mod Closing
+mod OneFrame

@@ -4,13 +4,13 @@ use Rattle.std.proofs.lemmas.Bool.{cases_eq}
 use Rattle.gt_entry.specs.declared.change.BodyWord.{BodyWord}
 use Rattle.gt_words.specs.Conditions.{Board, IsSameSeat, IsSeatOf, Keeps, SeatOf}
 use Rattle.gt_words.specs.Answers.{StoresBody}
-use Rattle.gt_word_table.specs.Rule.{Layout, id_at}
-use Rattle.gt_word_table.specs.Views.{last_of, with_step}
-use Rattle.gt_word_table.specs.Events.{TookPlace}
-use Rattle.gt_word_table.specs.History.{StepHistory, Moment, SaysWord, part_of, word_place_of}
-use Rattle.gt_word_table.specs.Steps.{TakesStep}
-use Rattle.gt_word_table.specs.declared.view.SeatStep.{SeatStep}
-use Rattle.gt_word_table.specs.declared.view.View.{View}
+use Rattle.gt_word_history.specs.Rule.{Layout, id_at}
+use Rattle.gt_word_history.specs.Views.{last_of, with_step}
+use Rattle.gt_word_history.specs.Events.{TookPlace}
+use Rattle.gt_word_history.specs.History.{StepHistory, Moment, SaysWord, part_of, word_place_of}
+use Rattle.gt_word_history.specs.Steps.{TakesStep}
+use Rattle.gt_word_history.specs.declared.view.SeatStep.{SeatStep}
+use Rattle.gt_word_history.specs.declared.view.View.{View}
 use Rattle.gt_entry.specs.declared.change.EntryChange.TheVariants.{Publish, Revoke, Withdraw, Demote, Promote}
 use Rattle.gt_calls.specs.declared.action.Observation.{Observation}
 use Rattle.gt_calls.specs.declared.action.Observation.TheVariants.{Nothing, Word, Taken, Missed}

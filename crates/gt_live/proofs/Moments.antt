@@ -1,12 +1,12 @@
 -- Each step of a call was taken at its moment, and none of them is an access to bytes.
 use Rattle.std.proofs.Common.{◌≡◌, ◌⊎◌, inl, inr, ⊎_elim, ℕ, refl, sym, ap, ◌∙◌, subst, List, [], ◌∷◌, ◌++◌, Option}
 use Rattle.std.proofs.Common.{Some, None, append_assoc}
-use Rattle.gt_word_table.specs.Events.{TookPlace}
-use Rattle.gt_word_table.specs.History.{StepHistory, Moment, part_of}
-use Rattle.gt_word_table.specs.Rule.{Layout}
-use Rattle.gt_word_table.specs.Views.{with_step}
-use Rattle.gt_word_table.specs.declared.view.SeatStep.{SeatStep}
-use Rattle.gt_word_table.specs.declared.view.View.{View}
+use Rattle.gt_word_history.specs.Events.{TookPlace}
+use Rattle.gt_word_history.specs.History.{StepHistory, Moment, part_of}
+use Rattle.gt_word_history.specs.Rule.{Layout}
+use Rattle.gt_word_history.specs.Views.{with_step}
+use Rattle.gt_word_history.specs.declared.view.SeatStep.{SeatStep}
+use Rattle.gt_word_history.specs.declared.view.View.{View}
 use Rattle.gt_handles.specs.Handles.{HandleMap}
 use Rattle.gt_handles.specs.declared.handles.Handle.{Handle}
 use Rattle.gt_calls.specs.declared.action.Action.{Action}

@@ -4,14 +4,14 @@ use Rattle.std.proofs.Common.{arith}
 use Rattle.std.specs.List.{count_by}
 use Rattle.std.specs.Prelude.{replicate, slice_get}
 use Rattle.gt_types.specs.declared.limits.TheConstants.{TABLE_ENTRIES}
-use Rattle.gt_types.specs.Config.{IsWithinLimits}
+use Rattle.gt_roster.specs.Frameless.{IsRunnable}
 use Rattle.gt_types.specs.declared.config.Config.{Config}
 use Rattle.gt_entry.specs.declared.entry.Entry.TheVariants.{Invalid}
 use Rattle.gt_words.specs.Conditions.{Board}
 use Rattle.gt_words.specs.Answers.{IsNewSeat}
-use Rattle.gt_word_table.specs.Rule.{Layout, layout_of}
-use Rattle.gt_word_table.specs.Views.{LivePin, pins_like, entry_steps, invalid_at, last_record, live_pins}
-use Rattle.gt_word_table.specs.declared.view.SeatStep.{SeatStep}
+use Rattle.gt_word_history.specs.Rule.{Layout, layout_of}
+use Rattle.gt_word_history.specs.Views.{LivePin, pins_like, entry_steps, invalid_at, last_record, live_pins}
+use Rattle.gt_word_history.specs.declared.view.SeatStep.{SeatStep}
 use Rattle.gt_handles.specs.Handles.{HandleMap, under, value_of}
 use Rattle.gt_handles.specs.Listing.{has_passing}
 use Rattle.gt_handles.specs.declared.handles.Handle.{Handle}
@@ -45,7 +45,7 @@ rows-length first = same-length TABLE_ENTRIES (record { entry = Invalid; generat
 nothing-there : (s : HandleMap HeldPin) (h : Handle) (m : HeldPin) → s.slots ≡ [] → value_of s h ≡ Some m → ⊥
 nothing-there s h m e there = let none : value_of s h ≡ None = ap (λ (xs : List (Option (HandleSlot HeldPin))). under h.serial (get_or xs h.key None)) e in cc
 
-pub new-domain : (b : Board) (c : Config) (may : AllowRelation) (i : ℕ) (d : Domain) → IsWithinLimits c → b.layout ≡ layout_of c → IsNewSeat b i d.seat → d.own.items ≡ first_rows c.first_gen → d.mappings ≡ record { slots = []; given = 0; room = 0 } → d.trail ≡ silent → d.visits ≡ [] → IsNewDomain b c may i d
+pub new-domain : (b : Board) (c : Config) (may : AllowRelation) (i : ℕ) (d : Domain) → IsRunnable c → b.layout ≡ layout_of c → IsNewSeat b i d.seat → d.own.items ≡ first_rows c.first_gen → d.mappings ≡ record { slots = []; given = 0; room = 0 } → d.trail ≡ silent → d.visits ≡ [] → IsNewDomain b c may i d
 new-domain b c may i d limits run new own mappings trail visits =
     let v = d.seat.view in
     let first : v.first ≡ c.first_gen = new.first ∙ ap (λ (k : Layout). k.first) run in

@@ -13,8 +13,8 @@ use Rattle.gt_entry.specs.declared.entry.Entry.TheVariants.{Invalid, Page, Sub, 
 use Rattle.gt_entry.specs.declared.change.BodyWord.TheVariants.{First, Second}
 use Rattle.gt_entry.specs.declared.change.EntryChange.{EntryChange}
 use Rattle.gt_entry.specs.declared.change.EntryChange.TheVariants.{Publish, Revoke, Withdraw, Demote, Promote}
-use Rattle.gt_word_table.specs.Rule.{Layout}
-use Rattle.gt_word_table.specs.declared.view.View.{View}
+use Rattle.gt_word_history.specs.Rule.{Layout}
+use Rattle.gt_word_history.specs.declared.view.View.{View}
 use Rattle.gt_calls.specs.Machine.{action_at, after_own_miss, after_store, publishing, refused_as}
 use Rattle.gt_calls.specs.Path.{entry_refusal, idle_word, is_stopped, path}
 use Rattle.gt_calls.specs.Rules.{CallerKnowledge, begun}

@@ -19,7 +19,7 @@ use Rattle.gt_entry.specs.Entries.{frame_of}
 use Rattle.gt_entry.specs.Words.{control_of, control_word, is_kind, kind_of, pins_of}
 use Rattle.gt_entry.specs.Spelling.{control_with, idle_word_of, entry_of, entry_with}
 use Rattle.gt_entry.specs.Permits.{is_copying, permits}
-use Rattle.gt_word_table.specs.Controls.{pins_in}
+use Rattle.gt_word_history.specs.Controls.{pins_in}
 use Rattle.gt_calls.specs.declared.leg.Leg.{Leg}
 use Rattle.gt_calls.specs.Resting.{Lets}
 use Rattle.gt_calls.specs.Rules.{before_pin, first, first_look, is_outside_sub, is_past_owner, stands}

@@ -1,8 +1,8 @@
 -- A call whose steps are written out: each step leads to the phase that follows it.
 use Rattle.std.proofs.Common.{◌≡◌, refl, sym, subst, Option, None, Some}
 use Rattle.gt_types.specs.declared.DomId.{DomId}
-use Rattle.gt_word_table.specs.Rule.{Layout}
-use Rattle.gt_word_table.specs.declared.view.View.{View}
+use Rattle.gt_word_history.specs.Rule.{Layout}
+use Rattle.gt_word_history.specs.declared.view.View.{View}
 use Rattle.gt_calls.specs.Following.{Goes, GoesByPhase, IsStepAction as BeginsSo}
 use Rattle.gt_calls.specs.Machine.{action_at, ended_as, first_phase, phase_after}
 use Rattle.gt_calls.specs.Rules.{CallerKnowledge, begun}

@@ -6,8 +6,8 @@ use mathlib.Core.Path.{fun_ext}
 use Rattle.gt_types.specs.declared.DomId.{DomId}
 use Rattle.gt_types.specs.declared.denial.Denial.{Denial}
 use Rattle.gt_types.specs.declared.Dir.TheVariants.{Read}
-use Rattle.gt_word_table.specs.Rule.{Layout}
-use Rattle.gt_word_table.specs.declared.view.View.{View}
+use Rattle.gt_word_history.specs.Rule.{Layout}
+use Rattle.gt_word_history.specs.declared.view.View.{View}
 use Rattle.gt_calls.specs.declared.action.Action.{Action}
 use Rattle.gt_calls.specs.declared.action.Action.TheVariants.{Step as Makes, Done}
 use Rattle.gt_types.specs.declared.places.Spot.{Spot}

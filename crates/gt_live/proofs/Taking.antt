@@ -3,14 +3,14 @@ use Rattle.std.proofs.Common.{◌≡◌, ℕ, ◌<◌, ◌==◌, ◌&&◌, Bool,
 use Rattle.std.proofs.Common.{◌∷◌, ◌++◌, inl, inr, arith}
 use Rattle.std.proofs.lemmas.Bool.{eq-eqb, eqb-true, eqb-false}
 use Rattle.gt_types.specs.declared.limits.TheConstants.{TABLE_ENTRIES}
-use Rattle.gt_word_table.specs.Controls.{generation_of}
+use Rattle.gt_word_history.specs.Controls.{generation_of}
 use Rattle.gt_words.specs.Conditions.{HasDomain, Holds}
 use Rattle.gt_words.specs.Answers.{Pins, Unpins}
-use Rattle.gt_word_table.specs.Rule.{Layout, position_in}
-use Rattle.gt_word_table.specs.Views.{IsAmong, LivePin, is_same_dir, last_seen, live_pins, record_seen, steps_on}
-use Rattle.gt_word_table.specs.Views.{without_pin}
-use Rattle.gt_word_table.specs.declared.view.EntryRecord.{EntryRecord}
-use Rattle.gt_word_table.specs.declared.view.View.{View}
+use Rattle.gt_word_history.specs.Rule.{Layout, position_in}
+use Rattle.gt_word_history.specs.Views.{IsAmong, LivePin, is_same_dir, last_seen, live_pins, record_seen, steps_on}
+use Rattle.gt_word_history.specs.Views.{without_pin}
+use Rattle.gt_word_history.specs.declared.view.EntryRecord.{EntryRecord}
+use Rattle.gt_word_history.specs.declared.view.View.{View}
 use Rattle.gt_calls.specs.declared.held.HeldPin.{HeldPin}
 use Rattle.gt_live.specs.Driving.{IsSame}
 use Rattle.gt_live.specs.Mappings.{HasPin, entry_record_of}

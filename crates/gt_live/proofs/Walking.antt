@@ -6,11 +6,11 @@ use Rattle.gt_types.specs.declared.DomId.{DomId}
 use Rattle.gt_types.specs.declared.GrantRef.{GrantRef}
 use Rattle.gt_entry.specs.declared.control.EntryKind.TheVariants.{Sub as KindSub}
 use Rattle.gt_entry.specs.Words.{control_of, header_of, size_of}
-use Rattle.gt_word_table.specs.Rule.{Layout, position_in}
-use Rattle.gt_word_table.specs.Views.{Seen as Looks, seen, steps_on, with_body}
+use Rattle.gt_word_history.specs.Rule.{Layout, position_in}
+use Rattle.gt_word_history.specs.Views.{Seen as Looks, seen, steps_on, with_body}
 use Rattle.gt_entry.specs.declared.change.BodyWord.TheVariants.{First}
-use Rattle.gt_word_table.specs.History.{Moment}
-use Rattle.gt_word_table.specs.declared.view.View.{View}
+use Rattle.gt_word_history.specs.History.{Moment}
+use Rattle.gt_word_history.specs.declared.view.View.{View}
 use Rattle.gt_calls.specs.declared.action.Action.{Action}
 use Rattle.gt_calls.specs.declared.action.Action.TheVariants.{Step as Makes}
 use Rattle.gt_calls.specs.declared.action.Observation.{Observation}

@@ -90,18 +90,18 @@ pub use Rattle.gt_words.specs.Answers.{Changes, Demotes, LooksAtBody, LooksAtCon
 pub use Rattle.gt_words.specs.Answers.{MissesChange, MissesPin, Publishes, Revokes, StoresBody, StoresHeader, Unpins}
 pub use Rattle.gt_words.specs.Conditions.{Board, CanChange, CanPin, HasDomain, Holds, IsNotEarlier, IsSameSeat}
 pub use Rattle.gt_words.specs.Conditions.{IsSeatOf, IsWordOf, KeepsPins, SeatOf, SeesNoEarlier}
-pub use Rattle.gt_word_table.specs.Controls.{generation_of}
-pub use Rattle.gt_word_table.specs.Events.{TookPlace}
-pub use Rattle.gt_word_table.specs.History.{Moment, part_of}
+pub use Rattle.gt_word_history.specs.Controls.{generation_of}
+pub use Rattle.gt_word_history.specs.Events.{TookPlace}
+pub use Rattle.gt_word_history.specs.History.{Moment, part_of}
 pub use Rattle.gt_words.specs.Keeping.{held}
-pub use Rattle.gt_word_table.specs.Rule.{IsKeptHeader, Layout, id_at, position_in}
-pub use Rattle.gt_word_table.specs.Steps.{on_entry, on_header}
-pub use Rattle.gt_word_table.specs.Views.{IsAmong, LivePin, is_same_dir, last_of, last_seen, own_table, live_pins}
-pub use Rattle.gt_word_table.specs.Views.{record_seen}
-pub use Rattle.gt_word_table.specs.Views.{steps_on, with_step}
-pub use Rattle.gt_word_table.specs.declared.view.EntryStep.{EntryStep}
-pub use Rattle.gt_word_table.specs.declared.view.EntryStep.TheVariants.{ChangeMissed, Looked, PinMissed, ReadBody}
-pub use Rattle.gt_word_table.specs.declared.view.EntryStep.TheVariants.{StoredBody}
-pub use Rattle.gt_word_table.specs.declared.view.SeatStep.{SeatStep}
-pub use Rattle.gt_word_table.specs.declared.view.SeatStep.TheVariants.{Entry}
-pub use Rattle.gt_word_table.specs.declared.view.View.{View}
+pub use Rattle.gt_word_history.specs.Rule.{IsKeptHeader, Layout, id_at, position_in}
+pub use Rattle.gt_word_history.specs.Steps.{on_entry, on_header}
+pub use Rattle.gt_word_history.specs.Views.{IsAmong, LivePin, is_same_dir, last_of, last_seen, own_table, live_pins}
+pub use Rattle.gt_word_history.specs.Views.{record_seen}
+pub use Rattle.gt_word_history.specs.Views.{steps_on, with_step}
+pub use Rattle.gt_word_history.specs.declared.view.EntryStep.{EntryStep}
+pub use Rattle.gt_word_history.specs.declared.view.EntryStep.TheVariants.{ChangeMissed, Looked, PinMissed, ReadBody}
+pub use Rattle.gt_word_history.specs.declared.view.EntryStep.TheVariants.{StoredBody}
+pub use Rattle.gt_word_history.specs.declared.view.SeatStep.{SeatStep}
+pub use Rattle.gt_word_history.specs.declared.view.SeatStep.TheVariants.{Entry}
+pub use Rattle.gt_word_history.specs.declared.view.View.{View}

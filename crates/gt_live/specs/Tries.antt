@@ -4,8 +4,8 @@ use Rattle.gt_live.specs.Prelude.{DomId, GrantRef, N18, Denial, Dir, EntryChange
 use Rattle.gt_live.specs.Prelude.{on_entry, on_header, EntryStep, ChangeMissed, Looked, PinMissed, ReadBody, SeatStep}
 use Rattle.gt_live.specs.Prelude.{View, Refused, Request, Leg, MORE_TRIES, AfterPin, AfterRefusal, entry_refusal}
 use Rattle.gt_live.specs.Prelude.{path_of, refused_at, tries, try_pin, turn, turns, CallerKnowledge}
-use Rattle.gt_word_table.specs.declared.view.EntryStep.TheVariants.{Unpinned}
-use Rattle.gt_word_table.specs.declared.view.HeaderStep.TheVariants as header
+use Rattle.gt_word_history.specs.declared.view.EntryStep.TheVariants.{Unpinned}
+use Rattle.gt_word_history.specs.declared.view.HeaderStep.TheVariants as header
 use Rattle.gt_live.specs.Walks.{Called}
 
 -- a leg makes at most four tries: a missed one leads to the next, and the fourth to N18 with the word that it found

@@ -11,9 +11,9 @@ use Rattle.gt_live.specs.Prelude.{LookControl, LookBody, Pin, Unpin, StoreBody, 
 use Rattle.gt_live.specs.Prelude.{Continuation}
 use Rattle.gt_words.specs.Answers.{Pins}
 use Rattle.gt_types.specs.declared.denial.Facts.TheVariants as facts
-use Rattle.gt_word_table.specs.declared.view.EntryStep.TheVariants.{Pinned, Unpinned, Changed}
-use Rattle.gt_word_table.specs.declared.view.HeaderStep.TheVariants as header
-use Rattle.gt_word_table.specs.declared.view.SeatStep.TheVariants.{Frame, Header}
+use Rattle.gt_word_history.specs.declared.view.EntryStep.TheVariants.{Pinned, Unpinned, Changed}
+use Rattle.gt_word_history.specs.declared.view.HeaderStep.TheVariants as header
+use Rattle.gt_word_history.specs.declared.view.SeatStep.TheVariants.{Frame, Header}
 
 -- the observation of a call at a step of its seat
 abbrev pub seen_in_step : SeatStep → Observation

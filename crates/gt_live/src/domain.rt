@@ -1,8 +1,8 @@
 //! A domain of the run, and its calls.
 ghost use Rattle.std.specs.Prelude.{◌≡◌, ◌≤◌, OnOk, IfOk, None, Some};
 ghost use Rattle.gt_words.specs.Conditions.{IsSameSeat};
-ghost use Rattle.gt_word_table.specs.Rule.{IsKeptHeader};
-ghost use Rattle.gt_word_table.specs.Views.{own_table};
+ghost use Rattle.gt_word_history.specs.Rule.{IsKeptHeader};
+ghost use Rattle.gt_word_history.specs.Views.{own_table};
 ghost use Rattle.gt_calls.specs.Rules.{knows};
 ghost use Rattle.gt_live.specs.declared.domain.Domain.{Domain};
 ghost use Rattle.gt_live.specs.Rows.{row_changed};

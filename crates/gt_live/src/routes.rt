@@ -1,7 +1,7 @@
 //! A copy walked to its access, with each step made on the words, and the release of its pins.
 ghost use Rattle.std.specs.Prelude.{◌≡◌, ℕ, None};
 ghost use Rattle.gt_words.specs.Conditions.{IsSeatOf, IsSameSeat};
-ghost use Rattle.gt_word_table.specs.declared.view.View.{View};
+ghost use Rattle.gt_word_history.specs.declared.view.View.{View};
 ghost use Rattle.gt_calls.specs.declared.copying.PinPurpose.{PinPurpose};
 ghost use Rattle.gt_calls.specs.declared.held.AccessPath.TheVariants.{Own};
 ghost use Rattle.gt_calls.specs.Holding.{held_by, last_first, no_pins};

@@ -1,8 +1,9 @@
 //! The start of a run.
 ghost use Rattle.std.specs.Prelude.{◌≡◌, ◌+◌, ◌<◌, ◌≤◌, ℕ, length, replicate, All, HoldsAt, IfOk, IfErr, OnOk, []};
 ghost use Rattle.gt_types.specs.Config.{IsWithinLimits};
-ghost use Rattle.gt_word_table.specs.Rule.{layout_of};
+ghost use Rattle.gt_word_history.specs.Rule.{layout_of};
 ghost use Rattle.gt_words.specs.Answers.{IsNewSeat, IsStartFault};
+ghost use Rattle.gt_roster.specs.Frameless.{IsFramelessFault, IsRunnable};
 ghost use Rattle.gt_live.specs.Starting.{first_rows, IsNewDomain};
 
 use crate::domain::Domain;
@@ -10,7 +11,9 @@ use crate::monitor::Monitor;
 use gt_access::{FrameAccesses, Pool};
 use gt_audit::Trail;
 use gt_calls::{ENTRIES, Handles, OwnerEntry};
-use gt_roster::Roster;
+use gt_roster::{
+    Roster, every_configuration_within_limits_is_runnable, one_frame_is_enough, with_one_frame,
+};
 use gt_types::{Allows, Config, StartFault};
 use gt_words::{Seat, Words};
 use std::alloc::{AllocError, Global};
@@ -53,7 +56,7 @@ fn make_domains<P: Allows>(
     all_visits: Vec<FrameAccesses>,
     first_gen: u32,
 ) -> Result<Vec<Domain>, AllocError>
-    requires config { IsWithinLimits monitor.now.config }
+    requires config { IsRunnable monitor.now.config }
     requires first { first_gen ≡ monitor.now.config.first_gen }
     requires count { length seats.items ≡ length monitor.now.config.domains.items }
     requires seats { (i : ℕ) → i < length monitor.now.config.domains.items
@@ -77,6 +80,31 @@ fn make_domains<P: Allows>(
         }
     }
     Ok(domains)
+}
+
+// Makes the words and seats of a run whose frames the caller keeps, and its roster. The configuration is checked with at
+// most one frame a domain.
+fn frameless_words(alloc: Global, config: Config) -> Result<(Words, Vec<Seat>, Roster), StartFault>
+    ensures ok { OnOk result (IsRunnable config) }
+    ensures words { IfOk result (λ r. r.0.layout ≡ layout_of config) }
+    ensures roster { IfOk result (λ r. r.2 ≡ config) }
+    ensures count { IfOk result (λ r. length r.1.items ≡ length config.domains.items) }
+    ensures seats { IfOk result (λ r. (i : ℕ) → i < length config.domains.items
+        → HoldsAt (λ s. IsNewSeat r.0 i s) r.1.items i) }
+    ensures err { IfErr result (IsFramelessFault config) }
+{
+    one_frame_is_enough();
+    let Ok(one_frame) = with_one_frame(alloc, &config) else {
+        return Err(StartFault::Memory);
+    };
+    let (words, seats) = match Words::new(alloc, &one_frame) {
+        Ok(made) => made,
+        Err(fault) => return Err(fault),
+    };
+    match Roster::of_runnable(alloc, config, &one_frame) {
+        Ok(roster) => Ok((words, seats, roster)),
+        Err(AllocError) => Err(StartFault::Memory),
+    }
 }
 
 impl<P: Allows + Drop> Monitor<P> {
@@ -109,6 +137,47 @@ impl<P: Allows + Drop> Monitor<P> {
         };
         let first_gen = config.first_gen;
         let Ok(config) = Roster::new(alloc, config) else {
+            return Err(StartFault::Memory);
+        };
+        every_configuration_within_limits_is_runnable();
+        let monitor = Monitor {
+            config,
+            rights,
+            words,
+            pool,
+        };
+        match make_domains(alloc, &monitor, seats, visits, first_gen) {
+            Ok(domains) => Ok((monitor, domains)),
+            Err(AllocError) => Err(StartFault::Memory),
+        }
+    }
+
+    /// Makes the monitor of a run that keeps no frames, and its domains in order. The caller keeps the frames, and moves
+    /// the bytes of a copy between [`Domain::copy_begin`] and [`Domain::copy_end`]. Loads, stores, peeks, pokes and
+    /// whole copies are N16 at their access. A domain may have any number of frames from 1 on.
+    ///
+    /// # Errors
+    /// The first fault of the configuration, where no number of frames is too large; or `Memory`.
+    pub fn without_frames(
+        alloc: Global,
+        config: Config,
+        rights: P,
+    ) -> Result<(Monitor<P>, Vec<Domain>), StartFault>
+        ensures ok { OnOk result (IsRunnable config) }
+        ensures run { IfOk result (λ r. (r.0.config ≡ config) × (r.0.rights ≡ rights) × (r.0.pool ≡ [])) }
+        ensures count { IfOk result (λ r. length r.1.items ≡ length config.domains.items) }
+        ensures domains { IfOk result (λ r.
+            (i : ℕ) → i < length config.domains.items
+            → HoldsAt (λ d. IsNewDomain r.0.words config (P.may rights) i d) r.1.items i) }
+        ensures mine { IfOk result (λ r. All (λ d. BelongsTo P.may r.0 d) r.1.items) }
+        ensures err { IfErr result (IsFramelessFault config) }
+    {
+        let (count, first_gen) = (config.domains.len(), config.first_gen);
+        let (words, seats, config) = match frameless_words(alloc, config) {
+            Ok(made) => made,
+            Err(fault) => return Err(fault),
+        };
+        let Ok((pool, visits)) = Pool::empty(alloc, count) else {
             return Err(StartFault::Memory);
         };
         let monitor = Monitor {

@@ -10,17 +10,17 @@ use Rattle.gt_entry.specs.Spelling.{control_with}
 use Rattle.gt_entry.specs.Words.{control_word, header_word}
 use Rattle.gt_entry.specs.declared.change.BodyWord.{BodyWord}
 use Rattle.gt_entry.specs.declared.change.BodyWord.TheVariants.{First, Second}
-use Rattle.gt_word_table.specs.History.{StepHistory, Layout, half_index, left_by, word_after}
-use Rattle.gt_word_table.specs.Rule.{header_place, layout_of, place}
-use Rattle.gt_word_table.specs.declared.view.EntryStep.TheVariants.{StoredBody}
-use Rattle.gt_word_table.specs.declared.view.HeaderStep.TheVariants as header
-use Rattle.gt_word_table.specs.declared.view.SeatStep.{SeatStep}
-use Rattle.gt_word_table.specs.declared.view.SeatStep.TheVariants.{Entry, Header}
+use Rattle.gt_word_history.specs.History.{StepHistory, Layout, half_index, left_by, word_after}
+use Rattle.gt_word_history.specs.Rule.{header_place, layout_of, place}
+use Rattle.gt_word_history.specs.declared.view.EntryStep.TheVariants.{StoredBody}
+use Rattle.gt_word_history.specs.declared.view.HeaderStep.TheVariants as header
+use Rattle.gt_word_history.specs.declared.view.SeatStep.{SeatStep}
+use Rattle.gt_word_history.specs.declared.view.SeatStep.TheVariants.{Entry, Header}
 use Rattle.gt_core.proofs.Steps.Observers.{kept-entry, kept-raises, kept-table, other-body, other-table, stepped}
 use Rattle.gt_core.proofs.Steps.Observers.{unstored}
 use Rattle.gt_core.proofs.Words.{GrantRef, None, Option, Pin, Observation, Some, StoreBody, StoreHeader, [], append-nil}
 use Rattle.gt_core.proofs.Words.{header_or, or_else, pinned_by, unpinned_by, ◌++◌}
-use Rattle.gt_word_table.specs.declared.view.EntryRecord.{EntryRecord}
+use Rattle.gt_word_history.specs.declared.view.EntryRecord.{EntryRecord}
 use Rattle.gt_core.specs.History.{History as Items, Setting, body_at, change_at, entry_at, generation_at, header_stored}
 use Rattle.gt_core.specs.History.{live, raises_at, reads_at, same_half, stored_at, table_at, word_at, writes_at}
 use Rattle.gt_core.specs.declared.trace.Answer.{Answer}

@@ -22,14 +22,14 @@ use Rattle.gt_entry.specs.declared.control.EntryKind.TheVariants as kinds
 use Rattle.gt_entry.specs.declared.entry.Entry.{Entry as EntryOf}
 use Rattle.gt_entry.specs.declared.entry.Entry.TheVariants.{Invalid, Page, Sub, Via}
 use Rattle.gt_words.specs.Conditions.{HasDomain}
-use Rattle.gt_word_table.specs.Controls.{generation_of, pins_in}
-use Rattle.gt_word_table.specs.History.{StepHistory, Layout, half_index, word_after}
-use Rattle.gt_word_table.specs.Rule.{header_place, layout_of, place, position_in}
-use Rattle.gt_word_table.specs.Steps.{changed, changed_word}
-use Rattle.gt_word_table.specs.declared.view.EntryRecord.{EntryRecord}
-use Rattle.gt_word_table.specs.declared.view.EntryStep.TheVariants.{Pinned, Unpinned, Changed}
-use Rattle.gt_word_table.specs.declared.view.SeatStep.{SeatStep}
-use Rattle.gt_word_table.specs.declared.view.SeatStep.TheVariants.{Entry}
+use Rattle.gt_word_history.specs.Controls.{generation_of, pins_in}
+use Rattle.gt_word_history.specs.History.{StepHistory, Layout, half_index, word_after}
+use Rattle.gt_word_history.specs.Rule.{header_place, layout_of, place, position_in}
+use Rattle.gt_word_history.specs.Steps.{changed, changed_word}
+use Rattle.gt_word_history.specs.declared.view.EntryRecord.{EntryRecord}
+use Rattle.gt_word_history.specs.declared.view.EntryStep.TheVariants.{Pinned, Unpinned, Changed}
+use Rattle.gt_word_history.specs.declared.view.SeatStep.{SeatStep}
+use Rattle.gt_word_history.specs.declared.view.SeatStep.TheVariants.{Entry}
 use Rattle.gt_calls.specs.declared.held.HeldPin.{HeldPin}
 use Rattle.gt_calls.specs.declared.request.PinHolder.{PinHolder}
 use Rattle.gt_calls.specs.declared.action.Observation.{Observation}

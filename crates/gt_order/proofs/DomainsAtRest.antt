@@ -28,9 +28,9 @@ use Rattle.gt_core.specs.declared.underway.OpenCall.{OpenCall}
 use Rattle.gt_entry.specs.Words.{header_word}
 use Rattle.gt_types.specs.declared.config.Config.{Config}
 use Rattle.gt_words.specs.Conditions.{Board}
-use Rattle.gt_word_table.specs.History.{StepHistory, Layout, part_of}
-use Rattle.gt_word_table.specs.Views.{entry_steps, last_of, last_record, own_table}
-use Rattle.gt_word_table.specs.declared.view.EntryRecord.{EntryRecord}
+use Rattle.gt_word_history.specs.History.{StepHistory, Layout, part_of}
+use Rattle.gt_word_history.specs.Views.{entry_steps, last_of, last_record, own_table}
+use Rattle.gt_word_history.specs.declared.view.EntryRecord.{EntryRecord}
 use Rattle.gt_live.specs.Domains.{AllowRelation, IsDomainOf, knowledge}
 use Rattle.gt_live.specs.declared.domain.Domain.{Domain}
 use Rattle.gt_order.proofs.AgreementKept.{KeepsWords, live-kept, word-same}

@@ -22,11 +22,11 @@ use Rattle.gt_entry.specs.Words.{header_of, header_word}
 use Rattle.gt_handles.specs.Handles.{HandleMap}
 use Rattle.gt_handles.specs.declared.handles.Handle.{Handle}
 use Rattle.gt_words.specs.Conditions.{Board, SeatOf}
-use Rattle.gt_word_table.specs.History.{StepHistory, Layout, Moment, part_of, word_after}
-use Rattle.gt_word_table.specs.Rule.{header_place, layout_of}
-use Rattle.gt_word_table.specs.Steps.{StoodWith}
-use Rattle.gt_word_table.specs.Views.{own_header, own_table}
-use Rattle.gt_word_table.specs.declared.view.View.{View}
+use Rattle.gt_word_history.specs.History.{StepHistory, Layout, Moment, part_of, word_after}
+use Rattle.gt_word_history.specs.Rule.{header_place, layout_of}
+use Rattle.gt_word_history.specs.Steps.{StoodWith}
+use Rattle.gt_word_history.specs.Views.{own_header, own_table}
+use Rattle.gt_word_history.specs.declared.view.View.{View}
 use Rattle.gt_calls.proofs.Advancing.{opens as starts-open}
 use Rattle.gt_calls.proofs.Saying.{plain-asked, plain-begun}
 use Rattle.gt_calls.specs.Asking.{SpellsItsEntry, asked, asked_by, begun_of, bytes_of, bytes_given_by, judged_as, plainly_asked}

@@ -9,11 +9,11 @@ use Rattle.atomic_table.specs.Table.{State}
 use Rattle.gt_types.specs.declared.DomId.{DomId}
 use Rattle.gt_types.specs.declared.Size.{Size}
 use Rattle.gt_types.specs.declared.denial.Denial.{Denial}
-use Rattle.gt_word_table.specs.History.{Layout, Moment}
+use Rattle.gt_word_history.specs.History.{Layout, Moment}
 use Rattle.gt_words.specs.Laws.{length-ids, own_position}
-use Rattle.gt_word_table.specs.Rule.{Shows, id_at}
-use Rattle.gt_word_table.specs.Views.{IsAmong}
-use Rattle.gt_word_table.specs.declared.view.View.{View}
+use Rattle.gt_word_history.specs.Rule.{Shows, id_at}
+use Rattle.gt_word_history.specs.Views.{IsAmong}
+use Rattle.gt_word_history.specs.declared.view.View.{View}
 use Rattle.gt_handles.specs.declared.handles.Handle.{Handle}
 use Rattle.gt_calls.specs.declared.action.CallResult.{CallResult}
 use Rattle.gt_calls.specs.Asking.{asked}
@@ -52,6 +52,7 @@ use Rattle.gt_run.specs.Printing.{Served}
 use Rattle.gt_run.specs.Serving.{DoesDeed, DoesWhere, ListLeadsTo, MakesCall, ListOutcome, ListProgress, list_start}
 use Rattle.gt_run.specs.declared.lists.ThreadJob.{ThreadJob}
 use Rattle.gt_order.specs.Texts.{AreCallsOf, AreCallsOfList, AreOfALegalOrder, HasList, OutcomeGivesAnswer, IsQuietDuty}
+use Rattle.gt_types.specs.Config.{IsWithinLimits}
 use Rattle.gt_order.specs.Texts.{IsViewOf, ReadsNoBytes, TextsAreOfALegalOrder}
 
 -- a request that reaches no bytes
@@ -233,8 +234,8 @@ module _ {P : Type 0} (may : P → AllowRelation) (m : Monitor P) where
   stands-at i p d inside fresh own =
       let k : Layout = m.words.layout in let seat = fresh.seat.seat in
       let long : length k.ids ≡ length m.config.domains.items = ap (λ (l : Layout). length l.ids) m.same_run ∙ length-ids m.config.domains.items in
-      let here = own_position m.config k k.ids d.seat.view.position d.seat.dom (sym m.same_run) m.limits (ap (λ (l : Layout). l.ids) m.same_run) seat.inside seat.named in
-      let there = own_position m.config k k.ids i d.seat.dom (sym m.same_run) m.limits (ap (λ (l : Layout). l.ids) m.same_run) (omega arith) (sym own) in
+      let here = own_position m.config k k.ids d.seat.view.position d.seat.dom (sym m.same_run) m.limits.distinct (ap (λ (l : Layout). l.ids) m.same_run) seat.inside seat.named in
+      let there = own_position m.config k k.ids i d.seat.dom (sym m.same_run) m.limits.distinct (ap (λ (l : Layout). l.ids) m.same_run) (omega arith) (sym own) in
       sym fresh.seat.position ∙ (here ∙ sym there)
 
   finished : (i : ℕ) (s : Served P) (v : View) → i < length m.config.domains.items → (l : HasList may m i s) → IsViewOf m.words m.config (may m.rights) l.served.left.domain v → Finished i s v
@@ -305,12 +306,12 @@ module _ {P : Type 0} (may : P → AllowRelation) (m : Monitor P) where
         (record { starts = f.starts; calls = f.calls_are; now = (each i l).2 ∙ ap (λ (v : View). some v) (sym f.view) }, f.of_list)
     runs-so i inside false e = absurd (not-below i (length m.config.domains.items) e inside)
 
-    text-legal : (shown : Shows m.words.layout s) → AreOfALegalOrder may m shown.history lists
-    text-legal shown =
+    text-legal : IsWithinLimits m.config → (shown : Shows m.words.layout s) → AreOfALegalOrder may m shown.history lists
+    text-legal limits shown =
         let run : IsMonitorRun m.words m.config (may m.rights) s seats =
-        record { limits = m.limits; layout = m.same_run; shown = shown; each = λ i inside. (runs-so i inside (nat_lt i (length m.config.domains.items)) refl).0 } in
+        record { limits = limits; layout = m.same_run; shown = shown; each = λ i inside. (runs-so i inside (nat_lt i (length m.config.domains.items)) refl).0 } in
         let order = runs-have-legal-orders m.words m.config (may m.rights) s seats run in
         record { items = order.0; seats = seats; legal = order.1; each = λ i inside. (runs-so i inside (nat_lt i (length m.config.domains.items)) refl).1 }
 
 pub texts-legal : {P : Type 0} (may : P → AllowRelation) (m : Monitor P) → TextsAreOfALegalOrder may m
-texts-legal may m lists s ends each shown = text-legal may m lists s ends each shown
+texts-legal may m lists s ends limits each shown = text-legal may m lists s ends each limits shown

@@ -4,14 +4,14 @@ use Rattle.atomic_table.proofs.Lists.{at_map}
 use Rattle.gt_entry.specs.declared.change.EntryChange.{EntryChange}
 use Rattle.gt_entry.specs.declared.change.EntryChange.TheVariants.{Publish, Revoke, Withdraw, Demote, Promote}
 use Rattle.gt_words.proofs.Lists.{whose_at}
-use Rattle.gt_word_table.specs.History.{StepHistory, Layout, Moment, SaysWord, word_place_of, word_after}
-use Rattle.gt_word_table.specs.Rule.{header_place}
-use Rattle.gt_word_table.specs.Steps.{StoodWith, TakesStep, changed, changed_word}
-use Rattle.gt_word_table.specs.Views.{entry_steps, last_of, last_record, own_header, steps_on_header, with_step}
-use Rattle.gt_word_table.specs.Views.{stored_header}
-use Rattle.gt_word_table.specs.declared.view.EntryRecord.{EntryRecord}
-use Rattle.gt_word_table.specs.declared.view.SeatStep.{SeatStep}
-use Rattle.gt_word_table.specs.declared.view.View.{View}
+use Rattle.gt_word_history.specs.History.{StepHistory, Layout, Moment, SaysWord, word_place_of, word_after}
+use Rattle.gt_word_history.specs.Rule.{header_place}
+use Rattle.gt_word_history.specs.Steps.{StoodWith, TakesStep, changed, changed_word}
+use Rattle.gt_word_history.specs.Views.{entry_steps, last_of, last_record, own_header, steps_on_header, with_step}
+use Rattle.gt_word_history.specs.Views.{stored_header}
+use Rattle.gt_word_history.specs.declared.view.EntryRecord.{EntryRecord}
+use Rattle.gt_word_history.specs.declared.view.SeatStep.{SeatStep}
+use Rattle.gt_word_history.specs.declared.view.View.{View}
 use Rattle.gt_calls.specs.declared.action.Observation.{Observation}
 use Rattle.gt_calls.specs.declared.action.Observation.TheVariants.{Nothing, Word, Taken, Missed}
 use Rattle.gt_calls.specs.declared.action.Step.{Step}

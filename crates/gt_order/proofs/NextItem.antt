@@ -8,10 +8,10 @@ use Rattle.gt_types.specs.declared.config.Config.{Config}
 use Rattle.gt_types.specs.declared.limits.TheConstants.{TABLE_ENTRIES}
 use Rattle.gt_handles.specs.declared.handles.Handle.{Handle}
 use Rattle.gt_words.specs.Conditions.{Board, HasDomain}
-use Rattle.gt_word_table.specs.History.{Layout, Moment}
-use Rattle.gt_word_table.specs.Rule.{layout_of}
-use Rattle.gt_word_table.specs.Steps.{StoodWith}
-use Rattle.gt_word_table.specs.declared.view.View.{View}
+use Rattle.gt_word_history.specs.History.{Layout, Moment}
+use Rattle.gt_word_history.specs.Rule.{layout_of}
+use Rattle.gt_word_history.specs.Steps.{StoodWith}
+use Rattle.gt_word_history.specs.declared.view.View.{View}
 use Rattle.gt_calls.proofs.Saying.{begun-asked}
 use Rattle.gt_calls.specs.Asking.{SpellsItsEntry, asked, begun_of}
 use Rattle.gt_calls.specs.Path.{Continuation, FitsStep, after_beginning, path, path_of, steps_of}

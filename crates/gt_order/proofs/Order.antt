@@ -9,14 +9,14 @@ use Rattle.gt_types.specs.Names.{domain_of}
 use Rattle.gt_types.specs.declared.DomId.{DomId}
 use Rattle.gt_types.specs.declared.config.Config.{Config}
 use Rattle.gt_types.specs.declared.config.DomainConfig.{DomainConfig}
-use Rattle.gt_word_table.proofs.Order.{part_else, part_here, up_else}
+use Rattle.gt_word_history.proofs.Order.{part_else, part_here, up_else}
 use Rattle.gt_words.specs.Conditions.{Board, HasDomain, SeatOf}
-use Rattle.gt_word_table.specs.History.{StepHistory, Layout, Moment, part_of, up_to}
+use Rattle.gt_word_history.specs.History.{StepHistory, Layout, Moment, part_of, up_to}
 use Rattle.gt_words.specs.Laws.{domain_of_run, seat_at}
-use Rattle.gt_word_table.specs.Rule.{layout_of, position_in}
-use Rattle.gt_word_table.specs.Views.{with_step}
-use Rattle.gt_word_table.specs.declared.view.SeatStep.{SeatStep}
-use Rattle.gt_word_table.specs.declared.view.View.{View}
+use Rattle.gt_word_history.specs.Rule.{layout_of, position_in}
+use Rattle.gt_word_history.specs.Views.{with_step}
+use Rattle.gt_word_history.specs.declared.view.SeatStep.{SeatStep}
+use Rattle.gt_word_history.specs.declared.view.View.{View}
 use Rattle.gt_calls.specs.Asking.{SpellsItsEntry, asked, begun_of}
 use Rattle.gt_calls.specs.Path.{path, steps_of}
 use Rattle.gt_calls.specs.Rules.{CallerKnowledge}
@@ -117,7 +117,7 @@ module _ (b : Board) (c : Config) (may : AllowRelation) (limits : IsWithinLimits
   named i l =
       let n = new i l in let D = firsts i in
       let dom : dom_at k i ≡ D.seat.dom = ap (dom_at k) (sym n.seat.position) ∙ n.domain.seat.named in
-      let at : D.seat.view.position ≡ position_in k.ids D.seat.dom = seat_at c b D.seat limits is n.domain.seat in
+      let at : D.seat.view.position ≡ position_in k.ids D.seat.dom = seat_at c b D.seat limits.distinct is n.domain.seat in
       let inside : D.seat.view.position < length k.ids = n.domain.seat.inside in
       let has : HasDomain k D.seat.dom = subst (λ (z : ℕ). z < length k.ids) at inside in
       let there : IsSome (domain_of c.domains.items D.seat.dom) = (domain_of_run c D.seat.dom).1 (subst (λ (z : Layout). HasDomain z D.seat.dom) is has) in

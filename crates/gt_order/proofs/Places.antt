@@ -8,17 +8,17 @@ use Rattle.gt_types.specs.declared.DomId.{DomId}
 use Rattle.gt_types.specs.declared.config.Config.{Config}
 use Rattle.gt_types.specs.declared.config.DomainConfig.{DomainConfig}
 use Rattle.gt_types.specs.declared.limits.TheConstants.{TABLE_ENTRIES}
-use Rattle.gt_word_table.proofs.Order.{part_else, part_here}
+use Rattle.gt_word_history.proofs.Order.{part_else, part_here}
 use Rattle.gt_words.specs.Conditions.{HasDomain}
-use Rattle.gt_word_table.specs.History.{StepHistory, Layout, left_by, part_of, word_place_of, word_after}
+use Rattle.gt_word_history.specs.History.{StepHistory, Layout, left_by, part_of, word_place_of, word_after}
 use Rattle.gt_words.specs.Laws.{domain_at, id_at-map, length-ids}
-use Rattle.gt_word_table.specs.Rule.{header_place, id_at, layout_of, place, position_in}
-use Rattle.gt_word_table.specs.Views.{entry_steps, last_record}
-use Rattle.gt_word_table.specs.declared.view.EntryRecord.{EntryRecord}
-use Rattle.gt_word_table.specs.declared.view.EntryStep.{EntryStep}
-use Rattle.gt_word_table.specs.declared.view.EntryStep.TheVariants.{Changed}
-use Rattle.gt_word_table.specs.declared.view.SeatStep.{SeatStep}
-use Rattle.gt_word_table.specs.declared.view.SeatStep.TheVariants.{Entry, Frame, Header}
+use Rattle.gt_word_history.specs.Rule.{header_place, id_at, layout_of, place, position_in}
+use Rattle.gt_word_history.specs.Views.{entry_steps, last_record}
+use Rattle.gt_word_history.specs.declared.view.EntryRecord.{EntryRecord}
+use Rattle.gt_word_history.specs.declared.view.EntryStep.{EntryStep}
+use Rattle.gt_word_history.specs.declared.view.EntryStep.TheVariants.{Changed}
+use Rattle.gt_word_history.specs.declared.view.SeatStep.{SeatStep}
+use Rattle.gt_word_history.specs.declared.view.SeatStep.TheVariants.{Entry, Frame, Header}
 use Rattle.gt_order.specs.Agreeing.{dom_at, last_at}
 
 -- domains and positions

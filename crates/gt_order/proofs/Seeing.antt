@@ -6,13 +6,13 @@ use Rattle.gt_types.specs.declared.limits.TheConstants.{TABLE_ENTRIES}
 use Rattle.gt_entry.specs.Words.{header_word}
 use Rattle.gt_entry.specs.declared.change.BodyWord.{BodyWord}
 use Rattle.gt_words.specs.Conditions.{HasDomain}
-use Rattle.gt_word_table.specs.History.{StepHistory, Layout, SaysWord, half_index, word_place_of, word_after}
-use Rattle.gt_word_table.specs.Rule.{header_place, layout_of, place, position_in}
-use Rattle.gt_word_table.specs.declared.view.EntryStep.TheVariants.{Looked, ReadBody, Pinned, PinMissed, Unpinned}
-use Rattle.gt_word_table.specs.declared.view.EntryStep.TheVariants.{StoredBody, Changed, ChangeMissed}
-use Rattle.gt_word_table.specs.declared.view.HeaderStep.TheVariants as header
-use Rattle.gt_word_table.specs.declared.view.SeatStep.{SeatStep}
-use Rattle.gt_word_table.specs.declared.view.SeatStep.TheVariants.{Entry, Header}
+use Rattle.gt_word_history.specs.History.{StepHistory, Layout, SaysWord, half_index, word_place_of, word_after}
+use Rattle.gt_word_history.specs.Rule.{header_place, layout_of, place, position_in}
+use Rattle.gt_word_history.specs.declared.view.EntryStep.TheVariants.{Looked, ReadBody, Pinned, PinMissed, Unpinned}
+use Rattle.gt_word_history.specs.declared.view.EntryStep.TheVariants.{StoredBody, Changed, ChangeMissed}
+use Rattle.gt_word_history.specs.declared.view.HeaderStep.TheVariants as header
+use Rattle.gt_word_history.specs.declared.view.SeatStep.{SeatStep}
+use Rattle.gt_word_history.specs.declared.view.SeatStep.TheVariants.{Entry, Header}
 use Rattle.gt_calls.specs.declared.action.Observation.TheVariants.{Word, Taken, Missed}
 use Rattle.gt_calls.specs.declared.action.Step.{Step}
 use Rattle.gt_calls.specs.declared.action.Step.TheVariants.{LookHeader, LookControl, LookBody, Pin as PinStep, Unpin}

@@ -7,9 +7,9 @@ use Rattle.gt_types.specs.Names.{domain_of}
 use Rattle.gt_types.specs.declared.DomId.{DomId}
 use Rattle.gt_types.specs.declared.config.Config.{Config}
 use Rattle.gt_words.specs.Conditions.{Board}
-use Rattle.gt_word_table.specs.History.{StepHistory, Layout, Moment, part_of, up_to}
-use Rattle.gt_word_table.specs.Rule.{layout_of}
-use Rattle.gt_word_table.specs.declared.view.View.{View}
+use Rattle.gt_word_history.specs.History.{StepHistory, Layout, Moment, part_of, up_to}
+use Rattle.gt_word_history.specs.Rule.{layout_of}
+use Rattle.gt_word_history.specs.declared.view.View.{View}
 use Rattle.gt_calls.specs.Asking.{asked}
 use Rattle.gt_calls.specs.declared.action.Action.TheVariants.{Step as Makes}
 use Rattle.gt_calls.specs.declared.action.Step.{Step}

@@ -15,10 +15,10 @@ use Rattle.gt_entry.specs.declared.change.BodyWord.{BodyWord}
 use Rattle.gt_entry.specs.declared.change.BodyWord.TheVariants.{First, Second}
 use Rattle.gt_handles.specs.Handles.{HandleMap}
 use Rattle.gt_words.specs.Conditions.{Board}
-use Rattle.gt_word_table.specs.History.{Layout, half_index, initial}
+use Rattle.gt_word_history.specs.History.{Layout, half_index, initial}
 use Rattle.gt_words.specs.Laws.{id_at-map}
-use Rattle.gt_word_table.specs.Rule.{first_header, header_place, layout_of, place}
-use Rattle.gt_word_table.specs.Views.{header_steps, own_header, stored_header}
+use Rattle.gt_word_history.specs.Rule.{first_header, header_place, layout_of, place}
+use Rattle.gt_word_history.specs.Views.{header_steps, own_header, stored_header}
 use Rattle.gt_calls.specs.declared.held.HeldPin.{HeldPin}
 use Rattle.gt_core.proofs.GoingOn.{runs-start}
 use Rattle.gt_core.proofs.Mappings.{no-handles}

@@ -38,15 +38,15 @@ use Rattle.gt_calls.specs.Opening.{opens}
 use Rattle.gt_types.specs.Config.{IsWithinLimits}
 use Rattle.gt_types.specs.declared.config.Config.{Config}
 use Rattle.gt_words.specs.Conditions.{HasDomain}
-use Rattle.gt_word_table.specs.History.{StepHistory, Layout, SaysWord, word_place_of, word_after}
+use Rattle.gt_word_history.specs.History.{StepHistory, Layout, SaysWord, word_place_of, word_after}
 use Rattle.gt_words.specs.Laws.{domain_of_run}
-use Rattle.gt_word_table.specs.Rule.{layout_of, place}
-use Rattle.gt_word_table.specs.Steps.{changed, changed_word}
-use Rattle.gt_word_table.specs.declared.view.EntryStep.TheVariants.{Looked, ReadBody, Pinned, PinMissed, Unpinned}
-use Rattle.gt_word_table.specs.declared.view.EntryStep.TheVariants.{StoredBody, Changed, ChangeMissed}
-use Rattle.gt_word_table.specs.declared.view.HeaderStep.TheVariants as header
-use Rattle.gt_word_table.specs.declared.view.SeatStep.{SeatStep}
-use Rattle.gt_word_table.specs.declared.view.SeatStep.TheVariants.{Entry, Header}
+use Rattle.gt_word_history.specs.Rule.{layout_of, place}
+use Rattle.gt_word_history.specs.Steps.{changed, changed_word}
+use Rattle.gt_word_history.specs.declared.view.EntryStep.TheVariants.{Looked, ReadBody, Pinned, PinMissed, Unpinned}
+use Rattle.gt_word_history.specs.declared.view.EntryStep.TheVariants.{StoredBody, Changed, ChangeMissed}
+use Rattle.gt_word_history.specs.declared.view.HeaderStep.TheVariants as header
+use Rattle.gt_word_history.specs.declared.view.SeatStep.{SeatStep}
+use Rattle.gt_word_history.specs.declared.view.SeatStep.TheVariants.{Entry, Header}
 use Rattle.gt_live.specs.Domains.{AllowRelation}
 use Rattle.gt_live.specs.Walks.{seen_in_step}
 use Rattle.gt_order.proofs.Counting.{IsIdleFor, IsTurned, changes-entry, gives-back, takes-pin}

@@ -7,7 +7,7 @@ use Rattle.gt_order.specs.Prelude.{PinMissed, Unpinned, StoredBody, Changed, Cha
 use Rattle.gt_order.specs.Prelude.{DomId, Step, LookHeader, LookControl, LookBody, PinStep, Unpin, StoreBody}
 use Rattle.gt_order.specs.Prelude.{StoreHeader, Exchange, Items, Setting, body_at, entry_at, generation_at, table_at}
 use Rattle.gt_order.specs.Prelude.{word_at}
-use Rattle.gt_word_table.specs.declared.view.HeaderStep.TheVariants as header
+use Rattle.gt_word_history.specs.declared.view.HeaderStep.TheVariants as header
 
 -- the domain at a position
 abbrev pub dom_at : Layout → ℕ → DomId

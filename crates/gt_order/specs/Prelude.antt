@@ -55,18 +55,18 @@ pub use Rattle.gt_types.specs.declared.denial.Facts.TheVariants.{None as NoFacts
 pub use Rattle.gt_types.specs.declared.denial.Rule.TheVariants.{N26}
 pub use Rattle.gt_types.specs.declared.limits.TheConstants.{TABLE_ENTRIES}
 pub use Rattle.gt_words.specs.Conditions.{Board, HasDomain, IsSameSeat}
-pub use Rattle.gt_word_table.specs.Controls.{generation_of}
-pub use Rattle.gt_word_table.specs.History.{StepHistory, Layout, Moment, SaysWord, half_index, part_of, word_place_of}
-pub use Rattle.gt_word_table.specs.History.{word_after}
-pub use Rattle.gt_word_table.specs.Rule.{Shows, header_place, id_at, layout_of, place, position_in}
-pub use Rattle.gt_word_table.specs.Steps.{changed, changed_word}
-pub use Rattle.gt_word_table.specs.Views.{entry_steps, last_record}
-pub use Rattle.gt_word_table.specs.declared.view.EntryRecord.{EntryRecord}
-pub use Rattle.gt_word_table.specs.declared.view.EntryStep.TheVariants.{ChangeMissed, Changed, Looked, PinMissed}
-pub use Rattle.gt_word_table.specs.declared.view.EntryStep.TheVariants.{Pinned}
-pub use Rattle.gt_word_table.specs.declared.view.EntryStep.TheVariants.{ReadBody, StoredBody, Unpinned}
-pub use Rattle.gt_word_table.specs.declared.view.SeatStep.{SeatStep}
-pub use Rattle.gt_word_table.specs.declared.view.SeatStep.TheVariants.{Entry, Header}
-pub use Rattle.gt_word_table.specs.declared.view.View.{View}
+pub use Rattle.gt_word_history.specs.Controls.{generation_of}
+pub use Rattle.gt_word_history.specs.History.{StepHistory, Layout, Moment, SaysWord, half_index, part_of, word_place_of}
+pub use Rattle.gt_word_history.specs.History.{word_after}
+pub use Rattle.gt_word_history.specs.Rule.{Shows, header_place, id_at, layout_of, place, position_in}
+pub use Rattle.gt_word_history.specs.Steps.{changed, changed_word}
+pub use Rattle.gt_word_history.specs.Views.{entry_steps, last_record}
+pub use Rattle.gt_word_history.specs.declared.view.EntryRecord.{EntryRecord}
+pub use Rattle.gt_word_history.specs.declared.view.EntryStep.TheVariants.{ChangeMissed, Changed, Looked, PinMissed}
+pub use Rattle.gt_word_history.specs.declared.view.EntryStep.TheVariants.{Pinned}
+pub use Rattle.gt_word_history.specs.declared.view.EntryStep.TheVariants.{ReadBody, StoredBody, Unpinned}
+pub use Rattle.gt_word_history.specs.declared.view.SeatStep.{SeatStep}
+pub use Rattle.gt_word_history.specs.declared.view.SeatStep.TheVariants.{Entry, Header}
+pub use Rattle.gt_word_history.specs.declared.view.View.{View}
 pub use lib.ListN.{get_elem?}
 pub use mathlib.Core.Option.{some}

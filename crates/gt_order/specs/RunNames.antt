@@ -23,9 +23,9 @@ pub use Rattle.gt_script.specs.Lists.{RunTask}
 pub use Rattle.gt_types.specs.declared.config.Config.{Config}
 pub use Rattle.gt_types.specs.declared.denial.Denial.{Denial}
 pub use Rattle.gt_words.specs.Conditions.{Board}
-pub use Rattle.gt_word_table.specs.History.{StepHistory}
-pub use Rattle.gt_word_table.specs.Rule.{Shows, id_at}
-pub use Rattle.gt_word_table.specs.Views.{IsAmong}
-pub use Rattle.gt_word_table.specs.declared.view.View.{View}
+pub use Rattle.gt_word_history.specs.History.{StepHistory}
+pub use Rattle.gt_word_history.specs.Rule.{Shows, id_at}
+pub use Rattle.gt_word_history.specs.Views.{IsAmong}
+pub use Rattle.gt_word_history.specs.declared.view.View.{View}
 pub use lib.ListN.{get_elem?}
 pub use mathlib.Core.Option.{some}

@@ -1,6 +1,7 @@
 -- The lists of a run that read and copy no bytes, and the legal order whose answers they print.
 use Rattle.std.specs.Prelude.{◌≡◌, ◌⊎◌, ℕ, ◌<◌, ◌==◌, true, List, [], ◌∷◌, ◌++◌, length}
 use Rattle.gt_order.specs.RunNames.{some, get_elem?, State, Config, Denial, Board, StepHistory, Shows, id_at}
+use Rattle.gt_order.specs.Prelude.{IsWithinLimits}
 use Rattle.gt_order.specs.RunNames.{IsAmong}
 use Rattle.gt_order.specs.RunNames.{View, Request, Items, answer_of, Answer, IsOfAccess, AllowRelation, HasLeft}
 use Rattle.gt_order.specs.RunNames.{Domain, Departed, Monitor, AreUnmaps, MayUnmapAll, IsLegalOrder, CallMade}
@@ -85,11 +86,12 @@ pub record AreOfALegalOrder {P : Type 0} (may : P → AllowRelation) (m : Monito
   pub legal : IsLegalOrder m.config (may m.rights) m.words.layout h seats items
   pub each : (i : ℕ) → i < length m.config.domains.items → AreCallsOfList may (lists i) (seats i).calls
 
--- if each domain's list was served, and reads and copies no bytes, and words and views show a state in which each
--- domain has the view with which its list ended or it left, then the text of the lists is that of a legal order
+-- if the configuration is within the limits of the core, each domain's list was served, and reads and copies no bytes,
+-- and words and views show a state in which each domain has the view with which its list ended or it left, then the text
+-- of the lists is that of a legal order
 abbrev pub TextsAreOfALegalOrder : {P : Type 0} → (P → AllowRelation) → Monitor P → Type 0
 TextsAreOfALegalOrder {P} may m =
-    (lists : ℕ → Served P) (s : State (Unit {0}) View) (ends : ℕ → View)
+    (lists : ℕ → Served P) (s : State (Unit {0}) View) (ends : ℕ → View) → IsWithinLimits m.config
     → ((i : ℕ) → i < length m.config.domains.items → (l : HasList may m i (lists i))
     × IsViewOf m.words m.config (may m.rights) l.served.left.domain (ends i) × (get_elem? s.views i ≡ some (ends i)))
     → (shown : Shows m.words.layout s) → AreOfALegalOrder may m shown.history lists

@@ -10,7 +10,7 @@
 //! ([`calls_of_domains_are_made`]). The lists of `gt_run` that read and copy no bytes print the answers of such a list
 //! of items ([`every_text_is_of_a_legal_order`]).
 //!
-//! It uses `gt_run`, `gt_host`, `gt_script`, `gt_script_lines`, `gt_live`, `gt_core`, `gt_words`, `gt_word_table`,
+//! It uses `gt_run`, `gt_host`, `gt_script`, `gt_script_lines`, `gt_live`, `gt_core`, `gt_words`, `gt_word_history`,
 //! `gt_calls`, `gt_frames`, `gt_handles`, `gt_entry`, `gt_types` and the kit's `atomic_table`.
 #![tactic(auto)]
 

@@ -30,21 +30,22 @@ use Rattle.gt_policy_check.specs.Check.{repeat_line, repeated_with, lines_repeat
 use Rattle.std.proofs.lemmas.List.{append-nil}
 use Rattle.std.proofs.lemmas.List.Concat.{flat_map-append}
 use Rattle.gt_policy_check.specs.Granting.{exceeds_on, exceeds_some, gives_one, gives_some, gives_source, reaches_by}
-use Rattle.gt_policy_check.specs.Members.{is_asked, membership_of, members_of}
+use Rattle.gt_policy_check.specs.Members.{membership_of, members_of}
+use Rattle.gt_policy_check.specs.Why.{is_meant}
 use Rattle.gt_policy_check.specs.Why.{types_asked}
 use Rattle.gt_policy_check.proofs.GrantLemmas.{any_and, any_asked, any_never, any_same, by_names, gives_named}
 
 -- all types are asked for
-filter_all : (ts : List (List ℕ)) → filter (is_asked None) ts ≡ ts
-filter_all [] = refl
-filter_all (t ∷ ts) = ap (λ (l : List (List ℕ)). t ∷ l) (filter_all ts)
+filter_all : (ss : List Statement) (ts : List (List ℕ)) → filter (is_meant ss None) ts ≡ ts
+filter_all ss [] = refl
+filter_all ss (t ∷ ts) = ap (λ (l : List (List ℕ)). t ∷ l) (filter_all ss ts)
 
 -- a statement grants a permission to some type on some type
 gives_any_type : (xs : List LinedStatement) (w : List ℕ) (x : Statement) → gives_some w (members_of xs None) (members_of xs None) x
     ≡ list_any (λ s. list_any (λ t. statement_grants (statements_in xs) s t w x) (types_in (statements_in xs))) (types_in (statements_in xs))
 gives_any_type xs w x =
     gives_named xs w None None x
-    ∙ ap (λ (ts : List (List ℕ)). list_any (λ s. list_any (λ t. statement_grants (statements_in xs) s t w x) ts) ts) (filter_all (types_in (statements_in xs)))
+    ∙ ap (λ (ts : List (List ℕ)). list_any (λ s. list_any (λ t. statement_grants (statements_in xs) s t w x) ts) ts) (filter_all (statements_in xs) (types_in (statements_in xs)))
 
 pub useless_same : (xs : List LinedStatement) (x : Statement) → is_useless_with (members_of xs None) x ≡ allows_nothing xs x
 useless_same xs (DeclareType w ms) = refl
@@ -170,7 +171,7 @@ module _ (xs : List LinedStatement) (w : List ℕ) (y : Statement) where
 
   exceeds_named : (x : Statement) → exceeds_some w (members_of xs None) x y
       ≡ list_any (λ s. list_any (λ t. Exceeds x s t) (types_in (statements_in xs))) (types_in (statements_in xs))
-  exceeds_named x = exceeds_asked x ∙ ap (λ (ts : List (List ℕ)). list_any (λ s. list_any (λ t. Exceeds x s t) ts) ts) (filter_all (types_in (statements_in xs)))
+  exceeds_named x = exceeds_asked x ∙ ap (λ (ts : List (List ℕ)). list_any (λ s. list_any (λ t. Exceeds x s t) ts) ts) (filter_all (statements_in xs) (types_in (statements_in xs)))
 
 no_more_same : (xs : List LinedStatement) (x y : Statement) → no_more_with (members_of xs None) x y ≡ grants_no_more xs x y
 no_more_same xs x y =

@@ -1,14 +1,14 @@
 -- The names that stand for a type, and what statements grant.
 use Rattle.std.proofs.Common.{◌≡◌, ℕ, Bool, true, false, ◌&&◌, ◌||◌, not, ◌==◌, List, [], ◌∷◌, ◌++◌, length, map}
-use Rattle.std.proofs.Common.{Option, refl, sym, ap, ◌∙◌, arith}
+use Rattle.std.proofs.Common.{Option, Some, None, refl, sym, ap, ◌∙◌, arith}
 use Rattle.std.proofs.lemmas.Bool.Decides.{nat_tests}
-use Rattle.std.specs.Prelude.{if◌then◌else◌, filter, is_none, codes}
+use Rattle.std.specs.Prelude.{if◌then◌else◌, filter, codes}
 use Rattle.std.specs.List.{flat_map, list_any}
 use Rattle.std.specs.Str.{bytes_eq}
 use Rattle.std.proofs.lemmas.List.Folds.{list_any-append}
 use Rattle.std.proofs.lemmas.List.Concat.{flat_map-append}
 use Rattle.std.proofs.lemmas.Slice.Eq.{bytes_eq-Decides}
-use Rattle.gt_types.specs.Names.{permission_of}
+use Rattle.gt_types.specs.Names.{every_permission, permission_name}
 use Rattle.gt_policy.specs.Granting as text
 use Rattle.gt_policy.specs.Lined.{statements_in}
 use Rattle.gt_policy.specs.Resolving.{has_grant}
@@ -26,10 +26,11 @@ use Rattle.gt_policy_check.specs.declared.asking.WhyAnswer.{WhyAnswer}
 use Rattle.gt_policy_check.specs.declared.asking.WhyAnswer.TheVariants.{Allowed, Denied, NoSource, NoTarget, NoPermission}
 use Rattle.gt_policy_check.specs.declared.asking.WhyQuestion.{WhyQuestion}
 use Rattle.gt_policy_check.specs.Granting.{puts_in, takes_out, elements_hold, reaches_by, gives_source, gives_by, gives_some}
-use Rattle.gt_policy_check.specs.Granting.{near_some}
+use Rattle.gt_policy_check.specs.Granting.{gives_of, near_of}
 use Rattle.gt_policy_check.specs.Members.{names_given, names_in_lines, membership_of, is_asked, members_in, members_of}
 use Rattle.gt_policy_check.specs.Texts.{report_entry_text}
-use Rattle.gt_policy_check.specs.Why.{types_asked, source_asked, target_asked, grants_asked, is_near, entry_if, entries_if}
+use Rattle.gt_policy_check.specs.Why.{types_asked, source_asked, target_asked, perm_asked, grants_asked, is_near, entry_if, entries_if}
+use Rattle.gt_policy_check.specs.Why.{grants_of, grants_word, is_meant, is_unknown}
 use Rattle.gt_policy_check.specs.Why.{entries_of, answer_by, why_answer, lines_with, lines_of}
 
 -- bytes are compared either way round
@@ -112,17 +113,22 @@ filtered : (p : List ℕ → Bool) (t : List ℕ) (b : Bool) (ts : List (List �
 filtered p t true ts = refl
 filtered p t false ts = refl
 
+same_asked : (xs : List LinedStatement) (asked : Option (List ℕ)) (t : List ℕ) → is_asked asked (names_in_lines xs t) ≡ is_meant (statements_in xs) asked t
+same_asked xs (Some wanted) t = stands xs t wanted
+same_asked xs None t = refl
+
 asked_among : (xs : List LinedStatement) (asked : Option (List ℕ)) (p : Member → Bool) (ys : List LinedStatement)
-    → list_any p (flat_map (λ x. members_in xs asked x.statement) ys) ≡ list_any (λ t. p (membership_of xs t)) (filter (is_asked asked) (types_in (statements_in ys)))
+    → list_any p (flat_map (λ x. members_in xs asked x.statement) ys) ≡ list_any (λ t. p (membership_of xs t)) (filter (is_meant (statements_in xs) asked) (types_in (statements_in ys)))
 asked_among xs asked p [] = refl
 asked_among xs asked p (y ∷ ys) = go y.statement (asked_among xs asked p ys)
   where
-    go : (s : Statement) → list_any p (flat_map (λ x. members_in xs asked x.statement) ys) ≡ list_any (λ t. p (membership_of xs t)) (filter (is_asked asked) (types_in (statements_in ys)))
-        → list_any p (members_in xs asked s ++ flat_map (λ x. members_in xs asked x.statement) ys) ≡ list_any (λ t. p (membership_of xs t)) (filter (is_asked asked) (types_in (s ∷ statements_in ys)))
+    go : (s : Statement) → list_any p (flat_map (λ x. members_in xs asked x.statement) ys) ≡ list_any (λ t. p (membership_of xs t)) (filter (is_meant (statements_in xs) asked) (types_in (statements_in ys)))
+        → list_any p (members_in xs asked s ++ flat_map (λ x. members_in xs asked x.statement) ys) ≡ list_any (λ t. p (membership_of xs t)) (filter (is_meant (statements_in xs) asked) (types_in (s ∷ statements_in ys)))
     go (DeclareType w ms) others =
-        if_asked p (membership_of xs w) (is_asked asked w) (flat_map (λ x. members_in xs asked x.statement) ys)
-        ∙ ap (λ (b : Bool). (is_asked asked w && p (membership_of xs w)) || b) others
-        ∙ sym (filtered (λ t. p (membership_of xs t)) w (is_asked asked w) (filter (is_asked asked) (types_in (statements_in ys))))
+        if_asked p (membership_of xs w) (is_asked asked (names_in_lines xs w)) (flat_map (λ x. members_in xs asked x.statement) ys)
+        ∙ ap (λ (b : Bool). (is_asked asked (names_in_lines xs w) && p (membership_of xs w)) || b) others
+        ∙ ap (λ (b : Bool). (b && p (membership_of xs w)) || list_any (λ t. p (membership_of xs t)) (filter (is_meant (statements_in xs) asked) (types_in (statements_in ys)))) (same_asked xs asked w)
+        ∙ sym (filtered (λ t. p (membership_of xs t)) w (is_meant (statements_in xs) asked w) (filter (is_meant (statements_in xs) asked) (types_in (statements_in ys))))
     go (DeclareAttribute w) others = others
     go (GiveAttributes m ms) others = others
     go (Allow a) others = others
@@ -161,18 +167,24 @@ gives_named xs w a b (Allow r) =
     ∙ any_same (λ t. gives_source w (membership_of xs s) r && reaches_by (membership_of xs s) (membership_of xs t) r) (λ t. text.statement_grants (statements_in xs) s t w (Allow r)) (λ t. by_names xs w s t r) (types_asked xs b))
     (types_asked xs a)
 
-gives_asked : (xs : List LinedStatement) (q : WhyQuestion) (x : Statement) → gives_some q.perm.now (members_of xs (source_asked q)) (members_of xs (target_asked q)) x ≡ grants_asked xs q x
-gives_asked xs q x = gives_named xs q.perm.now (source_asked q) (target_asked q) x
+gives_by_word : (xs : List LinedStatement) (q : WhyQuestion) (x : Statement) (perm : Option (List ℕ)) → gives_of perm (members_of xs (source_asked q)) (members_of xs (target_asked q)) x ≡ grants_of xs q perm x
+gives_by_word xs q x (Some w) = gives_named xs w (source_asked q) (target_asked q) x
+gives_by_word xs q x None =
+    any_same (λ p. gives_some (permission_name p) (members_of xs (source_asked q)) (members_of xs (target_asked q)) x) (λ p. grants_word xs q (permission_name p) x)
+    (λ p. gives_named xs (permission_name p) (source_asked q) (target_asked q) x) every_permission
+
+gives_asked : (xs : List LinedStatement) (q : WhyQuestion) (x : Statement) → gives_of (perm_asked q) (members_of xs (source_asked q)) (members_of xs (target_asked q)) x ≡ grants_asked xs q x
+gives_asked xs q x = gives_by_word xs q x (perm_asked q)
 
 -- the answer
-pub answers : (xs : List LinedStatement) (q : WhyQuestion) → answer_by q.perm.now (members_of xs (source_asked q)) (members_of xs (target_asked q)) xs ≡ why_answer xs q
+pub answers : (xs : List LinedStatement) (q : WhyQuestion) → answer_by (perm_asked q) (members_of xs (source_asked q)) (members_of xs (target_asked q)) xs ≡ why_answer xs q
 answers xs q =
-    ap (λ (b : Bool). if is_none (permission_of q.perm.now) then NoPermission else (if b then NoSource else (if length (members_of xs (target_asked q)) == 0 then NoTarget
-    else (if list_any (λ x. gives_some q.perm.now (members_of xs (source_asked q)) (members_of xs (target_asked q)) x.statement) xs then Allowed else Denied)))) (none_asked xs (source_asked q))
-    ∙ ap (λ (b : Bool). if is_none (permission_of q.perm.now) then NoPermission else (if length (types_asked xs (source_asked q)) == 0 then NoSource else (if b then NoTarget
-    else (if list_any (λ x. gives_some q.perm.now (members_of xs (source_asked q)) (members_of xs (target_asked q)) x.statement) xs then Allowed else Denied)))) (none_asked xs (target_asked q))
-    ∙ ap (λ (b : Bool). if is_none (permission_of q.perm.now) then NoPermission else (if length (types_asked xs (source_asked q)) == 0 then NoSource else (if length (types_asked xs (target_asked q)) == 0 then NoTarget
-    else (if b then Allowed else Denied)))) (any_same (λ x. gives_some q.perm.now (members_of xs (source_asked q)) (members_of xs (target_asked q)) x.statement) (λ x. grants_asked xs q x.statement) (λ x. gives_asked xs q x.statement) xs)
+    ap (λ (b : Bool). if is_unknown (perm_asked q) then NoPermission else (if b then NoSource else (if length (members_of xs (target_asked q)) == 0 then NoTarget
+    else (if list_any (λ x. gives_of (perm_asked q) (members_of xs (source_asked q)) (members_of xs (target_asked q)) x.statement) xs then Allowed else Denied)))) (none_asked xs (source_asked q))
+    ∙ ap (λ (b : Bool). if is_unknown (perm_asked q) then NoPermission else (if length (types_asked xs (source_asked q)) == 0 then NoSource else (if b then NoTarget
+    else (if list_any (λ x. gives_of (perm_asked q) (members_of xs (source_asked q)) (members_of xs (target_asked q)) x.statement) xs then Allowed else Denied)))) (none_asked xs (target_asked q))
+    ∙ ap (λ (b : Bool). if is_unknown (perm_asked q) then NoPermission else (if length (types_asked xs (source_asked q)) == 0 then NoSource else (if length (types_asked xs (target_asked q)) == 0 then NoTarget
+    else (if b then Allowed else Denied)))) (any_same (λ x. gives_of (perm_asked q) (members_of xs (source_asked q)) (members_of xs (target_asked q)) x.statement) (λ x. grants_asked xs q x.statement) (λ x. gives_asked xs q x.statement) xs)
 
 -- the lines
 one_passed : {X : Type 0} (f : X → List ℕ) (x : X) (xs : List X) (b : Bool) → flat_map f (if b then x ∷ xs else xs) ≡ (if b then f x else []) ++ flat_map f xs
@@ -187,13 +199,13 @@ passed test other file sources targets same (x ∷ xs) =
     ∙ ap (λ (b : Bool). (if b then report_entry_text file sources targets x else []) ++ flat_map (report_entry_text file sources targets) (filter (λ y. other y.statement) xs)) (same x.statement)
     ∙ sym (one_passed (report_entry_text file sources targets) x (filter (λ y. other y.statement) xs) (other x.statement))
 
-pub all_lines : (answer : WhyAnswer) (file : List ℕ) (xs : List LinedStatement) (q : WhyQuestion) → lines_with answer file q.perm.now (members_of xs (source_asked q)) (members_of xs (target_asked q)) xs ≡ lines_of answer file xs q
+pub all_lines : (answer : WhyAnswer) (file : List ℕ) (xs : List LinedStatement) (q : WhyQuestion) → lines_with answer file (perm_asked q) (members_of xs (source_asked q)) (members_of xs (target_asked q)) xs ≡ lines_of answer file xs q
 all_lines Allowed file xs q =
     ap (λ (l : List ℕ). codes "allowed\n" ++ l)
-    (passed (gives_some q.perm.now (members_of xs (source_asked q)) (members_of xs (target_asked q))) (grants_asked xs q) file (members_of xs (source_asked q)) (members_of xs (target_asked q)) (gives_asked xs q) xs)
+    (passed (gives_of (perm_asked q) (members_of xs (source_asked q)) (members_of xs (target_asked q))) (grants_asked xs q) file (members_of xs (source_asked q)) (members_of xs (target_asked q)) (gives_asked xs q) xs)
 all_lines Denied file xs q =
     ap (λ (l : List ℕ). codes "denied\n" ++ l)
-    (passed (near_some q.perm.now (members_of xs (source_asked q)) (members_of xs (target_asked q))) (is_near xs q) file (members_of xs (source_asked q)) (members_of xs (target_asked q)) (λ x. refl) xs)
+    (passed (near_of (perm_asked q) (members_of xs (source_asked q)) (members_of xs (target_asked q))) (is_near xs q) file (members_of xs (source_asked q)) (members_of xs (target_asked q)) (λ x. refl) xs)
 all_lines NoSource file xs q = refl
 all_lines NoTarget file xs q = refl
 all_lines NoPermission file xs q = refl

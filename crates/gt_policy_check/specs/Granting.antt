@@ -1,7 +1,8 @@
 -- What a statement grants to which types, by the names that stand for them.
-use Rattle.std.specs.Prelude.{ℕ, Bool, false, ◌&&◌, ◌||◌, not, List}
+use Rattle.std.specs.Prelude.{ℕ, Bool, false, ◌&&◌, ◌||◌, not, List, Option, Some, None}
 use Rattle.std.specs.List.{list_any}
 use Rattle.std.specs.Str.{bytes_eq}
+use Rattle.gt_types.specs.Names.{every_permission, permission_name}
 use Rattle.gt_policy.specs.Granting.{lists_word, is_self}
 use Rattle.gt_policy.specs.Resolving.{has_grant}
 use Rattle.gt_policy.specs.declared.statements.Allowance.{Allowance}
@@ -59,6 +60,15 @@ near_some w sources targets (DeclareType v ms) = false
 near_some w sources targets (DeclareAttribute v) = false
 near_some w sources targets (GiveAttributes m ms) = false
 near_some w sources targets (Allow a) = list_any (λ s. is_near_miss w targets s a) sources
+
+-- the same for a permission, or for any if there is none
+abbrev pub gives_of : Option (List ℕ) → List Member → List Member → Statement → Bool
+gives_of (Some w) sources targets x = gives_some w sources targets x
+gives_of None sources targets x = list_any (λ p. gives_some (permission_name p) sources targets x) every_permission
+
+abbrev pub near_of : Option (List ℕ) → List Member → List Member → Statement → Bool
+near_of (Some w) sources targets x = near_some w sources targets x
+near_of None sources targets x = list_any (λ p. near_some (permission_name p) sources targets x) every_permission
 
 -- a statement grants the permission to the source on the target
 abbrev pub gives_one : List ℕ → Member → Member → Statement → Bool

@@ -5,3 +5,4 @@ pub mod Texts
 pub mod Why
 pub mod Report
 pub mod Prelude
+pub mod Useless

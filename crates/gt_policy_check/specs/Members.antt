@@ -1,6 +1,6 @@
 -- Types, with the names that stand for them.
 use Rattle.std.specs.Prelude.{ℕ, Bool, true, List, [], ◌∷◌, map, Option, Some, None, if◌then◌else◌}
-use Rattle.std.specs.List.{flat_map}
+use Rattle.std.specs.List.{flat_map, list_any}
 use Rattle.std.specs.Str.{bytes_eq}
 use Rattle.gt_policy.specs.declared.lined.LinedStatement.{LinedStatement}
 use Rattle.gt_policy.specs.declared.statements.Statement.{Statement}
@@ -24,14 +24,14 @@ names_in_lines xs t = t ∷ flat_map (λ x. names_given t x.statement) xs
 abbrev pub membership_of : List LinedStatement → List ℕ → Member
 membership_of xs t = record { name = t; names = names_in_lines xs t }
 
--- the type is asked for: by its name, or as any type
-abbrev pub is_asked : Option (List ℕ) → List ℕ → Bool
-is_asked (Some wanted) t = bytes_eq t wanted
-is_asked None t = true
+-- a type with these names is asked for: by one of them, or as any type
+abbrev pub is_asked : Option (List ℕ) → List (List ℕ) → Bool
+is_asked (Some wanted) names = list_any (λ v. bytes_eq v wanted) names
+is_asked None names = true
 
 -- the type that a statement declares, if it is asked for
 abbrev pub members_in : List LinedStatement → Option (List ℕ) → Statement → List Member
-members_in xs asked (DeclareType w ms) = if is_asked asked w then membership_of xs w ∷ [] else []
+members_in xs asked (DeclareType w ms) = if is_asked asked (names_in_lines xs w) then membership_of xs w ∷ [] else []
 members_in xs asked (DeclareAttribute w) = []
 members_in xs asked (GiveAttributes m ms) = []
 members_in xs asked (Allow a) = []

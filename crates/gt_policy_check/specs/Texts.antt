@@ -66,9 +66,9 @@ names_type t (With m) = bytes_eq m.name t
 names_type t (Without m) = false
 names_type t Itself = false
 
--- ` by NAME` for the attribute that an item names
+-- ` (by NAME)` for the attribute that an item names
 abbrev pub item_by_text : SetElement → List ℕ
-item_by_text (With m) = codes " by " ++ m.name
+item_by_text (With m) = codes " (by " ++ m.name ++ codes ")"
 item_by_text (Without m) = []
 item_by_text Itself = []
 

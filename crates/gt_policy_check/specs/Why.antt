@@ -1,9 +1,10 @@
 -- The answer to a question, and its statements.
-use Rattle.std.specs.Prelude.{◌≡◌, ℕ, Bool, ◌==◌, List, [], ◌++◌, codes, length, filter, Option, is_none, if◌then◌else◌}
+use Rattle.std.specs.Prelude.{◌≡◌, ℕ, Bool, true, false, ◌==◌, List, [], ◌++◌, codes, length, filter, Option, Some}
+use Rattle.std.specs.Prelude.{None, is_none, if◌then◌else◌}
 use Rattle.std.specs.List.{flat_map, list_any}
 use Rattle.std.specs.Option.{option_map}
-use Rattle.gt_types.specs.Names.{permission_of}
-use Rattle.gt_policy.specs.Granting.{statement_grants}
+use Rattle.gt_types.specs.Names.{every_permission, permission_name, permission_of}
+use Rattle.gt_policy.specs.Granting.{is_named, statement_grants}
 use Rattle.gt_policy.specs.Lined.{statements_in}
 use Rattle.gt_policy.specs.Spelling.{types_in}
 use Rattle.gt_policy.specs.declared.lined.LinedStatement.{LinedStatement}
@@ -13,8 +14,8 @@ use Rattle.gt_policy_check.specs.declared.asking.WhyAnswer.{WhyAnswer}
 use Rattle.gt_policy_check.specs.declared.asking.WhyAnswer.TheVariants.{Allowed, Denied, NoSource, NoTarget, NoPermission}
 use Rattle.gt_policy_check.specs.declared.asking.Explanation.{Explanation}
 use Rattle.gt_policy_check.specs.declared.asking.WhyQuestion.{WhyQuestion}
-use Rattle.gt_policy_check.specs.Granting.{gives_some, near_some}
-use Rattle.gt_policy_check.specs.Members.{is_asked, members_of}
+use Rattle.gt_policy_check.specs.Granting.{gives_of, near_of}
+use Rattle.gt_policy_check.specs.Members.{members_of}
 use Rattle.gt_policy_check.specs.Texts.{report_entry_text}
 
 -- the name that is asked for; none for any type
@@ -24,19 +25,42 @@ source_asked q = option_map (λ a. a.now) q.source
 abbrev pub target_asked : WhyQuestion → Option (List ℕ)
 target_asked q = option_map (λ a. a.now) q.target
 
+-- the permission that is asked for; none for any permission
+abbrev pub perm_asked : WhyQuestion → Option (List ℕ)
+perm_asked q = option_map (λ a. a.now) q.perm
+
+-- the type is asked for: by its name, by that of an attribute that it has, or as any type
+abbrev pub is_meant : List Statement → Option (List ℕ) → List ℕ → Bool
+is_meant ss (Some wanted) t = is_named ss wanted t
+is_meant ss None t = true
+
 -- the declared types that are asked for
 abbrev pub types_asked : List LinedStatement → Option (List ℕ) → List (List ℕ)
-types_asked xs asked = filter (is_asked asked) (types_in (statements_in xs))
+types_asked xs asked = filter (is_meant (statements_in xs) asked) (types_in (statements_in xs))
 
--- the statement grants the permission to some source that is asked for, on some target that is asked for
-abbrev pub grants_asked : List LinedStatement → WhyQuestion → Statement → Bool
-grants_asked xs q x = list_any
-    (λ s. list_any (λ t. statement_grants (statements_in xs) s t q.perm.now x) (types_asked xs (target_asked q)))
+-- the statement grants this permission to some source that is asked for, on some target that is asked for
+abbrev pub grants_word : List LinedStatement → WhyQuestion → List ℕ → Statement → Bool
+grants_word xs q w x = list_any
+    (λ s. list_any (λ t. statement_grants (statements_in xs) s t w x) (types_asked xs (target_asked q)))
     (types_asked xs (source_asked q))
 
--- the statement has a target that is asked for, and the permission or a source that is asked for
+-- the same for a permission, or for any if there is none
+abbrev pub grants_of : List LinedStatement → WhyQuestion → Option (List ℕ) → Statement → Bool
+grants_of xs q (Some w) x = grants_word xs q w x
+grants_of xs q None x = list_any (λ p. grants_word xs q (permission_name p) x) every_permission
+
+-- the statement grants a permission that is asked for to some source on some target that are asked for
+abbrev pub grants_asked : List LinedStatement → WhyQuestion → Statement → Bool
+grants_asked xs q x = grants_of xs q (perm_asked q) x
+
+-- the statement has a target that is asked for, and a permission or a source that is asked for
 abbrev pub is_near : List LinedStatement → WhyQuestion → Statement → Bool
-is_near xs q x = near_some q.perm.now (members_of xs (source_asked q)) (members_of xs (target_asked q)) x
+is_near xs q x = near_of (perm_asked q) (members_of xs (source_asked q)) (members_of xs (target_asked q)) x
+
+-- a word that is asked for is not one of the seven permissions
+abbrev pub is_unknown : Option (List ℕ) → Bool
+is_unknown (Some w) = is_none (permission_of w)
+is_unknown None = false
 
 -- the line of a statement, if it passes the test
 abbrev pub entry_if : (Statement → Bool) → List ℕ → List Member → List Member → LinedStatement → List ℕ
@@ -47,31 +71,32 @@ abbrev pub entries_if : (Statement → Bool) → List ℕ → List Member → Li
 entries_if test file sources targets xs = flat_map (λ x. entry_if test file sources targets x) xs
 
 -- the answer of these statements for these sources and targets
-abbrev pub answer_by : List ℕ → List Member → List Member → List LinedStatement → WhyAnswer
-answer_by w sources targets xs = if is_none (permission_of w) then NoPermission
+abbrev pub answer_by : Option (List ℕ) → List Member → List Member → List LinedStatement → WhyAnswer
+answer_by perm sources targets xs = if is_unknown perm then NoPermission
     else (if length sources == 0 then NoSource
     else (if length targets == 0 then NoTarget
-    else (if list_any (λ x. gives_some w sources targets x.statement) xs then Allowed else Denied)))
+    else (if list_any (λ x. gives_of perm sources targets x.statement) xs then Allowed else Denied)))
 
 -- the statements that are listed under an answer: those that grant the permission if it is allowed, and else the
 -- near misses
-abbrev pub is_listed_under : WhyAnswer → List ℕ → List Member → List Member → Statement → Bool
-is_listed_under Allowed w sources targets = gives_some w sources targets
-is_listed_under answer w sources targets = near_some w sources targets
+abbrev pub is_listed_under : WhyAnswer → Option (List ℕ) → List Member → List Member → Statement → Bool
+is_listed_under Allowed perm sources targets = gives_of perm sources targets
+is_listed_under answer perm sources targets = near_of perm sources targets
 
 -- the lines of an answer
-abbrev pub lines_with : WhyAnswer → List ℕ → List ℕ → List Member → List Member → List LinedStatement → List ℕ
-lines_with Allowed file w sources targets xs =
-    codes "allowed\n" ++ entries_if (gives_some w sources targets) file sources targets xs
-lines_with Denied file w sources targets xs =
-    codes "denied\n" ++ entries_if (near_some w sources targets) file sources targets xs
-lines_with NoSource file w sources targets xs = []
-lines_with NoTarget file w sources targets xs = []
-lines_with NoPermission file w sources targets xs = []
+abbrev pub lines_with : WhyAnswer → List ℕ → Option (List ℕ) → List Member → List Member → List LinedStatement
+    → List ℕ
+lines_with Allowed file perm sources targets xs =
+    codes "allowed\n" ++ entries_if (gives_of perm sources targets) file sources targets xs
+lines_with Denied file perm sources targets xs =
+    codes "denied\n" ++ entries_if (near_of perm sources targets) file sources targets xs
+lines_with NoSource file perm sources targets xs = []
+lines_with NoTarget file perm sources targets xs = []
+lines_with NoPermission file perm sources targets xs = []
 
 -- the answer of a policy: allowed if some statement grants what is asked
 abbrev pub why_answer : List LinedStatement → WhyQuestion → WhyAnswer
-why_answer xs q = if is_none (permission_of q.perm.now) then NoPermission
+why_answer xs q = if is_unknown (perm_asked q) then NoPermission
     else (if length (types_asked xs (source_asked q)) == 0 then NoSource
     else (if length (types_asked xs (target_asked q)) == 0 then NoTarget
     else (if list_any (λ x. grants_asked xs q x.statement) xs then Allowed else Denied)))

@@ -1,17 +1,19 @@
 //! Answers who may do what, and by which statements.
 ghost use Rattle.std.specs.Prelude.{◌≡◌, ◌++◌, List, IfOk, IfErr, OnOk, None, Some, Ok, Err};
 ghost use Rattle.std.specs.List.{list_any};
+ghost use Rattle.std.specs.Option.{option_map};
 ghost use Rattle.gt_policy.specs.Allowing.{Meaning};
 ghost use Rattle.gt_policy.specs.Lined.{IsLined};
 ghost use Rattle.gt_policy.specs.Shown.{fault_shown, out_of_memory};
 ghost use Rattle.gt_policy.specs.Whole.{Says};
 ghost use Rattle.gt_policy.specs.declared.fault.TokenFault.{TokenFault};
 ghost use Rattle.gt_policy.specs.declared.lined.LinedStatement.{LinedStatement};
-ghost use Rattle.gt_policy_check.specs.Granting.{gives_some};
+ghost use Rattle.gt_policy_check.specs.Granting.{gives_of};
 ghost use Rattle.gt_policy_check.specs.Members.{members_of};
-ghost use Rattle.gt_policy_check.specs.Why.{entries_if, is_listed_under, answer_by, lines_with, IsExplained};
+ghost use Rattle.gt_policy_check.specs.Why.{entries_if, is_listed_under, is_unknown, answer_by, lines_with};
+ghost use Rattle.gt_policy_check.specs.Why.{IsExplained};
 
-use crate::granting::{gives_some, near_some};
+use crate::granting::{gives_of, near_of};
 use crate::members::{Member, members_of};
 use crate::reading::read_policy;
 use crate::texts::push_entry;
@@ -20,12 +22,13 @@ use gt_text::push_text;
 use gt_types::Perms;
 use std::alloc::{AllocError, Global};
 
-/// A question: may the source do this to the target? None means any declared type.
+/// A question: may the source do this to the target? The name of an attribute asks for each type that has it. None
+/// means any declared type, or any permission.
 #[derive(Clone, Copy)]
 pub struct WhyQuestion<'q> {
     pub source: Option<&'q str>,
     pub target: Option<&'q str>,
-    pub perm: &'q str,
+    pub perm: Option<&'q str>,
 }
 
 /// The answer of a policy to a question.
@@ -35,9 +38,9 @@ pub enum WhyAnswer {
     Allowed,
     /// No statement grants it.
     Denied,
-    /// The source is not a declared type.
+    /// The source is not a declared type, and no declared type has it as an attribute.
     NoSource,
-    /// The target is not a declared type.
+    /// The target is not a declared type, and no declared type has it as an attribute.
     NoTarget,
     /// The word is not one of the seven permissions.
     NoPermission,
@@ -56,26 +59,36 @@ pub struct Explanation {
 struct Asked<'m, 'a> {
     sources: &'m [Member<'a>],
     targets: &'m [Member<'a>],
-    perm: &'m str,
+    perm: Option<&'m str>,
 }
 
 // Returns whether some statement grants the permission to a source on a target.
 fn is_allowed(statements: &[LinedStatement], asked: &Asked) -> bool
     ensures { result ≡ list_any
-        (λ x. gives_some asked.now.perm.now asked.now.sources.now asked.now.targets.now x.statement) statements.now }
+        (λ x. gives_of (option_map (λ p. p.now) asked.now.perm) asked.now.sources.now asked.now.targets.now x.statement) statements.now }
 {
     'statements: for stated in statements {
-        if gives_some(&stated.statement, asked.sources, asked.targets, asked.perm) {
+        if gives_of(&stated.statement, asked.sources, asked.targets, asked.perm) {
             return true;
         }
     }
     false
 }
 
-fn answer_with(statements: &[LinedStatement], asked: &Asked) -> WhyAnswer
-    ensures { result ≡ answer_by asked.now.perm.now asked.now.sources.now asked.now.targets.now statements.now }
+// Returns whether a word that is asked for is not one of the seven permissions.
+fn is_unknown(perm: Option<&str>) -> bool
+    ensures { result ≡ is_unknown (option_map (λ p. p.now) perm.entry) }
 {
-    if Perms::named(asked.perm.as_bytes()).is_none() {
+    match perm {
+        Some(word) => Perms::named(word.as_bytes()).is_none(),
+        None => false,
+    }
+}
+
+fn answer_with(statements: &[LinedStatement], asked: &Asked) -> WhyAnswer
+    ensures { result ≡ answer_by (option_map (λ p. p.now) asked.now.perm) asked.now.sources.now asked.now.targets.now statements.now }
+{
+    if is_unknown(asked.perm) {
         WhyAnswer::NoPermission
     } else if asked.sources.is_empty() {
         WhyAnswer::NoSource
@@ -90,12 +103,12 @@ fn answer_with(statements: &[LinedStatement], asked: &Asked) -> WhyAnswer
 
 // Returns whether a statement is listed: under Allowed if it grants the permission, and else if it is a near miss.
 fn is_listed(answer: WhyAnswer, statement: &Statement, asked: &Asked) -> bool
-    ensures { result ≡ is_listed_under answer asked.now.perm.now asked.now.sources.now asked.now.targets.now
+    ensures { result ≡ is_listed_under answer (option_map (λ p. p.now) asked.now.perm) asked.now.sources.now asked.now.targets.now
         statement.now }
 {
     match answer {
-        WhyAnswer::Allowed => gives_some(statement, asked.sources, asked.targets, asked.perm),
-        _ => near_some(statement, asked.sources, asked.targets, asked.perm),
+        WhyAnswer::Allowed => gives_of(statement, asked.sources, asked.targets, asked.perm),
+        _ => near_of(statement, asked.sources, asked.targets, asked.perm),
     }
 }
 
@@ -108,7 +121,7 @@ fn push_listed(
     asked: &Asked,
 ) -> Result<(), AllocError>
     ensures { OnOk result (out.new.items ≡ out.old.items ++ entries_if
-        (is_listed_under answer asked.now.perm.now asked.now.sources.now asked.now.targets.now)
+        (is_listed_under answer (option_map (λ p. p.now) asked.now.perm) asked.now.sources.now asked.now.targets.now)
         file.now asked.now.sources.now asked.now.targets.now statements.now) }
 {
     'statements: for stated in statements {
@@ -127,7 +140,7 @@ fn push_lines(
     asked: &Asked,
 ) -> Result<(), AllocError>
     ensures { OnOk result (out.new.items ≡ out.old.items ++ lines_with answer
-        file.now asked.now.perm.now asked.now.sources.now asked.now.targets.now statements.now) }
+        file.now (option_map (λ p. p.now) asked.now.perm) asked.now.sources.now asked.now.targets.now statements.now) }
 {
     match answer {
         WhyAnswer::Allowed => {
@@ -150,9 +163,9 @@ fn answered(
     asked: &Asked,
 ) -> Result<Explanation, AllocError>
     ensures answer { IfOk result (λ e. e.answer
-        ≡ answer_by asked.now.perm.now asked.now.sources.now asked.now.targets.now statements.now) }
+        ≡ answer_by (option_map (λ p. p.now) asked.now.perm) asked.now.sources.now asked.now.targets.now statements.now) }
     ensures lines { IfOk result (λ e. e.lines.items ≡ lines_with e.answer
-        file.now asked.now.perm.now asked.now.sources.now asked.now.targets.now statements.now) }
+        file.now (option_map (λ p. p.now) asked.now.perm) asked.now.sources.now asked.now.targets.now statements.now) }
 {
     let answer = answer_with(statements, asked);
     let mut lines = Vec::new(alloc);
@@ -183,7 +196,8 @@ fn explained(
 /// Answers whether the policy of a text allows what is asked, with a line for each allow statement that grants it:
 /// `FILE:LINE: STATEMENT  # SOURCES -> TARGETS`. The sources and targets are the types asked for that the sets of the
 /// statement hold, each with the attribute through which the set holds it. For a denied question, the lines are those
-/// of the near misses: they have the target, and the permission or the source.
+/// of the near misses: they have the target, and the permission or the source. A question about any permission is
+/// allowed if the policy allows one of the seven.
 ///
 /// The error is the first fault of a text that is not a policy. If an allocation fails, it is
 /// [`PolicyFaultKind::Memory`] with line 0.

@@ -83,11 +83,11 @@ pub(crate) fn warn_type(
 {
     let word = name.as_str();
     if !is_named(policy, name) {
-        let message = said_of(alloc, word, " is in no set of an allow statement")?;
+        let message = said_of(alloc, word, " is not named by any allow statement")?;
         return push_of_word(found, FindingKind::NeverNamed, place, word, message);
     }
     if has_no_domain(policy, name) {
-        let message = said_of(alloc, word, " is the type of no domain of this script")?;
+        let message = said_of(alloc, word, " is not the type of any domain in this script")?;
         return push_of_word(found, FindingKind::NoDomain, place, word, message);
     }
     Ok(())
@@ -116,7 +116,7 @@ pub(crate) fn warn_matter(
     if !never_matters(statement, policy) {
         return Ok(());
     }
-    let said = "this statement allows nothing to the domains of this script";
+    let said = "this statement allows nothing to the domains in this script";
     let message = message_of(alloc, said)?;
     push_quiet(
         found,

@@ -1,13 +1,17 @@
 //! Explains the fault of a text: its position, and what was expected there.
+ghost use Rattle.std.specs.Prelude.{◌≡◌, map, IfOk};
+ghost use Rattle.gt_types.specs.Names.{every_permission, permission_name};
+
 use crate::declared::{Declared, declared_in};
 use crate::nearest::nearest;
 use crate::places::{
     LineTokens, bytes_of, column_of, column_of_word, front_of, line_tokens, tokens_in,
 };
 use crate::report::push_all_shown;
-use crate::texts::{push_both, push_number};
+use crate::texts::push_both;
 use gt_policy::{Policy, PolicyFault, PolicyFaultKind};
-use gt_text::{push_text, text_of};
+use gt_text::{push_number, push_text, text_of};
+use gt_types::Perms;
 use std::alloc::{AllocError, Global};
 
 /// Tokens that may continue a statement, with what each is called. A permission represents any name, since it fits
@@ -23,17 +27,6 @@ const CANDIDATES: &[(&str, &str)] = &[
     ("self", "\"self\""),
     ("-", "\"-\""),
     ("*", "\"*\""),
-];
-
-/// The seven permissions of class `grant`.
-pub(crate) const PERMISSIONS: [&str; 7] = [
-    "map_read",
-    "map_write",
-    "unmap",
-    "transfer",
-    "setup",
-    "copy",
-    "query",
 ];
 
 /// A note on an error or a warning.
@@ -157,6 +150,34 @@ pub fn push_hint(
 ) -> Result<(), AllocError> {
     let meant = nearest(alloc, word, names)?;
     push_meant(out, meant)
+}
+
+/// Appends the permission that a misspelt word may be meant as, if there is one.
+pub(crate) fn push_permission_hint(
+    alloc: Global,
+    out: &mut Vec<u8>,
+    word: &str,
+) -> Result<(), AllocError> {
+    let names = permission_names(alloc)?;
+    push_hint(alloc, out, word, names.as_slice())
+}
+
+/// Returns whether a word may be meant as a permission.
+pub(crate) fn is_near_permission(alloc: Global, word: &str) -> Result<bool, AllocError> {
+    let names = permission_names(alloc)?;
+    let meant = nearest(alloc, word, names.as_slice())?;
+    Ok(meant.is_some())
+}
+
+/// Returns the names of the seven permissions of class `grant`.
+pub fn permission_names(alloc: Global) -> Result<Vec<&'static str>, AllocError>
+    ensures { IfOk result (λ names. map (λ n. n.now) names.items ≡ map permission_name every_permission) }
+{
+    let mut names = Vec::new(alloc);
+    'perms: for perm in Perms::EVERY {
+        names.push(perm.name())?;
+    }
+    Ok(names)
 }
 
 // Appends a word in quotes and a text.
@@ -390,9 +411,21 @@ fn explain_permission(
     push_said(
         &mut explained.message,
         word,
-        " is no permission of class grant",
+        " is not a permission of class grant",
     )?;
-    push_hint(alloc, &mut explained.message, word, PERMISSIONS.as_slice())
+    push_permission_hint(alloc, &mut explained.message, word)
+}
+
+// Returns why a word is outside the supported part of the language.
+fn outside_text(word: &str) -> &'static str {
+    match word {
+        "policy" | "triple" | "domain" | "do" => {
+            " begins a line of a script; a script is checked with --script"
+        }
+        "alias" | "*" | "~" => " is not supported here",
+        _ =>
+            " is not supported; the supported statements are type, attribute, typeattribute and allow",
+    }
 }
 
 // Explains a part of the language that is not supported.
@@ -403,9 +436,8 @@ fn explain_outside(
     line: &LineTokens,
     word: &str,
 ) -> Result<(), AllocError> {
-    let said = " is outside the part of the policy language that is read here";
     explained.column = misfit_column(alloc, bytes, line)?;
-    push_said(&mut explained.message, word, said)
+    push_said(&mut explained.message, word, outside_text(word))
 }
 
 /// Explains the fault of a text.
@@ -439,4 +471,4 @@ pub(crate) fn explain(
 }
 
 const LIMITS: &str =
-    "past a limit: a policy has at most 1048576 bytes, 256 types, 256 attributes and 65536 allow statements";
+    "too much: a policy has at most 1048576 bytes, 256 types, 256 attributes and 65536 allow statements";

@@ -16,7 +16,7 @@ use std::alloc::{AllocError, Global};
 pub enum FindingKind {
     /// The first fault of the text, which is not a policy.
     Fault,
-    /// A class that is not `grant`: its permissions grant nothing here.
+    /// A class that Xen's FLASK policy does not have.
     OtherClass,
     /// Among several classes, a word that is not a permission of class `grant`.
     OtherPermission,

@@ -1,17 +1,20 @@
 //! What a statement grants to which types.
-ghost use Rattle.std.specs.Prelude.{◌≡◌, ◌&&◌};
+ghost use Rattle.std.specs.Prelude.{◌≡◌, ◌&&◌, None};
 ghost use Rattle.std.specs.List.{list_any};
+ghost use Rattle.std.specs.Option.{option_map};
 ghost use Rattle.std.specs.Str.{bytes_eq};
 ghost use Rattle.gt_policy.specs.Granting.{lists_word, is_self};
 ghost use Rattle.gt_policy.specs.Resolving.{has_grant};
 ghost use Rattle.gt_policy_check.specs.Granting.{puts_in, takes_out, elements_hold, reaches_by, gives_source, gives_by};
-ghost use Rattle.gt_policy_check.specs.Granting.{gives_some};
+ghost use Rattle.gt_policy_check.specs.Granting.{gives_of, gives_some, near_of};
 ghost use Rattle.gt_policy_check.specs.Granting.{is_near_miss, exceeds_on, exceeds_some, gives_one, near_some};
 
 use crate::members::{Member, is_same};
 use gt_policy::{Allowance, Permissions, SetElement, Statement, TextPiece};
+use gt_types::Perms;
 
-fn is_among(words: &[TextPiece], word: &[u8]) -> bool
+/// Returns whether the word is among these.
+pub(crate) fn is_among(words: &[TextPiece], word: &[u8]) -> bool
     ensures { result ≡ list_any (λ v. bytes_eq v word.now) words.now }
 {
     'words: for listed in words {
@@ -29,7 +32,8 @@ pub(crate) fn has_grant(classes: &[TextPiece]) -> bool
     is_among(classes, "grant".as_bytes())
 }
 
-fn lists(perms: &Permissions, word: &str) -> bool
+/// Returns whether the word is among the permissions.
+pub(crate) fn lists(perms: &Permissions, word: &str) -> bool
     ensures { result ≡ lists_word perms.now word.now }
 {
     match perms {
@@ -169,6 +173,33 @@ pub(crate) fn gives_some<'a>(
     }
 }
 
+// Returns whether a statement grants some permission to some of the sources on some of the targets.
+fn gives_any_permission<'a>(
+    statement: &Statement,
+    sources: &[Member<'a>],
+    targets: &[Member<'a>],
+) -> bool
+    ensures { result ≡ gives_of None sources.now targets.now statement.now }
+{
+    Perms::EVERY.iter().any(|perm| gives_some(statement, sources, targets, perm.name()))
+}
+
+/// Returns whether a statement grants the permission, or any if there is none, to some of the sources on some of the
+/// targets.
+pub(crate) fn gives_of<'a>(
+    statement: &Statement,
+    sources: &[Member<'a>],
+    targets: &[Member<'a>],
+    perm: Option<&str>,
+) -> bool
+    ensures { result ≡ gives_of (option_map (λ p. p.now) perm.entry) sources.now targets.now statement.now }
+{
+    match perm {
+        Some(word) => gives_some(statement, sources, targets, word),
+        None => gives_any_permission(statement, sources, targets),
+    }
+}
+
 // Returns whether a statement is a near miss for the source: it reaches some of the targets, and lists the permission
 // or holds the source.
 fn is_near_miss(allowed: &Allowance, source: &Member, targets: &[Member], perm: &str) -> bool
@@ -203,6 +234,34 @@ pub(crate) fn near_some(
     match statement {
         Statement::Allow(allowed) => near_any(allowed, sources, targets, perm),
         _ => false,
+    }
+}
+
+// Returns whether a statement is a near miss for some permission.
+fn near_any_permission<'a>(
+    statement: &Statement,
+    sources: &[Member<'a>],
+    targets: &[Member<'a>],
+) -> bool
+    ensures { result ≡ near_of None sources.now targets.now statement.now }
+{
+    Perms::EVERY
+        .iter()
+        .any(|perm| near_some(statement, sources, targets, perm.name()))
+}
+
+/// Returns whether a statement is a near miss for the permission, or for any if there is none.
+pub(crate) fn near_of<'a>(
+    statement: &Statement,
+    sources: &[Member<'a>],
+    targets: &[Member<'a>],
+    perm: Option<&str>,
+) -> bool
+    ensures { result ≡ near_of (option_map (λ p. p.now) perm.entry) sources.now targets.now statement.now }
+{
+    match perm {
+        Some(word) => near_some(statement, sources, targets, word),
+        None => near_any_permission(statement, sources, targets),
     }
 }
 

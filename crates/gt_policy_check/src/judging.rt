@@ -11,10 +11,9 @@ use crate::findings::{Finding, FindingKind};
 use crate::listed::warn_words;
 use crate::members::{Member, members_of};
 use crate::places::{LineTokens, column_of_word, line_tokens};
-use crate::texts::push_number;
-use crate::useless::{is_useless, repeated};
+use crate::useless::{UselessReason, is_useless, reason_of, repeated};
 use gt_policy::{LinedStatement, Statement};
-use gt_text::push_text;
+use gt_text::{push_number, push_text};
 use std::alloc::{AllocError, Global};
 
 // Counts the allow statements at the end of these that begin on this line.
@@ -31,6 +30,17 @@ fn allows_on(statements: &[LinedStatement], line: u32) -> usize {
     count
 }
 
+// Returns the message for a statement that allows nothing.
+fn reason_text(reason: UselessReason) -> &'static str {
+    match reason {
+        UselessReason::NoPermission => {
+            "this statement allows nothing: it lists no permission of class grant"
+        }
+        UselessReason::NoSource => "this statement allows nothing: its source set is empty",
+        UselessReason::NoTarget => "this statement allows nothing: its target set is empty",
+    }
+}
+
 fn warn_nothing(
     alloc: Global,
     found: &mut Vec<Finding>,
@@ -41,7 +51,7 @@ fn warn_nothing(
     ensures { OnOk result (TellsUseless found.old.items found.new.items (useless_line members.now stated.now) []) }
 {
     if is_useless(&stated.statement, members) {
-        let said = "this statement allows nothing: its source or target set is empty";
+        let said = reason_text(reason_of(&stated.statement, members));
         let message = message_of(alloc, said)?;
         return push_nothing(
             found,

@@ -10,7 +10,7 @@
 //! is printed as JSON by RFC 8259.
 //!
 //! It uses `gt_policy` (the statements of a text), `gt_types` (permissions), `gt_text` (text), `gt_json` (strings as
-//! JSON), `itoa` (numbers), `strsim` (nearest names) and `unicode_width` (columns of a terminal).
+//! JSON), `strsim` (nearest names) and `unicode_width` (columns of a terminal).
 #![tactic(auto)]
 
 mod adding;
@@ -31,6 +31,6 @@ mod texts;
 mod useless;
 
 pub use asking::{Explanation, WhyAnswer, WhyQuestion, why};
-pub use fault::{push_hint, said_of};
+pub use fault::{permission_names, push_hint, said_of};
 pub use findings::{Finding, FindingKind, check, check_worn};
-pub use report::{push_json, push_report};
+pub use report::{ReportForm, push_json, push_report};

@@ -3,26 +3,31 @@ ghost use Rattle.std.specs.Prelude.{OnOk};
 ghost use Rattle.gt_policy_check.specs.Check.{Quiet};
 
 use crate::adding::{Place, push_of_word};
-use crate::fault::{PERMISSIONS, push_hint, said_of};
+use crate::fault::{is_near_permission, push_hint, push_permission_hint, said_of};
 use crate::findings::{Finding, FindingKind};
 use crate::granting::has_grant;
 use gt_policy::{Allowance, Permissions, TextPiece};
 use gt_types::Perms;
 use std::alloc::{AllocError, Global};
 
-// Makes the message about a word, with the name that may be meant.
-fn said_with_hint(
-    alloc: Global,
-    word: &str,
-    said: &str,
-    names: &[&str],
-) -> Result<Vec<u8>, AllocError> {
-    let mut message = said_of(alloc, word, said)?;
-    push_hint(alloc, &mut message, word, names)?;
+// The other classes of Xen's FLASK policy. Their rules are about other calls than those of grant tables.
+const FLASK_CLASSES: [&str; 12] = [
+    "xen", "xen2", "domain", "domain2", "hvm", "mmu", "resource", "shadow", "event", "security",
+    "version", "argo",
+];
+
+fn is_flask_class(class: &str) -> bool {
+    FLASK_CLASSES.iter().any(|name| *name == class)
+}
+
+// Makes the message about an unknown class.
+fn class_message(alloc: Global, class: &str) -> Result<Vec<u8>, AllocError> {
+    let mut message = said_of(alloc, class, " is not a class of Xen's FLASK policy")?;
+    push_hint(alloc, &mut message, class, ["grant"].as_slice())?;
     Ok(message)
 }
 
-// Warns of a class that is not `grant`.
+// Warns of a class that Xen's FLASK policy doesn't have.
 fn warn_class(
     alloc: Global,
     found: &mut Vec<Finding>,
@@ -31,25 +36,34 @@ fn warn_class(
 ) -> Result<(), AllocError>
     ensures { OnOk result (Quiet found.old.items found.new.items) }
 {
-    if class == "grant" {
+    if class == "grant" || is_flask_class(class) {
         return Ok(());
     }
-    let said = " is another class than grant: what it lists is granted by no call here";
-    let message = said_with_hint(alloc, class, said, ["grant"].as_slice())?;
+    let message = class_message(alloc, class)?;
     push_of_word(found, FindingKind::OtherClass, place, class, message)
 }
 
-// Warns of a word that is not a permission of class `grant`.
+// Makes the message about a word that is not a permission of class `grant`.
+fn permission_message(alloc: Global, word: &str) -> Result<Vec<u8>, AllocError> {
+    let mut message = said_of(alloc, word, " is not a permission of class grant")?;
+    push_permission_hint(alloc, &mut message, word)?;
+    Ok(message)
+}
+
+// Warns of a word that is not a permission of class `grant`, unless it may be one of another class.
 fn warn_other(
     alloc: Global,
     found: &mut Vec<Finding>,
     place: &Place,
     word: &str,
+    has_flask_class: bool,
 ) -> Result<(), AllocError>
     ensures { OnOk result (Quiet found.old.items found.new.items) }
 {
-    let said = " is no permission of class grant, which grants nothing by it";
-    let message = said_with_hint(alloc, word, said, PERMISSIONS.as_slice())?;
+    if has_flask_class && !is_near_permission(alloc, word)? {
+        return Ok(());
+    }
+    let message = permission_message(alloc, word)?;
     push_of_word(found, FindingKind::OtherPermission, place, word, message)
 }
 
@@ -59,17 +73,18 @@ fn warn_perm(
     found: &mut Vec<Finding>,
     place: &Place,
     word: &str,
+    has_flask_class: bool,
 ) -> Result<(), AllocError>
     ensures { OnOk result (Quiet found.old.items found.new.items) }
 {
     if word == "transfer" {
-        let message = said_of(alloc, word, " is asked by no call")?;
+        let message = said_of(alloc, word, " is not asked for by any call")?;
         return push_of_word(found, FindingKind::NeverAsked, place, word, message);
     }
     if Perms::named(word.as_bytes()).is_some() {
         return Ok(());
     }
-    warn_other(alloc, found, place, word)
+    warn_other(alloc, found, place, word, has_flask_class)
 }
 
 fn warn_classes(
@@ -91,11 +106,12 @@ fn warn_perms(
     found: &mut Vec<Finding>,
     place: &Place,
     perms: &[TextPiece],
+    has_flask_class: bool,
 ) -> Result<(), AllocError>
     ensures { OnOk result (Quiet found.old.items found.new.items) }
 {
     'perms: for perm in perms {
-        warn_perm(alloc, found, place, perm.as_str())?;
+        warn_perm(alloc, found, place, perm.as_str(), has_flask_class)?;
     }
     Ok(())
 }
@@ -114,8 +130,11 @@ pub(crate) fn warn_words(
     if !has_grant(classes) {
         return Ok(());
     }
+    let has_flask_class = classes.iter().any(|class| is_flask_class(class.as_str()));
     match &allowed.perms {
         Permissions::Every => Ok(()),
-        Permissions::Named(words) => warn_perms(alloc, found, place, words.as_slice()),
+        Permissions::Named(words) => {
+            warn_perms(alloc, found, place, words.as_slice(), has_flask_class)
+        }
     }
 }

@@ -4,6 +4,7 @@ ghost use Rattle.std.specs.Option.{option_map};
 ghost use Rattle.std.specs.Str.{bytes_eq};
 ghost use Rattle.gt_policy_check.specs.Members.{names_given, names_in_lines, is_asked, members_in, members_of};
 
+use crate::granting::is_among;
 use gt_policy::{Items, LinedStatement, Mention, Statement, TextPiece};
 use std::alloc::{AllocError, Global};
 
@@ -74,12 +75,12 @@ fn names_of<'a>(
     Ok(names)
 }
 
-// Returns whether the type is asked for: by its name, or as any type.
-fn is_asked(asked: Option<&str>, name: &TextPiece) -> bool
-    ensures { result ≡ is_asked (option_map (λ a. a.now) asked.entry) name.now }
+// Returns whether a type with these names is asked for: by one of them, or as any type.
+fn is_asked(asked: Option<&str>, names: &[TextPiece]) -> bool
+    ensures { result ≡ is_asked (option_map (λ a. a.now) asked.entry) names.now }
 {
     match asked {
-        Some(wanted) => name.as_bytes() == wanted.as_bytes(),
+        Some(wanted) => is_among(names, wanted.as_bytes()),
         None => true,
     }
 }
@@ -96,8 +97,8 @@ fn push_member<'a>(
         ++ members_in statements.now (option_map (λ a. a.now) asked.entry) statement.now) }
 {
     if let Statement::DeclareType(name, _) = statement {
-        if is_asked(asked, name) {
-            let names = names_of(alloc, statements, name)?;
+        let names = names_of(alloc, statements, name)?;
+        if is_asked(asked, names.as_slice()) {
             members.push(Member {
                 name: name.again(),
                 names,
@@ -107,7 +108,8 @@ fn push_member<'a>(
     Ok(())
 }
 
-/// Returns the declared type with this name, or all for None, in the order of their declarations.
+/// Returns the declared types with this name, their own or that of an attribute, in the order of their declarations;
+/// all for None.
 pub(crate) fn members_of<'a>(
     alloc: Global,
     statements: &[LinedStatement<'a>],

@@ -7,9 +7,9 @@ ghost use Rattle.gt_policy_check.specs.Report.{heading_text, object_text, severi
 
 use crate::findings::{Finding, FindingKind};
 use crate::places::{bytes_of, line_span};
-use crate::texts::{push_both, push_number};
+use crate::texts::push_both;
 use gt_json::push_quoted;
-use gt_text::{push_text, text_of};
+use gt_text::{push_number, push_text, text_of};
 use std::alloc::AllocError;
 use unicode_width::UnicodeWidthChar;
 
@@ -108,8 +108,34 @@ fn push_blanks(out: &mut Vec<u8>, line: &str, column: u32) -> Result<(), AllocEr
     Ok(())
 }
 
+/// The form in which findings are printed.
+#[derive(Clone, Copy, Debug, PartialEq, Eq)]
+pub enum ReportForm {
+    /// As compilers print them.
+    Text,
+    /// The same, with a coloured caret for a terminal.
+    Colored,
+    /// As one JSON object per line.
+    Json,
+}
+
+// Returns a caret with a line end, in the colour of the severity if colours are asked for (ECMA-48).
+fn caret(kind: FindingKind, form: ReportForm) -> &'static str {
+    match (form, kind) {
+        (ReportForm::Text | ReportForm::Json, _) => "^\n",
+        (ReportForm::Colored, FindingKind::Fault) => "\x1b[1;31m^\x1b[0m\n",
+        (ReportForm::Colored, FindingKind::Note) => "\x1b[1;36m^\x1b[0m\n",
+        (ReportForm::Colored, _) => "\x1b[1;33m^\x1b[0m\n",
+    }
+}
+
 // Appends the line of a finding, and a caret below its column.
-fn push_excerpt(out: &mut Vec<u8>, text: &str, finding: &Finding) -> Result<(), AllocError> {
+fn push_excerpt(
+    out: &mut Vec<u8>,
+    text: &str,
+    finding: &Finding,
+    form: ReportForm,
+) -> Result<(), AllocError> {
     let line = line_of(text, finding.line);
     if line.is_empty() {
         return Ok(());
@@ -117,20 +143,21 @@ fn push_excerpt(out: &mut Vec<u8>, text: &str, finding: &Finding) -> Result<(), 
     push_all_shown(out, line)?;
     push_text(out, "\n")?;
     push_blanks(out, line, finding.column)?;
-    push_text(out, "^\n")
+    push_text(out, caret(finding.kind, form))
 }
 
-/// Appends the findings of a text in the layout of compilers: each with its line, and a caret below its column. After
-/// an Err, part of them may have been appended.
+/// Appends the findings of a text in the layout of compilers: each with its line, and a caret below its column, which is
+/// coloured in the form `Colored`. After an Err, part of them may have been appended.
 pub fn push_report(
     out: &mut Vec<u8>,
     file: &str,
     text: &str,
     found: &[Finding],
+    form: ReportForm,
 ) -> Result<(), AllocError> {
     for finding in found {
         push_heading(out, file, finding)?;
-        push_excerpt(out, text, finding)?;
+        push_excerpt(out, text, finding, form)?;
     }
     Ok(())
 }

@@ -1,6 +1,5 @@
 //! Allow statements as text.
 ghost use Rattle.std.specs.Prelude.{◌≡◌, ◌++◌, codes, find, OnOk};
-ghost use Rattle.std.specs.Fmt.{decimal};
 ghost use Rattle.std.specs.List.{list_any};
 ghost use Rattle.std.specs.Option.{option_map};
 ghost use Rattle.gt_policy_check.specs.Texts.{is_plain, item_text, items_text, set_text, words_text, list_text, perms_text};
@@ -11,8 +10,7 @@ ghost use Rattle.gt_policy_check.specs.Granting.{puts_in};
 use crate::granting::{holds, puts_in, says_self};
 use crate::members::{Member, is_same};
 use gt_policy::{Allowance, LinedStatement, Permissions, SetElement, Statement, TextPiece};
-use gt_text::push_text;
-use itoa::Buffer;
+use gt_text::{push_number, push_text};
 use std::alloc::AllocError;
 
 /// Appends two texts, one after the other.
@@ -144,12 +142,15 @@ fn is_named(name: &TextPiece, items: &[SetElement]) -> bool
     false
 }
 
-// Appends ` by` and the attribute of an item.
+// Appends `(by` and the attribute of an item.
 fn push_by(out: &mut Vec<u8>, item: &SetElement) -> Result<(), AllocError>
     ensures { OnOk result (out.new.items ≡ out.old.items ++ item_by_text item.now) }
 {
     match item {
-        SetElement::With(mention) => push_both(out, " by ", mention.name.as_str()),
+        SetElement::With(mention) => {
+            push_both(out, " (by ", mention.name.as_str())?;
+            push_text(out, ")")
+        }
         _ => Ok(()),
     }
 }
@@ -235,14 +236,6 @@ fn push_note(
     push_all_held(out, targets, allowed.target.as_slice())?;
     push_self(out, allowed.target.as_slice())?;
     push_text(out, "\n")
-}
-
-/// Appends a number in decimal digits.
-pub(crate) fn push_number(out: &mut Vec<u8>, number: u32) -> Result<(), AllocError>
-    ensures { OnOk result (out.new.items ≡ out.old.items ++ decimal number) }
-{
-    let mut digits = Buffer::new();
-    push_text(out, digits.format(number))
 }
 
 // Appends a file and a line, in the layout of compilers.

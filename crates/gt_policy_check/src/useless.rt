@@ -4,10 +4,11 @@ ghost use Rattle.std.specs.List.{position};
 ghost use Rattle.gt_types.specs.Names.{every_permission, permission_name};
 ghost use Rattle.gt_policy_check.specs.Check.{exceeds_with, grants_with, is_useless_with, no_more_with, repeats_with};
 ghost use Rattle.gt_policy_check.specs.Granting.{exceeds_some, gives_some};
+ghost use Rattle.gt_policy_check.specs.Useless.{holds_some, lists_some, IsReason, IsUselessFor};
 
-use crate::granting::{exceeds_some, gives_some, has_grant};
+use crate::granting::{exceeds_some, gives_some, has_grant, holds, lists};
 use crate::members::Member;
-use gt_policy::{LinedStatement, Statement};
+use gt_policy::{Allowance, LinedStatement, SetElement, Statement};
 use gt_types::Perms;
 
 /// Returns whether a statement allows some of these types something on some of them.
@@ -26,6 +27,57 @@ pub(crate) fn is_useless(statement: &Statement, members: &[Member]) -> bool
             has_grant(allowed.classes.as_slice()) && !allows_something(statement, members)
         }
         _ => false,
+    }
+}
+
+/// Why an allow statement of class `grant` allows nothing.
+#[derive(Clone, Copy, PartialEq, Eq)]
+pub(crate) enum UselessReason {
+    /// It lists no permission of class `grant`.
+    NoPermission,
+    /// Its source set holds no type.
+    NoSource,
+    /// It lists a permission and has a source, so its target set holds no type.
+    NoTarget,
+}
+
+fn lists_some(allowed: &Allowance) -> bool
+    ensures { result ≡ lists_some allowed.now }
+{
+    Perms::EVERY
+        .iter()
+        .any(|perm| lists(&allowed.perms, perm.name()))
+}
+
+// Returns whether a set holds some of these types.
+fn holds_some(members: &[Member], items: &[SetElement]) -> bool
+    ensures { result ≡ holds_some members.now items.now }
+{
+    members
+        .iter()
+        .any(|member| holds(member.names.as_slice(), items))
+}
+
+// Returns why an allow statement allows nothing.
+fn reason_of_allowance(allowed: &Allowance, members: &[Member]) -> UselessReason
+    ensures { IsUselessFor members.now allowed.now result }
+{
+    if !lists_some(allowed) {
+        UselessReason::NoPermission
+    } else if !holds_some(members, allowed.source.as_slice()) {
+        UselessReason::NoSource
+    } else {
+        UselessReason::NoTarget
+    }
+}
+
+/// Returns why a statement of class `grant` allows nothing.
+pub(crate) fn reason_of(statement: &Statement, members: &[Member]) -> UselessReason
+    ensures { IsReason members.now statement.now result }
+{
+    match statement {
+        Statement::Allow(allowed) => reason_of_allowance(allowed, members),
+        _ => UselessReason::NoPermission,
     }
 }
 

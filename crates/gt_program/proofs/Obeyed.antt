@@ -1,6 +1,6 @@
 -- From the plan of a command line, or its refusal, to what the line comes to.
 use Rattle.std.proofs.Common.{◌≡◌, ◌∙◌, ℕ, Bool, List, Option, None, Some, Result, Err, IfSome, refl, sym, subst, inl}
-use Rattle.std.proofs.Common.{inr, arith}
+use Rattle.std.proofs.Common.{inr, true, false, codes, cond, ◌∷◌, [], ap, Ok, ◌==◌, ◌⊎◌}
 use Rattle.std.specs.Io.KnownBytes.{Keeps}
 use Rattle.std.specs.Prelude.{drop}
 use Rattle.gt_text.specs.Laws.{keeps_same, of_any_input}
@@ -15,9 +15,20 @@ use Rattle.clap.specs.declared.error.kind.ErrorKind.TheVariants.{MissingRequired
 use Rattle.clap.specs.declared.error.kind.ErrorKind.TheVariants.{TooManyValues, UnknownArgument}
 use Rattle.gt_policy_check.specs.declared.asking.WhyQuestion.{WhyQuestion}
 use Rattle.gt_commands.specs.Commands.{Request, to_play, to_run, to_explore, to_list, to_tell_rules, to_check}
-use Rattle.gt_commands.specs.Commands.{to_explain}
+use Rattle.gt_commands.specs.Commands.{to_explain, to_explain_each}
 use Rattle.gt_commands.specs.Commands.{to_tell_entries, for_help, for_version, nothing, asked_by_plan, refusals}
-use Rattle.gt_commands.specs.Commands.{request_in_words}
+use Rattle.gt_commands.specs.Commands.{request_in_words, request_by, asked_of, asked_of_none, mode_of, read, usage_of}
+use Rattle.gt_commands.specs.Commands.{Sought}
+use Rattle.gt_commands.specs.Commands.{play_with, run_with, list_with, explore_by, explore_with, check_with, why_with}
+use Rattle.gt_commands.specs.Commands.{entries_with}
+use Rattle.gt_commands.specs.Leading.{command_first, is_verbose, leading_word}
+use Rattle.gt_commands.specs.Letters.{long_flag, long_word, with_long_flags}
+use Rattle.gt_commands.specs.Usage.{Line, Word, asks_help, gives, line, long, mark, plain, short, usage_word}
+use Rattle.gt_commands.specs.Usage.{value_given, wrong}
+use Rattle.gt_commands.specs.declared.invocation.Mode.{Mode}
+use Rattle.gt_commands.specs.declared.invocation.Mode.TheVariants as modes
+use Rattle.std.specs.Str.{bytes_eq}
+use Rattle.std.proofs.lemmas.Slice.Eq.{bytes_eq-Decides}
 use Rattle.gt_commands.specs.declared.invocation.Invocation.{Invocation}
 use Rattle.gt_entries.specs.declared.asked.DumpOptions.{DumpOptions}
 use Rattle.gt_commands.specs.declared.invocation.Format.{Format}
@@ -25,28 +36,61 @@ use Rattle.gt_policy_list.specs.declared.fault.ListingFault.{ListingFault}
 use Rattle.gt_json_commands.specs.AsJson.{Promise}
 use Rattle.gt_program.specs.Formats.{CheckedAs, RanAs}
 use Rattle.gt_run.specs.declared.fault.RunFault.{RunFault}
-use Rattle.gt_program.specs.Obeying.{IsSearched, Searches, Seeks}
+use Rattle.gt_program.specs.Obeying.{AnswersVerdict, IsSearched, Searches, Seeks, verdict_outcome}
+use Rattle.gt_explore_verdict.specs.declared.judging.Verdict.{Verdict}
+use Rattle.gt_explore_verdict.specs.declared.judging.Verdict.TheVariants.{Holds, Fails, Undecided}
 use Rattle.gt_explore.specs.declared.exploring.ExploreOptions.{ExploreOptions as Searched}
 use Rattle.gt_program.specs.Obeying.{AnswersQuestion, Checks, Does, Doing, Ending, Explains, FitsKind, IsAsked}
 use Rattle.gt_program.specs.Obeying.{IsQuestion}
 use Rattle.gt_program.specs.Obeying.{Lists, Obeys, Performs, Plays, RunsDomains, AnswersDump, AnswersEntries, Works}
-use Rattle.gt_program.specs.Obeying.{known_text, shown_name, exit_status_of}
+use Rattle.gt_program.specs.Obeying.{known_text, shown_name, answer_of, failed_command, failed_mode, failed_word, first_word}
+use Rattle.gt_program.specs.Obeying.{outcome_of, Answers, ChecksFiles, IsHelped}
+use Rattle.gt_program.specs.declared.outcome.Outcome.{Outcome}
+use Rattle.gt_program.specs.declared.outcome.Outcome.TheVariants.{No, Unknown, Yes}
 use Rattle.gt_program.specs.declared.commands.Work.{Work}
 use Rattle.gt_program.specs.declared.failure.Failure.TheVariants as failures
 
 -- it was done
-pub worked : (P : Doing) (known old new : Option (List ℕ)) (r : Ending) (status : ℕ) → IfSome known (λ bytes. Does P bytes old new r) → status ≡ exit_status_of r → Works P known old new status
-worked P None old new r status does is = tt
-worked P (Some bytes) old new r status does is = (r, is, inl does)
+pub worked : (P : Doing) (failed : Outcome) (known old new : Option (List ℕ)) (r : Ending) (outcome : Outcome) → IfSome known (λ bytes. Does P bytes old new r) → outcome ≡ outcome_of failed r
+    → Works P failed known old new outcome
+worked P failed None old new r outcome does is = tt
+worked P failed (Some bytes) old new r outcome does is = (r, is, inl does)
 
-pub no_memory : (P : Doing) (known old new : Option (List ℕ)) (status : ℕ) → status ≡ 1 → Keeps old new → Works P known old new status
-no_memory P None old new status is kept = tt
-no_memory P (Some bytes) old new status is kept = (Err failures.Memory, is, inr (refl, kept))
+-- the same, where a failure comes to what it was found to
+pub worked_as : (P : Doing) (failed same : Outcome) (known old new : Option (List ℕ)) (r : Ending) (outcome : Outcome) → failed ≡ same → IfSome known (λ bytes. Does P bytes old new r) → outcome ≡ outcome_of failed r
+    → Works P same known old new outcome
+worked_as P failed same known old new r outcome is does of = subst (λ (f : Outcome). Works P f known old new outcome) is (worked P failed known old new r outcome does of)
+
+pub no_memory : (P : Doing) (failed : Outcome) (known old new : Option (List ℕ)) (outcome : Outcome) → outcome ≡ failed → Keeps old new → Works P failed known old new outcome
+no_memory P failed None old new outcome is kept = tt
+no_memory P failed (Some bytes) old new outcome is kept = (Err failures.Memory, is, inr (refl, kept))
+
+-- an answer of yes or no
+answered_one : {F : Type 0} (Wrote : Result Bool F → Type 0) (answer : Bool) → Wrote (Ok answer) → Answers Wrote (answer_of answer)
+answered_one Wrote true wrote = wrote
+answered_one Wrote false wrote = wrote
+
+-- the same for the input
+pub answered_input : {F : Type 0} (known : Option (List ℕ)) (Wrote : List ℕ → Result Bool F → Type 0) (answer : Bool) (outcome : Outcome) → outcome ≡ answer_of answer → OfInput known (λ input. Wrote input (Ok answer))
+    → OfInput known (λ input. Answers (Wrote input) outcome)
+answered_input None Wrote answer outcome is (input, few, wrote) = (input, few, subst (λ (o : Outcome). Answers (Wrote input) o) (sym is) (answered_one (Wrote input) answer wrote))
+answered_input (Some all) Wrote answer outcome is wrote = subst (λ (o : Outcome). Answers (Wrote all) o) (sym is) (answered_one (Wrote all) answer wrote)
+
+-- a verdict is an answer
+verdict_one : {F : Type 0} (Wrote : Result Verdict F → Type 0) (verdict : Verdict) → Wrote (Ok verdict) → AnswersVerdict Wrote (verdict_outcome verdict)
+verdict_one Wrote Holds wrote = wrote
+verdict_one Wrote Fails wrote = wrote
+verdict_one Wrote Undecided wrote = wrote
+
+pub verdict_input : {F : Type 0} (known : Option (List ℕ)) (Wrote : List ℕ → Result Verdict F → Type 0) (verdict : Verdict) (outcome : Outcome) → outcome ≡ verdict_outcome verdict → OfInput known (λ input. Wrote input (Ok verdict))
+    → OfInput known (λ input. AnswersVerdict (Wrote input) outcome)
+verdict_input None Wrote verdict outcome is (input, few, wrote) = (input, few, subst (λ (o : Outcome). AnswersVerdict (Wrote input) o) (sym is) (verdict_one (Wrote input) verdict wrote))
+verdict_input (Some all) Wrote verdict outcome is wrote = subst (λ (o : Outcome). AnswersVerdict (Wrote all) o) (sym is) (verdict_one (Wrote all) verdict wrote)
 
 -- what a plan asks for is done
-pub as_planned : (p same : Invocation) (file : List ℕ → Option (List ℕ)) (input old new : Option (List ℕ)) (status : ℕ) → p ≡ same → Obeys (asked_by_plan same) file input old new status
-    → Obeys (asked_by_plan p) file input old new status
-as_planned p same file input old new status is obeys = subst (λ (q : Invocation). Obeys (asked_by_plan q) file input old new status) (sym is) obeys
+pub as_planned : (p same : Invocation) (file : List ℕ → Option (List ℕ)) (input old new : Option (List ℕ)) (outcome : Outcome) → p ≡ same → Obeys (asked_by_plan same) file input old new outcome
+    → Obeys (asked_by_plan p) file input old new outcome
+as_planned p same file input old new outcome is obeys = subst (λ (q : Invocation). Obeys (asked_by_plan q) file input old new outcome) (sym is) obeys
 
 -- a run with a log or without, as was asked for
 pub ran_as_asked : (format : Format) (logged audited : Bool) (known old new : Option (List ℕ)) (r : Result (Unit {0}) RunFault) → audited ≡ logged → OfInput known (λ input. RanAs format logged input old new r)
@@ -67,105 +111,282 @@ checked_as_asked checked script known old new r is does = subst (λ (b : Bool). 
 pub unread_run : (format : Format) (audited : Bool) (known old : Option (List ℕ)) → OfInput known (λ input. RunsDomains format audited input old old (Err failures.Memory))
 unread_run format audited known old = of_any_input known (λ (input : List ℕ). RunsDomains format audited input old old (Err failures.Memory)) (λ (input : List ℕ). keeps_same old)
 
+-- the files of these names were checked
+pub files_named : (script : Bool) (file : List ℕ → Option (List ℕ)) (given names : List (Option (List ℕ))) (old new : Option (List ℕ)) (outcome : Outcome) → given ≡ names → ChecksFiles script file given old new outcome → ChecksFiles script file names old new outcome
+files_named script file given names old new outcome is checked = subst (λ (l : List (Option (List ℕ))). ChecksFiles script file l old new outcome) is checked
+
 -- what was asked for was done
-pub done : (request : Request) (file : List ℕ → Option (List ℕ)) (input old new : Option (List ℕ)) (p : Invocation) (status : ℕ) → asked_by_plan p ≡ request
-    → Obeys (asked_by_plan p) file input old new status → Obeys request file input old new status
-done request file input old new p status plan obeys = subst (λ (r : Request). Obeys r file input old new status) plan obeys
+pub done : (request : Request) (file : List ℕ → Option (List ℕ)) (input old new : Option (List ℕ)) (p : Invocation) (outcome : Outcome) → asked_by_plan p ≡ request
+    → Obeys (asked_by_plan p) file input old new outcome → Obeys request file input old new outcome
+done request file input old new p outcome plan obeys = subst (λ (r : Request). Obeys r file input old new outcome) plan obeys
 
-silent : (kind other : ErrorKind) (old new : Option (List ℕ)) (status : ℕ) → FitsKind kind old new status → kind ≡ other → (other ≡ DisplayHelp → ⊥) → (other ≡ DisplayVersion → ⊥) → Keeps old new
-silent kind other old new status fits is help version = fits.silent (λ (e : kind ≡ DisplayHelp). help (sym is ∙ e)) (λ (e : kind ≡ DisplayVersion). version (sym is ∙ e))
+silent : (failed : Outcome) (kind other : ErrorKind) (old new : Option (List ℕ)) (outcome : Outcome) → FitsKind failed kind old new outcome → kind ≡ other → (other ≡ DisplayHelp → ⊥) → (other ≡ DisplayVersion → ⊥) → Keeps old new
+silent failed kind other old new outcome fits is help version = fits.silent (λ (e : kind ≡ DisplayHelp). help (sym is ∙ e)) (λ (e : kind ≡ DisplayVersion). version (sym is ∙ e))
 
-wrong : (kind other : ErrorKind) (old new : Option (List ℕ)) (status : ℕ) → FitsKind kind old new status → kind ≡ other → (other ≡ OutOfMemory → ⊥) → (other ≡ DisplayHelp → ⊥) → (other ≡ DisplayVersion → ⊥) → status ≡ 2
-wrong kind other old new status fits is memory help version =
+wrong_one : (failed : Outcome) (kind other : ErrorKind) (old new : Option (List ℕ)) (outcome : Outcome) → FitsKind failed kind old new outcome → kind ≡ other → (other ≡ OutOfMemory → ⊥) → (other ≡ DisplayHelp → ⊥) → (other ≡ DisplayVersion → ⊥) → outcome ≡ Unknown
+wrong_one failed kind other old new outcome fits is memory help version =
     fits.wrong (λ (e : kind ≡ OutOfMemory). memory (sym is ∙ e)) (λ (e : kind ≡ DisplayHelp). help (sym is ∙ e)) (λ (e : kind ≡ DisplayVersion). version (sym is ∙ e))
 
+-- what a failed allocation comes to
+abbrev pub FailedFor : Request → Outcome → Type 0
+FailedFor (to_play audited verbose format name) failed = failed ≡ No
+FailedFor (to_run audited verbose format name) failed = failed ≡ No
+FailedFor (to_explore sought states name) failed = failed ≡ Unknown
+FailedFor (to_list verbose format name) failed = failed ≡ No
+FailedFor (to_tell_rules name) failed = failed ≡ Unknown
+FailedFor (to_check script format name more) failed = failed ≡ Unknown
+FailedFor (to_explain source target permission name) failed = failed ≡ Unknown
+FailedFor (to_explain_each name) failed = failed ≡ Unknown
+FailedFor (to_tell_entries version hex every script format name) failed = failed ≡ Unknown
+FailedFor for_help failed = (failed ≡ Unknown) ⊎ (failed ≡ No)
+FailedFor for_version failed = (failed ≡ Unknown) ⊎ (failed ≡ No)
+FailedFor nothing failed = (failed ≡ Unknown) ⊎ (failed ≡ No)
+
 -- memory was refused
-out_of_memory : (request : Request) (file : List ℕ → Option (List ℕ)) (input old new : Option (List ℕ)) (status : ℕ) → status ≡ 1 → Keeps old new → Obeys request file input old new status
-out_of_memory (to_play audited verbose format name) file input old new status is kept = no_memory (Plays format audited) (known_text file input name) old new status is kept
-out_of_memory (to_run audited verbose format name) file input old new status is kept = no_memory (RunsDomains format audited) (known_text file input name) old new status is kept
-out_of_memory (to_explore find witness states name) file input old new status is kept = no_memory (Seeks find witness states) (known_text file input name) old new status is kept
-out_of_memory (to_list format name) file input old new status is kept = no_memory (Lists format) (known_text file input name) old new status is kept
-out_of_memory (to_tell_rules name) file input old new status is kept = omega arith
-out_of_memory (to_check script format name) file input old new status is kept = no_memory (Checks script) (known_text file input name) old new status is kept
-out_of_memory (to_explain source target permission name) file input old new status is kept =
-    no_memory (AnswersQuestion (shown_name name) source target permission) (known_text file input name) old new status is kept
-out_of_memory (to_tell_entries version hex every script format name) file input old new status is kept =
-    no_memory (AnswersDump version hex every script format) (known_text file input name) old new status is kept
-out_of_memory for_help file input old new status is kept = omega arith
-out_of_memory for_version file input old new status is kept = omega arith
-out_of_memory nothing file input old new status is kept = (inr is, kept)
+helpless : (failed outcome : Outcome) (old new : Option (List ℕ)) → (failed ≡ Unknown) ⊎ (failed ≡ No) → outcome ≡ failed → Keeps old new → IsHelped outcome ⊎ ((outcome ≡ Unknown) × Keeps old new)
+helpless failed outcome old new (inl unknown) is kept = inr (is ∙ unknown, kept)
+helpless failed outcome old new (inr none) is kept = inl (inr (is ∙ none))
+
+hopeless : (failed outcome : Outcome) (old new : Option (List ℕ)) → (failed ≡ Unknown) ⊎ (failed ≡ No) → outcome ≡ failed → Keeps old new → ((outcome ≡ Unknown) ⊎ (outcome ≡ No)) × Keeps old new
+hopeless failed outcome old new (inl unknown) is kept = (inl (is ∙ unknown), kept)
+hopeless failed outcome old new (inr none) is kept = (inr (is ∙ none), kept)
+
+-- no memory was there for the other files
+unread_files : (script : Bool) (file : List ℕ → Option (List ℕ)) (more : List (Option (List ℕ))) (here : Option (List ℕ)) → (other : Outcome) × ChecksFiles script file more here here other
+unread_files script file [] here = (Yes, (keeps_same here, refl))
+unread_files script file (None ∷ more) here = unread_files script file more here
+unread_files script file (Some name ∷ more) here =
+    let others = unread_files script file more here in
+    (Unknown, (here, Unknown, others.0, no_memory (Checks script) Unknown (file name) here here Unknown refl (keeps_same here), others.1, refl))
+
+out_of_memory : (request : Request) (failed : Outcome) (file : List ℕ → Option (List ℕ)) (input old new : Option (List ℕ)) (outcome : Outcome) → FailedFor request failed → outcome ≡ failed → Keeps old new
+    → Obeys request file input old new outcome
+out_of_memory (to_play audited verbose format name) failed file input old new outcome for is kept = no_memory (Plays format audited) No (known_text file input name) old new outcome (is ∙ for) kept
+out_of_memory (to_run audited verbose format name) failed file input old new outcome for is kept = no_memory (RunsDomains format audited) No (known_text file input name) old new outcome (is ∙ for) kept
+out_of_memory (to_explore sought states name) failed file input old new outcome for is kept = no_memory (Seeks sought states) Unknown (known_text file input name) old new outcome (is ∙ for) kept
+out_of_memory (to_list verbose format name) failed file input old new outcome for is kept = no_memory (Lists format) No (known_text file input name) old new outcome (is ∙ for) kept
+out_of_memory (to_tell_rules name) failed file input old new outcome for is kept = inr (is ∙ for)
+out_of_memory (to_check script format name more) failed file input old new outcome for is kept =
+    let others = unread_files script file more new in
+    (new, Unknown, others.0, no_memory (Checks script) Unknown (known_text file input name) old new Unknown refl kept, others.1, is ∙ for)
+out_of_memory (to_explain source target permission name) failed file input old new outcome for is kept =
+    no_memory (AnswersQuestion (shown_name name) source target permission) Unknown (known_text file input name) old new outcome (is ∙ for) kept
+out_of_memory (to_explain_each name) failed file input old new outcome for is kept = tt
+out_of_memory (to_tell_entries version hex every script format name) failed file input old new outcome for is kept =
+    no_memory (AnswersDump version hex every script format) Unknown (known_text file input name) old new outcome (is ∙ for) kept
+out_of_memory for_help failed file input old new outcome for is kept = helpless failed outcome old new for is kept
+out_of_memory for_version failed file input old new outcome for is kept = helpless failed outcome old new for is kept
+out_of_memory nothing failed file input old new outcome for is kept = hopeless failed outcome old new for is kept
+
+-- ---- what a failed allocation comes to, by the words
+
+module _ (failed : Outcome) where
+  failed_play : (f : Option Format) (audited verbose : Bool) (file : Option (List ℕ)) → failed ≡ No → FailedFor (play_with f audited verbose file) failed
+  failed_play None audited verbose file is = inr is
+  failed_play (Some f) audited verbose file is = is
+
+  failed_run : (f : Option Format) (audited verbose : Bool) (file : Option (List ℕ)) → failed ≡ No → FailedFor (run_with f audited verbose file) failed
+  failed_run None audited verbose file is = inr is
+  failed_run (Some f) audited verbose file is = is
+
+  failed_list : (f : Option Format) (verbose : Bool) (file : Option (List ℕ)) → failed ≡ No → FailedFor (list_with f verbose file) failed
+  failed_list None verbose file is = inr is
+  failed_list (Some f) verbose file is = is
+
+  failed_explore_by : (claim scripts : Option Sought) (states : ℕ) (file : Option (List ℕ)) → failed ≡ Unknown → FailedFor (explore_by claim scripts states file) failed
+  failed_explore_by None None states file is = is
+  failed_explore_by (Some claim) None states file is = is
+  failed_explore_by None (Some scripts) states file is = is
+  failed_explore_by (Some claim) (Some scripts) states file is = inl is
+
+  failed_explore : (claim scripts : Option (Option Sought)) (states : Option ℕ) (file : Option (List ℕ)) → failed ≡ Unknown → FailedFor (explore_with claim scripts states file) failed
+  failed_explore None scripts states file is = inl is
+  failed_explore (Some claim) None states file is = inl is
+  failed_explore (Some claim) (Some scripts) None file is = inl is
+  failed_explore (Some claim) (Some scripts) (Some states) file is = failed_explore_by claim scripts states file is
+
+  failed_check : (f : Option Format) (script : Bool) (file : Option (List ℕ)) (more : List (Option (List ℕ))) → failed ≡ Unknown → FailedFor (check_with f script file more) failed
+  failed_check None script file more is = inl is
+  failed_check (Some f) script file more is = is
+
+  failed_why : (source target permission file : Option (List ℕ)) → failed ≡ Unknown → FailedFor (why_with source target permission file) failed
+  failed_why None target permission file is = inl is
+  failed_why (Some source) None None None is = is
+  failed_why (Some source) None None (Some file) is = inl is
+  failed_why (Some source) None (Some permission) file is = inl is
+  failed_why (Some source) (Some target) None file is = inl is
+  failed_why (Some source) (Some target) (Some permission) file is = is
+
+  failed_entries : (version : Option ℕ) (script : Option (Option ℕ)) (f : Option Format) (hex every : Bool) (file : Option (List ℕ)) → failed ≡ Unknown → FailedFor (entries_with version script f hex every file) failed
+  failed_entries None script f hex every file is = inl is
+  failed_entries (Some version) None f hex every file is = inl is
+  failed_entries (Some version) (Some script) None hex every file is = inl is
+  failed_entries (Some version) (Some script) (Some f) hex every file is = is
+
+  failed_read : (mode : Mode) (value : List ℕ → Option (List ℕ)) → failed ≡ failed_mode mode → FailedFor (read mode value) failed
+  failed_read modes.Play value is = failed_play _ _ _ _ is
+  failed_read modes.Run value is = failed_run _ _ _ _ is
+  failed_read modes.Explore value is = failed_explore _ _ _ _ is
+  failed_read modes.Policy value is = failed_list _ _ _ is
+  failed_read modes.Rules value is = is
+  failed_read modes.Check value is = failed_check _ _ _ _ is
+  failed_read modes.Why value is = failed_why _ _ _ _ is
+  failed_read modes.Entries value is = failed_entries _ _ _ _ _ _ is
+
+  failed_either : (mode : Mode) → failed ≡ failed_mode mode → (failed ≡ Unknown) ⊎ (failed ≡ No)
+  failed_either modes.Play is = inr is
+  failed_either modes.Run is = inr is
+  failed_either modes.Explore is = inl is
+  failed_either modes.Policy is = inr is
+  failed_either modes.Rules is = inl is
+  failed_either modes.Check is = inl is
+  failed_either modes.Why is = inl is
+  failed_either modes.Entries is = inl is
+
+  failed_of : (mode : Mode) (line : Line) → failed ≡ failed_mode mode → FailedFor (asked_of mode line) failed
+  failed_of mode (gives given) is = failed_read mode (value_given given) is
+  failed_of mode asks_help is = failed_either mode is
+  failed_of mode wrong is = failed_either mode is
+
+  failed_here : (b : Bool) (one other : Request) → FailedFor one failed → FailedFor other failed → FailedFor (cond b one other) failed
+  failed_here true one other a c = a
+  failed_here false one other a c = c
+
+  failed_none : (w : Word) → failed ≡ No → FailedFor (asked_of_none w) failed
+  failed_none mark is = inr is
+  failed_none (long name None) is = failed_here (bytes_eq (codes "help") name) _ _ (inr is) (failed_here (bytes_eq (codes "version") name) _ _ (inr is) (inr is))
+  failed_none (long name (Some value)) is = inr is
+  failed_none (short letter) is = failed_here (104 == letter) _ _ (inr is) (failed_here (86 == letter) _ _ (inr is) (inr is))
+  failed_none plain is = inr is
+
+  failed_by : (mode : Option Mode) (word : List ℕ) (rest : List (List ℕ)) → failed ≡ failed_command mode → FailedFor (request_by mode word rest) failed
+  failed_by None word rest is = failed_none (usage_word word) is
+  failed_by (Some mode) word rest is = failed_of mode (line (usage_of mode) rest) is
+
+failed_in_words : (words : List (List ℕ)) (failed : Outcome) → failed ≡ failed_word (first_word words) → FailedFor (request_in_words words) failed
+failed_in_words [] failed is = inr is
+failed_in_words (word ∷ rest) failed is = failed_by failed (mode_of word) word rest is
+
+-- a flag stays no command
+flag_mode : (word : List ℕ) (b : Bool) → bytes_eq word (codes "-v") ≡ b → mode_of (long_flag word) ≡ mode_of word
+flag_mode word true e = rw e (ap mode_of (sym ((bytes_eq-Decides word (codes "-v")).0 e)))
+flag_mode word false e = rw e refl
+
+long_mode : (marked : Bool) (word : List ℕ) → mode_of (long_word marked word) ≡ mode_of word
+long_mode true word = refl
+long_mode false word = flag_mode word (bytes_eq word (codes "-v")) refl
+
+help_mode : (word : List ℕ) → bytes_eq word (codes "help") ≡ true → mode_of word ≡ None
+help_mode word e = ap mode_of ((bytes_eq-Decides word (codes "help")).0 e)
+
+-- the word where a command is expected comes to be the first
+module _ (program : List ℕ) where
+  abbrev first_long : List (List ℕ) → Option (List ℕ)
+  first_long words = first_word (drop 1 (with_long_flags words))
+
+  first_failed : (word : List ℕ) (rest : List (List ℕ)) → failed_word (first_long (program ∷ (word ∷ rest))) ≡ failed_word (Some word)
+  first_failed word rest = ap failed_command (long_mode _ word)
+
+  two_words : (word : List ℕ) (b : Bool) → bytes_eq word (codes "help") ≡ b → failed_word (first_long (command_first (program ∷ (word ∷ [])))) ≡ failed_word (Some word)
+  two_words word true e = rw e (first_failed (codes "--help") [] ∙ ap failed_command (sym (help_mode word e)))
+  two_words word false e = rw e (first_failed word [])
+
+  more_words : (word next : List ℕ) (rest : List (List ℕ)) (a b : Bool) → is_verbose word ≡ a → bytes_eq word (codes "help") ≡ b
+      → failed_word (first_long (command_first (program ∷ (word ∷ (next ∷ rest))))) ≡ failed_word (leading_word (program ∷ (word ∷ (next ∷ rest))))
+  more_words word next rest true b v h = rw v (first_failed next (word ∷ rest))
+  more_words word next rest false true v h = rw (v, h) (first_failed next (codes "--help" ∷ rest))
+  more_words word next rest false false v h = rw (v, h) (first_failed word (next ∷ rest))
+
+leading : (words : List (List ℕ)) → failed_word (first_word (drop 1 (with_long_flags (command_first words)))) ≡ failed_word (leading_word words)
+leading [] = refl
+leading (program ∷ []) = refl
+leading (program ∷ (word ∷ [])) = two_words program word (bytes_eq word (codes "help")) refl
+leading (program ∷ (word ∷ (next ∷ rest))) = more_words program word next rest (is_verbose word) (bytes_eq word (codes "help")) refl refl
+
+-- the same for the words that were made of them
+pub made_first : (words spelled : List (List ℕ)) (failed : Outcome) → failed ≡ failed_word (leading_word words) → spelled ≡ with_long_flags (command_first words) → failed ≡ failed_word (first_word (drop 1 spelled))
+made_first words spelled failed is made = is ∙ sym (leading words) ∙ ap (λ (ws : List (List ℕ)). failed_word (first_word (drop 1 ws))) (sym made)
 
 -- no memory was there for the words
-pub without_memory : (request : Request) (file : List ℕ → Option (List ℕ)) (input old : Option (List ℕ)) (status : ℕ) → status ≡ exit_status_of (Err failures.Memory) → Obeys request file input old old status
-without_memory request file input old status is = out_of_memory request file input old old status is (keeps_same old)
+pub without_memory : (words : List (List ℕ)) (file : List ℕ → Option (List ℕ)) (input old : Option (List ℕ)) (failed outcome : Outcome) → failed ≡ failed_word (leading_word words) → outcome ≡ failed
+    → Obeys (request_in_words (drop 1 (with_long_flags (command_first words)))) file input old old outcome
+without_memory words file input old failed outcome is same =
+    out_of_memory (request_in_words (drop 1 (with_long_flags (command_first words)))) failed file input old old outcome
+    (failed_in_words (drop 1 (with_long_flags (command_first words))) failed (is ∙ sym (leading words))) same (keeps_same old)
 
--- the words with their long flags were obeyed
-pub obeyed_long : (words spelled : List (List ℕ)) (file : List ℕ → Option (List ℕ)) (input old new : Option (List ℕ)) (status : ℕ) → spelled ≡ words
-    → Obeys (request_in_words (drop 1 spelled)) file input old new status → Obeys (request_in_words (drop 1 words)) file input old new status
-obeyed_long words spelled file input old new status is obeys = subst (λ (ws : List (List ℕ)). Obeys (request_in_words (drop 1 ws)) file input old new status) is obeys
+-- the words that were made of a line were obeyed
+pub obeyed_plain : (words spelled : List (List ℕ)) (file : List ℕ → Option (List ℕ)) (input old new : Option (List ℕ)) (outcome : Outcome) → spelled ≡ words
+    → Obeys (request_in_words (drop 1 spelled)) file input old new outcome → Obeys (request_in_words (drop 1 words)) file input old new outcome
+obeyed_plain words spelled file input old new outcome is obeys = subst (λ (ws : List (List ℕ)). Obeys (request_in_words (drop 1 ws)) file input old new outcome) is obeys
 
 -- a command is refused only where memory is
-by_memory : (request : Request) (file : List ℕ → Option (List ℕ)) (input old new : Option (List ℕ)) (error : Error) (status : ℕ) → kind_of error ≡ OutOfMemory → FitsKind (kind_of error) old new status
-    → Obeys request file input old new status
-by_memory request file input old new error status memory fits =
-    out_of_memory request file input old new status (fits.memory memory) (silent _ OutOfMemory old new status fits memory (λ q. cc) (λ q. cc))
+by_memory : (request : Request) (file : List ℕ → Option (List ℕ)) (input old new : Option (List ℕ)) (error : Error) (failed outcome : Outcome) → FailedFor request failed → kind_of error ≡ OutOfMemory → FitsKind failed (kind_of error) old new outcome
+    → Obeys request file input old new outcome
+by_memory request file input old new error failed outcome for memory fits =
+    out_of_memory request failed file input old new outcome for (fits.memory memory) (silent failed _ OutOfMemory old new outcome fits memory (λ q. cc) (λ q. cc))
 
-wrong_line : (other : ErrorKind) (file : List ℕ → Option (List ℕ)) (input old new : Option (List ℕ)) (error : Error) (status : ℕ) → kind_of error ≡ other → (other ≡ OutOfMemory → ⊥) → (other ≡ DisplayHelp → ⊥) → (other ≡ DisplayVersion → ⊥)
-    → FitsKind (kind_of error) old new status → Obeys nothing file input old new status
-wrong_line other file input old new error status is memory help version fits =
-    (inl (wrong _ other old new status fits is memory help version), silent _ other old new status fits is help version)
+wrong_line : (other : ErrorKind) (file : List ℕ → Option (List ℕ)) (input old new : Option (List ℕ)) (error : Error) (failed outcome : Outcome) → kind_of error ≡ other → (other ≡ OutOfMemory → ⊥) → (other ≡ DisplayHelp → ⊥) → (other ≡ DisplayVersion → ⊥)
+    → FitsKind failed (kind_of error) old new outcome → Obeys nothing file input old new outcome
+wrong_line other file input old new error failed outcome is memory help version fits =
+    (inl (wrong_one failed _ other old new outcome fits is memory help version), silent failed _ other old new outcome fits is help version)
 
 -- it was refused
-pub refused : (request : Request) (file : List ℕ → Option (List ℕ)) (input old new : Option (List ℕ)) (error : Error) (status : ℕ) → HasKind (refusals request) error → FitsKind (kind_of error) old new status
-    → Obeys request file input old new status
-refused (to_play audited verbose format name) file input old new error status (inl memory) fits = by_memory (to_play audited verbose format name) file input old new error status memory fits
-refused (to_play audited verbose format name) file input old new error status (inr none) fits = absurd none
-refused (to_run audited verbose format name) file input old new error status (inl memory) fits = by_memory (to_run audited verbose format name) file input old new error status memory fits
-refused (to_run audited verbose format name) file input old new error status (inr none) fits = absurd none
-refused (to_explore find witness states name) file input old new error status (inl memory) fits = by_memory (to_explore find witness states name) file input old new error status memory fits
-refused (to_explore find witness states name) file input old new error status (inr none) fits = absurd none
-refused (to_list format name) file input old new error status (inl memory) fits = by_memory (to_list format name) file input old new error status memory fits
-refused (to_list format name) file input old new error status (inr none) fits = absurd none
-refused (to_tell_rules name) file input old new error status (inl memory) fits = by_memory (to_tell_rules name) file input old new error status memory fits
-refused (to_tell_rules name) file input old new error status (inr none) fits = absurd none
-refused (to_check script format name) file input old new error status (inl memory) fits = by_memory (to_check script format name) file input old new error status memory fits
-refused (to_check script format name) file input old new error status (inr none) fits = absurd none
-refused (to_explain source target permission name) file input old new error status (inl memory) fits = by_memory (to_explain source target permission name) file input old new error status memory fits
-refused (to_explain source target permission name) file input old new error status (inr none) fits = absurd none
-refused (to_tell_entries version hex every script format name) file input old new error status (inl memory) fits = by_memory (to_tell_entries version hex every script format name) file input old new error status memory fits
-refused (to_tell_entries version hex every script format name) file input old new error status (inr none) fits = absurd none
-refused for_help file input old new error status (inl memory) fits = let e = fits.memory memory in omega arith
-refused for_help file input old new error status (inr (inl help)) fits = fits.help help
-refused for_help file input old new error status (inr (inr none)) fits = absurd none
-refused for_version file input old new error status (inl memory) fits = let e = fits.memory memory in omega arith
-refused for_version file input old new error status (inr (inl version)) fits = fits.version version
-refused for_version file input old new error status (inr (inr none)) fits = absurd none
-refused nothing file input old new error status (inl memory) fits = by_memory nothing file input old new error status memory fits
-refused nothing file input old new error status (inr (inl e)) fits = wrong_line UnknownArgument file input old new error status e (λ q. cc) (λ q. cc) (λ q. cc) fits
-refused nothing file input old new error status (inr (inr (inl e))) fits = wrong_line InvalidSubcommand file input old new error status e (λ q. cc) (λ q. cc) (λ q. cc) fits
-refused nothing file input old new error status (inr (inr (inr (inl e)))) fits = wrong_line MissingSubcommand file input old new error status e (λ q. cc) (λ q. cc) (λ q. cc) fits
-refused nothing file input old new error status (inr (inr (inr (inr (inl e))))) fits = wrong_line TooManyValues file input old new error status e (λ q. cc) (λ q. cc) (λ q. cc) fits
-refused nothing file input old new error status (inr (inr (inr (inr (inr (inl e)))))) fits = wrong_line ArgumentConflict file input old new error status e (λ q. cc) (λ q. cc) (λ q. cc) fits
-refused nothing file input old new error status (inr (inr (inr (inr (inr (inr (inl e))))))) fits = wrong_line InvalidValue file input old new error status e (λ q. cc) (λ q. cc) (λ q. cc) fits
-refused nothing file input old new error status (inr (inr (inr (inr (inr (inr (inr (inl e)))))))) fits = wrong_line MissingRequiredArgument file input old new error status e (λ q. cc) (λ q. cc) (λ q. cc) fits
-refused nothing file input old new error status (inr (inr (inr (inr (inr (inr (inr (inr none)))))))) fits = absurd none
+pub refused : (request : Request) (file : List ℕ → Option (List ℕ)) (input old new : Option (List ℕ)) (error : Error) (failed outcome : Outcome) → FailedFor request failed → HasKind (refusals request) error → FitsKind failed (kind_of error) old new outcome
+    → Obeys request file input old new outcome
+refused (to_play audited verbose format name) file input old new error failed outcome for (inl memory) fits = by_memory (to_play audited verbose format name) file input old new error failed outcome for memory fits
+refused (to_play audited verbose format name) file input old new error failed outcome for (inr none) fits = absurd none
+refused (to_run audited verbose format name) file input old new error failed outcome for (inl memory) fits = by_memory (to_run audited verbose format name) file input old new error failed outcome for memory fits
+refused (to_run audited verbose format name) file input old new error failed outcome for (inr none) fits = absurd none
+refused (to_explore sought states name) file input old new error failed outcome for (inl memory) fits = by_memory (to_explore sought states name) file input old new error failed outcome for memory fits
+refused (to_explore sought states name) file input old new error failed outcome for (inr none) fits = absurd none
+refused (to_list verbose format name) file input old new error failed outcome for (inl memory) fits = by_memory (to_list verbose format name) file input old new error failed outcome for memory fits
+refused (to_list verbose format name) file input old new error failed outcome for (inr none) fits = absurd none
+refused (to_tell_rules name) file input old new error failed outcome for (inl memory) fits = by_memory (to_tell_rules name) file input old new error failed outcome for memory fits
+refused (to_tell_rules name) file input old new error failed outcome for (inr none) fits = absurd none
+refused (to_check script format name more) file input old new error failed outcome for (inl memory) fits = by_memory (to_check script format name more) file input old new error failed outcome for memory fits
+refused (to_check script format name more) file input old new error failed outcome for (inr none) fits = absurd none
+refused (to_explain source target permission name) file input old new error failed outcome for (inl memory) fits = by_memory (to_explain source target permission name) file input old new error failed outcome for memory fits
+refused (to_explain source target permission name) file input old new error failed outcome for (inr none) fits = absurd none
+refused (to_explain_each name) file input old new error failed outcome for has fits = tt
+refused (to_tell_entries version hex every script format name) file input old new error failed outcome for (inl memory) fits = by_memory (to_tell_entries version hex every script format name) file input old new error failed outcome for memory fits
+refused (to_tell_entries version hex every script format name) file input old new error failed outcome for (inr none) fits = absurd none
+refused for_help file input old new error failed outcome for (inl memory) fits = by_memory for_help file input old new error failed outcome for memory fits
+refused for_help file input old new error failed outcome for (inr (inl help)) fits = inl (fits.help help)
+refused for_help file input old new error failed outcome for (inr (inr none)) fits = absurd none
+refused for_version file input old new error failed outcome for (inl memory) fits = by_memory for_version file input old new error failed outcome for memory fits
+refused for_version file input old new error failed outcome for (inr (inl version)) fits = inl (fits.version version)
+refused for_version file input old new error failed outcome for (inr (inr none)) fits = absurd none
+refused nothing file input old new error failed outcome for (inl memory) fits = by_memory nothing file input old new error failed outcome for memory fits
+refused nothing file input old new error failed outcome for (inr (inl e)) fits = wrong_line UnknownArgument file input old new error failed outcome e (λ q. cc) (λ q. cc) (λ q. cc) fits
+refused nothing file input old new error failed outcome for (inr (inr (inl e))) fits = wrong_line InvalidSubcommand file input old new error failed outcome e (λ q. cc) (λ q. cc) (λ q. cc) fits
+refused nothing file input old new error failed outcome for (inr (inr (inr (inl e)))) fits = wrong_line MissingSubcommand file input old new error failed outcome e (λ q. cc) (λ q. cc) (λ q. cc) fits
+refused nothing file input old new error failed outcome for (inr (inr (inr (inr (inl e))))) fits = wrong_line TooManyValues file input old new error failed outcome e (λ q. cc) (λ q. cc) (λ q. cc) fits
+refused nothing file input old new error failed outcome for (inr (inr (inr (inr (inr (inl e)))))) fits = wrong_line ArgumentConflict file input old new error failed outcome e (λ q. cc) (λ q. cc) (λ q. cc) fits
+refused nothing file input old new error failed outcome for (inr (inr (inr (inr (inr (inr (inl e))))))) fits = wrong_line InvalidValue file input old new error failed outcome e (λ q. cc) (λ q. cc) (λ q. cc) fits
+refused nothing file input old new error failed outcome for (inr (inr (inr (inr (inr (inr (inr (inl e)))))))) fits = wrong_line MissingRequiredArgument file input old new error failed outcome e (λ q. cc) (λ q. cc) (λ q. cc) fits
+refused nothing file input old new error failed outcome for (inr (inr (inr (inr (inr (inr (inr (inr none)))))))) fits = absurd none
+
+-- the same by the words
+pub refused_words : (words : List (List ℕ)) (file : List ℕ → Option (List ℕ)) (input old new : Option (List ℕ)) (error : Error) (failed outcome : Outcome) → failed ≡ failed_word (first_word words) → HasKind (refusals (request_in_words words)) error
+    → FitsKind failed (kind_of error) old new outcome → Obeys (request_in_words words) file input old new outcome
+refused_words words file input old new error failed outcome is has fits = refused (request_in_words words) file input old new error failed outcome (failed_in_words words failed is) has fits
 
 -- a question of these names was answered
-explains_names : (file : List ℕ) (q : WhyQuestion) (source target : Option (List ℕ)) (permission input : List ℕ) (old new : Option (List ℕ)) (r : Ending) → IsQuestion source target permission q
+explains_names : (file : List ℕ) (q : WhyQuestion) (source target permission : Option (List ℕ)) (input : List ℕ) (old new : Option (List ℕ)) (r : Ending) → IsQuestion source target permission q
     → Does (Explains file q) input old new r → Does (AnswersQuestion file source target permission) input old new r
 explains_names file q source target permission input old new r is (inl does) = inl (q, is, does)
 explains_names file q source target permission input old new r is (inr unopened) = inr unopened
 
-answered_by : (file : List ℕ) (q : WhyQuestion) (source target : Option (List ℕ)) (permission : List ℕ) (known old new : Option (List ℕ)) (status : ℕ) → IsQuestion source target permission q
-    → Works (Explains file q) known old new status → Works (AnswersQuestion file source target permission) known old new status
-answered_by file q source target permission None old new status asks works = tt
-answered_by file q source target permission (Some bytes) old new status asks (r, is, inl does) = (r, is, inl (explains_names file q source target permission bytes old new r asks does))
-answered_by file q source target permission (Some bytes) old new status asks (r, is, inr none) = (r, is, inr none)
+question_by : (file : List ℕ) (q : WhyQuestion) (source target permission : Option (List ℕ)) (known old new : Option (List ℕ)) (outcome : Outcome) → IsQuestion source target permission q
+    → Works (Explains file q) Unknown known old new outcome → Works (AnswersQuestion file source target permission) Unknown known old new outcome
+question_by file q source target permission None old new outcome asks works = tt
+question_by file q source target permission (Some bytes) old new outcome asks (r, is, inl does) = (r, is, inl (explains_names file q source target permission bytes old new r asks does))
+question_by file q source target permission (Some bytes) old new outcome asks (r, is, inr none) = (r, is, inr none)
 
-pub answered : (file same : List ℕ) (q : WhyQuestion) (source target : Option (List ℕ)) (permission : List ℕ) (known old new : Option (List ℕ)) (status : ℕ) → file ≡ same → IsQuestion source target permission q
-    → Works (Explains file q) known old new status → Works (AnswersQuestion same source target permission) known old new status
-answered file same q source target permission known old new status shown asks works =
-    subst (λ (f : List ℕ). Works (AnswersQuestion f source target permission) known old new status) shown (answered_by file q source target permission known old new status asks works)
+pub answered : (file same : List ℕ) (q : WhyQuestion) (source target permission : Option (List ℕ)) (known old new : Option (List ℕ)) (outcome : Outcome) → file ≡ same → IsQuestion source target permission q
+    → Works (Explains file q) Unknown known old new outcome → Works (AnswersQuestion same source target permission) Unknown known old new outcome
+answered file same q source target permission known old new outcome shown asks works =
+    subst (λ (f : List ℕ). Works (AnswersQuestion f source target permission) Unknown known old new outcome) shown (question_by file q source target permission known old new outcome asks works)
 
 -- a dump was told as it was asked
 tells_asked : (asked : DumpOptions) (version : ℕ) (hex every : Bool) (script : Option ℕ) (format : Format) (input : List ℕ) (old new : Option (List ℕ)) (r : Ending) → IsAsked version hex every script asked
@@ -173,28 +394,28 @@ tells_asked : (asked : DumpOptions) (version : ℕ) (hex every : Bool) (script :
 tells_asked asked version hex every script format input old new r is (inl does) = inl (asked, is, does)
 tells_asked asked version hex every script format input old new r is (inr unopened) = inr unopened
 
-pub told : (asked : DumpOptions) (version : ℕ) (hex every : Bool) (script : Option ℕ) (format : Format) (known old new : Option (List ℕ)) (status : ℕ) → IsAsked version hex every script asked
-    → Works (AnswersEntries format asked) known old new status → Works (AnswersDump version hex every script format) known old new status
-told asked version hex every script format None old new status asks works = tt
-told asked version hex every script format (Some bytes) old new status asks (r, is, inl does) = (r, is, inl (tells_asked asked version hex every script format bytes old new r asks does))
-told asked version hex every script format (Some bytes) old new status asks (r, is, inr none) = (r, is, inr none)
+pub told : (asked : DumpOptions) (version : ℕ) (hex every : Bool) (script : Option ℕ) (format : Format) (known old new : Option (List ℕ)) (outcome : Outcome) → IsAsked version hex every script asked
+    → Works (AnswersEntries format asked) Unknown known old new outcome → Works (AnswersDump version hex every script format) Unknown known old new outcome
+told asked version hex every script format None old new outcome asks works = tt
+told asked version hex every script format (Some bytes) old new outcome asks (r, is, inl does) = (r, is, inl (tells_asked asked version hex every script format bytes old new r asks does))
+told asked version hex every script format (Some bytes) old new outcome asks (r, is, inr none) = (r, is, inr none)
 
 -- the domain of a dump's script by its number
-pub of_number : (version : ℕ) (hex every : Bool) (one script : Option ℕ) (format : Format) (known old new : Option (List ℕ)) (status : ℕ) → one ≡ script
-    → Works (AnswersDump version hex every one format) known old new status → Works (AnswersDump version hex every script format) known old new status
-of_number version hex every one script format known old new status is works = subst (λ (n : Option ℕ). Works (AnswersDump version hex every n format) known old new status) is works
+pub of_number : (version : ℕ) (hex every : Bool) (one script : Option ℕ) (format : Format) (known old new : Option (List ℕ)) (outcome : Outcome) → one ≡ script
+    → Works (AnswersDump version hex every one format) Unknown known old new outcome → Works (AnswersDump version hex every script format) Unknown known old new outcome
+of_number version hex every one script format known old new outcome is works = subst (λ (n : Option ℕ). Works (AnswersDump version hex every n format) Unknown known old new outcome) is works
 
 -- a script was explored as it was asked
-seeks_asked : (asked : Searched) (find : Option (List ℕ)) (witness : Option ℕ) (states : ℕ) (input : List ℕ) (old new : Option (List ℕ)) (r : Ending) → IsSearched find witness states asked
-    → Does (Searches asked) input old new r → Does (Seeks find witness states) input old new r
-seeks_asked asked find witness states input old new r is (inl does) = inl (asked, is, does)
-seeks_asked asked find witness states input old new r is (inr unopened) = inr unopened
+seeks_asked : (asked : Searched) (sought : Sought) (states : ℕ) (input : List ℕ) (old new : Option (List ℕ)) (r : Ending) → IsSearched sought states asked
+    → Does (Searches asked) input old new r → Does (Seeks sought states) input old new r
+seeks_asked asked sought states input old new r is (inl does) = inl (asked, is, does)
+seeks_asked asked sought states input old new r is (inr unopened) = inr unopened
 
-pub sought : (asked : Searched) (find : Option (List ℕ)) (witness : Option ℕ) (states : ℕ) (known old new : Option (List ℕ)) (status : ℕ) → IsSearched find witness states asked
-    → Works (Searches asked) known old new status → Works (Seeks find witness states) known old new status
-sought asked find witness states None old new status asks works = tt
-sought asked find witness states (Some bytes) old new status asks (r, is, inl does) = (r, is, inl (seeks_asked asked find witness states bytes old new r asks does))
-sought asked find witness states (Some bytes) old new status asks (r, is, inr none) = (r, is, inr none)
+pub sought_so : (asked : Searched) (sought : Sought) (states : ℕ) (known old new : Option (List ℕ)) (outcome : Outcome) → IsSearched sought states asked
+    → Works (Searches asked) Unknown known old new outcome → Works (Seeks sought states) Unknown known old new outcome
+sought_so asked sought states None old new outcome asks works = tt
+sought_so asked sought states (Some bytes) old new outcome asks (r, is, inl does) = (r, is, inl (seeks_asked asked sought states bytes old new r asks does))
+sought_so asked sought states (Some bytes) old new outcome asks (r, is, inr none) = (r, is, inr none)
 
 -- the work is the one that was asked for
 pub for_work : (known old new : Option (List ℕ)) (work other : Work) (r : Ending) → work ≡ other → OfInput known (λ input. Performs other input old new r) → OfInput known (λ input. Performs work input old new r)

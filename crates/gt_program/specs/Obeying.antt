@@ -1,16 +1,21 @@
 -- The result of a command line: the output, and the exit status.
-use Rattle.std.specs.Prelude.{◌≡◌, ◌⊎◌, ℕ, ◌≤◌, ◌++◌, Bool, true, false, List, Option, Some, None, Result, Ok, Err}
+use Rattle.std.specs.Prelude.{◌≡◌, ◌⊎◌, ℕ, ◌++◌, Bool, true, false, List, [], ◌∷◌, Option, Some, None, Result, Ok, Err}
 use Rattle.std.specs.Prelude.{IfSome, codes}
 use Rattle.std.specs.Borrow.{Bor}
 use Rattle.gt_program.specs.Prelude.{Keeps, option_map, ErrorKind, DisplayHelp, DisplayVersion, OutOfMemory}
-use Rattle.gt_program.specs.Prelude.{source_asked, target_asked, WhyQuestion, Explained, why_fault_text, Request, to_play}
-use Rattle.gt_program.specs.Prelude.{to_explore, Explored, explore_fault_text, RunTells, Searched, word_asked}
-use Rattle.gt_program.specs.Prelude.{to_run, to_list, to_tell_rules, to_check, to_explain, to_tell_entries, for_help}
+use Rattle.gt_program.specs.Prelude.{perm_asked, source_asked, target_asked, WhyQuestion, Explained, why_fault_text, Request, to_play}
+use Rattle.gt_program.specs.Prelude.{to_explore, Explored, explore_fault_text, RunTells, Searched, ExploreRequest, Sought, all_texts, a_claim}
+use Rattle.gt_program.specs.Prelude.{one_script, all_scripts, Holds, Fails, Undecided, Verdict}
+use Rattle.gt_explore.specs.declared.exploring.ExploreRequest.TheVariants as requests
+use Rattle.gt_program.specs.Prelude.{to_run, to_list, to_tell_rules, to_check, to_explain, to_explain_each}
+use Rattle.gt_program.specs.Prelude.{to_tell_entries, for_help}
 use Rattle.gt_program.specs.Prelude.{for_version, nothing, dump_fault_text, DumpOptions, read_word, play_fault_text}
-use Rattle.gt_program.specs.Prelude.{run_fault_text, listing_fault_text, Format, Failure, Work}
+use Rattle.gt_program.specs.Prelude.{run_fault_text, listing_fault_text, Format, Failure, Mode, Outcome, Work}
+use Rattle.gt_program.specs.Prelude.{mode_of, No, Unknown, Yes}
 use Rattle.gt_program.specs.Formats.{CheckedAs, ListedAs, PlayedAs, RanAs, ToldAs}
 use Rattle.gt_program.specs.declared.failure.Failure.TheVariants as failures
 use Rattle.gt_program.specs.declared.commands.Work.TheVariants as works
+use Rattle.gt_commands.specs.declared.invocation.Mode.TheVariants as modes
 
 -- the line for a failure
 abbrev pub failure_text : Failure → List ℕ
@@ -24,61 +29,116 @@ failure_text (failures.File fault) = codes "gthost: " ++ read_word fault
 failure_text (failures.Help fault) = codes "gthost: write"
 failure_text failures.Memory = codes "gthost: memory"
 
--- the result of a command: a good answer, another one, or a failure
-abbrev pub Ending : Type 0
-Ending = Result Bool Failure
+-- the exit status: 0 for yes, 1 for no, 2 if there is no answer
+abbrev pub exit_status_of : Outcome → ℕ
+exit_status_of Yes = 0
+exit_status_of No = 1
+exit_status_of Unknown = 2
 
--- the exit status: 0 for a good answer, 1 for another and for a failure
-abbrev pub exit_status_of : Ending → ℕ
-exit_status_of (Ok true) = 0
-exit_status_of (Ok false) = 1
-exit_status_of (Err failure) = 1
+-- the outcome of an answer
+abbrev pub answer_of : Bool → Outcome
+answer_of true = Yes
+answer_of false = No
+
+-- the result of a command: its outcome, or a failure
+abbrev pub Ending : Type 0
+Ending = Result Outcome Failure
+
+-- what a command line comes to by the result of its command, where a failure comes to this
+abbrev pub outcome_of : Outcome → Ending → Outcome
+outcome_of failed (Ok outcome) = outcome
+outcome_of failed (Err failure) = failed
+
+-- What a failure of a command comes to: to no for a script that is not played or run to its end and for a policy that
+-- is not listed, and otherwise there is no answer.
+abbrev pub failed_mode : Mode → Outcome
+failed_mode modes.Play = No
+failed_mode modes.Run = No
+failed_mode modes.Explore = Unknown
+failed_mode modes.Policy = No
+failed_mode modes.Rules = Unknown
+failed_mode modes.Check = Unknown
+failed_mode modes.Why = Unknown
+failed_mode modes.Entries = Unknown
+
+-- the same for a command line with this command, or none
+abbrev pub failed_command : Option Mode → Outcome
+failed_command None = No
+failed_command (Some mode) = failed_mode mode
+
+-- the first of the words
+abbrev pub first_word : List (List ℕ) → Option (List ℕ)
+first_word [] = None
+first_word (word ∷ rest) = Some word
+
+-- the same for a command line with this word where a command is expected
+abbrev pub failed_word : Option (List ℕ) → Outcome
+failed_word None = No
+failed_word (Some word) = failed_command (mode_of word)
 
 -- what a command wrote, by the bytes of its text and by its result
 abbrev pub Doing : Type 1
 Doing = List ℕ → Option (List ℕ) → Option (List ℕ) → Ending → Type 0
 
 abbrev pub Plays : Format → Bool → Doing
-Plays format audited input old new (Ok true) = PlayedAs format audited input old new (Ok tt)
-Plays format audited input old new (Ok false) = ⊥
+Plays format audited input old new (Ok Yes) = PlayedAs format audited input old new (Ok tt)
+Plays format audited input old new (Ok other) = ⊥
 Plays format audited input old new (Err (failures.Play fault)) = PlayedAs format audited input old new (Err fault)
 Plays format audited input old new (Err failure) = ⊥
 
 -- if an allocation failed before the text was read, nothing was written
 abbrev pub RunsDomains : Format → Bool → Doing
-RunsDomains format audited input old new (Ok true) = RanAs format audited input old new (Ok tt)
-RunsDomains format audited input old new (Ok false) = ⊥
+RunsDomains format audited input old new (Ok Yes) = RanAs format audited input old new (Ok tt)
+RunsDomains format audited input old new (Ok other) = ⊥
 RunsDomains format audited input old new (Err (failures.Run fault)) = RanAs format audited input old new (Err fault)
 RunsDomains format audited input old new (Err failures.Memory) = Keeps old new
 RunsDomains format audited input old new (Err failure) = ⊥
 
--- a good answer is that some text is wanted
+-- what was written for an answer of yes or no
+abbrev pub Answers : {F : Type 0} → (Result Bool F → Type 0) → Outcome → Type 0
+Answers Wrote Yes = Wrote (Ok true)
+Answers Wrote No = Wrote (Ok false)
+Answers Wrote Unknown = ⊥
+
+-- a verdict as an answer: yes if it holds, no if it does not, and no answer if it is not decided
+abbrev pub verdict_outcome : Verdict → Outcome
+verdict_outcome Holds = Yes
+verdict_outcome Fails = No
+verdict_outcome Undecided = Unknown
+
+-- what was written for a verdict
+abbrev pub AnswersVerdict : {F : Type 0} → (Result Verdict F → Type 0) → Outcome → Type 0
+AnswersVerdict Wrote Yes = Wrote (Ok Holds)
+AnswersVerdict Wrote No = Wrote (Ok Fails)
+AnswersVerdict Wrote Unknown = Wrote (Ok Undecided)
+
+-- the answer is the verdict
 abbrev pub Searches : Searched → Doing
-Searches asked input old new (Ok answer) = Explored asked (RunTells input) old new (Ok answer)
+Searches asked input old new (Ok outcome) = AnswersVerdict (Explored asked (RunTells input) old new) outcome
 Searches asked input old new (Err (failures.Explore fault)) = Explored asked (RunTells input) old new (Err fault)
 Searches asked input old new (Err failure) = ⊥
 
 abbrev pub Lists : Format → Doing
-Lists format input old new (Ok true) = ListedAs format input old new (Ok tt)
-Lists format input old new (Ok false) = ⊥
+Lists format input old new (Ok Yes) = ListedAs format input old new (Ok tt)
+Lists format input old new (Ok other) = ⊥
 Lists format input old new (Err (failures.List fault)) = ListedAs format input old new (Err fault)
 Lists format input old new (Err failure) = ⊥
 
--- a good answer is that the text is a policy, or a script
+-- the answer is whether the text is a policy, or a script
 abbrev pub Checks : Bool → Doing
-Checks script input old new (Ok answer) = CheckedAs script input old new (Ok answer)
+Checks script input old new (Ok outcome) = Answers (CheckedAs script input old new) outcome
 Checks script input old new (Err (failures.List fault)) = CheckedAs script input old new (Err fault)
 Checks script input old new (Err failure) = ⊥
 
--- a good answer is that it is allowed
+-- the answer is whether it is allowed
 abbrev pub Explains : List ℕ → WhyQuestion → Doing
-Explains file q input old new (Ok answer) = Explained file q input old new (Ok answer)
+Explains file q input old new (Ok outcome) = Answers (Explained file q input old new) outcome
 Explains file q input old new (Err (failures.Why fault)) = Explained file q input old new (Err fault)
 Explains file q input old new (Err failure) = ⊥
 
 abbrev pub AnswersEntries : Format → DumpOptions → Doing
-AnswersEntries format asked input old new (Ok true) = ToldAs format asked input old new (Ok tt)
-AnswersEntries format asked input old new (Ok false) = ⊥
+AnswersEntries format asked input old new (Ok Yes) = ToldAs format asked input old new (Ok tt)
+AnswersEntries format asked input old new (Ok other) = ⊥
 AnswersEntries format asked input old new (Err (failures.Dump fault)) = ToldAs format asked input old new (Err fault)
 AnswersEntries format asked input old new (Err failure) = ⊥
 
@@ -87,9 +147,18 @@ abbrev pub Performs : Work → Doing
 Performs (works.Play audited format) = Plays format audited
 Performs (works.Explore asked) = Searches asked
 Performs (works.List format) = Lists format
-Performs (works.Check script file json) = Checks script
+Performs (works.Check script file form) = Checks script
 Performs (works.Why file question) = Explains file.now question
 Performs (works.Entries asked format) = AnswersEntries format asked
+
+-- what a failure of this work comes to
+abbrev pub failed_work : Work → Outcome
+failed_work (works.Play audited format) = No
+failed_work (works.Explore asked) = Unknown
+failed_work (works.List format) = No
+failed_work (works.Check script file form) = Unknown
+failed_work (works.Why file question) = Unknown
+failed_work (works.Entries asked format) = Unknown
 
 -- a file that was not opened: nothing was written
 abbrev pub IsUnopened : Option (List ℕ) → Option (List ℕ) → Ending → Type 0
@@ -114,27 +183,32 @@ abbrev pub shown_name : Option (List ℕ) → List ℕ
 shown_name None = codes "<stdin>"
 shown_name (Some name) = name
 
--- a command line that is not obeyed: the exit status is 1 if an allocation fails, 0 or 1 for help and the version, by
--- whether they were written, and otherwise 2; nothing is written but help and the version
-pub record FitsKind (kind : ErrorKind) (old new : Option (List ℕ)) (status : ℕ) : Type 0 where
-  pub memory : kind ≡ OutOfMemory → status ≡ 1
-  pub help : kind ≡ DisplayHelp → status ≤ 1
-  pub version : kind ≡ DisplayVersion → status ≤ 1
-  pub wrong : (kind ≡ OutOfMemory → ⊥) → (kind ≡ DisplayHelp → ⊥) → (kind ≡ DisplayVersion → ⊥) → status ≡ 2
-  pub silent : (kind ≡ DisplayHelp → ⊥) → (kind ≡ DisplayVersion → ⊥) → Keeps old new
+-- help or the version: it was written, or not
+abbrev pub IsHelped : Outcome → Type 0
+IsHelped outcome = (outcome ≡ Yes) ⊎ (outcome ≡ No)
 
--- the exit status fits what was done with the named text, if its bytes are known; if an allocation fails it is 1, and
--- nothing was written
-abbrev pub Works : Doing → Option (List ℕ) → Option (List ℕ) → Option (List ℕ) → ℕ → Type 0
-Works P known old new status =
+-- A command line that is not obeyed: if an allocation fails it comes to `failed`, help and the version come to yes or
+-- no, by whether they were written, and any other line has no answer; nothing is written but help and the version.
+pub record FitsKind (failed : Outcome) (kind : ErrorKind) (old new : Option (List ℕ)) (outcome : Outcome) : Type 0
+  where
+    pub memory : kind ≡ OutOfMemory → outcome ≡ failed
+    pub help : kind ≡ DisplayHelp → IsHelped outcome
+    pub version : kind ≡ DisplayVersion → IsHelped outcome
+    pub wrong : (kind ≡ OutOfMemory → ⊥) → (kind ≡ DisplayHelp → ⊥) → (kind ≡ DisplayVersion → ⊥) → outcome ≡ Unknown
+    pub silent : (kind ≡ DisplayHelp → ⊥) → (kind ≡ DisplayVersion → ⊥) → Keeps old new
+
+-- The outcome fits what was done with the named text, if its bytes are known, where a failure comes to `failed`; if an
+-- allocation fails, nothing was written.
+abbrev pub Works : Doing → Outcome → Option (List ℕ) → Option (List ℕ) → Option (List ℕ) → Outcome → Type 0
+Works P failed known old new outcome =
     IfSome known
-    (λ bytes. (r : Ending) × (status ≡ exit_status_of r)
+    (λ bytes. (r : Ending) × (outcome ≡ outcome_of failed r)
     × (Does P bytes old new r ⊎ ((r ≡ Err failures.Memory) × Keeps old new)))
 
 -- the question has these names
-abbrev pub IsQuestion : Option (List ℕ) → Option (List ℕ) → List ℕ → WhyQuestion → Type 0
+abbrev pub IsQuestion : Option (List ℕ) → Option (List ℕ) → Option (List ℕ) → WhyQuestion → Type 0
 IsQuestion source target permission q =
-    (source_asked q ≡ source) × (target_asked q ≡ target) × (q.perm.now ≡ permission)
+    (source_asked q ≡ source) × (target_asked q ≡ target) × (perm_asked q ≡ permission)
 
 -- the options for a dump
 abbrev pub IsAsked : ℕ → Bool → Bool → Option ℕ → DumpOptions → Type 0
@@ -142,13 +216,20 @@ IsAsked version hex every script asked =
     (asked.version ≡ version) × (asked.hex ≡ hex) × (asked.all ≡ every)
     × (option_map (λ d. d.0) asked.script ≡ script)
 
+-- the request is for what is sought
+abbrev pub IsRequestFor : Sought → ExploreRequest → Type 0
+IsRequestFor sought requests.Texts = sought ≡ all_texts
+IsRequestFor sought (requests.Decide claim expression) = sought ≡ a_claim claim expression.now
+IsRequestFor sought (requests.Has given) = ⊥
+IsRequestFor sought (requests.Witness number) = sought ≡ one_script number
+IsRequestFor sought requests.Witnesses = sought ≡ all_scripts
+
 -- the options for the texts of a script
-abbrev pub IsSearched : Option (List ℕ) → Option ℕ → ℕ → Searched → Type 0
-IsSearched find witness states asked =
-    (word_asked asked ≡ find) × (asked.witness ≡ witness) × (asked.states ≡ states)
+abbrev pub IsSearched : Sought → ℕ → Searched → Type 0
+IsSearched sought states asked = IsRequestFor sought asked.request × (asked.states ≡ states)
 
 -- a question of these names is answered
-abbrev pub AnswersQuestion : List ℕ → Option (List ℕ) → Option (List ℕ) → List ℕ → Doing
+abbrev pub AnswersQuestion : List ℕ → Option (List ℕ) → Option (List ℕ) → Option (List ℕ) → Doing
 AnswersQuestion file source target permission input old new r =
     (q : WhyQuestion) × IsQuestion source target permission q × Explains file q input old new r
 
@@ -158,31 +239,59 @@ AnswersDump version hex every script format input old new r =
     (asked : DumpOptions) × IsAsked version hex every script asked × AnswersEntries format asked input old new r
 
 -- a script is explored with these options
-abbrev pub Seeks : Option (List ℕ) → Option ℕ → ℕ → Doing
-Seeks find witness states input old new r =
-    (asked : Searched) × IsSearched find witness states asked × Searches asked input old new r
+abbrev pub Seeks : Sought → ℕ → Doing
+Seeks sought states input old new r =
+    (asked : Searched) × IsSearched sought states asked × Searches asked input old new r
 
--- The exit status fits the request, and so does the output: a script was played, run or explored, a policy was listed,
--- a policy or a script was checked, a question was answered, a dump was printed, or the rules were, for which the
--- status is 2 if no rule has the name. Or it is help, the version, or nothing, with status 2, for words that ask for
--- nothing. If an allocation fails, the status is 1 for all of them.
-abbrev pub Obeys : Request → (List ℕ → Option (List ℕ)) → Option (List ℕ) → Option (List ℕ) → Option (List ℕ) → ℕ
-    → Type 0
-Obeys (to_play audited verbose format name) file input old new status =
-    Works (Plays format audited) (known_text file input name) old new status
-Obeys (to_run audited verbose format name) file input old new status =
-    Works (RunsDomains format audited) (known_text file input name) old new status
-Obeys (to_explore find witness states name) file input old new status =
-    Works (Seeks find witness states) (known_text file input name) old new status
-Obeys (to_list format name) file input old new status =
-    Works (Lists format) (known_text file input name) old new status
-Obeys (to_tell_rules name) file input old new status = status ≤ 2
-Obeys (to_check script format name) file input old new status =
-    Works (Checks script) (known_text file input name) old new status
-Obeys (to_explain source target permission name) file input old new status =
-    Works (AnswersQuestion (shown_name name) source target permission) (known_text file input name) old new status
-Obeys (to_tell_entries version hex every script format name) file input old new status =
-    Works (AnswersDump version hex every script format) (known_text file input name) old new status
-Obeys for_help file input old new status = status ≤ 1
-Obeys for_version file input old new status = status ≤ 1
-Obeys nothing file input old new status = ((status ≡ 2) ⊎ (status ≡ 1)) × Keeps old new
+-- the worse of two outcomes
+abbrev pub worse : Outcome → Outcome → Outcome
+worse Yes other = other
+worse No Yes = No
+worse No No = No
+worse No Unknown = Unknown
+worse Unknown other = Unknown
+
+-- what is done to the output, with an outcome
+abbrev pub Deed : Type 1
+Deed = Option (List ℕ) → Option (List ℕ) → Outcome → Type 0
+
+-- one deed is done after the other, and the outcome is the worse one
+abbrev pub OneAfterOther : Deed → Deed → Deed
+OneAfterOther One Other old new outcome =
+    (middle : Option (List ℕ)) × (one : Outcome) × (other : Outcome) × One old middle one × Other middle new other
+    × (outcome ≡ worse one other)
+
+-- the files of these names are checked one after the other
+abbrev pub ChecksFiles : Bool → (List ℕ → Option (List ℕ)) → List (Option (List ℕ)) → Deed
+ChecksFiles script file [] old new outcome = Keeps old new × (outcome ≡ Yes)
+ChecksFiles script file (None ∷ more) old new outcome = ChecksFiles script file more old new outcome
+ChecksFiles script file (Some name ∷ more) old new outcome =
+    OneAfterOther (Works (Checks script) Unknown (file name)) (ChecksFiles script file more) old new outcome
+
+-- The outcome fits the request, and so does the output: a script was played, run or explored, a policy was listed, a
+-- policy or a script was checked, or several, a question was answered, a dump was printed, or the rules were, which come to yes, or
+-- to no answer if they were not written or none has the name. Or it is help, the version, or nothing, without an
+-- answer, for words that ask for nothing. If an allocation fails it comes to what a failure of the command comes to.
+abbrev pub Obeys : Request → (List ℕ → Option (List ℕ)) → Option (List ℕ) → Option (List ℕ) → Option (List ℕ)
+    → Outcome → Type 0
+Obeys (to_play audited verbose format name) file input old new outcome =
+    Works (Plays format audited) No (known_text file input name) old new outcome
+Obeys (to_run audited verbose format name) file input old new outcome =
+    Works (RunsDomains format audited) No (known_text file input name) old new outcome
+Obeys (to_explore sought states name) file input old new outcome =
+    Works (Seeks sought states) Unknown (known_text file input name) old new outcome
+Obeys (to_list verbose format name) file input old new outcome =
+    Works (Lists format) No (known_text file input name) old new outcome
+Obeys (to_tell_rules name) file input old new outcome = (outcome ≡ Yes) ⊎ (outcome ≡ Unknown)
+Obeys (to_check script format name more) file input old new outcome =
+    OneAfterOther (Works (Checks script) Unknown (known_text file input name)) (ChecksFiles script file more) old new
+    outcome
+Obeys (to_explain source target permission name) file input old new outcome =
+    Works (AnswersQuestion (shown_name name) source target permission) Unknown (known_text file input name) old new
+    outcome
+Obeys (to_explain_each name) file input old new outcome = Unit {0}
+Obeys (to_tell_entries version hex every script format name) file input old new outcome =
+    Works (AnswersDump version hex every script format) Unknown (known_text file input name) old new outcome
+Obeys for_help file input old new outcome = IsHelped outcome ⊎ ((outcome ≡ Unknown) × Keeps old new)
+Obeys for_version file input old new outcome = IsHelped outcome ⊎ ((outcome ≡ Unknown) × Keeps old new)
+Obeys nothing file input old new outcome = ((outcome ≡ Unknown) ⊎ (outcome ≡ No)) × Keeps old new

@@ -1,20 +1,24 @@
 //! The execution of each command, with the text that it names.
 ghost use Rattle.std.specs.Prelude.{◌≡◌, IfSome, is_some};
 ghost use Rattle.gt_text.specs.Streams.{OfInput};
-ghost use Rattle.gt_program.specs.Obeying.{known_input, Does, Performs, RunsDomains, Works};
+ghost use Rattle.gt_program.specs.Obeying.{failed_work, known_input, Does, Performs, RunsDomains, Works};
+ghost use Rattle.gt_program.specs.declared.outcome.Outcome.TheVariants.{No};
 
+use crate::explained::{
+    check_explained, entries_explained, explore_explained, list_with_reasons, why_explained,
+};
 use crate::failure::Failure;
-use crate::formats::{check_as, entries_as, list_as};
 use crate::obeying::report;
+use crate::outcome::{Outcome, outcome_of};
 use crate::reasons::Reasons;
+use crate::style::Style;
 use crate::texts::{TextSource, read_fault};
 use crate::told::{RunSettings, play_with_reasons, run_with_reasons};
 use gt_audit::SharedLog;
-use gt_checks::why;
 use gt_commands::Format;
 use gt_entries::DumpOptions;
-use gt_explore::{ExploreOptions as Searched, explore};
-use gt_policy_check::WhyQuestion;
+use gt_explore::ExploreOptions as Searched;
+use gt_policy_check::{ReportForm, WhyQuestion};
 use gt_run::FlagGate;
 use std::alloc::Global;
 use std::io::{Read, Write};
@@ -29,7 +33,7 @@ pub enum Work<'w> {
         audit: bool,
         format: Format,
     },
-    /// Print the texts that the script may give.
+    /// Answer a request on the texts that the script may give.
     Explore {
         asked: Searched<'w>,
     },
@@ -41,7 +45,7 @@ pub enum Work<'w> {
     Check {
         script: bool,
         file: &'w str,
-        json: bool,
+        form: ReportForm,
     },
     /// Answer the question about the policy. The lines begin with the name.
     Why {
@@ -55,14 +59,28 @@ pub enum Work<'w> {
     },
 }
 
-// Executes this with the text of a reader, and returns whether the answer is a good one.
+impl Work<'_> {
+    // Returns what a failure of this comes to.
+    fn failed(self) -> Outcome
+        ensures { result ≡ failed_work self.entry }
+    {
+        match self {
+            Work::Play { .. } | Work::List { .. } => Outcome::No,
+            Work::Explore { .. } | Work::Check { .. } | Work::Why { .. } | Work::Entries { .. } => {
+                Outcome::Unknown
+            }
+        }
+    }
+}
+
+// Executes this with the text of a reader.
 fn perform<R: Read, W: Write>(
     alloc: Global,
     work: Work,
     reader: &mut R,
     out: &mut W,
     reasons: &mut Reasons,
-) -> Result<bool, Failure>
+) -> Result<Outcome, Failure>
     ensures { OfInput (R.remaining reader.old) (λ input.
         Performs work.entry input (W.contents out.old) (W.contents out.new) result) }
 {
@@ -70,41 +88,46 @@ fn perform<R: Read, W: Write>(
         Work::Play { audit, format } => match play_with_reasons(
             alloc, format, audit, reader, out, reasons,
         ) {
-            Ok(()) => Ok(true),
+            Ok(()) => Ok(Outcome::Yes),
             Err(fault) => Err(Failure::Play(fault)),
         },
-        Work::Explore { asked } => match explore(alloc, &asked, reader, out) {
-            Ok(is_any) => Ok(is_any),
+        Work::Explore { asked } => match explore_explained(alloc, &asked, reader, out, reasons) {
+            Ok(verdict) => Ok(Outcome::of_verdict(verdict)),
             Err(fault) => Err(Failure::Explore(fault)),
         },
-        Work::List { format } => match list_as(alloc, format, reader, out) {
-            Ok(()) => Ok(true),
+        Work::List { format } => match list_with_reasons(alloc, format, reader, out, reasons) {
+            Ok(()) => Ok(Outcome::Yes),
             Err(fault) => Err(Failure::List(fault)),
         },
-        Work::Check { script, file, json } => match check_as(
-            alloc, script, file, json, reader, out,
+        Work::Check { script, file, form } => match check_explained(
+            alloc, script, file, form, reader, out, reasons,
         ) {
-            Ok(clean) => Ok(clean),
+            Ok(clean) => Ok(Outcome::of_answer(clean)),
             Err(fault) => Err(Failure::List(fault)),
         },
-        Work::Why { file, question } => match why(alloc, file, &question, reader, out) {
-            Ok(allowed) => Ok(allowed),
+        Work::Why { file, question } => match why_explained(
+            alloc, file, &question, reader, out, reasons,
+        ) {
+            Ok(allowed) => Ok(Outcome::of_answer(allowed)),
             Err(fault) => Err(Failure::Why(fault)),
         },
-        Work::Entries { asked, format } => match entries_as(alloc, format, asked, reader, out) {
-            Ok(()) => Ok(true),
+        Work::Entries { asked, format } => match entries_explained(
+            alloc, format, asked, reader, out, reasons,
+        ) {
+            Ok(()) => Ok(Outcome::Yes),
             Err(fault) => Err(Failure::Dump(fault)),
         },
     }
 }
 
-/// The environment of a command: the runtime, memory, the texts, and the standard error.
+/// The environment of a command: the runtime, memory, the texts, the standard error, and the style of the output.
 #[derive(Drop)]
 pub(crate) struct Context<'c, R, T, E> {
     pub rt: &'c R,
     pub alloc: Global,
     pub texts: &'c T,
     pub err: &'c E,
+    pub style: Style,
 }
 
 // Executes this with the text of the named file, or of the standard input.
@@ -114,7 +137,7 @@ fn perform_on<R, T: TextSource, W: Write, E>(
     name: Option<&str>,
     out: &mut W,
     reasons: &mut Reasons,
-) -> Result<bool, Failure>
+) -> Result<Outcome, Failure>
     ensures { IfSome (known_input (T.file context.now.texts.now) (T.input context.now.texts.now) name.entry)
         (λ input. Does (Performs work.entry) input (W.contents out.old) (W.contents out.new) result) }
 {
@@ -147,7 +170,7 @@ fn run_script<R: Threads + Wait + Sync, T, E, I: Read, W: Write>(
     reader: &mut I,
     out: &mut W,
     reasons: &mut Reasons,
-) -> Result<bool, Failure>
+) -> Result<Outcome, Failure>
     ensures { OfInput (I.remaining reader.old) (λ input.
         RunsDomains format audit input (W.contents out.old) (W.contents out.new) result) }
 {
@@ -165,7 +188,7 @@ fn run_script<R: Threads + Wait + Sync, T, E, I: Read, W: Write>(
         gate: &gate,
     };
     match run_with_reasons(&settings, reader, out, reasons) {
-        Ok(()) => Ok(true),
+        Ok(()) => Ok(Outcome::Yes),
         Err(fault) => Err(Failure::Run(fault)),
     }
 }
@@ -178,7 +201,7 @@ fn run_on<R: Threads + Wait + Sync, T: TextSource, W: Write, E>(
     name: Option<&str>,
     out: &mut W,
     reasons: &mut Reasons,
-) -> Result<bool, Failure>
+) -> Result<Outcome, Failure>
     ensures { IfSome (known_input (T.file context.now.texts.now) (T.input context.now.texts.now) name.entry)
         (λ input. Does (RunsDomains format audit) input (W.contents out.old) (W.contents out.new) result) }
 {
@@ -195,22 +218,27 @@ fn run_on<R: Threads + Wait + Sync, T: TextSource, W: Write, E>(
     }
 }
 
-/// Executes this with the text of the named file, or of the standard input, and returns the exit status.
+/// Executes this with the text of the named file, or of the standard input, and returns the outcome.
 pub(crate) fn work_asked<R, T: TextSource, W: Write, E: Eprint>(
     context: &Context<R, T, E>,
     work: Work,
     file: Option<&str>,
     out: &mut W,
     reasons: &mut Reasons,
-) -> u8
-    ensures { Works (Performs work.entry)
+) -> Outcome
+    ensures { Works (Performs work.entry) (failed_work work.entry)
         (known_input (T.file context.now.texts.now) (T.input context.now.texts.now) file.entry)
         (W.contents out.old) (W.contents out.new) result }
 {
-    report(context.err, perform_on(context, work, file, out, reasons))
+    let failed = work.failed();
+    let ending = perform_on(context, work, file, out, reasons);
+    if ending.is_err() && reasons.tell_line(context.err) {
+        return outcome_of(failed, &ending);
+    }
+    report(context.err, ending, failed)
 }
 
-/// Runs a script, and returns the exit status.
+/// Runs a script, and returns the outcome.
 pub(crate) fn run_asked<R: Threads + Wait + Sync, T: TextSource, W: Write, E: Eprint>(
     context: &Context<R, T, E>,
     format: Format,
@@ -218,13 +246,11 @@ pub(crate) fn run_asked<R: Threads + Wait + Sync, T: TextSource, W: Write, E: Ep
     file: Option<&str>,
     out: &mut W,
     reasons: &mut Reasons,
-) -> u8
-    ensures { Works (RunsDomains format audit)
+) -> Outcome
+    ensures { Works (RunsDomains format audit) No
         (known_input (T.file context.now.texts.now) (T.input context.now.texts.now) file.entry)
         (W.contents out.old) (W.contents out.new) result }
 {
-    report(
-        context.err,
-        run_on(context, format, audit, file, out, reasons),
-    )
+    let ending = run_on(context, format, audit, file, out, reasons);
+    report(context.err, ending, Outcome::No)
 }

@@ -1,7 +1,4 @@
 //! Failures of commands.
-ghost use Rattle.std.specs.Prelude.{◌≡◌};
-ghost use Rattle.gt_program.specs.Obeying.{exit_status_of};
-
 use gt_checks::WhyFault;
 use gt_entries::DumpFault;
 use gt_explore::ExploreFault;
@@ -57,14 +54,3 @@ impl fmt::Display for Failure {
 }
 
 impl Error for Failure {}
-
-/// Returns the exit status of a command with this result: 0 for a good answer, and 1 for another and for a failure.
-pub fn exit_status(ending: &Result<bool, Failure>) -> u8
-    ensures { result ≡ exit_status_of ending.now }
-{
-    match ending {
-        Ok(true) => 0,
-        Ok(false) => 1,
-        Err(_) => 1,
-    }
-}

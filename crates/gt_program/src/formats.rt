@@ -9,6 +9,7 @@ use gt_commands::Format;
 use gt_entries::{DumpFault, DumpOptions, entries};
 use gt_host::{PlayFault, play};
 use gt_json_commands::{entries_json, play_json, policy_json, run_json};
+use gt_policy_check::ReportForm;
 use gt_policy_list::{ListingFault, policy};
 use gt_run::{Gate, RunFault, run};
 use std::alloc::Global;
@@ -90,7 +91,7 @@ pub(crate) fn check_as<R: Read, W: Write>(
     alloc: Global,
     script: bool,
     file: &str,
-    json: bool,
+    form: ReportForm,
     reader: &mut R,
     out: &mut W,
 ) -> Result<bool, ListingFault>
@@ -98,8 +99,8 @@ pub(crate) fn check_as<R: Read, W: Write>(
         CheckedAs script input (W.contents out.old) (W.contents out.new) result) }
 {
     if script {
-        check_script(alloc, file, json, reader, out)
+        check_script(alloc, file, form, reader, out)
     } else {
-        check(alloc, file, json, reader, out)
+        check(alloc, file, form, reader, out)
     }
 }

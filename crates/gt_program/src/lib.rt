@@ -1,10 +1,11 @@
 //! The program `gthost` over texts: from the words of a command line to the output and the exit status.
 //!
 //! [`obey`] does what the words ask for (`plan` of `gt_commands`): it plays, runs or explores a script, lists or checks
-//! a policy, explains why a policy allows something, prints the entries of a dump, or lists the rules. It returns the
-//! exit status: 0 for success (also of help), 1 for a fault, for a policy with an error, for a denied question and for
-//! a word that no text has, and 2 for a wrong command line. A fault goes to the standard error in one line that begins
-//! with `gthost: `, followed by its reasons if they are asked for.
+//! a policy, explains why a policy allows something, prints the entries of a dump, or lists the rules. It returns an
+//! [`Outcome`], which the mains turn into the exit status: 0 for yes and for what was done, 1 for no and for a fault of
+//! `play`, `run` and `policy`, and 2 for a fault of another command and for a wrong command line. A fault goes to the
+//! standard error in one line that begins with `gthost: `: for `play`, `run` and `policy` the fixed line, followed by
+//! its reasons if they are asked for, and for other commands the file, the place and the reason.
 //!
 //! Texts come from a trait, [`TextSource`], and go to any writer. So the contracts specify, for texts and a writer with
 //! known bytes, what is written for which words and with which status. That an error comes only if there is one is
@@ -13,17 +14,23 @@
 
 mod commands;
 mod copying;
+mod explained;
 mod failure;
 mod formats;
 mod obeying;
+mod outcome;
+mod questions;
 mod reasons;
 mod rules;
+mod style;
 mod system;
 mod texts;
 mod told;
 
 pub use commands::Work;
-pub use failure::{Failure, exit_status};
+pub use failure::Failure;
 pub use obeying::obey;
+pub use outcome::{Outcome, outcome_of};
+pub use style::Style;
 pub use system::{System, run};
 pub use texts::TextSource;

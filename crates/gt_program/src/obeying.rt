@@ -1,65 +1,103 @@
 //! The execution of a command line.
-ghost use Rattle.std.specs.Prelude.{◌≡◌, ◌≤◌, ◌↔◌, IsTrue, drop, map, string_bytes};
+ghost use Rattle.std.specs.Prelude.{◌≡◌, ◌↔◌, IfOk, drop, map, string_bytes};
 ghost use Rattle.std.specs.Option.{option_map};
 ghost use Rattle.clap.specs.Words.{kind_of};
 ghost use Rattle.gt_commands.specs.Commands.{request_in_words, asked_by_plan};
+ghost use Rattle.gt_commands.specs.Leading.{command_first, leading_word};
 ghost use Rattle.gt_commands.specs.Letters.{with_long_flags};
-ghost use Rattle.gt_program.specs.Obeying.{exit_status_of, shown_name, FitsKind, Obeys};
+ghost use Rattle.gt_program.specs.Obeying.{failed_mode, failed_word, first_word, outcome_of, shown_name, FitsKind};
+ghost use Rattle.gt_commands.specs.Commands.{sought_told};
+ghost use Rattle.gt_program.specs.Obeying.{known_input, Checks, ChecksFiles, IsHelped, IsRequestFor, Obeys, Works};
 
 use crate::commands::{Context, Work, run_asked, work_asked};
-use crate::failure::{Failure, exit_status};
+use crate::failure::Failure;
+use crate::outcome::{Outcome, outcome_of, worse};
+use crate::questions::answer_each;
 use crate::reasons::Reasons;
 use crate::rules::tell_rules;
+use crate::style::Style;
 use crate::texts::TextSource;
 use clap::Error;
 use clap::error::ErrorKind;
-use gt_commands::{Format, Invocation, plan, with_long_flags};
+use gt_commands::{
+    Exploration, Format, Invocation, Mode, command_first, leading_word, mode_of, plan,
+    with_long_flags,
+};
 use gt_entries::DumpOptions;
-use gt_explore::ExploreOptions as Searched;
-use gt_policy_check::WhyQuestion;
+use gt_explore::{ExploreOptions as Searched, ExploreRequest};
+use gt_policy_check::{ReportForm, WhyQuestion};
 use gt_text::WriteFault;
 use gt_types::DomId;
-use std::alloc::Global;
+use std::alloc::{AllocError, Global};
 use std::io::Write;
 use std::sync::Wait;
 use std::thread::Threads;
 
-// Reports the failure of a command, if it failed. A failed write of the report is not reported.
-pub(crate) fn report<E: Eprint>(err: &E, ending: Result<bool, Failure>) -> u8
-    ensures { result ≡ exit_status_of ending }
+// Reports the failure of a command, if it failed, and returns the outcome, where a failure comes to `failed`. A failed
+// write of the report is not reported.
+pub(crate) fn report<E: Eprint>(
+    err: &E,
+    ending: Result<Outcome, Failure>,
+    failed: Outcome,
+) -> Outcome
+    ensures { result ≡ outcome_of failed ending }
 {
-    let status = exit_status(&ending);
+    let outcome = outcome_of(failed, &ending);
     if let Err(failure) = ending {
         let _ = err.eprintln(failure);
     }
-    status
+    outcome
 }
 
-// Writes the help or the version that was asked for.
-fn show_help<W: Write, E: Eprint>(out: &mut W, err: &E, help: &Error) -> u8
-    ensures { result ≤ 1 }
+// Returns what a failure of this command comes to.
+fn failed_mode(mode: Mode) -> Outcome
+    ensures { result ≡ failed_mode mode }
 {
-    match write!(out, "{help}") {
-        Ok(()) => match out.flush() {
-            Ok(()) => 0,
-            Err(_) => report(err, Err(Failure::Help(WriteFault))),
-        },
-        Err(_) => report(err, Err(Failure::Help(WriteFault))),
+    match mode {
+        Mode::Play | Mode::Run | Mode::Policy => Outcome::No,
+        Mode::Explore | Mode::Rules | Mode::Check | Mode::Why | Mode::Entries => Outcome::Unknown,
     }
 }
 
-// Writes the refusal of a command line, or the help or the version that it asks for.
-fn refuse<W: Write, E: Eprint>(out: &mut W, err: &E, error: &Error) -> u8
-    ensures { FitsKind (kind_of error.now) (W.contents out.old) (W.contents out.new) result }
+// Returns what a failure of a command line comes to.
+fn failed_line(words: &[String]) -> Outcome
+    ensures { result ≡ failed_word (leading_word (map string_bytes words.now)) }
+{
+    match leading_word(words) {
+        Some(word) => match mode_of(word) {
+            Some(mode) => failed_mode(mode),
+            None => Outcome::No,
+        },
+        None => Outcome::No,
+    }
+}
+
+// Writes the help or the version that was asked for.
+fn show_help<W: Write, E: Eprint>(out: &mut W, err: &E, help: &Error) -> Outcome
+    ensures { IsHelped result }
+{
+    match write!(out, "{help}") {
+        Ok(()) => match out.flush() {
+            Ok(()) => Outcome::Yes,
+            Err(_) => report(err, Err(Failure::Help(WriteFault)), Outcome::No),
+        },
+        Err(_) => report(err, Err(Failure::Help(WriteFault)), Outcome::No),
+    }
+}
+
+// Writes the refusal of a command line, or the help or the version that it asks for. A failed allocation comes to
+// `failed`.
+fn refuse<W: Write, E: Eprint>(out: &mut W, err: &E, error: &Error, failed: Outcome) -> Outcome
+    ensures { FitsKind failed (kind_of error.now) (W.contents out.old) (W.contents out.new) result }
 {
     if error.kind() == ErrorKind::OutOfMemory {
-        return report(err, Err(Failure::Memory));
+        return report(err, Err(Failure::Memory), failed);
     }
     if !error.use_stderr() {
         return show_help(out, err, error);
     }
     let _ = err.eprint(error);
-    2
+    Outcome::Unknown
 }
 
 // Returns the name with which lines begin.
@@ -82,19 +120,81 @@ fn domain(number: Option<u16>) -> Option<DomId>
     }
 }
 
-fn is_json(format: Format) -> bool
-    ensures { IsTrue result ↔ (format ≡ Format.Json) }
+// Returns the form in which findings are printed.
+fn form_of(format: Format, style: Style) -> ReportForm
+    ensures { (result ≡ ReportForm.Json) ↔ (format ≡ Format.Json) }
 {
-    matches!(format, Format::Json)
+    match format {
+        Format::Json => ReportForm::Json,
+        Format::Text if style.is_colored => ReportForm::Colored,
+        Format::Text => ReportForm::Text,
+    }
+}
+
+// Checks the named file, or the standard input.
+fn check_one<'a, R, T: TextSource, W: Write, E: Eprint>(
+    context: &Context<R, T, E>,
+    script: bool,
+    format: Format,
+    file: Option<&'a str>,
+    out: &mut W,
+    reasons: &mut Reasons<'a>,
+) -> Outcome
+    ensures { Works (Checks script) Outcome.Unknown
+        (known_input (T.file context.now.texts.now) (T.input context.now.texts.now) file.entry)
+        (W.contents out.old) (W.contents out.new) result }
+{
+    let work = Work::Check {
+        script,
+        file: shown_name(file),
+        form: form_of(format, context.style),
+    };
+    reasons.begin(file);
+    work_asked(context, work, file, out, reasons)
+}
+
+// Checks the files of these names, one after the other.
+fn check_more<'a, R, T: TextSource, W: Write, E: Eprint>(
+    context: &Context<R, T, E>,
+    script: bool,
+    format: Format,
+    files: &[Option<&'a str>],
+    out: &mut W,
+    reasons: &mut Reasons<'a>,
+) -> Outcome
+    ensures { ChecksFiles script (T.file context.now.texts.now) (map (option_map (λ f. f.now)) files.now)
+        (W.contents out.old) (W.contents out.new) result }
+{
+    match files {
+        [] => Outcome::Yes,
+        [None, more @ ..] => check_more(context, script, format, more, out, reasons),
+        [Some(name), more @ ..] => {
+            let one = check_one(context, script, format, Some(*name), out, reasons);
+            let others = check_more(context, script, format, more, out, reasons);
+            worse(one, others)
+        }
+    }
+}
+
+// Returns the request for what is sought.
+fn request_of<'w>(asked: Exploration<'w>) -> ExploreRequest<'w>
+    ensures { IsRequestFor (sought_told asked.entry) result }
+{
+    match asked {
+        Exploration::Texts => ExploreRequest::Texts,
+        Exploration::Decide { claim, expression } => ExploreRequest::Decide { claim, expression },
+        Exploration::Witness(number) => ExploreRequest::Witness(number),
+        Exploration::Witnesses => ExploreRequest::Witnesses,
+    }
 }
 
 // Executes the plan.
-fn follow<R: Threads + Wait + Sync, T: TextSource, W: Write, E: Eprint>(
+fn follow<'a, R: Threads + Wait + Sync, T: TextSource, W: Write, E: Eprint>(
     context: &Context<R, T, E>,
-    invocation: Invocation,
+    invocation: Invocation<'a>,
     out: &mut W,
-    reasons: &mut Reasons,
-) -> u8
+    reasons: &mut Reasons<'a>,
+) -> Outcome
     ensures { Obeys (asked_by_plan invocation.entry) (T.file context.now.texts.now) (T.input context.now.texts.now)
         (W.contents out.old) (W.contents out.new) result }
 {
@@ -112,33 +212,38 @@ fn follow<R: Threads + Wait + Sync, T: TextSource, W: Write, E: Eprint>(
             verbose: _,
         } => run_asked(context, format, audit, file, out, reasons),
         Invocation::Explore {
-            find,
-            witness,
+            asked,
             states,
             file,
         } => {
-            let asked = Searched {
-                find,
-                witness,
-                states,
-            };
+            let request = request_of(asked);
+            let asked = Searched { request, states };
             work_asked(context, Work::Explore { asked }, file, out, reasons)
         }
-        Invocation::Policy { format, file } => {
-            work_asked(context, Work::List { format }, file, out, reasons)
+        Invocation::Policy {
+            format,
+            file,
+            verbose: _,
+        } => work_asked(context, Work::List { format }, file, out, reasons),
+        Invocation::Rules { rule } => {
+            tell_rules(context.alloc, out, context.err, rule, context.style.width)
         }
-        Invocation::Rules { rule } => tell_rules(out, context.err, rule),
         Invocation::Check {
             script,
             format,
             file,
+            more,
         } => {
-            let work = Work::Check {
+            let one = check_one(context, script, format, file, out, reasons);
+            let others = check_more(
+                context,
                 script,
-                file: shown_name(file),
-                json: is_json(format),
-            };
-            work_asked(context, work, file, out, reasons)
+                format,
+                more.names().as_slice(),
+                out,
+                reasons,
+            );
+            worse(one, others)
         }
         Invocation::Why {
             source,
@@ -157,6 +262,7 @@ fn follow<R: Threads + Wait + Sync, T: TextSource, W: Write, E: Eprint>(
             };
             work_asked(context, work, file, out, reasons)
         }
+        Invocation::WhyEach { file } => answer_each(context, file, out, reasons),
         Invocation::Entries {
             version,
             hex,
@@ -177,12 +283,14 @@ fn follow<R: Threads + Wait + Sync, T: TextSource, W: Write, E: Eprint>(
     }
 }
 
-// Does what words with long flags ask for.
+// Does what words with the command before its long flags ask for. A failed allocation comes to `failed`.
 fn obey_long<R: Threads + Wait + Sync, T: TextSource, W: Write, E: Eprint>(
     context: &Context<R, T, E>,
     words: &[String],
+    failed: Outcome,
     out: &mut W,
-) -> u8
+) -> Outcome
+    requires { failed ≡ failed_word (first_word (drop 1 (map string_bytes words.now))) }
     ensures { Obeys (request_in_words (drop 1 (map string_bytes words.now)))
         (T.file context.now.texts.now) (T.input context.now.texts.now)
         (W.contents out.old) (W.contents out.new) result }
@@ -190,42 +298,56 @@ fn obey_long<R: Threads + Wait + Sync, T: TextSource, W: Write, E: Eprint>(
     match plan(context.alloc, words) {
         Ok(invocation) => {
             let mut reasons = Reasons::of(context.alloc, &invocation);
-            let status = follow(context, invocation, out, &mut reasons);
+            let outcome = follow(context, invocation, out, &mut reasons);
             reasons.tell(context.err);
-            status
+            outcome
         }
-        Err(error) => refuse(out, context.err, &error),
+        Err(error) => refuse(out, context.err, &error, failed),
     }
 }
 
-/// Does what the words of a command line, the program's name first, ask for, and returns the exit status. Texts, rules,
-/// help and version go to `out`. A fault goes to `err`, in one line, followed by its reasons if they are asked for.
+// Puts the command before its flags, and long flags in the place of letters.
+fn plain_words(alloc: Global, words: &[String]) -> Result<Vec<String>, AllocError>
+    ensures { IfOk result (λ all. map string_bytes all.items
+        ≡ with_long_flags (command_first (map string_bytes words.now))) }
+{
+    let first = command_first(alloc, words)?;
+    let all = with_long_flags(alloc, first.as_slice())?;
+    Ok(all)
+}
+
+/// Does what the words of a command line, the program's name first, ask for, and returns the outcome. Texts, rules, help
+/// and version go to `out`, rules in lines of the width of `style`, if it has one. A fault goes to `err`, in one line. Of `play`, `run` and `policy` it is followed by its
+/// reasons if they are asked for.
 ///
-/// The status is 0 for success, 1 for a fault of script, policy, dump, file, memory or thread, for a text that was not
-/// written, for a policy with an error, for a denied question and for a word that no text has, and 2 if the words ask
-/// for nothing that the program does.
-#[tactic(auto, using(crate::proofs::Obeyed::obeyed_long, crate::proofs::Obeyed::without_memory))]
+/// The outcome is yes for success, no for a fault of `play`, `run` and `policy`, for a policy with an error, for a denied
+/// question and for a word that no text has, and unknown for a fault of another command and if the words ask for nothing
+/// that the program does.
+#[tactic(auto, using(crate::proofs::Obeyed::obeyed_plain, crate::proofs::Obeyed::without_memory))]
 pub fn obey<R: Threads + Wait + Sync, T: TextSource, W: Write, E: Eprint>(
     rt: &R,
     alloc: Global,
     texts: &T,
     words: &[String],
+    style: Style,
     out: &mut W,
     err: &E,
-) -> u8
-    ensures { Obeys (request_in_words (drop 1 (with_long_flags (map string_bytes words.now))))
+) -> Outcome
+    ensures { Obeys (request_in_words (drop 1 (with_long_flags (command_first (map string_bytes words.now)))))
         (T.file texts.now) (T.input texts.now) (W.contents out.old) (W.contents out.new) result }
 {
-    match with_long_flags(alloc, words) {
+    let failed = failed_line(words);
+    match plain_words(alloc, words) {
         Ok(words) => {
             let context = Context {
                 rt,
                 alloc,
                 texts,
                 err,
+                style,
             };
-            obey_long(&context, words.as_slice(), out)
+            obey_long(&context, words.as_slice(), failed, out)
         }
-        Err(_) => report(err, Err(Failure::Memory)),
+        Err(_) => report(err, Err(Failure::Memory), failed),
     }
 }

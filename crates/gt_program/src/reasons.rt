@@ -1,19 +1,29 @@
-//! The reasons that are printed after the line of a fault.
+//! The reasons that are printed after the line of a fault, or as that line.
 use crate::copying::KeptInput;
 use crate::obeying::shown_name;
+use gt_checks::WhyFault;
 use gt_commands::Invocation;
+use gt_entries::{DumpFault, DumpLook, DumpOptions, look_of};
+use gt_explore::{ExploreFault, TextsFault};
 use gt_host::{PlayFault, play};
-use gt_reasons::{push_block_reason, push_read_reason, push_refusals, push_script_reason};
+use gt_policy_check::WhyQuestion;
+use gt_policy_list::ListingFault;
+use gt_reasons::{
+    push_block_reason, push_permission_reason, push_policy_reason, push_read_reason, push_refusals,
+    push_script_reason, push_type_reason, push_utf8_reason,
+};
 use gt_run::RunFault;
 use std::alloc::{AllocError, Global};
 use std::io;
 
-/// The reasons of a command, collected only if it asks for them.
+/// The reasons of a command, collected only if it asks for them, or if its faults are explained in any case.
 #[derive(Drop)]
 pub(crate) struct Reasons<'a> {
     alloc: Global,
     // The name with which their lines begin, if they are asked for.
     file: Option<&'a str>,
+    // The reason of a fault is printed as the line of the fault, and not after it.
+    is_line: bool,
     text: Vec<u8>,
 }
 
@@ -74,10 +84,161 @@ fn run_refusals(
     Ok(said)
 }
 
+// Returns why a file was not read, from the words of the system.
+fn read_words<'w>(said: &'w [u8]) -> &'w [u8] {
+    if said.starts_with(b"No such file") {
+        b"no such file"
+    } else if said.starts_with(b"Permission denied") {
+        b"permission denied"
+    } else if said.starts_with(b"Is a directory") {
+        b"is a directory"
+    } else {
+        said
+    }
+}
+
 // Returns the reason for which a file was not opened.
-fn unread(alloc: Global, file: &str, error: &io::Error) -> Result<Vec<u8>, AllocError> {
+fn unread(
+    alloc: Global,
+    file: &str,
+    is_line: bool,
+    error: &io::Error,
+) -> Result<Vec<u8>, AllocError> {
     let mut said = Vec::new(alloc);
     let words = format!(in alloc; "{error}")?;
+    let words = words.as_bytes();
+    push_read_reason(
+        &mut said,
+        file,
+        if is_line { read_words(words) } else { words },
+    )?;
+    Ok(said)
+}
+
+// Returns the reason for which the text of a policy that was read was refused.
+fn listing_reason(
+    alloc: Global,
+    file: &str,
+    is_line: bool,
+    input: &KeptInput,
+    fault: &ListingFault,
+) -> Result<Vec<u8>, AllocError> {
+    let mut said = Vec::new(alloc);
+    let Some(bytes) = input.bytes() else {
+        return Ok(said);
+    };
+    match fault {
+        ListingFault::Utf8 { line } => push_utf8_reason(alloc, &mut said, file, bytes, *line)?,
+        ListingFault::Policy(fault) => push_policy_reason(alloc, &mut said, file, bytes, fault)?,
+        ListingFault::Read => {
+            let words = input.fault();
+            push_read_reason(
+                &mut said,
+                file,
+                if is_line { read_words(words) } else { words },
+            )?;
+        }
+        ListingFault::Memory | ListingFault::Write => {}
+    }
+    Ok(said)
+}
+
+// Appends that a name is not a type of the policy that was read, or that it has no types.
+fn push_no_type(
+    alloc: Global,
+    out: &mut Vec<u8>,
+    file: &str,
+    policy: &[u8],
+    name: Option<&str>,
+) -> Result<(), AllocError> {
+    match name {
+        Some(name) => push_type_reason(alloc, out, file, policy, name),
+        None => push_read_reason(out, file, b"the policy has no types"),
+    }
+}
+
+// Returns the reason for which a question was not answered.
+fn why_reason(
+    alloc: Global,
+    file: &str,
+    input: &KeptInput,
+    question: &WhyQuestion,
+    fault: &WhyFault,
+) -> Result<Vec<u8>, AllocError> {
+    let mut said = Vec::new(alloc);
+    let bytes = input.bytes().unwrap_or(&[]);
+    match fault {
+        WhyFault::Text(fault) => return listing_reason(alloc, file, true, input, fault),
+        WhyFault::NoSource => push_no_type(alloc, &mut said, file, bytes, question.source)?,
+        WhyFault::NoTarget => push_no_type(alloc, &mut said, file, bytes, question.target)?,
+        WhyFault::NoPermission => {
+            let word = question.perm.unwrap_or("-");
+            push_permission_reason(alloc, &mut said, file, word)?;
+        }
+    }
+    Ok(said)
+}
+
+// Returns the reason for which a dump was not printed.
+fn dump_reason(
+    alloc: Global,
+    file: &str,
+    input: &KeptInput,
+    fault: DumpFault,
+) -> Result<Vec<u8>, AllocError> {
+    let mut said = Vec::new(alloc);
+    let words = match fault {
+        DumpFault::Limit => "more than 16 frames, which is 65536 bytes",
+        DumpFault::Syntax => "not hexadecimal text",
+        DumpFault::Read => {
+            push_read_reason(&mut said, file, read_words(input.fault()))?;
+            return Ok(said);
+        }
+        DumpFault::Memory | DumpFault::Write => return Ok(said),
+    };
+    push_read_reason(&mut said, file, words.as_bytes())?;
+    Ok(said)
+}
+
+// Returns what a dump that was printed looks like, unless it looks like a table.
+fn look_said(
+    alloc: Global,
+    file: &str,
+    input: &KeptInput,
+    asked: DumpOptions,
+) -> Result<Vec<u8>, AllocError> {
+    let mut said = Vec::new(alloc);
+    let words = match look_of(alloc, asked, input.bytes().unwrap_or(&[]))? {
+        DumpLook::Table => return Ok(said),
+        DumpLook::Hexadecimal => "this looks like hexadecimal text; try --hex",
+        DumpLook::NoTable => "none of these entries can be read; is this a table of that version?",
+    };
+    said.extend_from_slice(b"gthost: ")?;
+    push_read_reason(&mut said, file, words.as_bytes())?;
+    Ok(said)
+}
+
+// Returns the reason for which the texts of a script were not found.
+fn texts_reason(
+    alloc: Global,
+    file: &str,
+    states: usize,
+    fault: TextsFault,
+) -> Result<Vec<u8>, AllocError> {
+    let mut said = Vec::new(alloc);
+    let words = match fault {
+        TextsFault::Memory => return Ok(said),
+        TextsFault::States => {
+            format!(in alloc; "gave up after {states} states; raise the limit with --states")?
+        }
+        TextsFault::Keeps(dom) => format!(in alloc;
+            "domain {} ends with a mapping that the policy does not let it unmap",
+            dom.0
+        )?,
+        TextsFault::Astray => format!(in alloc; "a witness went astray, which is a bug of gthost")?,
+        TextsFault::Witness => format!(in alloc; "no output has this number")?,
+        TextsFault::Expression(fault) => format!(in alloc; "{fault}")?,
+    };
     push_read_reason(&mut said, file, words.as_bytes())?;
     Ok(said)
 }
@@ -85,16 +246,28 @@ fn unread(alloc: Global, file: &str, error: &io::Error) -> Result<Vec<u8>, Alloc
 impl<'a> Reasons<'a> {
     /// Makes an empty collection of the reasons of this command.
     pub(crate) fn of(alloc: Global, invocation: &Invocation<'a>) -> Reasons<'a> {
-        let file = match invocation {
-            Invocation::Play { verbose, file, .. } => named(*verbose, *file),
-            Invocation::Run { verbose, file, .. } => named(*verbose, *file),
-            _ => None,
+        let (is_line, file) = match invocation {
+            Invocation::Play { verbose, file, .. } => (false, named(*verbose, *file)),
+            Invocation::Run { verbose, file, .. } => (false, named(*verbose, *file)),
+            Invocation::Policy { verbose, file, .. } => (false, named(*verbose, *file)),
+            Invocation::Explore { file, .. } => (true, named(true, *file)),
+            Invocation::Check { file, .. } => (true, named(true, *file)),
+            Invocation::Why { file, .. } => (true, named(true, *file)),
+            Invocation::Entries { file, .. } => (true, named(true, *file)),
+            Invocation::WhyEach { file } => (true, Some(*file)),
+            Invocation::Rules { .. } => (false, None),
         };
         Reasons {
             alloc,
             file,
+            is_line,
             text: Vec::new(alloc),
         }
+    }
+
+    /// Begins the reasons of a further file.
+    pub(crate) fn begin(&mut self, file: Option<&'a str>) {
+        self.file = Some(shown_name(file));
     }
 
     /// Returns whether reasons are asked for.
@@ -141,9 +314,67 @@ impl<'a> Reasons<'a> {
     /// Adds the reason for which the file was not opened.
     pub(crate) fn add_unread(&mut self, error: &io::Error) {
         if let Some(file) = self.file {
-            let said = unread(self.alloc, file, error);
+            let said = unread(self.alloc, file, self.is_line, error);
             self.add(said);
         }
+    }
+
+    /// Adds the reason for which the policy or the script that was read was not listed or checked.
+    pub(crate) fn add_listing(&mut self, input: &KeptInput, fault: &ListingFault) {
+        if let Some(file) = self.file {
+            let said = listing_reason(self.alloc, file, self.is_line, input, fault);
+            self.add(said);
+        }
+    }
+
+    /// Adds the reason for which a question about the policy that was read was not answered.
+    pub(crate) fn add_why(&mut self, input: &KeptInput, question: &WhyQuestion, fault: &WhyFault) {
+        if let Some(file) = self.file {
+            let said = why_reason(self.alloc, file, input, question, fault);
+            self.add(said);
+        }
+    }
+
+    /// Adds the reason for which the dump that was read was not printed.
+    pub(crate) fn add_dump(&mut self, input: &KeptInput, fault: DumpFault) {
+        if let Some(file) = self.file {
+            let said = dump_reason(self.alloc, file, input, fault);
+            self.add(said);
+        }
+    }
+
+    /// Adds what the dump that was read and printed looks like, unless it looks like a table.
+    pub(crate) fn add_look(&mut self, input: &KeptInput, asked: DumpOptions) {
+        if let Some(file) = self.file {
+            let said = look_said(self.alloc, file, input, asked);
+            self.add(said);
+        }
+    }
+
+    /// Adds the reason for which the script that was read was not explored, up to a number of states.
+    pub(crate) fn add_explore(&mut self, input: &KeptInput, states: usize, fault: &ExploreFault) {
+        let Some(file) = self.file else {
+            return;
+        };
+        let said = match fault {
+            ExploreFault::Play(fault) => fault_reason(self.alloc, file, input, fault),
+            ExploreFault::Texts(fault) => texts_reason(self.alloc, file, states, *fault),
+        };
+        self.add(said);
+    }
+
+    /// Prints the reason of a fault as its line, if that is how it is printed, and returns whether it was.
+    pub(crate) fn tell_line<E: Eprint>(&mut self, err: &E) -> bool {
+        if !self.is_line || self.text.is_empty() {
+            return false;
+        }
+        let Ok(text) = String::from_utf8_lossy(self.alloc, self.text.as_slice()) else {
+            return false;
+        };
+        self.text.clear();
+        let _ = err.eprint("gthost: ");
+        let _ = err.eprint(text);
+        true
     }
 
     /// Prints them.

@@ -1,11 +1,13 @@
 //! The rules by which calls are refused, a line each.
-ghost use Rattle.std.specs.Prelude.{◌≤◌};
+ghost use Rattle.std.specs.Prelude.{◌≡◌, ◌⊎◌};
 
 use crate::failure::Failure;
 use crate::obeying::report;
+use crate::outcome::Outcome;
 use gt_text::WriteFault;
 use gt_types::{Rule, Status};
-use std::io::{self, Write};
+use std::alloc::{AllocError, Global};
+use std::io::{self, ErrorKind, Write};
 
 /// All rules, in the order of their numbers.
 const RULES: [Rule; 26] = [
@@ -55,7 +57,7 @@ fn header_name(status: Status) -> &'static str {
 fn reason(rule: Rule) -> &'static str {
     match rule {
         Rule::N1 =>
-            "a domain named, or the one that a transitive entry leads to, is not of the run",
+            "a domain named, or the one that a transitive entry leads to, does not exist in this run",
         Rule::N2 => "the flags of the map or copy, or the version, are not among those taken",
         Rule::N3 => "offset plus length is above 4096",
         Rule::N4 => "the copy names a frame of another domain by its number",
@@ -79,17 +81,17 @@ fn reason(rule: Rule) -> &'static str {
         Rule::N20 => "the entry is valid already",
         Rule::N21 => "the entry given is invalid, or needs a table of version 2",
         Rule::N22 => "the entry is at its last generation",
-        Rule::N23 => "more than 16 table frames are asked",
+        Rule::N23 => "more than 16 table frames are asked for",
         Rule::N24 => "the table has valid entries",
-        Rule::N25 => "the bytes are no entry of a table of this version",
-        Rule::N26 => "memory was refused",
+        Rule::N25 => "the bytes are not an entry of a table of this version",
+        Rule::N26 => "out of memory",
     }
 }
 
 // Returns the remedy for the caller.
 fn remedy(rule: Rule) -> &'static str {
     match rule {
-        Rule::N1 => "name a domain of the run",
+        Rule::N1 => "name a domain of this run",
         Rule::N2 => "use flags 2 or 6 for a map, 0 to 3 for a copy, version 1 or 2",
         Rule::N3 => "ask for a range inside the page",
         Rule::N4 => "name an own frame, or a grant of that domain",
@@ -119,11 +121,10 @@ fn remedy(rule: Rule) -> &'static str {
     }
 }
 
-// Writes the line of a rule.
-fn write_rule<W: Write>(out: &mut W, rule: Rule) -> io::Result<()> {
+// Makes the line of a rule.
+fn rule_line(alloc: Global, rule: Rule) -> Result<String, AllocError> {
     let status = rule.status();
-    writeln!(
-        out,
+    format!(in alloc;
         "{rule} {} {}: {}; {}",
         status.number(),
         header_name(status),
@@ -132,21 +133,65 @@ fn write_rule<W: Write>(out: &mut W, rule: Rule) -> io::Result<()> {
     )
 }
 
+// Writes a line, broken between words into lines of at most this width. The lines after the first are indented.
+fn write_wrapped<W: Write>(out: &mut W, line: &str, width: usize) -> io::Result<()> {
+    let mut column: usize = 0;
+    for word in line.split(' ') {
+        let end = column.saturating_add(word.len()).saturating_add(1);
+        if column == 0 {
+            write!(out, "{word}")?;
+            column = word.len();
+        } else if end > width {
+            write!(out, "\n    {word}")?;
+            column = word.len().saturating_add(4);
+        } else {
+            write!(out, " {word}")?;
+            column = end;
+        }
+    }
+    writeln!(out)
+}
+
+// Writes the line of a rule.
+fn write_rule<W: Write>(
+    alloc: Global,
+    out: &mut W,
+    rule: Rule,
+    width: Option<usize>,
+) -> io::Result<()> {
+    let line = rule_line(alloc, rule)?;
+    match width {
+        Some(width) => write_wrapped(out, line.as_str(), width),
+        None => writeln!(out, "{line}"),
+    }
+}
+
+// Returns the number in the name of a rule, as `N19`, `n19` or `19`.
+fn number_in(name: &str) -> &str {
+    match name.strip_prefix("N") {
+        Some(number) => number,
+        None => name.strip_prefix("n").unwrap_or(name),
+    }
+}
+
 // Returns whether the text is the rule's name, whose number has neither a sign nor a leading zero.
 fn is_named(rule: Rule, name: &str) -> bool {
-    let Some(number) = name.strip_prefix("N") else {
-        return false;
-    };
+    let number = number_in(name);
     matches!(number.as_bytes().first(), Some(b'1'..=b'9'))
         && number.parse::<u8>() == Ok(rule.number())
 }
 
 // Writes the rule of this name, or all rules if there is no name, and returns whether there was any.
-fn write_rules<W: Write>(out: &mut W, name: Option<&str>) -> io::Result<bool> {
+fn write_rules<W: Write>(
+    alloc: Global,
+    out: &mut W,
+    name: Option<&str>,
+    width: Option<usize>,
+) -> io::Result<bool> {
     let mut is_any = false;
     for rule in RULES {
         if name.is_none_or(|name| is_named(rule, name)) {
-            write_rule(out, rule)?;
+            write_rule(alloc, out, rule, width)?;
             is_any = true;
         }
     }
@@ -154,17 +199,33 @@ fn write_rules<W: Write>(out: &mut W, name: Option<&str>) -> io::Result<bool> {
     Ok(is_any)
 }
 
-/// Writes the line of the rule of this name, or of each rule if there is no name. Returns the exit status: 0; 1 if they
-/// could not be written; 2 if no rule has that name.
-pub(crate) fn tell_rules<W: Write, E: Eprint>(out: &mut W, err: &E, name: Option<&str>) -> u8
-    ensures { result ≤ 2 }
+// Reports that no rule has the name.
+fn report_unnamed<E: Eprint>(err: &E, name: &str) {
+    let _ = err.eprint("gthost: no rule '");
+    let _ = err.eprint(name);
+    let _ = err.eprintln("' (rules are N1 to N26)");
+}
+
+/// Writes the line of the rule of this name, or of each rule if there is no name, in lines of at most the width, if one
+/// is given. Returns the outcome: yes, or unknown if they could not be written or no rule has that name.
+pub(crate) fn tell_rules<W: Write, E: Eprint>(
+    alloc: Global,
+    out: &mut W,
+    err: &E,
+    name: Option<&str>,
+    width: Option<usize>,
+) -> Outcome
+    ensures { (result ≡ Outcome.Yes) ⊎ (result ≡ Outcome.Unknown) }
 {
-    match write_rules(out, name) {
+    match write_rules(alloc, out, name, width) {
+        Ok(true) => Outcome::Yes,
         Ok(false) => {
-            let _ = err.eprintln("error: no rule has this name; they are N1 to N26");
-            2
+            report_unnamed(err, name.unwrap_or(""));
+            Outcome::Unknown
         }
-        Ok(true) => 0,
-        Err(_) => report(err, Err(Failure::Help(WriteFault))),
+        Err(error) if error.kind() == ErrorKind::OutOfMemory => {
+            report(err, Err(Failure::Memory), Outcome::Unknown)
+        }
+        Err(_) => report(err, Err(Failure::Help(WriteFault)), Outcome::Unknown),
     }
 }

@@ -1,6 +1,8 @@
 //! The program over the system's files, words and streams.
 use crate::failure::Failure;
 use crate::obeying::{obey, report};
+use crate::outcome::Outcome;
+use crate::style::Style;
 use crate::texts::TextSource;
 use std::alloc::Global;
 use std::fs::File;
@@ -35,16 +37,48 @@ fn words_of<R: Runtime + AllocGlobal>(rt: &R) -> io::Result<Vec<String>> {
     Ok(words)
 }
 
-/// Does what the words of the program's command line ask for, and returns the exit status.
-pub fn run<R: Runtime + AllocGlobal + Threads + Wait + Sync>(rt: &R) -> u8 {
+// The width of a terminal whose width is not known, and the smallest width that lines are broken for.
+const USUAL_WIDTH: usize = 80;
+
+const LEAST_WIDTH: usize = 40;
+
+// Returns the width in the environment variable `COLUMNS`, or the usual width of a terminal.
+fn width_of<R: Runtime + AllocGlobal>(rt: &R) -> usize {
+    match std::env::var(rt, "COLUMNS") {
+        Ok(columns) => match columns.as_str().parse::<usize>() {
+            Ok(width) => width.max(LEAST_WIDTH),
+            Err(_) => USUAL_WIDTH,
+        },
+        Err(_) => USUAL_WIDTH,
+    }
+}
+
+// Returns the style of the output. Carets are coloured on a terminal, unless `NO_COLOR` is set and not empty.
+fn style_of<R: Runtime + AllocGlobal>(rt: &R, is_terminal: bool) -> Style {
+    if !is_terminal {
+        return Style::plain();
+    }
+    let is_colored = match std::env::var(rt, "NO_COLOR") {
+        Ok(value) => value.as_str().is_empty(),
+        Err(_) => true,
+    };
+    Style {
+        width: Some(width_of(rt)),
+        is_colored,
+    }
+}
+
+/// Does what the words of the program's command line ask for, and returns the outcome. `is_terminal` says whether the
+/// standard output is a terminal.
+pub fn run<R: Runtime + AllocGlobal + Threads + Wait + Sync>(rt: &R, is_terminal: bool) -> Outcome {
     let words = match words_of(rt) {
         Ok(words) => words,
         Err(error) if error.kind() == ErrorKind::OutOfMemory => {
-            return report(rt, Err(Failure::Memory));
+            return report(rt, Err(Failure::Memory), Outcome::No);
         }
         Err(_) => {
-            let _ = rt.eprintln("error: a word of the command line is no UTF-8");
-            return 2;
+            let _ = rt.eprintln("error: a word of the command line is not UTF-8");
+            return Outcome::Unknown;
         }
     };
     let texts = System { rt };
@@ -53,6 +87,7 @@ pub fn run<R: Runtime + AllocGlobal + Threads + Wait + Sync>(rt: &R) -> u8 {
         rt.alloc(),
         &texts,
         words.as_slice(),
+        style_of(rt, is_terminal),
         &mut io::writer(rt),
         rt,
     )

@@ -35,3 +35,11 @@ limit_of (faults.Frames id) = MAX_FRAMES
 limit_of (faults.TableFrames id) = MAX_TABLE_FRAMES
 limit_of (faults.Version id) = LAST_VERSION
 limit_of faults.Generation = 0
+
+-- `FILE: "NAME"MESSAGE`
+abbrev pub name_line : List ℕ → List ℕ → List ℕ → List ℕ
+name_line file name message = file ++ codes ": " ++ quoted_text name ++ message ++ codes "\n"
+
+-- one line was appended: a reason about a name, for this file
+abbrev pub TellsName : List ℕ → List ℕ → List ℕ → List ℕ → Type 0
+TellsName file name old new = (message : List ℕ) × (new ≡ old ++ name_line file name message)

@@ -17,6 +17,7 @@ mod columns;
 mod forms;
 mod limits;
 mod misfit;
+mod names;
 mod reason;
 mod refusals;
 mod script;
@@ -28,9 +29,11 @@ pub use blocks::{block_text, has_policy};
 pub use columns::column_of;
 pub use limits::limit_of;
 pub use misfit::fitting;
+pub use names::{push_permission_reason, push_type_reason};
 pub use reason::{Reason, ReasonNote};
 pub use refusals::push_refusals;
 pub use script::{
-    block_reason, push_block_reason, push_read_reason, push_script_reason, script_reason,
+    block_reason, policy_reason, push_block_reason, push_policy_reason, push_read_reason,
+    push_script_reason, push_utf8_reason, script_reason,
 };
 pub use syntax::first_misfit;

@@ -96,7 +96,7 @@ fn first_of(
         return Ok(None);
     };
     let mut message = Vec::new(alloc);
-    push_text(&mut message, "it is the number of this domain")?;
+    push_text(&mut message, "the earlier domain is here")?;
     Ok(Some(ReasonNote {
         line: first.number,
         column: first.column,
@@ -113,7 +113,7 @@ fn push_limit(out: &mut Vec<u8>, fault: ConfigFault) -> Result<usize, AllocError
         ConfigFault::TableFrames(_) => (4, "a table has 1 to ", " frames"),
         ConfigFault::Version(_) => (5, "the version of a table is 1 to ", ""),
         ConfigFault::NoDomains | ConfigFault::Repeated(_) | ConfigFault::Generation => {
-            push_text(out, "a domain before this one has the same number")?;
+            push_text(out, "an earlier domain has the same number")?;
             return Ok(1);
         }
     };
@@ -123,12 +123,12 @@ fn push_limit(out: &mut Vec<u8>, fault: ConfigFault) -> Result<usize, AllocError
     Ok(word)
 }
 
-const UNDECLARED: &str = " is no type that the policy declares";
+const UNDECLARED: &str = " is not a type of the policy";
 
-const MANY_TYPES: &str = " is one type too many: a script has at most 256";
+const MANY_TYPES: &str = " is the 257th type: a script has at most 256";
 
-// Appends that a name is not a type that these statements declare, and which type may be meant.
-fn push_undeclared(
+/// Appends that a name is not a type that these statements declare, and which type may be meant.
+pub(crate) fn push_undeclared(
     alloc: Global,
     out: &mut Vec<u8>,
     statements: &[LinedStatement],
@@ -139,7 +139,7 @@ fn push_undeclared(
         match &stated.statement {
             Statement::DeclareType(declared, _) => types.push(declared.as_str())?,
             Statement::DeclareAttribute(declared) if declared.as_str() == name => {
-                return push_text(out, " is an attribute of the policy, and no type");
+                return push_text(out, " is an attribute of the policy, not a type");
             }
             _ => {}
         }
@@ -198,7 +198,7 @@ fn domain_reason(
 
 // Appends the numbers of the domains of a script.
 fn push_numbers(alloc: Global, out: &mut Vec<u8>, lines: &[&str]) -> Result<(), AllocError> {
-    push_text(out, " is no domain of this script, which has ")?;
+    push_text(out, " is not a domain of this script, which has ")?;
     for (i, line) in configured_in(alloc, lines)?.iter().enumerate() {
         if i > 0 {
             push_text(out, ", ")?;

@@ -64,7 +64,7 @@ fn push_statements(
     let question = WhyQuestion {
         source: Some(refusal.source),
         target: Some(refusal.target),
-        perm: refusal.perm,
+        perm: Some(refusal.perm),
     };
     let explanation = match why(alloc, file, block, &question) {
         Ok(explanation) => explanation,

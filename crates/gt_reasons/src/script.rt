@@ -8,6 +8,7 @@ use crate::reason::{Reason, ReasonNote};
 use crate::syntax::syntax_reason;
 use crate::texts::push_heading;
 use crate::waits::stuck_reason;
+use gt_policy::PolicyFault;
 use gt_policy_check::{Finding, FindingKind, check};
 use gt_script::{BlockFault, ScriptFault, ScriptFaultKind};
 use gt_script_lines::text_lines;
@@ -22,17 +23,23 @@ fn reason_of(alloc: Global, text: &str) -> Result<Reason, AllocError> {
     Ok(Reason::at(1, message))
 }
 
+// Appends the limit of a text.
+fn push_limit(out: &mut Vec<u8>, what: &str) -> Result<(), AllocError> {
+    push_text(out, what)?;
+    push_text(out, " has at most ")?;
+    push_number(out, LONGEST_TEXT)?;
+    push_text(out, " bytes")
+}
+
 fn limit_reason(alloc: Global) -> Result<Reason, AllocError> {
     let mut message = Vec::new(alloc);
-    push_text(&mut message, "a script has at most ")?;
-    push_number(&mut message, LONGEST_TEXT)?;
-    push_text(&mut message, " bytes")?;
+    push_limit(&mut message, "a script")?;
     Ok(Reason::at(1, message))
 }
 
 // Explains bytes that are not UTF-8, with the column of the first bad byte.
 fn utf8_reason(alloc: Global, input: &[u8]) -> Result<Reason, AllocError> {
-    let mut reason = reason_of(alloc, "here stands a byte that is no UTF-8")?;
+    let mut reason = reason_of(alloc, "invalid UTF-8")?;
     if let Err(error) = str::from_utf8(input) {
         let front = &input[..error.valid_up_to()];
         let before = front
@@ -48,14 +55,14 @@ fn utf8_reason(alloc: Global, input: &[u8]) -> Result<Reason, AllocError> {
 // Explains a fault at the end of a script.
 fn end_reason(alloc: Global, lines: &[&str], kind: ScriptFaultKind) -> Result<Reason, AllocError> {
     if kind == ScriptFaultKind::Config {
-        return reason_of(alloc, "a script has a line domain, and this one has none");
+        return reason_of(alloc, "the script has no line domain");
     }
     if has_policy(alloc, lines)? {
-        return reason_of(alloc, "the policy block has no line end");
+        return reason_of(alloc, "the policy block is not closed by a line end");
     }
     reason_of(
         alloc,
-        "a script begins with a policy block or a line triple, and this one has neither",
+        "the script has neither a policy block nor a line triple",
     )
 }
 
@@ -172,6 +179,52 @@ pub fn push_block_reason(
 {
     let reason = block_reason(alloc, input)?;
     push_reason(out, file, fault.line, &reason)
+}
+
+/// Returns the reason for the fault of a policy text.
+pub fn policy_reason(alloc: Global, input: &[u8]) -> Result<Reason, AllocError> {
+    if input.len() > LONGEST_TEXT {
+        let mut message = Vec::new(alloc);
+        push_limit(&mut message, "a policy")?;
+        return Ok(Reason::at(1, message));
+    }
+    let Ok(text) = text_of(input) else {
+        return utf8_reason(alloc, input);
+    };
+    let Ok(found) = check(alloc, text) else {
+        return Err(AllocError);
+    };
+    reason_found(alloc, found.as_slice())
+}
+
+/// Appends the reason for a fault of a policy text: a line `FILE:LINE:COLUMN: REASON`, at the line of the fault. After
+/// an Err, part of it may have been appended.
+pub fn push_policy_reason(
+    alloc: Global,
+    out: &mut Vec<u8>,
+    file: &str,
+    input: &[u8],
+    fault: &PolicyFault,
+) -> Result<(), AllocError>
+    ensures { OnOk result (TellsAt file.now fault.now.line out.old.items out.new.items) }
+{
+    let reason = policy_reason(alloc, input)?;
+    push_reason(out, file, fault.line as usize, &reason)
+}
+
+/// Appends where bytes are not UTF-8: a line `FILE:LINE:COLUMN: REASON`, at this line. After an Err, part of it may have
+/// been appended.
+pub fn push_utf8_reason(
+    alloc: Global,
+    out: &mut Vec<u8>,
+    file: &str,
+    input: &[u8],
+    line: usize,
+) -> Result<(), AllocError>
+    ensures { OnOk result (TellsAt file.now line out.old.items out.new.items) }
+{
+    let reason = utf8_reason(alloc, input)?;
+    push_reason(out, file, line, &reason)
 }
 
 /// Appends why a file was not read: a line `FILE: REASON`, in the words of the system. After an Err, part of it may

@@ -7,10 +7,9 @@ use crate::forms::{FORMS, example_of, expected_at};
 use crate::misfit::fitting;
 use crate::reason::Reason;
 use crate::texts::push_word;
-use gt_policy_check::push_hint;
+use gt_policy_check::{permission_names, push_hint};
 use gt_script_lines::{ScriptLine, is_word, line_words, read_line};
 use gt_text::{push_text, text_of};
-use gt_types::Perms;
 use std::alloc::{AllocError, Global};
 
 // Lists a word that fits, for each word of a form.
@@ -67,8 +66,8 @@ fn push_meant(
     let mut names: Vec<&str> = Vec::new(alloc);
     for part in expected {
         if is_word(part, "PERMISSION") {
-            for perm in Perms::EVERY {
-                names.push(perm.name())?;
+            for name in permission_names(alloc)? {
+                names.push(name)?;
             }
         } else if let (None, Ok(name)) = (expected_at(part), text_of(part)) {
             names.push(name)?;
@@ -107,7 +106,7 @@ fn misfit_reason(alloc: Global, line: &str, words: &[&[u8]]) -> Result<Reason, A
     let mut message = Vec::new(alloc);
     match words.get(number) {
         Some(word) => push_word(&mut message, word)?,
-        None => push_text(&mut message, "the line ends too early")?,
+        None => push_text(&mut message, "the line is incomplete")?,
     }
     push_text(&mut message, ": ")?;
     let expected = push_expected(alloc, &mut message, words, number)?;
@@ -121,12 +120,12 @@ fn misfit_reason(alloc: Global, line: &str, words: &[&[u8]]) -> Result<Reason, A
 fn place_of(line: &ScriptLine) -> &'static str {
     match line {
         ScriptLine::Triple(_) =>
-            "a line triple stands before wear and all domains, and not beside a policy block",
+            "triple must come before wear and all domains, and not together with a policy block",
         ScriptLine::Wear(_) =>
-            "a line wear stands once, after the policy block or the triples and before all domains",
+            "wear must come once, after the policy block or the triples and before all domains",
         ScriptLine::Domain(_) =>
-            "a line domain stands after the policy block or the triples, and before all calls",
-        ScriptLine::Body { .. } => "a line of the body stands after a line domain",
+            "domain must come after the policy block or the triples, and before all calls",
+        ScriptLine::Body { .. } => "this line must come after the domains",
     }
 }
 
@@ -145,7 +144,7 @@ pub fn syntax_reason(alloc: Global, line: &str) -> Result<Reason, AllocError> {
     {
         return place_reason(
             alloc,
-            "a policy block stands before all other lines, from a line policy to a line end",
+            "the policy block must come first, from a line policy to a line end",
         );
     }
     match read_line(words.as_slice()) {

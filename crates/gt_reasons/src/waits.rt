@@ -41,7 +41,7 @@ fn push_teller(out: &mut Vec<u8>, teller: &TellLine) -> Result<(), AllocError> {
     push_number(out, teller.number)?;
     push_text(out, " of domain ")?;
     out.extend_from_slice(teller.domain)?;
-    push_text(out, " tells it, and does not come")
+    push_text(out, " raises it, but is never reached")
 }
 
 // Appends that no line raises a flag, and which flag may be meant.
@@ -51,7 +51,7 @@ fn push_untold(
     tellers: &[TellLine],
     flag: &[u8],
 ) -> Result<(), AllocError> {
-    push_text(out, "; no line tells it")?;
+    push_text(out, "; no line raises it")?;
     let mut names: Vec<&str> = Vec::new(alloc);
     for teller in tellers {
         if let Ok(name) = text_of(teller.flag) {
@@ -89,7 +89,7 @@ fn push_tellers(
 fn told_here(alloc: Global, teller: &TellLine) -> Result<ReasonNote, AllocError> {
     let mut message = Vec::new(alloc);
     push_word(&mut message, teller.flag)?;
-    push_text(&mut message, " is told here")?;
+    push_text(&mut message, " is raised here")?;
     Ok(ReasonNote {
         line: teller.number,
         column: teller.column,

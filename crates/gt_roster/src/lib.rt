@@ -4,14 +4,21 @@
 //! to the highest one. [`Roster`] is the configuration of a run with that table.
 //!
 //! Proved: [`Positions::position`] returns the position of the first domain with a number, or None if no domain has
-//! it. [`Roster::domain`] returns that domain. A contract sees a [`Roster`] as its configuration. Only the two
-//! `new` allocate.
+//! it. [`Roster::domain`] returns that domain. A contract sees a [`Roster`] as its configuration. Only the functions
+//! that make a value allocate.
+//!
+//! A monitor that keeps no frames has a configuration without a largest number of frames (`IsRunnable`). It is checked
+//! in the form that [`with_one_frame`] returns.
 //!
 //! It uses `gt_types`.
 #![tactic(auto)]
 
+mod frameless;
+mod laws;
 mod positions;
 mod roster;
 
+pub use frameless::with_one_frame;
+pub use laws::{every_configuration_within_limits_is_runnable, one_frame_is_enough};
 pub use positions::Positions;
 pub use roster::Roster;

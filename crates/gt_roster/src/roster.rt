@@ -2,6 +2,7 @@
 ghost use Rattle.std.specs.Prelude.{◌≡◌, ◌==◌, IfOk, IfErr, IsOk, position};
 ghost use Rattle.gt_types.specs.Config.{IsWithinLimits};
 ghost use Rattle.gt_types.specs.Names.{domain_of};
+ghost use Rattle.gt_roster.specs.Frameless.{HasOneFrameEach};
 ghost use Rattle.gt_roster.specs.Starting.{IsStartFault};
 
 use crate::positions::Positions;
@@ -46,6 +47,23 @@ impl Roster {
             Ok(positions) => Ok(Roster { config, positions }),
             Err(AllocError) => Err(StartFault::Memory),
         }
+    }
+
+    /// Builds the table of positions of a configuration for a monitor that keeps no frames. `one_frame` is the same
+    /// configuration with at most one frame a domain, and is within the limits.
+    ///
+    /// # Errors
+    /// `AllocError`.
+    pub fn of_runnable(
+        alloc: Global,
+        config: Config,
+        one_frame: &Config,
+    ) -> Result<Roster, AllocError>
+        requires { HasOneFrameEach config one_frame.now × IsWithinLimits one_frame.now }
+        ensures { IfOk result (λ r. r ≡ config) }
+    {
+        let positions = Positions::new(alloc, one_frame)?;
+        Ok(Roster { config, positions })
     }
 
     /// Returns the configuration.

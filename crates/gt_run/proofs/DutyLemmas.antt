@@ -15,7 +15,7 @@ use Rattle.std.proofs.lemmas.List.Sums.{sum_by-append}
 use Rattle.gt_types.specs.declared.DomId.{DomId}
 use Rattle.gt_types.specs.declared.config.Config.{Config}
 use Rattle.gt_types.specs.declared.config.DomainConfig.{DomainConfig}
-use Rattle.gt_word_table.specs.Rule.{Layout, id_at}
+use Rattle.gt_word_history.specs.Rule.{Layout, id_at}
 use Rattle.gt_audit.specs.Lines.{line_text, lost_text}
 use Rattle.gt_audit.specs.Telling.{Telling}
 use Rattle.gt_text.specs.Printing.{type_text}

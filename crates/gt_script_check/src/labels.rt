@@ -63,7 +63,7 @@ fn message_of(
     label: Label<'_>,
     mapped: &[Label<'_>],
 ) -> Result<Vec<u8>, AllocError> {
-    let said = " names no mapping: no map of this domain before has it";
+    let said = " is not the name of an earlier mapping of this domain";
     let mut message = said_of(alloc, label.name, said)?;
     let mut names = Vec::new(alloc);
     for other in mapped {

@@ -54,7 +54,7 @@ pub(crate) fn warn_triple(
     let Some(unworn) = unworn_in(alloc, line, worn)? else {
         return Ok(());
     };
-    let said = " is the type of no domain of this script, so this triple never matters";
+    let said = " is not the type of any domain in this script, so this triple allows nothing";
     let message = said_of(alloc, unworn.name, said)?;
     let kind = FindingKind::NeverMatters;
     push_warning(

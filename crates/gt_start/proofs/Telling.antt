@@ -4,7 +4,7 @@ use Rattle.std.specs.Prelude.{Err, Ok}
 use Rattle.gt_types.specs.declared.config.Config.{Config}
 use Rattle.gt_types.specs.declared.config.StartFault.{StartFault}
 use Rattle.gt_types.specs.declared.config.StartFault.TheVariants as starts
-use Rattle.gt_roster.specs.Starting.{IsStartFault}
+use Rattle.gt_roster.specs.Frameless.{IsFramelessFault}
 use Rattle.gt_policy.specs.Allowing.{Allowed, KeptPolicy, Meaning, PolicyShows}
 use Rattle.gt_policy.specs.Whole.{Says}
 use Rattle.gt_policy.specs.declared.fault.TokenFault.{TokenFault}
@@ -21,8 +21,8 @@ of-text text None fault says e = inl e
 
 -- the fault of a start is one of the settings
 pub of-settings : (settings : List DomainSettings) (first_gen : ℕ) (text : List ℕ) (c : Config) (s : StartFault) (fault : EncodedFault)
-    → IsSetBy settings first_gen c → IsStartFault c s → fault ≡ config_told s → IsFaultOf settings first_gen text fault
-of-settings settings first_gen text c (starts.Config f) fault set is e = inr (inr (c, f, set, is.1, e))
+    → IsSetBy settings first_gen c → IsFramelessFault c s → fault ≡ config_told s → IsFaultOf settings first_gen text fault
+of-settings settings first_gen text c (starts.Config f) fault set is e = inr (inr (c, is.1.0, f, set, is.1.1, is.1.2, e))
 of-settings settings first_gen text c starts.Memory fault set is e = inl (inl e)
 
 -- a policy has as many types as what its text means

@@ -1,6 +1,7 @@
 -- How a run starts, and why one does not.
 use Rattle.std.specs.Prelude.{◌≡◌, ◌⊎◌, ℕ, Bool, nat_le, List, length, map, position, slice_get, Some, None, Ok, Err}
 use Rattle.std.specs.Str.{IsUtf8}
+use Rattle.gt_roster.specs.Frameless.{HasOneFrameEach}
 use Rattle.gt_types.specs.Config.{IsFirstFault}
 use Rattle.gt_types.specs.declared.TypeId.{TypeId}
 use Rattle.gt_types.specs.declared.config.Config.{Config}
@@ -70,10 +71,11 @@ abbrev pub IsUnlabelled : List DomainSettings → List ℕ → EncodedFault → 
 IsUnlabelled settings text fault =
     (m : Meaning) × Says text (Ok m) × IsLabelFault (length m.types) settings fault
 
--- the fault is the first one of the configuration with these settings
+-- the fault is the first one of the configuration with these settings, where no number of frames is too large
 abbrev pub IsLimitFault : List DomainSettings → ℕ → EncodedFault → Type 0
 IsLimitFault settings first_gen fault =
-    (c : Config) × (f : ConfigFault) × IsSetBy settings first_gen c × IsFirstFault c f × (fault ≡ limit_told f)
+    (c : Config) × (e : Config) × (f : ConfigFault) × IsSetBy settings first_gen c × HasOneFrameEach c e × IsFirstFault e f
+    × (fault ≡ limit_told f)
 
 -- why no run started with these settings under this text
 abbrev pub IsFaultOf : List DomainSettings → ℕ → List ℕ → EncodedFault → Type 0

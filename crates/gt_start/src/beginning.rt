@@ -27,7 +27,7 @@ fn policy_of(alloc: Global, text: &[u8]) -> Result<Policy, EncodedFault>
 }
 
 /// Starts a run with these settings under a policy's text, and returns an attached domain for each domain, in order.
-/// Each entry begins at the generation `first_gen`.
+/// Each entry begins at the generation `first_gen`. The caller keeps the frames.
 ///
 /// # Errors
 /// The first fault of the policy's text; then the first label beyond the policy's types; then the first fault of the

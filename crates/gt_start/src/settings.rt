@@ -6,8 +6,8 @@ use crate::faults::{EncodedFault, label_fault};
 use gt_types::{Config, DomId, DomainConfig, TypeId};
 use std::alloc::{AllocError, Global};
 
-/// A domain of a run to start: its number, the number of its type in the policy, the numbers of its frames and of its
-/// table's frames, and the version of its table.
+/// A domain of a run to start: its number, the number of its type in the policy, the number of its frames (from 1 on:
+/// the caller keeps them), the number of its table's frames, and the version of its table.
 #[repr(C)]
 #[derive(Clone, Copy)]
 pub struct DomainSettings {

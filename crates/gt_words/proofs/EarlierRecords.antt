@@ -7,12 +7,12 @@ use lib.ListN.{get_elem?}
 use Rattle.gt_types.specs.declared.Dir.{Dir}
 use Rattle.gt_types.specs.declared.Dir.TheVariants.{Read, Write}
 use Rattle.gt_words.proofs.Records.{legal_record, spelled_parts}
-use Rattle.gt_word_table.specs.Controls.{generation_of, pins_in}
-use Rattle.gt_word_table.specs.Rule.{HasGoneOn, IsNextEntry, IsRevocation, MayFollow, ShowsRecord, total_pins}
-use Rattle.gt_word_table.specs.Rule.{total_until}
-use Rattle.gt_word_table.specs.Views.{LivePin, is_same_dir, pin_count, live_pins, pins_until, weight, without_pin}
-use Rattle.gt_word_table.specs.declared.view.EntryStep.{EntryStep}
-use Rattle.gt_word_table.specs.declared.view.EntryRecord.{EntryRecord}
+use Rattle.gt_word_history.specs.Controls.{generation_of, pins_in}
+use Rattle.gt_word_history.specs.Rule.{HasGoneOn, IsNextEntry, IsRevocation, MayFollow, ShowsRecord, total_pins}
+use Rattle.gt_word_history.specs.Rule.{total_until}
+use Rattle.gt_word_history.specs.Views.{LivePin, is_same_dir, pin_count, live_pins, pins_until, weight, without_pin}
+use Rattle.gt_word_history.specs.declared.view.EntryStep.{EntryStep}
+use Rattle.gt_word_history.specs.declared.view.EntryRecord.{EntryRecord}
 
 -- the pins of a generation and of those before it, among all pins
 until_most : (d : Dir) (g : ℕ) (ps : List LivePin) → pins_until d g ps ≤ pin_count d ps

@@ -18,17 +18,17 @@ use Rattle.gt_entry.specs.Words.{header_of, header_word, size_of}
 use Rattle.gt_entry.specs.declared.header.Header.{Header}
 use Rattle.gt_types.specs.declared.limits.TheConstants.{ENTRIES_V1, ENTRIES_V2, TABLE_ENTRIES}
 use Rattle.gt_words.specs.Answers.{AddsToHeader, LooksAtHeader, StepsOnHeader, StoresHeader}
-use Rattle.gt_word_table.specs.Events.{HeaderByOwner, header_after}
-use Rattle.gt_word_table.proofs.Order.{leads_on}
-use Rattle.gt_word_table.specs.History.{StepHistory, SaysWord, left_by}
-use Rattle.gt_word_table.specs.Rule.{IsHeader, IsKeptHeader, Layout, Shows, HasStood, Stands, ShowsEntry, header_now}
-use Rattle.gt_word_table.specs.Rule.{header_place, place}
-use Rattle.gt_word_table.specs.Steps.{TakesStep, looking_at_header, on_header, storing_header, tells}
-use Rattle.gt_word_table.specs.Views.{own, own_header, steps_on, steps_on_header, stored_header, with_step}
-use Rattle.gt_word_table.specs.declared.view.EntryStep.{EntryStep}
-use Rattle.gt_word_table.specs.declared.view.HeaderStep.{HeaderStep}
-use Rattle.gt_word_table.specs.declared.view.View.{View}
-use Rattle.gt_word_table.specs.declared.view.HeaderStep.TheVariants as header
+use Rattle.gt_word_history.specs.Events.{HeaderByOwner, header_after}
+use Rattle.gt_word_history.proofs.Order.{leads_on}
+use Rattle.gt_word_history.specs.History.{StepHistory, SaysWord, left_by}
+use Rattle.gt_word_history.specs.Rule.{IsHeader, IsKeptHeader, Layout, Shows, HasStood, Stands, ShowsEntry, header_now}
+use Rattle.gt_word_history.specs.Rule.{header_place, place}
+use Rattle.gt_word_history.specs.Steps.{TakesStep, looking_at_header, on_header, storing_header, tells}
+use Rattle.gt_word_history.specs.Views.{own, own_header, steps_on, steps_on_header, stored_header, with_step}
+use Rattle.gt_word_history.specs.declared.view.EntryStep.{EntryStep}
+use Rattle.gt_word_history.specs.declared.view.HeaderStep.{HeaderStep}
+use Rattle.gt_word_history.specs.declared.view.View.{View}
+use Rattle.gt_word_history.specs.declared.view.HeaderStep.TheVariants as header
 
 header_here : (past : StepHistory) (t : ℕ) (m : HeaderStep) (v : View) → steps_on_header t (with_step past (on_header t m) v) ≡ m ∷ steps_on_header t v
 header_here past t m v = ap (λ (b : Bool). cond b (m ∷ steps_on_header t v) (steps_on_header t v)) (eq-eqb t t refl)

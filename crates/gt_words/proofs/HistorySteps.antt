@@ -10,28 +10,28 @@ use Rattle.atomic_table.specs.Table.{State, keeps, stepped}
 use Rattle.atomic_table.proofs.Lists.{at_map, set_here}
 use Rattle.gt_types.specs.declared.Dir.{Dir}
 use Rattle.gt_words.proofs.StepOnEntry.{happens_here}
-use Rattle.gt_word_table.proofs.Order.{apart_test}
+use Rattle.gt_word_history.proofs.Order.{apart_test}
 use Rattle.gt_words.proofs.Lifts.{parts_at}
-use Rattle.gt_word_table.proofs.Moments.{beyond, goes_on}
+use Rattle.gt_word_history.proofs.Moments.{beyond, goes_on}
 use Rattle.gt_words.proofs.OneEntry.{held_at}
-use Rattle.gt_word_table.proofs.Order.{part_else, part_here, within}
-use Rattle.gt_word_table.specs.Events.{Happens, entry_after, event_on_entry, event_on_header}
-use Rattle.gt_word_table.specs.History.{PinsLast, entry_by, entry_made, header_made, parts_on, HasLedTo}
-use Rattle.gt_word_table.specs.History.{StepHistory, IsByOwner, IsOwners, IsTrue, Layout, SaysWord, part_of}
-use Rattle.gt_word_table.specs.History.{word_place_of}
-use Rattle.gt_word_table.specs.History.{word_after}
+use Rattle.gt_word_history.proofs.Order.{part_else, part_here, within}
+use Rattle.gt_word_history.specs.Events.{Happens, entry_after, event_on_entry, event_on_header}
+use Rattle.gt_word_history.specs.History.{PinsLast, entry_by, entry_made, header_made, parts_on, HasLedTo}
+use Rattle.gt_word_history.specs.History.{StepHistory, IsByOwner, IsOwners, IsTrue, Layout, SaysWord, part_of}
+use Rattle.gt_word_history.specs.History.{word_place_of}
+use Rattle.gt_word_history.specs.History.{word_after}
 use Rattle.gt_words.specs.Laws.{EachStepHappened}
-use Rattle.gt_word_table.specs.Rule.{HasStood, Shows, Stands, total_pins}
-use Rattle.gt_word_table.specs.Steps.{TakesStep}
-use Rattle.gt_word_table.specs.Views.{entry_steps, header_steps, pin_count, live_pins, steps_on, stored_header}
-use Rattle.gt_word_table.specs.Views.{with_step}
-use Rattle.gt_word_table.specs.declared.view.EntryStep.{EntryStep}
-use Rattle.gt_word_table.specs.declared.view.HeaderStep.{HeaderStep}
-use Rattle.gt_word_table.specs.declared.view.HeaderStep.TheVariants as header
-use Rattle.gt_word_table.specs.declared.view.SeatStep.{SeatStep}
-use Rattle.gt_word_table.specs.declared.view.SeatStep.TheVariants.{Entry, Frame, Header}
-use Rattle.gt_word_table.specs.declared.view.View.{View}
-use Rattle.gt_word_table.specs.declared.rule.TheConstants.{DOMAIN_WORDS}
+use Rattle.gt_word_history.specs.Rule.{HasStood, Shows, Stands, total_pins}
+use Rattle.gt_word_history.specs.Steps.{TakesStep}
+use Rattle.gt_word_history.specs.Views.{entry_steps, header_steps, pin_count, live_pins, steps_on, stored_header}
+use Rattle.gt_word_history.specs.Views.{with_step}
+use Rattle.gt_word_history.specs.declared.view.EntryStep.{EntryStep}
+use Rattle.gt_word_history.specs.declared.view.HeaderStep.{HeaderStep}
+use Rattle.gt_word_history.specs.declared.view.HeaderStep.TheVariants as header
+use Rattle.gt_word_history.specs.declared.view.SeatStep.{SeatStep}
+use Rattle.gt_word_history.specs.declared.view.SeatStep.TheVariants.{Entry, Frame, Header}
+use Rattle.gt_word_history.specs.declared.view.View.{View}
+use Rattle.gt_word_history.specs.declared.rule.TheConstants.{DOMAIN_WORDS}
 
 true_at : (k : Layout) (later h : StepHistory) (p : ℕ × SeatStep) → IsTrue k (later ++ p ∷ h) → SaysWord p.1 (word_after k h (word_place_of p.1)) × IsOwners p.0 p.1 × PinsLast k h p.1
 true_at k [] h p is = (is.0, is.1, is.2)

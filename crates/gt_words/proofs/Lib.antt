@@ -14,3 +14,4 @@ pub mod PinsGone
 pub mod SeatsDealt
 pub mod Past
 pub mod HistorySteps
+pub mod WithoutFrames

@@ -1,5 +1,5 @@
 -- A step on one entry keeps the rule of the table, where it keeps the rule of that entry.
-use Rattle.gt_word_table.specs.declared.rule.TheConstants.{DOMAIN_WORDS}
+use Rattle.gt_word_history.specs.declared.rule.TheConstants.{DOMAIN_WORDS}
 use Rattle.std.proofs.Common.{◌≡◌, ◌≢◌, ⊎_elim, ℕ, zero, suc, ◌+◌, ◌*◌, ◌<◌, ◌≤◌, Bool, true, cond, ◌==◌, ◌&&◌}
 use Rattle.std.proofs.Common.{List, [], ◌∷◌, map, get_or, set, length, sym, refl, ap, ◌∙◌, subst, arith, length-set}
 use Rattle.std.proofs.Common.{get_or-set_other, eq-eqb}
@@ -11,17 +11,17 @@ use lib.Seq.{map-set}
 use Rattle.atomic_table.specs.Table.{State, stepped, keeps}
 use Rattle.atomic_table.proofs.Lists.{at_set, set_again, at_map}
 use Rattle.gt_words.proofs.Lists.{whose_at}
-use Rattle.gt_word_table.proofs.Moments.{beyond}
-use Rattle.gt_word_table.proofs.Order.{apart_test, leads_on}
-use Rattle.gt_word_table.specs.History.{HasLedTo, StepHistory, IsByOwner, IsOfRecord, SaysFound, left_on_entry}
-use Rattle.gt_word_table.specs.History.{owner_steps}
-use Rattle.gt_word_table.specs.History.{part_of, parts_on, word_on}
-use Rattle.gt_word_table.specs.Rule.{IsHeader, Layout, Shows, ShowsEntry, header_now, header_place, place}
-use Rattle.gt_word_table.specs.Steps.{on_entry}
-use Rattle.gt_word_table.specs.Views.{entry_steps, last_record, steps_on, steps_on_header, with_step}
-use Rattle.gt_word_table.specs.declared.view.EntryStep.{EntryStep}
-use Rattle.gt_word_table.specs.declared.view.SeatStep.{SeatStep}
-use Rattle.gt_word_table.specs.declared.view.View.{View}
+use Rattle.gt_word_history.proofs.Moments.{beyond}
+use Rattle.gt_word_history.proofs.Order.{apart_test, leads_on}
+use Rattle.gt_word_history.specs.History.{HasLedTo, StepHistory, IsByOwner, IsOfRecord, SaysFound, left_on_entry}
+use Rattle.gt_word_history.specs.History.{owner_steps}
+use Rattle.gt_word_history.specs.History.{part_of, parts_on, word_on}
+use Rattle.gt_word_history.specs.Rule.{IsHeader, Layout, Shows, ShowsEntry, header_now, header_place, place}
+use Rattle.gt_word_history.specs.Steps.{on_entry}
+use Rattle.gt_word_history.specs.Views.{entry_steps, last_record, steps_on, steps_on_header, with_step}
+use Rattle.gt_word_history.specs.declared.view.EntryStep.{EntryStep}
+use Rattle.gt_word_history.specs.declared.view.SeatStep.{SeatStep}
+use Rattle.gt_word_history.specs.declared.view.View.{View}
 use Rattle.gt_types.specs.declared.limits.TheConstants.{TABLE_ENTRIES}
 
 -- the view after one more step on an entry

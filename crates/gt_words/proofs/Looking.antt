@@ -10,19 +10,19 @@ use Rattle.gt_entry.specs.declared.entry.Entry.TheVariants.{Invalid, Page, Sub, 
 use Rattle.gt_types.specs.declared.Dir.TheVariants.{Read, Write}
 use Rattle.gt_words.proofs.Records.{domain_small, fresh, legal_record, listed_record, low_small, spelled_control}
 use Rattle.gt_words.proofs.Records.{spelled_parts}
-use Rattle.gt_word_table.specs.Controls.{IsValid, generation_of, pins_in}
-use Rattle.gt_word_table.specs.History.{SaysFound, word_on}
+use Rattle.gt_word_history.specs.Controls.{IsValid, generation_of, pins_in}
+use Rattle.gt_word_history.specs.History.{SaysFound, word_on}
 use Rattle.gt_words.specs.Laws.{alone}
-use Rattle.gt_word_table.specs.Rule.{IsLawful}
+use Rattle.gt_word_history.specs.Rule.{IsLawful}
 use Rattle.gt_words.specs.Sight.{Agrees, IsSeenOf, SawRecord}
-use Rattle.gt_word_table.specs.Views.{HasBody, Seen, earlier_records, last_record, record_seen, seen, value_or_zero}
-use Rattle.gt_word_table.specs.Views.{with_body}
-use Rattle.gt_word_table.specs.declared.view.EntryStep.{EntryStep}
-use Rattle.gt_word_table.specs.declared.view.EntryStep.TheVariants.{ChangeMissed, Changed, Looked, PinMissed, Pinned}
-use Rattle.gt_word_table.specs.declared.view.EntryStep.TheVariants.{ReadBody, StoredBody, Unpinned}
+use Rattle.gt_word_history.specs.Views.{HasBody, Seen, earlier_records, last_record, record_seen, seen, value_or_zero}
+use Rattle.gt_word_history.specs.Views.{with_body}
+use Rattle.gt_word_history.specs.declared.view.EntryStep.{EntryStep}
+use Rattle.gt_word_history.specs.declared.view.EntryStep.TheVariants.{ChangeMissed, Changed, Looked, PinMissed, Pinned}
+use Rattle.gt_word_history.specs.declared.view.EntryStep.TheVariants.{ReadBody, StoredBody, Unpinned}
 use Rattle.gt_entry.specs.declared.change.BodyWord.{BodyWord}
 use Rattle.gt_entry.specs.declared.change.BodyWord.TheVariants.{First, Second}
-use Rattle.gt_word_table.specs.declared.view.EntryRecord.{EntryRecord}
+use Rattle.gt_word_history.specs.declared.view.EntryRecord.{EntryRecord}
 use Rattle.gt_entry.specs.declared.control.EntryKind.TheVariants as kind
 
 -- the word of the last record is a look at it

@@ -17,21 +17,21 @@ use Rattle.gt_words.proofs.EarlierRecords.{goes_on, goes_on_here, still_gone, un
 use Rattle.gt_words.proofs.Lists.{whose_at, whose_here}
 use Rattle.gt_words.proofs.Records.{changes_shown, legal_record, pins_shown, sees_shown, stores_shown, unpins_shown}
 use Rattle.gt_words.proofs.Looking.{seen_is_last}
-use Rattle.gt_word_table.specs.Controls.{IsValid, generation_of, pins_in}
-use Rattle.gt_word_table.specs.Rule.{HasGoneOn, IsLawful, IsRecord, MayFollow, ShowsEntry, ShowsRecord, owner_steps}
-use Rattle.gt_word_table.specs.Rule.{total_pins}
+use Rattle.gt_word_history.specs.Controls.{IsValid, generation_of, pins_in}
+use Rattle.gt_word_history.specs.Rule.{HasGoneOn, IsLawful, IsRecord, MayFollow, ShowsEntry, ShowsRecord, owner_steps}
+use Rattle.gt_word_history.specs.Rule.{total_pins}
 use Rattle.gt_words.specs.Sight.{IsSeenOf}
-use Rattle.gt_word_table.specs.Views.{HasBody, IsAmong, LivePin, Seen, earlier_records, exchanged, last_record}
-use Rattle.gt_word_table.specs.Views.{pin_count}
-use Rattle.gt_word_table.specs.Views.{live_pins}
-use Rattle.gt_word_table.specs.Views.{pins_until, record_seen, stored_body, weight}
+use Rattle.gt_word_history.specs.Views.{HasBody, IsAmong, LivePin, Seen, earlier_records, exchanged, last_record}
+use Rattle.gt_word_history.specs.Views.{pin_count}
+use Rattle.gt_word_history.specs.Views.{live_pins}
+use Rattle.gt_word_history.specs.Views.{pins_until, record_seen, stored_body, weight}
 use Rattle.gt_entry.specs.declared.change.EntryChange.{EntryChange}
-use Rattle.gt_word_table.specs.declared.view.EntryStep.{EntryStep}
-use Rattle.gt_word_table.specs.declared.view.EntryStep.TheVariants.{ChangeMissed, Changed, Looked, PinMissed, Pinned}
-use Rattle.gt_word_table.specs.declared.view.EntryStep.TheVariants.{ReadBody, StoredBody, Unpinned}
+use Rattle.gt_word_history.specs.declared.view.EntryStep.{EntryStep}
+use Rattle.gt_word_history.specs.declared.view.EntryStep.TheVariants.{ChangeMissed, Changed, Looked, PinMissed, Pinned}
+use Rattle.gt_word_history.specs.declared.view.EntryStep.TheVariants.{ReadBody, StoredBody, Unpinned}
 use Rattle.gt_entry.specs.declared.change.BodyWord.{BodyWord}
 use Rattle.gt_entry.specs.declared.change.BodyWord.TheVariants.{First, Second}
-use Rattle.gt_word_table.specs.declared.view.EntryRecord.{EntryRecord}
+use Rattle.gt_word_history.specs.declared.view.EntryRecord.{EntryRecord}
 use Rattle.gt_entry.specs.declared.change.EntryChange.TheVariants as change
 
 pub count_in : (d : Dir) (p : LivePin) (ps : List LivePin) → IsAmong p ps → p.0 ≡ d → 1 ≤ pin_count d ps

@@ -10,18 +10,18 @@ use Rattle.gt_types.specs.declared.Dir.TheVariants.{Read, Write}
 use Rattle.gt_types.specs.declared.limits.TheConstants.{TABLE_ENTRIES}
 use Rattle.gt_entry.specs.declared.entry.Entry.TheVariants.{Invalid}
 use Rattle.gt_words.proofs.Lifts.{owner_made}
-use Rattle.gt_word_table.proofs.Moments.{taken_then}
-use Rattle.gt_word_table.specs.Steps.{on_entry}
-use Rattle.gt_word_table.specs.Controls.{generation_of}
+use Rattle.gt_word_history.proofs.Moments.{taken_then}
+use Rattle.gt_word_history.specs.Steps.{on_entry}
+use Rattle.gt_word_history.specs.Controls.{generation_of}
 use Rattle.gt_words.specs.Laws.{PastPinsAreRefused, PinsLeftAreCounted, WordsFollowViews}
-use Rattle.gt_word_table.specs.Rule.{ShowsEntry, header_now, owner_steps, place, total_until}
-use Rattle.gt_word_table.specs.Views.{IsAmong, LivePin, last_record, live_pins, pins_until, steps_on}
-use Rattle.gt_word_table.specs.Views.{steps_on_header}
-use Rattle.gt_word_table.specs.Views.{weight}
-use Rattle.gt_word_table.specs.declared.view.EntryRecord.{EntryRecord}
-use Rattle.gt_word_table.specs.declared.view.EntryStep.{EntryStep}
-use Rattle.gt_word_table.specs.declared.view.EntryStep.TheVariants.{Pinned}
-use Rattle.gt_word_table.specs.declared.view.View.{View}
+use Rattle.gt_word_history.specs.Rule.{ShowsEntry, header_now, owner_steps, place, total_until}
+use Rattle.gt_word_history.specs.Views.{IsAmong, LivePin, last_record, live_pins, pins_until, steps_on}
+use Rattle.gt_word_history.specs.Views.{steps_on_header}
+use Rattle.gt_word_history.specs.Views.{weight}
+use Rattle.gt_word_history.specs.declared.view.EntryRecord.{EntryRecord}
+use Rattle.gt_word_history.specs.declared.view.EntryStep.{EntryStep}
+use Rattle.gt_word_history.specs.declared.view.EntryStep.TheVariants.{Pinned}
+use Rattle.gt_word_history.specs.declared.view.View.{View}
 
 weight_same : (d : Dir) → weight d d ≡ 1
 weight_same Read = refl

@@ -16,20 +16,20 @@ use Rattle.gt_words.proofs.Records.{legal_record, spelled_parts}
 use Rattle.gt_words.proofs.StepFacts.{owners_entry}
 use Rattle.gt_words.specs.Answers.{Changes}
 use Rattle.gt_words.specs.Conditions.{HasNoPins}
-use Rattle.gt_word_table.specs.Controls.{generation_of, pins_in}
+use Rattle.gt_word_history.specs.Controls.{generation_of, pins_in}
 use Rattle.gt_words.specs.Laws.{NoPinOutlivesItsRecord}
-use Rattle.gt_word_table.specs.Rule.{Layout, Shows, owner_steps, total_pins}
-use Rattle.gt_word_table.specs.Steps.{changed, changed_word}
-use Rattle.gt_word_table.specs.Views.{IsAmong, LivePin, earlier_records, entry_steps, exchanged, last_of, pin_count}
-use Rattle.gt_word_table.specs.Views.{live_pins}
-use Rattle.gt_word_table.specs.Views.{steps_on}
-use Rattle.gt_word_table.specs.declared.view.EntryRecord.{EntryRecord}
-use Rattle.gt_word_table.specs.declared.view.EntryStep.{EntryStep}
-use Rattle.gt_word_table.specs.declared.view.EntryStep.TheVariants.{Changed}
-use Rattle.gt_word_table.specs.declared.view.SeatStep.{SeatStep}
-use Rattle.gt_word_table.specs.declared.view.SeatStep.TheVariants.{Entry as OnEntry, Frame as OnFrame}
-use Rattle.gt_word_table.specs.declared.view.SeatStep.TheVariants.{Header as OnHeader}
-use Rattle.gt_word_table.specs.declared.view.View.{View}
+use Rattle.gt_word_history.specs.Rule.{Layout, Shows, owner_steps, total_pins}
+use Rattle.gt_word_history.specs.Steps.{changed, changed_word}
+use Rattle.gt_word_history.specs.Views.{IsAmong, LivePin, earlier_records, entry_steps, exchanged, last_of, pin_count}
+use Rattle.gt_word_history.specs.Views.{live_pins}
+use Rattle.gt_word_history.specs.Views.{steps_on}
+use Rattle.gt_word_history.specs.declared.view.EntryRecord.{EntryRecord}
+use Rattle.gt_word_history.specs.declared.view.EntryStep.{EntryStep}
+use Rattle.gt_word_history.specs.declared.view.EntryStep.TheVariants.{Changed}
+use Rattle.gt_word_history.specs.declared.view.SeatStep.{SeatStep}
+use Rattle.gt_word_history.specs.declared.view.SeatStep.TheVariants.{Entry as OnEntry, Frame as OnFrame}
+use Rattle.gt_word_history.specs.declared.view.SeatStep.TheVariants.{Header as OnHeader}
+use Rattle.gt_word_history.specs.declared.view.View.{View}
 
 -- where no view has a pin, none is counted
 none_held : (d : Dir) (t r : ℕ) (vs : List View) → ((i : ℕ) (v : View) → get_elem? vs i ≡ some v → live_pins (steps_on t r v) ≡ []) → total_pins d (map (steps_on t r) vs) ≡ 0

@@ -15,13 +15,13 @@ use Rattle.gt_entry.specs.declared.entry.Entry.TheVariants.{Invalid, Page, Sub, 
 use Rattle.gt_types.specs.declared.Dir.{Dir}
 use Rattle.gt_types.specs.declared.Dir.TheVariants.{Read, Write}
 use Rattle.gt_words.specs.Laws.{bounded}
-use Rattle.gt_word_table.specs.Rule.{IsLawful, IsNextEntry, IsRecord, IsRevocation, MayFollow, ShowsRecord, total_pins}
-use Rattle.gt_word_table.specs.Views.{IsAmong, LivePin, is_same_dir, pin_count, live_pins, weight, without_pin}
+use Rattle.gt_word_history.specs.Rule.{IsLawful, IsNextEntry, IsRecord, IsRevocation, MayFollow, ShowsRecord, total_pins}
+use Rattle.gt_word_history.specs.Views.{IsAmong, LivePin, is_same_dir, pin_count, live_pins, weight, without_pin}
 use Rattle.gt_entry.specs.declared.change.EntryChange.{EntryChange}
-use Rattle.gt_word_table.specs.declared.view.EntryStep.{EntryStep}
-use Rattle.gt_word_table.specs.declared.view.EntryStep.TheVariants.{Changed, Pinned, StoredBody, Unpinned}
+use Rattle.gt_word_history.specs.declared.view.EntryStep.{EntryStep}
+use Rattle.gt_word_history.specs.declared.view.EntryStep.TheVariants.{Changed, Pinned, StoredBody, Unpinned}
 use Rattle.gt_entry.specs.declared.change.BodyWord.{BodyWord}
-use Rattle.gt_word_table.specs.declared.view.EntryRecord.{EntryRecord}
+use Rattle.gt_word_history.specs.declared.view.EntryRecord.{EntryRecord}
 
 pub total_pins-set : (d : Dir) (hs : List (List EntryStep)) (i : ℕ) (h h' : List EntryStep) → get_elem? hs i ≡ some h → total_pins d (set hs i h') + pin_count d (live_pins h) ≡ total_pins d hs + pin_count d (live_pins h')
 total_pins-set d [] i h h' e = absurd (some-ne-none h (sym e))

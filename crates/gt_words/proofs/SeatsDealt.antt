@@ -1,8 +1,8 @@
 -- The seat that deals, and the one that it deals.
 use Rattle.std.proofs.Common.{◌≡◌, ℕ, ap, ◌∙◌, refl}
 use Rattle.atomic_table.specs.Seated.{TableId}
-use Rattle.gt_word_table.specs.Places.{IsNewPlace, SeatAt, dealer_after, dealt_to}
-use Rattle.gt_word_table.specs.Rule.{Layout}
+use Rattle.gt_word_history.specs.Places.{IsNewPlace, SeatAt, dealer_after, dealt_to}
+use Rattle.gt_word_history.specs.Rule.{Layout}
 
 -- the seat that deals stays as new as it was
 pub dealer_stays : (z : TableId) (k : Layout) (i : ℕ) (s t : SeatAt) → IsNewPlace z k i s → t ≡ record s { view = dealer_after s.view } → IsNewPlace z k i t

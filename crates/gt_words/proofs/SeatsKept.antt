@@ -11,19 +11,19 @@ use Rattle.gt_types.specs.declared.Dir.{Dir}
 use Rattle.gt_types.specs.declared.Dir.TheVariants.{Read, Write}
 use Rattle.gt_words.proofs.Records.{IsIn-without_pin}
 use Rattle.gt_words.specs.Answers.{AddsToEntry, AddsToHeader}
-use Rattle.gt_word_table.specs.History.{StepHistory}
+use Rattle.gt_word_history.specs.History.{StepHistory}
 use Rattle.gt_words.specs.Keeping.{Holds, HoldsOneMore, Keeps, KeepsOtherRows, KeepsPins, KeepsRecords, KeepsRows}
 use Rattle.gt_words.specs.Keeping.{SeesNoEarlier, generation_in, held, is_pin_of}
-use Rattle.gt_word_table.specs.Views.{IsAmong, LivePin, Seen, is_pin, is_same_dir, last_record, own, own_header}
-use Rattle.gt_word_table.specs.Views.{live_pins}
-use Rattle.gt_word_table.specs.Views.{pins_like, seen, steps_on, steps_on_header, stored_body, stored_header, with_body}
-use Rattle.gt_word_table.specs.Views.{without_pin}
-use Rattle.gt_word_table.specs.declared.view.EntryRecord.{EntryRecord}
-use Rattle.gt_word_table.specs.declared.view.EntryStep.{EntryStep}
-use Rattle.gt_word_table.specs.declared.view.EntryStep.TheVariants.{Pinned, Unpinned}
-use Rattle.gt_word_table.specs.declared.view.HeaderStep.{HeaderStep}
-use Rattle.gt_word_table.specs.declared.view.View.{View}
-use Rattle.gt_word_table.specs.declared.view.HeaderStep.TheVariants as header
+use Rattle.gt_word_history.specs.Views.{IsAmong, LivePin, Seen, is_pin, is_same_dir, last_record, own, own_header}
+use Rattle.gt_word_history.specs.Views.{live_pins}
+use Rattle.gt_word_history.specs.Views.{pins_like, seen, steps_on, steps_on_header, stored_body, stored_header, with_body}
+use Rattle.gt_word_history.specs.Views.{without_pin}
+use Rattle.gt_word_history.specs.declared.view.EntryRecord.{EntryRecord}
+use Rattle.gt_word_history.specs.declared.view.EntryStep.{EntryStep}
+use Rattle.gt_word_history.specs.declared.view.EntryStep.TheVariants.{Pinned, Unpinned}
+use Rattle.gt_word_history.specs.declared.view.HeaderStep.{HeaderStep}
+use Rattle.gt_word_history.specs.declared.view.View.{View}
+use Rattle.gt_word_history.specs.declared.view.HeaderStep.TheVariants as header
 
 -- a step that is no change and stores no body word
 pub record IsQuiet (m : EntryStep) : Type 0 where

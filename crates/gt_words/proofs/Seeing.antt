@@ -9,19 +9,19 @@ use Rattle.atomic_table.specs.Table.{State}
 use Rattle.gt_types.specs.declared.Dir.TheVariants.{Read, Write}
 use Rattle.gt_types.specs.declared.limits.TheConstants.{TABLE_ENTRIES}
 use Rattle.gt_words.proofs.HistorySteps.{same_part}
-use Rattle.gt_word_table.proofs.Order.{apart_test}
+use Rattle.gt_word_history.proofs.Order.{apart_test}
 use Rattle.gt_words.proofs.Lifts.{inside, part_there_is}
 use Rattle.gt_words.proofs.Looking.{saw_grown, saw_more}
-use Rattle.gt_word_table.proofs.Order.{part_else, part_here}
-use Rattle.gt_word_table.specs.History.{StepHistory, SaysWord, SaysFound, part_of, word_place_of, word_after, word_on}
+use Rattle.gt_word_history.proofs.Order.{part_else, part_here}
+use Rattle.gt_word_history.specs.History.{StepHistory, SaysWord, SaysFound, part_of, word_place_of, word_after, word_on}
 use Rattle.gt_words.specs.Laws.{WhatWasSeenIsListed}
-use Rattle.gt_word_table.specs.Rule.{HasStood, IsLawful, Layout, ShowsRecord, Stands, owner_steps, place, total_pins}
+use Rattle.gt_word_history.specs.Rule.{HasStood, IsLawful, Layout, ShowsRecord, Stands, owner_steps, place, total_pins}
 use Rattle.gt_words.specs.Sight.{SawRecord}
-use Rattle.gt_word_table.specs.Views.{earlier_records, entry_steps, last_record, seen, steps_on}
-use Rattle.gt_word_table.specs.declared.view.EntryStep.{EntryStep}
-use Rattle.gt_word_table.specs.declared.view.SeatStep.{SeatStep}
-use Rattle.gt_word_table.specs.declared.view.SeatStep.TheVariants.{Entry, Frame, Header}
-use Rattle.gt_word_table.specs.declared.view.View.{View}
+use Rattle.gt_word_history.specs.Views.{earlier_records, entry_steps, last_record, seen, steps_on}
+use Rattle.gt_word_history.specs.declared.view.EntryStep.{EntryStep}
+use Rattle.gt_word_history.specs.declared.view.SeatStep.{SeatStep}
+use Rattle.gt_word_history.specs.declared.view.SeatStep.TheVariants.{Entry, Frame, Header}
+use Rattle.gt_word_history.specs.declared.view.View.{View}
 
 module _ (k : Layout) (t r : ℕ) where
   -- the steps on the entry of the seat at a position, out of a history

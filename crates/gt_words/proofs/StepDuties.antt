@@ -29,29 +29,29 @@ use Rattle.gt_words.specs.Conditions.{HasLooked, Holds, IsIdleOf, MayPin}
 use Rattle.gt_entry.specs.Permits.{is_copying}
 use Rattle.gt_types.specs.declared.DomId.{DomId}
 use Rattle.std.proofs.lemmas.Bool.{and_parts}
-use Rattle.gt_word_table.specs.Controls.{ForwardsPin, IsValid, PermitsPin, demoted_word, generation_of, invalid_word}
-use Rattle.gt_word_table.specs.Controls.{pins_in, promoted_word, withdrawn_word}
-use Rattle.gt_word_table.specs.Events.{IsByOwner}
-use Rattle.gt_word_table.specs.History.{IsOfRecord, SaysFound, owner_steps, left_on_entry, word_place_of, word_on}
-use Rattle.gt_word_table.specs.Rule.{id_at, IsRecord, Layout, Shows, ShowsEntry, place, total_pins}
-use Rattle.gt_word_table.specs.Steps.{StepKind, TakesStep, changed, entry_kind, exchanging, half_index, looking}
-use Rattle.gt_word_table.specs.Steps.{missed, reading, storing, taken, tells, unpinning}
+use Rattle.gt_word_history.specs.Controls.{ForwardsPin, IsValid, PermitsPin, demoted_word, generation_of, invalid_word}
+use Rattle.gt_word_history.specs.Controls.{pins_in, promoted_word, withdrawn_word}
+use Rattle.gt_word_history.specs.Events.{IsByOwner}
+use Rattle.gt_word_history.specs.History.{IsOfRecord, SaysFound, owner_steps, left_on_entry, word_place_of, word_on}
+use Rattle.gt_word_history.specs.Rule.{id_at, IsRecord, Layout, Shows, ShowsEntry, place, total_pins}
+use Rattle.gt_word_history.specs.Steps.{StepKind, TakesStep, changed, entry_kind, exchanging, half_index, looking}
+use Rattle.gt_word_history.specs.Steps.{missed, reading, storing, taken, tells, unpinning}
 use Rattle.gt_words.specs.Sight.{SawRecord}
-use Rattle.gt_word_table.specs.Views.{earlier_records, invalid_at, last_of, last_record, last_seen, live_pins}
-use Rattle.gt_word_table.specs.Views.{record_seen}
-use Rattle.gt_word_table.specs.Views.{seen}
-use Rattle.gt_word_table.specs.Views.{steps_on, stored_body, with_step}
+use Rattle.gt_word_history.specs.Views.{earlier_records, invalid_at, last_of, last_record, last_seen, live_pins}
+use Rattle.gt_word_history.specs.Views.{record_seen}
+use Rattle.gt_word_history.specs.Views.{seen}
+use Rattle.gt_word_history.specs.Views.{steps_on, stored_body, with_step}
 use Rattle.gt_entry.specs.declared.change.EntryChange.{EntryChange}
-use Rattle.gt_word_table.specs.declared.view.EntryStep.{EntryStep}
-use Rattle.gt_word_table.specs.declared.view.EntryStep.TheVariants.{Changed, Looked, ReadBody, StoredBody, Unpinned}
+use Rattle.gt_word_history.specs.declared.view.EntryStep.{EntryStep}
+use Rattle.gt_word_history.specs.declared.view.EntryStep.TheVariants.{Changed, Looked, ReadBody, StoredBody, Unpinned}
 use Rattle.gt_entry.specs.declared.change.BodyWord.{BodyWord}
 use Rattle.gt_entry.specs.declared.change.BodyWord.TheVariants.{First, Second}
-use Rattle.gt_word_table.specs.declared.view.Purpose.{Purpose}
-use Rattle.gt_word_table.specs.declared.view.EntryRecord.{EntryRecord}
-use Rattle.gt_word_table.specs.declared.view.View.{View}
-use Rattle.gt_word_table.specs.declared.rule.TheConstants.{DOMAIN_WORDS}
+use Rattle.gt_word_history.specs.declared.view.Purpose.{Purpose}
+use Rattle.gt_word_history.specs.declared.view.EntryRecord.{EntryRecord}
+use Rattle.gt_word_history.specs.declared.view.View.{View}
+use Rattle.gt_word_history.specs.declared.rule.TheConstants.{DOMAIN_WORDS}
 use Rattle.gt_entry.specs.declared.change.EntryChange.TheVariants as change
-use Rattle.gt_word_table.specs.declared.view.Purpose.TheVariants as purpose
+use Rattle.gt_word_history.specs.declared.view.Purpose.TheVariants as purpose
 use Rattle.gt_types.specs.declared.limits.TheConstants.{LAST_GENERATION, MAX_PINS, TABLE_ENTRIES}
 
 -- a step is allowed that leaves words and views which show the state that its event makes

@@ -36,25 +36,25 @@ use Rattle.gt_words.specs.Answers.{LooksAtBody, LooksAtControl}
 use Rattle.gt_words.specs.Conditions.{MayPin}
 use Rattle.gt_words.specs.Answers.{MissesBusy, MissesChange, MissesPin, Pins, Publishes, Revokes}
 use Rattle.gt_words.specs.Answers.{StepsOnControl, StoresBody, Unpins}
-use Rattle.gt_word_table.specs.Controls.{IsTurnable, IsValid, generation_of, pins_in}
-use Rattle.gt_word_table.specs.History.{StepHistory, part_of}
-use Rattle.gt_word_table.specs.Rule.{IsRecord, Layout, ShowsEntry, ShowsRecord, Stands, owner_steps, place, total_pins}
+use Rattle.gt_word_history.specs.Controls.{IsTurnable, IsValid, generation_of, pins_in}
+use Rattle.gt_word_history.specs.History.{StepHistory, part_of}
+use Rattle.gt_word_history.specs.Rule.{IsRecord, Layout, ShowsEntry, ShowsRecord, Stands, owner_steps, place, total_pins}
 use Rattle.gt_words.specs.Sight.{SawRecord}
-use Rattle.gt_word_table.specs.Steps.{TakesStep, changed, changed_word, exchanging, half_index, missed, on_entry}
-use Rattle.gt_word_table.specs.Steps.{taken}
-use Rattle.gt_word_table.specs.Views.{IsAmong, LivePin, Seen, earlier_records, entry_steps, is_half, last_of}
-use Rattle.gt_word_table.specs.Views.{last_record}
-use Rattle.gt_word_table.specs.Views.{last_seen, own, own_body, pin_count, live_pins, record_seen, seen, steps_on}
-use Rattle.gt_word_table.specs.Views.{steps_on_header, stored_body, with_step}
+use Rattle.gt_word_history.specs.Steps.{TakesStep, changed, changed_word, exchanging, half_index, missed, on_entry}
+use Rattle.gt_word_history.specs.Steps.{taken}
+use Rattle.gt_word_history.specs.Views.{IsAmong, LivePin, Seen, earlier_records, entry_steps, is_half, last_of}
+use Rattle.gt_word_history.specs.Views.{last_record}
+use Rattle.gt_word_history.specs.Views.{last_seen, own, own_body, pin_count, live_pins, record_seen, seen, steps_on}
+use Rattle.gt_word_history.specs.Views.{steps_on_header, stored_body, with_step}
 use Rattle.gt_entry.specs.declared.change.EntryChange.{EntryChange}
-use Rattle.gt_word_table.specs.declared.view.EntryStep.{EntryStep}
-use Rattle.gt_word_table.specs.declared.view.EntryStep.TheVariants.{ChangeMissed, Changed, Looked, PinMissed, Pinned}
-use Rattle.gt_word_table.specs.declared.view.EntryStep.TheVariants.{ReadBody, StoredBody, Unpinned}
+use Rattle.gt_word_history.specs.declared.view.EntryStep.{EntryStep}
+use Rattle.gt_word_history.specs.declared.view.EntryStep.TheVariants.{ChangeMissed, Changed, Looked, PinMissed, Pinned}
+use Rattle.gt_word_history.specs.declared.view.EntryStep.TheVariants.{ReadBody, StoredBody, Unpinned}
 use Rattle.gt_entry.specs.declared.change.BodyWord.{BodyWord}
 use Rattle.gt_entry.specs.declared.change.BodyWord.TheVariants.{First, Second}
-use Rattle.gt_word_table.specs.declared.view.Purpose.{Purpose}
-use Rattle.gt_word_table.specs.declared.view.EntryRecord.{EntryRecord}
-use Rattle.gt_word_table.specs.declared.view.View.{View}
+use Rattle.gt_word_history.specs.declared.view.Purpose.{Purpose}
+use Rattle.gt_word_history.specs.declared.view.EntryRecord.{EntryRecord}
+use Rattle.gt_word_history.specs.declared.view.View.{View}
 use Rattle.gt_entry.specs.declared.change.EntryChange.TheVariants.{Demote, Publish, Revoke}
 use Rattle.gt_types.specs.declared.limits.TheConstants.{TABLE_ENTRIES}
 

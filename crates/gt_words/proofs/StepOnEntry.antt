@@ -7,13 +7,13 @@ use lib.Seq.{map-set}
 use Rattle.atomic_table.proofs.Lists.{at_map, set_again}
 use Rattle.gt_words.proofs.Lists.{whose_at, whose_here}
 use Rattle.gt_words.proofs.OneEntry.{same_owner}
-use Rattle.gt_word_table.specs.Events.{IsByOwner, entry_after}
-use Rattle.gt_word_table.specs.History.{entry_by}
-use Rattle.gt_word_table.specs.Rule.{owner_steps}
-use Rattle.gt_word_table.specs.Views.{LivePin, last_record, live_pins, stored_body, without_pin}
-use Rattle.gt_word_table.specs.declared.view.EntryStep.{EntryStep}
-use Rattle.gt_word_table.specs.declared.view.EntryStep.TheVariants.{ChangeMissed, Changed, Looked, PinMissed, Pinned}
-use Rattle.gt_word_table.specs.declared.view.EntryStep.TheVariants.{ReadBody, StoredBody, Unpinned}
+use Rattle.gt_word_history.specs.Events.{IsByOwner, entry_after}
+use Rattle.gt_word_history.specs.History.{entry_by}
+use Rattle.gt_word_history.specs.Rule.{owner_steps}
+use Rattle.gt_word_history.specs.Views.{LivePin, last_record, live_pins, stored_body, without_pin}
+use Rattle.gt_word_history.specs.declared.view.EntryStep.{EntryStep}
+use Rattle.gt_word_history.specs.declared.view.EntryStep.TheVariants.{ChangeMissed, Changed, Looked, PinMissed, Pinned}
+use Rattle.gt_word_history.specs.declared.view.EntryStep.TheVariants.{ReadBody, StoredBody, Unpinned}
 use Rattle.gt_entry.specs.declared.change.BodyWord.TheVariants.{First, Second}
 
 module _ (g t : ℕ) (hs : List (List EntryStep)) (i : ℕ) (h : List EntryStep) (at : get_elem? hs i ≡ some h) where

@@ -4,16 +4,16 @@ use Rattle.gt_words.specs.Prelude.{header_of, header_word, size_of, unit_of, Ent
 use Rattle.gt_words.specs.Prelude.{TABLE_ENTRIES, EntryChange, EntryStep}
 use Rattle.gt_words.specs.Prelude.{ChangeMissed, Changed, Looked, PinMissed, Pinned, ReadBody, StoredBody, Unpinned}
 use Rattle.gt_words.specs.Prelude.{BodyWord, HeaderStep, View, Pin, Demote, Publish, Revoke}
-use Rattle.gt_word_table.specs.Controls.{generation_of, pins_in}
+use Rattle.gt_word_history.specs.Controls.{generation_of, pins_in}
 use Rattle.gt_words.specs.Keeping.{Holds, HoldsOneMore, Keeps, KeepsOtherRows, KeepsPins, KeepsRecords, KeepsRows}
 use Rattle.gt_words.specs.Keeping.{SeesNoEarlier}
-use Rattle.gt_word_table.specs.History.{StepHistory, entry_made}
-use Rattle.gt_word_table.specs.Rule.{IsKeptHeader, Layout, header_place, place}
-use Rattle.gt_word_table.specs.Steps.{TakesStep, changed, changed_word, half_index, on_entry, on_header}
-use Rattle.gt_word_table.specs.Views.{IsAmong, last_of, last_seen, own_body, own_header, own_list, live_pins}
-use Rattle.gt_word_table.specs.Views.{record_seen}
-use Rattle.gt_word_table.specs.Views.{steps_on, steps_on_header, with_step}
-use Rattle.gt_word_table.specs.declared.view.HeaderStep.TheVariants as header
+use Rattle.gt_word_history.specs.History.{StepHistory, entry_made}
+use Rattle.gt_word_history.specs.Rule.{IsKeptHeader, Layout, header_place, place}
+use Rattle.gt_word_history.specs.Steps.{TakesStep, changed, changed_word, half_index, on_entry, on_header}
+use Rattle.gt_word_history.specs.Views.{IsAmong, last_of, last_seen, own_body, own_header, own_list, live_pins}
+use Rattle.gt_word_history.specs.Views.{record_seen}
+use Rattle.gt_word_history.specs.Views.{steps_on, steps_on_header, with_step}
+use Rattle.gt_word_history.specs.declared.view.HeaderStep.TheVariants as header
 use Rattle.gt_words.specs.Conditions.{Board, SeatOf, IsSeatOf, position_at, IsWordOf, IsBusyOf, MayPin, HasNoPins}
 use Rattle.gt_words.specs.Conditions.{HasNoWritePins, IsNotEarlier}
 pub use Rattle.gt_roster.specs.Starting.{IsStartFault}

@@ -5,16 +5,16 @@ use Rattle.gt_words.specs.Prelude.{word_of, control_of, Entry, Invalid, Header, 
 use Rattle.gt_words.specs.Prelude.{Config, IsWithinLimits, LAST_GENERATION, MAX_PINS, TABLE_ENTRIES}
 use Rattle.gt_words.specs.Prelude.{EntryChange, First}
 use Rattle.gt_words.specs.Prelude.{Second, EntryRecord, View, Demote, Promote, Publish, Revoke, Withdraw}
-use Rattle.gt_word_table.specs.Controls.{ForwardsPin, IsValid, LeadsTo, PermitsPin, generation_of, pins_in}
+use Rattle.gt_word_history.specs.Controls.{ForwardsPin, IsValid, LeadsTo, PermitsPin, generation_of, pins_in}
 pub use Rattle.gt_words.specs.Keeping.{Holds, HoldsOneMore, Keeps, KeepsOtherRows, KeepsPins, KeepsRecords, KeepsRows}
 pub use Rattle.gt_words.specs.Keeping.{SeesNoEarlier, seen_generation}
-use Rattle.gt_word_table.specs.History.{StepHistory, part_of}
-use Rattle.gt_word_table.specs.Rule.{Layout, Shows, id_at, layout_of, place, position_in}
-pub use Rattle.gt_word_table.specs.Rule.{initial}
-pub use Rattle.gt_word_table.specs.Places.{Board, IsWide}
-use Rattle.gt_word_table.specs.Views.{HasBody, IsAmong, entry_steps, LivePin, last_of, last_seen, own_body, pin_count}
-use Rattle.gt_word_table.specs.Views.{live_pins}
-use Rattle.gt_word_table.specs.Views.{record_seen, seen, steps_on}
+use Rattle.gt_word_history.specs.History.{StepHistory, part_of}
+use Rattle.gt_word_history.specs.Rule.{Layout, Shows, id_at, layout_of, place, position_in}
+pub use Rattle.gt_word_history.specs.Rule.{initial}
+pub use Rattle.gt_word_history.specs.Places.{Board, IsWide}
+use Rattle.gt_word_history.specs.Views.{HasBody, IsAmong, entry_steps, LivePin, last_of, last_seen, own_body, pin_count}
+use Rattle.gt_word_history.specs.Views.{live_pins}
+use Rattle.gt_word_history.specs.Views.{record_seen, seen, steps_on}
 
 -- what clauses see of a seat: its table of words, its domain and its view
 pub record SeatOf : Type 0 where

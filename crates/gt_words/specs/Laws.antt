@@ -9,18 +9,18 @@ use Rattle.gt_words.specs.Prelude.{Config, DomainConfig, TABLE_ENTRIES, Dir, Ent
 use Rattle.gt_words.specs.Prelude.{View}
 use Rattle.gt_words.specs.Conditions.{Board, HasDomain, IsSeatOf, SeatOf, position_at}
 use Rattle.gt_words.specs.Answers.{Publishes, Revokes}
-use Rattle.gt_word_table.specs.Controls.{generation_of, pins_in}
-use Rattle.gt_word_table.specs.Events.{TookPlace}
-use Rattle.gt_word_table.specs.History.{StepHistory}
-pub use Rattle.gt_word_table.specs.Order.{AllowedStepsSayWhatIsThere, HistoryIsOne, StepsAreTakenThen}
-use Rattle.gt_word_table.specs.Rule.{IsLawful, IsNextEntry, IsRevocation, Layout, Shows, header_place, id_at}
-use Rattle.gt_word_table.specs.Rule.{layout_of, owner_steps, place, position_in}
+use Rattle.gt_word_history.specs.Controls.{generation_of, pins_in}
+use Rattle.gt_word_history.specs.Events.{TookPlace}
+use Rattle.gt_word_history.specs.History.{StepHistory}
+pub use Rattle.gt_word_history.specs.Order.{AllowedStepsSayWhatIsThere, HistoryIsOne, StepsAreTakenThen}
+use Rattle.gt_word_history.specs.Rule.{IsLawful, IsNextEntry, IsRevocation, Layout, Shows, header_place, id_at}
+use Rattle.gt_word_history.specs.Rule.{layout_of, owner_steps, place, position_in}
 use Rattle.gt_words.specs.Sight.{SawRecord}
-use Rattle.gt_word_table.specs.Steps.{on_entry}
-use Rattle.gt_word_table.specs.Views.{IsAmong, LivePin, earlier_records, exchanged, last_of, last_record, live_pins}
-use Rattle.gt_word_table.specs.Views.{seen}
-use Rattle.gt_word_table.specs.Views.{steps_on}
-use Rattle.gt_word_table.specs.Views.{with_step}
+use Rattle.gt_word_history.specs.Steps.{on_entry}
+use Rattle.gt_word_history.specs.Views.{IsAmong, LivePin, earlier_records, exchanged, last_of, last_record, live_pins}
+use Rattle.gt_word_history.specs.Views.{seen}
+use Rattle.gt_word_history.specs.Views.{steps_on}
+use Rattle.gt_word_history.specs.Views.{with_step}
 
 -- a domain belongs to the run exactly if the configuration has it
 abbrev pub DomainsAreOfRun : Type 0
@@ -32,11 +32,11 @@ DomainsAreOfRun =
 abbrev pub DomainsStandThere : Type 0
 DomainsStandThere = (k : Layout) (d : DomId) → HasDomain k d → id_at k.ids (position_in k.ids d) ≡ d
 
--- a seat is at the position of its domain
+-- if all domains have different numbers, a seat is at the position of its domain
 abbrev pub SeatPositionIsItsDomains : Type 0
 SeatPositionIsItsDomains =
-    (c : Config) (b : Board) (s : SeatOf) → IsWithinLimits c → b.layout ≡ layout_of c → IsSeatOf b s
-    → s.view.position ≡ position_at b s.dom
+    (c : Config) (b : Board) (s : SeatOf) → AllPairs (λ d e. d.id.0 ≢ e.id.0) c.domains.items → b.layout ≡ layout_of c
+    → IsSeatOf b s → s.view.position ≡ position_at b s.dom
 
 -- in each state that words and views show, pins of one entry and generation have one record, whoever has them
 abbrev pub PinsHaveOneRecord : Type 0
@@ -180,13 +180,13 @@ found_there n len inside = grind (arith, nat_tests)
 
 -- a seat's domain is found at the seat's position
 pub own_position : (key : Config) (k : Layout) (ids : List DomId) (p : ℕ) (dom : DomId) → layout_of key ≡ k
-    → IsWithinLimits key → ids ≡ (layout_of key).ids → p < length k.ids → id_at k.ids p ≡ dom → p ≡ position_in ids dom
-own_position key k ids p dom is limits same inside named = let xs : List DomId = (layout_of key).ids in
+    → AllPairs (λ d e. d.id.0 ≢ e.id.0) key.domains.items → ids ≡ (layout_of key).ids → p < length k.ids → id_at k.ids p ≡ dom → p ≡ position_in ids dom
+own_position key k ids p dom is distinct same inside named = let xs : List DomId = (layout_of key).ids in
     let all : List DomainConfig = key.domains.items in
     let inside' : p < length xs = subst (λ (u : Layout). p < length u.ids) (sym is) inside in
     let named' : id_at xs p ≡ dom = subst (λ (u : Layout). id_at u.ids p ≡ dom) (sym is) named in
     let l = length-ids all in let found =
-    position_or_len-id xs p inside' (λ i below. distinct_ids all limits.distinct i p below (omega arith)) in
+    position_or_len-id xs p inside' (λ i below. distinct_ids all distinct i p below (omega arith)) in
     let at : position_in xs (id_at xs p) ≡ p =
     ap (λ (n : ℕ). unwrap_or (cond (nat_lt n (length xs)) (Some n) None) (length xs)) found
     ∙ found_there p (length xs) inside' in
@@ -251,8 +251,8 @@ domain_of_run c d = (λ e. unwrapped _ _ (among c.domains.items d e), λ lt. nam
 
 -- a seat is at the position of its domain
 pub seat_at : SeatPositionIsItsDomains
-seat_at c b s limits layout is =
-    own_position c b.layout b.layout.ids s.view.position s.dom (sym layout) limits
+seat_at c b s distinct layout is =
+    own_position c b.layout b.layout.ids s.view.position s.dom (sym layout) distinct
     (ap (λ (k : Layout). k.ids) layout) is.inside is.named
 
 -- pins of one entry and generation have one record

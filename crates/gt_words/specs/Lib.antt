@@ -4,3 +4,4 @@ pub mod Answers
 pub mod Conditions
 pub mod Laws
 pub mod Prelude
+pub mod Frameless

@@ -25,16 +25,16 @@ pub use Rattle.gt_types.specs.declared.config.DomainConfig.{DomainConfig}
 pub use Rattle.gt_types.specs.declared.config.StartFault.{StartFault}
 pub use Rattle.gt_types.specs.declared.limits.TheConstants.{LAST_GENERATION, MAX_DOMAINS, MAX_PINS, MAX_TABLE_FRAMES}
 pub use Rattle.gt_types.specs.declared.limits.TheConstants.{TABLE_ENTRIES}
-pub use Rattle.gt_word_table.specs.declared.view.EntryRecord.{EntryRecord}
-pub use Rattle.gt_word_table.specs.declared.view.EntryStep.{EntryStep}
-pub use Rattle.gt_word_table.specs.declared.view.EntryStep.TheVariants.{ChangeMissed, Changed, Looked, PinMissed}
-pub use Rattle.gt_word_table.specs.declared.view.EntryStep.TheVariants.{Pinned}
-pub use Rattle.gt_word_table.specs.declared.view.EntryStep.TheVariants.{ReadBody, StoredBody, Unpinned}
-pub use Rattle.gt_word_table.specs.declared.view.HeaderStep.{HeaderStep}
-pub use Rattle.gt_word_table.specs.declared.view.Purpose.{Purpose}
-pub use Rattle.gt_word_table.specs.declared.view.SeatStep.{SeatStep}
-pub use Rattle.gt_word_table.specs.declared.view.View.{View}
-pub use Rattle.gt_word_table.specs.declared.rule.TheConstants.{DOMAIN_WORDS, ENTRY_WORDS}
+pub use Rattle.gt_word_history.specs.declared.view.EntryRecord.{EntryRecord}
+pub use Rattle.gt_word_history.specs.declared.view.EntryStep.{EntryStep}
+pub use Rattle.gt_word_history.specs.declared.view.EntryStep.TheVariants.{ChangeMissed, Changed, Looked, PinMissed}
+pub use Rattle.gt_word_history.specs.declared.view.EntryStep.TheVariants.{Pinned}
+pub use Rattle.gt_word_history.specs.declared.view.EntryStep.TheVariants.{ReadBody, StoredBody, Unpinned}
+pub use Rattle.gt_word_history.specs.declared.view.HeaderStep.{HeaderStep}
+pub use Rattle.gt_word_history.specs.declared.view.Purpose.{Purpose}
+pub use Rattle.gt_word_history.specs.declared.view.SeatStep.{SeatStep}
+pub use Rattle.gt_word_history.specs.declared.view.View.{View}
+pub use Rattle.gt_word_history.specs.declared.rule.TheConstants.{DOMAIN_WORDS, ENTRY_WORDS}
 pub use Rattle.gt_words.specs.declared.words.Pin.{Pin}
 pub use Rattle.std.proofs.Common.{ap, arith, eq-eqb, get_or, inl, inr, ne_eqb, refl, subst, sym, ⊎_elim, ◌∙◌}
 pub use Rattle.std.proofs.lemmas.Bool.{lt-ltb}

@@ -3,8 +3,8 @@ use Rattle.std.specs.Prelude.{◌≡◌, ℕ, ◌+◌, ◌*◌, ◌<◌, List, �
 use Rattle.gt_entry.specs.Spelling.{word_of}
 use Rattle.gt_entry.specs.declared.entry.Entry.{Entry}
 use Rattle.gt_entry.specs.declared.entry.Entry.TheVariants.{Invalid, Page, Sub, Via}
-use Rattle.gt_word_table.specs.Views.{IsAmong, Seen}
-use Rattle.gt_word_table.specs.declared.view.EntryRecord.{EntryRecord}
+use Rattle.gt_word_history.specs.Views.{IsAmong, Seen}
+use Rattle.gt_word_history.specs.declared.view.EntryRecord.{EntryRecord}
 
 -- the body values read are those of the entry
 abbrev pub Agrees : Entry → Option ℕ → Option ℕ → Type 0

@@ -6,17 +6,18 @@ ghost use Rattle.gt_words.specs.Answers.{MissesChange, MissesPin, Pins, Publishe
 ghost use Rattle.gt_words.specs.Answers.{Unpins};
 ghost use Rattle.gt_words.specs.Conditions.{CanDemote, CanPin, CanPublish, CanRevoke, CanTurn, CanWithdraw};
 ghost use Rattle.gt_words.specs.Conditions.{CountsPins, Holds, IsWordOf};
-ghost use Rattle.gt_word_table.specs.Controls.{IsTurnable, generation_of, turned_word, withdrawn_word};
-ghost use Rattle.gt_word_table.specs.Places.{IsInside, IsSamePlace};
-ghost use Rattle.gt_word_table.specs.Rule.{IsKeptHeader};
-ghost use Rattle.gt_word_table.specs.Views.{last_of};
+ghost use Rattle.gt_word_history.specs.Controls.{IsTurnable, generation_of, turned_word, withdrawn_word};
+ghost use Rattle.gt_word_history.specs.Places.{IsInside, IsSamePlace};
+ghost use Rattle.gt_word_history.specs.Rule.{IsKeptHeader};
+ghost use Rattle.gt_word_history.specs.Views.{last_of};
 
 use gt_entry::{BodyWord, Control, Entry, EntryChange, Header, pin_unit};
+use gt_shared_table::{SharedTable, TableSeat};
 use gt_types::{Dir, LAST_GENERATION};
-use gt_word_table::{EntryAt, Purpose, TableSeat, WordTable, idle_word};
+use gt_word_history::{EntryAt, Purpose, idle_word};
 
 /// Loads a domain's header word.
-pub(crate) fn load_header(words: &WordTable, seat: &mut TableSeat, at: usize) -> u64
+pub(crate) fn load_header(words: &SharedTable, seat: &mut TableSeat, at: usize) -> u64
     requires mine { seat.old.table ≡ words.now.table }
     requires domain { at < words.now.layout.domains }
     ensures seat { IsSamePlace seat.old seat.new }
@@ -26,7 +27,7 @@ pub(crate) fn load_header(words: &WordTable, seat: &mut TableSeat, at: usize) ->
 }
 
 /// Stores the owner's header.
-pub(crate) fn store_header(words: &WordTable, seat: &mut TableSeat, at: usize, header: Header)
+pub(crate) fn store_header(words: &SharedTable, seat: &mut TableSeat, at: usize, header: Header)
     requires mine { (seat.old.table ≡ words.now.table) × (seat.old.view.position ≡ at) }
     requires domain { at < words.now.layout.domains }
     requires header { IsKeptHeader header }
@@ -37,7 +38,7 @@ pub(crate) fn store_header(words: &WordTable, seat: &mut TableSeat, at: usize, h
 }
 
 /// Loads the control word of an entry.
-pub(crate) fn load_control(words: &WordTable, seat: &mut TableSeat, at: EntryAt) -> u64
+pub(crate) fn load_control(words: &SharedTable, seat: &mut TableSeat, at: EntryAt) -> u64
     requires mine { seat.old.table ≡ words.now.table }
     requires entry { IsInside words.now.layout at }
     ensures seat { IsSamePlace seat.old seat.new }
@@ -48,7 +49,12 @@ pub(crate) fn load_control(words: &WordTable, seat: &mut TableSeat, at: EntryAt)
 }
 
 /// Loads a body word of an entry.
-pub(crate) fn load_body(words: &WordTable, seat: &mut TableSeat, at: EntryAt, half: BodyWord) -> u64
+pub(crate) fn load_body(
+    words: &SharedTable,
+    seat: &mut TableSeat,
+    at: EntryAt,
+    half: BodyWord,
+) -> u64
     requires mine { seat.old.table ≡ words.now.table }
     requires entry { IsInside words.now.layout at }
     ensures seat { IsSamePlace seat.old seat.new }
@@ -59,7 +65,7 @@ pub(crate) fn load_body(words: &WordTable, seat: &mut TableSeat, at: EntryAt, ha
 
 /// Takes a pin if the control word still is `looked`. Otherwise returns the word found.
 pub(crate) fn pin(
-    words: &WordTable,
+    words: &SharedTable,
     seat: &mut TableSeat,
     at: EntryAt,
     looked: u64,
@@ -81,7 +87,13 @@ pub(crate) fn pin(
 }
 
 /// Releases a pin.
-pub(crate) fn unpin(words: &WordTable, seat: &mut TableSeat, at: EntryAt, dir: Dir, generation: u64)
+pub(crate) fn unpin(
+    words: &SharedTable,
+    seat: &mut TableSeat,
+    at: EntryAt,
+    dir: Dir,
+    generation: u64,
+)
     requires mine { seat.old.table ≡ words.now.table }
     requires entry { IsInside words.now.layout at }
     requires held { Holds at.position at.gref dir generation seat.old.view }
@@ -93,7 +105,7 @@ pub(crate) fn unpin(words: &WordTable, seat: &mut TableSeat, at: EntryAt, dir: D
 
 /// Stores a body word of the owner's invalid entry.
 pub(crate) fn store_body(
-    words: &WordTable,
+    words: &SharedTable,
     seat: &mut TableSeat,
     at: EntryAt,
     half: BodyWord,
@@ -111,7 +123,7 @@ pub(crate) fn store_body(
 /// Publishes an entry whose body words the owner has stored, if the invalid entry has no pins. Otherwise returns the
 /// word found.
 pub(crate) fn grant(
-    words: &WordTable,
+    words: &SharedTable,
     seat: &mut TableSeat,
     at: EntryAt,
     word: u64,
@@ -134,7 +146,7 @@ pub(crate) fn grant(
 
 /// Makes the owner's entry invalid if it has no pins. Otherwise returns the word found.
 pub(crate) fn revoke(
-    words: &WordTable,
+    words: &SharedTable,
     seat: &mut TableSeat,
     at: EntryAt,
     word: u64,
@@ -155,7 +167,7 @@ pub(crate) fn revoke(
 
 /// Makes the owner's entry invalid and leaves its pins, if its word still is `word`. Otherwise returns the word found.
 pub(crate) fn withdraw(
-    words: &WordTable,
+    words: &SharedTable,
     seat: &mut TableSeat,
     at: EntryAt,
     word: u64,
@@ -177,7 +189,7 @@ pub(crate) fn withdraw(
 /// Makes the owner's entry read-only if its word, which has no write pins, still is `word`. Otherwise returns the word
 /// found.
 pub(crate) fn demote(
-    words: &WordTable,
+    words: &SharedTable,
     seat: &mut TableSeat,
     at: EntryAt,
     word: u64,
@@ -198,7 +210,7 @@ pub(crate) fn demote(
 
 /// Makes the owner's entry writable if its word still is `word`. Otherwise returns the word found.
 pub(crate) fn promote(
-    words: &WordTable,
+    words: &SharedTable,
     seat: &mut TableSeat,
     at: EntryAt,
     word: u64,

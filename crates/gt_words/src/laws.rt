@@ -1,7 +1,7 @@
 //! Consequences of the definitions, for callers. A law does nothing; its contract is the theorem.
 ghost use Rattle.gt_words.specs.Laws.{DomainsAreOfRun, DomainsStandThere, PastPinsAreRefused, PinsAreOfEntries};
 ghost use Rattle.gt_words.specs.Laws.{AllowedStepsSayWhatIsThere, EachStepHappened, HistoryIsOne};
-ghost use Rattle.gt_word_table.specs.Joining.{HoldersLearn, SeatsJoin, StepsLift};
+ghost use Rattle.gt_word_history.specs.Joining.{HoldersLearn, SeatsJoin, StepsLift};
 ghost use Rattle.gt_words.specs.Laws.{NoPinOutlivesItsRecord, PinsHaveOneRecord};
 ghost use Rattle.gt_words.specs.Laws.{PinsLeftAreCounted, SeatPositionIsItsDomains};
 ghost use Rattle.gt_words.specs.Laws.{StepsAreTakenThen, WhatWasSeenIsListed, WordsFollowViews};

@@ -7,8 +7,8 @@
 //! The contract of each call names the state in which its step was made, and what the step changed. All steps of all
 //! domains have one order. Views and steps cost nothing at run time. Only `Words::new` allocates, and no call waits.
 //!
-//! It uses `gt_word_table` (the table and its single steps), `gt_entry` (the words) and `gt_roster` (domains by their
-//! numbers).
+//! It uses `gt_shared_table` (the table and its single steps), `gt_word_history` (views and steps), `gt_entry` (the
+//! words) and `gt_roster` (domains by their numbers).
 #![tactic(auto)]
 
 mod calls;
@@ -16,8 +16,9 @@ mod laws;
 mod start;
 mod words;
 
-pub use gt_word_table::{
-    EntryRecord, EntryStep, FrameStep, Gathered, HeaderStep, Outlook, Purpose, SeatStep, View,
+pub use gt_shared_table::Gathered;
+pub use gt_word_history::{
+    EntryRecord, EntryStep, FrameStep, HeaderStep, Outlook, Purpose, SeatStep, View,
 };
 pub use laws::{
     every_allowed_step_says_what_is_there, every_domain_has_its_position,

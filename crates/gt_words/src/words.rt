@@ -4,11 +4,13 @@ ghost use Rattle.std.specs.Prelude.{position, ◌==◌, true};
 ghost use Rattle.gt_types.specs.Config.{IsWithinLimits};
 ghost use Rattle.gt_entry.specs.Words.{header_word};
 ghost use Rattle.gt_entry.specs.Entries.{IsEntry};
-ghost use Rattle.gt_word_table.specs.Controls.{generation_of};
-ghost use Rattle.gt_word_table.specs.Views.{own_header, own_table, last_of};
-ghost use Rattle.gt_word_table.specs.Rule.{layout_of, position_in, IsKeptHeader};
+ghost use Rattle.gt_word_history.specs.Controls.{generation_of};
+ghost use Rattle.gt_word_history.specs.Views.{own_header, own_table, last_of};
+ghost use Rattle.gt_word_history.specs.Places.{first_view};
+ghost use Rattle.gt_word_history.specs.Rule.{layout_of, position_in, IsKeptHeader};
 ghost use Rattle.gt_words.specs.Conditions.{Board, SeatOf, IsOfRun, IsSeatOf, IsSameSeat, HasDomain};
 ghost use Rattle.gt_words.specs.Answers.{IsNewSeat, IsStartFault};
+ghost use Rattle.gt_words.specs.Frameless.{IsFrameless};
 ghost use Rattle.gt_words.specs.Conditions.{IsEntryOf, position_at, with_version, with_frames, IsWordOf, Holds};
 ghost use Rattle.gt_words.specs.Conditions.{CanPin, CanPublish, CanRevoke, CanWithdraw, CanDemote, CanTurn, CountsPins};
 ghost use Rattle.gt_words.specs.Answers.{LooksAtHeader, LooksAtControl, LooksAtBody, StoresBody, StoresHeader};
@@ -19,9 +21,12 @@ use crate::calls;
 use crate::start::deal_seats;
 use gt_entry::{BodyWord, Control, Entry, EntryChange, Header};
 use gt_roster::Positions;
-use gt_types::{Config, Dir, DomId, GrantRef, MAX_TABLE_FRAMES, StartFault, TABLE_ENTRIES};
-use gt_word_table::{EntryAt, Gathered, TableSeat, WordTable};
-use std::alloc::{AllocError, Global};
+use gt_shared_table::{Gathered, SharedTable, TableSeat};
+use gt_types::{
+    Config, Dir, DomId, DomainConfig, GrantRef, MAX_TABLE_FRAMES, Memory, StartFault, TABLE_ENTRIES,
+};
+use gt_word_history::EntryAt;
+use std::alloc::Global;
 use std::marker::Model;
 
 /// A domain, and its position in the run.
@@ -80,7 +85,7 @@ impl Seat {
 /// The words of all entries and headers of a run.
 #[derive(Drop)]
 pub struct Words {
-    pub(crate) words: WordTable,
+    pub(crate) words: SharedTable,
     pub(crate) ids: Positions,
 }
 
@@ -123,7 +128,7 @@ impl Words {
         ensures words { IfOk result (λ r. r.0.layout ≡ layout_of config.now) }
         ensures count { IfOk result (λ r. length r.1.items ≡ length config.now.domains.items) }
         ensures seats { IfOk result (λ r. (i : ℕ) → i < length config.now.domains.items
-            → HoldsAt (λ s. IsNewSeat r.0 i s) r.1.items i) }
+            → HoldsAt (IsNewSeat r.0 i) r.1.items i) }
         ensures err { IfErr result (IsStartFault config.now) }
     {
         if let Err(fault) = config.check() {
@@ -131,7 +136,7 @@ impl Words {
         }
         match make_words(alloc, config) {
             Ok(made) => Ok(made),
-            Err(AllocError) => Err(StartFault::Memory),
+            Err(Memory) => Err(StartFault::Memory),
         }
     }
 
@@ -422,7 +427,7 @@ impl Words {
 
 impl Words {
     ghost use Rattle.std.specs.Prelude.{◌≡◌, ◌∷◌, []};
-    ghost use Rattle.gt_word_table.specs.Joining.{StandTogether, with_view};
+    ghost use Rattle.gt_word_history.specs.Joining.{StandTogether, with_view};
 
     /// Begins to gather the seats of a run, with the seat of the first domain. A gathered seat makes no more steps.
     pub fn gather(&self, first: Seat) -> Gathered
@@ -453,15 +458,42 @@ impl Words {
     }
 }
 
+// Copies a configuration, with no frames.
+fn without_frames(alloc: Global, config: &Config) -> Result<Config, Memory>
+    ensures { IfOk result (λ c. IsFrameless config.now c) }
+{
+    let mut domains = Vec::new(alloc);
+    'domains: for domain in &config.domains {
+        domains.push(DomainConfig {
+            frames: 0,
+            ..*domain
+        })?;
+    }
+    Ok(Config {
+        domains,
+        first_gen: config.first_gen,
+    })
+}
+
+// Makes the table of a run, without frames.
+fn table_of_words(alloc: Global, config: &Config) -> Result<(SharedTable, TableSeat), Memory>
+    requires { IsWithinLimits config.now }
+    ensures run { IfOk result (λ r. r.0.layout ≡ layout_of config.now) }
+    ensures seat { IfOk result (λ r. r.1 ≡ record { table = r.0.table; view = first_view (layout_of config.now) }) }
+{
+    let frameless = without_frames(alloc, config)?;
+    SharedTable::new(alloc, &frameless)
+}
+
 // Makes the words and the seats of a configuration within the limits.
-fn make_words(alloc: Global, config: &Config) -> Result<(Words, Vec<Seat>), AllocError>
+fn make_words(alloc: Global, config: &Config) -> Result<(Words, Vec<Seat>), Memory>
     requires { IsWithinLimits config.now }
     ensures words { IfOk result (λ r. r.0.layout ≡ layout_of config.now) }
     ensures count { IfOk result (λ r. length r.1.items ≡ length config.now.domains.items) }
     ensures seats { IfOk result (λ r. (i : ℕ) → i < length config.now.domains.items
-        → HoldsAt (λ s. IsNewSeat r.0 i s) r.1.items i) }
+        → HoldsAt (IsNewSeat r.0 i) r.1.items i) }
 {
-    let (words, first) = WordTable::new(alloc, config)?;
+    let (words, first) = table_of_words(alloc, config)?;
     let ids = Positions::new(alloc, config)?;
     let seats = deal_seats(alloc, &words, config, first)?;
     Ok((Words { words, ids }, seats))

@@ -105,17 +105,38 @@ fn perform<R: Runtime + AllocGlobal, I: Read>(
     }
 }
 
-// Does what the words ask for.
-fn obey<R: Runtime + AllocGlobal>(rt: &R, words: &[String]) -> Result<(), Failure> {
-    let Some((command, name)) = command_of(words) else {
-        return Err(Failure::Words);
-    };
+// The text of a command: the standard input, or a file. One type for both, so that the commands are compiled once.
+#[derive(Drop)]
+enum Source<I: Drop, F: Drop> {
+    Input(I),
+    File(F),
+}
+
+impl<I: Read + Drop, F: Read + Drop> Read for Source<I, F> {
+    fn read(&mut self, buf: &mut [u8]) -> io::Result<usize> {
+        match self {
+            Source::Input(reader) => reader.read(buf),
+            Source::File(file) => file.read(buf),
+        }
+    }
+}
+
+// Opens the file of this name, or the standard input if there is none.
+fn opened<R: Runtime>(rt: &R, name: Option<&str>) -> Result<Source<R::Reader, R::File>, Failure> {
     let Some(name) = name else {
-        return perform(rt, command, &mut rt.reader());
+        return Ok(Source::Input(rt.reader()));
     };
     match File::open(rt, name) {
-        Ok(mut file) => perform(rt, command, &mut file),
+        Ok(file) => Ok(Source::File(file)),
         Err(error) => Err(Failure::unopened(&error)),
+    }
+}
+
+// Does what the words ask for.
+fn obey<R: Runtime + AllocGlobal>(rt: &R, words: &[String]) -> Result<(), Failure> {
+    match command_of(words) {
+        Some((command, name)) => perform(rt, command, &mut opened(rt, name)?),
+        None => Err(Failure::Words),
     }
 }
 

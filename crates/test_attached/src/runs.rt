@@ -12,6 +12,9 @@ const POLICY: &[u8] =
 
 const PAGE: GrantRef = GrantRef(7);
 
+// The frames of each domain, as many as there can be. The last one is granted.
+const FRAMES: u32 = u32::MAX;
+
 // Returns settings of domains with consecutive numbers, starting at 1.
 fn settings(alloc: Global, count: u16, label: u16) -> Result<Vec<DomainSettings>, AllocError> {
     let mut all = Vec::new(alloc);
@@ -19,7 +22,7 @@ fn settings(alloc: Global, count: u16, label: u16) -> Result<Vec<DomainSettings>
         all.push(DomainSettings {
             id: place.saturating_add(1),
             label,
-            frames: 8,
+            frames: FRAMES,
             table_frames: 1,
             version: 1,
         })?;
@@ -32,7 +35,7 @@ fn grants(guest: &mut AttachedDomain<AllowTable>, to: u16) -> bool {
     let page = Entry::Page {
         dom: DomId(to),
         ro: false,
-        frame: 5,
+        frame: u64::from(FRAMES) - 1,
     };
     !guest.is_copying() && guest.grant(PAGE, &page).is_ok()
 }

@@ -118,7 +118,7 @@ fn done(rt: &impl Abort, frame: &mut Frame, other: &mut Frame, doing: Doing) -> 
 }
 
 // Each action with the first bytes of both frames after it. An overlapping copy takes the bytes that were there before.
-const DONE: [(Doing, [u8; 6], [u8; 6]); 4] = [
+static DONE: [(Doing, [u8; 6], [u8; 6]); 4] = [
     (Doing::Write, [1, 2, 3, 4, 0, 0], [0; 6]),
     (Doing::OneFurther, [1, 1, 2, 3, 4, 0], [0; 6]),
     (Doing::ToTheOther, [1, 1, 2, 3, 4, 0], [0, 1, 1, 2, 3, 0]),
@@ -148,20 +148,20 @@ fn a_refused_call_can_be_made_again(rt: HostRuntime) -> Result<(), Fail> {
     let (mut first, mut second) = (room(alloc)?, room(alloc)?);
     let (mut one, mut other) = (frame(alloc, 0)?, frame(alloc, 1)?);
     let mut before = ([0; 6], [0; 6]);
-    for (doing, behind, others) in DONE {
-        let is_refused = done(&rt, &mut one, &mut other, doing).is_err();
+    for (doing, behind, others) in DONE.iter() {
+        let is_refused = done(&rt, &mut one, &mut other, *doing).is_err();
         if is_refused {
             first = bytes(&one, 0, first);
             second = bytes(&other, 0, second);
             let told = (first.as_slice(), second.as_slice());
             assert_eq!(rt; told, (before.0.as_slice(), before.1.as_slice()));
-            done(&rt, &mut one, &mut other, doing)?;
+            done(&rt, &mut one, &mut other, *doing)?;
         }
         first = bytes(&one, 0, first);
         second = bytes(&other, 0, second);
         let told = (first.as_slice(), second.as_slice());
         assert_eq!(rt; told, (behind.as_slice(), others.as_slice()));
-        before = (behind, others);
+        before = (*behind, *others);
     }
     Ok(())
 }

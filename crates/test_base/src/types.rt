@@ -22,7 +22,7 @@ const TWO: DomainConfig = DomainConfig {
 // Domains with the first generation, and the expected result. A fault of the second domain is reported, whatever the
 // third has.
 // third has.
-const CONFIGS: [(&[DomainConfig], u32, Result<(), ConfigFault>); 11] = [
+static CONFIGS: [(&[DomainConfig], u32, Result<(), ConfigFault>); 11] = [
     (
         &[
             DomainConfig {
@@ -112,12 +112,12 @@ const CONFIGS: [(&[DomainConfig], u32, Result<(), ConfigFault>); 11] = [
 
 #[test]
 fn names_the_fault_of_a_configuration(rt: HostRuntime) -> Result<(), Fail> {
-    for (domains, first_gen, told) in CONFIGS {
+    for (domains, first_gen, told) in CONFIGS.iter() {
         let config = Config {
             domains: domains.to_vec(rt.alloc())?,
-            first_gen,
+            first_gen: *first_gen,
         };
-        assert_eq!(rt; config.check(), told);
+        assert_eq!(rt; config.check(), *told);
     }
     Ok(())
 }

@@ -5,8 +5,8 @@ use gt_core::{
 };
 use gt_entry::{Control, status_word};
 use gt_types::{
-    Config, DomId, DomainConfig, Facts, GrantRef, Memory, Perms, StartFault, Triple, Triples,
-    TypeId,
+    Config, Denial, DomId, DomainConfig, Facts, GrantRef, Memory, Perms, StartFault, Triple,
+    Triples, TypeId,
 };
 use std::alloc::{AllocError, Global};
 use std::test::Fail;
@@ -167,6 +167,8 @@ pub enum Doing<'a> {
     Do(DomId, Request<'a>),
     /// A whole call: its steps with what each saw, and its answer.
     Steps(DomId, Request<'a>),
+    /// A whole call this number of times, each of which gives the next handle.
+    Often(DomId, Request<'a>, u32),
     /// Only the beginning of a call.
     Begin(DomId, Request<'a>),
     /// This number of ticks of the domain, or fewer if its call ends: the answer, if it ended.
@@ -192,19 +194,23 @@ pub fn answer_said(alloc: Global, answer: &Answer) -> Result<String, AllocError>
         Answer::Frames(n) => format!(in alloc; "ok frames={n}"),
         Answer::Size(size) => format!(in alloc; "ok frames={} max={}", size.frames, size.max),
         Answer::Version(n) => format!(in alloc; "ok version={n}"),
-        Answer::Denied(denial) => {
-            let facts = match denial.facts {
-                Facts::Field(field) => format!(in alloc; " {field}")?,
-                Facts::Header { word, .. } | Facts::Entry { word, .. } => word_said(alloc, word)?,
-                Facts::Policy {
-                    source,
-                    target,
-                    perm,
-                } => format!(in alloc; " source={} target={} {perm:?}", source.0, target.0)?,
-                _ => String::new(alloc),
-            };
-            format!(in alloc; "{}{facts}", denial.rule)
+        Answer::Denied(denial) => denial_said(alloc, denial),
+    }
+}
+
+fn denial_said(alloc: Global, denial: &Denial) -> Result<String, AllocError> {
+    let rule = denial.rule;
+    match denial.facts {
+        Facts::Field(field) => format!(in alloc; "{rule} {field}"),
+        Facts::Header { word, .. } | Facts::Entry { word, .. } => {
+            format!(in alloc; "{rule} {word:x}")
         }
+        Facts::Policy {
+            source,
+            target,
+            perm,
+        } => format!(in alloc; "{rule} source={} target={} {perm:?}", source.0, target.0),
+        _ => format!(in alloc; "{rule}"),
     }
 }
 
@@ -263,21 +269,49 @@ fn call_said(
     Ok(text)
 }
 
+// Appends a step with what it saw.
+fn push_step(
+    out: &mut String,
+    alloc: Global,
+    step: Step,
+    seen: Observation,
+) -> Result<(), AllocError> {
+    out.push_str(step_said(alloc, step)?.as_str())?;
+    out.push_str(seen_said(alloc, seen)?.as_str())?;
+    out.push_str("; ")
+}
+
+// Makes a step of the open call, and appends it. Returns the answer if the call ends, and None if no call is open.
+fn push_tick(
+    out: &mut String,
+    alloc: Global,
+    core: &mut Core<Triples>,
+    dom: DomId,
+) -> Result<Option<Option<Answer>>, Fail> {
+    match core.tick(dom)? {
+        Ticked::Step(step, seen) => {
+            push_step(out, alloc, step, seen)?;
+            Ok(Some(None))
+        }
+        Ticked::Done(step, seen, answer) => {
+            push_step(out, alloc, step, seen)?;
+            Ok(Some(Some(answer)))
+        }
+        _ => Ok(None),
+    }
+}
+
 // Returns the steps of the open call with what each saw, and its answer.
 fn steps_said(alloc: Global, core: &mut Core<Triples>, dom: DomId) -> Result<String, Fail> {
     let mut out = String::new(alloc);
     for _ in 0..MOST_STEPS {
-        let (step, seen, answer) = match core.tick(dom)? {
-            Ticked::Step(step, seen) => (step, seen, None),
-            Ticked::Done(step, seen, answer) => (step, seen, Some(answer)),
-            _ => return Ok(out),
-        };
-        out.push_str(step_said(alloc, step)?.as_str())?;
-        out.push_str(seen_said(alloc, seen)?.as_str())?;
-        out.push_str("; ")?;
-        if let Some(answer) = answer {
-            out.push_str(answer_said(alloc, &answer)?.as_str())?;
-            return Ok(out);
+        match push_tick(&mut out, alloc, core, dom)? {
+            Some(None) => {}
+            Some(Some(answer)) => {
+                out.push_str(answer_said(alloc, &answer)?.as_str())?;
+                break;
+            }
+            None => break,
         }
     }
     Ok(out)
@@ -315,6 +349,38 @@ fn place_said(alloc: Global, place: Spot) -> Result<String, AllocError> {
     )
 }
 
+// Returns whether a whole call is answered with the handle of this number.
+fn gives_handle(
+    alloc: Global,
+    core: &mut Core<Triples>,
+    dom: DomId,
+    request: Request<'_>,
+    number: u32,
+) -> Result<bool, Fail> {
+    let begun = core.begin(dom, request)?;
+    let text = call_said(alloc, core, dom, begun, MOST_STEPS)?;
+    let wanted = format!(in alloc; "ok {number}.{number}")?;
+    Ok(text.as_str() == wanted.as_str())
+}
+
+// Makes a call this number of times. Returns how often it was answered with the next handle before it was not.
+fn often_said(
+    alloc: Global,
+    core: &mut Core<Triples>,
+    dom: DomId,
+    request: Request<'_>,
+    times: u32,
+) -> Result<String, Fail> {
+    let mut count = 0u32;
+    for number in 0..times {
+        if !gives_handle(alloc, core, dom, request, number)? {
+            break;
+        }
+        count = count.saturating_add(1);
+    }
+    Ok(format!(in alloc; "{count} handles, 0.0 and on")?)
+}
+
 /// Takes the action, and returns its result as a text.
 pub fn said(alloc: Global, core: &mut Core<Triples>, doing: Doing<'_>) -> Result<String, Fail> {
     match doing {
@@ -326,6 +392,7 @@ pub fn said(alloc: Global, core: &mut Core<Triples>, doing: Doing<'_>) -> Result
             Begun::Open => steps_said(alloc, core, dom),
             begun => call_said(alloc, core, dom, begun, 0),
         },
+        Doing::Often(dom, request, times) => often_said(alloc, core, dom, request, times),
         Doing::Begin(dom, request) => {
             let begun = core.begin(dom, request)?;
             call_said(alloc, core, dom, begun, 0)
@@ -335,32 +402,30 @@ pub fn said(alloc: Global, core: &mut Core<Triples>, doing: Doing<'_>) -> Result
     }
 }
 
-/// Returns what each event did, one line each: its domain, `begins` or what its step saw, and the answer if the call
-/// ended.
+// Returns what an event did: its domain, `begins` or what its step saw, and the answer if the call ended.
+fn item_said(alloc: Global, item: &Item) -> Result<String, AllocError> {
+    let actor = item.actor.0;
+    let saw = match &item.happened {
+        ItemEvent::Began(_) => String::from_str(alloc, " begins")?,
+        ItemEvent::Stepped(_, seen) => seen_said(alloc, *seen)?,
+    };
+    match &item.answer {
+        None => format!(in alloc; "{actor}{saw}\n"),
+        Some(answer) => {
+            let answer = answer_said(alloc, answer)?;
+            format!(in alloc; "{actor}{saw} {answer}\n")
+        }
+    }
+}
+
+/// Returns what each event did, one line each.
 pub fn trace_said(alloc: Global, trace: &[Element]) -> Result<String, AllocError> {
     let mut out = String::new(alloc);
     for element in trace {
-        let Element::Item(
-            Item {
-                actor,
-                happened,
-                answer,
-            },
-        ) = element
-        else {
-            out.push_str("nothing\n")?;
-            continue;
-        };
-        let saw = match happened {
-            ItemEvent::Began(_) => String::from_str(alloc, " begins")?,
-            ItemEvent::Stepped(_, seen) => seen_said(alloc, *seen)?,
-        };
-        out.push_str(format!(in alloc; "{}{saw}", actor.0)?.as_str())?;
-        if let Some(answer) = answer {
-            let answer = answer_said(alloc, answer)?;
-            out.push_str(format!(in alloc; " {answer}")?.as_str())?;
+        match element {
+            Element::Item(item) => out.push_str(item_said(alloc, item)?.as_str())?,
+            _ => out.push_str("nothing\n")?,
         }
-        out.push('\n')?;
     }
     Ok(out)
 }

@@ -89,15 +89,23 @@ fn is_told(answer: &Answer, told: Told<'_>) -> bool {
     }
 }
 
-// Makes whole calls, and compares the answer of each.
-fn goes(
+// Makes a whole call, and compares its answer.
+fn goes_once(
     rt: &impl Abort,
     core: &mut Core<Triples>,
-    calls: &[(DomId, Request<'_>, Told<'_>)],
+    dom: DomId,
+    request: Request<'_>,
+    told: Told<'_>,
 ) -> Result<(), Fail> {
+    let answer = ask(rt, core, dom, request)?;
+    assert!(rt; is_told(&answer, told));
+    Ok(())
+}
+
+// Makes whole calls, and compares the answer of each.
+fn goes(rt: &impl Abort, core: &mut Core<Triples>, calls: &[Call]) -> Result<(), Fail> {
     for (dom, request, told) in calls {
-        let answer = ask(rt, core, *dom, *request)?;
-        assert!(rt; is_told(&answer, *told));
+        goes_once(rt, core, *dom, *request, *told)?;
     }
     Ok(())
 }
@@ -110,9 +118,12 @@ fn reads(core: &Core<Triples>) -> Option<u16> {
     }
 }
 
-const GRANTED: [(DomId, Request, Told); 1] = [(OWNER, GRANT, Told::Done)];
+/// A call of a domain, and the expected answer.
+type Call = (DomId, Request<'static>, Told<'static>);
 
-const LAST_CALLS: [(DomId, Request, Told); 2] = [
+const GRANTED: [Call; 1] = [(OWNER, GRANT, Told::Done)];
+
+const LAST_CALLS: [Call; 2] = [
     (
         PEER,
         MAP_RW,
@@ -124,57 +135,32 @@ const LAST_CALLS: [(DomId, Request, Told); 2] = [
     (OWNER, REVOKE, Told::Refused(Rule::N19)),
 ];
 
-#[test]
-fn calls_with_memory_refused(rt: HostRuntime) -> Result<(), Fail> {
-    let mut core = started(&rt, rt.alloc(), &[])?;
-    goes(&rt, &mut core, &GRANTED)?;
-    for key in 0..20usize {
-        let handle = Handle {
-            serial: key as u64,
-            key,
-        };
-        let load = Request::Load {
-            handle,
-            off: 4_094,
-            len: 2,
-        };
-        let calls = [
-            (PEER, MAP_RO, Told::Mapped(handle)),
-            (PEER, load, Told::Bytes(&[0, 0])),
-        ];
-        goes(&rt, &mut core, &calls)?;
-    }
-    goes(&rt, &mut core, &LAST_CALLS)?;
-    assert_eq!(rt; reads(&core), Some(20));
-    Ok(())
-}
-
-const MAPPED: [(DomId, Request, Told); 2] = [
+const MAPPED: [Call; 2] = [
     (OWNER, GRANT, Told::Done),
     (PEER, MAP_RW, Told::Mapped(FIRST_HANDLE)),
 ];
 
-const LAST_LOAD: [(DomId, Request, Told); 1] = [(
+const LAST_LOAD: [Call; 1] = [(
     PEER,
     load!(FIRST_HANDLE, 0, 9),
     Told::Bytes(&[8, 1, 2, 3, 4, 5, 6, 7, 8]),
 )];
 
-#[test]
-fn accesses_with_memory_refused(rt: HostRuntime) -> Result<(), Fail> {
-    let mut core = started(&rt, rt.alloc(), &[])?;
-    goes(&rt, &mut core, &MAPPED)?;
-    for byte in 1..9u8 {
-        let bytes = [byte];
-        let store = store!(FIRST_HANDLE, u16::from(byte), &bytes);
-        let calls = [
-            (PEER, store, Told::Done),
-            (OWNER, poke(&bytes), Told::Done),
-            (OWNER, PEEK, Told::Bytes(&bytes)),
-        ];
-        goes(&rt, &mut core, &calls)?;
-    }
-    goes(&rt, &mut core, &LAST_LOAD)
+const LAST_PEEK: [Call; 1] = [(
+    PEER,
+    peek!(3, 0, 10),
+    Told::Bytes(&[0, 1, 2, 3, 4, 5, 6, 7, 8, 0]),
+)];
+
+// The calls of a round.
+#[derive(Clone, Copy)]
+enum Round {
+    /// The peer maps the page, and loads its last bytes through the mapping.
+    Map,
+    /// The peer stores a byte, and the owner overwrites the first one and reads it.
+    Access,
+    /// The owner overwrites the first byte, and the peer copies it to a frame that the peer owns.
+    Copy,
 }
 
 const PEEK: Request = peek!(5, 0, 1);
@@ -188,30 +174,93 @@ fn copy(offset: u16) -> Request<'static> {
     Request::Copy(copy!(end!(0, OWNER, 0), end!(3, PEER, offset), 1, 1))
 }
 
-const LAST_PEEK: [(DomId, Request, Told); 1] = [(
-    PEER,
-    peek!(3, 0, 10),
-    Told::Bytes(&[0, 1, 2, 3, 4, 5, 6, 7, 8, 0]),
-)];
+fn map_and_load(rt: &impl Abort, core: &mut Core<Triples>, number: u8) -> Result<(), Fail> {
+    let handle = Handle {
+        serial: u64::from(number),
+        key: usize::from(number),
+    };
+    goes_once(rt, core, PEER, MAP_RO, Told::Mapped(handle))?;
+    goes_once(
+        rt,
+        core,
+        PEER,
+        load!(handle, 4_094, 2),
+        Told::Bytes(&[0, 0]),
+    )
+}
 
-#[test]
-fn copies_with_memory_refused(rt: HostRuntime) -> Result<(), Fail> {
-    let mut core = started(&rt, rt.alloc(), &[(OWNER, PEER)])?;
-    goes(&rt, &mut core, &GRANTED)?;
-    for byte in 1..9u8 {
-        let bytes = [byte];
-        let calls = [
-            (OWNER, poke(&bytes), Told::Done),
-            (PEER, copy(u16::from(byte)), Told::Done),
-        ];
-        goes(&rt, &mut core, &calls)?;
+// Makes the calls of a round. The byte that they move is its number.
+fn go_round(
+    rt: &impl Abort,
+    core: &mut Core<Triples>,
+    round: Round,
+    number: u8,
+) -> Result<(), Fail> {
+    let offset = u16::from(number);
+    let bytes = [number];
+    match round {
+        Round::Map => map_and_load(rt, core, number),
+        Round::Access => {
+            goes_once(
+                rt,
+                core,
+                PEER,
+                store!(FIRST_HANDLE, offset, &bytes),
+                Told::Done,
+            )?;
+            goes_once(rt, core, OWNER, poke(&bytes), Told::Done)?;
+            goes_once(rt, core, OWNER, PEEK, Told::Bytes(&bytes))
+        }
+        Round::Copy => {
+            goes_once(rt, core, OWNER, poke(&bytes), Told::Done)?;
+            goes_once(rt, core, PEER, copy(offset), Told::Done)
+        }
     }
-    goes(&rt, &mut core, &LAST_PEEK)?;
-    assert_eq!(rt; reads(&core), Some(0));
+}
+
+// A run: the pairs of domains that may be copied from and to, the first calls, the rounds with the first and the last
+// number, the last calls, and the read pins that are left of the owner's entry 0.
+type Refused = (
+    &'static [(DomId, DomId)],
+    &'static [Call],
+    (Round, u8, u8),
+    &'static [Call],
+    u16,
+);
+
+static ALL_REFUSED: [Refused; 3] = [
+    (&[], &GRANTED, (Round::Map, 0, 19), &LAST_CALLS, 20),
+    (&[], &MAPPED, (Round::Access, 1, 8), &LAST_LOAD, 0),
+    (
+        &[(OWNER, PEER)],
+        &GRANTED,
+        (Round::Copy, 1, 8),
+        &LAST_PEEK,
+        0,
+    ),
+];
+
+fn goes_refused(rt: &impl Abort, alloc: Global, row: &Refused) -> Result<(), Fail> {
+    let (pairs, first, (round, from, to), last, pins) = row;
+    let mut core = started(rt, alloc, pairs)?;
+    goes(rt, &mut core, first)?;
+    for number in *from..=*to {
+        go_round(rt, &mut core, *round, number)?;
+    }
+    goes(rt, &mut core, last)?;
+    assert_eq!(rt; reads(&core), Some(*pins));
     Ok(())
 }
 
-const EVENTS: [Event; 8] = [
+#[test]
+fn calls_with_memory_refused(rt: HostRuntime) -> Result<(), Fail> {
+    for row in ALL_REFUSED.iter() {
+        goes_refused(&rt, rt.alloc(), row)?;
+    }
+    Ok(())
+}
+
+static EVENTS: [Event; 8] = [
     Event::Begin(OWNER, GRANT),
     Event::Tick(OWNER),
     Event::Tick(OWNER),
@@ -237,22 +286,18 @@ fn ends_ok(element: Option<&Element>) -> bool {
     }
 }
 
+// Plays the events once.
+fn played_once(alloc: Global) -> Result<Vec<Element<'static>>, StartFault> {
+    play(alloc, three_domains(alloc, 1)?, rights(alloc)?, &EVENTS)
+}
+
 #[test]
 fn play_with_memory_refused(rt: HostRuntime) -> Result<(), Fail> {
-    let alloc = rt.alloc();
-    let config = match three_domains(alloc, 1) {
-        Ok(config) => config,
-        Err(Memory) => three_domains(alloc, 1)?,
-    };
-    let allowed = match rights(alloc) {
-        Ok(allowed) => allowed,
-        Err(Memory) => rights(alloc)?,
-    };
-    let trace = match play(alloc, config, allowed, &EVENTS) {
+    let trace = match played_once(rt.alloc()) {
         Ok(trace) => trace,
         Err(fault) => {
             assert_eq!(rt; fault, StartFault::Memory);
-            play(alloc, three_domains(alloc, 1)?, rights(alloc)?, &EVENTS)?
+            played_once(rt.alloc())?
         }
     };
     assert!(rt; trace.len() == 8 && ends_ok(trace.get(2)) && ends_ok(trace.get(7)));

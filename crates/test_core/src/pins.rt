@@ -1,14 +1,20 @@
 //! As many pins on one entry as it can have, and the trace of a missed try.
-use crate::doing::Doing::{Do, Show};
-use crate::doing::{
-    OWNER, PEER, Row, add_call, add_ticks, rights, start, three_domains, trace_said,
-};
-use crate::runs::{DEMOTE, GRANT, GRANT_ANOTHER, GRANTED, MAP_RO, MAP_RW, REVOKE, goes};
+use crate::doing::Doing::{Do, Often, Show};
+use crate::doing::{OWNER, PEER, Row, add_call, add_ticks, rights, three_domains, trace_said};
+use crate::runs::{DEMOTE, GRANT, GRANT_ANOTHER, MAP_RO, MAP_RW, REVOKE};
 use gt_core::{Event, play};
-use std::alloc::Global;
+use gt_types::Memory;
+use std::alloc::{AllocError, Global};
 use std::test::Fail;
 
-const BEHIND_ALL_READ_PINS: [Row; 5] = [
+/// A page that is mapped for reading as often as it can be.
+pub const ALL_READ_PINS: [Row; 2] = [
+    (Do(OWNER, GRANT), "ok"),
+    (Often(PEER, MAP_RO, 4_095), "4095 handles, 0.0 and on"),
+];
+
+/// Then a write pin can be taken, and no read pin.
+pub const BEHIND_ALL_READ_PINS: [Row; 5] = [
     (Do(PEER, MAP_RO), "N17 10002000fff1"),
     (
         Show(0),
@@ -22,49 +28,45 @@ const BEHIND_ALL_READ_PINS: [Row; 5] = [
     (Do(OWNER, DEMOTE), "N19 10002001fff1"),
 ];
 
-#[test]
-fn all_read_pins_and_one_write_pin(rt: HostRuntime) -> Result<(), Fail> {
-    let alloc = rt.alloc();
-    let mut core = start(alloc, 1, &[])?;
-    goes(&rt, &mut core, alloc, &GRANTED)?;
-    for i in 0..4095 {
-        let wanted = format!(in alloc; "ok {i}.{i}")?;
-        goes(
-            &rt,
-            &mut core,
-            alloc,
-            &[(Do(PEER, MAP_RO), wanted.as_str())],
-        )?;
-    }
-    goes(&rt, &mut core, alloc, &BEHIND_ALL_READ_PINS)
-}
-
 // Returns the trace of these events on a core of the three domains.
 fn played(alloc: Global, events: &[Event<'_>]) -> Result<String, Fail> {
     let trace = play(alloc, three_domains(alloc, 1)?, rights(alloc)?, events)?;
     Ok(trace_said(alloc, &trace)?)
 }
 
-#[test]
-fn trace_of_all_read_pins_and_one_write_pin(rt: HostRuntime) -> Result<(), Fail> {
-    let alloc = rt.alloc();
+// Returns the events of a grant, as many maps for reading as there can be, one for writing and a demotion.
+fn events_of_pins(alloc: Global) -> Result<Vec<Event<'static>>, Memory> {
     let mut events = Vec::new(alloc);
     add_call(&mut events, OWNER, GRANT, 2)?;
+    for _ in 0..4095 {
+        add_call(&mut events, PEER, MAP_RO, 4)?;
+    }
+    add_call(&mut events, PEER, MAP_RW, 4)?;
+    add_call(&mut events, OWNER, DEMOTE, 1)?;
+    Ok(events)
+}
+
+// Returns their trace.
+fn trace_of_pins(alloc: Global) -> Result<String, AllocError> {
     let mut wanted = String::from_str(alloc, "1 begins\n1 -\n1 taken ok\n")?;
     let mut word: u64 = 0x0000_1000_2000_0001;
     for i in 0..4095 {
-        add_call(&mut events, PEER, MAP_RO, 4)?;
         let map = format!(in alloc; "2 begins\n2 5\n2 {word:x}\n2 5\n2 taken ok {i}.{i}\n")?;
         wanted.push_str(map.as_str())?;
         word = word.wrapping_add(16);
     }
-    add_call(&mut events, PEER, MAP_RW, 4)?;
-    add_call(&mut events, OWNER, DEMOTE, 1)?;
     wanted.push_str(
         "2 begins\n2 5\n2 10002000fff1\n2 5\n2 taken ok 4095.4095\n\
 1 begins\n1 10002001fff1 N19 10002001fff1\n",
     )?;
-    let text = played(alloc, events.as_slice())?;
+    Ok(wanted)
+}
+
+#[test]
+fn trace_of_all_read_pins_and_one_write_pin(rt: HostRuntime) -> Result<(), Fail> {
+    let events = events_of_pins(rt.alloc())?;
+    let wanted = trace_of_pins(rt.alloc())?;
+    let text = played(rt.alloc(), events.as_slice())?;
     assert_eq!(rt; text.as_str(), wanted.as_str());
     Ok(())
 }

@@ -14,6 +14,7 @@ use self::tables::{
 };
 use crate::doing::Doing::{self, Begin, Do, Show, Tick};
 use crate::doing::{OTHER, OWNER, PEER, READ_ONLY, Row, WRITABLE, grant, load, map, said, start};
+use crate::pins::{ALL_READ_PINS, BEHIND_ALL_READ_PINS};
 use gt_core::{Core, Handle, Request};
 use gt_entry::Entry;
 use gt_types::{DomId, GrantRef, Triples};
@@ -181,7 +182,7 @@ const TAKEN_HANDLE: [Row; 7] = [
 ];
 
 // Each run with the version of the tables. No bytes may be copied from one domain to another.
-const RUNS: [Run; 19] = [
+static RUNS: [Run; 20] = [
     (1, &[], &MAPPED_RW, &REVOKE_BEFORE_THE_UNPIN),
     (1, &[], &GRANTED, &ANOTHER_GRANT_BEFORE_THE_PIN),
     (1, &[], &[], &READ_ONLY_PAGE),
@@ -201,6 +202,7 @@ const RUNS: [Run; 19] = [
     (1, &[], &[], &SUB_PAGE_BEHIND_AN_OLDER_HEADER),
     (1, &[], &[], &STEPS_ON_HEADERS),
     (2, &[], &[], &STEPS_OF_GRANTS),
+    (1, &[], &ALL_READ_PINS, &BEHIND_ALL_READ_PINS),
 ];
 
 /// Plays a run, and compares the result of each action.

@@ -1,6 +1,6 @@
 //! The texts of two counters.
 use crate::counters::Counters;
-use gt_explore_search::{SearchResult, search};
+use gt_explore_search::{SearchResult, search, search_within};
 use std::test::Fail;
 
 // Returns whether an order has this text.
@@ -38,6 +38,30 @@ fn one_state_less_is_too_few(rt: HostRuntime) -> Result<(), Fail> {
     let alloc = rt.alloc();
     let counters = Counters { alloc, limit: 2 };
     assert!(rt; search(alloc, &counters, 8).is_err());
+    Ok(())
+}
+
+// With one state less, some of the six texts are found, and each that is found is one of them.
+#[test]
+fn some_texts_are_found_within_fewer_states(rt: HostRuntime) -> Result<(), Fail> {
+    let alloc = rt.alloc();
+    let counters = Counters { alloc, limit: 2 };
+    let Ok(all) = search_within(alloc, &counters, 9) else {
+        assert!(rt; false);
+        return Ok(());
+    };
+    assert!(rt; all.whole);
+    assert_eq!(rt; all.found.orders.len(), 6);
+    let Ok(some) = search_within(alloc, &counters, 8) else {
+        assert!(rt; false);
+        return Ok(());
+    };
+    assert!(rt; !some.whole);
+    assert_eq!(rt; some.found.states, 8);
+    assert!(rt; !some.found.orders.is_empty());
+    for order in some.found.orders.as_slice() {
+        assert!(rt; has(&all.found, order.text.as_slice()));
+    }
     Ok(())
 }
 

@@ -1,5 +1,8 @@
 //! Command lines, and their plans.
-use gt_commands::{Format, Invocation, plan, with_long_flags};
+use gt_commands::{
+    Exploration, Format, Invocation, MoreFiles, command_first, leading_word, plan, with_long_flags,
+};
+use gt_explore_verdict::Claim;
 use std::alloc::{AllocError, Global};
 use std::test::Fail;
 
@@ -12,7 +15,18 @@ fn words_of(alloc: Global, line: &str) -> Result<Vec<String>, AllocError> {
     Ok(words)
 }
 
-const PLANS: [(&str, Invocation<'static>); 34] = [
+// No further FILEs.
+const NO_MORE: MoreFiles<'static> = MoreFiles {
+    second: None,
+    third: None,
+    fourth: None,
+    fifth: None,
+    sixth: None,
+    seventh: None,
+    eighth: None,
+};
+
+const PLANS: [(&str, Invocation<'static>); 38] = [
     (
         "gthost play",
         Invocation::Play {
@@ -61,13 +75,46 @@ const PLANS: [(&str, Invocation<'static>); 34] = [
     (
         "gthost policy",
         Invocation::Policy {
+            verbose: false,
             format: Format::Text,
             file: None,
         },
     ),
     (
+        "gthost check a.te b.te --format json c.te",
+        Invocation::Check {
+            script: false,
+            format: Format::Json,
+            file: Some("a.te"),
+            more: MoreFiles {
+                second: Some("b.te"),
+                third: Some("c.te"),
+                ..NO_MORE
+            },
+        },
+    ),
+    ("gthost why a.te", Invocation::WhyEach { file: "a.te" }),
+    (
+        "gthost why a_t - - a.te",
+        Invocation::Why {
+            source: Some("a_t"),
+            target: None,
+            permission: None,
+            file: Some("a.te"),
+        },
+    ),
+    (
+        "gthost policy --verbose a.te",
+        Invocation::Policy {
+            verbose: true,
+            format: Format::Text,
+            file: Some("a.te"),
+        },
+    ),
+    (
         "gthost policy play",
         Invocation::Policy {
+            verbose: false,
             format: Format::Text,
             file: Some("play"),
         },
@@ -124,6 +171,7 @@ const PLANS: [(&str, Invocation<'static>); 34] = [
             script: false,
             format: Format::Text,
             file: None,
+            more: NO_MORE,
         },
     ),
     (
@@ -132,6 +180,7 @@ const PLANS: [(&str, Invocation<'static>); 34] = [
             script: false,
             format: Format::Json,
             file: Some("a.te"),
+            more: NO_MORE,
         },
     ),
     (
@@ -140,6 +189,7 @@ const PLANS: [(&str, Invocation<'static>); 34] = [
             script: false,
             format: Format::Text,
             file: Some("a.te"),
+            more: NO_MORE,
         },
     ),
     (
@@ -147,7 +197,7 @@ const PLANS: [(&str, Invocation<'static>); 34] = [
         Invocation::Why {
             source: Some("driver_t"),
             target: None,
-            permission: "map_read",
+            permission: Some("map_read"),
             file: None,
         },
     ),
@@ -156,7 +206,7 @@ const PLANS: [(&str, Invocation<'static>); 34] = [
         Invocation::Why {
             source: None,
             target: Some("guest_t"),
-            permission: "copy",
+            permission: Some("copy"),
             file: Some("a.te"),
         },
     ),
@@ -236,6 +286,7 @@ const PLANS: [(&str, Invocation<'static>); 34] = [
     (
         "gthost policy --format json",
         Invocation::Policy {
+            verbose: false,
             format: Format::Json,
             file: None,
         },
@@ -246,6 +297,7 @@ const PLANS: [(&str, Invocation<'static>); 34] = [
             script: true,
             format: Format::Text,
             file: Some("a.gt"),
+            more: NO_MORE,
         },
     ),
     (
@@ -280,8 +332,7 @@ const PLANS: [(&str, Invocation<'static>); 34] = [
     (
         "gthost explore",
         Invocation::Explore {
-            find: None,
-            witness: None,
+            asked: Exploration::Texts,
             states: 100_000,
             file: None,
         },
@@ -289,8 +340,10 @@ const PLANS: [(&str, Invocation<'static>); 34] = [
     (
         "gthost explore --find N18 --states 500 a.gt",
         Invocation::Explore {
-            find: Some("N18"),
-            witness: None,
+            asked: Exploration::Decide {
+                claim: Claim::Find,
+                expression: "N18",
+            },
             states: 500,
             file: Some("a.gt"),
         },
@@ -298,8 +351,7 @@ const PLANS: [(&str, Invocation<'static>); 34] = [
     (
         "gthost explore a.gt --witness=3",
         Invocation::Explore {
-            find: None,
-            witness: Some(3),
+            asked: Exploration::Witness(3),
             states: 100_000,
             file: Some("a.gt"),
         },
@@ -307,8 +359,7 @@ const PLANS: [(&str, Invocation<'static>); 34] = [
     (
         "gthost explore --states=18446744073709551615 --witness +0",
         Invocation::Explore {
-            find: None,
-            witness: Some(0),
+            asked: Exploration::Witness(0),
             states: usize::MAX,
             file: None,
         },
@@ -372,7 +423,7 @@ const REFUSED: [(&str, bool); 54] = [
     ("gthost entries -h", false),
     ("gthost play --verbose --verbose", true),
     ("gthost run --verbose=yes", true),
-    ("gthost policy --verbose", true),
+    ("gthost policy --verbose --verbose", true),
     ("gthost explore -h", false),
     ("gthost explore a.gt b.gt", true),
     ("gthost explore --audit", true),
@@ -416,6 +467,33 @@ fn a_letter_is_a_long_flag_before_the_mark(rt: HostRuntime) -> Result<(), Fail> 
         let wanted = words_of(alloc, wanted)?;
         let spelled = with_long_flags(alloc, words.as_slice())?;
         assert!(rt; spelled == wanted);
+    }
+    Ok(())
+}
+
+// Lines, the same with the command before its flags, and the word where the command is expected.
+const LED: [(&str, &str, &str); 6] = [
+    ("gthost -v play a.gt", "gthost play -v a.gt", "play"),
+    (
+        "gthost --verbose why a b copy",
+        "gthost why --verbose a b copy",
+        "why",
+    ),
+    ("gthost help run", "gthost run --help", "run"),
+    ("gthost help", "gthost --help", "help"),
+    ("gthost -v", "gthost -v", "-v"),
+    ("gthost play -v help", "gthost play -v help", "play"),
+];
+
+#[test]
+fn a_command_comes_before_its_flags(rt: HostRuntime) -> Result<(), Fail> {
+    let alloc = rt.alloc();
+    for (line, wanted, leading) in LED {
+        let words = words_of(alloc, line)?;
+        let wanted = words_of(alloc, wanted)?;
+        let first = command_first(alloc, words.as_slice())?;
+        assert!(rt; first == wanted);
+        assert_eq!(rt; leading_word(words.as_slice()), Some(leading));
     }
     Ok(())
 }

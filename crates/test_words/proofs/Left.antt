@@ -5,10 +5,10 @@ use Rattle.gt_types.specs.declared.GrantRef.{GrantRef}
 use Rattle.gt_types.specs.declared.Dir.TheVariants.{Read}
 use Rattle.gt_words.specs.Conditions.{Board, Holds, HoldsOneMore, KeepsPins, position_at}
 use Rattle.gt_words.specs.Answers.{UnpinsPin}
-use Rattle.gt_word_table.specs.Controls.{generation_of}
+use Rattle.gt_word_history.specs.Controls.{generation_of}
 use Rattle.gt_words.specs.Keeping.{held, is_pin_of}
-use Rattle.gt_word_table.specs.Views.{LivePin, pins_like}
-use Rattle.gt_word_table.specs.declared.view.View.{View}
+use Rattle.gt_word_history.specs.Views.{LivePin, pins_like}
+use Rattle.gt_word_history.specs.declared.view.View.{View}
 use Rattle.gt_words.specs.declared.words.Pin.{Pin}
 
 pub one_left : (t r g h : ℕ) (v0 v1 v2 v3 v4 : View) → HoldsOneMore t r Read g v0 v1 → KeepsPins v1 v2 → HoldsOneMore t r Read h v2 v3 → HoldsOneMore t r Read g v4 v3 → Holds t r Read h v4

@@ -4,8 +4,8 @@ use Rattle.gt_types.specs.declared.Dir.{Dir}
 use Rattle.gt_types.specs.declared.DomId.{DomId}
 use Rattle.gt_types.specs.declared.GrantRef.{GrantRef}
 use Rattle.gt_words.specs.Conditions.{Board, Holds, HoldsOneMore, position_at}
-use Rattle.gt_word_table.specs.Controls.{generation_of}
-use Rattle.gt_word_table.specs.declared.view.View.{View}
+use Rattle.gt_word_history.specs.Controls.{generation_of}
+use Rattle.gt_word_history.specs.declared.view.View.{View}
 use Rattle.gt_words.specs.declared.words.Pin.{Pin}
 
 -- the pin was taken of this entry: the view has one more of its kind and generation, and as many of any other

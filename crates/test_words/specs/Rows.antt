@@ -2,8 +2,8 @@
 use Rattle.std.specs.Prelude.{◌≡◌, ℕ}
 use Rattle.gt_entry.specs.declared.entry.Entry.{Entry}
 use Rattle.gt_words.specs.Conditions.{Board, IsSameSeat, IsSeatOf, SeatOf}
-use Rattle.gt_word_table.specs.Views.{last_of}
-use Rattle.gt_word_table.specs.declared.view.View.{View}
+use Rattle.gt_word_history.specs.Views.{last_of}
+use Rattle.gt_word_history.specs.declared.view.View.{View}
 
 -- the view's last state of the owner's only entry, the first of its table, is this generation and entry
 abbrev pub IsRowOf : ℕ → Entry → View → Type 0

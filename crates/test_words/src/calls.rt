@@ -1,7 +1,7 @@
 //! A small caller, which meets each call's conditions by what the calls before ensured.
 ghost use Rattle.std.specs.Prelude.{◌≡◌, ◌≢◌, ◌+◌, ◌<◌, [], ◌∷◌, length, IfOk, IfSome, MatchResult};
-ghost use Rattle.gt_word_table.specs.Views.{last_of, last_seen, record_seen};
-ghost use Rattle.gt_word_table.specs.Rule.{layout_of};
+ghost use Rattle.gt_word_history.specs.Views.{last_of, last_seen, record_seen};
+ghost use Rattle.gt_word_history.specs.Rule.{layout_of};
 ghost use Rattle.test_words.specs.Pinned.{IsPinned};
 ghost use Rattle.test_words.specs.Rows.{HasRow, HasRowStill, IsRowOf};
 ghost use Rattle.gt_words.specs.Conditions.{KeepsPins, IsSeatOf, IsSameSeat, HasLooked, HasDomain, IsEntryOf};

@@ -1,12 +1,11 @@
-//! The turns of a state, and which of them need no alternative.
+//! The turns of a state, and which of them are tried.
 ghost use Rattle.std.specs.Prelude.{◌≡◌, ◌++◌, OnOk, false, IfOk};
-ghost use Rattle.gt_explore_moves.specs.Ends.{choices, disturbs_none};
+ghost use Rattle.gt_explore_moves.specs.Ends.{choices};
 
-use super::is_told;
+use super::sets::is_in;
 use crate::actor::Actor;
 use crate::scene::{SearchContext, SearchState};
 use gt_explore_replay::Turn;
-use gt_script::{RunAction, RunTask};
 use std::alloc::AllocError;
 
 // Appends this number of moves of a domain, each with its own choice.
@@ -19,24 +18,14 @@ fn push_choices(turns: &mut Vec<Turn>, place: usize, count: usize) -> Result<(),
     Ok(())
 }
 
-// Returns whether a task disturbs no other domain when it is next: it begins a call, raises a flag, or awaits a raised
-// one.
-fn disturbs_none(told: &[bool], task: &RunTask) -> bool
-    ensures { result ≡ disturbs_none told.now task.now.deed }
-{
-    match &task.deed {
-        RunAction::Await(flag) => is_told(told, *flag),
-        _ => true,
-    }
-}
-
 impl<'s, 'a> SearchContext<'s, 'a> {
     ghost use Rattle.std.specs.Prelude.{◌≡◌, ◌<◌, Option, Some, None, true, slice_get};
     ghost use Rattle.std.specs.Prelude.{IfOk, IsTrue};
     ghost use Rattle.gt_explore_moves.specs.declared.actor.Actor.{Actor};
     ghost use Rattle.std.specs.Prelude.{IfSome};
-    ghost use Rattle.gt_explore_moves.specs.Ends.{AreDone, AreToBeTried, choices_at, goes_at_once, is_done, is_ended};
+    ghost use Rattle.gt_explore_moves.specs.Ends.{AreDone, choices_at, choices_in, is_done, is_ended, turns_by};
     ghost use Rattle.gt_explore_moves.specs.Ends.{turns_from};
+    ghost use Rattle.gt_explore_moves.specs.Touches.{AreToBeTried};
     ghost use Rattle.gt_explore_moves.specs.declared.scene.SearchState.{SearchState};
 
     // Returns whether the domain at this position has no call open, and has begun all tasks of its list.
@@ -47,7 +36,7 @@ impl<'s, 'a> SearchContext<'s, 'a> {
     }
 
     // Returns whether it also has no mapping.
-    fn is_done(&self, place: usize, actor: &Actor<'a>) -> bool
+    pub(super) fn is_done(&self, place: usize, actor: &Actor<'a>) -> bool
         ensures { result ≡ is_done self.now place actor.now }
     {
         self.is_ended(place, actor) && actor.mappings.is_empty()
@@ -75,43 +64,39 @@ impl<'s, 'a> SearchContext<'s, 'a> {
         Ok(turns)
     }
 
-    // Returns whether the domain at this position has no open call, and its next line disturbs no other domain.
-    fn goes_at_once(&self, told: &[bool], place: usize, actor: &Actor<'a>) -> bool
-        ensures { result ≡ goes_at_once self.now told.now place actor.now }
+    // Counts the moves of a domain that is in a set.
+    fn choices_in(&self, inside: &[bool], place: usize, actor: &Actor<'a>) -> usize
+        ensures { result ≡ choices_in self.now inside.now place actor.now }
     {
-        if actor.open.is_some() {
-            return false;
-        }
-        match self.task(place, actor.next) {
-            Some(task) => disturbs_none(told, task),
-            None => false,
+        if is_in(inside, place) {
+            self.choices(place, actor)
+        } else {
+            0
         }
     }
 
-    // Returns the position of the first such domain.
-    fn at_once(&self, world: &SearchState<'a>) -> Option<usize>
-        ensures { IfSome result (λ place. (a : Actor) × (slice_get world.now.actors.items place ≡ Some a)
-            × (goes_at_once self.now world.now.told.items place a ≡ true)) }
+    // Returns the moves of a set of domains.
+    fn turns_of(&self, world: &SearchState<'a>, inside: &[bool]) -> Result<Vec<Turn>, AllocError>
+        ensures { IfOk result (λ turns. turns.items
+            ≡ turns_by (choices_in self.now inside.now) 0 world.now.actors.items) }
     {
+        let mut turns = Vec::new(self.alloc);
         for (place, actor) in world.actors.as_slice().iter().enumerate() {
-            if self.goes_at_once(world.told.as_slice(), place, actor) {
-                return Some(place);
-            }
+            push_choices(&mut turns, place, self.choices_in(inside, place, actor))?;
         }
-        None
+        Ok(turns)
     }
 
-    /// Returns the moves to try: only that of a domain which disturbs no other, if there is one, and otherwise all.
+    /// Returns the moves to try: those of a set of domains that no domain outside can disturb, if one was found, and
+    /// otherwise all.
     pub fn turns(&self, world: &SearchState<'a>) -> Result<Vec<Turn>, AllocError>
         ensures { IfOk result (λ turns. AreToBeTried self.now world.now turns.items) }
     {
-        match self.at_once(world) {
-            Some(place) => {
-                let mut turns = Vec::new(self.alloc);
-                turns.push(Turn { place, choice: 0 })?;
-                Ok(turns)
-            }
-            None => self.all_turns(world),
+        let inside = self.smallest_set(world)?;
+        if self.goes_alone(world, inside.as_slice()) {
+            self.turns_of(world, inside.as_slice())
+        } else {
+            self.all_turns(world)
         }
     }
 

@@ -42,7 +42,7 @@ impl Domain {
     ghost use Rattle.gt_live.specs.Domains.{IsUnsettled};
     ghost use Rattle.gt_live.specs.Walks.{Made};
     ghost use Rattle.gt_words.specs.Conditions.{IsWordOf};
-    ghost use Rattle.gt_word_table.specs.Views.{last_of};
+    ghost use Rattle.gt_word_history.specs.Views.{last_of};
     ghost use Rattle.gt_calls.specs.declared.action.Observation.TheVariants.{Word};
     ghost use Rattle.gt_calls.specs.declared.action.Step.TheVariants.{LookControl};
 

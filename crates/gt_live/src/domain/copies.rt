@@ -3,7 +3,7 @@ ghost use Rattle.std.specs.Prelude.{◌≡◌, ◌+◌, ◌≤◌, Err, IfOk, If
 ghost use Rattle.gt_types.specs.declared.Dir.TheVariants as dirs;
 ghost use Rattle.gt_types.specs.declared.Use.TheVariants as uses;
 ghost use Rattle.gt_words.specs.Conditions.{IsSameSeat, IsSeatOf};
-ghost use Rattle.gt_word_table.specs.declared.view.View.{View};
+ghost use Rattle.gt_word_history.specs.declared.view.View.{View};
 ghost use Rattle.gt_access.specs.Accesses.{copying_at};
 ghost use Rattle.gt_access.specs.Routes.{MayCopyBy, ReachesBy};
 ghost use Rattle.gt_audit.specs.Telling.{Tells};

@@ -120,7 +120,7 @@ const ALL: [(DomId, DomId); 9] = [
 ];
 
 /// All runs with copies.
-pub const COPIES: [Run; 12] = [
+pub static COPIES: [Run; 12] = [
     (1, &ALL, &GRANTED, &PAGE),
     (2, &ALL, &[], &SUB_PAGE),
     (1, &ALL, &GRANTED_RO, &READ_ONLY_DEST),

@@ -1,6 +1,6 @@
 use Rattle.std.proofs.Common.{◌<◌, ◌≡◌, ◌∙◌, ℕ, List, length, sym, subst}
 use Rattle.gt_types.specs.declared.DomId.{DomId}
-use Rattle.gt_word_table.specs.Rule.{position_in}
+use Rattle.gt_word_history.specs.Rule.{position_in}
 use Rattle.bench_words.proofs.loads.has_domain.Goals as goal
 
 pub returns : goal.returns

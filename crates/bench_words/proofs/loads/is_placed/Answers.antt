@@ -2,7 +2,7 @@ use Rattle.std.proofs.Common.{◌≡◌, ◌<◌, ◌∙◌, ℕ, List, length, 
 use Rattle.std.specs.Prelude.{◌==◌, is_some, position, unwrap_or}
 use Rattle.std.proofs.lemmas.List.Quantifiers.{position-Some}
 use Rattle.gt_types.specs.declared.DomId.{DomId}
-use Rattle.gt_word_table.specs.Rule.{position_in}
+use Rattle.gt_word_history.specs.Rule.{position_in}
 use Rattle.bench_words.proofs.loads.is_placed.Goals as goal
 
 placed : (ids : List DomId) (dom : DomId) (r : Option ℕ) → r ≡ position (λ x. x.0 == dom.0) ids → is_some r ≡ true → position_in ids dom < length ids

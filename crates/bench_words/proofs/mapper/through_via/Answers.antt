@@ -3,9 +3,9 @@ use Rattle.gt_entry.specs.Permits.{forwards}
 use Rattle.gt_entry.specs.declared.entry.Entry.{Entry}
 use Rattle.gt_types.specs.declared.Dir.TheVariants.{Read}
 use Rattle.gt_types.specs.declared.DomId.{DomId}
-use Rattle.gt_word_table.specs.Controls.{LeadsTo}
+use Rattle.gt_word_history.specs.Controls.{LeadsTo}
 use Rattle.gt_words.specs.Laws.{domain_at}
-use Rattle.gt_word_table.specs.Rule.{id_at, position_in}
+use Rattle.gt_word_history.specs.Rule.{id_at, position_in}
 use Rattle.bench_words.proofs.Vias.{found_apart, still_seat, via_kept}
 use Rattle.bench_words.proofs.mapper.through_via.Goals as goal
 

@@ -1,5 +1,5 @@
 use Rattle.std.proofs.Common.{◌≡◌}
-use Rattle.gt_word_table.specs.Views.{last_of}
+use Rattle.gt_word_history.specs.Views.{last_of}
 use Rattle.gt_words.specs.Conditions.{IsSeatOf}
 use Rattle.bench_words.proofs.owner.withdraw_and_grant.Given as goal
 

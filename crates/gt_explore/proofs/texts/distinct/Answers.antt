@@ -12,5 +12,5 @@ orders-preserved c =
       whole = λ at o is.
           there_more old new p c.next.new.self.rest.items o c.in_ok-add.ensures
           (subst (λ (l : List FoundText). IsThere o old l) (c.in-Some.ensures.steps.0 ∙ ap (λ (q : FoundText). q ∷ c.next.new.self.rest.items) (sym c.in_ok-replayed.ensures.same)) (c.orders.invariant.whole at o is));
-      apart = c.in_ok-add.ensures.apart c.orders.invariant.apart;
+      ascending = c.in_ok-add.ensures.ascending c.orders.invariant.ascending;
     }

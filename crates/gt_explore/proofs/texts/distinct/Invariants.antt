@@ -2,7 +2,7 @@ use Rattle.std.proofs.Common.{◌≡◌, ℕ, All, Some, slice_get}
 use Rattle.gt_script.specs.RunContents.{run_told}
 use Rattle.gt_explore_replay.specs.Orders.{MayGive}
 use Rattle.gt_explore_search.specs.declared.exploring.FoundText.{FoundText}
-use Rattle.gt_explore.specs.Adding.{AreDifferentTexts, texts_of_orders}
+use Rattle.gt_explore.specs.Adding.{AreAscending, texts_of_orders}
 use Rattle.gt_explore.proofs.Added.{IsThere}
 use Rattle.gt_explore.proofs.texts.distinct.Given as goal
 
@@ -11,5 +11,5 @@ abbrev pub invariant-orders : goal.invariant-orders
 invariant-orders l = record {
   possible : All (MayGive (run_told l.script)) (texts_of_orders l.texts.items);
   whole : (at : ℕ) (o : FoundText) → slice_get l.fn.orders.items at ≡ Some o → IsThere o l.texts.items l.order-iterator.rest.items;
-  apart : AreDifferentTexts (texts_of_orders l.texts.items);
+  ascending : AreAscending (texts_of_orders l.texts.items);
 }

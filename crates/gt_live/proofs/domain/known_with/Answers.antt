@@ -4,8 +4,8 @@ use Rattle.gt_calls.specs.declared.held.HeldPin.{HeldPin}
 use Rattle.gt_calls.specs.Rules.{knowledge_of}
 use Rattle.gt_handles.specs.Handles.{HandleMap}
 use Rattle.gt_words.specs.Conditions.{SeatOf}
-use Rattle.gt_word_table.specs.Rule.{IsKeptHeader}
-use Rattle.gt_word_table.specs.Views.{own_table}
+use Rattle.gt_word_history.specs.Rule.{IsKeptHeader}
+use Rattle.gt_word_history.specs.Views.{own_table}
 use Rattle.gt_live.proofs.Knowing.{same-knowledge}
 use Rattle.gt_live.proofs.domain.known_with.Goals as goal
 

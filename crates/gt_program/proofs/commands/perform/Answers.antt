@@ -1,26 +1,40 @@
-use Rattle.gt_program.proofs.Obeyed.{for_work}
+use Rattle.std.proofs.Common.{ℕ, List}
+use Rattle.gt_explore.specs.Exploring.{Explored}
+use Rattle.gt_script.specs.RunScripts.{RunTells}
+use Rattle.gt_checks.specs.Explaining.{Explained}
+use Rattle.gt_program.specs.Formats.{CheckedAs}
+use Rattle.gt_program.proofs.Obeyed.{answered_input, for_work, verdict_input}
 use Rattle.gt_program.proofs.commands.perform.Goals as goal
 
 pub returns-in-Ok : goal.returns-in-Ok
 returns-in-Ok g c = for_work _ _ _ _ _ _ c.in-Play.is c.in-Ok.ensures
 
-pub returns-in-Ok-explore : goal.returns-in-Ok-explore
-returns-in-Ok-explore g c = for_work _ _ _ _ _ _ c.in-Explore.is c.in-Ok-explore.ensures.text
+pub returns-in-Ok-explore_explained : goal.returns-in-Ok-explore_explained
+returns-in-Ok-explore_explained g c = for_work _ _ _ _ _ _ c.in-Explore.is
+    (verdict_input _ (λ (input : List ℕ). Explored c.in-Explore.asked (RunTells input) (g.W.Write.contents c.args.out.now) (g.W.Write.contents c.explore_explained.new.out)) _ _
+    c.of_verdict.ensures c.in-Ok-explore_explained.ensures)
 
-pub returns-in-Err-explore : goal.returns-in-Err-explore
-returns-in-Err-explore g c = for_work _ _ _ _ _ _ c.in-Explore.is c.in-Err-explore.ensures.text
+pub returns-in-Err-explore_explained : goal.returns-in-Err-explore_explained
+returns-in-Err-explore_explained g c = for_work _ _ _ _ _ _ c.in-Explore.is c.in-Err-explore_explained.ensures
 
-pub returns-in-Ok-list_as : goal.returns-in-Ok-list_as
-returns-in-Ok-list_as g c = for_work _ _ _ _ _ _ c.in-List.is c.in-Ok-list_as.ensures
+pub returns-in-Ok-list_with_reasons : goal.returns-in-Ok-list_with_reasons
+returns-in-Ok-list_with_reasons g c = for_work _ _ _ _ _ _ c.in-List.is c.in-Ok-list_with_reasons.ensures
 
-pub returns-in-Ok-why : goal.returns-in-Ok-why
-returns-in-Ok-why g c = for_work _ _ _ _ _ _ c.in-Why.is c.in-Ok-why.ensures
+pub returns-in-Ok-check_explained : goal.returns-in-Ok-check_explained
+returns-in-Ok-check_explained g c = for_work _ _ _ _ _ _ c.in-Check.is
+    (answered_input _ (λ (input : List ℕ). CheckedAs c.in-Check.script input (g.W.Write.contents c.args.out.now) (g.W.Write.contents c.check_explained.new.out)) _ _
+    c.of_answer.ensures c.in-Ok-check_explained.ensures)
 
-pub returns-in-Err-why : goal.returns-in-Err-why
-returns-in-Err-why g c = for_work _ _ _ _ _ _ c.in-Why.is c.in-Err-why.ensures
+pub returns-in-Ok-why_explained : goal.returns-in-Ok-why_explained
+returns-in-Ok-why_explained g c = for_work _ _ _ _ _ _ c.in-Why.is
+    (answered_input _ (λ (input : List ℕ). Explained c.in-Why.file.now c.in-Why.question input (g.W.Write.contents c.args.out.now) (g.W.Write.contents c.why_explained.new.out)) _ _
+    c.of_answer-in-Ok-why_explained.ensures c.in-Ok-why_explained.ensures)
 
-pub returns-in-Ok-entries_as : goal.returns-in-Ok-entries_as
-returns-in-Ok-entries_as g c = for_work _ _ _ _ _ _ c.in-Entries.is c.in-Ok-entries_as.ensures
+pub returns-in-Err-why_explained : goal.returns-in-Err-why_explained
+returns-in-Err-why_explained g c = for_work _ _ _ _ _ _ c.in-Why.is c.in-Err-why_explained.ensures
 
-pub returns-in-Err-entries_as : goal.returns-in-Err-entries_as
-returns-in-Err-entries_as g c = for_work _ _ _ _ _ _ c.in-Entries.is c.in-Err-entries_as.ensures
+pub returns-in-Ok-entries_explained : goal.returns-in-Ok-entries_explained
+returns-in-Ok-entries_explained g c = for_work _ _ _ _ _ _ c.in-Entries.is c.in-Ok-entries_explained.ensures
+
+pub returns-in-Err-entries_explained : goal.returns-in-Err-entries_explained
+returns-in-Err-entries_explained g c = for_work _ _ _ _ _ _ c.in-Entries.is c.in-Err-entries_explained.ensures

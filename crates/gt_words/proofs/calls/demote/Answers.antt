@@ -5,11 +5,11 @@ use Rattle.gt_words.proofs.StepFacts.{demotes, exchange_missed, exchange_taken, 
 use Rattle.gt_words.proofs.StepFacts.{word_generation}
 use Rattle.gt_types.specs.declared.limits.TheConstants.{LAST_GENERATION}
 use Rattle.gt_words.specs.Conditions.{IsWordOf}
-use Rattle.gt_word_table.specs.Controls.{generation_of}
-use Rattle.gt_word_table.specs.declared.view.EntryRecord.{EntryRecord}
-use Rattle.gt_word_table.specs.Views.{last_of}
+use Rattle.gt_word_history.specs.Controls.{generation_of}
+use Rattle.gt_word_history.specs.declared.view.EntryRecord.{EntryRecord}
+use Rattle.gt_word_history.specs.Views.{last_of}
 use Rattle.gt_entry.specs.declared.change.EntryChange.TheVariants as change
-use Rattle.gt_word_table.specs.declared.view.Purpose.TheVariants as purpose
+use Rattle.gt_word_history.specs.declared.view.Purpose.TheVariants as purpose
 
 -- the word is not worn
 low : (x : EntryRecord) (word : ℕ) → IsWordOf x word → x.generation < LAST_GENERATION → generation_of word < LAST_GENERATION

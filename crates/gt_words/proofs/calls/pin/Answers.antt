@@ -3,9 +3,9 @@ use Rattle.gt_words.proofs.calls.pin.Goals as goal
 use Rattle.gt_words.proofs.StepDuties.{pin_owes}
 use Rattle.gt_words.proofs.StepFacts.{counts_pins, exchange_missed, exchange_taken, misses_pin, pins_entry}
 use Rattle.gt_words.specs.Answers.{StepsOnControl}
-use Rattle.gt_word_table.specs.Views.{last_seen, record_seen}
-use Rattle.gt_word_table.specs.declared.view.EntryStep.TheVariants.{PinMissed, Pinned}
-use Rattle.gt_word_table.specs.declared.view.Purpose.TheVariants as purpose
+use Rattle.gt_word_history.specs.Views.{last_seen, record_seen}
+use Rattle.gt_word_history.specs.declared.view.EntryStep.TheVariants.{PinMissed, Pinned}
+use Rattle.gt_word_history.specs.declared.view.Purpose.TheVariants as purpose
 
 pub exchange-found-requires-clause-may : goal.exchange-found-requires-clause-may
 exchange-found-requires-clause-may c = λ slots id. pin_owes c.args.words.now.layout slots id (c.args.seat.now.view, []) c.args.at.position c.args.at.gref c.requires.entry.0 c.requires.entry.1 c.args.dir c.args.looked _ (ap (λ u. c.args.looked + u) c.pin_unit.ensures) c.requires.can.looked c.requires.can.valid c.requires.can.permitted c.requires.can.room

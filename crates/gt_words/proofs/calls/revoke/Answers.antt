@@ -6,9 +6,9 @@ use Rattle.gt_entry.specs.declared.control.Control.{Control}
 use Rattle.gt_entry.specs.declared.entry.Entry.TheVariants.{Invalid}
 use Rattle.gt_words.proofs.StepDuties.{revoke_owes}
 use Rattle.gt_words.proofs.StepFacts.{exchange_missed, exchange_taken, finds_pins, revokes}
-use Rattle.gt_word_table.specs.Controls.{invalid_word}
+use Rattle.gt_word_history.specs.Controls.{invalid_word}
 use Rattle.gt_entry.specs.declared.change.EntryChange.TheVariants as change
-use Rattle.gt_word_table.specs.declared.view.Purpose.TheVariants as purpose
+use Rattle.gt_word_history.specs.declared.view.Purpose.TheVariants as purpose
 
 -- the invalid word of the same generation
 new_word : (c : Control) (word new : ℕ) → c ≡ control_of word → new ≡ idle_word_of Invalid c.generation → new ≡ invalid_word word

@@ -1,7 +1,7 @@
 use Rattle.std.proofs.Common.{[]}
 use Rattle.gt_words.proofs.calls.store_header.Goals as goal
 use Rattle.gt_words.proofs.Headers.{adds_to_header, small_version, store_header_owes, stores_header}
-use Rattle.gt_word_table.specs.declared.view.HeaderStep.TheVariants as header
+use Rattle.gt_word_history.specs.declared.view.HeaderStep.TheVariants as header
 
 pub pack-requires : goal.pack-requires
 pack-requires c = small_version c.args.header.version c.requires.header.version

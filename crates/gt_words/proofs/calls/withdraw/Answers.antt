@@ -3,7 +3,7 @@ use Rattle.gt_words.proofs.calls.withdraw.Goals as goal
 use Rattle.gt_words.proofs.StepDuties.{withdraw_owes}
 use Rattle.gt_words.proofs.StepFacts.{exchange_missed, exchange_taken, finds_another, takes_change}
 use Rattle.gt_entry.specs.declared.change.EntryChange.TheVariants as change
-use Rattle.gt_word_table.specs.declared.view.Purpose.TheVariants as purpose
+use Rattle.gt_word_history.specs.declared.view.Purpose.TheVariants as purpose
 
 pub exchange-found-requires-clause-may : goal.exchange-found-requires-clause-may
 exchange-found-requires-clause-may c = λ slots id. withdraw_owes c.args.words.now.layout slots id (c.args.seat.now.view, []) c.args.at.position c.args.at.gref c.requires.entry.0 c.requires.entry.1 c.requires.mine.1 c.args.word _ c.withdrawn-new.ensures

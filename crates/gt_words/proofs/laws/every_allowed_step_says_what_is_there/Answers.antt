@@ -1,4 +1,4 @@
-use Rattle.gt_word_table.proofs.Moments.{allowed_says}
+use Rattle.gt_word_history.proofs.Moments.{allowed_says}
 use Rattle.gt_words.proofs.laws.every_allowed_step_says_what_is_there.Goals as goal
 
 pub returns : goal.returns

@@ -1,4 +1,4 @@
-use Rattle.gt_word_table.proofs.Moments.{one_history}
+use Rattle.gt_word_history.proofs.Moments.{one_history}
 use Rattle.gt_words.proofs.laws.every_history_follows_from_the_views.Goals as goal
 
 pub returns : goal.returns

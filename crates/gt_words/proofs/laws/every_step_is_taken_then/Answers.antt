@@ -1,4 +1,4 @@
-use Rattle.gt_word_table.proofs.Moments.{taken_then}
+use Rattle.gt_word_history.proofs.Moments.{taken_then}
 use Rattle.gt_words.proofs.laws.every_step_is_taken_then.Goals as goal
 
 pub returns : goal.returns

@@ -1,5 +1,5 @@
 use Rattle.std.proofs.Common.{ap, ◌∙◌, sym}
-use Rattle.gt_word_table.specs.Rule.{Layout}
+use Rattle.gt_word_history.specs.Rule.{Layout}
 use Rattle.gt_words.proofs.words.make_words.Goals as goal
 
 pub invariant_of-result : goal.invariant_of-result

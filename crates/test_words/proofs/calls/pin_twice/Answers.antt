@@ -1,5 +1,5 @@
 use Rattle.gt_words.specs.Conditions.{position_at}
-use Rattle.gt_word_table.specs.Controls.{generation_of}
+use Rattle.gt_word_history.specs.Controls.{generation_of}
 use Rattle.test_words.proofs.Left.{of_entry, of_pin, one_left, still_held}
 use Rattle.test_words.proofs.calls.pin_twice.Goals as goal
 

@@ -1,4 +1,4 @@
-use Rattle.gt_explore_moves.proofs.AtOnce.{enough-turns}
+use Rattle.gt_explore_moves.proofs.Undisturbed.{enough-turns}
 use Rattle.gt_explore_moves.proofs.space.SearchContextTransitionSystem.turns.Goals as goal
 
 pub returns : goal.returns

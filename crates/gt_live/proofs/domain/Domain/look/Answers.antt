@@ -1,7 +1,7 @@
 use Rattle.std.proofs.Common.{◌≡◌, ap, refl, subst, sym, ◌∙◌}
 use Rattle.gt_types.specs.declared.DomId.{DomId}
 use Rattle.gt_words.specs.Answers.{LooksAtControl}
-use Rattle.gt_word_table.specs.Rule.{position_in}
+use Rattle.gt_word_history.specs.Rule.{position_in}
 use Rattle.gt_calls.specs.declared.action.Observation.TheVariants.{Word}
 use Rattle.gt_calls.specs.declared.action.Step.TheVariants.{LookControl}
 use Rattle.gt_live.specs.Walks.{Made}

@@ -2,8 +2,8 @@ use Rattle.std.proofs.Common.{◌<◌, sym, subst, refl, [], ◌∷◌}
 use Rattle.gt_types.specs.declared.limits.TheConstants.{TABLE_ENTRIES}
 use Rattle.gt_words.specs.Conditions.{HasDomain, Holds}
 use Rattle.gt_words.specs.Answers.{Unpins}
-use Rattle.gt_word_table.specs.Controls.{generation_of}
-use Rattle.gt_word_table.specs.Rule.{position_in}
+use Rattle.gt_word_history.specs.Controls.{generation_of}
+use Rattle.gt_word_history.specs.Rule.{position_in}
 use Rattle.gt_words.specs.declared.words.Pin.{Pin}
 use Rattle.gt_live.specs.declared.domain.Domain.{Domain}
 use Rattle.gt_live.proofs.DomainKept.{some-pins, unmapped}

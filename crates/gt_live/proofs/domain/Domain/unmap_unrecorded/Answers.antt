@@ -7,8 +7,8 @@ use Rattle.gt_handles.specs.Handles.{HandleMap, Updates, count_of, value_of}
 use Rattle.gt_handles.specs.Listing.{IsTaken}
 use Rattle.gt_words.specs.Conditions.{HasDomain, Holds}
 use Rattle.gt_words.specs.Answers.{Unpins}
-use Rattle.gt_word_table.specs.Controls.{generation_of}
-use Rattle.gt_word_table.specs.Rule.{position_in}
+use Rattle.gt_word_history.specs.Controls.{generation_of}
+use Rattle.gt_word_history.specs.Rule.{position_in}
 use Rattle.gt_words.specs.declared.words.Pin.{Pin}
 use Rattle.gt_calls.specs.Asking.{begun_of}
 use Rattle.gt_calls.specs.Opening.{opens}

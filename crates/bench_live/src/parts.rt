@@ -1,0 +1,255 @@
+//! The parts of the threads.
+use crate::audit::{Audit, record_calls};
+use crate::loads::{FIRST_MAPPER, MIDDLE, MOST, OWNER};
+use gt_audit::Trail;
+use gt_calls::{CopyArgs, End};
+use gt_entry::Entry;
+use gt_types::{Allows, DOMID_SELF, DomId, GrantRef, LAST_GENERATION};
+use std::alloc::Global;
+use std::sync::Wait;
+use test_monitor::{READ_ONLY, TestDomain, WRITABLE};
+
+/// The entry of the first mapper.
+const FIRST: u32 = 64;
+
+/// The number of rounds after which a mapper's records are taken.
+const BEFORE_TAKEN: u32 = 128;
+
+/// This number of entries, starting at the first, with this distance.
+#[derive(Clone, Copy)]
+pub(crate) struct Spread {
+    pub count: u32,
+    pub stride: u32,
+}
+
+impl Spread {
+    /// Returns the entry at this index, cyclically, and the domain that maps it.
+    pub fn at(self, place: u64) -> (u32, DomId) {
+        let place = if self.count == 0 {
+            0
+        } else {
+            (place % u64::from(self.count)) as u32 % MOST
+        };
+        let gref = FIRST + place * (self.stride % 256);
+        (gref, DomId(FIRST_MAPPER + place as u16))
+    }
+}
+
+/// The work of the threads on bytes.
+#[derive(Clone, Copy, PartialEq, Eq)]
+pub(crate) enum Moves {
+    /// Loads into a buffer of the thread's.
+    Loads,
+    /// Loads into fresh memory.
+    Fresh,
+    Stores,
+    Copies,
+    /// Copies through a transitive entry at each end.
+    Forwards,
+}
+
+/// The part of a domain, with the entries that it maps or grants. Bytes are moved by the entry of a reference, a number of
+/// them at a time.
+#[derive(Clone, Copy)]
+pub(crate) enum Part {
+    Maps(u32),
+    Grants(Spread),
+    Withdraws(Spread),
+    Moves(Moves, u32, u16),
+}
+
+#[derive(Drop)]
+pub(crate) struct Worker<'m, P: Allows> {
+    pub domain: TestDomain<'m, P>,
+    pub part: Part,
+}
+
+/// Returns a page entry for the domain, writable, with this frame.
+pub(crate) fn page(dom: DomId, frame: u64) -> Entry {
+    Entry::Page {
+        dom,
+        ro: false,
+        frame,
+    }
+}
+
+// Revokes the entries and grants them again by turns, this number of times, each time with as many tries as it takes.
+// Returns how often it did: fewer times if the entries reach their last generation.
+fn revoke_and_grant<P: Allows>(owner: &mut TestDomain<'_, P>, spread: Spread, rounds: u32) -> u32 {
+    let mut done = 0;
+    'rounds: for turn in 0..u64::MAX {
+        if done >= rounds || done >= LAST_GENERATION - 1 {
+            break;
+        }
+        let (gref, dom) = spread.at(turn);
+        if owner.revoke(gref).is_ok() && owner.grant(gref, &page(dom, 5)).is_ok() {
+            done += 1;
+        }
+    }
+    done
+}
+
+// Withdraws the entries by turns, and grants each again once it has no pin, this number of times, each time with as
+// many tries as it takes. Returns how often it did: fewer times if the entries reach their last generation.
+fn withdraw_and_grant<P: Allows>(
+    owner: &mut TestDomain<'_, P>,
+    spread: Spread,
+    rounds: u32,
+) -> u32 {
+    let mut done = 0;
+    let mut withdrawn = false;
+    'rounds: for _ in 0..u64::MAX {
+        if done >= rounds || done >= LAST_GENERATION - 1 {
+            break;
+        }
+        let (gref, dom) = spread.at(u64::from(done));
+        if !withdrawn {
+            withdrawn = owner.withdraw(gref).is_ok();
+        } else if owner.grant(gref, &page(dom, 5)).is_ok() {
+            withdrawn = false;
+            done += 1;
+        }
+    }
+    done
+}
+
+// Maps an entry and unmaps it, this number of times, each time with as many tries as it takes.
+fn map_and_unmap<P: Allows>(domain: &mut TestDomain<'_, P>, gref: u32, rounds: u32) -> u32 {
+    let mut done = 0;
+    'rounds: for _ in 0..u64::MAX {
+        if done >= rounds {
+            break;
+        }
+        if domain.map(OWNER.0, gref, READ_ONLY).is_ok() && domain.unmap().is_ok() {
+            done += 1;
+        }
+    }
+    done
+}
+
+// Does the same in parts, after each of which the records are taken.
+fn map_and_take<P: Allows>(
+    alloc: Global,
+    domain: &mut TestDomain<'_, P>,
+    gref: u32,
+    rounds: u32,
+) -> u32 {
+    let mut done: u32 = 0;
+    let mut taken = Trail::new(alloc);
+    'parts: for _ in 0..u64::MAX {
+        let left = rounds.saturating_sub(done);
+        if left == 0 {
+            break;
+        }
+        let part = map_and_unmap(domain, gref, left.min(BEFORE_TAKEN));
+        taken = domain.take_records(taken);
+        done = done.saturating_add(part);
+    }
+    done
+}
+
+// Returns the copy that a thread makes, of this number of bytes: from the owner's page to a frame of the thread's
+// domain, or from one page of the owner's to another, through two entries of the middle domain.
+fn copy_of(moves: Moves, gref: u32, len: u16) -> CopyArgs {
+    let forwards = moves == Moves::Forwards;
+    let dest = gref.saturating_add(MOST);
+    CopyArgs {
+        source: End {
+            ptr: u64::from(gref),
+            domid: if forwards { MIDDLE } else { OWNER },
+            offset: 0,
+        },
+        dest: End {
+            ptr: if forwards { u64::from(dest) } else { 0 },
+            domid: if forwards { MIDDLE } else { DomId(DOMID_SELF) },
+            offset: 0,
+        },
+        len,
+        flags: if forwards { 3 } else { 1 },
+    }
+}
+
+// Makes one access, and returns whether it was done. A load reads over the buffer, or into fresh memory, and a store
+// writes the buffer's bytes.
+fn move_once<R: Wait, P: Allows>(
+    rt: &R,
+    domain: &mut TestDomain<'_, P>,
+    moves: Moves,
+    copy: &CopyArgs,
+    buffer: &mut [u8],
+) -> bool {
+    match moves {
+        Moves::Loads => domain.load_into(rt, 0, buffer).is_ok(),
+        Moves::Fresh => domain.load(rt, 0, copy.len).is_ok(),
+        Moves::Stores => domain.store(rt, 0, buffer).is_ok(),
+        Moves::Copies | Moves::Forwards => domain.copy(rt, copy).is_ok(),
+    }
+}
+
+// Makes this number of accesses. Returns how many were done.
+fn move_often<R: Wait, P: Allows>(
+    rt: &R,
+    domain: &mut TestDomain<'_, P>,
+    moves: Moves,
+    copy: &CopyArgs,
+    buffer: &mut [u8],
+    rounds: u32,
+) -> u32 {
+    let mut done = 0u32;
+    'rounds: for _ in 0..rounds {
+        if move_once(rt, domain, moves, copy, buffer) {
+            done = done.saturating_add(1);
+        }
+    }
+    done
+}
+
+// Does the same with a buffer of the thread's own, so that no two threads share a cache line. Loads and stores go
+// through a mapping.
+fn move_bytes<R: Wait, P: Allows>(
+    rt: &R,
+    alloc: Global,
+    domain: &mut TestDomain<'_, P>,
+    moves: Moves,
+    gref: u32,
+    len: u16,
+    rounds: u32,
+) -> u32 {
+    let Ok(mut buffer) = vec![in alloc; 0x5au8; usize::from(len)] else {
+        return 0;
+    };
+    let maps = moves != Moves::Copies && moves != Moves::Forwards;
+    if maps && domain.map(OWNER.0, gref, WRITABLE).is_err() {
+        return 0;
+    }
+    move_often(
+        rt,
+        domain,
+        moves,
+        &copy_of(moves, gref, len),
+        buffer.as_mut_slice(),
+        rounds,
+    )
+}
+
+/// Does the part of a worker for this number of rounds. Returns how many were done.
+pub(crate) fn work<R: Wait, P: Allows>(
+    rt: &R,
+    alloc: Global,
+    worker: Worker<'_, P>,
+    audit: Audit,
+    rounds: u32,
+) -> u32 {
+    let Worker { mut domain, part } = worker;
+    let domain = &mut domain;
+    if !record_calls(domain, audit) {
+        return 0;
+    }
+    match part {
+        Part::Maps(gref) if audit == Audit::Taken => map_and_take(alloc, domain, gref, rounds),
+        Part::Maps(gref) => map_and_unmap(domain, gref, rounds),
+        Part::Grants(spread) => revoke_and_grant(domain, spread, rounds),
+        Part::Withdraws(spread) => withdraw_and_grant(domain, spread, rounds),
+        Part::Moves(moves, gref, len) => move_bytes(rt, alloc, domain, moves, gref, len, rounds),
+    }
+}

@@ -1,0 +1,168 @@
+//! The texts of help, at most 80 columns wide.
+
+pub(crate) const HELP: &str =
+    "Plays, explores and checks Xen-style grant tables under a FLASK policy
+
+Usage: gthost <COMMAND>
+
+Commands:
+  play     Play a script line by line and print each answer
+  run      Run each domain of a script in a thread of its own
+  explore  Print every output that `run` could give, over all interleavings
+  policy   List what a policy allows
+  rules    Explain the refusal rules N1 to N26: status, cause, remedy
+  check    Report errors and useless statements in a policy or a script
+  why      Show by which statements a policy allows something
+  entries  Decode a dump of grant-table frames
+  help     Print help, or the help of a command
+
+Options:
+  -h, --help     Print help
+  -V, --version  Print version
+
+A script holds a policy, the domains, and the calls that they make. An answer
+such as `N19 -1` names the rule that refused the call, and its status: see
+`gthost rules`.
+
+Exit status of play, run and policy: 0 on success, 1 on a fault of the script,
+the policy, a file, memory or a thread.
+
+Exit status of explore, rules, check, why and entries: 0 if the answer is yes
+or nothing is wrong, 1 if the answer is no, 2 if there is no answer: a missing
+file, an unknown name, a text that can't be read, or a search given up.
+
+A wrong command line exits with status 2.
+
+Try: gthost play examples/first.gt
+     gthost run examples/ring.gt
+     gthost explore examples/revoke_race.gt
+     gthost policy examples/split_driver.te
+";
+
+pub(crate) const PLAY: &str = "Play a script line by line and print each answer
+
+Usage: gthost play [OPTIONS] [FILE]
+
+Arguments:
+  [FILE]  The script [default: standard input]
+
+Options:
+      --audit               Print a line for each hypercall after all answers
+  -v, --verbose             Explain faults and policy refusals on stderr
+      --format <text|json>  Print text, or a JSON object a line [default: text]
+  -h, --help                Print help
+";
+
+pub(crate) const RUN: &str =
+    "Run each domain of a script in a thread of its own and print its answers
+
+Usage: gthost run [OPTIONS] [FILE]
+
+Arguments:
+  [FILE]  The script [default: standard input]
+
+Options:
+      --audit               Print a line for each hypercall after all answers
+  -v, --verbose             Explain faults and policy refusals on stderr
+      --format <text|json>  Print text, or a JSON object a line [default: text]
+  -h, --help                Print help
+";
+
+pub(crate) const EXPLORE: &str = "Print every output that `run` could give, over all interleavings
+
+Usage: gthost explore [OPTIONS] [FILE]
+
+Arguments:
+  [FILE]  The script [default: standard input]
+
+Options:
+  -v, --verbose          Explain faults on stderr [always on]
+      --find <EXPR>      Print only the outputs that satisfy EXPR
+      --never <EXPR>     Claim that no output satisfies EXPR
+      --always <EXPR>    Claim that each output satisfies EXPR
+      --witness <N|all>  Print a script for `play` that gives output N, or each
+      --states <N>       Stop after N states [default: 100000]
+  -h, --help             Print help
+
+EXPR is terms joined by `&`: WORD (an answer has it), LINE=ANSWER (the answer to
+this line of the script begins so), ID:ANSWER (an answer of this domain does).
+
+Exit status: 0 if the claim holds, or all outputs were found; 1 if it does not
+hold; 2 if it is not decided. A claim that fails prints a script for `play`.
+";
+
+pub(crate) const POLICY: &str =
+    "List what a policy allows: SOURCE TARGET PERMISSION for each allowed triple
+
+Usage: gthost policy [OPTIONS] [FILE]
+
+Arguments:
+  [FILE]  The policy [default: standard input]
+
+Options:
+  -v, --verbose             Explain a fault on stderr
+      --format <text|json>  Print text, or a JSON object a line [default: text]
+  -h, --help                Print help
+";
+
+pub(crate) const RULES: &str = "Explain the refusal rules N1 to N26: status, cause, remedy
+
+Usage: gthost rules [OPTIONS] [RULE]
+
+Arguments:
+  [RULE]  One rule, such as N19 or 19 [default: all rules]
+
+Options:
+  -v, --verbose  Explain faults on stderr [always on]
+  -h, --help     Print help
+";
+
+pub(crate) const CHECK: &str = "Report errors and useless statements in a policy or a script
+
+Usage: gthost check [OPTIONS] [FILE]...
+
+Arguments:
+  [FILE]...  The policies, up to 8, each checked alone [default: standard input]
+
+Options:
+      --script              Check a script, with its policy block
+  -v, --verbose             Explain faults on stderr [always on]
+      --format <text|json>  Print text, or a JSON object a line [default: text]
+  -h, --help                Print help
+";
+
+pub(crate) const WHY: &str = "Show whether a policy allows something, and by which statements
+
+Usage: gthost why [OPTIONS] [SOURCE] [TARGET] [PERMISSION] [FILE]
+
+Arguments:
+  [SOURCE]      The type that acts, or an attribute for all its types
+  [TARGET]      The type that it acts on, or an attribute
+  [PERMISSION]  map_read, map_write, unmap, transfer, setup, copy or query
+  [FILE]        The policy [default: standard input]
+
+Options:
+  -v, --verbose  Explain faults on stderr [always on]
+  -h, --help     Print help
+
+A - as SOURCE, TARGET or PERMISSION means any. With one word alone, it is the
+FILE, and the questions are lines SOURCE TARGET PERMISSION of standard input.
+";
+
+pub(crate) const ENTRIES: &str =
+    "Decode a dump of grant-table frames: a line for each entry that is not zero
+
+Usage: gthost entries [OPTIONS] --version <1|2> [FILE]
+
+Arguments:
+  [FILE]  The dump [default: standard input]
+
+Options:
+      --hex                 The dump is hexadecimal text
+      --all                 Print entries of zeros too
+  -v, --verbose             Explain faults on stderr [always on]
+      --version <1|2>       The version of the table
+      --script <DOM>        Print calls by which domain DOM grants the same
+      --format <text|json>  Print text, or a JSON object a line [default: text]
+  -h, --help                Print help
+";

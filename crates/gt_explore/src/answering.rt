@@ -1,0 +1,381 @@
+//! The answer to a request about a script: the output and the verdict.
+ghost use Rattle.std.specs.Prelude.{◌≡◌, ◌++◌, ◌<◌, ℕ, List, IfOk, IfSome, OnOk, Some, is_some, length, map, slice_get};
+ghost use Rattle.std.specs.List.{position};
+ghost use Rattle.std.specs.Option.{option_map};
+ghost use Rattle.std.specs.Str.{bytes_eq};
+ghost use Rattle.gt_script.specs.Contents.{contents_told};
+ghost use Rattle.gt_script.specs.RunContents.{run_told};
+ghost use Rattle.gt_script.specs.RunScripts.{CanConfigure};
+ghost use Rattle.gt_script.specs.Stuck.{AreNumbered};
+ghost use Rattle.gt_explore_verdict.specs.Expressions.{told};
+ghost use Rattle.gt_explore.specs.Adding.{texts_of_orders};
+ghost use Rattle.gt_explore_verdict.specs.Judging.{judged, verdict_at};
+ghost use Rattle.gt_explore_verdict.specs.declared.judging.Claim.TheVariants.{Find};
+ghost use Rattle.gt_explore_verdict.specs.declared.judging.Verdict.{Verdict};
+ghost use Rattle.gt_explore.specs.Exploring.{DecidesClaim, GivesTexts, GivesWitness, GivesWitnesses, IsMade, NumbersText};
+ghost use Rattle.gt_explore.specs.Exploring.{TellsClaim, TellsClaimBy, TellsVerdict, TellsWitnesses};
+ghost use Rattle.gt_explore.specs.Exploring.{satisfied as satisfied_in};
+ghost use Rattle.gt_explore.specs.Exploring.{verdict_of_all};
+ghost use Rattle.gt_explore.specs.Telling.{found_told, texts_told};
+ghost use Rattle.gt_explore.specs.Witness.{GivesAfter, GivesAnswers, IsWitness};
+
+use crate::checked::gives_answers;
+use crate::conditions::{conditions_for, satisfied};
+use crate::exploring::{ExploreOptions, ExploreRequest};
+use crate::fault::TextsFault;
+use crate::telling::{
+    push_counterexample, push_found_texts, push_place, push_verdict, push_witness_comment,
+};
+use crate::texts::{FoundTexts, texts_within};
+use crate::witness::push_witness;
+use gt_explore_search::FoundText;
+use gt_explore_verdict::{Claim, Condition, Judgement, Verdict, judge, verdict_at};
+use gt_script::RunScript;
+use gt_text::text_of;
+use std::alloc::Global;
+
+/// The output, and the verdict.
+#[derive(Drop)]
+pub struct ExploreOutput {
+    pub text: Vec<u8>,
+    pub verdict: Verdict,
+}
+
+// Returns the verdict on all texts, if there is nothing to decide.
+fn verdict_of_all(whole: bool) -> Verdict
+    ensures { result ≡ verdict_of_all whole }
+{
+    if whole {
+        Verdict::Holds
+    } else {
+        Verdict::Undecided
+    }
+}
+
+// Returns the output for the texts that satisfy these conditions.
+fn texts_told(alloc: Global, found: &FoundTexts, met: &[bool]) -> Result<Vec<u8>, TextsFault>
+    requires { length met.now ≡ length found.now.texts.items }
+    ensures { IfOk result (λ text. text.items ≡ texts_told (found_told found.now) met.now) }
+{
+    let mut text = Vec::new(alloc);
+    push_found_texts(&mut text, found, met)?;
+    Ok(text)
+}
+
+// Returns a script for `play` that gives the text of an order, after this comment. It was played, and gave it.
+fn script_after(
+    alloc: Global,
+    source: &[u8],
+    script: &RunScript,
+    order: &FoundText,
+    comment: Vec<u8>,
+) -> Result<Vec<u8>, TextsFault>
+    requires { CanConfigure (contents_told script.now.head) }
+    ensures { IfOk result (λ text.
+        GivesAfter script.now.head.domains comment.items text.items order.now.text.items) }
+{
+    let Ok(source) = text_of(source) else {
+        return Err(TextsFault::Astray);
+    };
+    let mut lines = Vec::new(alloc);
+    push_witness(alloc, &mut lines, source, script, order.turns.as_slice())?;
+    let mut text = comment;
+    text.extend_from_slice(lines.as_slice())?;
+    let domains = script.head().domains();
+    if !gives_answers(alloc, domains, text.as_slice(), order.text.as_slice())? {
+        return Err(TextsFault::Astray);
+    }
+    Ok(text)
+}
+
+// Returns a script for `play` that gives the text of an order.
+fn script_of(
+    alloc: Global,
+    source: &[u8],
+    script: &RunScript,
+    order: &FoundText,
+) -> Result<Vec<u8>, TextsFault>
+    requires { CanConfigure (contents_told script.now.head) }
+    ensures { IfOk result (λ text. GivesAnswers script.now.head.domains text.items order.now.text.items) }
+{
+    let comment = Vec::new(alloc);
+    script_after(alloc, source, script, order, comment)
+}
+
+// Returns the order at this index.
+fn order_at(orders: &[FoundText], at: usize) -> Option<&FoundText>
+    ensures { option_map (λ o. o.now) result ≡ slice_get orders.now at }
+{
+    orders.get(at)
+}
+
+// Returns a script for `play` that gives the text at this index, which shows that a claim does not hold.
+fn counterexample(
+    alloc: Global,
+    source: &[u8],
+    script: &RunScript,
+    found: &FoundTexts,
+    at: usize,
+) -> Result<Vec<u8>, TextsFault>
+    requires { CanConfigure (contents_told script.now.head) }
+    ensures { IfOk result (λ text. (verdict : Verdict) →
+        TellsVerdict (run_told script.now) (found_told found.now) verdict (Some at) text.items) }
+{
+    let Some(order) = order_at(found.texts.as_slice(), at) else {
+        return Err(TextsFault::Astray);
+    };
+    let Some(number) = at.checked_add(1) else {
+        return Err(TextsFault::Astray);
+    };
+    let mut comment = Vec::new(alloc);
+    push_counterexample(alloc, &mut comment, found, number, order.text.as_slice())?;
+    script_after(alloc, source, script, order, comment)
+}
+
+// Returns the output for a verdict, by the index of the text that shows it.
+fn verdict_told(
+    alloc: Global,
+    source: &[u8],
+    script: &RunScript,
+    found: &FoundTexts,
+    judgement: Judgement,
+) -> Result<Vec<u8>, TextsFault>
+    requires { CanConfigure (contents_told script.now.head) }
+    ensures { IfOk result (λ text. TellsVerdict (run_told script.now) (found_told found.now)
+        judgement.verdict judgement.shown_by text.items) }
+{
+    match judgement.shown_by {
+        Some(at) => counterexample(alloc, source, script, found, at),
+        None => {
+            let mut text = Vec::new(alloc);
+            push_verdict(&mut text, found, judgement.verdict)?;
+            Ok(text)
+        }
+    }
+}
+
+// Returns the output for a claim, by whether each text satisfies the conditions, and by the judgement.
+fn claim_told(
+    alloc: Global,
+    source: &[u8],
+    script: &RunScript,
+    found: &FoundTexts,
+    claim: Claim,
+    met: &[bool],
+    judgement: Judgement,
+) -> Result<Vec<u8>, TextsFault>
+    requires fits { CanConfigure (contents_told script.now.head) }
+    requires many { length met.now ≡ length found.now.texts.items }
+    ensures { IfOk result (λ text. TellsClaimBy (run_told script.now) claim (found_told found.now)
+        met.now judgement text.items) }
+{
+    match claim {
+        Claim::Find => texts_told(alloc, found, met),
+        Claim::Never => verdict_told(alloc, source, script, found, judgement),
+        Claim::Always => verdict_told(alloc, source, script, found, judgement),
+    }
+}
+
+// Returns the output for a claim on these conditions, and the verdict.
+fn claim_made(
+    alloc: Global,
+    source: &[u8],
+    script: &RunScript,
+    found: &FoundTexts,
+    claim: Claim,
+    conditions: &[Condition<'_>],
+) -> Result<ExploreOutput, TextsFault>
+    requires { CanConfigure (contents_told script.now.head) }
+    ensures verdict { IfOk result (λ made. made.verdict
+        ≡ (judged claim (satisfied_in (map told conditions.now) (found_told found.now)) found.now.whole).verdict) }
+    ensures text { IfOk result (λ made. TellsClaim (run_told script.now) claim (map told conditions.now)
+        (found_told found.now) made.text.items) }
+{
+    let met = satisfied(alloc, conditions, found.texts.as_slice())?;
+    let judgement = judge(claim, met.as_slice(), found.whole);
+    let text = claim_told(
+        alloc,
+        source,
+        script,
+        found,
+        claim,
+        met.as_slice(),
+        judgement,
+    )?;
+    let verdict = judgement.verdict;
+    Ok(ExploreOutput { text, verdict })
+}
+
+// Decides a claim on the conditions of an expression.
+fn decided(
+    alloc: Global,
+    source: &[u8],
+    script: &RunScript,
+    states: usize,
+    claim: Claim,
+    expression: &str,
+) -> Result<ExploreOutput, TextsFault>
+    requires fits { CanConfigure (contents_told script.now.head) }
+    requires numbered { AreNumbered script.now.flags script.now.tasks }
+    ensures { IfOk result (λ made. DecidesClaim (run_told script.now) claim expression.now made.text.items made.verdict) }
+{
+    let conditions = conditions_for(alloc, script, expression)?;
+    let found = texts_within(alloc, script, states)?;
+    claim_made(alloc, source, script, &found, claim, conditions.as_slice())
+}
+
+// Returns all texts that were found.
+fn all_texts(alloc: Global, script: &RunScript, states: usize) -> Result<ExploreOutput, TextsFault>
+    requires fits { CanConfigure (contents_told script.now.head) }
+    requires numbered { AreNumbered script.now.flags script.now.tasks }
+    ensures { IfOk result (λ made. GivesTexts (run_told script.now) made.text.items made.verdict) }
+{
+    let found = texts_within(alloc, script, states)?;
+    let none: Vec<Condition> = Vec::new(alloc);
+    let met = satisfied(alloc, none.as_slice(), found.texts.as_slice())?;
+    let text = texts_told(alloc, &found, met.as_slice())?;
+    let verdict = verdict_of_all(found.whole);
+    Ok(ExploreOutput { text, verdict })
+}
+
+// Returns the index of a text among those of these orders.
+fn place_of(orders: &[FoundText], text: &[u8]) -> Option<usize>
+    ensures place { result ≡ position (λ o. bytes_eq o.text.items text.now) orders.now }
+    ensures within { IfSome result (λ at. at < length orders.now) }
+{
+    orders
+        .iter()
+        .position(|order| order.text.as_slice() == text)
+}
+
+// Returns the verdict on a text, by its index among those that were found.
+fn verdict_on(place: Option<usize>, whole: bool) -> Verdict
+    ensures { result ≡ verdict_at Find (is_some place) whole }
+{
+    verdict_at(Claim::Find, place.is_some(), whole)
+}
+
+// Returns the number of this text, if it was found.
+fn number_of(
+    alloc: Global,
+    script: &RunScript,
+    states: usize,
+    given: &[u8],
+) -> Result<ExploreOutput, TextsFault>
+    requires fits { CanConfigure (contents_told script.now.head) }
+    requires numbered { AreNumbered script.now.flags script.now.tasks }
+    ensures { IfOk result (λ made. NumbersText (run_told script.now) given.now made.text.items made.verdict) }
+{
+    let found = texts_within(alloc, script, states)?;
+    let place = place_of(found.texts.as_slice(), given);
+    let verdict = verdict_on(place, found.whole);
+    let mut text = Vec::new(alloc);
+    push_place(&mut text, &found, place)?;
+    Ok(ExploreOutput { text, verdict })
+}
+
+// Returns a script for `play` that gives the text of this number among those that were found.
+fn script_numbered(
+    alloc: Global,
+    source: &[u8],
+    script: &RunScript,
+    found: &FoundTexts,
+    number: usize,
+) -> Result<Vec<u8>, TextsFault>
+    requires { CanConfigure (contents_told script.now.head) }
+    ensures { IfOk result (λ text.
+        IsWitness script.now.head.domains (texts_of_orders found.now.texts.items) number text.items) }
+{
+    let Some(at) = number.checked_sub(1) else {
+        return Err(TextsFault::Witness);
+    };
+    let Some(order) = found.texts.get(at) else {
+        return Err(TextsFault::Witness);
+    };
+    script_of(alloc, source, script, order)
+}
+
+// Returns a script for `play` that gives the text of this number.
+fn witness(
+    alloc: Global,
+    source: &[u8],
+    script: &RunScript,
+    states: usize,
+    number: usize,
+) -> Result<ExploreOutput, TextsFault>
+    requires fits { CanConfigure (contents_told script.now.head) }
+    requires numbered { AreNumbered script.now.flags script.now.tasks }
+    ensures { IfOk result (λ made. GivesWitness (run_told script.now) number made.text.items made.verdict) }
+{
+    let found = texts_within(alloc, script, states)?;
+    let text = script_numbered(alloc, source, script, &found, number)?;
+    let verdict = verdict_of_all(found.whole);
+    Ok(ExploreOutput { text, verdict })
+}
+
+// Appends a script for `play` for each of these texts.
+fn push_witnesses(
+    alloc: Global,
+    out: &mut Vec<u8>,
+    source: &[u8],
+    script: &RunScript,
+    found: &FoundTexts,
+) -> Result<(), TextsFault>
+    requires { CanConfigure (contents_told script.now.head) }
+    ensures { OnOk result ((more : List ℕ) × (out.new.items ≡ out.old.items ++ more)
+        × TellsWitnesses (run_told script.now) (found_told found.now) 0 (texts_of_orders found.now.texts.items) more) }
+{
+    let mut number = 0;
+    let orders = found.texts.as_slice();
+    'orders: for order in orders {
+        number += 1;
+        push_witness_comment(alloc, out, found, number)?;
+        let text = script_of(alloc, source, script, order)?;
+        out.extend_from_slice(text.as_slice())?;
+    }
+    Ok(())
+}
+
+// Returns a script for `play` for each text.
+fn witnesses(
+    alloc: Global,
+    source: &[u8],
+    script: &RunScript,
+    states: usize,
+) -> Result<ExploreOutput, TextsFault>
+    requires fits { CanConfigure (contents_told script.now.head) }
+    requires numbered { AreNumbered script.now.flags script.now.tasks }
+    ensures { IfOk result (λ made. GivesWitnesses (run_told script.now) made.text.items made.verdict) }
+{
+    let found = texts_within(alloc, script, states)?;
+    let mut text = Vec::new(alloc);
+    push_witnesses(alloc, &mut text, source, script, &found)?;
+    let verdict = verdict_of_all(found.whole);
+    Ok(ExploreOutput { text, verdict })
+}
+
+/// Returns the answer to a request about a script.
+///
+/// # Errors
+/// A fault of the search or of the expression, that no text has the number of the witness, or `Memory`.
+pub fn made_of(
+    alloc: Global,
+    asked: &ExploreOptions,
+    source: &[u8],
+    script: &RunScript,
+) -> Result<ExploreOutput, TextsFault>
+    requires fits { CanConfigure (contents_told script.now.head) }
+    requires numbered { AreNumbered script.now.flags script.now.tasks }
+    ensures { IfOk result (λ made. IsMade (run_told script.now) asked.now made.text.items made.verdict) }
+{
+    let states = asked.states;
+    match asked.request {
+        ExploreRequest::Texts => all_texts(alloc, script, states),
+        ExploreRequest::Decide { claim, expression } => {
+            decided(alloc, source, script, states, claim, expression)
+        }
+        ExploreRequest::Has(text) => number_of(alloc, script, states, text),
+        ExploreRequest::Witness(number) => witness(alloc, source, script, states, number),
+        ExploreRequest::Witnesses => witnesses(alloc, source, script, states),
+    }
+}

@@ -1,0 +1,1064 @@
+-- The domains of a set that no domain outside can disturb may go first: no text is lost.
+use Rattle.std.proofs.Common.{◌≡◌, ◌≢◌, ◌⊎◌, inl, inr, ◌<◌, ℕ, zero, suc, refl, Bool, true, false, cond, List, [], ◌∷◌}
+use Rattle.std.proofs.Common.{◌++◌, length, map, drop, take, get_or}
+use Rattle.std.proofs.Common.{Option, Some, None, sym, ap, ◌∙◌, subst, arith}
+use Rattle.std.specs.List.{list_any}
+use Rattle.std.specs.Prelude.{◌==◌, ◌||◌, slice_get, slice_set, AllPairs}
+use Rattle.std.proofs.lemmas.Bool.{eq-eqb, eqb-true, false≢true}
+use Rattle.std.proofs.lemmas.Option.{none-some, same_Some, slice_get_within}
+use Rattle.gt_types.specs.declared.DomId.{DomId}
+use Rattle.gt_types.specs.declared.config.DomainConfig.{DomainConfig}
+use Rattle.gt_handles.specs.declared.handles.Handle.{Handle}
+use Rattle.gt_calls.specs.Path.{path}
+use Rattle.gt_calls.specs.Rules.{CallerKnowledge}
+use Rattle.gt_calls.specs.declared.action.Action.TheVariants as actions
+use Rattle.gt_calls.specs.declared.action.Observation.{Observation}
+use Rattle.gt_calls.specs.declared.action.Step.{Step}
+use Rattle.gt_calls.specs.declared.action.Step.TheVariants as steps
+use Rattle.gt_calls.specs.declared.action.Step.TheVariants.{Unpin}
+use Rattle.gt_calls.specs.declared.held.HeldPin.{HeldPin}
+use Rattle.gt_calls.specs.declared.judging.TheConstants.{SERIAL_LIMIT}
+use Rattle.gt_calls.specs.declared.request.OpenRequest.{OpenRequest}
+use Rattle.gt_calls.specs.declared.request.PinHolder.TheVariants.{Mapping as ByHandle}
+use Rattle.gt_calls.specs.declared.request.Request.{Request}
+use Rattle.gt_calls.specs.declared.request.Request.TheVariants as requests
+use Rattle.gt_core.specs.History.{History, Setting, Underway, known_at, maps_answered_at, mappings_at, open_call}
+use Rattle.gt_core.specs.History.{values}
+use Rattle.gt_core.specs.Justified.{Justified}
+use Rattle.gt_core.specs.Legal.{IsItemOf, IsRight, MayDo, StepsRightIn, actor_of, grown}
+use Rattle.gt_core.specs.Swapping.{AreApart, SameSeen}
+use Rattle.gt_core.specs.declared.trace.Element.{Element}
+use Rattle.gt_core.specs.declared.trace.Element.TheVariants.{Item as Did, Busy, Idle, NoDomain}
+use Rattle.gt_core.specs.declared.trace.Event.{Event}
+use Rattle.gt_core.specs.declared.trace.Event.TheVariants.{Begin, Tick}
+use Rattle.gt_core.specs.declared.trace.Item.{Item}
+use Rattle.gt_core.specs.declared.trace.ItemEvent.{ItemEvent}
+use Rattle.gt_core.specs.declared.trace.ItemEvent.TheVariants.{Began, Stepped}
+use Rattle.gt_core.proofs.AgreementKept.{open_call-other}
+use Rattle.gt_core.proofs.Steps.Observers.{other-known}
+use Rattle.gt_core.proofs.Swapping.{Releases, began-apart, events-first, grown-same, may-same}
+use Rattle.gt_host.specs.Playing.{setting_of_script}
+use Rattle.gt_host.specs.Runs.{answer_in}
+use Rattle.gt_explore_replay.specs.Abreast.{CanComeNext, history_in}
+use Rattle.gt_explore_replay.specs.Courses.{AllCoursesEnd, Course, CourseEnds, CourseLeads, ActionLeads, Opened}
+use Rattle.gt_explore_replay.specs.Courses.{OpenLeads}
+use Rattle.gt_explore_replay.specs.Courses.{RestLeads, calling, giving, resting}
+use Rattle.gt_explore_replay.specs.Orders.{Happening, did, raised, passed, doer, IsRaisedBefore}
+use Rattle.gt_explore_replay.specs.declared.replay.Turn.{Turn}
+use Rattle.gt_explore_replay.proofs.Coming.{IsQuiet, tells, waits}
+use Rattle.gt_explore_replay.proofs.Following.{there_is}
+use Rattle.gt_explore_replay.proofs.Places.{drop_here, get_set}
+use Rattle.gt_explore_replay.proofs.Turning.{AllDiffer, IsNoneOf, all-differ, ids, numbers}
+use Rattle.gt_explore_replay.proofs.Whole.{history_did, history_quiet, raised_or}
+use Rattle.gt_script.specs.Contents.{type_names}
+use Rattle.gt_script.specs.Lists.{RunTask, RunAction}
+use Rattle.gt_script.specs.declared.tasks.RunActionBy.TheVariants.{Await, Do, Tell}
+use Rattle.gt_script.specs.RunContents.{RunContents}
+use Rattle.gt_explore_moves.specs.Calls.{GoesAlong, ShowsCalls, ShowsOpen}
+use Rattle.gt_explore_moves.specs.Ends.{choices_at, choices_in, is_done, tasks_at, turns_by}
+use Rattle.gt_explore_moves.specs.Mappings.{mapping_pins}
+use Rattle.gt_explore_moves.specs.Scenes.{IsSceneOf, SceneShows}
+use Rattle.gt_explore_moves.specs.Spaces.{Point, printed_by, scene_ways}
+use Rattle.gt_explore_moves.specs.Touches.{AreOfSet, AreToBeTried, AreUndisturbed, first_left, first_of, is_load}
+use Rattle.gt_explore_moves.specs.Touches.{is_store, may_meet, meets, meets_mapping, meets_task}
+use Rattle.gt_explore_moves.specs.Touches.{next_at_rest, next_move, step_meets, tasks_unfinished, use_of}
+use Rattle.gt_explore_moves.specs.declared.touches.MappingUse.{MappingUse}
+use Rattle.gt_explore_moves.specs.declared.actor.Actor.{Actor}
+use Rattle.gt_explore_moves.specs.declared.actor.ActorCall.{ActorCall}
+use Rattle.gt_explore_moves.specs.declared.actor.LabelledMapping.{LabelledMapping}
+use Rattle.gt_explore_moves.specs.declared.scene.SearchContext.{SearchContext}
+use Rattle.gt_explore_moves.specs.declared.scene.SearchState.{SearchState}
+use Rattle.gt_explore_moves.specs.declared.touches.NextMove.{NextMove}
+use Rattle.gt_explore_moves.specs.declared.touches.NextMove.TheVariants.{Awaits, Free, Makes}
+use Rattle.gt_explore_moves.specs.declared.touches.Touch.{Touch}
+use Rattle.gt_explore_moves.specs.declared.touches.Touch.TheVariants.{Entry}
+use Rattle.gt_explore_moves.proofs.CourseMoves.{course-moves, ends-done}
+use Rattle.gt_explore_moves.proofs.HandlesAnswered.{after-dom, back-dom}
+use Rattle.gt_explore_moves.proofs.LineBegins.{tasks-short}
+use Rattle.gt_explore_moves.proofs.MovesAlong.{none-open}
+use Rattle.gt_explore_moves.proofs.MovesListed.{turn-listed}
+use Rattle.gt_explore_moves.proofs.OpenAlong.{run-makes}
+use Rattle.gt_explore_moves.proofs.SameStep.{along-of}
+use Rattle.gt_explore_moves.proofs.SpaceMoves.{each-turn}
+use Rattle.gt_explore_moves.proofs.StateComesOn.{raised-here, raised-still, task-own}
+use Rattle.gt_explore_moves.proofs.Touching.{DeedTouches, RequestTouches, StepTouches, TasksTouch, Unmet, meets-under}
+use Rattle.gt_explore_moves.proofs.Touching.{or-false}
+use Rattle.gt_explore_moves.proofs.Touching.{PinTouches, said-touches, steps-apart, unmap-found, unmaps-release}
+use Rattle.gt_explore_moves.proofs.Touching.{unmet-deed, unmet-mapping}
+use Rattle.gt_explore_moves.proofs.Within.{CallWithin, ElementTouches, HappeningTouches, ItemTouches, PinsTouch, Within}
+use Rattle.gt_explore_moves.proofs.Within.{course-within, others-within}
+use Rattle.gt_explore_search.specs.Ways.{EndsSoBy, GoesTo, HasEnoughTurns}
+use Rattle.gt_explore_search.proofs.Finding.{each_enough}
+
+-- flags
+
+-- what was raised by the one was raised by the other
+abbrev RaisedToo : List Happening → List Happening → Type 0
+RaisedToo hs gs = (flag : ℕ) → IsRaisedBefore (length hs) flag hs → IsRaisedBefore (length gs) flag gs
+
+raised-too : (hs gs : List Happening) (x : Happening) → RaisedToo hs gs → RaisedToo (hs ++ x ∷ []) (gs ++ x ∷ [])
+raised-too hs gs x too flag was = elim (raised_or hs x flag was) [
+  | inl before ↦ raised-still gs x flag (too flag before)
+  | inr now ↦ raised-here gs x now.0 flag now.1
+]
+
+raised-swap : (hs : List Happening) (x y : Happening) → RaisedToo ((hs ++ x ∷ []) ++ y ∷ []) ((hs ++ y ∷ []) ++ x ∷ [])
+raised-swap hs x y flag was = elim (raised_or (hs ++ x ∷ []) y flag was) [
+  | inl before ↦ elim (raised_or hs x flag before) [
+    | inl first ↦ raised-still (hs ++ y ∷ []) x flag (raised-still hs y flag first)
+    | inr now ↦ raised-here (hs ++ y ∷ []) x now.0 flag now.1
+  ]
+  | inr now ↦ raised-still (hs ++ y ∷ []) x flag (raised-here hs y now.0 flag now.1)
+]
+
+-- runs that look the same
+
+seen-none : (s : Setting) (h : History) → SameSeen s h h
+seen-none s h = record {
+  own = λ d. record {
+    entries = λ r. refl;
+    raises = λ r. refl;
+    table = refl;
+    pins = refl;
+    maps = refl;
+    call = refl;
+    against = refl;
+  };
+  entries = λ t r. record { entry = refl; raises = refl; reads = refl; writes = refl };
+  bodies = λ t r half. refl;
+  patches = λ t f. refl;
+}
+
+module _ (s : Setting) where
+  -- two runs look the same to all domains
+  pub record LookSame (hs gs : List Happening) : Type 0 where
+    pub seen : SameSeen s (history_in hs) (history_in gs)
+    pub flags : RaisedToo hs gs
+
+  may-come : (hs gs : List Happening) (x : Happening) → LookSame hs gs → CanComeNext s hs x → CanComeNext s gs x
+  may-come hs gs (did e y) same may = may-same s (history_in hs) (history_in gs) e y same.seen may
+  may-come hs gs (raised d flag) same may = tt
+  may-come hs gs (passed d flag) same may = same.flags flag may
+
+  quiet-same : (hs gs : List Happening) (x : Happening) → history_in (hs ++ x ∷ []) ≡ history_in hs
+      → history_in (gs ++ x ∷ []) ≡ history_in gs → SameSeen s (history_in hs) (history_in gs)
+      → SameSeen s (history_in (hs ++ x ∷ [])) (history_in (gs ++ x ∷ []))
+  quiet-same hs gs x one other same = subst (λ l. SameSeen s l (history_in (gs ++ x ∷ []))) (sym one)
+      (subst (λ l. SameSeen s (history_in hs) l) (sym other) same)
+
+  seen-more : (hs gs : List Happening) (x : Happening) → SameSeen s (history_in hs) (history_in gs)
+      → SameSeen s (history_in (hs ++ x ∷ [])) (history_in (gs ++ x ∷ []))
+  seen-more hs gs (did e y) same = subst (λ l. SameSeen s l (history_in (gs ++ did e y ∷ [])))
+      (sym (history_did hs e y))
+      (subst (λ l. SameSeen s (grown (history_in hs) y) l) (sym (history_did gs e y))
+      (grown-same s (history_in hs) (history_in gs) y same))
+  seen-more hs gs (raised d flag) same = quiet-same hs gs (raised d flag)
+      (history_quiet hs (raised d flag) (tells d flag)) (history_quiet gs (raised d flag) (tells d flag)) same
+  seen-more hs gs (passed d flag) same = quiet-same hs gs (passed d flag)
+      (history_quiet hs (passed d flag) (waits d flag)) (history_quiet gs (passed d flag) (waits d flag)) same
+
+  same-more : (hs gs : List Happening) (x : Happening) → LookSame hs gs → LookSame (hs ++ x ∷ []) (gs ++ x ∷ [])
+  same-more hs gs x same = record { seen = seen-more hs gs x same.seen; flags = raised-too hs gs x same.flags }
+
+  -- a happening that waits for no other one
+  abbrev IsFree : List Happening → Happening → Type 0
+  IsFree hs (did e y) = Unit {0}
+  IsFree hs (raised d flag) = Unit {0}
+  IsFree hs (passed d flag) = IsRaisedBefore (length hs) flag hs
+
+  -- the items of the later happening and of the one before it are apart, if both have one
+  abbrev AreItemsApart : List Happening → Happening → Happening → Type 0
+  AreItemsApart hs (did f y) (did e z) =
+      (i j : Item) → z ≡ Did i → y ≡ Did j → (i.actor.0 == j.actor.0) ≡ false → AreApart s (history_in hs) i j
+  AreItemsApart hs (did f y) x = Unit {0}
+  AreItemsApart hs (raised d flag) x = Unit {0}
+  AreItemsApart hs (passed d flag) x = Unit {0}
+
+  -- two happenings that come in either order
+  abbrev Swapped : List Happening → Happening → Happening → Type 0
+  Swapped hs x y = CanComeNext s hs y × CanComeNext s (hs ++ y ∷ []) x × LookSame ((hs ++ x ∷ []) ++ y ∷ [])
+      ((hs ++ y ∷ []) ++ x ∷ [])
+
+  -- one of them is quiet
+  quiet-seen : (hs : List Happening) (x y : Happening) →
+      ((gs : List Happening) → history_in (gs ++ x ∷ []) ≡ history_in gs)
+      → SameSeen s (history_in ((hs ++ x ∷ []) ++ y ∷ [])) (history_in ((hs ++ y ∷ []) ++ x ∷ []))
+  quiet-seen hs x y quiet = subst (λ l. SameSeen s (history_in ((hs ++ x ∷ []) ++ y ∷ [])) l)
+      (sym (quiet (hs ++ y ∷ [])))
+      (seen-more (hs ++ x ∷ []) hs y (subst (λ l. SameSeen s l (history_in hs)) (sym (quiet hs))
+      (seen-none s (history_in hs))))
+
+  quiet-after : (hs : List Happening) (x y : Happening) →
+      ((gs : List Happening) → history_in (gs ++ y ∷ []) ≡ history_in gs)
+      → SameSeen s (history_in ((hs ++ x ∷ []) ++ y ∷ [])) (history_in ((hs ++ y ∷ []) ++ x ∷ []))
+  quiet-after hs x y quiet = subst (λ l. SameSeen s l (history_in ((hs ++ y ∷ []) ++ x ∷ [])))
+      (sym (quiet (hs ++ x ∷ [])))
+      (seen-more hs (hs ++ y ∷ []) x (subst (λ l. SameSeen s (history_in hs) l) (sym (quiet hs))
+      (seen-none s (history_in hs))))
+
+  come-later : (hs : List Happening) (y x : Happening) → IsQuiet y → CanComeNext s hs x → CanComeNext s (hs ++ y ∷ []) x
+  come-later hs y x quiet may = may-come hs (hs ++ y ∷ []) x (record {
+    seen = subst (λ l. SameSeen s (history_in hs) l) (sym (history_quiet hs y quiet)) (seen-none s (history_in hs));
+    flags = raised-still hs y;
+  }) may
+
+  swap-first : (hs : List Happening) (x y : Happening) → IsFree hs y → AreItemsApart hs y x
+      → ((doer x).0 == (doer y).0) ≡ false → CanComeNext s hs x → CanComeNext s (hs ++ x ∷ []) y → Swapped hs x y
+  swap-first hs x (raised d flag) free items apart first second = (
+    tt,
+    come-later hs (raised d flag) x (tells d flag) first,
+    record {
+      seen = quiet-after hs x (raised d flag) (λ gs. history_quiet gs (raised d flag) (tells d flag));
+      flags = raised-swap hs x (raised d flag);
+    },
+  )
+  swap-first hs x (passed d flag) free items apart first second = (
+    free,
+    come-later hs (passed d flag) x (waits d flag) first,
+    record {
+      seen = quiet-after hs x (passed d flag) (λ gs. history_quiet gs (passed d flag) (waits d flag));
+      flags = raised-swap hs x (passed d flag);
+    },
+  )
+  swap-first hs (did e z) (did f y) free items apart first second =
+      let it = events-first s (history_in hs) e z f y apart items first
+      (subst (λ l. MayDo s l f y) (history_did hs e z) second) in (
+        it.0,
+        subst (λ l. MayDo s l e z) (sym (history_did hs f y)) it.1,
+        record {
+          seen = subst (λ l. SameSeen s l (history_in ((hs ++ did f y ∷ []) ++ did e z ∷ [])))
+              (sym (history_did (hs ++ did e z ∷ []) f y ∙ ap (λ l. grown l y) (history_did hs e z)))
+              (subst (λ l. SameSeen s (grown (grown (history_in hs) z) y) l)
+              (sym (history_did (hs ++ did f y ∷ []) e z
+              ∙ ap (λ l. grown l z) (history_did hs f y))) it.2);
+          flags = raised-swap hs (did e z) (did f y);
+        },
+      )
+  swap-first hs (raised c flag) (did f y) free items apart first second = (
+    subst (λ l. MayDo s l f y) (history_quiet hs (raised c flag) (tells c flag)) second,
+    tt,
+    record {
+      seen = quiet-seen hs (raised c flag) (did f y) (λ gs. history_quiet gs (raised c flag) (tells c flag));
+      flags = raised-swap hs (raised c flag) (did f y);
+    },
+  )
+  swap-first hs (passed c flag) (did f y) free items apart first second = (
+    subst (λ l. MayDo s l f y) (history_quiet hs (passed c flag) (waits c flag)) second,
+    raised-still hs (did f y) flag first,
+    record {
+      seen = quiet-seen hs (passed c flag) (did f y) (λ gs. history_quiet gs (passed c flag) (waits c flag));
+      flags = raised-swap hs (passed c flag) (did f y);
+    },
+  )
+
+-- courses
+
+leads-line : (types : List (List ℕ)) (k j : Course) (line : ℕ) (left : List RunTask) (deed : RunAction) (x : Happening)
+    → ActionLeads types k line left deed x j → (j.dom ≡ k.dom) × (doer x ≡ k.dom)
+leads-line types k j line left (Tell flag) x leads = (ap (λ (z : Course). z.dom) leads.1, ap doer leads.0)
+leads-line types k j line left (Await flag) x leads = (ap (λ (z : Course). z.dom) leads.1, ap doer leads.0)
+leads-line types k j line left (Do call) x (q, e, says, is, to) =
+    (ap (λ (z : Course). z.dom) to ∙ after-dom types line call _ (record k { tasks = left }) _, ap doer is)
+
+leads-rest : (types : List (List ℕ)) (k j : Course) (tasks : List RunTask) (choice : ℕ) (x : Happening)
+    → RestLeads types k tasks choice x j → (j.dom ≡ k.dom) × (doer x ≡ k.dom)
+leads-rest types k j [] choice x (handle, e, there, is, done, to) = (
+  ap (λ (z : Course). z.dom) to ∙ back-dom (record k { held = take choice k.held ++ drop (suc choice) k.held })
+      (answer_in e),
+  ap doer is,
+)
+leads-rest types k j (t ∷ ts) choice x leads = leads-line types k j t.line ts t.deed x leads.1
+
+leads-open : (types : List (List ℕ)) (k j : Course) (opened : Opened) (choice : ℕ) (x : Happening)
+    → OpenLeads types k opened choice x j → (j.dom ≡ k.dom) × (doer x ≡ k.dom)
+leads-open types k j resting choice x leads = leads-rest types k j k.tasks choice x leads
+leads-open types k j (calling line call lost) choice x (none, e, is, to) =
+    (ap (λ (z : Course). z.dom) to ∙ after-dom types line call lost k _, ap doer is)
+leads-open types k j giving choice x (none, e, is, done, to) =
+    (ap (λ (z : Course). z.dom) to ∙ back-dom k _, ap doer is)
+
+-- a course goes on in the name of its domain
+leads-dom : (types : List (List ℕ)) (k j : Course) (choice : ℕ) (x : Happening) → CourseLeads types k choice x j
+    → (j.dom ≡ k.dom) × (doer x ≡ k.dom)
+leads-dom types k j choice x leads = leads-open types k j k.opened choice x leads
+
+numbers-set : (ks : List Course) (at : ℕ) (k j : Course) → slice_get ks at ≡ Some k → j.dom ≡ k.dom
+    → numbers (slice_set ks at j) ≡ numbers ks
+numbers-set [] at k j there dom = refl
+numbers-set (l ∷ ks) zero k j there dom = ap (λ (d : DomId). d.0 ∷ numbers ks)
+    (dom ∙ ap (λ (z : Course). z.dom) (sym (same_Some l k there)))
+numbers-set (l ∷ ks) (suc at) k j there dom = ap (λ ns. l.dom.0 ∷ ns) (numbers-set ks at k j there dom)
+
+none-there : (n : ℕ) (ks : List Course) (at : ℕ) (k : Course) → IsNoneOf n (numbers ks) → slice_get ks at ≡ Some k
+    → n ≢ k.dom.0
+none-there n [] at k none there = absurd (none-some k there)
+none-there n (l ∷ ks) zero k none there = λ e. none.0 (e ∙ ap (λ (z : Course). z.dom.0) (sym (same_Some l k there)))
+none-there n (l ∷ ks) (suc at) k none there = none-there n ks at k none.1 there
+
+differ-at : (ks : List Course) (a b : ℕ) (k l : Course) → AllDiffer (numbers ks) → slice_get ks a ≡ Some k
+    → slice_get ks b ≡ Some l → a ≢ b → k.dom.0 ≢ l.dom.0
+differ-at [] a b k l differ one other apart = absurd (none-some k one)
+differ-at (j ∷ ks) zero zero k l differ one other apart = absurd (apart refl)
+differ-at (j ∷ ks) zero (suc b) k l differ one other apart = λ e. none-there j.dom.0 ks b l differ.0 other
+    (ap (λ (z : Course). z.dom.0) (same_Some j k one) ∙ e)
+differ-at (j ∷ ks) (suc a) zero k l differ one other apart = λ e. none-there j.dom.0 ks a k differ.0 one
+    (ap (λ (z : Course). z.dom.0) (same_Some j l other) ∙ sym e)
+differ-at (j ∷ ks) (suc a) (suc b) k l differ one other apart = differ-at ks a b k l differ.1 one other
+    (λ e. apart (ap suc e))
+
+set-apart : {A : Type 0} (xs : List A) (a b : ℕ) (x y : A) → a ≢ b
+    → slice_set (slice_set xs a x) b y ≡ slice_set (slice_set xs b y) a x
+set-apart [] a b x y apart = refl
+set-apart (z ∷ xs) zero zero x y apart = absurd (apart refl)
+set-apart (z ∷ xs) zero (suc b) x y apart = refl
+set-apart (z ∷ xs) (suc a) zero x y apart = refl
+set-apart (z ∷ xs) (suc a) (suc b) x y apart = ap (λ l. z ∷ l) (set-apart xs a b x y (λ e. apart (ap suc e)))
+
+get-apart : {A : Type 0} (xs : List A) (a b : ℕ) (x : A) → a ≢ b → slice_get (slice_set xs a x) b ≡ slice_get xs b
+get-apart [] a b x apart = refl
+get-apart (z ∷ xs) zero zero x apart = absurd (apart refl)
+get-apart (z ∷ xs) zero (suc b) x apart = refl
+get-apart (z ∷ xs) (suc a) zero x apart = refl
+get-apart (z ∷ xs) (suc a) (suc b) x apart = get-apart xs a b x (λ e. apart (ap suc e))
+
+one-ends : (ks : List Course) (at : ℕ) (k : Course) → AllCoursesEnd ks → slice_get ks at ≡ Some k → CourseEnds k
+one-ends [] at k all here = absurd (none-some k here)
+one-ends (j ∷ ks) zero k all here = subst CourseEnds (same_Some j k here) all.0
+one-ends (j ∷ ks) (suc at) k all here = one-ends ks at k all.1 here
+
+number-apart : (a b : ℕ) → a ≢ b → (a == b) ≡ false
+number-apart a b apart = by (a == b) refl where
+  by : (v : Bool) → (a == b) ≡ v → (a == b) ≡ false
+  by true e = absurd (apart (eqb-true a b e))
+  by false e = e
+
+-- ways
+
+module _ (c : RunContents) where
+  -- by these turns the domains go on to the ends of their courses, after this happened
+  abbrev Goes : List Happening → List Course → List Turn → List Course → Type 0
+  Goes hs ks [] ls = (ks ≡ ls) × AllCoursesEnd ks
+  Goes hs ks (u ∷ us) ls = (k : Course) × (j : Course) × (x : Happening) × (slice_get ks u.place ≡ Some k)
+      × CourseLeads (type_names c.head) k u.choice x j × CanComeNext (setting_of_script c.head) hs x × Goes
+      (hs ++ x ∷ []) (slice_set ks u.place j) us ls
+
+  follow : (hs gs : List Happening) (ks : List Course) (us : List Turn) (ls : List Course)
+      → LookSame (setting_of_script c.head) hs gs → Goes hs ks us ls → Goes gs ks us ls
+  follow hs gs ks [] ls same goes = goes
+  follow hs gs ks (u ∷ us) ls same (k, j, x, there, leads, may, on) = (
+    k,
+    j,
+    x,
+    there,
+    leads,
+    may-come (setting_of_script c.head) hs gs x same may,
+    follow (hs ++ x ∷ []) (gs ++ x ∷ []) (slice_set ks u.place j) us ls
+        (same-more (setting_of_script c.head) hs gs x same) on,
+  )
+
+  -- the domain at this place goes on first, and then the others come to the same ends
+  abbrev GoesFirst : ℕ → Course → List Happening → List Course → List Course → Type 0
+  GoesFirst e k hs ks ls = (choice : ℕ) × (j : Course) × (x : Happening) × (us : List Turn)
+      × CourseLeads (type_names c.head) k choice x j
+      × CanComeNext (setting_of_script c.head) hs x × Goes (hs ++ x ∷ []) (slice_set ks e j) us ls
+
+  -- a line that waits for no other domain: what it awaits was raised
+  abbrev FreeLine : List Happening → RunAction → Type 0
+  FreeLine hs (Do call) = Unit {0}
+  FreeLine hs (Tell flag) = Unit {0}
+  FreeLine hs (Await flag) = IsRaisedBefore (length hs) flag hs
+
+  free-still : (hs : List Happening) (x : Happening) (deed : RunAction) → FreeLine hs deed
+      → FreeLine (hs ++ x ∷ []) deed
+  free-still hs x (Do call) free = tt
+  free-still hs x (Tell flag) free = tt
+  free-still hs x (Await flag) free = raised-still hs x flag free
+
+  abbrev FreeTasks : List Happening → List RunTask → Type 0
+  FreeTasks hs [] = Unit {0}
+  FreeTasks hs (t ∷ ts) = FreeLine hs t.deed
+
+  tasks-still : (hs : List Happening) (x : Happening) (ts : List RunTask) → FreeTasks hs ts
+      → FreeTasks (hs ++ x ∷ []) ts
+  tasks-still hs x [] free = tt
+  tasks-still hs x (t ∷ ts) free = free-still hs x t.deed free
+
+  abbrev set : Setting
+  set = setting_of_script c.head
+
+  -- this is the next move of a domain at this point of its course
+  abbrev IsNext : List Happening → Course → NextMove → Type 0
+  IsNext hs k (Makes d step) = (u : Underway) × (k.opened ≢ resting) × (d ≡ k.dom)
+      × (open_call (history_in hs) k.dom.0 ≡ Some u)
+      × ((z : Step) → path (known_at set (history_in hs) k.dom) k.dom u.request (values u) ≡ Some (actions.Step z)
+      → (touch : Touch) → step_meets k.dom z touch ≡ step_meets k.dom step touch)
+  IsNext hs k (Awaits flag) =
+      (t : RunTask) × (ts : List RunTask) × (k.opened ≡ resting) × (k.tasks ≡ t ∷ ts) × (t.deed ≡ Await flag)
+  IsNext hs k Free = (k.opened ≡ resting) × FreeTasks hs k.tasks
+
+  -- what another domain does leaves what a domain has open, and what it knows
+  others-keep : (hs : List Happening) (x : Happening) (d : DomId) → ((doer x).0 == d.0) ≡ false → CanComeNext set hs x
+      → (open_call (history_in (hs ++ x ∷ [])) d.0 ≡ open_call (history_in hs) d.0)
+      × (known_at set (history_in (hs ++ x ∷ [])) d ≡ known_at set (history_in hs) d)
+  others-keep hs (did e y) d apart may = subst (λ h. (open_call h d.0 ≡ open_call (history_in hs) d.0)
+      × (known_at set h d ≡ known_at set (history_in hs) d)) (sym (history_did hs e y)) (by y e may apart)
+    where
+      keeps : (i : Item) → (i.actor.0 == d.0) ≡ false
+          → (open_call (i ∷ history_in hs) d.0 ≡ open_call (history_in hs) d.0)
+          × (known_at set (i ∷ history_in hs) d ≡ known_at set (history_in hs) d)
+      keeps i off = (open_call-other i (history_in hs) d.0 off, other-known set i (history_in hs) d off)
+
+      by : (z : Element) (f : Event) → MayDo set (history_in hs) f z → ((actor_of f).0 == d.0) ≡ false
+          → (open_call (grown (history_in hs) z) d.0 ≡ open_call (history_in hs) d.0)
+          × (known_at set (grown (history_in hs) z) d ≡ known_at set (history_in hs) d)
+      by (Did i) (Begin b q) m off = keeps i (ap (λ (a : DomId). a.0 == d.0) m.1.0 ∙ off)
+      by (Did i) (Tick b) m off = keeps i (ap (λ (a : DomId). a.0 == d.0) m.1.0 ∙ off)
+      by Busy f m off = (refl, refl)
+      by Idle f m off = (refl, refl)
+      by NoDomain f m off = (refl, refl)
+  others-keep hs (raised b flag) d apart may =
+      let same = history_quiet hs (raised b flag) (tells b flag) in
+      (ap (λ h. open_call h d.0) same, ap (λ h. known_at set h d) same)
+  others-keep hs (passed b flag) d apart may =
+      let same = history_quiet hs (passed b flag) (waits b flag) in
+      (ap (λ h. open_call h d.0) same, ap (λ h. known_at set h d) same)
+
+  next-still : (hs : List Happening) (k : Course) (move : NextMove) (x : Happening) → ((doer x).0 == k.dom.0) ≡ false
+      → CanComeNext set hs x → IsNext hs k move → IsNext (hs ++ x ∷ []) k move
+  next-still hs k (Makes d step) x apart may (u, busy, own, is, alike) =
+      let same = others-keep hs x k.dom apart may in (
+        u,
+        busy,
+        own,
+        same.0 ∙ is,
+        λ z leads. alike z
+            (ap (λ (l : CallerKnowledge). path l k.dom u.request (values u)) (sym same.1) ∙ leads),
+      )
+  next-still hs k (Awaits flag) x apart may next = next
+  next-still hs k Free x apart may next = (next.0, tasks-still hs x k.tasks next.1)
+
+  -- two happenings
+
+  touches-as : (A B : Touch → Type 0) (d : DomId) (y : Step) → ((touch : Touch) → A touch → B touch) → StepTouches A d y
+      → StepTouches B d y
+  touches-as A B d (steps.LookHeader dom) f t = f _ t
+  touches-as A B d (steps.LookControl dom gref) f t = f _ t
+  touches-as A B d (steps.LookBody dom gref half) f t = f _ t
+  touches-as A B d (steps.Pin p) f t = f _ t
+  touches-as A B d (steps.Unpin p holder) f t = f _ t
+  touches-as A B d (steps.StoreBody gref half word) f t = f _ t
+  touches-as A B d (steps.StoreHeader version frames) f t = f _ t
+  touches-as A B d (steps.Exchange gref looked change) f t = f _ t
+  touches-as A B d (steps.Read dom frame off len) f t = f _ t
+  touches-as A B d (steps.Write dom frame off len) f t = f _ t
+  touches-as A B d (steps.Copy from to len) f t = (f _ t.0, f _ t.1)
+
+  turned-back : (a b : ℕ) → (a == b) ≡ false → (b == a) ≡ false
+  turned-back a b apart = grind arith
+
+  turned : (h : History) (i j : Item) → AreApart set h j i → AreApart set h i j
+  turned h i j apart = record {
+    actors = turned-back j.actor.0 i.actor.0 apart.actors;
+    first = apart.second;
+    second = apart.first;
+    frames = λ t f. by (apart.frames t f);
+  } where
+    by : {A B : Type 0} → A ⊎ B → B ⊎ A
+    by (inl a) = inr a
+    by (inr b) = inl b
+
+  -- the step of an open call, and an item before it of another domain which touches nothing that the step meets
+  step-apart : (h : History) (i j : Item) (d : DomId) (step : Step) (u : Underway) → (i.actor.0 == j.actor.0) ≡ false
+      → ItemTouches (Unmet (Makes d step)) h i.actor i.happened → j.actor ≡ d → open_call h d.0 ≡ Some u
+      → ((z : Step) → path (known_at set h d) d u.request (values u) ≡ Some (actions.Step z)
+      → (touch : Touch) → step_meets d z touch ≡ step_meets d step touch)
+      → (z : Step) (w : Observation) → j.happened ≡ Stepped z w → StepsRightIn set (i ∷ h) j z w (open_call (i ∷ h) d.0)
+      → AreApart set h i j
+  step-apart h i j d step u apart touches own is meets z w did-j right =
+      by-right (open_call (i ∷ h) d.0) (open_call-other i h d.0 off ∙ is) right
+    where
+      off : (i.actor.0 == d.0) ≡ false
+      off = ap (λ (b : DomId). i.actor.0 == b.0) (sym own) ∙ apart
+
+      by-item : (x : ItemEvent) → i.happened ≡ x → ItemTouches (Unmet (Makes d step)) h i.actor x
+          → path (known_at set h d) d u.request (values u) ≡ Some (actions.Step z)
+          → ((p : HeldPin) (a : Handle) → z ≡ Unpin p (ByHandle a) → Releases h j.actor (Unpin p (ByHandle a)))
+          → AreApart set h i j
+      by-item (Began q) did-i t leads releases = began-apart set h i j q apart did-i
+      by-item (Stepped y v) did-i t leads releases = steps-apart set h i j y z v w apart
+          (subst (λ b. StepTouches (λ touch. step_meets b z touch ≡ false) i.actor y) (sym own)
+          (touches-as (Unmet (Makes d step)) (λ touch. step_meets d z touch ≡ false) i.actor y
+          (λ touch no. meets z leads touch ∙ no) t.0)) t.1 releases did-i did-j
+
+      by-right : (o : Option Underway) → o ≡ Some u → StepsRightIn set (i ∷ h) j z w o → AreApart set h i j
+      by-right None some r = absurd (none-some u some)
+      by-right (Some v) some r =
+          let same : v ≡ u = same_Some v u some in
+          let leads : path (known_at set h d) d u.request (values u) ≡ Some (actions.Step z) =
+          ap (λ (k : CallerKnowledge). path k d u.request (values u)) (sym (other-known set i h d off))
+          ∙ ap (λ (b : DomId). path (known_at set (i ∷ h) b) b u.request (values u)) (sym own)
+          ∙ ap (λ (c : Underway). path (known_at set (i ∷ h) j.actor) j.actor c.request (values c)) (sym same)
+          ∙ r.continues in
+          by-item i.happened refl touches leads (λ p a unpins. subst (λ b. Releases h b (Unpin p (ByHandle a)))
+          (sym own)
+          (unmaps-release h d p a
+          (unmap-found (known_at set h d) d a (values u) p a
+          (ap (λ (q : OpenRequest). path (known_at set h d) d q (values u))
+          (sym (subst (λ x. Justified set (i ∷ h) j.actor v.request x) unpins r.justified)
+          ∙ ap (λ (c : Underway). c.request) same)
+          ∙ leads ∙ ap (λ (x : Step). Some (actions.Step x)) unpins))))
+
+  -- the next move of a domain, and what another domain does before it, of which it meets nothing
+  abbrev ComesFree : List Happening → Happening → Happening → Type 0
+  ComesFree hs y x = IsFree set hs x × AreItemsApart set hs x y
+
+  begin-free : (hs : List Happening) (y : Happening) (d : DomId) (q : Request) (z : Element)
+      → CanComeNext set (hs ++ y ∷ []) (did (Begin d q) z) → AreItemsApart set hs (did (Begin d q) z) y
+  begin-free hs (did e w) d q z may = λ i j did-i did-j apart.
+      turned (history_in hs) i j (began-apart set (history_in hs) j i q (turned-back i.actor.0 j.actor.0 apart)
+      (began z j did-j may))
+    where
+      began : (v : Element) (j : Item) → v ≡ Did j → MayDo set (history_in (hs ++ did e w ∷ [])) (Begin d q) v
+          → j.happened ≡ Began q
+      began v j is m = (subst (MayDo set (history_in (hs ++ did e w ∷ [])) (Begin d q)) is m).1.1
+  begin-free hs (raised b flag) d q z may = tt
+  begin-free hs (passed b flag) d q z may = tt
+
+  -- a line of a domain that is not calling
+  line-free : (hs : List Happening) (k : Course) (move : NextMove) (t : RunTask) (ts : List RunTask) (y x : Happening)
+      (j : Course) → k.opened ≡ resting → k.tasks ≡ t ∷ ts → IsNext hs k move → HappeningTouches (Unmet move) hs y
+      → ActionLeads (type_names c.head) k t.line ts t.deed x j → CanComeNext set (hs ++ y ∷ []) x → ComesFree hs y x
+  line-free hs k move t ts y x j rest tasks next touches leads may = by t.deed refl leads where
+    flag-free : (m : NextMove) (flag : ℕ) → t.deed ≡ Await flag → IsNext hs k m → HappeningTouches (Unmet m) hs y
+        → IsRaisedBefore (length (hs ++ y ∷ [])) flag (hs ++ y ∷ []) → IsRaisedBefore (length hs) flag hs
+    flag-free (Makes d step) flag awaits n touch was = absurd (n.1 rest)
+    flag-free Free flag awaits n touch was =
+        subst (FreeLine hs) awaits (subst (FreeTasks hs) tasks n.1)
+    flag-free (Awaits other) flag awaits n touch was = elim (raised_or hs y flag was) [
+      | inl before ↦ before
+      | inr now ↦ absurd (false≢true (sym (subst (HappeningTouches (Unmet (Awaits other)) hs) now.1 touch)
+          ∙ eq-eqb flag other (same-flag flag other (sym awaits ∙ ap (λ (u : RunTask). u.deed)
+          (head-same (sym tasks ∙ n.3)) ∙ n.4))))
+    ] where
+      head-same : t ∷ ts ≡ n.0 ∷ n.1 → t ≡ n.0
+      head-same e = cc
+
+      same-flag : (a b : ℕ) → Await a ≡ Await b → a ≡ b
+      same-flag a b e = cc
+
+    by : (deed : RunAction) → t.deed ≡ deed → ActionLeads (type_names c.head) k t.line ts deed x j → ComesFree hs y x
+    by (Tell flag) is l = subst (ComesFree hs y) (sym l.0) (tt, tt)
+    by (Await flag) is l = subst (ComesFree hs y) (sym l.0)
+        (flag-free move flag is next touches (subst (CanComeNext set (hs ++ y ∷ [])) l.0 may), tt)
+    by (Do call) is (q, e, says, did-is, to) = subst (ComesFree hs y) (sym did-is)
+        (tt, begin-free hs y k.dom q e (subst (CanComeNext set (hs ++ y ∷ [])) did-is may))
+
+  rest-free : (hs : List Happening) (k : Course) (move : NextMove) (tasks : List RunTask) (choice : ℕ) (y x : Happening)
+      (j : Course) → k.opened ≡ resting → k.tasks ≡ tasks → IsNext hs k move → HappeningTouches (Unmet move) hs y
+      → RestLeads (type_names c.head) k tasks choice x j → CanComeNext set (hs ++ y ∷ []) x → ComesFree hs y x
+  rest-free hs k move [] choice y x j rest same next touches (handle, e, there, is, done, to) may =
+      subst (ComesFree hs y) (sym is)
+      (tt, begin-free hs y k.dom (requests.Unmap handle) e (subst (CanComeNext set (hs ++ y ∷ [])) is may))
+  rest-free hs k move (t ∷ ts) choice y x j rest same next touches leads may =
+      line-free hs k move t ts y x j rest same next touches leads.1 may
+
+  -- a step of an open call
+  tick-free : (hs : List Happening) (k : Course) (move : NextMove) (y : Happening) (z : Element) → k.opened ≢ resting
+      → IsNext hs k move → HappeningTouches (Unmet move) hs y → CanComeNext set hs y
+      → CanComeNext set (hs ++ y ∷ []) (did (Tick k.dom) z) → AreItemsApart set hs (did (Tick k.dom) z) y
+  tick-free hs k (Awaits flag) y z busy next touches first may = absurd (busy next.2)
+  tick-free hs k Free y z busy next touches first may = absurd (busy next.0)
+  tick-free hs k (Makes d step) (raised b flag) z busy next touches first may = tt
+  tick-free hs k (Makes d step) (passed b flag) z busy next touches first may = tt
+  tick-free hs k (Makes d step) (did e w) z busy (u, not-rest, own, is, same) touches first may =
+      λ i j did-i did-j apart. by i j apart
+      (mine i e (subst (MayDo set (history_in hs) e) did-i first)
+      (subst (ElementTouches (Unmet (Makes d step)) (history_in hs) (actor_of e)) did-i touches))
+      (subst (λ l. MayDo set l (Tick k.dom) (Did j)) (history_did hs e w ∙ ap (grown (history_in hs)) did-i)
+      (subst (MayDo set (history_in (hs ++ did e w ∷ [])) (Tick k.dom)) did-j may))
+    where
+      mine : (i : Item) (f : Event) → MayDo set (history_in hs) f (Did i)
+          → ItemTouches (Unmet (Makes d step)) (history_in hs) (actor_of f) i.happened
+          → ItemTouches (Unmet (Makes d step)) (history_in hs) i.actor i.happened
+      mine i (Begin b q) m t = subst (λ a. ItemTouches (Unmet (Makes d step)) (history_in hs) a i.happened)
+          (sym m.1.0) t
+      mine i (Tick b) m t = subst (λ a. ItemTouches (Unmet (Makes d step)) (history_in hs) a i.happened) (sym m.1.0) t
+
+      by : (i j : Item) → (i.actor.0 == j.actor.0) ≡ false
+          → ItemTouches (Unmet (Makes d step)) (history_in hs) i.actor i.happened
+          → MayDo set (i ∷ history_in hs) (Tick k.dom) (Did j) → AreApart set (history_in hs) i j
+      by i j apart t m = stepped j.happened m.1 m.2 where
+        stepped : (x : ItemEvent) → IsItemOf (Tick k.dom) (record j { happened = x })
+            → IsRight set (i ∷ history_in hs) (record j { happened = x })
+            → AreApart set (history_in hs) i (record j { happened = x })
+        stepped (Began q) of right = absurd of.1
+        stepped (Stepped v seen) of right =
+            step-apart (history_in hs) i (record j { happened = Stepped v seen }) k.dom step u apart
+            (subst (λ b. ItemTouches (Unmet (Makes b step))
+            (history_in hs) i.actor i.happened) own t) of.0 is same v seen
+            refl (subst (λ a. StepsRightIn set (i ∷ history_in hs) (record j { happened = Stepped v seen }) v seen
+            (open_call (i ∷ history_in hs) a.0)) of.0 right)
+
+  -- the next move of a domain is free to come before what another domain did, of which it meets nothing
+  move-free : (hs : List Happening) (k : Course) (move : NextMove) (choice : ℕ) (y x : Happening) (j : Course)
+      → IsNext hs k move → HappeningTouches (Unmet move) hs y → CourseLeads (type_names c.head) k choice x j
+      → CanComeNext set hs y → CanComeNext set (hs ++ y ∷ []) x → ComesFree hs y x
+  move-free hs k move choice y x j next touches leads first may = by k.opened refl leads where
+    tick : (e : Element) → k.opened ≢ resting → x ≡ did (Tick k.dom) e → ComesFree hs y x
+    tick e busy is = subst (ComesFree hs y) (sym is)
+        (tt, tick-free hs k move y e busy next touches first (subst (CanComeNext set (hs ++ y ∷ [])) is may))
+
+    by : (opened : Opened) → k.opened ≡ opened → OpenLeads (type_names c.head) k opened choice x j → ComesFree hs y x
+    by resting is l = rest-free hs k move k.tasks choice y x j is refl next touches l may
+    by (calling line call lost) is (none, e, did-is, to) =
+        tick e (λ rest. let no : calling line call lost ≡ resting = sym is ∙ rest in cc) did-is
+    by giving is (none, e, did-is, done, to) =
+        tick e (λ rest. let no : giving ≡ resting = sym is ∙ rest in cc) did-is
+
+  -- ways
+
+  -- the first turn of a domain inside is one of this domain
+  abbrev IsFirst : (ℕ → Bool) → ℕ → List Turn → Type 0
+  IsFirst inside p [] = ⊥
+  IsFirst inside p (u ∷ us) = (u.place ≡ p) ⊎ ((inside u.place ≡ false) × IsFirst inside p us)
+
+  module _ (inside : ℕ → Bool) where
+    -- on each way to the ends some domain inside moves first, if one of them is not at its end
+    some-first : (hs : List Happening) (ks : List Course) (us : List Turn) (ls : List Course) (q : ℕ) (k : Course)
+        → inside q ≡ true → slice_get ks q ≡ Some k → (CourseEnds k → ⊥) → Goes hs ks us ls
+        → (p : ℕ) × (l : Course) × (inside p ≡ true) × (slice_get ks p ≡ Some l) × IsFirst inside p us
+    some-first hs ks [] ls q k on here going goes = absurd (going (one-ends ks q k goes.1 here))
+    some-first hs ks (u ∷ us) ls q k on here going (l, i, y, there, leads, may, goes) =
+        by (inside u.place) refl (λ off. some-first (hs ++ y ∷ []) (slice_set ks u.place i) us ls q k on
+        (get-apart ks u.place q i (λ same. false≢true (sym off ∙ ap inside same ∙ on)) ∙ here) going goes)
+      where
+        by : (b : Bool) → inside u.place ≡ b
+            → (inside u.place ≡ false → (p : ℕ) × (m : Course) × (inside p ≡ true)
+            × (slice_get (slice_set ks u.place i) p ≡ Some m) × IsFirst inside p us)
+            → (p : ℕ) × (m : Course) × (inside p ≡ true) × (slice_get ks p ≡ Some m) × IsFirst inside p (u ∷ us)
+        by true is rec = (u.place, l, is, there, inl refl)
+        by false is rec = let it = rec is in (
+          it.0,
+          it.1,
+          it.2,
+          sym (get-apart ks u.place it.0 i (λ same. false≢true (sym is ∙ ap inside same ∙ it.2))) ∙ it.3,
+          inr (is, it.4),
+        )
+
+    module _ (p : ℕ) (k : Course) (move : NextMove) (on : inside p ≡ true) (use_at : ℕ → MappingUse) where
+      -- what the domains outside may still touch, the next move does not meet
+      abbrev OthersUnmet : List Happening → List Course → Type 0
+      OthersUnmet hs ks = (e : ℕ) (l : Course) → slice_get ks e ≡ Some l → inside e ≡ false
+          → Within (Unmet move) (use_at e) hs l.dom l.tasks
+
+      -- what the domain does can be pulled to the front
+      pull : (hs : List Happening) (ks : List Course) (us : List Turn) (ls : List Course) → AllDiffer (numbers ks)
+          → slice_get ks p ≡ Some k → IsNext hs k move → OthersUnmet hs ks → IsFirst inside p us → Goes hs ks us ls
+          → GoesFirst p k hs ks ls
+      pull hs ks [] ls differ here next unmet first goes = absurd first
+      pull hs ks (u ∷ us) ls differ here next unmet (inl same) (l, i, y, there, leads, may, goes) =
+          let is : l ≡ k = same_Some l k (sym there ∙ ap (λ n. slice_get ks n) same ∙ here) in (
+            u.choice,
+            i,
+            y,
+            us,
+            subst (λ z. CourseLeads (type_names c.head) z u.choice y i) is leads,
+            may,
+            subst (λ n. Goes (hs ++ y ∷ []) (slice_set ks n i) us ls) same goes,
+          )
+      pull hs ks (u ∷ us) ls differ here next unmet (inr (out, first)) (l, i, y, there, leads, may, goes) =
+          later (pull (hs ++ y ∷ []) (slice_set ks u.place i) us ls
+          (subst AllDiffer (sym (numbers-set ks u.place l i there dom.0)) differ) (get-apart ks u.place p i apart
+          ∙ here)
+          (next-still hs k move y others may next) now first goes)
+        where
+          dom : (i.dom ≡ l.dom) × (doer y ≡ l.dom)
+          dom = leads-dom (type_names c.head) l i u.choice y leads
+
+          apart : u.place ≢ p
+          apart = λ same. false≢true (sym out ∙ ap inside same ∙ on)
+
+          differs : (e : ℕ) (m : Course) → slice_get ks e ≡ Some m → u.place ≢ e → ((doer y).0 == m.dom.0) ≡ false
+          differs e m at other = number-apart (doer y).0 m.dom.0
+              (λ same. differ-at ks u.place e l m differ there at other
+              (ap (λ (d : DomId). d.0) (sym dom.1) ∙ same))
+
+          others : ((doer y).0 == k.dom.0) ≡ false
+          others = differs p k here apart
+
+          mine : Within (Unmet move) (use_at u.place) (hs ++ y ∷ []) i.dom i.tasks × HappeningTouches (Unmet move) hs y
+          mine = course-within (Unmet move) (use_at u.place) (type_names c.head) set hs l i u.choice y leads may
+              (unmet u.place l there out)
+
+          now : OthersUnmet (hs ++ y ∷ []) (slice_set ks u.place i)
+          now e m at off = by (get_set ks u.place e i m at) where
+            by : ((e ≡ u.place) × (i ≡ m)) ⊎ ((e ≢ u.place) × (slice_get ks e ≡ Some m))
+                → Within (Unmet move) (use_at e) (hs ++ y ∷ []) m.dom m.tasks
+            by (inl (same, is)) = subst (λ n. Within (Unmet move) (use_at n) (hs ++ y ∷ []) m.dom m.tasks) (sym same)
+                (subst (λ (z : Course). Within (Unmet move) (use_at u.place) (hs ++ y ∷ []) z.dom z.tasks) is mine.0)
+            by (inr (other, was)) = others-within (Unmet move) (use_at e) set hs y m.dom m.tasks
+                (differs e m was (λ same. other (sym same))) may (unmet e m was off)
+
+          later : GoesFirst p k (hs ++ y ∷ []) (slice_set ks u.place i) ls → GoesFirst p k hs ks ls
+          later (choice, j, x, more, lead, come, way) =
+              let own = leads-dom (type_names c.head) k j choice x lead in
+              let free = move-free hs k move choice y x j next mine.1 lead may come in
+              let both = swap-first set hs y x free.0 free.1
+              (ap (λ (d : DomId). (doer y).0 == d.0) own.1 ∙ others) may come in (
+                choice,
+                j,
+                x,
+                u ∷ more,
+                lead,
+                both.0,
+                (
+                  l,
+                  i,
+                  y,
+                  get-apart ks p u.place j (λ same. apart (sym same)) ∙ there,
+                  leads,
+                  both.1,
+                  follow ((hs ++ y ∷ []) ++ x ∷ []) ((hs ++ x ∷ []) ++ y ∷ [])
+                      (slice_set (slice_set ks p j) u.place i) more ls both.2
+                      (subst (λ z. Goes ((hs ++ y ∷ []) ++ x ∷ []) z more ls) (set-apart ks u.place p i j apart) way),
+                ),
+              )
+
+abbrev point : RunContents → List Happening → List Course → Point
+point c hs ks = record { script = c; happened = hs; courses = ks }
+
+to-goes : (scene : SearchContext) (c : RunContents) (hs : List Happening) (ks : List Course) (us : List Turn)
+    (q : Point)
+    → GoesTo (scene_ways scene) (point c hs ks) us q → Goes c hs ks us q.courses
+to-goes scene c hs ks [] q goes = (ap (λ (z : Point). z.courses) goes.0, goes.1)
+to-goes scene c hs ks (u ∷ us) q (m, next, goes) = (
+  next.k,
+  next.j,
+  next.x,
+  next.there,
+  next.leads,
+  next.next,
+  to-goes scene c (hs ++ next.x ∷ []) (slice_set ks u.place next.j) us q
+      (subst (λ z. GoesTo (scene_ways scene) (point c (hs ++ next.x ∷ []) z) us q) next.courses
+      (subst (λ z. GoesTo (scene_ways scene) (point c z m.courses) us q) next.happened
+      (subst (λ z. GoesTo (scene_ways scene) (point z m.happened m.courses) us q) next.script goes))),
+)
+
+from-goes : (scene : SearchContext) (c : RunContents) (hs : List Happening) (ks : List Course) (us : List Turn)
+    (ls : List Course) → Goes c hs ks us ls
+    → (r : Point) × GoesTo (scene_ways scene) (point c hs ks) us r × (r.courses ≡ ls)
+from-goes scene c hs ks [] ls goes = (point c hs ks, (refl, goes.1), goes.0)
+from-goes scene c hs ks (u ∷ us) ls (k, j, x, there, leads, may, on) =
+    let it = from-goes scene c (hs ++ x ∷ []) (slice_set ks u.place j) us ls on in (
+      it.0,
+      (
+        point c (hs ++ x ∷ []) (slice_set ks u.place j),
+        record {
+          script = refl;
+          k = k;
+          j = j;
+          x = x;
+          there = there;
+          leads = leads;
+          next = may;
+          happened = refl;
+          courses = refl;
+        },
+        it.1,
+      ),
+      it.2,
+    )
+
+-- a state
+
+get-told : (told : List Bool) (flag : ℕ) → get_or told flag false ≡ true → slice_get told flag ≡ Some true
+get-told [] flag is = absurd (false≢true is)
+get-told (b ∷ told) zero is = ap Some is
+get-told (b ∷ told) (suc flag) is = get-told told flag is
+
+or-first : (a b : Bool) → a ≡ true → (a || b) ≡ true
+or-first a b e = ap (λ x. x || b) e
+
+or-second : (a b : Bool) → b ≡ true → (a || b) ≡ true
+or-second true b e = refl
+or-second false b e = e
+
+drop-none : (n : ℕ) (xs : List RunTask) → slice_get xs n ≡ None → drop n xs ≡ []
+drop-none zero [] is = refl
+drop-none (suc n) [] is = refl
+drop-none zero (x ∷ xs) is = absurd (none-some x (sym is))
+drop-none (suc n) (x ∷ xs) is = drop-none n xs is
+
+module _ (c : RunContents) (scene : SearchContext) (hs : List Happening) (place : ℕ) (k : Course) (a : Actor)
+    (show : ShowsCalls (setting_of_script c.head) (history_in hs) (tasks_at scene place) k a) where
+  abbrev h : History
+  h = history_in hs
+
+  abbrev s : Setting
+  s = setting_of_script c.head
+
+  abbrev tasks : List RunTask
+  tasks = tasks_at scene place
+
+  -- what a state takes for the next move of a domain is that of the run
+
+  open-next : (o : ActorCall) (u : Option Underway) → a.«open» ≡ Some o → open_call h k.dom.0 ≡ u
+      → ShowsOpen s h tasks k a.next k.opened u (Some o) → IsNext c hs k (Makes o.call.caller o.step)
+  open-next o None has is opens = absurd (closed k.opened opens) where
+    closed : (opened : Opened) → ShowsOpen s h tasks k a.next opened None (Some o) → ⊥
+    closed resting x = x
+    closed (calling line call lost) x = x
+    closed giving x = x
+  open-next o (Some u) has is opens = (
+    u,
+    λ rest. subst (λ z. ShowsOpen s h tasks k a.next z (Some u) (Some o)) rest opens,
+    along.caller,
+    is,
+    λ z leads touch.
+        let same = run-makes s h k.dom u o along below (maps_answered_at h k.dom.0) show.rising z leads in
+        sym (meets-under k.dom along.place z touch) ∙ ap (λ (y : Step). step_meets k.dom y touch) (sym same)
+        ∙ meets-under k.dom along.place o.step touch,
+  ) where
+    along : GoesAlong s h k.dom u o
+    along = along-of s h tasks k a.next k.opened u o opens
+
+    below : maps_answered_at h k.dom.0 < SERIAL_LIMIT
+    below = let few = show.few in let begun = show.begun in let short = tasks-short scene place in omega arith
+
+  module _ (told : List Bool)
+      (heard : (flag : ℕ) → slice_get told flag ≡ Some true → IsRaisedBefore (length hs) flag hs) where
+    rest-next : (o : Option RunTask) → k.opened ≡ resting → slice_get tasks a.next ≡ o
+        → IsNext c hs k (next_at_rest told o)
+    rest-next None rest is = (rest, subst (FreeTasks c hs) (sym (show.left ∙ drop-none a.next tasks is)) tt)
+    rest-next (Some t) rest is = by t.deed refl where
+      left : k.tasks ≡ t ∷ drop (suc a.next) tasks
+      left = show.left ∙ drop_here tasks a.next t is
+
+      free : FreeLine c hs t.deed → IsNext c hs k Free
+      free line = (rest, subst (FreeTasks c hs) (sym left) line)
+
+      by : (deed : RunAction) → t.deed ≡ deed → IsNext c hs k (next_at_rest told (Some (record t { deed = deed })))
+      by (Do call) same = free (subst (FreeLine c hs) (sym same) tt)
+      by (Tell flag) same = free (subst (FreeLine c hs) (sym same) tt)
+      by (Await flag) same = flagged (get_or told flag false) refl where
+        flagged : (b : Bool) → get_or told flag false ≡ b → IsNext c hs k (cond b Free (Awaits flag))
+        flagged true e = free (subst (FreeLine c hs) (sym same) (heard flag (get-told told flag e)))
+        flagged false e = (t, drop (suc a.next) tasks, rest, left, same)
+
+    pub is-next : IsNext c hs k (next_move scene told place a)
+    is-next = by a.«open» refl where
+      by : (o : Option ActorCall) → a.«open» ≡ o → IsNext c hs k (next_move scene told place (record a { «open» = o }))
+      by (Some o) has = open-next o (open_call h k.dom.0) has refl (subst (ShowsOpen s h tasks k a.next k.opened
+          (open_call h k.dom.0)) has show.opens)
+      by None has = rest-next (slice_get tasks a.next)
+          (none-open s h tasks k a.next k.opened (open_call h k.dom.0) a.«open» has show.opens).0 refl
+
+  -- what the state takes for what a domain may still touch is what it may
+
+  module _ (move : NextMove) (own : (n : ℕ) (t : RunTask) → slice_get tasks n ≡ Some t → t.dom ≡ k.dom) where
+    abbrev uses : MappingUse
+    uses = use_of (tasks_unfinished scene place a)
+
+    tasks-unmet : (n : ℕ) (ts : List RunTask) → ((m : ℕ) (t : RunTask) → slice_get ts m ≡ Some t → t.dom ≡ k.dom)
+        → (list_any is_load (drop n ts) ≡ true → uses.loads ≡ true)
+        → (list_any is_store (drop n ts) ≡ true → uses.stores ≡ true)
+        → list_any (meets_task uses move) (drop n ts) ≡ false → TasksTouch (Unmet move) uses k.dom (drop n ts)
+    tasks-unmet zero [] mine loads stores none = tt
+    tasks-unmet (suc n) [] mine loads stores none = tt
+    tasks-unmet zero (t ∷ ts) mine loads stores none =
+        let both = or-false (meets_task uses move t) (list_any (meets_task uses move) ts) none in (
+          unmet-deed uses move k.dom t (mine 0 t refl) (
+            (λ e. loads (or-first (is_load t) (list_any is_load ts) e)),
+            (λ e. stores (or-first (is_store t) (list_any is_store ts) e)),
+          ) both.0,
+          tasks-unmet zero ts (λ m. mine (suc m)) (λ e. loads (or-second (is_load t) (list_any is_load ts) e))
+              (λ e. stores (or-second (is_store t) (list_any is_store ts) e)) both.1,
+        )
+    tasks-unmet (suc n) (t ∷ ts) mine loads stores none = tasks-unmet n ts (λ m. mine (suc m)) loads stores none
+
+    pins-unmet : (ls : List LabelledMapping) (ms : List (Handle × HeldPin))
+        → mapping_pins ls ≡ map (λ (m : Handle × HeldPin). m.1) ms
+        → list_any (λ (m : LabelledMapping). meets_mapping uses move m.held) ls ≡ false
+        → PinsTouch (Unmet move) uses ms
+    pins-unmet [] [] same none = tt
+    pins-unmet [] (m ∷ ms) same none = absurd (cc)
+    pins-unmet (l ∷ ls) [] same none = absurd (cc)
+    pins-unmet (l ∷ ls) (m ∷ ms) same none =
+        let both = or-false (meets_mapping uses move l.held)
+        (list_any (λ (m : LabelledMapping). meets_mapping uses move m.held) ls) none in
+        let one : l.held ≡ m.1 = cc in
+        let more : mapping_pins ls ≡ map (λ (m : Handle × HeldPin). m.1) ms = cc in
+        (subst (PinTouches (Unmet move) uses) one (unmet-mapping uses move l.held both.0), pins-unmet ls ms more both.1)
+
+    later-unmet : (o : ActorCall) (u : Underway) (opened : Opened)
+        → ShowsOpen s h tasks k a.next opened (Some u) (Some o)
+        → TasksTouch (Unmet move) uses k.dom (drop (first_of a.next o.task) tasks)
+        → TasksTouch (Unmet move) uses k.dom (drop a.next tasks) × RequestTouches (Unmet move) uses k.dom u.request
+    later-unmet o u resting opens all = absurd opens
+    later-unmet o u (calling line call lost) (along, task, said, held) all =
+        let whole = subst (TasksTouch (Unmet move) uses k.dom)
+        (ap (λ (t : Option ℕ). drop (first_of a.next t) tasks) task.task_is
+        ∙ drop_here tasks task.place task.of_task task.there)
+        all in (
+          subst (λ n. TasksTouch (Unmet move) uses k.dom (drop n tasks)) task.last whole.1,
+          subst (RequestTouches (Unmet move) uses k.dom) (sym said.asks)
+              (said-touches (Unmet move) uses said.named k.dom call said.request said.says
+              (subst (DeedTouches (Unmet move) uses k.dom) task.deed_is whole.0)),
+        )
+    later-unmet o u giving (along, task, unmap) all = (
+      subst (λ (t : Option ℕ). TasksTouch (Unmet move) uses k.dom (drop (first_of a.next t) tasks)) task all,
+      subst (RequestTouches (Unmet move) uses k.dom) (sym unmap.1) tt,
+    )
+
+    left-unmet : (o : Option ActorCall) (u : Option Underway) → ShowsOpen s h tasks k a.next k.opened u o
+        → TasksTouch (Unmet move) uses k.dom (drop (first_left (record a { «open» = o })) tasks)
+        → TasksTouch (Unmet move) uses k.dom (drop a.next tasks) × CallWithin (Unmet move) uses k.dom u
+    left-unmet None None opens all = (all, tt)
+    left-unmet (Some o) None opens all = absurd (closed k.opened opens) where
+      closed : (opened : Opened) → ShowsOpen s h tasks k a.next opened None (Some o) → ⊥
+      closed resting x = x
+      closed (calling line call lost) x = x
+      closed giving x = x
+    left-unmet None (Some u) opens all = absurd (closed k.opened opens) where
+      closed : (opened : Opened) → ShowsOpen s h tasks k a.next opened (Some u) None → ⊥
+      closed resting x = x
+      closed (calling line call lost) x = x
+      closed giving x = x
+    left-unmet (Some o) (Some u) opens all = later-unmet o u k.opened opens all
+
+    pub is-within : may_meet move scene place a ≡ false → Within (Unmet move) uses hs k.dom k.tasks
+    is-within none =
+        let both = or-false (list_any (λ (m : LabelledMapping). meets_mapping uses move m.held) a.mappings.items)
+        (list_any (meets_task uses move) (drop (first_left a) tasks)) none in
+        let left = left-unmet a.«open» (open_call h k.dom.0) show.opens
+        (tasks-unmet (first_left a) tasks own (λ e. e) (λ e. e) both.1) in
+        record {
+          tasks_touch = subst (TasksTouch (Unmet move) uses k.dom) (sym show.left) left.0;
+          past = record {
+            maps = pins-unmet a.mappings.items (mappings_at h k.dom.0) show.pins both.0;
+            call = left.1;
+          };
+        }
+
+-- the turns
+
+numbers-as : (ks : List Course) (ds : List DomainConfig) → map (λ (k : Course). k.dom) ks ≡ map
+    (λ (d : DomainConfig). d.id) ds → numbers ks ≡ ids ds
+numbers-as [] [] e = refl
+numbers-as [] (d ∷ ds) e = absurd (cc)
+numbers-as (k ∷ ks) [] e = absurd (cc)
+numbers-as (k ∷ ks) (d ∷ ds) e =
+    let one : k.dom ≡ d.id = cc in
+    let more : map (λ (k : Course). k.dom) ks ≡ map (λ (d : DomainConfig). d.id) ds = cc in
+    ap (λ (n : DomId). n.0 ∷ numbers ks) one ∙ ap (λ ns. d.id.0 ∷ ns) (numbers-as ks ds more)
+
+numbered : (c : RunContents) (ks : List Course) → map (λ (k : Course). k.dom) ks ≡ map
+    (λ (d : DomainConfig). d.id) c.head.domains → AllPairs (λ (d e : DomainConfig). d.id.0 ≢ e.id.0) c.head.domains
+    → AllDiffer (numbers ks)
+numbered c ks domains apart = subst AllDiffer (sym (numbers-as ks c.head.domains domains))
+    (all-differ c.head.domains apart)
+
+module _ (scene : SearchContext) (w : SearchState) (turns : List Turn) (members : List Bool)
+    (undisturbed : AreUndisturbed scene w members) (c : RunContents) (hs : List Happening) (ks : List Course)
+    (is : IsSceneOf c scene) (shows : SceneShows c scene hs ks w) where
+  course-at : (e : ℕ) (d : Actor) → slice_get w.actors.items e ≡ Some d → (l : Course) × (slice_get ks e ≡ Some l)
+  course-at e d at = let lt = slice_get_within w.actors.items e d at in let many = shows.many in
+      there_is ks e (omega (arith, lt, many))
+
+  actor-at : (e : ℕ) (l : Course) → slice_get ks e ≡ Some l → (d : Actor) × (slice_get w.actors.items e ≡ Some d)
+  actor-at e l at = let lt = slice_get_within ks e l at in let many = shows.many in
+      there_is w.actors.items e (omega (arith, lt, many))
+
+  abbrev member : ℕ → Bool
+  member n = get_or members n false
+
+  -- what the domain at this position does through its mappings
+  abbrev use_in : Option Actor → ℕ → MappingUse
+  use_in None e = record { loads = true; stores = true }
+  use_in (Some b) e = use_of (tasks_unfinished scene e b)
+
+  abbrev use_at : ℕ → MappingUse
+  use_at e = use_in (slice_get w.actors.items e) e
+
+  -- a domain of the set goes first, by one of these turns
+  by-first : (p : ℕ) (k : Course) (us : List Turn) (ls : List Course) → member p ≡ true → slice_get ks p ≡ Some k
+      → IsFirst c member p us → Goes c hs ks us ls
+      → (a : Actor) × (slice_get w.actors.items p ≡ Some a) × ((it : GoesFirst c p k hs ks ls) ×
+      (it.0 < choices_at scene p a))
+  by-first p k us ls on here first way =
+      let a = actor-at p k here in
+      let show = shows.each p k a.0 here a.1 in
+      let it = pull c member p k (next_move scene w.told.items p a.0) on use_at hs ks us ls
+      (numbered c ks shows.domains is.setting.apart) here
+      (is-next c scene hs p k a.0 show w.told.items shows.heard) (others a.0 a.1) first way in (
+        a.0,
+        a.1,
+        (
+          it,
+          course-moves (setting_of_script c.head) (history_in hs) scene p k a.0 show (type_names c.head) it.0
+              it.2 it.1 it.4,
+        ),
+      )
+    where
+      others : (a : Actor) → slice_get w.actors.items p ≡ Some a
+          → OthersUnmet c member p k (next_move scene w.told.items p a) on use_at hs ks
+      others a there e l at out =
+          let other = actor-at e l at in
+          subst (λ o. Within (Unmet (next_move scene w.told.items p a)) (use_in o e) hs l.dom l.tasks) (sym other.1)
+          (is-within c scene hs e l other.0 (shows.each e l other.0 at other.1) (next_move scene w.told.items p a)
+          (task-own c scene hs ks w e l other.0 is shows at other.1)
+          (undisturbed p e a other.0 there other.1 on out))
+
+  going : (q : ℕ) (b : Actor) (l : Course) → slice_get w.actors.items q ≡ Some b → slice_get ks q ≡ Some l
+      → is_done scene q b ≡ false → CourseEnds l → ⊥
+  going q b l there here not-done over = false≢true (sym not-done ∙ ends-done (setting_of_script c.head) (history_in hs)
+      scene q l b (shows.each q l b here there) over)
+
+ends-by : (scene : SearchContext) (w : SearchState) (turns : List Turn) (members : List Bool) (c : RunContents)
+    (hs : List Happening) (ks : List Course) (end : Point) (p : ℕ) (k : Course) (a : Actor)
+    → get_or members p false ≡ true
+    → slice_get ks p ≡ Some k → slice_get w.actors.items p ≡ Some a
+    → turns ≡ turns_by (choices_in scene members) 0 w.actors.items
+    → (it : GoesFirst c p k hs ks end.courses) → it.0 < choices_at scene p a
+    → EndsSoBy (scene_ways scene) turns (point c hs ks) end
+ends-by scene w turns members c hs ks end p k a on here there are (choice, j, x, us, lead, come, goes) lt =
+    let back = from-goes scene c (hs ++ x ∷ []) (slice_set ks p j) us end.courses goes in
+    let listed = turn-listed (choices_in scene members) w.actors.items p a choice there
+    (subst (λ (b : Bool). choice < cond b (choices_at scene p a) 0) (sym on) lt) in (
+      record { place = p; choice = choice },
+      point c (hs ++ x ∷ []) (slice_set ks p j),
+      us,
+      back.0,
+      (listed.0, ap (λ (l : List Turn). slice_get l listed.0) are ∙ listed.1),
+      record {
+        script = refl;
+        k = k;
+        j = j;
+        x = x;
+        there = here;
+        leads = lead;
+        next = come;
+        happened = refl;
+        courses = refl;
+      },
+      back.1,
+      λ at. ap (λ (l : List Course). printed_by l at) back.2,
+    )
+
+set-enough : (scene : SearchContext) (w : SearchState) (turns : List Turn) → AreOfSet scene w turns
+    → HasEnoughTurns (scene_ways scene) w turns
+set-enough scene w turns (members, undisturbed, (q, b, there, in-q, not-done), are) p turn m more end shows next goes =
+    let way = to-goes scene p.script p.happened p.courses (turn ∷ more) end (m, next, goes) in
+    let l = course-at scene w turns members undisturbed p.script p.happened p.courses shows.0 shows.1 q b there in
+    let first = some-first p.script (λ n. get_or members n false) p.happened p.courses (turn ∷ more) end.courses q l.0
+    in-q l.1 (going scene w turns members undisturbed p.script p.happened p.courses shows.0 shows.1 q b l.0 there l.1
+    not-done) way in
+    let it = by-first scene w turns members undisturbed p.script p.happened p.courses shows.0 shows.1 first.0 first.1
+    (turn ∷ more) end.courses first.2 first.3 first.4 way in
+    ends-by scene w turns members p.script p.happened p.courses end first.0 first.1 it.0 first.2 first.3 it.1 are it.2.0
+    it.2.1
+
+pub enough-turns : (scene : SearchContext) (w : SearchState) (turns : List Turn) → AreToBeTried scene w turns
+    → HasEnoughTurns (scene_ways scene) w turns
+enough-turns scene w turns (inl all) = each_enough (scene_ways scene) w turns (each-turn scene w turns all)
+enough-turns scene w turns (inr set) = set-enough scene w turns set

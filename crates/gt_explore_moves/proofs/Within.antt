@@ -1,0 +1,413 @@
+-- What a domain does along a run touches only what its list, its mappings and its open call name.
+use Rattle.std.proofs.Common.{◌≡◌, ℕ, refl, Bool, true, false, cond, List, [], ◌∷◌, ◌++◌}
+use Rattle.std.proofs.Common.{Option, Some, None, sym, ap, ◌∙◌, subst}
+use Rattle.std.specs.Prelude.{◌==◌, ◌&&◌, take, drop, suc}
+use Rattle.std.proofs.lemmas.Option.{none-some, same_Some}
+use Rattle.gt_types.specs.declared.DomId.{DomId}
+use Rattle.gt_handles.specs.Handles.{same_handle}
+use Rattle.gt_handles.specs.declared.handles.Handle.{Handle}
+use Rattle.gt_calls.specs.Asking.{asked}
+use Rattle.gt_calls.specs.declared.action.Observation.{Observation}
+use Rattle.gt_calls.specs.declared.action.Observation.TheVariants.{Taken}
+use Rattle.gt_calls.specs.declared.action.Step.{Step}
+use Rattle.gt_calls.specs.declared.action.Step.TheVariants.{Pin as PinStep, Unpin}
+use Rattle.gt_calls.specs.declared.held.HeldPin.{HeldPin}
+use Rattle.gt_calls.specs.declared.request.PinHolder.{PinHolder}
+use Rattle.gt_calls.specs.declared.request.PinHolder.TheVariants.{Mapping as ByHandle, Leg as ByLeg}
+use Rattle.gt_calls.specs.declared.request.Request.{Request}
+use Rattle.gt_calls.specs.declared.request.Request.TheVariants as requests
+use Rattle.gt_core.specs.History.{History, Setting, Pin, Underway, gather, holder_after, known_at, live}
+use Rattle.gt_core.specs.History.{mapping_named, mapping_of}
+use Rattle.gt_core.specs.History.{mappings_at, open_call, pinned_by, underway_after, unpinned_by, values, without}
+use Rattle.gt_core.specs.History.{is_holder}
+use Rattle.gt_core.specs.Legal.{IsItemOf, IsRight, MayDo, StepsRightIn, actor_of, grown}
+use Rattle.gt_core.specs.declared.trace.Answer.{Answer}
+use Rattle.gt_core.specs.declared.trace.Answer.TheVariants.{Mapped}
+use Rattle.gt_core.specs.declared.trace.Element.{Element}
+use Rattle.gt_core.specs.declared.trace.Element.TheVariants.{Item as Did, Busy, Idle, NoDomain}
+use Rattle.gt_core.specs.declared.trace.Event.{Event}
+use Rattle.gt_core.specs.declared.trace.Event.TheVariants.{Begin, Tick}
+use Rattle.gt_core.specs.declared.trace.Item.{Item}
+use Rattle.gt_core.specs.declared.trace.ItemEvent.{ItemEvent}
+use Rattle.gt_core.specs.declared.trace.ItemEvent.TheVariants.{Began, Stepped}
+use Rattle.gt_core.proofs.AgreementKept.{open_call-other, open_call-own}
+use Rattle.gt_core.proofs.Steps.Observers.{gather-append, other-pins}
+use Rattle.gt_core.proofs.Swapping.{Releases}
+use Rattle.gt_explore_replay.specs.Abreast.{CanComeNext, history_in}
+use Rattle.gt_explore_replay.specs.Courses.{ActionLeads, Course, CourseLeads, OpenLeads, Opened, RestLeads}
+use Rattle.gt_explore_replay.specs.Courses.{back_after, calling}
+use Rattle.gt_explore_replay.specs.Courses.{course_after, giving, resting}
+use Rattle.gt_explore_replay.specs.Orders.{Happening, did, doer, given_up, passed, raised}
+use Rattle.gt_explore_replay.proofs.Coming.{IsQuiet, tells, waits}
+use Rattle.gt_explore_replay.proofs.Whole.{history_did, history_quiet}
+use Rattle.gt_host.specs.Runs.{answer_in}
+use Rattle.gt_script.specs.Lists.{RunAction, RunTask}
+use Rattle.gt_script.specs.declared.tasks.RunActionBy.TheVariants.{Await, Do, Tell}
+use Rattle.gt_script_lines.specs.declared.calls.ScriptCall.{ScriptCall}
+use Rattle.gt_explore_moves.specs.declared.touches.Touch.{Touch}
+use Rattle.gt_explore_moves.specs.declared.touches.Touch.TheVariants.{Entry, Raises}
+use Rattle.gt_explore_moves.proofs.HandlesAnswered.{after-dom, back-dom}
+use Rattle.gt_entry.specs.Entries.{frame_of}
+use Rattle.gt_explore_moves.specs.declared.touches.MappingUse.{MappingUse}
+use Rattle.gt_explore_moves.proofs.Touching.{BytesTouch, PinTouches, PinsBytes}
+use Rattle.gt_explore_moves.proofs.Touching.{DeedTouches, RequestTouches, StepTouches, TasksTouch, UnmapsOnly}
+use Rattle.gt_explore_moves.proofs.Touching.{path-touches}
+use Rattle.gt_explore_moves.proofs.Touching.{said-touches, unmaps-release}
+
+module _ (A : Touch → Type 0) where
+  -- what an item touches is such
+  abbrev pub ItemTouches : History → DomId → ItemEvent → Type 0
+  ItemTouches h d (Began q) = Unit {0}
+  ItemTouches h d (Stepped y seen) = StepTouches A d y × Releases h d y
+
+  -- what the element touches is such
+  abbrev pub ElementTouches : History → DomId → Element → Type 0
+  ElementTouches h d (Did i) = ItemTouches h d i.happened
+  ElementTouches h d x = Unit {0}
+
+  -- what happens touches only such
+  abbrev pub HappeningTouches : List Happening → Happening → Type 0
+  HappeningTouches hs (did e y) = ElementTouches (history_in hs) (actor_of e) y
+  HappeningTouches hs (raised d flag) = A (Raises flag)
+  HappeningTouches hs (passed d flag) = Unit {0}
+
+module _ (A : Touch → Type 0) (uses : MappingUse) where
+  -- the pins of these mappings are on such entries
+  abbrev pub PinsTouch : List (Handle × HeldPin) → Type 0
+  PinsTouch [] = Unit {0}
+  PinsTouch (m ∷ ms) = PinTouches A uses m.1 × PinsTouch ms
+
+  pins-both : (xs ys : List (Handle × HeldPin)) → PinsTouch xs → PinsTouch ys → PinsTouch (xs ++ ys)
+  pins-both [] ys one other = other
+  pins-both (x ∷ xs) ys one other = (one.0, pins-both xs ys one.1 other)
+
+  pins-left : (xs ys : List (Handle × HeldPin)) → PinsTouch (xs ++ ys) → PinsTouch xs
+  pins-left [] ys all = tt
+  pins-left (x ∷ xs) ys all = (all.0, pins-left xs ys all.1)
+
+  pins-right : (xs ys : List (Handle × HeldPin)) → PinsTouch (xs ++ ys) → PinsTouch ys
+  pins-right [] ys all = all
+  pins-right (x ∷ xs) ys all = pins-right xs ys all.1
+
+  pins-found : (ms : List (Handle × HeldPin)) (handle : Handle) (p : HeldPin) → PinsTouch ms
+      → mapping_of ms handle ≡ Some p → PinTouches A uses p
+  pins-found [] handle p all e = absurd (none-some p e)
+  pins-found (m ∷ ms) handle p all e = by (same_handle m.0 handle) e (λ f. pins-found ms handle p all.1 f) where
+    by : (b : Bool) → cond b (Some m.1) (mapping_of ms handle) ≡ Some p
+        → (mapping_of ms handle ≡ Some p → PinTouches A uses p) → PinTouches A uses p
+    by true f rest = subst (PinTouches A uses) (same_Some m.1 p f) all.0
+    by false f rest = rest f
+
+  gather-cons : (d : ℕ) (p : Pin) (ps : List Pin) → gather mapping_named d (p ∷ ps)
+      ≡ cond (p.actor == d) (mapping_named p.holder p.held) [] ++ gather mapping_named d ps
+  unfolding gather
+  gather-cons d p ps = refl
+
+  gather-none : (d : ℕ) → gather mapping_named d [] ≡ []
+  unfolding gather
+  gather-none d = refl
+
+  pins-less : (d actor : ℕ) (holder : PinHolder) (ps : List Pin) → PinsTouch (gather mapping_named d ps)
+      → PinsTouch (gather mapping_named d (without actor holder ps))
+  unfolding without
+  pins-less d actor holder [] all = all
+  pins-less d actor holder (p ∷ ps) all =
+      by ((p.actor == actor) && is_holder p.holder holder) (pins-less d actor holder ps later)
+    where
+      front : List (Handle × HeldPin)
+      front = cond (p.actor == d) (mapping_named p.holder p.held) []
+
+      whole : PinsTouch (cond (p.actor == d) (mapping_named p.holder p.held) [] ++ gather mapping_named d ps)
+      whole = subst PinsTouch (gather-cons d p ps) all
+
+      later : PinsTouch (gather mapping_named d ps)
+      later = pins-right (cond (p.actor == d) (mapping_named p.holder p.held) []) (gather mapping_named d ps) whole
+
+      by : (b : Bool) → PinsTouch (gather mapping_named d (without actor holder ps))
+          → PinsTouch (gather mapping_named d (cond b ps (p ∷ without actor holder ps)))
+      by true rest = later
+      by false rest = subst PinsTouch (sym (gather-cons d p (without actor holder ps)))
+          (pins-both (cond (p.actor == d) (mapping_named p.holder p.held) []) (gather mapping_named d
+          (without actor holder ps))
+          (pins-left (cond (p.actor == d) (mapping_named p.holder p.held) []) (gather mapping_named d ps) whole) rest)
+
+  pins-unpinned : (d : ℕ) (actor : DomId) (x : ItemEvent) (ps : List Pin) → PinsTouch (gather mapping_named d ps)
+      → PinsTouch (gather mapping_named d (unpinned_by actor x ps))
+  pins-unpinned d actor (Stepped (Unpin p holder) seen) ps all = pins-less d actor.0 holder ps all
+  pins-unpinned d actor x ps all = all
+
+  -- the pin that an event takes is on such an entry
+  abbrev PinnedTouches : ItemEvent → Type 0
+  PinnedTouches (Stepped (PinStep p) seen) = A (Entry p.dom p.gref) × BytesTouch A uses
+  PinnedTouches x = Unit {0}
+
+  named-touches : (p held : HeldPin) (answer : Option Answer) (n : ℕ) → held.dom ≡ p.dom → held.gref ≡ p.gref
+      → A (Entry p.dom p.gref) × BytesTouch A uses → PinsTouch (mapping_named (holder_after answer n) held)
+  named-touches p held (Some (Mapped handle)) n dom gref touch = (
+    (
+      subst (λ x. A (Entry x held.gref)) (sym dom) (subst (λ x. A (Entry p.dom x)) (sym gref) touch.0),
+      (λ is. touch.1.0 is held.dom (frame_of held.entry)),
+      (λ is. touch.1.1 is held.dom (frame_of held.entry)),
+    ),
+    tt,
+  )
+  named-touches p held answer n dom gref touch = tt
+
+  pin-touches : (d : ℕ) (x : Pin) → PinsTouch (mapping_named x.holder x.held)
+      → PinsTouch (gather mapping_named d (x ∷ []))
+  pin-touches d x touch = subst PinsTouch (sym (gather-cons d x []))
+      (pins-both (cond (x.actor == d) (mapping_named x.holder x.held) []) (gather mapping_named d []) (by
+      (x.actor == d))
+      (subst PinsTouch (sym (gather-none d)) tt))
+    where
+      by : (b : Bool) → PinsTouch (cond b (mapping_named x.holder x.held) [])
+      by true = touch
+      by false = tt
+
+  pins-pinned : (d : ℕ) (actor : DomId) (x : ItemEvent) (answer : Option Answer) (h : History) (ps : List Pin)
+      → PinnedTouches x → PinsTouch (gather mapping_named d (pinned_by actor x answer h ps))
+  pins-pinned d actor (Stepped (PinStep p) Taken) answer h ps touch =
+      pin-touches d _ (named-touches p _ answer _ refl refl touch)
+  pins-pinned d actor x answer h ps touch = subst PinsTouch (sym (gather-none d)) tt
+
+  live-cons : (i : Item) (h : History)
+      → live (i ∷ h) ≡ unpinned_by i.actor i.happened (live h) ++ pinned_by i.actor i.happened i.answer h (live h)
+  unfolding live
+  live-cons i h = refl
+
+  pins-after : (i : Item) (h : History) (d : ℕ) → PinnedTouches i.happened → PinsTouch (mappings_at h d)
+      → PinsTouch (mappings_at (i ∷ h) d)
+  pins-after i h d touch all = subst PinsTouch (sym (ap (gather mapping_named d) (live-cons i h)
+      ∙ gather-append mapping_named d (unpinned_by i.actor i.happened (live h))
+      (pinned_by i.actor i.happened i.answer h (live h))))
+      (pins-both (gather mapping_named d (unpinned_by i.actor i.happened (live h)))
+      (gather mapping_named d (pinned_by i.actor i.happened i.answer h (live h)))
+      (pins-unpinned d i.actor i.happened (live h) all)
+      (pins-pinned d i.actor i.happened i.answer h (live h) touch))
+
+  -- what the open call may touch, if there is one, is such
+  abbrev pub CallWithin : DomId → Option Underway → Type 0
+  CallWithin d None = Unit {0}
+  CallWithin d (Some c) = RequestTouches A uses d c.request
+
+  -- what a domain has mapped and what it has open by the history touch only such
+  pub record HistoryWithin (h : History) (d : DomId) : Type 0 where
+    pub maps : PinsTouch (mappings_at h d.0)
+    pub call : CallWithin d (open_call h d.0)
+
+  other-within : (i : Item) (h : History) (d : DomId) → (i.actor.0 == d.0) ≡ false → HistoryWithin h d
+      → HistoryWithin (i ∷ h) d
+  other-within i h d apart w = record {
+    maps = subst PinsTouch (sym (other-pins mapping_named i h d.0 apart)) w.maps;
+    call = subst (CallWithin d) (sym (open_call-other i h d.0 apart)) w.call;
+  }
+
+  abbrev item : DomId → ItemEvent → Option Answer → Item
+  item d x a = record { actor = d; happened = x; answer = a }
+
+  began-within : (h : History) (d : DomId) (q : Request) (a : Option Answer) → RequestTouches A uses d (asked q)
+      → HistoryWithin h d → HistoryWithin (item d (Began q) a ∷ h) d
+  began-within h d q a touch w = record {
+    maps = pins-after (item d (Began q) a) h d.0 tt w.maps;
+    call = subst (CallWithin d) (sym (open_call-own (item d (Began q) a) h)) (by a);
+  } where
+    by : (b : Option Answer) → CallWithin d (underway_after (item d (Began q) b) (open_call h d.0))
+    by None = touch
+    by (Some answer) = tt
+
+  pinned-touches : (d : DomId) (y : Step) (seen : Observation) → StepTouches A d y → PinsBytes A uses y
+      → PinnedTouches (Stepped y seen)
+  pinned-touches d (PinStep p) seen touch bytes = (touch, bytes)
+  pinned-touches d y seen touch bytes = tt
+
+  releases-of : (s : Setting) (h : History) (d : DomId) (y : Step) → UnmapsOnly (known_at s h d) y → Releases h d y
+  releases-of s h d (Unpin p (ByHandle handle)) found = unmaps-release h d p handle found
+  releases-of s h d (Unpin p (ByLeg n)) found = absurd found
+  releases-of s h d y found = tt
+
+  stepped-within : (s : Setting) (h : History) (d : DomId) (y : Step) (seen : Observation) (a : Option Answer)
+      (c : Option Underway) → open_call h d.0 ≡ c → StepsRightIn s h (item d (Stepped y seen) a) y seen c
+      → HistoryWithin h d
+      → HistoryWithin (item d (Stepped y seen) a ∷ h) d × ItemTouches A h d (Stepped y seen)
+  stepped-within s h d y seen a None is right w = absurd right
+  stepped-within s h d y seen a (Some c) is right w = (
+    record {
+      maps = pins-after (item d (Stepped y seen) a) h d.0 (pinned-touches d y seen good.0 good.2) w.maps;
+      call = subst (CallWithin d) (sym (open_call-own (item d (Stepped y seen) a) h
+          ∙ ap (underway_after (item d (Stepped y seen) a)) is)) (by a);
+    },
+    (good.0, releases-of s h d y good.1),
+  ) where
+    touches : RequestTouches A uses d c.request
+    touches = subst (CallWithin d) is w.call
+
+    good : StepTouches A d y × UnmapsOnly (known_at s h d) y × PinsBytes A uses y
+    good = path-touches A uses (known_at s h d) d (λ handle p found. pins-found
+        (mappings_at h d.0) handle p w.maps found)
+        c.request touches (values c) y right.continues
+
+    by : (b : Option Answer) → CallWithin d (underway_after (item d (Stepped y seen) b) (Some c))
+    by None = touches
+    by (Some answer) = tt
+
+  -- events
+
+  -- if the event begins a call, what that may touch is such
+  abbrev pub BeginTouches : Event → Type 0
+  BeginTouches (Begin d q) = RequestTouches A uses d (asked q)
+  BeginTouches (Tick d) = Unit {0}
+
+  item-within : (s : Setting) (h : History) (e : Event) (i : Item) (x : ItemEvent) → i.happened ≡ x → BeginTouches e
+      → IsItemOf e (item (actor_of e) x i.answer) → IsRight s h (item (actor_of e) x i.answer)
+      → HistoryWithin h (actor_of e)
+      → HistoryWithin (item (actor_of e) x i.answer ∷ h) (actor_of e) × ItemTouches A h (actor_of e) x
+  item-within s h (Begin d q) i (Began r) is touch of right w = (
+    began-within h d r i.answer (subst (λ (x : ItemEvent). Asks x) (sym of.1) touch) w,
+    tt,
+  ) where
+    Asks : ItemEvent → Type 0
+    Asks (Began p) = RequestTouches A uses d (asked p)
+    Asks (Stepped y seen) = Unit {0}
+  item-within s h (Begin d q) i (Stepped y seen) is touch of right w = absurd
+      (let no : Stepped y seen ≡ Began q = of.1 in cc)
+  item-within s h (Tick d) i (Began r) is touch of right w = absurd of.1
+  item-within s h (Tick d) i (Stepped y seen) is touch of right w =
+      stepped-within s h d y seen i.answer (open_call h d.0) refl right w
+
+  pub event-within : (s : Setting) (h : History) (e : Event) (y : Element) → BeginTouches e → MayDo s h e y
+      → HistoryWithin h (actor_of e)
+      → HistoryWithin (grown h y) (actor_of e) × ElementTouches A h (actor_of e) y
+  event-within s h e (Did i) touch may w = by (of-event e may) where
+    of-event : (f : Event) → MayDo s h f (Did i) → IsItemOf f i × IsRight s h i
+    of-event (Begin d q) m = (m.1, m.2)
+    of-event (Tick d) m = (m.1, m.2)
+
+    own : (f : Event) → IsItemOf f i → i.actor ≡ actor_of f
+    own (Begin d q) of = of.0
+    own (Tick d) of = of.0
+
+    by : IsItemOf e i × IsRight s h i
+        → HistoryWithin (i ∷ h) (actor_of e) × ElementTouches A h (actor_of e) (Did i)
+    by (of, right) =
+        let same : item (actor_of e) i.happened i.answer ≡ i =
+        ap (λ d. item d i.happened i.answer) (sym (own e of)) in
+        let it = item-within s h e i i.happened refl touch (subst (IsItemOf e) (sym same) of)
+        (subst (IsRight s h) (sym same) right) w in
+        (subst (λ x. HistoryWithin (x ∷ h) (actor_of e)) same it.0, it.1)
+  event-within s h e Busy touch may w = (w, tt)
+  event-within s h e Idle touch may w = (w, tt)
+  event-within s h e NoDomain touch may w = (w, tt)
+
+  -- courses
+
+  -- what a domain may still touch is such, at this point of its list
+  pub record Within (hs : List Happening) (d : DomId) (tasks : List RunTask) : Type 0 where
+    pub tasks_touch : TasksTouch A uses d tasks
+    pub past : HistoryWithin (history_in hs) d
+
+  quiet-within : (hs : List Happening) (x : Happening) (d : DomId) (tasks : List RunTask) → IsQuiet x
+      → TasksTouch A uses d tasks
+      → HistoryWithin (history_in hs) d → Within (hs ++ x ∷ []) d tasks
+  quiet-within hs x d tasks quiet touch past = record {
+    tasks_touch = touch;
+    past = subst (λ h. HistoryWithin h d) (sym (history_quiet hs x quiet)) past;
+  }
+
+  did-within : (s : Setting) (hs : List Happening) (e : Event) (y : Element) (tasks : List RunTask) → BeginTouches e
+      → MayDo s (history_in hs) e y → TasksTouch A uses (actor_of e) tasks → HistoryWithin (history_in hs) (actor_of e)
+      → Within (hs ++ did e y ∷ []) (actor_of e) tasks × HappeningTouches A hs (did e y)
+  did-within s hs e y tasks touch may left past = let it = event-within s (history_in hs) e y touch may past in (
+    record { tasks_touch = left; past = subst (λ h. HistoryWithin h (actor_of e)) (sym (history_did hs e y)) it.0 },
+    it.1,
+  )
+
+  -- a domain whose course goes on by a happening
+  abbrev GoesWithin : List Happening → Happening → Course → Type 0
+  GoesWithin hs x j = Within (hs ++ x ∷ []) j.dom j.tasks × HappeningTouches A hs x
+
+  -- to a course with these tasks
+  goes-to : (s : Setting) (hs : List Happening) (e : Event) (y : Element) (x : Happening) (j : Course)
+      (tasks : List RunTask)
+      → x ≡ did e y → j.dom ≡ actor_of e → j.tasks ≡ tasks → BeginTouches e → CanComeNext s hs x
+      → TasksTouch A uses (actor_of e) tasks → HistoryWithin (history_in hs) (actor_of e) → GoesWithin hs x j
+  goes-to s hs e y x j tasks is dom left touch may all past =
+      subst (λ z. Within (hs ++ z ∷ []) j.dom j.tasks × HappeningTouches A hs z) (sym is)
+      (subst (λ ts. Within (hs ++ did e y ∷ []) j.dom ts × HappeningTouches A hs (did e y)) (sym left)
+      (subst (λ d. Within (hs ++ did e y ∷ []) d tasks × HappeningTouches A hs (did e y)) (sym dom)
+      (did-within s hs e y tasks touch (subst (CanComeNext s hs) is may) all past)))
+
+  after-tasks : (types : List (List ℕ)) (line : ℕ) (call : ScriptCall) (lost : Option Handle) (k : Course)
+      (answer : Option Answer) → (course_after types line call lost k answer).tasks ≡ k.tasks
+  after-tasks types line call lost k None = refl
+  after-tasks types line call lost k (Some answer) = refl
+
+  back-tasks : (k : Course) (answer : Option Answer) → (back_after k answer).tasks ≡ k.tasks
+  back-tasks k None = refl
+  back-tasks k (Some answer) = refl
+
+  line-within : (types : List (List ℕ)) (s : Setting) (hs : List Happening) (k j : Course) (line : ℕ)
+      (left : List RunTask)
+      (deed : RunAction) (x : Happening) → ActionLeads types k line left deed x j → CanComeNext s hs x
+      → DeedTouches A uses k.dom deed → TasksTouch A uses k.dom left → HistoryWithin (history_in hs) k.dom
+      → GoesWithin hs x j
+  line-within types s hs k j line left (Tell flag) x leads may touch all past =
+      subst (λ z. Within (hs ++ z ∷ []) j.dom j.tasks × HappeningTouches A hs z) (sym leads.0)
+      (subst (λ (c : Course). Within (hs ++ raised k.dom flag ∷ []) c.dom c.tasks × A (Raises flag)) (sym leads.1)
+      (quiet-within hs (raised k.dom flag) k.dom left (tells k.dom flag) all past, touch))
+  line-within types s hs k j line left (Await flag) x leads may touch all past =
+      subst (λ z. Within (hs ++ z ∷ []) j.dom j.tasks × HappeningTouches A hs z) (sym leads.0)
+      (subst (λ (c : Course). Within (hs ++ passed k.dom flag ∷ []) c.dom c.tasks × Unit {0}) (sym leads.1)
+      (quiet-within hs (passed k.dom flag) k.dom left (waits k.dom flag) all past, tt))
+  line-within types s hs k j line left (Do call) x (q, e, says, is, to) may touch all past =
+      goes-to s hs (Begin k.dom q) e x j left is
+      (ap (λ (c : Course). c.dom) to ∙ after-dom types line call (given_up q) (record k { tasks = left }) (answer_in e))
+      (ap (λ (c : Course). c.tasks) to
+      ∙ after-tasks types line call (given_up q) (record k { tasks = left }) (answer_in e))
+      (said-touches A uses k.named k.dom call q says touch) may all past
+
+  rest-within : (types : List (List ℕ)) (s : Setting) (hs : List Happening) (k j : Course) (tasks : List RunTask)
+      (choice : ℕ)
+      (x : Happening) → k.tasks ≡ tasks → RestLeads types k tasks choice x j → CanComeNext s hs x
+      → TasksTouch A uses k.dom tasks → HistoryWithin (history_in hs) k.dom → GoesWithin hs x j
+  rest-within types s hs k j [] choice x same (handle, e, there, is, done, to) may touch past =
+      goes-to s hs (Begin k.dom (requests.Unmap handle)) e x j [] is
+      (ap (λ (c : Course). c.dom) to
+      ∙ back-dom (record k { held = take choice k.held ++ drop (suc choice) k.held }) (answer_in e))
+      (ap (λ (c : Course). c.tasks) to
+      ∙ back-tasks (record k { held = take choice k.held ++ drop (suc choice) k.held }) (answer_in e) ∙ same)
+      tt may tt past
+  rest-within types s hs k j (t ∷ ts) choice x same leads may touch past =
+      line-within types s hs k j t.line ts t.deed x leads.1 may touch.0 touch.1 past
+
+  -- what a domain does touches only such, and so it stays
+  pub course-within : (types : List (List ℕ)) (s : Setting) (hs : List Happening) (k j : Course) (choice : ℕ)
+      (x : Happening)
+      → CourseLeads types k choice x j → CanComeNext s hs x → Within hs k.dom k.tasks → GoesWithin hs x j
+  course-within types s hs k j choice x leads may w = by k.opened leads where
+    by : (opened : Opened) → OpenLeads types k opened choice x j → GoesWithin hs x j
+    by resting l = rest-within types s hs k j k.tasks choice x refl l may w.tasks_touch w.past
+    by (calling line call lost) (none, e, is, to) = goes-to s hs (Tick k.dom) e x j k.tasks is
+        (ap (λ (c : Course). c.dom) to ∙ after-dom types line call lost k (answer_in e))
+        (ap (λ (c : Course). c.tasks) to ∙ after-tasks types line call lost k (answer_in e)) tt may w.tasks_touch w.past
+    by giving (none, e, is, done, to) = goes-to s hs (Tick k.dom) e x j k.tasks is
+        (ap (λ (c : Course). c.dom) to ∙ back-dom k (answer_in e))
+        (ap (λ (c : Course). c.tasks) to ∙ back-tasks k (answer_in e)) tt may w.tasks_touch w.past
+
+  -- what another domain does leaves it so
+  pub others-within : (s : Setting) (hs : List Happening) (x : Happening) (d : DomId) (tasks : List RunTask)
+      → ((doer x).0 == d.0) ≡ false → CanComeNext s hs x → Within hs d tasks → Within (hs ++ x ∷ []) d tasks
+  others-within s hs (did e y) d tasks apart may w = record {
+    tasks_touch = w.tasks_touch;
+    past = subst (λ h. HistoryWithin h d) (sym (history_did hs e y)) (by y e may apart);
+  } where
+    by : (z : Element) (f : Event) → MayDo s (history_in hs) f z → ((actor_of f).0 == d.0) ≡ false
+        → HistoryWithin (grown (history_in hs) z) d
+    by (Did i) (Begin b q) m off = other-within i (history_in hs) d (ap (λ (a : DomId). a.0 == d.0) m.1.0 ∙ off) w.past
+    by (Did i) (Tick b) m off = other-within i (history_in hs) d (ap (λ (a : DomId). a.0 == d.0) m.1.0 ∙ off) w.past
+    by Busy f m off = w.past
+    by Idle f m off = w.past
+    by NoDomain f m off = w.past
+  others-within s hs (raised b flag) d tasks apart may w =
+      quiet-within hs (raised b flag) d tasks (tells b flag) w.tasks_touch w.past
+  others-within s hs (passed b flag) d tasks apart may w =
+      quiet-within hs (passed b flag) d tasks (waits b flag) w.tasks_touch w.past

@@ -1,0 +1,8 @@
+use Rattle.std.proofs.Common.{◌≡◌, drop}
+use Rattle.std.specs.List.{list_any}
+use Rattle.gt_explore_moves.specs.Ends.{tasks_at}
+use Rattle.gt_explore_moves.specs.Touches.{is_load}
+use Rattle.gt_explore_moves.proofs.scene.SearchContext.tasks_load.Given as goal
+
+abbrev pub invariant-loop-at : goal.invariant-loop-at
+invariant-loop-at l = list_any is_load (drop l.at (tasks_at l.self l.place)) ≡ list_any is_load (drop l.first (tasks_at l.self l.place))

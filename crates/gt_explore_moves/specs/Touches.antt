@@ -1,0 +1,252 @@
+-- What the next step of a domain touches, and what another domain may still touch.
+use Rattle.std.specs.Prelude.{◌≡◌, ◌==◌, ◌&&◌, ◌||◌, ◌<◌, ℕ, Bool, true, false, if◌then◌else◌, List, drop, ◌⊎◌}
+use Rattle.std.specs.Prelude.{Option, Some, None, slice_get, get_or}
+use Rattle.std.specs.List.{list_any}
+use Rattle.gt_types.specs.Names.{resolved}
+use Rattle.gt_types.specs.declared.DomId.{DomId}
+use Rattle.gt_types.specs.declared.GrantRef.{GrantRef}
+use Rattle.gt_calls.specs.declared.action.Step.{Step}
+use Rattle.gt_calls.specs.declared.action.Step.TheVariants.{Unpin, Read as ReadBytes, Write as WriteBytes}
+use Rattle.gt_calls.specs.declared.action.Step.TheVariants.{Copy as CopyBytes}
+use Rattle.gt_calls.specs.declared.request.PinHolder.TheVariants.{Mapping as ByHandle, Leg as ByLeg}
+use Rattle.gt_calls.specs.declared.held.HeldPin.{HeldPin}
+use Rattle.gt_core.specs.Swapping.{on_entry, looks_header, stores_header}
+use Rattle.gt_entry.specs.Entries.{frame_of}
+use Rattle.gt_script_lines.specs.declared.calls.ScriptCall.{ScriptCall}
+use Rattle.gt_script_lines.specs.declared.calls.ScriptCall.TheVariants as calls
+use Rattle.gt_script.specs.Lists.{RunTask, RunAction}
+use Rattle.gt_script.specs.declared.tasks.RunActionBy.TheVariants.{Await, Do, Tell}
+use Rattle.gt_explore_replay.specs.declared.replay.Turn.{Turn}
+use Rattle.gt_explore_moves.specs.Ends.{choices_in, is_done, tasks_at, turns_by, turns_from}
+use Rattle.gt_explore_moves.specs.declared.actor.Actor.{Actor}
+use Rattle.gt_explore_moves.specs.declared.actor.ActorCall.{ActorCall}
+use Rattle.gt_explore_moves.specs.declared.actor.LabelledMapping.{LabelledMapping}
+use Rattle.gt_explore_moves.specs.declared.scene.SearchContext.{SearchContext}
+use Rattle.gt_explore_moves.specs.declared.scene.SearchState.{SearchState}
+use Rattle.gt_explore_moves.specs.declared.touches.Touch.{Touch}
+use Rattle.gt_explore_moves.specs.declared.touches.Touch.TheVariants.{Entry, LooksHeader, StoresHeader, Reads, Writes}
+use Rattle.gt_explore_moves.specs.declared.touches.Touch.TheVariants.{Raises}
+use Rattle.gt_explore_moves.specs.declared.touches.MappingUse.{MappingUse}
+use Rattle.gt_explore_moves.specs.declared.touches.NextMove.{NextMove}
+use Rattle.gt_explore_moves.specs.declared.touches.NextMove.TheVariants.{Makes, Awaits, Free}
+
+-- a step and a touch
+
+-- the step of domain d reads or changes the words of entry r of domain t; a copy that gives back a pin may do so on any
+-- entry
+abbrev pub is_on : DomId → Step → ℕ → ℕ → Bool
+is_on d (Unpin p (ByHandle handle)) t r = (p.dom.0 == t) && (p.gref.0 == r)
+is_on d (Unpin p (ByLeg number)) t r = true
+is_on d step t r = on_entry d step t r
+
+-- the step reads or writes bytes; it writes bytes
+abbrev pub is_access : Step → Bool
+is_access (ReadBytes dom frame off len) = true
+is_access (WriteBytes dom frame off len) = true
+is_access (CopyBytes from to len) = true
+is_access step = false
+
+abbrev pub is_write : Step → Bool
+is_write (WriteBytes dom frame off len) = true
+is_write (CopyBytes from to len) = true
+is_write step = false
+
+-- the step reads this frame of domain t
+abbrev pub reads_at : Step → ℕ → ℕ → Bool
+reads_at (ReadBytes dom frame off len) t f = (dom.0 == t) && (frame == f)
+reads_at (CopyBytes from to len) t f = (from.frame.owner.0 == t) && (from.frame.number == f)
+reads_at step t f = false
+
+-- the step writes to this frame of domain t
+abbrev pub writes_at : Step → ℕ → ℕ → Bool
+writes_at (WriteBytes dom frame off len) t f = (dom.0 == t) && (frame == f)
+writes_at (CopyBytes from to len) t f = (to.frame.owner.0 == t) && (to.frame.number == f)
+writes_at step t f = false
+
+-- the step of domain d does not go well with this touch of another domain: both are of the same, and one changes it
+abbrev pub step_meets : DomId → Step → Touch → Bool
+step_meets d z (Entry dom gref) = is_on d z dom.0 gref.0
+step_meets d z (LooksHeader dom) = stores_header d z dom.0
+step_meets d z (StoresHeader dom) = looks_header z dom.0
+step_meets d z (Reads dom frame) = writes_at z dom.0 frame
+step_meets d z (Writes dom frame) = reads_at z dom.0 frame || writes_at z dom.0 frame
+step_meets d z (Raises flag) = false
+
+-- what a domain does next, and a touch of another domain
+abbrev pub meets : NextMove → Touch → Bool
+meets (Makes d z) touch = step_meets d z touch
+meets (Awaits flag) (Raises raised) = raised == flag
+meets (Awaits flag) touch = false
+meets Free touch = false
+
+-- the next move writes bytes; it reads or writes bytes
+abbrev pub next_writes : NextMove → Bool
+next_writes (Makes d z) = is_write z
+next_writes next = false
+
+abbrev pub next_accesses : NextMove → Bool
+next_accesses (Makes d z) = is_access z
+next_accesses next = false
+
+-- mappings
+
+-- the task loads, or stores, through a mapping
+abbrev pub is_load : RunTask → Bool
+is_load t = by t.deed
+  where
+    of_call : ScriptCall → Bool
+    of_call (calls.Load label off len) = true
+    of_call call = false
+
+    by : RunAction → Bool
+    by (Do call) = of_call call
+    by deed = false
+
+abbrev pub is_store : RunTask → Bool
+is_store t = by t.deed
+  where
+    of_call : ScriptCall → Bool
+    of_call (calls.Store label off hex) = true
+    of_call call = false
+
+    by : RunAction → Bool
+    by (Do call) = of_call call
+    by deed = false
+
+-- what these tasks do through mappings
+abbrev pub use_of : List RunTask → MappingUse
+use_of ts = record { loads = list_any is_load ts; stores = list_any is_store ts }
+
+-- the next move meets a frame that is used so, whichever it is
+abbrev pub meets_bytes : MappingUse → NextMove → Bool
+meets_bytes uses next = (uses.loads && next_writes next) || (uses.stores && next_accesses next)
+
+-- it meets the entry on which a mapping has its pin, or the frame of the mapping if that is used so
+abbrev pub meets_mapping : MappingUse → NextMove → HeldPin → Bool
+meets_mapping uses next p =
+    meets next (Entry p.dom p.gref)
+    || (uses.loads && meets next (Reads p.dom (frame_of p.entry)))
+    || (uses.stores && meets next (Writes p.dom (frame_of p.entry)))
+
+-- the next move, and a call of another domain
+
+abbrev pub meets_leg : NextMove → DomId → GrantRef → Bool
+meets_leg next dom gref = meets next (LooksHeader dom) || meets next (Entry dom gref)
+
+-- it meets something that the call of domain d may touch, or may touch through the mapping that it makes; what is done
+-- through other mappings is told by these
+abbrev pub meets_call : MappingUse → NextMove → DomId → ScriptCall → Bool
+meets_call uses next d (calls.Grant gref entry) = meets next (Entry d gref)
+meets_call uses next d (calls.GrantBytes gref hex) = meets next (Entry d gref)
+meets_call uses next d (calls.Revoke gref) = meets next (Entry d gref)
+meets_call uses next d (calls.Withdraw gref) = meets next (Entry d gref)
+meets_call uses next d (calls.Demote gref) = meets next (Entry d gref)
+meets_call uses next d (calls.Promote gref) = meets next (Entry d gref)
+meets_call uses next d (calls.Map label dom gref flags) = meets_leg next (resolved d dom) gref || meets_bytes uses next
+meets_call uses next d (calls.Unmap label) = false
+meets_call uses next d (calls.Load label off len) = false
+meets_call uses next d (calls.Store label off hex) = false
+meets_call uses next d (calls.Peek frame off len) = meets next (Reads d frame)
+meets_call uses next d (calls.Poke frame off hex) = meets next (Writes d frame)
+meets_call uses next d (calls.Copy c) = true
+meets_call uses next d (calls.SetVersion version) = meets next (StoresHeader d)
+meets_call uses next d (calls.SetupTable frames) = meets next (StoresHeader d)
+meets_call uses next d (calls.QuerySize dom) = meets next (LooksHeader (resolved d dom))
+meets_call uses next d (calls.GetVersion dom) = meets next (LooksHeader (resolved d dom))
+
+-- it meets something that the task may touch
+abbrev pub meets_task : MappingUse → NextMove → RunTask → Bool
+meets_task uses next t = by t.deed
+  where
+    by : RunAction → Bool
+    by (Do call) = meets_call uses next t.dom call
+    by (Tell flag) = meets next (Raises flag)
+    by (Await flag) = false
+
+-- a test of a task, if there is one
+abbrev pub of_task : (RunTask → Bool) → Option RunTask → Bool
+of_task test None = false
+of_task test (Some t) = test t
+
+-- domains
+
+-- the task at this index, or the next one
+abbrev pub first_of : ℕ → Option ℕ → ℕ
+first_of next None = next
+first_of next (Some place) = place
+
+-- the index of the first task that a domain has not finished: that of its open call, or the next one
+abbrev pub first_left : Actor → ℕ
+first_left a = by a.«open»
+  where
+    by : Option ActorCall → ℕ
+    by None = a.next
+    by (Some o) = first_of a.next o.task
+
+-- the tasks that a domain has not finished
+abbrev pub tasks_unfinished : SearchContext → ℕ → Actor → List RunTask
+tasks_unfinished s place a = drop (first_left a) (tasks_at s place)
+
+-- it meets something that the domain at this position may still touch: an entry on which a mapping has its pin, the
+-- frame
+-- of a mapping, or what a task touches that is not finished
+abbrev pub may_meet : NextMove → SearchContext → ℕ → Actor → Bool
+may_meet next s place a =
+    list_any (λ (m : LabelledMapping). meets_mapping (use_of (tasks_unfinished s place a)) next m.held) a.mappings.items
+    || list_any (meets_task (use_of (tasks_unfinished s place a)) next) (tasks_unfinished s place a)
+
+-- what a domain without an open call does next: it waits, unless the flag was raised, or is free to go on
+abbrev pub next_at_rest : List Bool → Option RunTask → NextMove
+next_at_rest told None = Free
+next_at_rest told (Some t) = by t.deed
+  where
+    by : RunAction → NextMove
+    by (Await flag) = if get_or told flag false then Free else Awaits flag
+    by deed = Free
+
+-- what the domain at this position does next
+abbrev pub next_move : SearchContext → List Bool → ℕ → Actor → NextMove
+next_move s told place a = by a.«open»
+  where
+    by : Option ActorCall → NextMove
+    by (Some o) = Makes o.call.caller o.step
+    by None = next_at_rest told (slice_get (tasks_at s place) a.next)
+
+-- sets of domains
+
+-- no domain outside may still touch what this next move meets, if it is one of this number of first domains
+abbrev pub NoneMeets : SearchContext → SearchState → List Bool → NextMove → ℕ → Type 0
+NoneMeets s w inside next n =
+    (e : ℕ) (b : Actor) → e < n → slice_get w.actors.items e ≡ Some b → get_or inside e false ≡ false
+    → may_meet next s e b ≡ false
+
+-- no domain outside may still touch what the next move of one inside meets, if that is one of this number of first
+-- domains
+abbrev pub UndisturbedTo : SearchContext → SearchState → List Bool → ℕ → Type 0
+UndisturbedTo s w inside n =
+    (p e : ℕ) (a b : Actor) → p < n → slice_get w.actors.items p ≡ Some a → slice_get w.actors.items e ≡ Some b
+    → get_or inside p false ≡ true → get_or inside e false ≡ false
+    → may_meet (next_move s w.told.items p a) s e b ≡ false
+
+-- no domain outside may still touch what the next move of one inside meets
+abbrev pub AreUndisturbed : SearchContext → SearchState → List Bool → Type 0
+AreUndisturbed s w inside =
+    (p e : ℕ) (a b : Actor) → slice_get w.actors.items p ≡ Some a → slice_get w.actors.items e ≡ Some b
+    → get_or inside p false ≡ true → get_or inside e false ≡ false
+    → may_meet (next_move s w.told.items p a) s e b ≡ false
+
+-- some domain inside is not at its end
+abbrev pub SomeGoesOn : SearchContext → SearchState → List Bool → Type 0
+SomeGoesOn s w inside =
+    (p : ℕ) × (a : Actor) × (slice_get w.actors.items p ≡ Some a) × (get_or inside p false ≡ true)
+    × (is_done s p a ≡ false)
+
+-- the turns are those of such a set
+abbrev pub AreOfSet : SearchContext → SearchState → List Turn → Type 0
+AreOfSet s w turns =
+    (inside : List Bool) × AreUndisturbed s w inside × SomeGoesOn s w inside
+    × (turns ≡ turns_by (choices_in s inside) 0 w.actors.items)
+
+-- the turns to try: those of a set of domains that no domain outside can disturb, or all
+abbrev pub AreToBeTried : SearchContext → SearchState → List Turn → Type 0
+AreToBeTried s w turns = (turns ≡ turns_from s 0 w.actors.items) ⊎ AreOfSet s w turns

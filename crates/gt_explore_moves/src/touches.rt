@@ -1,0 +1,260 @@
+//! What the next move of a domain touches, and what tasks of another domain may touch.
+ghost use Rattle.std.specs.Prelude.{◌≡◌};
+ghost use Rattle.std.specs.List.{list_any};
+ghost use Rattle.gt_explore_moves.specs.declared.actor.LabelledMapping.{LabelledMapping};
+ghost use Rattle.gt_core.specs.Swapping.{looks_header, stores_header};
+ghost use Rattle.gt_explore_moves.specs.Touches.{is_access, is_load, is_on, is_store, is_write, meets, meets_bytes};
+ghost use Rattle.gt_explore_moves.specs.Touches.{meets_call, meets_leg, meets_mapping, meets_task, next_accesses};
+ghost use Rattle.gt_explore_moves.specs.Touches.{next_writes, reads_at, step_meets, writes_at};
+
+use crate::actor::LabelledMapping;
+use gt_calls::{HeldPin, PinHolder, Step, resolve};
+use gt_script::{RunAction, RunTask};
+use gt_script_lines::ScriptCall;
+use gt_types::{DomId, GrantRef};
+
+/// A part of a run's state, and what is done to it.
+#[derive(Clone, Copy)]
+pub enum Touch {
+    /// The words of an entry are read or changed.
+    Entry(DomId, GrantRef),
+    /// The header of a table is read.
+    LooksHeader(DomId),
+    /// The header of a table is stored.
+    StoresHeader(DomId),
+    /// This frame of the domain is read.
+    Reads(DomId, u64),
+    /// This frame of the domain is written.
+    Writes(DomId, u64),
+    /// A flag is raised.
+    Raises(usize),
+}
+
+/// What the tasks that a domain has not finished do through its mappings.
+#[derive(Clone, Copy)]
+pub struct MappingUse {
+    pub loads: bool,
+    pub stores: bool,
+}
+
+/// What a domain does next.
+#[derive(Clone, Copy)]
+pub enum NextMove {
+    /// It makes a step of its open call.
+    Makes(DomId, Step),
+    /// It waits for a flag that is not raised yet.
+    Awaits(usize),
+    /// It does something that other domains neither see nor change, or nothing.
+    Free,
+}
+
+// Returns whether a step of the first domain reads or changes the words of this entry. A copy that gives back a pin may
+// do so on any entry.
+fn is_on(dom: DomId, step: Step, owner: DomId, gref: GrantRef) -> bool
+    ensures { result ≡ is_on dom step owner.0 gref.0 }
+{
+    match step {
+        Step::LookControl { dom: at, gref: r }
+        | Step::LookBody {
+            dom: at,
+            gref: r,
+            ..
+        } => { at.0 == owner.0 && r.0 == gref.0 }
+        Step::Pin { held } => held.dom.0 == owner.0 && held.gref.0 == gref.0,
+        Step::Unpin { held, holder } => match holder {
+            PinHolder::Mapping(_) => held.dom.0 == owner.0 && held.gref.0 == gref.0,
+            PinHolder::Leg(_) => true,
+        },
+        Step::StoreBody { gref: r, .. } | Step::Exchange { gref: r, .. } => {
+            dom.0 == owner.0 && r.0 == gref.0
+        }
+        _ => false,
+    }
+}
+
+// Returns whether a step reads the header of this domain's table.
+fn looks_header(step: Step, owner: DomId) -> bool
+    ensures { result ≡ looks_header step owner.0 }
+{
+    match step {
+        Step::LookHeader { dom } => dom.0 == owner.0,
+        _ => false,
+    }
+}
+
+// Returns whether a step of the first domain stores the header of the other one's table.
+fn stores_header(dom: DomId, step: Step, owner: DomId) -> bool
+    ensures { result ≡ stores_header dom step owner.0 }
+{
+    match step {
+        Step::StoreHeader { .. } => dom.0 == owner.0,
+        _ => false,
+    }
+}
+
+// Returns whether a step reads this frame of a domain.
+fn reads_at(step: Step, owner: DomId, number: u64) -> bool
+    ensures { result ≡ reads_at step owner.0 number }
+{
+    match step {
+        Step::Read { dom, frame, .. } => dom.0 == owner.0 && frame == number,
+        Step::Copy { from, .. } => from.frame.owner.0 == owner.0 && from.frame.number == number,
+        _ => false,
+    }
+}
+
+// Returns whether a step writes to this frame of a domain.
+fn writes_at(step: Step, owner: DomId, number: u64) -> bool
+    ensures { result ≡ writes_at step owner.0 number }
+{
+    match step {
+        Step::Write { dom, frame, .. } => dom.0 == owner.0 && frame == number,
+        Step::Copy { to, .. } => to.frame.owner.0 == owner.0 && to.frame.number == number,
+        _ => false,
+    }
+}
+
+// Returns whether a step of the first domain does not go well with a touch of another one: both are of the same part,
+// and one changes it.
+fn step_meets(dom: DomId, step: Step, touch: Touch) -> bool
+    ensures { result ≡ step_meets dom step touch }
+{
+    match touch {
+        Touch::Entry(owner, gref) => is_on(dom, step, owner, gref),
+        Touch::LooksHeader(owner) => stores_header(dom, step, owner),
+        Touch::StoresHeader(owner) => looks_header(step, owner),
+        Touch::Reads(owner, frame) => writes_at(step, owner, frame),
+        Touch::Writes(owner, frame) => {
+            reads_at(step, owner, frame) || writes_at(step, owner, frame)
+        }
+        Touch::Raises(_) => false,
+    }
+}
+
+/// Returns whether a next move does not go well with this touch of another domain.
+pub fn meets(next: NextMove, touch: Touch) -> bool
+    ensures { result ≡ meets next touch }
+{
+    match next {
+        NextMove::Makes(dom, step) => step_meets(dom, step, touch),
+        NextMove::Awaits(flag) => match touch {
+            Touch::Raises(raised) => raised == flag,
+            _ => false,
+        },
+        NextMove::Free => false,
+    }
+}
+
+// Returns whether a next move reads or writes bytes.
+fn next_accesses(next: NextMove) -> bool
+    ensures { result ≡ next_accesses next }
+{
+    match next {
+        NextMove::Makes(_, step) => {
+            matches!(
+                step,
+                Step::Read { .. } | Step::Write { .. } | Step::Copy { .. }
+            )
+        }
+        _ => false,
+    }
+}
+
+// Returns whether a next move writes bytes.
+fn next_writes(next: NextMove) -> bool
+    ensures { result ≡ next_writes next }
+{
+    match next {
+        NextMove::Makes(_, step) => matches!(step, Step::Write { .. } | Step::Copy { .. }),
+        _ => false,
+    }
+}
+
+// Returns whether a next move meets a leg to this entry, or its header.
+fn meets_leg(next: NextMove, owner: DomId, gref: GrantRef) -> bool
+    ensures { result ≡ meets_leg next owner gref }
+{
+    meets(next, Touch::LooksHeader(owner)) || meets(next, Touch::Entry(owner, gref))
+}
+
+// Returns whether a next move meets a frame that is used so, whichever it is.
+fn meets_bytes(uses: MappingUse, next: NextMove) -> bool
+    ensures { result ≡ meets_bytes uses next }
+{
+    uses.loads && next_writes(next) || uses.stores && next_accesses(next)
+}
+
+// Returns whether a next move meets the entry on which a mapping of another domain has its pin, or the frame of the
+// mapping if that is used so.
+fn meets_mapping(uses: MappingUse, next: NextMove, held: HeldPin) -> bool
+    ensures { result ≡ meets_mapping uses next held }
+{
+    let frame = held.entry.frame();
+    meets(next, Touch::Entry(held.dom, held.gref))
+        || uses.loads && meets(next, Touch::Reads(held.dom, frame))
+        || uses.stores && meets(next, Touch::Writes(held.dom, frame))
+}
+
+// Returns whether a next move meets something that a call of this other domain may touch, or may touch through the
+// mapping that it makes.
+fn meets_call(uses: MappingUse, next: NextMove, dom: DomId, call: &ScriptCall<'_>) -> bool
+    ensures { result ≡ meets_call uses next dom call.now }
+{
+    match call {
+        ScriptCall::Grant { gref, .. }
+        | ScriptCall::GrantBytes { gref, .. }
+        | ScriptCall::Revoke { gref }
+        | ScriptCall::Withdraw { gref }
+        | ScriptCall::Demote { gref }
+        | ScriptCall::Promote { gref } => meets(next, Touch::Entry(dom, *gref)),
+        ScriptCall::Map {
+            dom: owner,
+            gref,
+            ..
+        } => meets_leg(next, resolve(dom, *owner), *gref) || meets_bytes(uses, next),
+        ScriptCall::Unmap { .. } | ScriptCall::Load { .. } | ScriptCall::Store { .. } => false,
+        ScriptCall::Peek { frame, .. } => meets(next, Touch::Reads(dom, *frame)),
+        ScriptCall::Poke { frame, .. } => meets(next, Touch::Writes(dom, *frame)),
+        ScriptCall::Copy(_) => true,
+        ScriptCall::SetVersion { .. } | ScriptCall::SetupTable { .. } => {
+            meets(next, Touch::StoresHeader(dom))
+        }
+        ScriptCall::QuerySize { dom: owner } | ScriptCall::GetVersion { dom: owner } => {
+            meets(next, Touch::LooksHeader(resolve(dom, *owner)))
+        }
+    }
+}
+
+/// Returns whether a next move meets something that a task of another domain may touch.
+pub fn meets_task(uses: MappingUse, next: NextMove, task: &RunTask<'_>) -> bool
+    ensures { result ≡ meets_task uses next task.now }
+{
+    match &task.deed {
+        RunAction::Do(call) => meets_call(uses, next, task.dom, call),
+        RunAction::Tell(flag) => meets(next, Touch::Raises(*flag)),
+        RunAction::Await(_) => false,
+    }
+}
+
+/// Returns whether a task loads through a mapping.
+pub fn is_load(task: &RunTask<'_>) -> bool
+    ensures { result ≡ is_load task.now }
+{
+    matches!(&task.deed, RunAction::Do(ScriptCall::Load { .. }))
+}
+
+/// Returns whether a task stores through a mapping.
+pub fn is_store(task: &RunTask<'_>) -> bool
+    ensures { result ≡ is_store task.now }
+{
+    matches!(&task.deed, RunAction::Do(ScriptCall::Store { .. }))
+}
+
+/// Returns whether a next move meets what one of these mappings of another domain may touch.
+pub fn any_mapping_meets(uses: MappingUse, next: NextMove, mappings: &[LabelledMapping<'_>]) -> bool
+    ensures { result ≡ list_any (λ (m : LabelledMapping). meets_mapping uses next m.held) mappings.now }
+{
+    mappings
+        .iter()
+        .any(|mapping| meets_mapping(uses, next, mapping.held))
+}

@@ -1,0 +1,154 @@
+//! A search that returns what it found until it met too many states.
+ghost use Rattle.std.specs.Prelude.{IfOk, IsTrue};
+ghost use Rattle.gt_explore_search.specs.Exploring.{AllTextsFound, SearchStarts};
+
+use crate::exploring::{Explorer, OpenNode, SearchResult, leads_nowhere, new_explorer};
+use crate::fault::SearchFault;
+use crate::spaces::TransitionSystem;
+use std::alloc::Global;
+
+/// What a search found: orders, and whether these are all. If not, the search met more states than the limit, and
+/// `depth` is the number of states on the way to the last of them.
+#[derive(Drop)]
+pub struct PartialResult {
+    pub found: SearchResult,
+    pub whole: bool,
+    pub depth: usize,
+}
+
+impl<W: Drop> Explorer<W> {
+    ghost use Rattle.std.specs.Prelude.{◌≡◌, false, IfOk, IfNone};
+    ghost use Rattle.gt_explore_search.specs.Exploring.{SearchHolds, VisitHolds, Grew, SearchStarts, SearchFinishes};
+
+    // Visits all states that can be reached from this one, if there are no more than the limit. Otherwise returns the
+    // states whose moves are being tried.
+    fn walk_within<S: TransitionSystem<State = W>>(
+        &mut self,
+        space: &S,
+        first: OpenNode,
+        limit: usize,
+    ) -> Result<Option<Vec<OpenNode>>, SearchFault>
+        ensures { SearchHolds (S.ways space.now) self.old → VisitHolds (S.ways space.now) self.old first →
+            IfOk result (λ left. IfNone left (SearchHolds (S.ways space.now) self.new × Grew self.old self.new)) }
+    {
+        let mut stack = Vec::new(self.alloc);
+        stack.push(first)?;
+        'tries: for _ in 0..u64::MAX {
+            if self.states.len() > limit {
+                return Ok(Some(stack));
+            }
+            if !self.try_next(space, &mut stack)? {
+                return Ok(None);
+            }
+        }
+        Err(SearchFault::States)
+    }
+
+    // Visits the states of the space, if there are no more than the limit. Otherwise returns the states whose moves are
+    // being tried.
+    fn run_within<S: TransitionSystem<State = W>>(
+        &mut self,
+        space: &S,
+        limit: usize,
+    ) -> Result<Option<Vec<OpenNode>>, SearchFault>
+        ensures { SearchStarts (S.ways space.now) self.old →
+            IfOk result (λ left. IfNone left (SearchFinishes (S.ways space.now) self.new)) }
+    {
+        let world = space.start()?;
+        let key = space.key(&world)?;
+        let state = self.states.number(space, key, world)?;
+        let first = self.visit(space, state)?;
+        self.walk_within(space, first, limit)
+    }
+
+    // Gathers the ends of the turn that is being tried, if it leads to a state that is done.
+    fn gather_turn<S: TransitionSystem<State = W>>(
+        &mut self,
+        space: &S,
+        visit: &mut OpenNode,
+    ) -> Result<(), SearchFault> {
+        let Some(turn) = visit.turn() else {
+            return Ok(());
+        };
+        let Some(world) = self.states.world(visit.state) else {
+            return Ok(());
+        };
+        let mut world = space.copy(world)?;
+        let led = space.advance(&mut world, turn)?;
+        if leads_nowhere(&led) {
+            return Ok(());
+        }
+        let line = self.line(turn.place, led)?;
+        let key = space.key(&world)?;
+        let state = self.states.number(space, key, world)?;
+        let Some(node) = self.node_of(state) else {
+            return Ok(());
+        };
+        self.gather(space, visit, turn, node, line)?;
+        Ok(())
+    }
+
+    // Finishes these states with the ends found so far, the last one first.
+    fn unwind<S: TransitionSystem<State = W>>(
+        &mut self,
+        space: &S,
+        mut stack: Vec<OpenNode>,
+    ) -> Result<(), SearchFault> {
+        for _ in 0..stack.len() {
+            let Some(mut visit) = stack.pop() else {
+                return Ok(());
+            };
+            self.gather_turn(space, &mut visit)?;
+            self.finish(space, visit)?;
+        }
+        Ok(())
+    }
+
+    // Returns what was found when these states were being tried.
+    fn found_until<S: TransitionSystem<State = W>>(
+        &mut self,
+        space: &S,
+        stack: Vec<OpenNode>,
+        limit: usize,
+    ) -> Result<PartialResult, SearchFault>
+        ensures { IfOk result (λ partial. partial.whole ≡ false) }
+    {
+        let depth = stack.len();
+        self.unwind(space, stack)?;
+        let orders = self.found(space)?.orders;
+        Ok(PartialResult {
+            found: SearchResult {
+                orders,
+                states: limit,
+            },
+            whole: false,
+            depth,
+        })
+    }
+}
+
+/// Visits the states of a space, at most `limit` of them, and returns an order for each list of answers found. If there
+/// are more states, it returns the orders found until then, and that they are not all.
+///
+/// # Errors
+/// `Circle` if a run returns to a state, `Memory`, or a fault of the space.
+pub fn search_within<S: TransitionSystem>(
+    alloc: Global,
+    space: &S,
+    limit: usize,
+) -> Result<PartialResult, SearchFault>
+    ensures { IfOk result (λ partial. IsTrue partial.whole → AllTextsFound (S.ways space.now) partial.found) }
+{
+    let mut explorer = new_explorer(alloc, space, limit.saturating_add(1))?;
+    match explorer.run_within(space, limit)? {
+        Some(stack) => explorer.found_until(space, stack, limit),
+        None => {
+            let found = explorer.found(space)?;
+            Ok(PartialResult {
+                found,
+                whole: true,
+                depth: 0,
+            })
+        }
+    }
+}

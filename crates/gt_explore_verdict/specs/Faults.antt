@@ -1,0 +1,18 @@
+-- The lines that the faults of an expression print.
+use Rattle.std.specs.Prelude.{ℕ, List, ◌++◌, codes, decimal}
+use Rattle.gt_explore_verdict.specs.declared.fault.ConditionFault.{ConditionFault}
+use Rattle.gt_explore_verdict.specs.declared.fault.ConditionFault.TheVariants.{Empty, Words, Rule, Answer, NoCall, NoDomain}
+use Rattle.gt_explore_verdict.specs.declared.fault.ExpressionFault.{ExpressionFault}
+use Rattle.gt_explore_verdict.specs.declared.fault.ExpressionFault.TheVariants.{Memory, Term}
+
+abbrev pub condition_fault_text : ConditionFault → List ℕ
+condition_fault_text Empty = codes "no condition"
+condition_fault_text Words = codes "more than one word without LINE= or ID:"
+condition_fault_text Rule = codes "no such rule; the rules are N1 to N26"
+condition_fault_text Answer = codes "an answer is ok or a rule"
+condition_fault_text NoCall = codes "no call on this line"
+condition_fault_text NoDomain = codes "no such domain"
+
+abbrev pub expression_fault_text : ExpressionFault → List ℕ
+expression_fault_text Memory = codes "memory"
+expression_fault_text (Term number fault) = codes "term " ++ decimal number ++ codes ": " ++ condition_fault_text fault

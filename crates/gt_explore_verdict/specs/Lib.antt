@@ -1,0 +1,5 @@
+pub mod Expressions
+pub mod Faults
+pub mod Judging
+pub mod Rules
+pub mod Satisfying

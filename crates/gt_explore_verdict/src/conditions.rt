@@ -1,0 +1,187 @@
+//! Expressions: conditions joined by `&`.
+ghost use Rattle.std.specs.Prelude.{◌≡◌, [], IfErr, IfOk, map};
+ghost use Rattle.std.specs.Option.{option_map};
+ghost use Rattle.gt_explore_verdict.specs.Expressions.{at_mark, conditions_in, fault_in, is_answer_word, is_nonempty};
+ghost use Rattle.gt_explore_verdict.specs.Expressions.{numbered, place_told, placed, read_term, read_terms, told};
+ghost use Rattle.gt_explore_verdict.specs.Expressions.{told_of_term, terms_in, words_in, IsFaultOf};
+
+use crate::fault::{ConditionFault, ExpressionFault};
+use crate::rules::{is_number, is_rule, is_wrong_rule};
+use std::alloc::{AllocError, Global};
+
+/// The answers that a condition speaks of: all answers, the answer to the line of this number, or those of the domain
+/// of this number. A number is the text of its digits.
+#[derive(Clone, Copy, Debug, PartialEq, Eq)]
+pub enum Place<'e> {
+    Anywhere,
+    Line(&'e [u8]),
+    Domain(&'e [u8]),
+}
+
+/// A condition on a text. Anywhere: some answer has this word. Of a line or a domain: one of its answers begins with
+/// these words, `first` and then `more`.
+#[derive(Debug, PartialEq, Eq, Drop)]
+pub struct Condition<'e> {
+    pub place: Place<'e>,
+    pub first: &'e [u8],
+    pub more: Vec<&'e [u8]>,
+}
+
+// Splits a word at the first of these marks.
+#[tactic(auto, unfolding(crate::specs::Expressions::at_mark))]
+fn at_mark<'e>(mark: u8, word: &'e [u8]) -> Option<(&'e [u8], &'e [u8])>
+    ensures { option_map (λ parts. (parts.0.now, parts.1.now)) result ≡ at_mark mark word.entry.now }
+{
+    for (i, byte) in word.iter().enumerate() {
+        if *byte == mark {
+            return Some((&word[..i], &word[i + 1..]));
+        }
+    }
+    None
+}
+
+// Splits a word at the first of these marks, if a number is before it.
+fn numbered<'e>(mark: u8, word: &'e [u8]) -> Option<(&'e [u8], &'e [u8])>
+    ensures { option_map (λ parts. (parts.0.now, parts.1.now)) result ≡ numbered mark word.entry.now }
+{
+    match at_mark(mark, word) {
+        Some((number, answer)) => {
+            if is_number(number) {
+                Some((number, answer))
+            } else {
+                None
+            }
+        }
+        None => None,
+    }
+}
+
+// Returns the place that the first word of a term names, and the rest of that word.
+fn placed<'e>(word: &'e [u8]) -> (Place<'e>, &'e [u8])
+    ensures { (place_told result.0, result.1.now) ≡ placed word.entry.now }
+{
+    match numbered(b'=', word) {
+        Some((line, answer)) => (Place::Line(line), answer),
+        None => match numbered(b':', word) {
+            Some((dom, answer)) => (Place::Domain(dom), answer),
+            None => (Place::Anywhere, word),
+        },
+    }
+}
+
+// Returns whether an answer may begin with this word.
+fn is_answer_word(word: &[u8]) -> bool
+    ensures { result ≡ is_answer_word word.now }
+{
+    word == b"ok".as_slice() || is_rule(word)
+}
+
+// Returns what is wrong with the words of a condition, of which the first is this one.
+fn fault_in(place: Place<'_>, first: &[u8], count: usize) -> Option<ConditionFault>
+    ensures { result ≡ fault_in (place_told place.entry) first.now count }
+{
+    if is_wrong_rule(first) {
+        return Some(ConditionFault::Rule);
+    }
+    match place {
+        Place::Anywhere => {
+            if count == 1 {
+                None
+            } else {
+                Some(ConditionFault::Words)
+            }
+        }
+        Place::Line(_) | Place::Domain(_) => {
+            if is_answer_word(first) {
+                None
+            } else {
+                Some(ConditionFault::Answer)
+            }
+        }
+    }
+}
+
+// Returns whether a word is not empty.
+fn is_nonempty(word: &[u8]) -> bool
+    ensures { result ≡ is_nonempty word.now }
+{
+    !word.is_empty()
+}
+
+// Splits a term into its words, at spaces.
+fn words_in<'e>(alloc: Global, term: &'e [u8]) -> Result<Vec<&'e [u8]>, AllocError>
+    ensures { IfOk result (λ words. map (λ w. w.now) words.items ≡ words_in term.entry.now) }
+{
+    term.split(|b| *b == b' ')
+        .filter(|word| is_nonempty(*word))
+        .collect(alloc)
+}
+
+// Splits an expression into its terms, at each `&`.
+fn terms_in<'e>(alloc: Global, text: &'e [u8]) -> Result<Vec<&'e [u8]>, AllocError>
+    ensures { IfOk result (λ terms. map (λ t. t.now) terms.items ≡ terms_in text.entry.now) }
+{
+    text.split(|b| *b == b'&').collect(alloc)
+}
+
+// Reads the words of a term.
+fn read_term<'e>(mut words: Vec<&'e [u8]>) -> Result<Condition<'e>, ConditionFault>
+    ensures { told_of_term result ≡ read_term (map (λ w. w.now) words.entry.items) }
+{
+    if words.is_empty() {
+        return Err(ConditionFault::Empty);
+    }
+    let count = words.len();
+    let (place, first) = placed(words.remove(0));
+    match fault_in(place, first, count) {
+        Some(fault) => Err(fault),
+        None => Ok(Condition {
+            place,
+            first,
+            more: words,
+        }),
+    }
+}
+
+// Reads each of these terms.
+fn read_terms<'e>(alloc: Global, terms: &[&'e [u8]]) -> Result<Vec<Condition<'e>>, ExpressionFault>
+    ensures ok { IfOk result (λ cs. read_terms [] 1 (map (λ t. t.now) terms.now) ≡ Ok (map told cs.items)) }
+    ensures fault { IfErr result (IsFaultOf (read_terms [] 1 (map (λ t. t.now) terms.now))) }
+{
+    let mut conditions = Vec::new(alloc);
+    let mut number = 1;
+    'terms: for term in terms {
+        let Ok(words) = words_in(alloc, term) else {
+            return Err(ExpressionFault::Memory);
+        };
+        match read_term(words) {
+            Ok(condition) => {
+                if conditions.push(condition).is_err() {
+                    return Err(ExpressionFault::Memory);
+                }
+            }
+            Err(fault) => return Err(ExpressionFault::Term { number, fault }),
+        }
+        number += 1;
+    }
+    Ok(conditions)
+}
+
+/// Reads an expression: terms joined by `&`, each of them a condition. A term is a word, for an answer that has it;
+/// `LINE=ANSWER`, for an answer to this line of the script that begins with these words; or `ID:ANSWER`, for an answer
+/// of this domain that does.
+///
+/// # Errors
+/// The first term that is no condition, and `Memory`.
+pub fn conditions_of<'e>(
+    alloc: Global,
+    text: &'e str,
+) -> Result<Vec<Condition<'e>>, ExpressionFault>
+    ensures ok { IfOk result (λ cs. conditions_in text.entry.now ≡ Ok (map told cs.items)) }
+    ensures fault { IfErr result (IsFaultOf (conditions_in text.entry.now)) }
+{
+    let Ok(terms) = terms_in(alloc, text.as_bytes()) else {
+        return Err(ExpressionFault::Memory);
+    };
+    read_terms(alloc, terms.as_slice())
+}

@@ -1,0 +1,67 @@
+//! Faults of an expression.
+use std::error::Error;
+use std::fmt;
+
+/// The reason that a term of an expression is not a condition.
+#[derive(Clone, Copy, Debug, PartialEq, Eq)]
+pub enum ConditionFault {
+    /// The term has no word.
+    Empty,
+    /// The term has several words, and begins with neither `LINE=` nor `ID:`.
+    Words,
+    /// The rule is not one of N1 to N26.
+    Rule,
+    /// The answer after `LINE=` or `ID:` begins with neither `ok` nor a rule.
+    Answer,
+    /// The script has no call on the line.
+    NoCall,
+    /// The script has no domain of the number.
+    NoDomain,
+}
+
+/// The reason that a text is not an expression: the first term that is not a condition, counted from 1, or an
+/// allocation that failed. It prints as one line, without a line end.
+#[derive(Clone, Copy, Debug, PartialEq, Eq)]
+pub enum ExpressionFault {
+    Memory,
+    Term {
+        number: usize,
+        fault: ConditionFault,
+    },
+}
+
+impl fmt::Display for ConditionFault {
+    ghost use Rattle.std.specs.Prelude.{Some};
+    ghost use Rattle.gt_explore_verdict.specs.Faults.{condition_fault_text};
+
+    ghost output = { λ fault. Some (condition_fault_text fault) };
+
+    fn fmt<W: fmt::Write>(&self, f: &mut fmt::Formatter<W>) -> fmt::Result {
+        match self {
+            ConditionFault::Empty => f.write_str("no condition"),
+            ConditionFault::Words => f.write_str("more than one word without LINE= or ID:"),
+            ConditionFault::Rule => f.write_str("no such rule; the rules are N1 to N26"),
+            ConditionFault::Answer => f.write_str("an answer is ok or a rule"),
+            ConditionFault::NoCall => f.write_str("no call on this line"),
+            ConditionFault::NoDomain => f.write_str("no such domain"),
+        }
+    }
+}
+
+impl Error for ConditionFault {}
+
+impl fmt::Display for ExpressionFault {
+    ghost use Rattle.std.specs.Prelude.{Some};
+    ghost use Rattle.gt_explore_verdict.specs.Faults.{expression_fault_text};
+
+    ghost output = { λ fault. Some (expression_fault_text fault) };
+
+    fn fmt<W: fmt::Write>(&self, f: &mut fmt::Formatter<W>) -> fmt::Result {
+        match self {
+            ExpressionFault::Memory => f.write_str("memory"),
+            ExpressionFault::Term { number, fault } => write!(f, "term {number}: {fault}"),
+        }
+    }
+}
+
+impl Error for ExpressionFault {}

@@ -1,0 +1,56 @@
+//! Words that are rules.
+ghost use Rattle.std.specs.Prelude.{◌≡◌};
+ghost use Rattle.std.specs.List.{list_all};
+ghost use Rattle.std.specs.Char.{is_ascii_digit};
+ghost use Rattle.gt_explore_verdict.specs.Rules.{is_number, is_rule, is_wrong_rule, looks_like_rule};
+
+fn are_digits(bytes: &[u8]) -> bool
+    ensures { result ≡ list_all is_ascii_digit bytes.now }
+{
+    bytes.iter().all(|byte| byte.is_ascii_digit())
+}
+
+/// Returns whether the word has digits only, and at least one.
+#[tactic(auto, unfolding(crate::specs::Rules::is_number))]
+pub fn is_number(word: &[u8]) -> bool
+    ensures { result ≡ is_number word.now }
+{
+    match word {
+        [] => false,
+        [_first, ..] => are_digits(word),
+    }
+}
+
+/// Returns whether the word is one of N1 to N26.
+#[tactic(auto, unfolding(crate::specs::Rules::is_rule))]
+pub fn is_rule(word: &[u8]) -> bool
+    ensures { result ≡ is_rule word.now }
+{
+    match word {
+        [letter, digit] => *letter == b'N' && b'1' <= *digit && *digit <= b'9',
+        [letter, ten, digit] => {
+            *letter == b'N'
+                && b'0' <= *digit
+                && ((*ten == b'1' && *digit <= b'9') || (*ten == b'2' && *digit <= b'6'))
+        }
+        _ => false,
+    }
+}
+
+// Returns whether the word is written as a rule: the letter N, in either case, and a number.
+#[tactic(auto, unfolding(crate::specs::Rules::looks_like_rule))]
+fn looks_like_rule(word: &[u8]) -> bool
+    ensures { result ≡ looks_like_rule word.now }
+{
+    match word {
+        [] => false,
+        [letter, number @ ..] => (*letter == b'N' || *letter == b'n') && is_number(number),
+    }
+}
+
+/// Returns whether the word is written as a rule and is none.
+pub fn is_wrong_rule(word: &[u8]) -> bool
+    ensures { result ≡ is_wrong_rule word.now }
+{
+    looks_like_rule(word) && !is_rule(word)
+}

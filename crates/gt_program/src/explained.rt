@@ -1,0 +1,122 @@
+//! Commands that explain their faults.
+ghost use Rattle.gt_text.specs.Streams.{OfInput};
+ghost use Rattle.gt_checks.specs.Explaining.{Explained};
+ghost use Rattle.gt_explore.specs.Exploring.{Explored};
+ghost use Rattle.gt_script.specs.RunScripts.{RunTells};
+ghost use Rattle.gt_program.specs.Formats.{CheckedAs, ListedAs, ToldAs};
+
+use crate::copying::CopyingReader;
+use crate::formats::{check_as, entries_as, list_as};
+use crate::reasons::Reasons;
+use gt_checks::{WhyFault, why};
+use gt_commands::Format;
+use gt_entries::{DumpFault, DumpOptions};
+use gt_explore::{ExploreFault, ExploreOptions as Searched, explore};
+use gt_explore_verdict::Verdict;
+use gt_policy_check::{ReportForm, WhyQuestion};
+use gt_policy_list::ListingFault;
+use std::alloc::Global;
+use std::io::{Read, Write};
+
+/// Answers a request on the texts that the script of a reader may give, and adds the reason of a fault.
+pub(crate) fn explore_explained<R: Read, W: Write>(
+    alloc: Global,
+    asked: &Searched,
+    reader: &mut R,
+    out: &mut W,
+    reasons: &mut Reasons,
+) -> Result<Verdict, ExploreFault>
+    ensures { OfInput (R.remaining reader.old) (λ input.
+        Explored asked.now (RunTells input) (W.contents out.old) (W.contents out.new) result) }
+{
+    let mut input = CopyingReader::new(alloc, reader);
+    let ending = explore(alloc, asked, &mut input, out);
+    if let Err(fault) = &ending {
+        reasons.add_explore(&input.kept, asked.states, fault);
+    }
+    ending
+}
+
+/// Lists what the policy of a reader allows, and adds the reason of a fault, if it is asked for.
+pub(crate) fn list_with_reasons<R: Read, W: Write>(
+    alloc: Global,
+    format: Format,
+    reader: &mut R,
+    out: &mut W,
+    reasons: &mut Reasons,
+) -> Result<(), ListingFault>
+    ensures { OfInput (R.remaining reader.old) (λ input.
+        ListedAs format input (W.contents out.old) (W.contents out.new) result) }
+{
+    if !reasons.are_asked() {
+        return list_as(alloc, format, reader, out);
+    }
+    let mut input = CopyingReader::new(alloc, reader);
+    let ending = list_as(alloc, format, &mut input, out);
+    if let Err(fault) = &ending {
+        reasons.add_listing(&input.kept, fault);
+    }
+    ending
+}
+
+/// Checks the policy of a reader, or its script, and adds the reason of a fault.
+pub(crate) fn check_explained<R: Read, W: Write>(
+    alloc: Global,
+    script: bool,
+    file: &str,
+    form: ReportForm,
+    reader: &mut R,
+    out: &mut W,
+    reasons: &mut Reasons,
+) -> Result<bool, ListingFault>
+    ensures { OfInput (R.remaining reader.old) (λ input.
+        CheckedAs script input (W.contents out.old) (W.contents out.new) result) }
+{
+    let mut input = CopyingReader::new(alloc, reader);
+    let ending = check_as(alloc, script, file, form, &mut input, out);
+    if let Err(fault) = &ending {
+        reasons.add_listing(&input.kept, fault);
+    }
+    ending
+}
+
+/// Answers a question about the policy of a reader, and adds the reason of a fault.
+pub(crate) fn why_explained<R: Read, W: Write>(
+    alloc: Global,
+    file: &str,
+    question: &WhyQuestion,
+    reader: &mut R,
+    out: &mut W,
+    reasons: &mut Reasons,
+) -> Result<bool, WhyFault>
+    ensures { OfInput (R.remaining reader.old) (λ input.
+        Explained file.now question.now input (W.contents out.old) (W.contents out.new) result) }
+{
+    let mut input = CopyingReader::new(alloc, reader);
+    let ending = why(alloc, file, question, &mut input, out);
+    if let Err(fault) = &ending {
+        reasons.add_why(&input.kept, question, fault);
+    }
+    ending
+}
+
+/// Prints the entries of the dump of a reader, and adds the reason of a fault, or that it looks like no table.
+pub(crate) fn entries_explained<R: Read, W: Write>(
+    alloc: Global,
+    format: Format,
+    asked: DumpOptions,
+    reader: &mut R,
+    out: &mut W,
+    reasons: &mut Reasons,
+) -> Result<(), DumpFault>
+    ensures { OfInput (R.remaining reader.old) (λ input.
+        ToldAs format asked input (W.contents out.old) (W.contents out.new) result) }
+{
+    let mut input = CopyingReader::new(alloc, reader);
+    let ending = entries_as(alloc, format, asked, &mut input, out);
+    match &ending {
+        Ok(()) => reasons.add_look(&input.kept, asked),
+        Err(fault) => reasons.add_dump(&input.kept, *fault),
+    }
+    ending
+}

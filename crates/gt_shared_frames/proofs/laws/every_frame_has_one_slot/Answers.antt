@@ -1,5 +1,0 @@
-use Rattle.gt_shared_frames.proofs.Names.{one_slot}
-use Rattle.gt_shared_frames.proofs.laws.every_frame_has_one_slot.Goals as goal
-
-pub returns : goal.returns
-returns c = one_slot

@@ -1,5 +1,0 @@
-use Rattle.gt_shared_frames.proofs.Opens.{opens_all}
-use Rattle.gt_shared_frames.proofs.laws.every_table_opens.Goals as goal
-
-pub returns : goal.returns
-returns c = opens_all

@@ -1,5 +1,0 @@
-pub mod Bytes
-pub mod Laws
-pub mod Rule
-pub mod Telling
-pub mod Seats

@@ -1,0 +1,9 @@
+pub mod OneStep
+pub mod Keeping
+pub mod Steps
+pub mod Facts
+pub mod Opens
+pub mod Names
+pub mod SeatsKept
+pub mod Moving
+pub mod Placed

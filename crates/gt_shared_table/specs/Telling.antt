@@ -1,0 +1,143 @@
+-- What the steps on frames promise.
+use Rattle.std.specs.Prelude.{◌≡◌, ℕ, List, [], ◌∷◌, ◌⊎◌, MatchBool, nat_lt, ◌==◌, length, Some, None}
+use Rattle.std.specs.Prelude.{Bool, true, false, IsTrue}
+use Rattle.atomic_table.specs.Table.{Me, rest}
+use Rattle.atomic_table.specs.Seated.{TableId}
+use Rattle.atomic_table.specs.declared.shared.Seat.{Seat}
+use Rattle.gt_frames.specs.Frames.{FrameState, bytes_at, is_rightful}
+use Rattle.gt_word_history.specs.History.{Layout, StepHistory}
+use Rattle.gt_word_history.specs.Rule.{HasStood, id_at}
+use Rattle.gt_word_history.specs.Steps.{StoodWith}
+use Rattle.gt_word_history.specs.Views.{IsAmong, with_step}
+use Rattle.gt_word_history.specs.declared.view.FrameStep.{FrameStep}
+use Rattle.gt_word_history.specs.declared.view.FrameStep.TheVariants.{Read, Wrote, Copied}
+use Rattle.gt_word_history.specs.declared.view.SeatStep.{SeatStep}
+use Rattle.gt_word_history.specs.declared.view.SeatStep.TheVariants.{Frame}
+use Rattle.gt_word_history.specs.declared.view.Outlook.{Outlook}
+use Rattle.gt_word_history.specs.declared.view.View.{View}
+use Rattle.gt_shared_table.specs.declared.rule.FrameHolder.{FrameHolder}
+use Rattle.gt_shared_table.specs.Bytes.{AreTrueBytes, SaysBytes, frame_made}
+use Rattle.gt_shared_table.specs.Rule.{Cell, FrameAt, IsNamed, Places, name_of}
+use Rattle.gt_shared_table.specs.declared.rule.FrameSlot.{FrameSlot}
+use Rattle.gt_frames.specs.declared.writ.Writ.{Writ}
+use Rattle.gt_types.specs.declared.Range.{Range}
+
+-- the seat also holds this frame, with these contents
+abbrev pub holding : ℕ → FrameState → FrameHolder → FrameHolder
+holding q x v = record v { held = (q, x) ∷ v.held }
+
+-- the seat took the frame of this name out of this slot
+abbrev pub TookAt : Layout → FrameAt → ℕ → Me Cell FrameHolder → Me Cell FrameHolder → Type 0
+TookAt k a q m m' =
+    (x : FrameState) × (m' ≡ (holding q x m.0, (q, Some x) ∷ m.1)) × (x.owner ≡ id_at k.ids a.0) × (x.number ≡ a.1)
+
+-- the seat took the frame of this slot
+abbrev pub Took : Layout → FrameSlot → Me Cell FrameHolder → Me Cell FrameHolder → Type 0
+Took k s m m' = TookAt k (name_of s) s.index m m'
+
+-- the frame of the slot was taken, or another seat has it
+abbrev pub Locks : Layout → FrameAt → ℕ → Me Cell FrameHolder → ℕ → Me Cell FrameHolder → Type 0
+Locks k a q m n m' = MatchBool (n == 0) (TookAt k a q m m') (m' ≡ m)
+
+abbrev pub rest_held : List (ℕ × FrameState) → List (ℕ × FrameState)
+rest_held [] = []
+rest_held (p ∷ ps) = ps
+
+-- the frames held, without the one taken last, or without the one before that
+abbrev pub left_by : Bool → List (ℕ × FrameState) → List (ℕ × FrameState)
+left_by true held = rest_held held
+left_by false [] = []
+left_by false (p ∷ ps) = p ∷ rest_held ps
+
+-- the view after one more step
+abbrev pub outlook_after : StepHistory → SeatStep → Outlook → Outlook
+outlook_after past x o = record o { own = with_step past x o.own }
+
+-- what a seat knows after an access, with these frames left
+abbrev pub holder_after : StepHistory → SeatStep → List (ℕ × FrameState) → FrameHolder → FrameHolder
+holder_after past x hs v = record { own = outlook_after past x v.own; held = hs }
+
+-- these are left of the frames held without the one of this slot, which was taken last or just before the last
+abbrev pub AreLeft : ℕ → FrameState → List (ℕ × FrameState) → List (ℕ × FrameState) → Type 0
+AreLeft q x held hs =
+    (held ≡ (q, x) ∷ hs)
+    ⊎ ((p : ℕ × FrameState) × (ps : List (ℕ × FrameState)) × (held ≡ p ∷ (q, x) ∷ ps) × (hs ≡ p ∷ ps))
+
+-- the step was taken after the history past. Words and views showed a state before each step of that history, before
+-- this step and after it, and each access, this one too, has the bytes that the steps before it make
+pub record Accesses (k : Layout) (v : View) (past : StepHistory) (x : SeatStep) : Type 0 where
+  pub stood : StoodWith (Unit {0}) k past v
+  pub still_stands : StoodWith (Unit {0}) k ((v.position, x) ∷ past) (with_step past x v)
+  pub stood_before : HasStood (Unit {0}) k past
+  pub says : SaysBytes k past x
+  pub truth : AreTrueBytes k past
+
+-- a frame was freed by this access, and these are left
+abbrev pub Frees : Places → FrameAt → FrameStep → List (ℕ × FrameState) → Me Cell FrameHolder → Me Cell FrameHolder → Type 0
+Frees b n m hs me me' =
+    (past : StepHistory) × (me' ≡ (holder_after past (Frame n.0 n.1 m) hs me.0, rest me.1))
+    × Accesses b.layout me.0.own.own past (Frame n.0 n.1 m)
+    × ((x : FrameState) (q : ℕ) → IsAmong (q, x) me.0.held → (a : FrameAt) → IsNamed b q a
+    → x ≡ frame_made b.layout a.0 a.1 past)
+
+-- a frame was freed unchanged, and these are left
+abbrev pub Returns : List (ℕ × FrameState) → Me Cell FrameHolder → Me Cell FrameHolder → Type 0
+Returns hs me me' = me' ≡ (record me.0 { held = hs }, rest me.1)
+
+-- the seat has the frame of this slot out, first among the slots that it carries; it took it last, or just before the
+-- last
+pub record IsOut (k : Layout) (s : FrameSlot) (last : Bool) (x : FrameState) (me : Me Cell FrameHolder) : Type 0 where
+  pub carried : me.1 ≡ (s.index, Some x) ∷ rest me.1
+  pub left : AreLeft s.index x me.0.held (left_by last me.0.held)
+  pub owner : x.owner ≡ id_at k.ids s.owner
+  pub number : x.number ≡ s.number
+
+-- the access agrees with the frames that the seat holds
+abbrev pub IsByHeld : Places → List (ℕ × FrameState) → FrameState → FrameStep → Type 0
+IsByHeld b held x (Read off bs) = bs ≡ bytes_at x off (length bs)
+IsByHeld b held x (Wrote r) = IsTrue (is_rightful x.owner x.number r)
+IsByHeld b held x (Copied d f off r) =
+    (p : ℕ × FrameState) × IsAmong p held × IsNamed b p.0 (d, f) × (r.bytes ≡ bytes_at p.1 off (length r.bytes))
+    × IsTrue (is_rightful x.owner x.number r)
+
+-- a seat of this table
+abbrev pub IsOf : TableId → Seat Cell FrameHolder → Type 0
+IsOf z s = s.table_id ≡ z
+
+-- the seat made this access to the frame, and nothing else: it is one step, right after the history past
+abbrev pub Accessed : Layout → FrameAt → FrameStep → Me Cell FrameHolder → Me Cell FrameHolder → Type 0
+Accessed k n m me me' =
+    (past : StepHistory)
+    × (me' ≡ (record { own = outlook_after past (Frame n.0 n.1 m) me.0.own; held = me.0.held }, me.1))
+    × Accesses k me.0.own.own past (Frame n.0 n.1 m)
+
+-- the seat copied a range of the first frame to the second, starting at an offset, and did nothing else: it is one
+-- step, with the bytes that the source had
+abbrev pub CopiedBy : Layout → FrameAt → FrameAt → Writ → Range → ℕ → Me Cell FrameHolder → Me Cell FrameHolder → Type 0
+CopiedBy k a b w range to_off me me' =
+    (bytes : List ℕ) × (length bytes ≡ range.len)
+    × Accessed k b (Copied a.0 a.1 range.off (record { writ = w; off = to_off; bytes = bytes })) me me'
+
+-- the two frames held, the one taken last first
+abbrev pub both_held : Bool → FrameSlot → FrameState → FrameSlot → FrameState → List (ℕ × FrameState)
+both_held true source x dest y = (dest.index, y) ∷ (source.index, x) ∷ []
+both_held false source x dest y = (source.index, x) ∷ (dest.index, y) ∷ []
+
+-- the seat took both frames, the one with the lower slot first, and the source is out of its slot
+abbrev pub HasBoth : Layout → FrameSlot → FrameSlot → FrameState → Me Cell FrameHolder → Me Cell FrameHolder → Type 0
+HasBoth k source dest x me me' =
+    (y : FrameState)
+    × (me' ≡ (
+      record me.0 { held = both_held (nat_lt source.index dest.index) source x dest y },
+      (dest.index, Some y) ∷ (source.index, None) ∷ [],
+    ))
+    × (y.owner ≡ id_at k.ids dest.owner) × (y.number ≡ dest.number) × (x.owner ≡ id_at k.ids source.owner)
+    × (x.number ≡ source.number)
+
+-- the frame that the seat took last, or the empty one if it holds none
+abbrev pub held_first : List (ℕ × FrameState) → FrameState
+held_first [] = record { owner = record { 0 = 0 }; number = 0; journal = [] }
+held_first (p ∷ ps) = p.1
+
+abbrev pub no_places : Places
+no_places = record { layout = record { ids = []; domains = 0; first = 0; headers = [] }; names = [] }

@@ -1,0 +1,64 @@
+-- What the steps on words promise in a table that has frames too.
+use Rattle.std.specs.Prelude.{◌≡◌, ℕ, ◌*◌, ◌+◌, ◌<◌, ◌≤◌, List, [], ◌∷◌, map, length, slice_index, All, false}
+use mathlib.Core.Option.{none}
+use Rattle.atomic_table.specs.Seated.{TableId}
+use Rattle.atomic_table.specs.Table.{Me, Step as TableStep}
+use Rattle.gt_types.specs.declared.config.Config.{Config}
+use Rattle.gt_types.specs.declared.config.DomainConfig.{DomainConfig}
+use Rattle.gt_types.specs.declared.limits.TheConstants.{LAST_GENERATION, LAST_VERSION, MAX_DOMAINS, MAX_FRAMES}
+use Rattle.gt_types.specs.declared.limits.TheConstants.{MAX_TABLE_FRAMES}
+use Rattle.gt_word_history.specs.History.{header_place}
+use Rattle.gt_word_history.specs.Joining.{tells_own}
+use Rattle.gt_word_history.specs.Places.{Board}
+use Rattle.gt_word_history.specs.Steps.{StepKind}
+use Rattle.gt_shared_table.specs.declared.rule.FrameHolder.{FrameHolder}
+use Rattle.gt_shared_table.specs.declared.table.FrameIndex.{FrameIndex}
+use Rattle.gt_shared_table.specs.Rule.{Cell, FrameAt, Places, places_of}
+
+-- the step as one of a table of words alone
+abbrev pub on_words : TableStep Cell → TableStep (Unit {0})
+on_words st = record { slots = st.slots; word = st.word; first = st.first; second = st.second; said = none }
+
+-- what a step on a word promises: what the rule of the words promises, and that the seat holds the frames that it held
+abbrev pub tells_word : StepKind → TableStep Cell → Me Cell FrameHolder → ℕ → Me Cell FrameHolder → Type 0
+tells_word d st m n m' =
+    tells_own d (on_words st) (m.0.own, []) n (m'.0.own, []) × (m'.0.held ≡ m.0.held) × (m'.1 ≡ m.1)
+
+-- the same for a store, which does not report what it found
+abbrev pub tells_word_stored : StepKind → TableStep Cell → Me Cell FrameHolder → Me Cell FrameHolder → Type 0
+tells_word_stored d st m m' = (found : ℕ) × tells_word d st m found m'
+
+-- the seat holds no frame, took no other seat in, and was not taken in
+abbrev pub IsAlone : Me Cell FrameHolder → Type 0
+IsAlone m = (m.1 ≡ []) × (m.0.held ≡ []) × (m.0.own.taken ≡ []) × (m.0.own.gone ≡ false)
+
+-- a configuration that a table can be made of: the limits of IsWithinLimits, except that a domain may have no frame
+pub record HasTable (c : Config) : Type 0 where
+  pub some : 1 ≤ length c.domains.items
+  pub few : length c.domains.items ≤ MAX_DOMAINS
+  pub frames : All (λ d. d.frames ≤ MAX_FRAMES) c.domains.items
+  pub table_frames : All (λ d. (1 ≤ d.table_frames) × (d.table_frames ≤ MAX_TABLE_FRAMES)) c.domains.items
+  pub versions : All (λ d. (1 ≤ d.version) × (d.version ≤ LAST_VERSION)) c.domains.items
+  pub generation : c.first_gen ≤ LAST_GENERATION
+
+-- the number of frames of each domain
+abbrev pub frames_kept : Config → List ℕ
+frames_kept c = map (λ d. d.frames) c.domains.items
+
+-- the slot of the first frame of each domain, if the slots of these domains begin at this index
+abbrev pub first_slots : ℕ → List DomainConfig → List ℕ
+first_slots at [] = []
+first_slots at (d ∷ ds) = at ∷ first_slots (at + d.frames) ds
+
+-- the table has the words and locks of this run, and a slot for each of its frames
+abbrev pub HasRoom : TableId → Places → Type 0
+HasRoom z b =
+    (z.words ≡ header_place b.layout.domains + 8 * length b.names) × (b.layout.domains ≤ MAX_DOMAINS)
+
+-- the table has this frame
+abbrev pub HasFrame : Board → FrameIndex → Type 0
+HasFrame b f = (f.position < b.layout.domains) × (f.number < slice_index b.frames f.position)
+
+-- the frame by its position and its number
+abbrev pub named_at : FrameIndex → FrameAt
+named_at f = (f.position, f.number)

@@ -1,0 +1,423 @@
+//! Accesses to frames. Each takes a frame out of its slot, works on it, puts it back and frees its lock.
+ghost use Rattle.std.specs.Prelude.{◌≡◌, ◌≢◌, ◌+◌, ◌≤◌, [], ◌∷◌, Bool, false, length, IfOk};
+ghost use Rattle.std.specs.Prelude.{IsTrue, OnOk, OnErr, Some, None};
+ghost use Rattle.atomic_table.specs.Table.{Allows, rest};
+ghost use Rattle.gt_frames.specs.Frames.{FrameState, bytes_at, covers};
+ghost use Rattle.gt_types.specs.declared.limits.TheConstants.{FRAME_SIZE};
+ghost use Rattle.gt_word_history.specs.Rule.{layout_of, id_at};
+ghost use Rattle.gt_word_history.specs.Views.{IsAmong};
+ghost use Rattle.gt_word_history.specs.declared.view.FrameStep.TheVariants as access;
+ghost use Rattle.gt_shared_table.specs.Accesses.{IsReadIn, copied_in, written_in};
+ghost use Rattle.gt_shared_table.specs.Rule.{HoldsAll, IsNamed, IsSlotOf, name_of, places_of};
+ghost use Rattle.gt_shared_table.specs.Telling.{Accessed, CopiedBy, Frees, HasBoth, IsOut, Returns, left_by};
+
+use crate::locks::{free_lock, lock, return_lock};
+use crate::rule::{CellSeat, Cells, FrameSlot, OfAccess};
+use gt_frames::{Copied, Filled, Frame, Writ, Written};
+use gt_types::{Memory, Range};
+use std::marker::Brand;
+use std::sync::Wait;
+
+// Frees a frame that was read. Only the proof uses the arguments after `slot`.
+fn free_read<J: OfAccess>(
+    cells: &Cells,
+    seat: &mut CellSeat,
+    slot: FrameSlot,
+    last: bool,
+    off: u16,
+    out: &[u8],
+)
+    requires fits { (seat.old.table_id ≡ cells.now.table_id)
+        × IsSlotOf (places_of cells.now.key) cells.now.table_id slot }
+    requires allowed { Allows (HoldsAll (places_of cells.now.key)) cells.now.table_id.slots seat.old.id seat.old.me
+        slot.lock (λ _. 0) (λ _ m. Frees J.places J.name J.access J.left seat.old.me m) }
+    ensures seat { (seat.new.table_id ≡ seat.old.table_id) × (seat.new.id ≡ seat.old.id) }
+    ensures frees { Frees J.places J.name J.access J.left seat.old.me seat.new.me }
+{
+    let _ = last;
+    let _ = off;
+    let _ = out;
+    free_lock::<J>(cells, seat, slot);
+}
+
+// Frees a frame that was written. Only the proof uses the arguments after `slot`.
+fn free_written<J: OfAccess>(
+    cells: &Cells,
+    seat: &mut CellSeat,
+    slot: FrameSlot,
+    last: bool,
+    writ: &Writ,
+    off: u16,
+    bytes: &[u8],
+)
+    requires fits { (seat.old.table_id ≡ cells.now.table_id)
+        × IsSlotOf (places_of cells.now.key) cells.now.table_id slot }
+    requires allowed { Allows (HoldsAll (places_of cells.now.key)) cells.now.table_id.slots seat.old.id seat.old.me
+        slot.lock (λ _. 0) (λ _ m. Frees J.places J.name J.access J.left seat.old.me m) }
+    ensures seat { (seat.new.table_id ≡ seat.old.table_id) × (seat.new.id ≡ seat.old.id) }
+    ensures frees { Frees J.places J.name J.access J.left seat.old.me seat.new.me }
+{
+    let _ = last;
+    let _ = writ;
+    let _ = off;
+    let _ = bytes;
+    free_lock::<J>(cells, seat, slot);
+}
+
+// Frees a frame that was copied to. Only the proof uses the arguments after `slot`.
+fn free_copied<J: OfAccess>(
+    cells: &Cells,
+    seat: &mut CellSeat,
+    slot: FrameSlot,
+    last: bool,
+    source: FrameSlot,
+    from: &Frame,
+    writ: &Writ,
+    range: Range,
+    to_off: u16,
+)
+    requires fits { (seat.old.table_id ≡ cells.now.table_id)
+        × IsSlotOf (places_of cells.now.key) cells.now.table_id slot }
+    requires allowed { Allows (HoldsAll (places_of cells.now.key)) cells.now.table_id.slots seat.old.id seat.old.me
+        slot.lock (λ _. 0) (λ _ m. Frees J.places J.name J.access J.left seat.old.me m) }
+    ensures seat { (seat.new.table_id ≡ seat.old.table_id) × (seat.new.id ≡ seat.old.id) }
+    ensures frees { Frees J.places J.name J.access J.left seat.old.me seat.new.me }
+{
+    let _ = last;
+    let _ = source;
+    let _ = from;
+    let _ = writ;
+    let _ = range;
+    let _ = to_off;
+    free_lock::<J>(cells, seat, slot);
+}
+
+// Frees a frame that is unchanged. No view gains a step.
+fn return_as_taken<J: OfAccess>(cells: &Cells, seat: &mut CellSeat, slot: FrameSlot, last: bool)
+    requires fits { (seat.old.table_id ≡ cells.now.table_id)
+        × IsSlotOf (places_of cells.now.key) cells.now.table_id slot }
+    requires allowed { Allows (HoldsAll (places_of cells.now.key)) cells.now.table_id.slots seat.old.id seat.old.me
+        slot.lock (λ _. 0) (λ _ m. Returns J.left seat.old.me m) }
+    ensures seat { (seat.new.table_id ≡ seat.old.table_id) × (seat.new.id ≡ seat.old.id) }
+    ensures returned { Returns J.left seat.old.me seat.new.me }
+{
+    let _ = last;
+    return_lock::<J>(cells, seat, slot);
+}
+
+// Moves a frame out of its slot.
+fn take_out(cells: &Cells, seat: &mut CellSeat, slot: FrameSlot, last: bool) -> Frame
+    requires mine { seat.old.table_id ≡ cells.now.table_id }
+    requires out { (x : FrameState) × IsOut (layout_of cells.now.key) slot last x seat.old.me }
+    ensures seat { (seat.new.table_id ≡ seat.old.table_id) × (seat.new.id ≡ seat.old.id) }
+    ensures out { IsOut (layout_of cells.now.key) slot last result seat.old.me }
+    ensures me { seat.new.me ≡ (seat.old.me.0, (slot.index, None) ∷ rest seat.old.me.1) }
+{
+    let _ = last;
+    let Some(frame) = cells.exchange(seat, slot.index, None) else {
+        unreachable!()
+    };
+    frame
+}
+
+// Reads a frame that is out into all of `out`, and frees it.
+fn read_out(
+    cells: &Cells,
+    seat: &mut CellSeat,
+    slot: FrameSlot,
+    last: bool,
+    off: u16,
+    out: &mut [u8],
+) -> Filled
+    requires mine { (seat.old.table_id ≡ cells.now.table_id) × (seat.old.me.0.own.gone ≡ false) }
+    requires slot { IsSlotOf (places_of cells.now.key) cells.now.table_id slot }
+    requires out { (x : FrameState) × IsOut (layout_of cells.now.key) slot last x seat.old.me }
+    requires range { off + length out.old ≤ FRAME_SIZE }
+    ensures seat { (seat.new.table_id ≡ seat.old.table_id) × (seat.new.id ≡ seat.old.id) }
+    ensures read { Frees (places_of cells.now.key) (name_of slot) (access.Read off result.bytes)
+        (left_by last seat.old.me.0.held) seat.old.me seat.new.me }
+    ensures filled { (out.new ≡ result.bytes) × (length result.bytes ≡ length out.old) }
+    ensures receipt { IsReadIn (layout_of cells.now.key) (name_of slot) off result }
+{
+    let frame = take_out(cells, seat, slot, last);
+    let filled = frame.read_into(off, out);
+    let _ = cells.exchange(seat, slot.index, Some(frame));
+    free_read::<Brand>(cells, seat, slot, last, off, out);
+    filled
+}
+
+// Writes to a frame that is out, and frees it. If allocation fails, the frame returns to its slot unchanged.
+fn write_out<'a>(
+    cells: &Cells,
+    seat: &mut CellSeat,
+    slot: FrameSlot,
+    last: bool,
+    writ: &Writ,
+    off: u16,
+    bytes: &'a [u8],
+) -> Result<Written<'a>, Memory>
+    requires mine { (seat.old.table_id ≡ cells.now.table_id) × (seat.old.me.0.own.gone ≡ false) }
+    requires slot { IsSlotOf (places_of cells.now.key) cells.now.table_id slot }
+    requires out { (x : FrameState) × IsOut (layout_of cells.now.key) slot last x seat.old.me }
+    requires range { off + length bytes.now ≤ FRAME_SIZE }
+    requires right { IsTrue (covers writ.now (id_at (layout_of cells.now.key).ids slot.owner) slot.number off
+        (length bytes.now)) }
+    ensures seat { (seat.new.table_id ≡ seat.old.table_id) × (seat.new.id ≡ seat.old.id) }
+    ensures wrote { OnOk result (Frees (places_of cells.now.key) (name_of slot)
+        (access.Wrote (record { writ = writ.now; off = off; bytes = bytes.now }))
+        (left_by last seat.old.me.0.held) seat.old.me seat.new.me) }
+    ensures receipt { IfOk result (λ r. r ≡ written_in (layout_of cells.now.key) (name_of slot) writ.now off bytes.now) }
+    ensures refused { OnErr result (Returns (left_by last seat.old.me.0.held) seat.old.me seat.new.me) }
+{
+    let mut frame = take_out(cells, seat, slot, last);
+    let written = frame.write(writ, off, bytes);
+    let _ = cells.exchange(seat, slot.index, Some(frame));
+    match written {
+        Ok(written) => {
+            free_written::<Brand>(cells, seat, slot, last, writ, off, bytes);
+            Ok(written)
+        }
+        Err(refused) => {
+            return_as_taken::<Brand>(cells, seat, slot, last);
+            Err(refused)
+        }
+    }
+}
+
+// Copies a range to a frame that is out, and frees that frame. The source is out too, and is still held after. If
+// allocation fails, the destination returns to its slot unchanged.
+fn copy_out(
+    cells: &Cells,
+    seat: &mut CellSeat,
+    source: FrameSlot,
+    from: &Frame,
+    slot: FrameSlot,
+    last: bool,
+    writ: &Writ,
+    range: Range,
+    to_off: u16,
+) -> Result<Copied, Memory>
+    requires mine { (seat.old.table_id ≡ cells.now.table_id) × (seat.old.me.0.own.gone ≡ false) }
+    requires slot { IsSlotOf (places_of cells.now.key) cells.now.table_id slot }
+    requires out { (x : FrameState) × IsOut (layout_of cells.now.key) slot last x seat.old.me }
+    requires source { IsAmong (source.index, from.now) seat.old.me.0.held
+        × IsNamed (places_of cells.now.key) source.index (name_of source) }
+    requires named { (from.now.owner ≡ id_at (layout_of cells.now.key).ids source.owner)
+        × (from.now.number ≡ source.number) }
+    requires ranges { (range.off + range.len ≤ FRAME_SIZE) × (to_off + range.len ≤ FRAME_SIZE) }
+    requires right { IsTrue (covers writ.now (id_at (layout_of cells.now.key).ids slot.owner) slot.number to_off
+        range.len) }
+    ensures seat { (seat.new.table_id ≡ seat.old.table_id) × (seat.new.id ≡ seat.old.id) }
+    ensures copied { OnOk result (Frees (places_of cells.now.key) (name_of slot)
+        (access.Copied source.owner source.number range.off
+        (record { writ = writ.now; off = to_off; bytes = bytes_at from.now range.off range.len }))
+        (left_by last seat.old.me.0.held) seat.old.me seat.new.me) }
+    ensures receipt { IfOk result (λ r. r ≡ copied_in (layout_of cells.now.key) (name_of source) (name_of slot)
+        writ.now range to_off) }
+    ensures refused { OnErr result (Returns (left_by last seat.old.me.0.held) seat.old.me seat.new.me) }
+{
+    let _owner = from.owner();
+    let mut to = take_out(cells, seat, slot, last);
+    let copied = Frame::copy_between(from, &mut to, writ, range, to_off);
+    let _ = cells.exchange(seat, slot.index, Some(to));
+    match copied {
+        Ok(copied) => {
+            free_copied::<Brand>(cells, seat, slot, last, source, from, writ, range, to_off);
+            Ok(copied)
+        }
+        Err(refused) => {
+            return_as_taken::<Brand>(cells, seat, slot, last);
+            Err(refused)
+        }
+    }
+}
+
+// Reads a frame, starting at `off`, into all of `out`. Waits while another seat has the frame. It is one step of the
+// history.
+pub(crate) fn read<R: Wait>(
+    rt: &R,
+    cells: &Cells,
+    seat: &mut CellSeat,
+    slot: FrameSlot,
+    off: u16,
+    out: &mut [u8],
+) -> Filled
+    requires mine { (seat.old.table_id ≡ cells.now.table_id) × (seat.old.me.0.own.gone ≡ false) }
+    requires slot { IsSlotOf (places_of cells.now.key) cells.now.table_id slot }
+    requires range { off + length out.old ≤ FRAME_SIZE }
+    ensures seat { (seat.new.table_id ≡ seat.old.table_id) × (seat.new.id ≡ seat.old.id) }
+    ensures read { Accessed (layout_of cells.now.key) (name_of slot) (access.Read off result.bytes)
+        seat.old.me seat.new.me }
+    ensures filled { (out.new ≡ result.bytes) × (length result.bytes ≡ length out.old) }
+    ensures receipt { IsReadIn (layout_of cells.now.key) (name_of slot) off result }
+{
+    lock(rt, cells, seat, slot);
+    read_out(cells, seat, slot, true, off, out)
+}
+
+// Writes `bytes` to a frame by this writ, starting at `off`. Waits while another seat has the frame. It is one step of
+// the history.
+// After `Memory`, the frame is unchanged and no step was made.
+pub(crate) fn write<'a, R: Wait>(
+    rt: &R,
+    cells: &Cells,
+    seat: &mut CellSeat,
+    slot: FrameSlot,
+    writ: &Writ,
+    off: u16,
+    bytes: &'a [u8],
+) -> Result<Written<'a>, Memory>
+    requires mine { (seat.old.table_id ≡ cells.now.table_id) × (seat.old.me.0.own.gone ≡ false) }
+    requires slot { IsSlotOf (places_of cells.now.key) cells.now.table_id slot }
+    requires range { off + length bytes.now ≤ FRAME_SIZE }
+    requires right { IsTrue (covers writ.now (id_at (layout_of cells.now.key).ids slot.owner) slot.number off
+        (length bytes.now)) }
+    ensures seat { (seat.new.table_id ≡ seat.old.table_id) × (seat.new.id ≡ seat.old.id) }
+    ensures wrote { OnOk result (Accessed (layout_of cells.now.key) (name_of slot)
+        (access.Wrote (record { writ = writ.now; off = off; bytes = bytes.now })) seat.old.me seat.new.me) }
+    ensures receipt { IfOk result (λ r. r ≡ written_in (layout_of cells.now.key) (name_of slot) writ.now off bytes.now) }
+    ensures refused { OnErr result (seat.new.me ≡ seat.old.me) }
+{
+    lock(rt, cells, seat, slot);
+    write_out(cells, seat, slot, true, writ, off, bytes)
+}
+
+// Takes two frames, the one with the lower slot first, and moves the source out of its slot.
+fn lock_both<R: Wait>(
+    rt: &R,
+    cells: &Cells,
+    seat: &mut CellSeat,
+    source: FrameSlot,
+    dest: FrameSlot,
+) -> Frame
+    requires mine { seat.old.table_id ≡ cells.now.table_id }
+    requires slots { IsSlotOf (places_of cells.now.key) cells.now.table_id source
+        × IsSlotOf (places_of cells.now.key) cells.now.table_id dest × (source.index ≢ dest.index) }
+    requires free { (seat.old.me.1 ≡ []) × (seat.old.me.0.held ≡ []) }
+    ensures seat { (seat.new.table_id ≡ seat.old.table_id) × (seat.new.id ≡ seat.old.id) }
+    ensures both { HasBoth (layout_of cells.now.key) source dest result seat.old.me seat.new.me }
+{
+    if source.index < dest.index {
+        lock(rt, cells, seat, source);
+        let frame = take_out(cells, seat, source, true);
+        lock(rt, cells, seat, dest);
+        frame
+    } else {
+        lock(rt, cells, seat, dest);
+        lock(rt, cells, seat, source);
+        let frame = take_out(cells, seat, source, true);
+        seat.turn();
+        frame
+    }
+}
+
+// Returns the source of a copy to its slot, unchanged.
+fn return_source(cells: &Cells, seat: &mut CellSeat, slot: FrameSlot, frame: Frame)
+    requires mine { (seat.old.table_id ≡ cells.now.table_id)
+        × IsSlotOf (places_of cells.now.key) cells.now.table_id slot }
+    requires held { (seat.old.me.1 ≡ (slot.index, None) ∷ []) × (seat.old.me.0.held ≡ (slot.index, frame) ∷ []) }
+    ensures seat { (seat.new.table_id ≡ seat.old.table_id) × (seat.new.id ≡ seat.old.id) }
+    ensures returned { Returns [] seat.old.me seat.new.me }
+{
+    let _ = cells.exchange(seat, slot.index, Some(frame));
+    return_as_taken::<Brand>(cells, seat, slot, true);
+}
+
+// Copies a range of one frame to another by this writ, starting at `to_off`. Takes both frames, the one with the lower
+// slot first, and waits while another seat has one of them. It is one step of the history, made when the destination
+// is freed and while the source is still held.
+// After `Memory`, both frames are unchanged and no step was made.
+pub(crate) fn copy<R: Wait>(
+    rt: &R,
+    cells: &Cells,
+    seat: &mut CellSeat,
+    source: FrameSlot,
+    dest: FrameSlot,
+    writ: &Writ,
+    range: Range,
+    to_off: u16,
+) -> Result<Copied, Memory>
+    requires mine { (seat.old.table_id ≡ cells.now.table_id) × (seat.old.me.0.own.gone ≡ false) }
+    requires slots { IsSlotOf (places_of cells.now.key) cells.now.table_id source
+        × IsSlotOf (places_of cells.now.key) cells.now.table_id dest × (source.index ≢ dest.index) }
+    requires free { (seat.old.me.1 ≡ []) × (seat.old.me.0.held ≡ []) }
+    requires ranges { (range.off + range.len ≤ FRAME_SIZE) × (to_off + range.len ≤ FRAME_SIZE) }
+    requires right { IsTrue (covers writ.now (id_at (layout_of cells.now.key).ids dest.owner) dest.number to_off
+        range.len) }
+    ensures seat { (seat.new.table_id ≡ seat.old.table_id) × (seat.new.id ≡ seat.old.id) }
+    ensures copied { OnOk result (CopiedBy (layout_of cells.now.key) (name_of source) (name_of dest) writ.now range
+        to_off seat.old.me seat.new.me) }
+    ensures receipt { IfOk result (λ r. r ≡ copied_in (layout_of cells.now.key) (name_of source) (name_of dest)
+        writ.now range to_off) }
+    ensures refused { OnErr result (seat.new.me ≡ seat.old.me) }
+{
+    let last = source.index < dest.index;
+    let frame = lock_both(rt, cells, seat, source, dest);
+    let copied = copy_out(cells, seat, source, &frame, dest, last, writ, range, to_off);
+    return_source(cells, seat, source, frame);
+    copied
+}
+
+// Frees a frame in which a range was copied. Only the proof uses the arguments after `slot`.
+fn free_copied_within<J: OfAccess>(
+    cells: &Cells,
+    seat: &mut CellSeat,
+    slot: FrameSlot,
+    writ: &Writ,
+    range: Range,
+    to_off: u16,
+)
+    requires fits { (seat.old.table_id ≡ cells.now.table_id)
+        × IsSlotOf (places_of cells.now.key) cells.now.table_id slot }
+    requires allowed { Allows (HoldsAll (places_of cells.now.key)) cells.now.table_id.slots seat.old.id seat.old.me
+        slot.lock (λ _. 0) (λ _ m. Frees J.places J.name J.access J.left seat.old.me m) }
+    ensures seat { (seat.new.table_id ≡ seat.old.table_id) × (seat.new.id ≡ seat.old.id) }
+    ensures frees { Frees J.places J.name J.access J.left seat.old.me seat.new.me }
+{
+    let _ = writ;
+    let _ = range;
+    let _ = to_off;
+    free_lock::<J>(cells, seat, slot);
+}
+
+// Copies a range of a frame to another place in it by this writ, starting at `to_off`. The ranges may overlap: the
+// bytes written are those that the source range held before. Waits while another seat has the frame. It is one step of
+// the history.
+// After `Memory`, the frame is unchanged and no step was made.
+pub(crate) fn copy_within<R: Wait>(
+    rt: &R,
+    cells: &Cells,
+    seat: &mut CellSeat,
+    slot: FrameSlot,
+    writ: &Writ,
+    range: Range,
+    to_off: u16,
+) -> Result<Copied, Memory>
+    requires mine { (seat.old.table_id ≡ cells.now.table_id) × (seat.old.me.0.own.gone ≡ false) }
+    requires slot { IsSlotOf (places_of cells.now.key) cells.now.table_id slot }
+    requires ranges { (range.off + range.len ≤ FRAME_SIZE) × (to_off + range.len ≤ FRAME_SIZE) }
+    requires right { IsTrue (covers writ.now (id_at (layout_of cells.now.key).ids slot.owner) slot.number to_off
+        range.len) }
+    ensures seat { (seat.new.table_id ≡ seat.old.table_id) × (seat.new.id ≡ seat.old.id) }
+    ensures copied { OnOk result (CopiedBy (layout_of cells.now.key) (name_of slot) (name_of slot) writ.now range
+        to_off seat.old.me seat.new.me) }
+    ensures receipt { IfOk result (λ r. r ≡ copied_in (layout_of cells.now.key) (name_of slot) (name_of slot)
+        writ.now range to_off) }
+    ensures refused { OnErr result (seat.new.me ≡ seat.old.me) }
+{
+    lock(rt, cells, seat, slot);
+    let mut frame = take_out(cells, seat, slot, true);
+    let _owner = frame.owner();
+    let copied = frame.copy_within(writ, range, to_off);
+    let _ = cells.exchange(seat, slot.index, Some(frame));
+    match copied {
+        Ok(copied) => {
+            free_copied_within::<Brand>(cells, seat, slot, writ, range, to_off);
+            Ok(copied)
+        }
+        Err(refused) => {
+            return_as_taken::<Brand>(cells, seat, slot, true);
+            Err(refused)
+        }
+    }
+}

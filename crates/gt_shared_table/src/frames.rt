@@ -1,0 +1,110 @@
+//! The calls that access frames. Each is one step of the history. Only these calls may wait.
+ghost use Rattle.std.specs.Prelude.{◌≡◌, ◌≢◌, ◌+◌, ◌≤◌, length, IfOk, OnErr, OnOk, IsTrue};
+ghost use Rattle.gt_frames.specs.Frames.{covers};
+ghost use Rattle.gt_types.specs.declared.limits.TheConstants.{FRAME_SIZE};
+ghost use Rattle.gt_word_history.specs.Rule.{id_at};
+ghost use Rattle.gt_word_history.specs.declared.view.FrameStep.TheVariants as access;
+ghost use Rattle.gt_shared_table.specs.Accesses.{IsReadIn, TakesAccess, TakesCopy, copied_in, written_in};
+ghost use Rattle.gt_shared_table.specs.Words.{HasFrame, named_at};
+
+use crate::accesses::{copy, copy_within, read, write};
+use crate::slots::slot_at;
+use crate::table::{FrameIndex, SharedTable, TableSeat};
+use gt_frames::{Copied, Filled, Writ, Written};
+use gt_types::{Memory, Range};
+use std::sync::Wait;
+
+impl SharedTable {
+    /// Reads a frame, starting at `off`, into all of `out`. Waits while another seat has the frame. The bytes are those
+    /// that the steps before this one make.
+    pub fn read_frame<R: Wait>(
+        &self,
+        rt: &R,
+        seat: &mut TableSeat,
+        frame: FrameIndex,
+        off: u16,
+        out: &mut [u8],
+    ) -> Filled
+        requires table { seat.old.table ≡ self.now.table }
+        requires inside { HasFrame self.now frame }
+        requires range { off + length out.old ≤ FRAME_SIZE }
+        ensures table { seat.new.table ≡ seat.old.table }
+        ensures step { TakesAccess self.now.layout (named_at frame) (access.Read off result.bytes)
+            seat.old.view seat.new.view }
+        ensures filled { (out.new ≡ result.bytes) × (length result.bytes ≡ length out.old) }
+        ensures receipt { IsReadIn self.now.layout (named_at frame) off result }
+    {
+        let cells = &self.table.shared;
+        let slot = slot_at(cells, &self.firsts, frame);
+        read(rt, cells, &mut seat.seat, slot, off, out)
+    }
+
+    /// Writes `bytes` to a frame by this writ, starting at `off`. Waits while another seat has the frame.
+    ///
+    /// # Errors
+    /// `Memory`. The frame is unchanged, and no step was made.
+    pub fn write_frame<'a, R: Wait>(
+        &self,
+        rt: &R,
+        seat: &mut TableSeat,
+        frame: FrameIndex,
+        writ: &Writ,
+        off: u16,
+        bytes: &'a [u8],
+    ) -> Result<Written<'a>, Memory>
+        requires table { seat.old.table ≡ self.now.table }
+        requires inside { HasFrame self.now frame }
+        requires range { off + length bytes.now ≤ FRAME_SIZE }
+        requires right { IsTrue (covers writ.now (id_at self.now.layout.ids frame.position) frame.number off
+            (length bytes.now)) }
+        ensures table { seat.new.table ≡ seat.old.table }
+        ensures step { OnOk result (TakesAccess self.now.layout (named_at frame)
+            (access.Wrote (record { writ = writ.now; off = off; bytes = bytes.now })) seat.old.view seat.new.view) }
+        ensures receipt { IfOk result (λ r. r ≡ written_in self.now.layout (named_at frame) writ.now off bytes.now) }
+        ensures refused { OnErr result (seat.new.view ≡ seat.old.view) }
+    {
+        let cells = &self.table.shared;
+        let slot = slot_at(cells, &self.firsts, frame);
+        write(rt, cells, &mut seat.seat, slot, writ, off, bytes)
+    }
+
+    /// Copies a range of one frame to another by this writ, or to another place of the same frame, starting at `to_off`.
+    /// Ranges of one frame may overlap: the bytes written are those that the source range held before. Takes both
+    /// frames, the one with the lower slot first, and waits while another seat has one of them. It is one step, in
+    /// which the source is read and the destination written.
+    ///
+    /// # Errors
+    /// `Memory`. Both frames are unchanged, and no step was made.
+    pub fn copy_frames<R: Wait>(
+        &self,
+        rt: &R,
+        seat: &mut TableSeat,
+        source: FrameIndex,
+        dest: FrameIndex,
+        writ: &Writ,
+        range: Range,
+        to_off: u16,
+    ) -> Result<Copied, Memory>
+        requires table { seat.old.table ≡ self.now.table }
+        requires source { HasFrame self.now source }
+        requires dest { HasFrame self.now dest }
+        requires ranges { (range.off + range.len ≤ FRAME_SIZE) × (to_off + range.len ≤ FRAME_SIZE) }
+        requires right { IsTrue (covers writ.now (id_at self.now.layout.ids dest.position) dest.number to_off
+            range.len) }
+        ensures table { seat.new.table ≡ seat.old.table }
+        ensures step { OnOk result (TakesCopy self.now.layout (named_at source) (named_at dest) writ.now range to_off
+            seat.old.view seat.new.view) }
+        ensures receipt { IfOk result (λ r. r ≡ copied_in self.now.layout (named_at source) (named_at dest)
+            writ.now range to_off) }
+        ensures refused { OnErr result (seat.new.view ≡ seat.old.view) }
+    {
+        let cells = &self.table.shared;
+        let from = slot_at(cells, &self.firsts, source);
+        let to = slot_at(cells, &self.firsts, dest);
+        if from.index == to.index {
+            copy_within(rt, cells, &mut seat.seat, to, writ, range, to_off)
+        } else {
+            copy(rt, cells, &mut seat.seat, from, to, writ, range, to_off)
+        }
+    }
+}

@@ -1,0 +1,73 @@
+//! The steps on the locks of frames.
+ghost use Rattle.std.specs.Prelude.{◌≡◌, ◌<◌, ◌==◌, MatchBool};
+ghost use prog.Atomic.{either};
+ghost use Rattle.atomic_table.specs.Table.{Allows};
+ghost use Rattle.gt_word_history.specs.Rule.{layout_of};
+ghost use Rattle.gt_shared_table.specs.Rule.{HoldsAll, IsSlotOf, places_of};
+ghost use Rattle.gt_shared_table.specs.Telling.{Frees, Locks, Returns, Took};
+
+use crate::rule::{CellSeat, Cells, FrameSlot, FreesBy, LocksSlot, OfAccess, OfSlot, ReturnsTo};
+use std::marker::Brand;
+use std::sync::Wait;
+
+// Exchanges a lock word, once. Only the proof uses `slot`, except for its lock.
+fn lock_word<J: OfSlot>(cells: &Cells, seat: &mut CellSeat, slot: FrameSlot) -> u64
+    requires fits { (seat.old.table_id ≡ cells.now.table_id) × (slot.lock < cells.now.table_id.words) }
+    requires allowed { Allows (HoldsAll (places_of cells.now.key)) cells.now.table_id.slots seat.old.id seat.old.me
+        slot.lock (λ n. either (n == 0) 1 n) (λ n m. Locks J.layout J.name J.slot seat.old.me n m) }
+    ensures seat { (seat.new.table_id ≡ seat.old.table_id) × (seat.new.id ≡ seat.old.id) }
+    ensures locks { Locks J.layout J.name J.slot seat.old.me result seat.new.me }
+{
+    cells.compare_exchange::<LocksSlot<J>>(seat, slot.lock, 0, 1)
+}
+
+// Stores a lock word. By this store the access to its frame takes place.
+pub(crate) fn free_lock<J: OfAccess>(cells: &Cells, seat: &mut CellSeat, slot: FrameSlot)
+    requires fits { (seat.old.table_id ≡ cells.now.table_id) × (slot.lock < cells.now.table_id.words) }
+    requires allowed { Allows (HoldsAll (places_of cells.now.key)) cells.now.table_id.slots seat.old.id seat.old.me
+        slot.lock (λ _. 0) (λ _ m. Frees J.places J.name J.access J.left seat.old.me m) }
+    ensures seat { (seat.new.table_id ≡ seat.old.table_id) × (seat.new.id ≡ seat.old.id) }
+    ensures frees { Frees J.places J.name J.access J.left seat.old.me seat.new.me }
+{
+    cells.store::<FreesBy<J>>(seat, slot.lock, 0);
+    cells.wake_one(slot.lock);
+}
+
+// Stores the lock word of a frame that returns unchanged.
+pub(crate) fn return_lock<J: OfAccess>(cells: &Cells, seat: &mut CellSeat, slot: FrameSlot)
+    requires fits { (seat.old.table_id ≡ cells.now.table_id) × (slot.lock < cells.now.table_id.words) }
+    requires allowed { Allows (HoldsAll (places_of cells.now.key)) cells.now.table_id.slots seat.old.id seat.old.me
+        slot.lock (λ _. 0) (λ _ m. Returns J.left seat.old.me m) }
+    ensures seat { (seat.new.table_id ≡ seat.old.table_id) × (seat.new.id ≡ seat.old.id) }
+    ensures returned { Returns J.left seat.old.me seat.new.me }
+{
+    cells.store::<ReturnsTo<J>>(seat, slot.lock, 0);
+    cells.wake_one(slot.lock);
+}
+
+// Takes the frame of a slot if no other seat has it. Otherwise returns false, with the seat unchanged.
+pub(crate) fn try_lock(cells: &Cells, seat: &mut CellSeat, slot: FrameSlot) -> bool
+    requires mine { seat.old.table_id ≡ cells.now.table_id }
+    requires slot { IsSlotOf (places_of cells.now.key) cells.now.table_id slot }
+    ensures seat { (seat.new.table_id ≡ seat.old.table_id) × (seat.new.id ≡ seat.old.id) }
+    ensures took { MatchBool result (Took (layout_of cells.now.key) slot seat.old.me seat.new.me)
+        (seat.new.me ≡ seat.old.me) }
+{
+    lock_word::<Brand>(cells, seat, slot) == 0
+}
+
+// Takes the frame of a slot. Waits while another seat has it.
+pub(crate) fn lock<R: Wait>(rt: &R, cells: &Cells, seat: &mut CellSeat, slot: FrameSlot)
+    requires mine { seat.old.table_id ≡ cells.now.table_id }
+    requires slot { IsSlotOf (places_of cells.now.key) cells.now.table_id slot }
+    ensures seat { (seat.new.table_id ≡ seat.old.table_id) × (seat.new.id ≡ seat.old.id) }
+    ensures took { Took (layout_of cells.now.key) slot seat.old.me seat.new.me }
+{
+    'tries: for _try in rt.forever() {
+        if try_lock(cells, seat, slot) {
+            return;
+        }
+        cells.park(rt, slot.lock, 1);
+    }
+    unreachable!()
+}

@@ -1,0 +1,4 @@
+pub mod Order
+pub mod Moments
+pub mod Opens
+pub mod Joining

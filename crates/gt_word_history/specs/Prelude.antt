@@ -1,0 +1,33 @@
+-- Names from other crates, and from the code, that these definitions use.
+pub use Rattle.atomic_table.specs.Seated.{TableId}
+pub use Rattle.atomic_table.specs.Table.{Allows, Me, State, Step as TableStep}
+pub use Rattle.gt_entry.specs.Changes.{changed_entry, raise_of}
+pub use Rattle.gt_entry.specs.Entries.{IsEntry, is_read_only, with_ro}
+pub use Rattle.gt_entry.specs.Spelling.{IsSpelled, entry_of, idle_word_of, word_of}
+pub use Rattle.gt_entry.specs.Words.{control_of, header_of, header_word, kind_of, unit_of}
+pub use Rattle.gt_entry.specs.declared.change.EntryChange.{EntryChange}
+pub use Rattle.gt_entry.specs.declared.change.BodyWord.{BodyWord}
+pub use Rattle.gt_entry.specs.declared.change.BodyWord.TheVariants.{First, Second}
+pub use Rattle.gt_entry.specs.declared.control.EntryKind.TheVariants.{Sub as KindSub}
+pub use Rattle.gt_entry.specs.declared.entry.Entry.TheVariants.{Invalid}
+pub use Rattle.gt_entry.specs.declared.header.Header.{Header, Header as TableHeader}
+pub use Rattle.gt_types.specs.declared.Dir.{Dir}
+pub use Rattle.gt_types.specs.declared.Dir.TheVariants.{Read, Write}
+pub use Rattle.gt_types.specs.declared.DomId.{DomId}
+pub use Rattle.gt_types.specs.declared.config.Config.{Config}
+pub use Rattle.gt_types.specs.declared.config.DomainConfig.{DomainConfig}
+pub use Rattle.gt_types.specs.declared.limits.TheConstants.{MAX_TABLE_FRAMES}
+pub use Rattle.gt_types.specs.declared.limits.TheConstants.{TABLE_ENTRIES}
+pub use Rattle.gt_word_history.specs.declared.view.EntryRecord.{EntryRecord}
+pub use Rattle.gt_word_history.specs.declared.view.EntryStep.{EntryStep}
+pub use Rattle.gt_word_history.specs.declared.view.EntryStep.TheVariants.{ChangeMissed, Changed, Looked, PinMissed}
+pub use Rattle.gt_word_history.specs.declared.view.EntryStep.TheVariants.{Pinned}
+pub use Rattle.gt_word_history.specs.declared.view.EntryStep.TheVariants.{ReadBody, StoredBody, Unpinned}
+pub use Rattle.gt_word_history.specs.declared.view.HeaderStep.{HeaderStep}
+pub use Rattle.gt_word_history.specs.declared.view.Purpose.{Purpose}
+pub use Rattle.gt_word_history.specs.declared.view.SeatStep.{SeatStep}
+pub use Rattle.gt_word_history.specs.declared.view.View.{View}
+pub use Rattle.gt_word_history.specs.declared.rule.TheConstants.{DOMAIN_WORDS, ENTRY_WORDS}
+pub use lib.ListN.{get_elem?}
+pub use mathlib.Core.Option.{some}
+pub use prog.Atomic.{either}

@@ -1,5 +1,0 @@
-pub mod Order
-pub mod Moments
-pub mod Opens
-pub mod Joining
-pub mod Moving

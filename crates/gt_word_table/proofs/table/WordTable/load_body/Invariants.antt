@@ -1,6 +1,0 @@
-use Rattle.gt_word_table.specs.Rule.{layout_of}
-use Rattle.gt_word_table.specs.Steps.{reading}
-use Rattle.gt_word_table.proofs.table.WordTable.load_body.Given as goal
-
-abbrev pub ghosts-load_body_word : goal.ghosts-load_body_word
-ghosts-load_body_word a = record { kind = reading (layout_of a.cells.now.key) a.entry.position a.entry.gref a.half }

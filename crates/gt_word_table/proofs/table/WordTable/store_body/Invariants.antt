@@ -1,6 +1,0 @@
-use Rattle.gt_word_table.specs.Rule.{layout_of}
-use Rattle.gt_word_table.specs.Steps.{storing}
-use Rattle.gt_word_table.proofs.table.WordTable.store_body.Given as goal
-
-abbrev pub ghosts-store_body_word : goal.ghosts-store_body_word
-ghosts-store_body_word a = record { kind = storing (layout_of a.cells.now.key) a.entry.position a.entry.gref a.half a.new }
