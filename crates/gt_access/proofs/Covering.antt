@@ -44,8 +44,3 @@ covers_by k s purpose name off len (Through via p) is =
     let last = and_from (is_of_frame p.entry name.number) (permits p.entry via.dom Write ForCopy off len) is.2.of_frame (to_copy p.entry via.dom Write purpose off len is.2.permitted) in
     and_from (forwards via.entry s.dom Write && leads_to via.entry name.owner) _
     (and_from (forwards via.entry s.dom Write) (leads_to via.entry name.owner) is.1.forwarded (to_owner via.entry p name.owner is.1.leads is.2.owner_is)) last
-
--- a route that reaches a range of one frame reaches it of the frame of the same name
-pub reaches_named : (k : Layout) (s : SeatOf) (dir : Dir) (purpose : Use) (name other : FrameName) (off len : ℕ) (route : AccessPath)
-    → ReachesBy k s dir purpose name off len route → other ≡ name → ReachesBy k s dir purpose other off len route
-reaches_named k s dir purpose name other off len route is same = subst (λ (n : FrameName). ReachesBy k s dir purpose n off len route) (sym same) is

@@ -1,28 +1,25 @@
-//! Accesses to locked frames. None waits.
-ghost use Rattle.std.specs.Prelude.{◌≡◌, ◌+◌, ◌≤◌, length, vec_capacity, vec_len, IfOk, OnOk, OnErr};
+//! Accesses to frames, each justified by the pins of the caller's seat. Only they may wait.
+ghost use Rattle.std.specs.Prelude.{◌≡◌, ◌+◌, ◌≤◌, length, IfErr, IfNone, IfOk, IfSome, OnErr, OnOk};
 ghost use Rattle.gt_types.specs.declared.Dir.TheVariants as dirs;
 ghost use Rattle.gt_types.specs.declared.Use.TheVariants as uses;
-ghost use Rattle.gt_words.specs.Conditions.{IsSeatOf};
-ghost use Rattle.gt_frames.specs.Frames.{bytes_at, IsKept, IsWrite};
-ghost use Rattle.gt_access.specs.Pool.{dest_of, source_of, GoesOn, KeepsSource};
-ghost use Rattle.gt_frames.specs.Receipts.{reading_of, writing_of, copying_of};
-ghost use Rattle.gt_frames.specs.Sets.{name_of};
+ghost use Rattle.gt_word_history.specs.declared.view.FrameStep.TheVariants as access;
+ghost use Rattle.gt_words.specs.Conditions.{IsSameSeat, IsSeatOf, position_at};
+ghost use Rattle.gt_words.specs.Frames.{AccessesFrame, CopiesFrames, IsCopyFault, IsFaultAt, IsReadOf, KeepsFrame};
+ghost use Rattle.gt_words.specs.Frames.{copying_at, writing_at};
 ghost use Rattle.gt_access.specs.Routes.{MayAccessBy, MayCopyBy, ReachesBy, writ_by};
 
-use crate::pool::{LockedPair, Pool};
-use crate::visits::LockedFrame;
 use gt_calls::{AccessPath, CallPins};
-use gt_frames::{Copied, Filled, Read, Writ, WriteBasis, Written};
+use gt_frames::{Copied, Filled, Writ, WriteBasis, Written};
 use gt_roster::Roster;
-use gt_types::{Allows, DomId, FRAME_SIZE, Memory, Range};
-use gt_words::{Seat, Words};
+use gt_types::{Allows, DomId, FRAME_SIZE, FrameName, Spot};
+use gt_words::{AccessFault, Seat, Words};
+use std::sync::Wait;
 
-/// The run that an access belongs to: its words, its domains, what its policy allows, and its frames.
+/// The run that an access belongs to: its words and frames, its domains, and what its policy allows.
 pub struct AccessContext<'m, P> {
     pub words: &'m Words,
     pub config: &'m Roster,
     pub rights: &'m P,
-    pub pool: &'m Pool,
 }
 
 impl<P> Drop for AccessContext<'_, P> {
@@ -31,7 +28,6 @@ impl<P> Drop for AccessContext<'_, P> {
             words: _,
             config: _,
             rights: _,
-            pool: _,
         } = self;
     }
 }
@@ -55,108 +51,99 @@ pub fn writ_by(caller: DomId, route: &AccessPath) -> Writ
     }
 }
 
-/// Reads a range of a locked frame into `room`, which is empty and has the capacity.
-pub fn read_under<P: Allows>(
+/// Reads the frame of this name, starting at `off`, into all of `out`. Waits while another seat has the frame. Returns
+/// `None`, with `out` unchanged, if the run keeps no such frame.
+pub fn read_under<R: Wait, P: Allows>(
+    rt: &R,
     run: &AccessContext<'_, P>,
-    seat: &Seat,
-    frame: &LockedFrame<'_>,
+    seat: &mut Seat,
     route: &AccessPath,
-    range: Range,
-    room: Vec<u8>,
-) -> Read
-    requires seat { IsSeatOf run.now.words.now seat.now }
-    requires reached { ReachesBy run.now.words.now.layout seat.now dirs.Read uses.Map
-        (name_of frame.now.after) range.off range.len route.now }
-    requires may { MayAccessBy run.now.config.now.domains.items (P.may run.now.rights.now) seat.now.dom route.now }
-    requires range { range.off + range.len ≤ FRAME_SIZE }
-    requires room { (vec_len room ≡ 0) × (range.len ≤ vec_capacity room) }
-    ensures read { result ≡ reading_of frame.now.after range.off range.len }
-    ensures len { length result.bytes ≡ range.len }
-{
-    frame.read_to(range.off, usize::from(range.len), room)
-}
-
-/// Reads the bytes of a locked frame, starting at `off`, into all of `out`.
-pub fn fill_under<P: Allows>(
-    run: &AccessContext<'_, P>,
-    seat: &Seat,
-    frame: &LockedFrame<'_>,
-    route: &AccessPath,
+    name: FrameName,
     off: u16,
     out: &mut [u8],
-) -> Filled
-    requires seat { IsSeatOf run.now.words.now seat.now }
-    requires reached { ReachesBy run.now.words.now.layout seat.now dirs.Read uses.Map
-        (name_of frame.now.after) off (length out.old) route.now }
-    requires may { MayAccessBy run.now.config.now.domains.items (P.may run.now.rights.now) seat.now.dom route.now }
+) -> Option<Filled>
+    requires seat { IsSeatOf run.now.words.now seat.old }
+    requires reached { ReachesBy run.now.words.now.layout seat.old dirs.Read uses.Map
+        name off (length out.old) route.now }
+    requires may { MayAccessBy run.now.config.now.domains.items (P.may run.now.rights.now) seat.old.dom route.now }
     requires range { off + length out.old ≤ FRAME_SIZE }
-    ensures read { result ≡ reading_of frame.now.after off (length out.old) }
-    ensures len { length result.bytes ≡ length out.old }
-    ensures filled { out.new ≡ result.bytes }
+    ensures seat { IsSameSeat seat.old seat.new }
+    ensures fits { IsSeatOf run.now.words.now seat.new }
+    ensures step { IfSome result (λ r. AccessesFrame run.now.words.now.layout
+        (position_at run.now.words.now name.owner) name.number (access.Read off r.bytes) seat.old.view seat.new.view) }
+    ensures receipt { IfSome result (λ r. IsReadOf r name off (length out.old)) }
+    ensures filled { IfSome result (λ r. out.new ≡ r.bytes) }
+    ensures none { IfNone result (KeepsFrame run.now.words.now name → ⊥) }
+    ensures kept { IfNone result ((out.new ≡ out.old) × (seat.new.view ≡ seat.old.view)) }
 {
-    frame.read_into(off, out)
+    run.words.read_frame(rt, seat, name, off, out)
 }
 
-/// Writes `bytes` to a locked frame, starting at `off`.
+/// Writes `bytes` to the frame of this name, starting at `off`, by the writ of the route. Waits while another seat has
+/// the frame.
 ///
 /// # Errors
-///
-/// `Memory`. The frame is unchanged.
+/// [`AccessFault`]. No step was made.
 #[tactic(auto, using(crate::proofs::Covering::covers_by))]
-pub fn write_under<'a, P: Allows>(
+pub fn write_under<'a, R: Wait, P: Allows>(
+    rt: &R,
     run: &AccessContext<'_, P>,
-    seat: &Seat,
-    frame: &mut LockedFrame<'_>,
+    seat: &mut Seat,
     route: &AccessPath,
+    name: FrameName,
     off: u16,
     bytes: &'a [u8],
-) -> Result<Written<'a>, Memory>
-    requires seat { IsSeatOf run.now.words.now seat.now }
-    requires reached { ReachesBy run.now.words.now.layout seat.now dirs.Write uses.Map
-        (name_of frame.old.after) off (length bytes.now) route.now }
-    requires may { MayAccessBy run.now.config.now.domains.items (P.may run.now.rights.now) seat.now.dom route.now }
+) -> Result<Written<'a>, AccessFault>
+    requires seat { IsSeatOf run.now.words.now seat.old }
+    requires reached { ReachesBy run.now.words.now.layout seat.old dirs.Write uses.Map
+        name off (length bytes.now) route.now }
+    requires may { MayAccessBy run.now.config.now.domains.items (P.may run.now.rights.now) seat.old.dom route.now }
     requires range { off + length bytes.now ≤ FRAME_SIZE }
-    ensures before { frame.new.before ≡ frame.old.before }
-    ensures written { OnOk result (IsWrite frame.old.after frame.new.after (writ_by seat.now.dom route.now)
-        off bytes.now) }
-    ensures kept { IsKept frame.new.after }
-    ensures receipt { IfOk result (λ r. r ≡ writing_of frame.old.after off bytes.now seat.now.dom) }
-    ensures refused { OnErr result (frame.new.after ≡ frame.old.after) }
+    ensures seat { IsSameSeat seat.old seat.new }
+    ensures fits { IsSeatOf run.now.words.now seat.new }
+    ensures step { OnOk result (AccessesFrame run.now.words.now.layout
+        (position_at run.now.words.now name.owner) name.number
+        (access.Wrote (record { writ = writ_by seat.old.dom route.now; off = off; bytes = bytes.now }))
+        seat.old.view seat.new.view) }
+    ensures receipt { IfOk result (λ r. r ≡ writing_at name off bytes.now seat.old.dom) }
+    ensures fault { IfErr result (IsFaultAt run.now.words.now name) }
+    ensures refused { OnErr result (seat.new.view ≡ seat.old.view) }
 {
     let writ = writ_by(seat.dom(), route);
-    frame.write(&writ, off, bytes)
+    run.words.write_frame(rt, seat, name, &writ, off, bytes)
 }
 
-/// Copies a range of the source frame to the destination, starting at `to_off`. Both may be the same frame.
+/// Copies `len` bytes from one place to another, in one frame or between two, by the writ of the route to the
+/// destination. Waits while another seat has one of the frames.
 ///
 /// # Errors
-///
-/// `Memory`. Both frames are unchanged.
-pub fn copy_under<P: Allows>(
+/// [`AccessFault`]. No step was made.
+#[tactic(auto, using(crate::proofs::Covering::covers_by))]
+pub fn copy_under<R: Wait, P: Allows>(
+    rt: &R,
     run: &AccessContext<'_, P>,
-    seat: &Seat,
-    ends: &mut LockedPair<'_>,
+    seat: &mut Seat,
     routes: &CallPins,
-    range: Range,
-    to_off: u16,
-) -> Result<Copied, Memory>
-    requires seat { IsSeatOf run.now.words.now seat.now }
-    requires source { ReachesBy run.now.words.now.layout seat.now dirs.Read uses.Copy
-        (name_of (source_of ends.old)) range.off range.len routes.now.source }
-    requires dest { ReachesBy run.now.words.now.layout seat.now dirs.Write uses.Copy
-        (name_of (dest_of ends.old)) to_off range.len routes.now.dest }
-    requires may { MayCopyBy run.now.config.now.domains.items (P.may run.now.rights.now) seat.now.dom routes.now }
-    requires source_range { range.off + range.len ≤ FRAME_SIZE }
-    requires dest_range { to_off + range.len ≤ FRAME_SIZE }
-    ensures written { OnOk result (IsWrite (dest_of ends.old) (dest_of ends.new)
-        (writ_by seat.now.dom routes.now.dest) to_off (bytes_at (source_of ends.old) range.off range.len)) }
-    ensures source_kept { OnOk result (KeepsSource ends.old ends.new) }
-    ensures kept { IsKept (dest_of ends.new) }
-    ensures receipt { IfOk result
-        (λ r. r ≡ copying_of (source_of ends.old) range.off (dest_of ends.old) to_off range.len seat.now.dom) }
-    ensures refused { OnErr result ((dest_of ends.new ≡ dest_of ends.old) × (source_of ends.new ≡ source_of ends.old)) }
-    ensures on { GoesOn ends.old ends.new }
+    from: Spot,
+    to: Spot,
+    len: u16,
+) -> Result<Copied, AccessFault>
+    requires seat { IsSeatOf run.now.words.now seat.old }
+    requires source { ReachesBy run.now.words.now.layout seat.old dirs.Read uses.Copy
+        from.frame from.off len routes.now.source }
+    requires dest { ReachesBy run.now.words.now.layout seat.old dirs.Write uses.Copy
+        to.frame to.off len routes.now.dest }
+    requires may { MayCopyBy run.now.config.now.domains.items (P.may run.now.rights.now) seat.old.dom routes.now }
+    requires source_range { from.off + len ≤ FRAME_SIZE }
+    requires dest_range { to.off + len ≤ FRAME_SIZE }
+    ensures seat { IsSameSeat seat.old seat.new }
+    ensures fits { IsSeatOf run.now.words.now seat.new }
+    ensures step { OnOk result (CopiesFrames run.now.words.now.layout from to len
+        (writ_by seat.old.dom routes.now.dest) seat.old.view seat.new.view) }
+    ensures receipt { IfOk result (λ r. r ≡ copying_at from to len seat.old.dom) }
+    ensures fault { IfErr result (IsCopyFault run.now.words.now from to) }
+    ensures refused { OnErr result (seat.new.view ≡ seat.old.view) }
 {
     let writ = writ_by(seat.dom(), &routes.dest);
-    ends.copy(&writ, range, to_off)
+    run.words.copy_frames(rt, seat, from, to, len, &writ)
 }

@@ -58,6 +58,21 @@ impl Model for Filled {
     } };
 }
 
+impl Filled {
+    /// Makes the receipt of a read that owns its bytes, which are those of this receipt.
+    pub fn with_bytes(self, bytes: Vec<u8>) -> Read
+        requires { bytes.items ≡ self.bytes }
+        ensures { result ≡ self }
+    {
+        Read {
+            owner: self.owner,
+            number: self.number,
+            off: self.off,
+            bytes: FrameBytes::from(bytes),
+        }
+    }
+}
+
 /// The receipt of a write: the frame's owner and number, the offset of the first byte, the bytes, and the writer.
 #[derive(Drop)]
 pub struct Written<'a> {

@@ -2,7 +2,7 @@
 use Rattle.gt_live.proofs.Moments.{only-access}
 use Rattle.std.proofs.Common.{◌≡◌, ℕ, true, refl, sym, ap, ◌∙◌, subst, List, [], ◌∷◌, Option, Some, None, inl, inr}
 use Rattle.std.proofs.Common.{arith}
-use Rattle.std.specs.Prelude.{IfErr, IfOk, Result, Ok, Err}
+use Rattle.std.specs.Prelude.{IfErr, IfOk, OnErr, Result, Ok, Err}
 use Rattle.std.proofs.lemmas.Bool.{eq-eqb}
 use Rattle.std.proofs.lemmas.Bool.Decides.{nat_tests}
 use Rattle.gt_types.specs.declared.DomId.{DomId}
@@ -35,7 +35,7 @@ use Rattle.gt_calls.specs.Asking.{asked, begun_of}
 use Rattle.gt_calls.specs.Opening.{opens}
 use Rattle.gt_calls.specs.Path.{Continuation, after_beginning, by_mapping, ended, makes, path_of, steps_of}
 use Rattle.gt_calls.specs.Rules.{CallerKnowledge, begun}
-use Rattle.gt_live.specs.Accesses.{Accessed, AnsweredAtAccess, ComesTo, IsAccess, IsOfAccess, frame_named, onward}
+use Rattle.gt_live.specs.Accesses.{Accessed, AnsweredAtAccess, ComesTo, IsAccess, IsOfAccess, IsUnmade, frame_named, onward}
 use Rattle.gt_live.specs.Domains.{IsRefused, AllowRelation, denial_in}
 use Rattle.gt_live.specs.Ending.{IsAccessing, IsWordless}
 use Rattle.gt_live.specs.Mappings.{IsMappingOf, ReachesItsFrame}
@@ -129,7 +129,7 @@ refused-called k c caller request denial v is = record {
 }
 
 pub refused-first : {R : Type 0} (k : Layout) (c : CallerKnowledge) (caller : DomId) (request : Request)
-    (tells : Step → R → Type 0) (denial : Denial) (v : View) → IsRefused c caller request denial
+    (tells : Step → R → View → View → Type 0) (denial : Denial) (v : View) → IsRefused c caller request denial
     → AnsweredAtAccess k (path_of c caller request) tells (Err denial) v v
 refused-first k c caller request tells denial v is = inl (refused-called k c caller request denial v is)
 
@@ -143,7 +143,7 @@ refused-begun k c caller request verdict denial v is e said =
 
 -- the same of a call with an access, by the verdict at its beginning
 pub refused-access : {R : Type 0} (k : Layout) (c : CallerKnowledge) (caller : DomId) (request : Request)
-    (tells : Step → R → Type 0) (verdict : CallResult) (denial : Denial) (v : View) → IsAccessing (asked request)
+    (tells : Step → R → View → View → Type 0) (verdict : CallResult) (denial : Denial) (v : View) → IsAccessing (asked request)
     → begun_of c caller request ≡ Some verdict → denial ≡ denial_in verdict
     → AnsweredAtAccess k (path_of c caller request) tells (Err denial) v v
 refused-access k c caller request tells verdict denial v is e said =
@@ -151,16 +151,16 @@ refused-access k c caller request tells verdict denial v is e said =
     (refuses c caller request verdict denial (refused-once c caller request verdict is e) e said)
 
 -- a call of one access
-whole : (k : Layout) (way : Continuation) (access : Step) (v : View) → IsAccess access → way ≡ makes access (ended Granted) → Accessed k way access v v
-whole k way access v is e =
+whole : (k : Layout) (way : Continuation) (access : Step) (does : View → View → Type 0) (v w : View) → IsAccess access → way ≡ makes access (ended Granted) → does v w → Accessed k way access does v w
+whole k way access does v w is e did =
     let comes : ComesTo k way access v v = record { steps = []; view = refl; walked = tt; moments = tt; next = ap (λ (w : Continuation). w []) e; is_access = is } in
-    let ends : Called k (onward way (Nothing ∷ [])) Granted v v = record { steps = []; view = refl; walked = tt; moments = tt; answered = ap (λ (w : Continuation). w (Nothing ∷ [])) e; carried = tt } in
-    record { at = v; comes = comes; ends = ends; only = only-access k way access v v v comes ends }
+    let ends : Called k (onward way (Nothing ∷ [])) Granted w w = record { steps = []; view = refl; walked = tt; moments = tt; answered = ap (λ (w : Continuation). w (Nothing ∷ [])) e; carried = tt } in
+    record { at = v; after = w; comes = comes; did = did; ends = ends; only = only-access k way access v v w w comes ends }
 
-pub one-access : {R : Type 0} (k : Layout) (way : Continuation) (access : Step) (tells : Step → R → Type 0) (result : Result R Denial) (v : View) → IsAccess access → way ≡ makes access (ended Granted)
-    → IfOk result (λ (r : R). tells access r) → IfErr result IsOfAccess → AnsweredAtAccess k way tells result v v
-one-access k way access tells (Ok r) v is e ok err = (access, whole k way access v is e, ok)
-one-access k way access tells (Err denial) v is e ok err = inr (access, whole k way access v is e, err)
+pub one-access : {R : Type 0} (k : Layout) (way : Continuation) (access : Step) (tells : Step → R → View → View → Type 0) (result : Result R Denial) (v w : View) → IsAccess access → way ≡ makes access (ended Granted)
+    → IfOk result (λ (r : R). tells access r v w) → OnErr result (w ≡ v) → IfErr result IsOfAccess → AnsweredAtAccess k way tells result v w
+one-access k way access tells (Ok r) v w is e ok same err = (access, whole k way access (tells access r) v w is e ok)
+one-access k way access tells (Err denial) v w is e ok same err = inr (access, whole k way access IsUnmade v w is e same, err)
 
 -- the way of a call through a mapping
 pub mapped-way : (k : CallerKnowledge) (caller : DomId) (request : Request) (handle : Handle) (p : HeldPin) (step : HeldPin → Step) → begun_of k caller request ≡ None → k.mapping handle ≡ Some p

@@ -53,7 +53,6 @@ quiet-self d =
       seat = same_seat-self d.seat;
       pinned = (record { slots = refl; given = refl }, λ t r. refl);
       trail = refl;
-      visits = refl;
       goes_on = goes-self d.seat.view;
     }
 
@@ -66,7 +65,6 @@ quiet-then d e f a b =
         λ t r. b.pinned.1 t r ∙ a.pinned.1 t r,
       );
       trail = b.trail ∙ a.trail;
-      visits = b.visits ∙ a.visits;
       goes_on = goes-then d.seat.view e.seat.view f.seat.view a.goes_on b.goes_on;
     }
 
@@ -133,7 +131,6 @@ look-quiet k d e r word kept made =
         (look-same k (LookControl d.seat.dom (record { 0 = r })) (Word word) d.seat.view e.seat.view made tt).pins,
       );
       trail = kept.trail;
-      visits = kept.visits;
       goes_on = (gains.step ∷ [], gains.view);
     }
 

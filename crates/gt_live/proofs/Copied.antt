@@ -1,8 +1,8 @@
 -- A copy at its access: what its routes reach, what the policy allows of it, and how it is answered.
 use Rattle.gt_live.proofs.Moments.{only-access, walk-moments}
 use Rattle.std.proofs.Common.{◌≡◌, ◌+◌, ◌≤◌, ℕ, Bool, true, false, cond, refl, sym, ap, ◌∙◌, subst, List, [], ◌∷◌, ◌++◌}
-use Rattle.std.proofs.Common.{Option, Some, None, inl, inr}
-use Rattle.std.specs.Prelude.{IfErr, IfOk, Result, Ok, Err, is_none}
+use Rattle.std.proofs.Common.{Option, Some, None, inl, inr, arith}
+use Rattle.std.specs.Prelude.{IfErr, IfOk, OnErr, Result, Ok, Err, is_none}
 use Rattle.gt_types.specs.declared.DomId.{DomId}
 use Rattle.gt_types.specs.declared.TypeId.{TypeId}
 use Rattle.gt_types.specs.declared.perms.Perms.{Perms}
@@ -21,7 +21,6 @@ use Rattle.gt_word_history.specs.Rule.{Layout}
 use Rattle.gt_word_history.specs.Views.{IsAmong}
 use Rattle.gt_word_history.specs.declared.view.View.{View}
 use Rattle.gt_frames.specs.Receipts.{Copying}
-use Rattle.gt_access.specs.Accesses.{copying_at}
 use Rattle.gt_access.specs.Routes.{MayCopyBy, MayCopyEach, ReachesBy, named_by, pair_beyond}
 use Rattle.gt_types.specs.declared.places.Spot.{Spot}
 use Rattle.gt_calls.specs.declared.action.Step.TheVariants.{Copy as CopyBytes}
@@ -47,7 +46,8 @@ use Rattle.gt_calls.specs.Rules.{CallerKnowledge, begun, copy_begun, denied, fir
 use Rattle.gt_types.specs.Copies.{is_dest_granted, is_source_granted}
 use Rattle.gt_calls.specs.Rules.{label_of, refused_when, rights_to_copy, via_judged}
 use Rattle.gt_calls.specs.Standing.{pins_by_call}
-use Rattle.gt_live.specs.Accesses.{Accessed, AnsweredAtAccess, IsCopiedBy, IsOfAccess, frame_named, onward}
+use Rattle.gt_live.specs.Accesses.{Accessed, AnsweredAtAccess, CopiesBetween, IsCopiedBy, IsOfAccess, IsUnmade, frame_named, onward}
+use Rattle.gt_live.specs.Driving.{IsSame}
 use Rattle.gt_live.specs.Underway.{AreOfRun, AtAccess, GivesBack, HasTaken}
 use Rattle.gt_live.specs.Walks.{Called, all_shown}
 use Rattle.gt_live.proofs.Accessing.{of-its-frame, serves}
@@ -141,28 +141,38 @@ may-copy c caller a pins opens source dest =
     )
 
 -- a copy that came to its access and gave its pins back is whole
-pub whole-copy : (c : CallerKnowledge) (k : Layout) (call : Call) (from to : Spot) (len : ℕ) (v mid w : View) → AtAccess c k call from to len v mid → GivesBack k (pins_by_call call) mid w
-    → Accessed k (path c call.caller call.request) (CopyBytes from to len) v w × KeepsPins v w
-whole-copy c k call from to len v mid w a g =
+pub copy-whole : (c : CallerKnowledge) (k : Layout) (call : Call) (from to : Spot) (len : ℕ) (does : View → View → Type 0) (v at mid w : View) → AtAccess c k call from to len v at → does at mid → GivesBack k (pins_by_call call) mid w
+    → Accessed k (path c call.caller call.request) (CopyBytes from to len) does v w
+copy-whole c k call from to len does v at mid w a did g =
     let way = path c call.caller call.request in
     let ends : Called k (onward way (all_shown a.comes.steps ++ Nothing ∷ [])) Granted mid w =
     subst (λ (y : Continuation). Called k y Granted mid w) (sym a.ends)
-    (record { steps = g.steps; view = g.view; walked = g.walked; moments = walk-moments k (give_back (last_first (pins_by_call call)) Granted) mid g.steps g.walked; answered = g.ended; carried = tt }) in (
-      record { at = mid; comes = a.comes; ends = ends; only = only-access k way (CopyBytes from to len) v mid w a.comes ends },
-      (g.back v a.taken).pins,
-    )
+    (record { steps = g.steps; view = g.view; walked = g.walked; moments = walk-moments k (give_back (last_first (pins_by_call call)) Granted) mid g.steps g.walked; answered = g.ended; carried = tt }) in
+    record { at = at; after = mid; comes = a.comes; did = did; ends = ends; only = only-access k way (CopyBytes from to len) v at mid w a.comes ends }
+
+-- a copy in two halves is whole
+pub whole-copy : (c : CallerKnowledge) (k : Layout) (call : Call) (from to : Spot) (len : ℕ) (v mid w : View) → AtAccess c k call from to len v mid → GivesBack k (pins_by_call call) mid w
+    → Accessed k (path c call.caller call.request) (CopyBytes from to len) IsUnmade v w × KeepsPins v w
+whole-copy c k call from to len v mid w a g = (copy-whole c k call from to len IsUnmade v mid mid w a refl g, (g.back v a.taken).pins)
 
 -- a copy that came to its access and gave its pins back
-pub made-whole : (c : CallerKnowledge) (k : Layout) (call : Call) (from to : Spot) (len : ℕ) (v mid w : View) (way : Continuation) (writer : DomId) (result : Result Copying Denial) → AtAccess c k call from to len v mid → GivesBack k (pins_by_call call) mid w → way ≡ path c call.caller call.request
-    → IfOk result (λ (r : Copying). r ≡ copying_at from to len writer) → IfErr result IsOfAccess → AnsweredAtAccess k way (IsCopiedBy writer) result v w
-made-whole c k call from to len v mid w way writer result a g same ok err = subst (λ (y : Continuation). AnsweredAtAccess k y (IsCopiedBy writer) result v w) (sym same) (by result ok err)
+pub made-whole : (c : CallerKnowledge) (k : Layout) (call : Call) (from to : Spot) (len : ℕ) (v at mid w : View) (way : Continuation) (writer : DomId) (result : Result Copying Denial) → AtAccess c k call from to len v at → GivesBack k (pins_by_call call) mid w → way ≡ path c call.caller call.request
+    → IfOk result (λ (r : Copying). CopiesBetween k from to len writer r at mid) → OnErr result (mid ≡ at) → IfErr result IsOfAccess → AnsweredAtAccess k way (IsCopiedBy k writer) result v w
+made-whole c k call from to len v at mid w way writer result a g same ok kept err = subst (λ (y : Continuation). AnsweredAtAccess k y (IsCopiedBy k writer) result v w) (sym same) (by result ok kept err)
   where
-    whole : Accessed k (path c call.caller call.request) (CopyBytes from to len) v w
-    whole = (whole-copy c k call from to len v mid w a g).0
+    by : (r : Result Copying Denial) → IfOk r (λ (x : Copying). CopiesBetween k from to len writer x at mid) → OnErr r (mid ≡ at) → IfErr r IsOfAccess → AnsweredAtAccess k (path c call.caller call.request) (IsCopiedBy k writer) r v w
+    by (Ok r) o n e = (CopyBytes from to len, copy-whole c k call from to len (IsCopiedBy k writer (CopyBytes from to len) r) v at mid w a o g)
+    by (Err denial) o n e = inr (CopyBytes from to len, copy-whole c k call from to len IsUnmade v at mid w a n g, e)
 
-    by : (r : Result Copying Denial) → IfOk r (λ (x : Copying). x ≡ copying_at from to len writer) → IfErr r IsOfAccess → AnsweredAtAccess k (path c call.caller call.request) (IsCopiedBy writer) r v w
-    by (Ok r) o e = (CopyBytes from to len, whole, o)
-    by (Err denial) o e = inr (CopyBytes from to len, whole, e)
+-- the pins that a copy took are there after its access
+pub taken-still : (k : Layout) (taken : List HeldPin) (v at mid : View) → HasTaken k taken v at → IsSame at mid → HasTaken k taken v mid
+taken-still k taken v at mid x same = record {
+  pins = λ t r. same.pins t r ∙ x.pins t r;
+  records = λ r. same.records r ∙ x.records r;
+  seen = λ t r. let one = x.seen t r in let two = same.seen t r in omega (arith, one, two);
+  position = same.position ∙ x.position;
+  ids = same.ids ∙ x.ids;
+}
 
 -- what the routes to both ends reach
 pub reaches-source : (c : CallerKnowledge) (k : Layout) (s : SeatOf) (request : OpenRequest) (pins : CallPins) (from to : Spot) (len : ℕ) (v : View) → RestsOnWays c s.dom request pins from to len → HasTaken k (last_first pins) v s.view → AreOfRun k (last_first pins)

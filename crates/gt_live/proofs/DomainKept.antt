@@ -120,6 +120,10 @@ looked b c may d e is seat dom own slots same = record {
   pins = same-pins b c may d e is slots same.pins;
 }
 
+-- after an access
+pub reseated : (b : Board) (c : Config) (may : AllowRelation) (d : Domain) (s : SeatOf) → IsDomainOf b c may d → IsSameSeat d.seat s → IsSame d.seat.view s.view → IsDomainOf b c may (record d { seat = s })
+reseated b c may d s is seat same = looked b c may d (record d { seat = s }) is (still_seat b d.seat s is.seat seat) seat.dom refl refl same
+
 -- after an owner's change of one of its entries
 pub changed : (b : Board) (c : Config) (may : AllowRelation) (d e : Domain) (request : OpenRequest) (q : ℕ) (ch : EntryChange) → IsDomainOf b c may d → IsSameSeat d.seat e.seat → e.mappings.slots ≡ d.mappings.slots → e.own.items ≡ row_changed d.own.items q ch
     → ChangesBy (knowledge c may d) b.layout request q ch d.seat.view e.seat.view → IsDomainOf b c may e

@@ -20,7 +20,6 @@ pub mod Told
 pub mod Questions
 pub mod Legs
 pub mod Tries
-pub mod Visiting
 pub mod NewDomain
 pub mod Taking
 pub mod Copying

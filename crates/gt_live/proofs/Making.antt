@@ -4,6 +4,8 @@ use Rattle.std.proofs.lemmas.Bool.{cases_eq}
 use Rattle.gt_entry.specs.declared.change.BodyWord.{BodyWord}
 use Rattle.gt_words.specs.Conditions.{Board, IsSameSeat, IsSeatOf, Keeps, SeatOf}
 use Rattle.gt_words.specs.Answers.{StoresBody}
+use Rattle.gt_words.specs.Frames.{AccessesFrame}
+use Rattle.gt_word_history.specs.declared.view.FrameStep.{FrameStep}
 use Rattle.gt_word_history.specs.Rule.{Layout, id_at}
 use Rattle.gt_word_history.specs.Views.{last_of, with_step}
 use Rattle.gt_word_history.specs.Events.{TookPlace}
@@ -82,8 +84,15 @@ made-fits k (Exchange q looked Promote) (Missed n) v w m = m.another
 made-fits k _ _ v w m = absurd m
 
 -- the seat keeps what it knew
-kept-same : (v w : View) (past : StepHistory) (s : SeatStep) → w ≡ with_step past s v → Keeps v w → IsSame v w
+pub kept-same : (v w : View) (past : StepHistory) (s : SeatStep) → w ≡ with_step past s v → Keeps v w → IsSame v w
 kept-same v w past s e keeps = record { pins = keeps.pins; records = keeps.rows.last; seen = keeps.seen; position = ap (λ (u : View). u.position) e; ids = ap (λ (u : View). u.ids) e }
+
+-- an access keeps what the seat knew
+pub accessed_same : (k : Layout) (t f : ℕ) (m : FrameStep) (v w : View) → AccessesFrame k t f m v w → IsSame v w
+accessed_same k t f m v w a = kept-same v w _ _ a.view a.keeps
+
+pub viewed_same : (v w : View) → w ≡ v → IsSame v w
+viewed_same v w e = subst (λ (u : View). IsSame v u) (sym e) (record { pins = λ t r. refl; records = λ r. refl; seen = λ t r. omega arith; position = refl; ids = refl })
 
 pub same-self : (v : View) → IsSame v v
 same-self v = record { pins = λ t r. refl; records = λ r. refl; seen = λ t r. omega arith; position = refl; ids = refl }

@@ -122,9 +122,9 @@ at_its_end k way v (y ∷ ys) walk vs (a ∷ bs) s e next is =
     absurd (no_access k s (shown_by y) (view_after ys v) (view_after (y ∷ ys) v) made is)
 
 -- a call that came to its access and went on to its end makes no other
-pub only-access : (k : Layout) (way : Continuation) (access : Step) (v mid w : View) (comes : ComesTo k way access v mid) (ends : Called k (onward way (all_shown comes.steps ++ Nothing ∷ [])) Granted mid w)
+pub only-access : (k : Layout) (way : Continuation) (access : Step) (v at mid w : View) (comes : ComesTo k way access v at) (ends : Called k (onward way (all_shown comes.steps ++ Nothing ∷ [])) Granted mid w)
     → IsOnlyAccess way (all_shown comes.steps) ((all_shown comes.steps ++ Nothing ∷ []) ++ all_shown ends.steps)
-only-access k way access v mid w comes ends vs rest s e next is = ⊎_elim before behind (within_parts (all_shown comes.steps ++ Nothing ∷ []) (all_shown ends.steps) vs rest e)
+only-access k way access v at mid w comes ends vs rest s e next is = ⊎_elim before behind (within_parts (all_shown comes.steps ++ Nothing ∷ []) (all_shown ends.steps) vs rest e)
   where
     before : (a : Observation) × (m : List Observation) × ((all_shown comes.steps ++ Nothing ∷ []) ≡ vs ++ a ∷ m) → vs ≡ all_shown comes.steps
     before q =

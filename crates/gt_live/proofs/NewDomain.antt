@@ -45,8 +45,8 @@ rows-length first = same-length TABLE_ENTRIES (record { entry = Invalid; generat
 nothing-there : (s : HandleMap HeldPin) (h : Handle) (m : HeldPin) → s.slots ≡ [] → value_of s h ≡ Some m → ⊥
 nothing-there s h m e there = let none : value_of s h ≡ None = ap (λ (xs : List (Option (HandleSlot HeldPin))). under h.serial (get_or xs h.key None)) e in cc
 
-pub new-domain : (b : Board) (c : Config) (may : AllowRelation) (i : ℕ) (d : Domain) → IsRunnable c → b.layout ≡ layout_of c → IsNewSeat b i d.seat → d.own.items ≡ first_rows c.first_gen → d.mappings ≡ record { slots = []; given = 0; room = 0 } → d.trail ≡ silent → d.visits ≡ [] → IsNewDomain b c may i d
-new-domain b c may i d limits run new own mappings trail visits =
+pub new-domain : (b : Board) (c : Config) (may : AllowRelation) (i : ℕ) (d : Domain) → IsRunnable c → b.layout ≡ layout_of c → IsNewSeat b i d.seat → d.own.items ≡ first_rows c.first_gen → d.mappings ≡ record { slots = []; given = 0; room = 0 } → d.trail ≡ silent → IsNewDomain b c may i d
+new-domain b c may i d limits run new own mappings trail =
     let v = d.seat.view in
     let first : v.first ≡ c.first_gen = new.first ∙ ap (λ (k : Layout). k.first) run in
     let few = limits.generation in
@@ -69,5 +69,4 @@ new-domain b c may i d limits run new own mappings trail visits =
       seat = new;
       mappings = mappings;
       trail = trail;
-      visits = visits;
     }

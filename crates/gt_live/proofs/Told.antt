@@ -36,7 +36,6 @@ told may m d f e request call reply verdict stays quiet tells is same =
       subst (λ (x : Domain). KeepsPinned d x) (sym same) quiet.1,
       subst (λ (t : Telling). Tells t (told_of d call verdict) e.trail) quiet.2
           (subst (λ (x : Record). Tells f.trail x e.trail) r tells),
-      ap (λ (x : Domain). x.visits) same ∙ quiet.3,
     )
 
 pub told-stays : {P : Type 0} (may : P → AllowRelation) (m : Monitor P) (d f e : Domain) → StaysIn may m d f

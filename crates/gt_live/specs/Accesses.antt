@@ -3,6 +3,10 @@ use Rattle.std.specs.Prelude.{◌≡◌, ◌⊎◌, ℕ, List, [], ◌∷◌, �
 use Rattle.gt_live.specs.Prelude.{DomId, Denial, N16, N26, NoFacts, denial_of, Layout, Moment, View, Copying, Reading}
 use Rattle.gt_live.specs.Prelude.{Writing, FrameName, IsReadOf, copying_at, writing_at, Makes, Observation}
 use Rattle.gt_live.specs.Prelude.{Nothing, Step, ReadBytes, WriteBytes, CopyBytes, Granted, Refused, Continuation}
+use Rattle.gt_live.specs.Prelude.{position_in, Spot}
+use Rattle.gt_frames.specs.declared.writ.Writ.{Writ}
+use Rattle.gt_word_history.specs.declared.view.FrameStep.TheVariants as frames
+use Rattle.gt_words.specs.Frames.{AccessesFrame, CopiesFrames}
 use Rattle.gt_live.specs.Walks.{AreMoments, Called, IsWalk, view_after, all_shown}
 pub use Rattle.gt_calls.specs.Standing.{IsAccess}
 
@@ -26,47 +30,77 @@ abbrev pub IsOnlyAccess : Continuation → List Observation → List Observation
 IsOnlyAccess way before whole =
     (vs rest : List Observation) (s : Step) → whole ≡ vs ++ rest → way vs ≡ Some (Makes s) → IsAccess s → vs ≡ before
 
--- a call with this access was made whole: it reached the access, which shows nothing, and continued from there to its
--- end, where its path is Ok. The access comes after the steps on the words that led to it and before the steps to the
--- end, and the call made no other access
-pub record Accessed (k : Layout) (way : Continuation) (access : Step) (v w : View) : Type 0 where
+-- a call with this access was made whole: it reached the access, which did this to its seat's view and shows nothing,
+-- and continued from there to its end, where its path is Ok. The access comes after the steps on the words that led to
+-- it and before the steps to the end, and the call made no other access
+pub record Accessed (k : Layout) (way : Continuation) (access : Step) (does : View → View → Type 0) (v w : View)
+    : Type 0 where
   pub at : View
+  pub after : View
   pub comes : ComesTo k way access v at
-  pub ends : Called k (onward way (all_shown comes.steps ++ Nothing ∷ [])) Granted at w
+  pub did : does at after
+  pub ends : Called k (onward way (all_shown comes.steps ++ Nothing ∷ [])) Granted after w
   pub only : IsOnlyAccess way (all_shown comes.steps) ((all_shown comes.steps ++ Nothing ∷ []) ++ all_shown ends.steps)
+
+-- the access was not made
+abbrev pub IsUnmade : View → View → Type 0
+IsUnmade v w = w ≡ v
 
 -- the refusal of an access that was not made: allocation failed, or the frame was missing or had another name
 abbrev pub IsOfAccess : Denial → Type 0
 IsOfAccess denial = (denial ≡ denial_of N26 NoFacts) ⊎ (denial ≡ denial_of N16 NoFacts)
 
--- the result of a call with an access. Ok: its whole path was made, and the value is of the access. A refusal: it is
--- the path's own; or the access could not be made, and the call still continued to its end, which releases its pins
-abbrev pub AnsweredAtAccess : {R : Type 0} → Layout → Continuation → (Step → R → Type 0) → Result R Denial → View → View
+-- the result of a call with an access. Ok: its whole path was made, and the value is that of the access as it was made.
+-- A refusal: it is the path's own; or the access could not be made, and the call still continued to its end, which
+-- releases its pins
+abbrev pub AnsweredAtAccess : {R : Type 0} → Layout → Continuation → (Step → R → View → View → Type 0)
+    → Result R Denial → View → View
     → Type 0
-AnsweredAtAccess k way tells (Ok r) v w = (access : Step) × Accessed k way access v w × tells access r
-AnsweredAtAccess k way tells (Err denial) v w =
-    Called k way (Refused denial) v w ⊎ ((access : Step) × Accessed k way access v w × IsOfAccess denial)
+AnsweredAtAccess k way makes (Ok r) v w = (access : Step) × Accessed k way access (makes access r) v w
+AnsweredAtAccess k way makes (Err denial) v w =
+    Called k way (Refused denial) v w ⊎ ((access : Step) × Accessed k way access IsUnmade v w × IsOfAccess denial)
 
 -- the name of the frame with this number of this owner
 abbrev pub frame_named : DomId → ℕ → FrameName
 frame_named owner number = record { owner = owner; number = number }
 
--- these are bytes of exactly the frame and range that the access reads
-abbrev pub IsReadBy : Step → Reading → Type 0
-IsReadBy (ReadBytes dom frame off len) r = IsReadOf r (frame_named dom frame) off len
-IsReadBy step r = ⊥
+-- the seat read this many bytes of the frame, as one step of the history: the receipt has the bytes of that step
+abbrev pub ReadsFrame : Layout → FrameName → ℕ → ℕ → Reading → View → View → Type 0
+ReadsFrame k name off len r v w =
+    IsReadOf r name off len
+    × AccessesFrame k (position_in k.ids name.owner) name.number (frames.Read off r.bytes) v w
+
+-- the writer wrote these bytes to the frame, as one step of the history
+abbrev pub WritesFrame : Layout → FrameName → ℕ → List ℕ → DomId → Writing → View → View → Type 0
+WritesFrame k name off bytes writer r v w =
+    (r ≡ writing_at name off bytes writer)
+    × ((u : Writ) × (u.writer ≡ writer)
+    × AccessesFrame k (position_in k.ids name.owner) name.number
+    (frames.Wrote (record { writ = u; off = off; bytes = bytes })) v w)
+
+-- the writer copied this many bytes from one place to the other, as one step of the history
+abbrev pub CopiesBetween : Layout → Spot → Spot → ℕ → DomId → Copying → View → View → Type 0
+CopiesBetween k from to len writer r v w =
+    (r ≡ copying_at from to len writer)
+    × ((u : Writ) × (u.writer ≡ writer) × CopiesFrames k from to len u v w)
+
+-- the access read exactly its frame and range
+abbrev pub IsReadBy : Layout → Step → Reading → View → View → Type 0
+IsReadBy k (ReadBytes dom frame off len) r v w = ReadsFrame k (frame_named dom frame) off len r v w
+IsReadBy k step r v w = ⊥
 
 -- if the read was made, the caller's buffer has the bytes read; if it was refused, the buffer is unchanged
 abbrev pub Fills : Result Reading Denial → List ℕ → List ℕ → Type 0
 Fills (Ok r) old new = new ≡ r.bytes
 Fills (Err denial) old new = new ≡ old
 
--- this writer wrote these bytes to exactly the frame and range that the access writes
-abbrev pub IsWrittenBy : DomId → List ℕ → Step → Writing → Type 0
-IsWrittenBy writer bytes (WriteBytes dom frame off len) r = r ≡ writing_at (frame_named dom frame) off bytes writer
-IsWrittenBy writer bytes step r = ⊥
+-- this writer wrote these bytes to exactly the frame and range of the access
+abbrev pub IsWrittenBy : Layout → DomId → List ℕ → Step → Writing → View → View → Type 0
+IsWrittenBy k writer bytes (WriteBytes dom frame off len) r v w =
+    WritesFrame k (frame_named dom frame) off bytes writer r v w
+IsWrittenBy k writer bytes step r v w = ⊥
 
 -- this writer copied exactly the access's number of bytes between the access's places
-abbrev pub IsCopiedBy : DomId → Step → Copying → Type 0
-IsCopiedBy writer (CopyBytes from to len) r = r ≡ copying_at from to len writer
-IsCopiedBy writer step r = ⊥
+abbrev pub IsCopiedBy : Layout → DomId → Step → Copying → View → View → Type 0
+IsCopiedBy k writer (CopyBytes from to len) r v w = CopiesBetween k from to len writer r v w
+IsCopiedBy k writer step r v w = ⊥

@@ -14,12 +14,11 @@ use Rattle.gt_live.specs.Walks.{Made, view_after}
 abbrev pub GoesOn : View → View → Type 0
 GoesOn v w = (steps : List Moment) × (w ≡ view_after steps v)
 
--- the domain continues with the seat, mappings, pins and records that it had, and locked no frame
+-- the domain continues with the seat, mappings, pins and records that it had
 pub record StaysQuiet (d e : Domain) : Type 0 where
   pub seat : IsSameSeat d.seat e.seat
   pub pinned : KeepsPinned d e
   pub trail : e.trail ≡ d.trail
-  pub visits : e.visits ≡ d.visits
   pub goes_on : GoesOn d.seat.view e.seat.view
 
 -- a control with pins, of either kind

@@ -10,13 +10,11 @@ use Rattle.gt_live.specs.Prelude.{path_of, CallerKnowledge, knowledge_of}
 use Rattle.gt_live.specs.Prelude.{entry_in}
 use Rattle.gt_live.specs.Prelude.{own_generation, Domain, Departed, Monitor, NotMade, Gone, OutOfMemory, Step}
 use Rattle.gt_audit.specs.Telling.{Tells}
-use Rattle.gt_access.specs.Visits.{FrameAccess}
 use Rattle.gt_audit.specs.declared.record.Hypercall.TheVariants as hypercalls
 use Rattle.gt_audit.specs.declared.record.Reply.TheVariants as replies
 use Rattle.gt_live.specs.Mappings.{AddsMapping, IsMappingOf, KeepsMappings, PinsAreOf, Removes}
 use Rattle.gt_live.specs.Accesses.{AnsweredAtAccess}
 use Rattle.gt_live.specs.Ending.{IsWordless}
-use Rattle.gt_live.specs.Visiting.{HasVisited}
 use Rattle.gt_live.specs.Walks.{AreMoments, Called, view_after}
 
 -- which type may do what to which type (XSM FLASK)
@@ -53,11 +51,11 @@ abbrev pub Answered : {P : Type 0} → (P → AllowRelation) → Monitor P → D
 Answered may m d request verdict e =
     Called m.words.layout (path_of (known_on may m d) d.seat.dom request) verdict d.seat.view e.seat.view
 
--- the same for a call with an access, whose value agrees with that access (tells)
-abbrev pub Accesses : {P R : Type 0} → (P → AllowRelation) → Monitor P → Domain → Request → (Step → R → Type 0)
-    → Result R Denial → Domain → Type 0
-Accesses may m d request tells result e =
-    AnsweredAtAccess m.words.layout (path_of (known_on may m d) d.seat.dom request) tells result d.seat.view e.seat.view
+-- the same for a call with an access, which makes this of the seat's view with its value
+abbrev pub Accesses : {P R : Type 0} → (P → AllowRelation) → Monitor P → Domain → Request
+    → (Step → R → View → View → Type 0) → Result R Denial → Domain → Type 0
+Accesses may m d request makes result e =
+    AnsweredAtAccess m.words.layout (path_of (known_on may m d) d.seat.dom request) makes result d.seat.view e.seat.view
 
 -- the domain has the same mappings and pins as before
 abbrev pub KeepsPinned : Domain → Domain → Type 0
@@ -111,7 +109,6 @@ pub record IsUnsettled (d e : Domain) : Type 0 where
   pub own : e.own ≡ d.own
   pub mappings : e.mappings ≡ d.mappings
   pub trail : e.trail ≡ d.trail
-  pub visits : e.visits ≡ d.visits
 
 -- a domain of a run is still one of it
 abbrev pub StaysOfRun : Domain → Domain → Type 0
@@ -185,29 +182,26 @@ told_by (replies.Denied denial) = Refused denial
 abbrev pub told_of : Domain → Hypercall → CallResult → Record
 told_of d call verdict = record { dom = d.seat.dom; call = call; reply = reply_of verdict }
 
--- a call that is not recorded had this result: the domain has the same mappings, pins and records as before, and locked
--- no frame
+-- a call that is not recorded had this result: the domain has the same mappings, pins and records as before
 abbrev pub AnswersQuietly : {P : Type 0} → (P → AllowRelation) → Monitor P → Domain → Request → CallResult → Domain
     → Type 0
 AnswersQuietly may m d request verdict e =
-    Answered may m d request verdict e × KeepsPinned d e × (e.trail ≡ d.trail) × (e.visits ≡ d.visits)
+    Answered may m d request verdict e × KeepsPinned d e × (e.trail ≡ d.trail)
 
 -- a call that is recorded had this result: the domain has the same mappings and pins as before, and one more record, of
--- this call, which is kept or counted as lost; it locked no frame
+-- this call, which is kept or counted as lost
 abbrev pub AnswersTold : {P : Type 0} → (P → AllowRelation) → Monitor P → Domain → Request → Hypercall → CallResult
     → Domain
     → Type 0
 AnswersTold may m d request call verdict e =
     Answered may m d request verdict e × KeepsPinned d e × Tells d.trail (told_of d call verdict) e.trail
-    × (e.visits ≡ d.visits)
 
--- an access to one frame had this result: the domain has the same mappings, pins and records as before, and the value
--- is what it did to the frame under its lock
-abbrev pub AccessesQuietly : {P R : Type 0} → (P → AllowRelation) → Monitor P → Domain → Request → (Step → R → Type 0)
-    → (R → List FrameAccess → Type 0) → Result R Denial → Domain → Type 0
-AccessesQuietly may m d request tells did result e =
-    Accesses may m d request tells result e × KeepsPinned d e × (e.trail ≡ d.trail)
-    × HasVisited did result d.visits e.visits
+-- a call with an access that is not recorded had this result: the domain has the same mappings, pins and records as
+-- before
+abbrev pub AccessesQuietly : {P R : Type 0} → (P → AllowRelation) → Monitor P → Domain → Request
+    → (Step → R → View → View → Type 0) → Result R Denial → Domain → Type 0
+AccessesQuietly may m d request makes result e =
+    Accesses may m d request makes result e × KeepsPinned d e × (e.trail ≡ d.trail)
 
 -- the domain still belongs to this monitor's run, with the same seat
 abbrev pub StaysIn : {P : Type 0} → (P → AllowRelation) → Monitor P → Domain → Domain → Type 0

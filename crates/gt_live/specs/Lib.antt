@@ -1,4 +1,3 @@
-pub mod Visiting
 pub mod Walks
 pub mod Accesses
 pub mod Mappings

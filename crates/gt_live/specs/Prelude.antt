@@ -1,8 +1,8 @@
 -- Names from other crates, and from the code, that these definitions use.
 pub use Rattle.gt_access.specs.Accesses.{IsReadOf, copying_at, writing_at}
 pub use Rattle.gt_access.specs.Routes.{MayCopyBy, ReachesBy}
-pub use Rattle.gt_access.specs.declared.by.AccessFault.{AccessFault as NotMade}
-pub use Rattle.gt_access.specs.declared.by.AccessFault.TheVariants.{Gone, Memory as OutOfMemory}
+pub use Rattle.gt_words.specs.declared.frames.AccessFault.{AccessFault as NotMade}
+pub use Rattle.gt_words.specs.declared.frames.AccessFault.TheVariants.{Gone, Memory as OutOfMemory}
 pub use Rattle.gt_audit.specs.declared.record.Hypercall.{Hypercall}
 pub use Rattle.gt_audit.specs.declared.record.Record.{Record}
 pub use Rattle.gt_audit.specs.declared.record.Reply.{Reply}

@@ -16,12 +16,10 @@ use Rattle.gt_live.specs.declared.domain.Domain.{Domain}
 unfoldable pub first_rows : ℕ → List OwnerEntry
 first_rows first = replicate TABLE_ENTRIES (record { entry = Invalid; generation = first })
 
--- the domain at the position i, which has made no call: no step, no mapping, no handle given, no record, and no frame
--- locked
+-- the domain at the position i, which has made no call: no step, no mapping, no handle given and no record
 pub record IsNewDomain (b : Board) (c : Config) (may : TypeId → TypeId → Perms → Bool) (i : ℕ)
     (d : Domain) : Type 0 where
   pub domain : IsDomainOf b c may d
   pub seat : IsNewSeat b i d.seat
   pub mappings : d.mappings ≡ record { slots = []; given = 0; room = 0 }
   pub trail : d.trail ≡ silent
-  pub visits : d.visits ≡ []

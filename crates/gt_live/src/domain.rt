@@ -24,7 +24,6 @@ mod table_calls;
 use crate::driving::pin_of;
 use crate::monitor::Monitor;
 pub use copies::PendingCopy;
-use gt_access::FrameAccesses;
 use gt_audit::{Hypercall, Record, Reply, Trail};
 use gt_calls::{
     CallResult, CallValue, CallerState, Handle, Handles, HeldPin, OwnerEntry, own_entry, size_in,
@@ -42,7 +41,6 @@ pub struct Domain {
     own: Vec<OwnerEntry>,
     mappings: Handles<HeldPin>,
     trail: Trail,
-    visits: FrameAccesses,
 }
 
 /// What a domain leaves behind: its records, and its seat, which makes no more steps.
@@ -242,7 +240,6 @@ impl Domain {
         own: Vec<OwnerEntry>,
         mappings: Handles<HeldPin>,
         trail: Trail,
-        visits: FrameAccesses,
     ) -> Domain
         ensures { result ≡ record {
           alloc = alloc;
@@ -250,7 +247,6 @@ impl Domain {
           own = own;
           mappings = mappings;
           trail = trail;
-          visits = visits;
         } }
     {
         Domain {
@@ -259,7 +255,6 @@ impl Domain {
             own,
             mappings,
             trail,
-            visits,
         }
     }
 
@@ -304,7 +299,7 @@ impl Domain {
         self.trail.take(next)
     }
 
-    /// Lends the domain's seat. An access to a locked frame is justified by the pins of that seat.
+    /// Lends the domain's seat. An access to a frame is justified by the pins of that seat.
     pub fn seat(&self) -> &Seat
         ensures { result.now ≡ self.now.seat }
     {
@@ -395,7 +390,6 @@ impl Domain {
             own: _,
             mappings: _,
             trail,
-            visits: _,
         } = self;
         Departed { trail, seat }
     }

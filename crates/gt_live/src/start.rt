@@ -1,14 +1,16 @@
 //! The start of a run.
-ghost use Rattle.std.specs.Prelude.{◌≡◌, ◌+◌, ◌<◌, ◌≤◌, ℕ, length, replicate, All, HoldsAt, IfOk, IfErr, OnOk, []};
+ghost use Rattle.std.specs.Prelude.{◌≡◌, ◌+◌, ◌<◌, ◌≤◌, ℕ, length, replicate, All, HoldsAt, IfOk, IfErr, OnOk};
 ghost use Rattle.gt_types.specs.Config.{IsWithinLimits};
 ghost use Rattle.gt_word_history.specs.Rule.{layout_of};
 ghost use Rattle.gt_words.specs.Answers.{IsNewSeat, IsStartFault};
 ghost use Rattle.gt_roster.specs.Frameless.{IsFramelessFault, IsRunnable};
 ghost use Rattle.gt_live.specs.Starting.{first_rows, IsNewDomain};
+ghost use Rattle.gt_shared_table.specs.Words.{frames_kept};
+ghost use Rattle.gt_types.specs.declared.places.FrameName.{FrameName};
+ghost use Rattle.gt_words.specs.Frames.{KeepsFrame};
 
 use crate::domain::Domain;
 use crate::monitor::Monitor;
-use gt_access::{FrameAccesses, Pool};
 use gt_audit::Trail;
 use gt_calls::{ENTRIES, Handles, OwnerEntry};
 use gt_roster::{
@@ -29,21 +31,15 @@ fn first_rows(alloc: Global, first_gen: u32) -> Result<Vec<OwnerEntry>, AllocErr
     Ok(rows)
 }
 
-// Makes the rows of a domain for each of these lists of accesses.
-fn all_rows(
-    alloc: Global,
-    first_gen: u32,
-    all_visits: Vec<FrameAccesses>,
-) -> Result<Vec<(Vec<OwnerEntry>, FrameAccesses)>, AllocError>
+// Makes the rows of this number of domains.
+fn all_rows(alloc: Global, first_gen: u32, count: usize) -> Result<Vec<Vec<OwnerEntry>>, AllocError>
     requires first { first_gen < 1048576 }
-    requires none { All (λ visits. visits ≡ []) all_visits.items }
-    ensures count { IfOk result (λ v. length v.items ≡ length all_visits.items) }
-    ensures rows { IfOk result (λ v. All (λ w. (w.0.items ≡ first_rows first_gen) × (w.1 ≡ [])) v.items) }
+    ensures count { IfOk result (λ v. length v.items ≡ count) }
+    ensures rows { IfOk result (λ v. All (λ w. w.items ≡ first_rows first_gen) v.items) }
 {
     let mut all = Vec::new(alloc);
-    let mut rest = all_visits.into_iter();
-    'rows: while let Some(visits) = rest.next() {
-        all.push((first_rows(alloc, first_gen)?, visits))?;
+    'rows: for at in 0..count {
+        all.push(first_rows(alloc, first_gen)?)?;
     }
     Ok(all)
 }
@@ -53,7 +49,6 @@ fn make_domains<P: Allows>(
     alloc: Global,
     monitor: &Monitor<P>,
     mut seats: Vec<Seat>,
-    all_visits: Vec<FrameAccesses>,
     first_gen: u32,
 ) -> Result<Vec<Domain>, AllocError>
     requires config { IsRunnable monitor.now.config }
@@ -61,22 +56,20 @@ fn make_domains<P: Allows>(
     requires count { length seats.items ≡ length monitor.now.config.domains.items }
     requires seats { (i : ℕ) → i < length monitor.now.config.domains.items
         → HoldsAt (λ s. IsNewSeat monitor.now.words i s) seats.items i }
-    requires visits { (length all_visits.items ≡ length monitor.now.config.domains.items)
-        × All (λ visits. visits ≡ []) all_visits.items }
     ensures count { IfOk result (λ v. length v.items ≡ length monitor.now.config.domains.items) }
     ensures domains { IfOk result (λ v.
         (i : ℕ) → i < length monitor.now.config.domains.items
         → HoldsAt (λ d. IsNewDomain monitor.now.words monitor.now.config (P.may monitor.now.rights) i d) v.items i) }
 {
     let count = seats.len();
-    let mut rows = all_rows(alloc, first_gen, all_visits)?;
+    let mut rows = all_rows(alloc, first_gen, count)?;
     let mut domains = Vec::with_capacity(alloc, count)?;
     'domains: for at in 0..count {
         let seat = seats.remove(0);
-        if let Some((own, visits)) = rows.pop() {
+        if let Some(own) = rows.pop() {
             let mappings = Handles::new(alloc);
             let trail = Trail::new(alloc);
-            domains.push_reserved(Domain::new(alloc, seat, own, mappings, trail, visits));
+            domains.push_reserved(Domain::new(alloc, seat, own, mappings, trail));
         }
     }
     Ok(domains)
@@ -87,6 +80,7 @@ fn make_domains<P: Allows>(
 fn frameless_words(alloc: Global, config: Config) -> Result<(Words, Vec<Seat>, Roster), StartFault>
     ensures ok { OnOk result (IsRunnable config) }
     ensures words { IfOk result (λ r. r.0.layout ≡ layout_of config) }
+    ensures frames { IfOk result (λ r. (name : FrameName) → KeepsFrame r.0 name → ⊥) }
     ensures roster { IfOk result (λ r. r.2 ≡ config) }
     ensures count { IfOk result (λ r. length r.1.items ≡ length config.domains.items) }
     ensures seats { IfOk result (λ r. (i : ℕ) → i < length config.domains.items
@@ -97,7 +91,7 @@ fn frameless_words(alloc: Global, config: Config) -> Result<(Words, Vec<Seat>, R
     let Ok(one_frame) = with_one_frame(alloc, &config) else {
         return Err(StartFault::Memory);
     };
-    let (words, seats) = match Words::new(alloc, &one_frame) {
+    let (words, seats) = match Words::without_frames(alloc, &one_frame) {
         Ok(made) => made,
         Err(fault) => return Err(fault),
     };
@@ -121,6 +115,7 @@ impl<P: Allows + Drop> Monitor<P> {
     ) -> Result<(Monitor<P>, Vec<Domain>), StartFault>
         ensures ok { OnOk result (IsWithinLimits config) }
         ensures run { IfOk result (λ r. (r.0.config ≡ config) × (r.0.rights ≡ rights)) }
+        ensures frames { IfOk result (λ r. r.0.words.frames ≡ frames_kept config) }
         ensures count { IfOk result (λ r. length r.1.items ≡ length config.domains.items) }
         ensures domains { IfOk result (λ r.
             (i : ℕ) → i < length config.domains.items
@@ -132,9 +127,6 @@ impl<P: Allows + Drop> Monitor<P> {
             Ok(made) => made,
             Err(fault) => return Err(fault),
         };
-        let Ok((pool, visits)) = Pool::new(alloc, &config) else {
-            return Err(StartFault::Memory);
-        };
         let first_gen = config.first_gen;
         let Ok(config) = Roster::new(alloc, config) else {
             return Err(StartFault::Memory);
@@ -144,9 +136,8 @@ impl<P: Allows + Drop> Monitor<P> {
             config,
             rights,
             words,
-            pool,
         };
-        match make_domains(alloc, &monitor, seats, visits, first_gen) {
+        match make_domains(alloc, &monitor, seats, first_gen) {
             Ok(domains) => Ok((monitor, domains)),
             Err(AllocError) => Err(StartFault::Memory),
         }
@@ -164,7 +155,8 @@ impl<P: Allows + Drop> Monitor<P> {
         rights: P,
     ) -> Result<(Monitor<P>, Vec<Domain>), StartFault>
         ensures ok { OnOk result (IsRunnable config) }
-        ensures run { IfOk result (λ r. (r.0.config ≡ config) × (r.0.rights ≡ rights) × (r.0.pool ≡ [])) }
+        ensures run { IfOk result (λ r. (r.0.config ≡ config) × (r.0.rights ≡ rights)) }
+        ensures frames { IfOk result (λ r. (name : FrameName) → KeepsFrame r.0.words name → ⊥) }
         ensures count { IfOk result (λ r. length r.1.items ≡ length config.domains.items) }
         ensures domains { IfOk result (λ r.
             (i : ℕ) → i < length config.domains.items
@@ -172,21 +164,17 @@ impl<P: Allows + Drop> Monitor<P> {
         ensures mine { IfOk result (λ r. All (λ d. BelongsTo P.may r.0 d) r.1.items) }
         ensures err { IfErr result (IsFramelessFault config) }
     {
-        let (count, first_gen) = (config.domains.len(), config.first_gen);
+        let first_gen = config.first_gen;
         let (words, seats, config) = match frameless_words(alloc, config) {
             Ok(made) => made,
             Err(fault) => return Err(fault),
-        };
-        let Ok((pool, visits)) = Pool::empty(alloc, count) else {
-            return Err(StartFault::Memory);
         };
         let monitor = Monitor {
             config,
             rights,
             words,
-            pool,
         };
-        match make_domains(alloc, &monitor, seats, visits, first_gen) {
+        match make_domains(alloc, &monitor, seats, first_gen) {
             Ok(domains) => Ok((monitor, domains)),
             Err(AllocError) => Err(StartFault::Memory),
         }

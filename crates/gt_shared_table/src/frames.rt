@@ -1,5 +1,5 @@
 //! The calls that access frames. Each is one step of the history. Only these calls may wait.
-ghost use Rattle.std.specs.Prelude.{◌≡◌, ◌≢◌, ◌+◌, ◌≤◌, length, IfOk, OnErr, OnOk, IsTrue};
+ghost use Rattle.std.specs.Prelude.{◌≡◌, ◌≢◌, ◌+◌, ◌≤◌, ◌↔◌, length, IfOk, OnErr, OnOk, IsTrue};
 ghost use Rattle.gt_frames.specs.Frames.{covers};
 ghost use Rattle.gt_types.specs.declared.limits.TheConstants.{FRAME_SIZE};
 ghost use Rattle.gt_word_history.specs.Rule.{id_at};
@@ -15,6 +15,17 @@ use gt_types::{Memory, Range};
 use std::sync::Wait;
 
 impl SharedTable {
+    /// Returns whether the table has the frame.
+    #[inline]
+    pub fn has_frame(&self, frame: FrameIndex) -> bool
+        ensures { IsTrue result ↔ HasFrame self.now frame }
+    {
+        match self.frames.get(frame.position) {
+            Some(count) => frame.number < *count,
+            None => false,
+        }
+    }
+
     /// Reads a frame, starting at `off`, into all of `out`. Waits while another seat has the frame. The bytes are those
     /// that the steps before this one make.
     pub fn read_frame<R: Wait>(

@@ -45,6 +45,17 @@ pub(crate) fn first_slots(alloc: Global, config: &Config) -> Result<Vec<usize>, 
     Ok(slots)
 }
 
+// Returns the number of frames of each domain.
+pub(crate) fn frames_kept(alloc: Global, config: &Config) -> Result<Vec<u64>, AllocError>
+    ensures { IfOk result (λ counts. counts.items ≡ frames_kept config.now) }
+{
+    let mut counts = Vec::new(alloc);
+    'domains: for domain in &config.domains {
+        counts.push(u64::from(domain.frames))?;
+    }
+    Ok(counts)
+}
+
 // Puts each frame into a slot.
 pub(crate) fn in_slots(alloc: Global, frames: Vec<Frame>) -> Result<Vec<Option<Frame>>, AllocError>
     ensures { IfOk result (λ slots. slots.items ≡ map (λ f. Some f) frames.items) }

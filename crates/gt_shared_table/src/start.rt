@@ -5,7 +5,7 @@ ghost use Rattle.gt_word_history.specs.Places.{first_view};
 ghost use Rattle.gt_word_history.specs.Rule.{layout_of};
 ghost use Rattle.gt_shared_table.specs.Words.{HasTable, frames_kept};
 
-use crate::slots::{LOCK_WORDS, first_slots, in_slots};
+use crate::slots::{LOCK_WORDS, first_slots, frames_kept, in_slots};
 use crate::table::{SharedTable, TableSeat};
 use atomic_table::{Refused, Table};
 use gt_entry::Entry;
@@ -58,11 +58,19 @@ impl SharedTable {
         ensures seat { IfOk result (λ r. r.1 ≡ record { table = r.0.table; view = first_view (layout_of config.now) }) }
     {
         let firsts = first_slots(alloc, config)?;
+        let frames = frames_kept(alloc, config)?;
         let counts = frame_counts(alloc, config)?;
         let slots = in_slots(alloc, frames_of_zeros(alloc, &counts)?)?;
         let words = first_words(alloc, config, slots.len())?;
         match Table::new(alloc, &words, slots, config) {
-            Ok((table, seat)) => Ok((SharedTable { table, firsts }, TableSeat { seat })),
+            Ok((table, seat)) => Ok((
+                SharedTable {
+                    table,
+                    firsts,
+                    frames,
+                },
+                TableSeat { seat },
+            )),
             Err(Refused { .. }) => Err(Memory),
         }
     }

@@ -27,6 +27,8 @@ pub struct SharedTable {
     pub(crate) table: Table<Option<Frame>, FrameHolder, Config, SharedRule, Global>,
     /// The slot of each domain's first frame.
     pub(crate) firsts: Vec<usize>,
+    /// The number of frames of each domain.
+    pub(crate) frames: Vec<u64>,
 }
 
 impl Model for SharedTable {
@@ -39,7 +41,8 @@ impl Model for SharedTable {
     } };
 
     ghost invariant = { λ w. HasRoom w.table.shared.table_id (places_of w.table.shared.key)
-        × HasTable w.table.shared.key × (w.firsts.items ≡ first_slots 0 w.table.shared.key.domains.items) };
+        × HasTable w.table.shared.key × (w.firsts.items ≡ first_slots 0 w.table.shared.key.domains.items)
+        × (w.frames.items ≡ frames_kept w.table.shared.key) };
 }
 
 /// The right to step on the words and to access the frames. Each step adds itself to the view of its seat.

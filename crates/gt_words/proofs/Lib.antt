@@ -15,3 +15,4 @@ pub mod SeatsDealt
 pub mod Past
 pub mod HistorySteps
 pub mod WithoutFrames
+pub mod FramesAccessed

@@ -5,3 +5,4 @@ pub mod Conditions
 pub mod Laws
 pub mod Prelude
 pub mod Frameless
+pub mod Frames

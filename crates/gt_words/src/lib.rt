@@ -12,10 +12,12 @@
 #![tactic(auto)]
 
 mod calls;
+mod frames;
 mod laws;
 mod start;
 mod words;
 
+pub use frames::AccessFault;
 pub use gt_shared_table::Gathered;
 pub use gt_word_history::{
     EntryRecord, EntryStep, FrameStep, HeaderStep, Outlook, Purpose, SeatStep, View,

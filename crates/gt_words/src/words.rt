@@ -6,11 +6,13 @@ ghost use Rattle.gt_entry.specs.Words.{header_word};
 ghost use Rattle.gt_entry.specs.Entries.{IsEntry};
 ghost use Rattle.gt_word_history.specs.Controls.{generation_of};
 ghost use Rattle.gt_word_history.specs.Views.{own_header, own_table, last_of};
-ghost use Rattle.gt_word_history.specs.Places.{first_view};
 ghost use Rattle.gt_word_history.specs.Rule.{layout_of, position_in, IsKeptHeader};
 ghost use Rattle.gt_words.specs.Conditions.{Board, SeatOf, IsOfRun, IsSeatOf, IsSameSeat, HasDomain};
 ghost use Rattle.gt_words.specs.Answers.{IsNewSeat, IsStartFault};
+ghost use Rattle.gt_shared_table.specs.Words.{HasTable, frames_kept};
+ghost use Rattle.gt_types.specs.declared.places.FrameName.{FrameName};
 ghost use Rattle.gt_words.specs.Frameless.{IsFrameless};
+ghost use Rattle.gt_words.specs.Frames.{KeepsFrame};
 ghost use Rattle.gt_words.specs.Conditions.{IsEntryOf, position_at, with_version, with_frames, IsWordOf, Holds};
 ghost use Rattle.gt_words.specs.Conditions.{CanPin, CanPublish, CanRevoke, CanWithdraw, CanDemote, CanTurn, CountsPins};
 ghost use Rattle.gt_words.specs.Answers.{LooksAtHeader, LooksAtControl, LooksAtBody, StoresBody, StoresHeader};
@@ -119,13 +121,16 @@ fn position_of(ids: &Positions, dom: DomId) -> usize
 }
 
 impl Words {
-    /// Makes the words of a run and a seat for each domain, in order. All entries are invalid, at the first generation.
+    /// Makes the words of a run, its frames, and a seat for each domain, in order. All entries are invalid, at the first
+    /// generation, and all frames are zeros.
     ///
     /// # Errors
     /// The first fault of the configuration, or `Memory` if it has none and allocation fails.
+    #[tactic(auto, using(crate::proofs::WithoutFrames::whole_table))]
     pub fn new(alloc: Global, config: &Config) -> Result<(Words, Vec<Seat>), StartFault>
         ensures ok { OnOk result (IsWithinLimits config.now) }
         ensures words { IfOk result (λ r. r.0.layout ≡ layout_of config.now) }
+        ensures frames { IfOk result (λ r. r.0.frames ≡ frames_kept config.now) }
         ensures count { IfOk result (λ r. length r.1.items ≡ length config.now.domains.items) }
         ensures seats { IfOk result (λ r. (i : ℕ) → i < length config.now.domains.items
             → HoldsAt (IsNewSeat r.0 i) r.1.items i) }
@@ -134,7 +139,30 @@ impl Words {
         if let Err(fault) = config.check() {
             return Err(StartFault::Config(fault));
         }
-        match make_words(alloc, config) {
+        match make_words(alloc, config, config) {
+            Ok(made) => Ok(made),
+            Err(Memory) => Err(StartFault::Memory),
+        }
+    }
+
+    /// Makes the words of a run whose frames the caller keeps, and a seat for each domain, in order. The table has no
+    /// frame.
+    ///
+    /// # Errors
+    /// The first fault of the configuration, or `Memory` if it has none and allocation fails.
+    pub fn without_frames(alloc: Global, config: &Config) -> Result<(Words, Vec<Seat>), StartFault>
+        ensures ok { OnOk result (IsWithinLimits config.now) }
+        ensures words { IfOk result (λ r. r.0.layout ≡ layout_of config.now) }
+        ensures frames { IfOk result (λ r. (name : FrameName) → KeepsFrame r.0 name → ⊥) }
+        ensures count { IfOk result (λ r. length r.1.items ≡ length config.now.domains.items) }
+        ensures seats { IfOk result (λ r. (i : ℕ) → i < length config.now.domains.items
+            → HoldsAt (IsNewSeat r.0 i) r.1.items i) }
+        ensures err { IfErr result (IsStartFault config.now) }
+    {
+        if let Err(fault) = config.check() {
+            return Err(StartFault::Config(fault));
+        }
+        match make_without_frames(alloc, config) {
             Ok(made) => Ok(made),
             Err(Memory) => Err(StartFault::Memory),
         }
@@ -142,7 +170,7 @@ impl Words {
 
     // Finds the position of a domain, by a search only if it is not the last one looked up.
     #[inline(always)]
-    fn position(&self, seat: &mut Seat, dom: DomId) -> usize
+    pub(crate) fn position(&self, seat: &mut Seat, dom: DomId) -> usize
         requires { IsSeatOf self.now seat.old }
         ensures position { result ≡ position_at self.now dom }
         ensures seat { seat.new ≡ seat.old }
@@ -475,26 +503,33 @@ fn without_frames(alloc: Global, config: &Config) -> Result<Config, Memory>
     })
 }
 
-// Makes the table of a run, without frames.
-fn table_of_words(alloc: Global, config: &Config) -> Result<(SharedTable, TableSeat), Memory>
-    requires { IsWithinLimits config.now }
-    ensures run { IfOk result (λ r. r.0.layout ≡ layout_of config.now) }
-    ensures seat { IfOk result (λ r. r.1 ≡ record { table = r.0.table; view = first_view (layout_of config.now) }) }
-{
-    let frameless = without_frames(alloc, config)?;
-    SharedTable::new(alloc, &frameless)
-}
-
-// Makes the words and the seats of a configuration within the limits.
-fn make_words(alloc: Global, config: &Config) -> Result<(Words, Vec<Seat>), Memory>
-    requires { IsWithinLimits config.now }
+// Makes the words and the seats of a configuration within the limits, with the frames of another one that is the same
+// but for their numbers.
+fn make_words(alloc: Global, config: &Config, framed: &Config) -> Result<(Words, Vec<Seat>), Memory>
+    requires limits { IsWithinLimits config.now }
+    requires table { HasTable framed.now }
+    requires same { layout_of framed.now ≡ layout_of config.now }
     ensures words { IfOk result (λ r. r.0.layout ≡ layout_of config.now) }
+    ensures frames { IfOk result (λ r. r.0.frames ≡ frames_kept framed.now) }
     ensures count { IfOk result (λ r. length r.1.items ≡ length config.now.domains.items) }
     ensures seats { IfOk result (λ r. (i : ℕ) → i < length config.now.domains.items
         → HoldsAt (IsNewSeat r.0 i) r.1.items i) }
 {
-    let (words, first) = table_of_words(alloc, config)?;
+    let (words, first) = SharedTable::new(alloc, framed)?;
     let ids = Positions::new(alloc, config)?;
     let seats = deal_seats(alloc, &words, config, first)?;
     Ok((Words { words, ids }, seats))
+}
+
+// The same without frames.
+fn make_without_frames(alloc: Global, config: &Config) -> Result<(Words, Vec<Seat>), Memory>
+    requires { IsWithinLimits config.now }
+    ensures words { IfOk result (λ r. r.0.layout ≡ layout_of config.now) }
+    ensures frames { IfOk result (λ r. (name : FrameName) → KeepsFrame r.0 name → ⊥) }
+    ensures count { IfOk result (λ r. length r.1.items ≡ length config.now.domains.items) }
+    ensures seats { IfOk result (λ r. (i : ℕ) → i < length config.now.domains.items
+        → HoldsAt (IsNewSeat r.0 i) r.1.items i) }
+{
+    let frameless = without_frames(alloc, config)?;
+    make_words(alloc, config, &frameless)
 }

@@ -1,21 +1,20 @@
 //! The calls that read or write the bytes of one frame. Only these calls, and copies, may wait.
-ghost use Rattle.std.specs.Prelude.{◌≡◌, ◌+◌, ◌≤◌, length, IfOk, IfErr};
+ghost use Rattle.std.specs.Prelude.{◌≡◌, ◌+◌, ◌≤◌, length, IfOk, IfErr, OnErr};
 ghost use Rattle.gt_types.specs.declared.Dir.TheVariants as dirs;
 ghost use Rattle.gt_types.specs.declared.Use.TheVariants as uses;
-ghost use Rattle.gt_words.specs.Conditions.{IsSeatOf};
-ghost use Rattle.gt_access.specs.Accesses.{IsReadOf, writing_at};
+ghost use Rattle.gt_words.specs.Conditions.{IsSameSeat, IsSeatOf};
 ghost use Rattle.gt_access.specs.Routes.{MayAccessBy, ReachesBy};
 ghost use Rattle.gt_calls.specs.declared.request.Request.TheVariants as requests;
-ghost use Rattle.gt_live.specs.Accesses.{Fills, IsOfAccess, IsReadBy, IsWrittenBy};
+ghost use Rattle.gt_live.specs.Accesses.{Fills, IsOfAccess, IsReadBy, IsWrittenBy, ReadsFrame, WritesFrame};
 ghost use Rattle.gt_live.specs.Domains.{AccessesQuietly, BelongsTo, StaysIn, not_made};
-ghost use Rattle.gt_live.specs.Visiting.{HasVisited, WasRead, WasWritten};
+ghost use Rattle.gt_live.specs.Driving.{IsSame};
 
 use super::{Domain, refusal_of};
 use crate::monitor::Monitor;
-use gt_access::{AccessContext, AccessFault, FrameAccesses, fill_by, read_by, write_by};
+use gt_access::{AccessContext, AccessFault, read_under, write_under};
 use gt_calls::{AccessPath, Handle, judge_load, judge_own_access, judge_store};
-use gt_frames::{Filled, FrameName, Read, Written};
-use gt_types::{Allows, Denial, FRAME_SIZE, Facts, Range, Rule};
+use gt_frames::{Filled, Read, Written};
+use gt_types::{Allows, Denial, FRAME_SIZE, Facts, FrameName, Rule};
 use gt_words::Seat;
 use std::alloc::Global;
 use std::sync::Wait;
@@ -35,108 +34,100 @@ pub(super) fn run_of<P: Allows>(monitor: &Monitor<P>) -> AccessContext<'_, P>
     ensures words { result.words.now ≡ monitor.now.words }
     ensures config { result.config.now ≡ monitor.now.config }
     ensures rights { result.rights.now ≡ monitor.now.rights }
-    ensures pool { result.pool.now ≡ monitor.now.pool }
 {
     AccessContext {
         words: &monitor.words,
         config: &monitor.config,
         rights: &monitor.rights,
-        pool: &monitor.pool,
-    }
-}
-
-// Reads a range of the frame that this route reaches.
-#[tactic(auto, using(crate::proofs::Visiting::none_visited, crate::proofs::Visiting::read_visits))]
-fn read_through<R: Wait, P: Allows>(
-    rt: &R,
-    monitor: &Monitor<P>,
-    alloc: Global,
-    seat: &Seat,
-    visits: &mut FrameAccesses,
-    route: &AccessPath,
-    name: FrameName,
-    off: u16,
-    len: u16,
-) -> Result<Read, Denial>
-    requires seat { IsSeatOf monitor.now.words seat.now }
-    requires reached { ReachesBy monitor.now.words.layout seat.now dirs.Read uses.Map name off len route.now }
-    requires may { MayAccessBy monitor.now.config.domains.items (P.may monitor.now.rights) seat.now.dom route.now }
-    requires range { off + len ≤ FRAME_SIZE }
-    ensures read { IfOk result (λ r. IsReadOf r name off len) }
-    ensures refused { IfErr result IsOfAccess }
-    ensures visited { HasVisited WasRead result visits.old visits.new }
-{
-    let Ok(room) = Vec::with_capacity(alloc, usize::from(len)) else {
-        return Err(not_made(AccessFault::Memory));
-    };
-    let run = run_of(monitor);
-    match read_by(
-        rt,
-        &run,
-        seat,
-        visits,
-        route,
-        name,
-        Range { off, len },
-        room,
-    ) {
-        Some(read) => Ok(read),
-        None => Err(not_made(AccessFault::Gone)),
     }
 }
 
 // Reads bytes of the frame that this route reaches into all of `out`.
-#[tactic(auto, using(crate::proofs::Visiting::none_visited, crate::proofs::Visiting::read_visits))]
+#[tactic(auto, using(crate::proofs::Making::accessed_same, crate::proofs::Making::viewed_same))]
 fn fill_through<R: Wait, P: Allows>(
     rt: &R,
     monitor: &Monitor<P>,
-    seat: &Seat,
-    visits: &mut FrameAccesses,
+    seat: &mut Seat,
     route: &AccessPath,
     name: FrameName,
     off: u16,
     out: &mut [u8],
 ) -> Result<Filled, Denial>
-    requires seat { IsSeatOf monitor.now.words seat.now }
-    requires reached { ReachesBy monitor.now.words.layout seat.now dirs.Read uses.Map
+    requires seat { IsSeatOf monitor.now.words seat.old }
+    requires reached { ReachesBy monitor.now.words.layout seat.old dirs.Read uses.Map
         name off (length out.old) route.now }
-    requires may { MayAccessBy monitor.now.config.domains.items (P.may monitor.now.rights) seat.now.dom route.now }
+    requires may { MayAccessBy monitor.now.config.domains.items (P.may monitor.now.rights) seat.old.dom route.now }
     requires range { off + length out.old ≤ FRAME_SIZE }
-    ensures read { IfOk result (λ r. IsReadOf r name off (length out.old)) }
+    ensures seat { IsSameSeat seat.old seat.new }
+    ensures read { IfOk result (λ r. ReadsFrame monitor.now.words.layout name off (length out.old) r
+        seat.old.view seat.new.view) }
     ensures refused { IfErr result IsOfAccess }
-    ensures visited { HasVisited WasRead result visits.old visits.new }
+    ensures unmade { OnErr result (seat.new.view ≡ seat.old.view) }
+    ensures same { IsSame seat.old.view seat.new.view }
     ensures filled { Fills result out.old out.new }
 {
     let run = run_of(monitor);
-    match fill_by(rt, &run, seat, visits, route, name, off, out) {
+    match read_under(rt, &run, seat, route, name, off, out) {
         Some(filled) => Ok(filled),
         None => Err(not_made(AccessFault::Gone)),
     }
 }
 
+// Reads a range of the frame that this route reaches.
+fn read_through<R: Wait, P: Allows>(
+    rt: &R,
+    monitor: &Monitor<P>,
+    alloc: Global,
+    seat: &mut Seat,
+    route: &AccessPath,
+    name: FrameName,
+    off: u16,
+    len: u16,
+) -> Result<Read, Denial>
+    requires seat { IsSeatOf monitor.now.words seat.old }
+    requires reached { ReachesBy monitor.now.words.layout seat.old dirs.Read uses.Map name off len route.now }
+    requires may { MayAccessBy monitor.now.config.domains.items (P.may monitor.now.rights) seat.old.dom route.now }
+    requires range { off + len ≤ FRAME_SIZE }
+    ensures seat { IsSameSeat seat.old seat.new }
+    ensures read { IfOk result (λ r. ReadsFrame monitor.now.words.layout name off len r seat.old.view seat.new.view) }
+    ensures refused { IfErr result IsOfAccess }
+    ensures unmade { OnErr result (seat.new.view ≡ seat.old.view) }
+    ensures same { IsSame seat.old.view seat.new.view }
+{
+    let Ok(mut bytes) = vec![in alloc; 0; usize::from(len)] else {
+        return Err(not_made(AccessFault::Memory));
+    };
+    match fill_through(rt, monitor, seat, route, name, off, &mut bytes) {
+        Ok(filled) => Ok(filled.with_bytes(bytes)),
+        Err(denial) => Err(denial),
+    }
+}
+
 // Writes bytes to the frame that this route reaches.
-#[tactic(auto, using(crate::proofs::Visiting::unwritten, crate::proofs::Visiting::write_visits))]
+#[tactic(auto, using(crate::proofs::Making::accessed_same, crate::proofs::Making::viewed_same))]
 fn write_through<'a, R: Wait, P: Allows>(
     rt: &R,
     monitor: &Monitor<P>,
-    seat: &Seat,
-    visits: &mut FrameAccesses,
+    seat: &mut Seat,
     route: &AccessPath,
     name: FrameName,
     off: u16,
     bytes: &'a [u8],
 ) -> Result<Written<'a>, Denial>
-    requires seat { IsSeatOf monitor.now.words seat.now }
-    requires reached { ReachesBy monitor.now.words.layout seat.now dirs.Write uses.Map
+    requires seat { IsSeatOf monitor.now.words seat.old }
+    requires reached { ReachesBy monitor.now.words.layout seat.old dirs.Write uses.Map
         name off (length bytes.now) route.now }
-    requires may { MayAccessBy monitor.now.config.domains.items (P.may monitor.now.rights) seat.now.dom route.now }
+    requires may { MayAccessBy monitor.now.config.domains.items (P.may monitor.now.rights) seat.old.dom route.now }
     requires range { off + length bytes.now ≤ FRAME_SIZE }
-    ensures written { IfOk result (λ r. r ≡ writing_at name off bytes.entry.now seat.now.dom) }
+    ensures seat { IsSameSeat seat.old seat.new }
+    ensures written { IfOk result (λ r. WritesFrame monitor.now.words.layout name off bytes.entry.now seat.old.dom r
+        seat.old.view seat.new.view) }
     ensures refused { IfErr result IsOfAccess }
-    ensures visited { HasVisited WasWritten result visits.old visits.new }
+    ensures unmade { OnErr result (seat.new.view ≡ seat.old.view) }
+    ensures same { IsSame seat.old.view seat.new.view }
 {
     let run = run_of(monitor);
-    match write_by(rt, &run, seat, visits, route, name, off, bytes) {
+    match write_under(rt, &run, seat, route, name, off, bytes) {
         Ok(written) => Ok(written),
         Err(refused) => Err(not_made(refused)),
     }
@@ -158,7 +149,7 @@ impl Domain {
         requires mine { BelongsTo P.may monitor.now self.old }
         ensures stays { StaysIn P.may monitor.now self.old self.new }
         ensures answers { AccessesQuietly P.may monitor.now self.old
-            (requests.Load handle off len) IsReadBy WasRead result self.new }
+            (requests.Load handle off len) (IsReadBy monitor.now.words.layout) result self.new }
     {
         if let Some(verdict) = judge_load(&self.mappings, handle, off, usize::from(len)) {
             return Err(refusal_of(verdict));
@@ -169,8 +160,8 @@ impl Domain {
             number: held.entry.frame(),
         };
         let way = AccessPath::Direct(held);
-        let (seat, visits) = (&self.seat, &mut self.visits);
-        read_through(rt, monitor, self.alloc, seat, visits, &way, name, off, len)
+        let seat = &mut self.seat;
+        read_through(rt, monitor, self.alloc, seat, &way, name, off, len)
     }
 
     /// Reads into all of `buffer` through a mapping, starting at the offset `off`. Waits for the frame's lock, and does
@@ -189,7 +180,7 @@ impl Domain {
         requires mine { BelongsTo P.may monitor.now self.old }
         ensures stays { StaysIn P.may monitor.now self.old self.new }
         ensures answers { AccessesQuietly P.may monitor.now self.old
-            (requests.Load handle off (length buffer.old)) IsReadBy WasRead result self.new }
+            (requests.Load handle off (length buffer.old)) (IsReadBy monitor.now.words.layout) result self.new }
         ensures filled { Fills result buffer.old buffer.new }
     {
         if let Some(verdict) = judge_load(&self.mappings, handle, off, buffer.len()) {
@@ -201,8 +192,8 @@ impl Domain {
             number: held.entry.frame(),
         };
         let route = AccessPath::Direct(held);
-        let (seat, visits) = (&self.seat, &mut self.visits);
-        fill_through(rt, monitor, seat, visits, &route, name, off, buffer)
+        let seat = &mut self.seat;
+        fill_through(rt, monitor, seat, &route, name, off, buffer)
     }
 
     /// Reads `len` bytes of one of the domain's own frames, starting at the offset `off`. Waits for the frame's lock.
@@ -220,7 +211,7 @@ impl Domain {
         requires mine { BelongsTo P.may monitor.now self.old }
         ensures stays { StaysIn P.may monitor.now self.old self.new }
         ensures answers { AccessesQuietly P.may monitor.now self.old
-            (requests.Peek frame off len) IsReadBy WasRead result self.new }
+            (requests.Peek frame off len) (IsReadBy monitor.now.words.layout) result self.new }
     {
         let caller = self.seat.dom();
         let config = &monitor.config;
@@ -231,13 +222,12 @@ impl Domain {
             owner: caller,
             number: frame,
         };
-        let (seat, visits) = (&self.seat, &mut self.visits);
+        let seat = &mut self.seat;
         read_through(
             rt,
             monitor,
             self.alloc,
             seat,
-            visits,
             &AccessPath::Own,
             name,
             off,
@@ -261,7 +251,7 @@ impl Domain {
         requires mine { BelongsTo P.may monitor.now self.old }
         ensures stays { StaysIn P.may monitor.now self.old self.new }
         ensures answers { AccessesQuietly P.may monitor.now self.old
-            (requests.Peek frame off (length buffer.old)) IsReadBy WasRead result self.new }
+            (requests.Peek frame off (length buffer.old)) (IsReadBy monitor.now.words.layout) result self.new }
         ensures filled { Fills result buffer.old buffer.new }
     {
         let caller = self.seat.dom();
@@ -273,17 +263,8 @@ impl Domain {
             owner: caller,
             number: frame,
         };
-        let (seat, visits) = (&self.seat, &mut self.visits);
-        fill_through(
-            rt,
-            monitor,
-            seat,
-            visits,
-            &AccessPath::Own,
-            name,
-            off,
-            buffer,
-        )
+        let seat = &mut self.seat;
+        fill_through(rt, monitor, seat, &AccessPath::Own, name, off, buffer)
     }
 
     /// Writes `bytes` through a mapping, starting at the offset `off`. Waits for the frame's lock.
@@ -301,8 +282,8 @@ impl Domain {
         requires mine { BelongsTo P.may monitor.now self.old }
         ensures stays { StaysIn P.may monitor.now self.old self.new }
         ensures answers { AccessesQuietly P.may monitor.now self.old
-            (requests.Store handle off bytes.entry) (IsWrittenBy self.old.seat.dom bytes.entry.now)
-            WasWritten result self.new }
+            (requests.Store handle off bytes.entry)
+            (IsWrittenBy monitor.now.words.layout self.old.seat.dom bytes.entry.now) result self.new }
     {
         if let Some(verdict) = judge_store(&self.mappings, handle, off, bytes.len()) {
             return Err(refusal_of(verdict));
@@ -313,8 +294,8 @@ impl Domain {
             number: held.entry.frame(),
         };
         let route = AccessPath::Direct(held);
-        let (seat, visits) = (&self.seat, &mut self.visits);
-        write_through(rt, monitor, seat, visits, &route, name, off, bytes)
+        let seat = &mut self.seat;
+        write_through(rt, monitor, seat, &route, name, off, bytes)
     }
 
     /// Writes `bytes` to one of the domain's own frames, starting at the offset `off`. Waits for the frame's lock.
@@ -332,8 +313,8 @@ impl Domain {
         requires mine { BelongsTo P.may monitor.now self.old }
         ensures stays { StaysIn P.may monitor.now self.old self.new }
         ensures answers { AccessesQuietly P.may monitor.now self.old
-            (requests.Poke frame off bytes.entry) (IsWrittenBy self.old.seat.dom bytes.entry.now)
-            WasWritten result self.new }
+            (requests.Poke frame off bytes.entry)
+            (IsWrittenBy monitor.now.words.layout self.old.seat.dom bytes.entry.now) result self.new }
     {
         let caller = self.seat.dom();
         let config = &monitor.config;
@@ -344,16 +325,7 @@ impl Domain {
             owner: caller,
             number: frame,
         };
-        let (seat, visits) = (&self.seat, &mut self.visits);
-        write_through(
-            rt,
-            monitor,
-            seat,
-            visits,
-            &AccessPath::Own,
-            name,
-            off,
-            bytes,
-        )
+        let seat = &mut self.seat;
+        write_through(rt, monitor, seat, &AccessPath::Own, name, off, bytes)
     }
 }

@@ -4,27 +4,26 @@ ghost use Rattle.gt_types.specs.declared.Dir.TheVariants as dirs;
 ghost use Rattle.gt_types.specs.declared.Use.TheVariants as uses;
 ghost use Rattle.gt_words.specs.Conditions.{IsSameSeat, IsSeatOf};
 ghost use Rattle.gt_word_history.specs.declared.view.View.{View};
-ghost use Rattle.gt_access.specs.Accesses.{copying_at};
 ghost use Rattle.gt_access.specs.Routes.{MayCopyBy, ReachesBy};
 ghost use Rattle.gt_audit.specs.Telling.{Tells};
 ghost use Rattle.gt_calls.specs.declared.action.CallResult.TheVariants.{Refused};
 ghost use Rattle.gt_calls.specs.declared.request.Request.TheVariants as requests;
 ghost use Rattle.gt_calls.specs.Holding.{last_first, no_pins};
 ghost use Rattle.gt_calls.specs.Rules.{copy_begun};
-ghost use Rattle.gt_live.specs.Accesses.{IsCopiedBy, IsOfAccess};
+ghost use Rattle.gt_live.specs.Accesses.{CopiesBetween, IsCopiedBy, IsOfAccess};
+ghost use Rattle.gt_live.specs.Driving.{IsSame};
 ghost use Rattle.gt_live.specs.Domains.{Accesses, Answered, BelongsTo, IsUnsettled, KeepsPinned, known_on};
 ghost use Rattle.gt_live.specs.Domains.{told_copy};
 ghost use Rattle.gt_live.specs.Halves.{copy_hypercall};
 ghost use Rattle.gt_live.specs.Copies.{CopyStopsWith, filled, halfway_with};
 ghost use Rattle.gt_live.specs.Halves.{ComesHalfway, EndsHalfway, IsHalfway, done_copy};
 ghost use Rattle.gt_live.specs.Underway.{AreOfRun, GivesBack, HasTaken};
-ghost use Rattle.gt_live.specs.Visiting.{HasVisited, WasCopied};
 
 use super::bytes::{not_made, run_of};
 use super::{Domain, known_with, refusal_of, tell_done, tell_refusal};
 use crate::monitor::Monitor;
 use crate::routes::{drive_copy, give_back};
-use gt_access::{FrameAccesses, copy_by};
+use gt_access::copy_under;
 use gt_audit::{Hypercall, Record, Reply};
 use gt_calls::{
     AccessPath, Call, CallPins, CallResult, CopyArgs, OpenRequest, Phase, Spot, judge_copy,
@@ -36,30 +35,33 @@ use gt_words::Seat;
 use std::sync::Wait;
 
 // Copies between the places that these routes reach.
+#[tactic(auto, using(crate::proofs::Making::accessed_same, crate::proofs::Making::viewed_same))]
 fn copy_through<R: Wait, P: Allows>(
     rt: &R,
     monitor: &Monitor<P>,
-    seat: &Seat,
-    visits: &mut FrameAccesses,
+    seat: &mut Seat,
     routes: &CallPins,
     from: Spot,
     to: Spot,
     len: u16,
 ) -> Result<Copied, Denial>
-    requires seat { IsSeatOf monitor.now.words seat.now }
-    requires source { ReachesBy monitor.now.words.layout seat.now dirs.Read uses.Copy
+    requires seat { IsSeatOf monitor.now.words seat.old }
+    requires source { ReachesBy monitor.now.words.layout seat.old dirs.Read uses.Copy
         from.frame from.off len routes.now.source }
-    requires dest { ReachesBy monitor.now.words.layout seat.now dirs.Write uses.Copy
+    requires dest { ReachesBy monitor.now.words.layout seat.old dirs.Write uses.Copy
         to.frame to.off len routes.now.dest }
-    requires may { MayCopyBy monitor.now.config.domains.items (P.may monitor.now.rights) seat.now.dom routes.now }
+    requires may { MayCopyBy monitor.now.config.domains.items (P.may monitor.now.rights) seat.old.dom routes.now }
     requires source_range { from.off + len ≤ FRAME_SIZE }
     requires dest_range { to.off + len ≤ FRAME_SIZE }
-    ensures copied { IfOk result (λ r. r ≡ copying_at from to len seat.now.dom) }
+    ensures seat { IsSameSeat seat.old seat.new }
+    ensures copied { IfOk result (λ r. CopiesBetween monitor.now.words.layout from to len seat.old.dom r
+        seat.old.view seat.new.view) }
     ensures refused { IfErr result IsOfAccess }
-    ensures visited { HasVisited WasCopied result visits.old visits.new }
+    ensures unmade { OnErr result (seat.new.view ≡ seat.old.view) }
+    ensures same { IsSame seat.old.view seat.new.view }
 {
     let run = run_of(monitor);
-    match copy_by(rt, &run, seat, visits, routes, from, to, len) {
+    match copy_under(rt, &run, seat, routes, from, to, len) {
         Ok(copied) => Ok(copied),
         Err(refused) => Err(not_made(refused)),
     }
@@ -172,10 +174,9 @@ impl Domain {
         ensures mine { BelongsTo P.may monitor.now self.new }
         ensures seat { IsSameSeat self.old.seat self.new.seat }
         ensures answered { Accesses P.may monitor.now self.old
-            (requests.Copy copy.now) (IsCopiedBy self.old.seat.dom) result self.new }
+            (requests.Copy copy.now) (IsCopiedBy monitor.now.words.layout self.old.seat.dom) result self.new }
         ensures kept { KeepsPinned self.old self.new }
         ensures silent { self.new.trail ≡ self.old.trail }
-        ensures visited { HasVisited WasCopied result self.old.visits self.new.visits }
     {
         if let Some(verdict) = self.judge_copy(monitor, copy) {
             return Err(refusal_of(verdict));
@@ -188,8 +189,7 @@ impl Domain {
         let caller = self.seat.dom();
         let from = place_of(caller, copy.source, pins.source);
         let to = place_of(caller, copy.dest, pins.dest);
-        let (seat, visits) = (&self.seat, &mut self.visits);
-        let copied = copy_through(rt, monitor, seat, visits, &pins, from, to, copy.len);
+        let copied = copy_through(rt, monitor, &mut self.seat, &pins, from, to, copy.len);
         self.give_back(monitor, &pins);
         copied
     }
@@ -209,10 +209,9 @@ impl Domain {
         ensures mine { BelongsTo P.may monitor.now self.new }
         ensures seat { IsSameSeat self.old.seat self.new.seat }
         ensures answered { Accesses P.may monitor.now self.old
-            (requests.Copy copy.now) (IsCopiedBy self.old.seat.dom) result self.new }
+            (requests.Copy copy.now) (IsCopiedBy monitor.now.words.layout self.old.seat.dom) result self.new }
         ensures kept { KeepsPinned self.old self.new }
         ensures told { Tells self.old.trail (told_copy self.old copy.now result) self.new.trail }
-        ensures visited { HasVisited WasCopied result self.old.visits self.new.visits }
     {
         let caller = self.seat.dom();
         match self.make_copy(rt, monitor, copy) {
@@ -241,7 +240,6 @@ impl Domain {
         ensures kept { OnErr result (KeepsPinned self.old self.new) }
         ensures seat { IsSameSeat self.old.seat self.new.seat }
         ensures silent { self.new.trail ≡ self.old.trail }
-        ensures untouched { self.new.visits ≡ self.old.visits }
     {
         if let Some(verdict) = self.judge_copy(monitor, copy) {
             return Err(refusal_of(verdict));
@@ -274,7 +272,6 @@ impl Domain {
         ensures seat { IsSameSeat self.old.seat self.new.seat }
         ensures told { IfErr result (λ denial.
             Tells self.old.trail (told_copy self.old copy.now (Err denial)) self.new.trail) }
-        ensures untouched { self.new.visits ≡ self.old.visits }
     {
         match self.come_halfway(monitor, copy) {
             Ok(halfway) => Ok(halfway),
@@ -296,7 +293,6 @@ impl Domain {
         ensures mine { BelongsTo P.may monitor.now self.new }
         ensures ends { EndsHalfway monitor.now.words.layout halfway self.old self.new }
         ensures silent { self.new.trail ≡ self.old.trail }
-        ensures untouched { self.new.visits ≡ self.old.visits }
     {
         let pins = halfway.call.pins();
         self.give_back(monitor, &pins);
@@ -308,7 +304,6 @@ impl Domain {
         ensures mine { BelongsTo P.may monitor.now self.new }
         ensures ends { EndsHalfway monitor.now.words.layout halfway self.old self.new }
         ensures told { Tells self.old.trail (done_copy self.old halfway.copy) self.new.trail }
-        ensures untouched { self.new.visits ≡ self.old.visits }
     {
         let copy = halfway.copy;
         self.end_halfway(monitor, halfway);

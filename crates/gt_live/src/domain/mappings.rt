@@ -67,7 +67,6 @@ impl Domain {
         ensures seat { IsSameSeat self.old.seat self.new.seat }
         ensures answered { MapAnswered P.may monitor.now self.old (Request.Map dom gref flags) result self.new }
         ensures silent { self.new.trail ≡ self.old.trail }
-        ensures untouched { self.new.visits ≡ self.old.visits }
     {
         if let Some(verdict) = self.judge_map(monitor, dom, flags) {
             return Err(refusal_of(verdict));
@@ -103,7 +102,6 @@ impl Domain {
         ensures told { Tells self.old.trail
             (record { dom = self.old.seat.dom; call = Hypercall.Map dom gref flags; reply = mapping_reply result })
             self.new.trail }
-        ensures untouched { self.new.visits ≡ self.old.visits }
     {
         let result = self.make_mapping(monitor, dom, gref, flags);
         let call = Hypercall::Map { dom, gref, flags };
@@ -148,7 +146,6 @@ impl Domain {
         ensures removed { OnOk result ((p : HeldPin) × Removes self.old.mappings self.new.mappings handle p) }
         ensures refused { OnErr result (KeepsPinned self.old self.new) }
         ensures silent { self.new.trail ≡ self.old.trail }
-        ensures untouched { self.new.visits ≡ self.old.visits }
     {
         if let Some(verdict) = self.judge_unmap(monitor, handle) {
             return Err(refusal_of(verdict));
@@ -171,7 +168,6 @@ impl Domain {
         ensures refused { OnErr result (KeepsPinned self.old self.new) }
         ensures told { Tells self.old.trail
             (told_of self.old (Hypercall.Unmap (subject_of self.old handle)) (verdict_of result)) self.new.trail }
-        ensures untouched { self.new.visits ≡ self.old.visits }
     {
         let subject = self.subject(handle);
         let result = self.unmap_unrecorded(monitor, handle);

@@ -92,7 +92,6 @@ impl Domain {
             (verdict_of result) self.old.seat.view self.new.seat.view }
         ensures kept { KeepsPinned self.old self.new }
         ensures silent { self.new.trail ≡ self.old.trail }
-        ensures untouched { self.new.visits ≡ self.old.visits }
     {
         match self.drive_change(monitor, gref, own.idle_word(), change) {
             Ok(()) => {
@@ -118,7 +117,6 @@ impl Domain {
             (verdict_of result) self.old.seat.view self.new.seat.view }
         ensures kept { KeepsPinned self.old self.new }
         ensures silent { self.new.trail ≡ self.old.trail }
-        ensures untouched { self.new.visits ≡ self.old.visits }
     {
         let own = self.own_entry(monitor, gref);
         if let Some(verdict) = self.judge_own(monitor, own, gref, change) {

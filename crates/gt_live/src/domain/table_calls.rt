@@ -74,7 +74,6 @@ impl Domain {
             (answer_by question result) self.old.seat.view self.new.seat.view }
         ensures kept { KeepsPinned self.old self.new }
         ensures silent { self.new.trail ≡ self.old.trail }
-        ensures untouched { self.new.visits ≡ self.old.visits }
     {
         let label = self.label(monitor);
         let known = known_with(monitor, &self.seat, &self.own, &self.mappings);

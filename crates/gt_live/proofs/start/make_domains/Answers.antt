@@ -28,15 +28,15 @@ domains-preserved g c = elim c.match-pop.branch [
       let d0 : Domain = w.new.result in
       let seats = c.domains.seats.items in let made = c.domains.domains.items in
       let s1 : length c.remove-seat.new.self.items + 1 ≡ length seats = (let e = ap {B = ℕ} (λ (xs : List SeatOf). length xs) r.items in let l = length-drop 1 seats in let i1 = inv.seats in omega (arith, e, l, i1, test)) in
-      let s2 : length c.pop.new.self.items + 1 ≡ length c.domains.rows.items = (let e = ap {B = ℕ} (λ xs. length xs) q.items in let l = length-append c.pop.new.self.items ((w.in-Some.own, w.in-Some.visits) ∷ []) in omega (arith, e, l)) in
+      let s2 : length c.pop.new.self.items + 1 ≡ length c.domains.rows.items = (let e = ap {B = ℕ} (λ xs. length xs) q.items in let l = length-append c.pop.new.self.items (w.in-Some.own ∷ []) in omega (arith, e, l)) in
       let all : c.match-pop.domains.items ≡ made ++ d0 ∷ [] = ap (λ v. v.items) w.domains-is ∙ p.items in
       let s3 : length c.match-pop.domains.items ≡ length made + 1 = (let e = ap {B = ℕ} (λ (xs : List Domain). length xs) all in let l = length-append made (d0 ∷ []) in omega (arith, e, l)) in
       let count = c.len-count.ensures in
-      let popped = All-pop (λ v. (v.0.items ≡ first_rows cf.first_gen) × (v.1 ≡ [])) c.domains.rows.items c.pop.new.self.items (Some (w.in-Some.own, w.in-Some.visits)) q.items inv.new_rows in
+      let popped = All-pop (λ v. v.items ≡ first_rows cf.first_gen) c.domains.rows.items c.pop.new.self.items (Some w.in-Some.own) q.items inv.new_rows in
       let i0 = inv.seats in let z0 : at + 0 ≡ at = omega arith in
       let seat : IsNewSeat b at c.remove-seat.result = subst (λ (x : SeatOf). IsNewSeat b at x) (sym r.value)
       (subst (λ (n : ℕ). IsNewSeat b n (get_or seats 0 c.remove-seat.result)) z0 (inv.new_seats 0 (omega (arith, i0, test)) c.remove-seat.result)) in
-      let new : IsNewDomain b cf may at d0 = new-domain b cf may at d0 c.requires.config c.args.monitor.now.same_run (subst (λ (x : Domain). IsNewSeat b at x.seat) (sym w.new.ensures) seat) (ap (λ (x : Domain). x.own.items) w.new.ensures ∙ popped.1.0) (ap (λ (x : Domain). x.mappings) w.new.ensures ∙ w.new-mappings.ensures) (ap (λ (x : Domain). x.trail) w.new.ensures ∙ w.new-trail.ensures) (ap (λ (x : Domain). x.visits) w.new.ensures ∙ popped.1.1) in
+      let new : IsNewDomain b cf may at d0 = new-domain b cf may at d0 c.requires.config c.args.monitor.now.same_run (subst (λ (x : Domain). IsNewSeat b at x.seat) (sym w.new.ensures) seat) (ap (λ (x : Domain). x.own.items) w.new.ensures ∙ popped.1) (ap (λ (x : Domain). x.mappings) w.new.ensures ∙ w.new-mappings.ensures) (ap (λ (x : Domain). x.trail) w.new.ensures ∙ w.new-trail.ensures) in
       record {
         seats = (let i1 = inv.seats in omega (arith, s1, i1));
         rows = (let i1 = inv.rows in omega (arith, s2, i1));

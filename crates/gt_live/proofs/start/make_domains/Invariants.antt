@@ -10,7 +10,7 @@ invariant-domains g l = record {
   rows : length l.rows.items + l.at ≡ l.count;
   made : length l.domains.items ≡ l.at;
   room : l.count ≤ vec_capacity l.domains;
-  new_rows : All (λ w. (w.0.items ≡ first_rows l.monitor.config.first_gen) × (w.1 ≡ [])) l.rows.items;
+  new_rows : All (λ w. w.items ≡ first_rows l.monitor.config.first_gen) l.rows.items;
   new_seats : (i : ℕ) → i < length l.seats.items → HoldsAt (λ s. IsNewSeat l.monitor.words (l.at + i) s) l.seats.items i;
   new_domains : (i : ℕ) → i < l.at → HoldsAt (λ d. IsNewDomain l.monitor.words l.monitor.config (g.P.Allows.may l.monitor.rights) i d) l.domains.items i;
 }

@@ -34,7 +34,6 @@ returns-in-Some g c =
       called = once-asked m.words.layout k d.seat.dom c.args.dom verdict c.refusal_of.result d.seat.view answered c.refusal_of.ensures;
       kept = (record { slots = refl; given = refl }, λ t r. refl);
       silent = refl;
-      untouched = refl;
     }
 
 pub drive_query-requires-clause-unanswered : goal.drive_query-requires-clause-unanswered
@@ -60,5 +59,4 @@ returns g c =
           (subst (λ (k : CallerKnowledge). Called m.words.layout (path k c.dom-caller.result (asks_question c.args.dom question)) (header_value_of question word) d.seat.view seat.view) same (e.called question));
       kept = (record { slots = refl; given = refl }, e.same.pins);
       silent = refl;
-      untouched = refl;
     }

@@ -32,7 +32,6 @@ returns-in-Some g c =
             (once-framed m.words.layout k d.seat.dom c.args.frames verdict d.seat.view answered),
         (record { slots = refl; given = refl }, λ t r. refl),
         refl,
-        refl,
       );
     }
 
@@ -63,7 +62,6 @@ returns g c =
         subst (λ (x : DomId). Called m.words.layout (path (knowledge m.config may d) x (asks.SetupTable c.args.frames)) (Given (Frames c.args.frames)) d.seat.view seat.view) c.dom-caller.ensures
             (subst (λ (k : CallerKnowledge). Called m.words.layout (path k c.dom-caller.result (asks.SetupTable c.args.frames)) (Given (Frames c.args.frames)) d.seat.view seat.view) same e.called),
         (record { slots = refl; given = refl }, e.same.pins),
-        refl,
         refl,
       );
     }

@@ -32,7 +32,6 @@ returns-in-Some g c =
             (once-done m.words.layout k d.seat.dom (requests.SetVersion c.args.version) verdict d.seat.view tt tt answered),
         (record { slots = refl; given = refl }, λ t r. refl),
         refl,
-        refl,
       );
     }
 
@@ -61,7 +60,6 @@ returns g c =
         subst (λ (x : DomId). Called m.words.layout (path (knowledge m.config may d) x (asks.SetVersion c.args.version)) Granted d.seat.view seat.view) c.dom-caller.ensures
             (subst (λ (k : CallerKnowledge). Called m.words.layout (path k c.dom-caller.result (asks.SetVersion c.args.version)) Granted d.seat.view seat.view) same e.called),
         (record { slots = refl; given = refl }, e.same.pins),
-        refl,
         refl,
       );
     }

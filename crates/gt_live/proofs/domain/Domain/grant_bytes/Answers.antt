@@ -28,7 +28,6 @@ returns-in-Ok g c =
             same e.called,
         e.kept,
         e.silent,
-        e.untouched,
       );
     }
 
@@ -41,7 +40,6 @@ returns-in-Err g c =
         once-called m.words.layout k d.seat.dom (requests.GrantBytes c.args.gref c.args.bytes) (Refused c.in-Err.denial)
             d.seat.view tt c.in-Err.ensures.refused,
         (record { slots = refl; given = refl }, λ t r. refl),
-        refl,
         refl,
       );
     }

@@ -1,6 +1,5 @@
 use Rattle.std.proofs.Common.{◌≡◌, ◌∙◌, sym, ap, subst, refl, Some, length}
 use Rattle.std.specs.Prelude.{IfOk, ℕ, option_copied}
-use Rattle.gt_access.specs.Accesses.{IsReadOf}
 use Rattle.gt_frames.specs.Receipts.{Reading}
 use Rattle.gt_types.specs.declared.Dir.TheVariants as dirs
 use Rattle.gt_entry.specs.Entries.{frame_of}
@@ -8,13 +7,11 @@ use Rattle.gt_calls.specs.declared.action.Step.TheVariants as steps
 use Rattle.gt_calls.specs.declared.held.HeldPin.{HeldPin}
 use Rattle.gt_calls.specs.declared.request.Request.TheVariants as requests
 use Rattle.gt_handles.specs.Handles.{value_of}
-use Rattle.gt_live.specs.Accesses.{IsReadBy, frame_named}
+use Rattle.gt_live.specs.Accesses.{IsReadBy, ReadsFrame, frame_named}
 use Rattle.gt_live.specs.Domains.{knowledge}
 use Rattle.gt_live.proofs.Accessing.{mapped-way, none-left, one-access, refused-access, reaches-mapped}
-use Rattle.gt_live.proofs.DomainKept.{retold}
+use Rattle.gt_live.proofs.DomainKept.{reseated}
 use Rattle.gt_live.proofs.Making.{same_seat-self}
-use Rattle.gt_live.proofs.Visiting.{none_visited}
-use Rattle.gt_live.specs.Visiting.{WasRead}
 use Rattle.gt_live.proofs.domain.Domain.load_into.Goals as goal
 
 pub fill_through-requires-clause-reached : goal.fill_through-requires-clause-reached
@@ -35,26 +32,24 @@ returns-clause-answers g c =
     let there : value_of d.mappings c.args.handle ≡ Some held = sym c.get.ensures.value ∙ ap option_copied c.unwrap-held.ensures in
     let k = knowledge m.config may d in
     let way = mapped-way k d.seat.dom (requests.Load c.args.handle c.args.off (length c.args.buffer.now)) c.args.handle held (λ (p : HeldPin). steps.Read p.dom (frame_of p.entry) c.args.off (length c.args.buffer.now)) (sym c.judge_load.ensures ∙ none-left c.judge_load.result c.in_default.not-Some) there refl in (
-      one-access m.words.layout _ (steps.Read held.dom (frame_of held.entry) c.args.off (length c.args.buffer.now)) IsReadBy c.fill_through.result d.seat.view tt way (subst (λ (n : ℕ). IfOk c.fill_through.result (λ (r : Reading). IsReadOf r (frame_named held.dom n) c.args.off (length c.args.buffer.now))) c.frame.ensures c.fill_through.ensures.read) c.fill_through.ensures.refused,
-      (record { slots = refl; given = refl }, λ t r. refl),
+      one-access m.words.layout _ (steps.Read held.dom (frame_of held.entry) c.args.off (length c.args.buffer.now)) (IsReadBy m.words.layout) c.fill_through.result d.seat.view c.fill_through.new.seat.view tt way (subst (λ (n : ℕ). IfOk c.fill_through.result (λ (r : Reading). ReadsFrame m.words.layout (frame_named held.dom n) c.args.off (length c.args.buffer.now) r d.seat.view c.fill_through.new.seat.view)) c.frame.ensures c.fill_through.ensures.read) c.fill_through.ensures.unmade c.fill_through.ensures.refused,
+      (record { slots = refl; given = refl }, c.fill_through.ensures.same.pins),
       refl,
-      c.fill_through.ensures.visited,
     )
 
 pub returns-in-Some-clause-answers : goal.returns-in-Some-clause-answers
 returns-in-Some-clause-answers g c =
     let m = c.args.monitor.now in let d = c.args.self.now in (
-      refused-access m.words.layout (knowledge m.config (g.P.Allows.may m.rights) d) d.seat.dom (requests.Load c.args.handle c.args.off (length c.args.buffer.now)) IsReadBy
+      refused-access m.words.layout (knowledge m.config (g.P.Allows.may m.rights) d) d.seat.dom (requests.Load c.args.handle c.args.off (length c.args.buffer.now)) (IsReadBy m.words.layout)
           c.in-Some.verdict c.refusal_of.result d.seat.view tt (sym c.judge_load.ensures ∙ c.in-Some.is) c.refusal_of.ensures,
       (record { slots = refl; given = refl }, λ t r. refl),
       refl,
-      none_visited WasRead c.refusal_of.result d.visits d.visits refl,
     )
 
 pub returns-clause-stays : goal.returns-clause-stays
 returns-clause-stays g c =
     let m = c.args.monitor.now in let d = c.args.self.now in
-    (retold m.words m.config (g.P.Allows.may m.rights) d (record d { visits = c.fill_through.new.visits }) c.requires.mine refl refl refl, same_seat-self d.seat)
+    (reseated m.words m.config (g.P.Allows.may m.rights) d c.fill_through.new.seat c.requires.mine c.fill_through.ensures.seat c.fill_through.ensures.same, c.fill_through.ensures.seat)
 
 pub returns-in-Some-clause-stays : goal.returns-in-Some-clause-stays
 returns-in-Some-clause-stays g c = (c.requires.mine, same_seat-self c.args.self.now.seat)

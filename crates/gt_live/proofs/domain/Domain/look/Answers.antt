@@ -35,4 +35,4 @@ returns-clause-quiet g c =
     let l = c.load_control in let f : Domain = record d { seat = l.new.seat } in
     let look = subst (λ (q : DomId). LooksAtControl k (position_in k.ids q) c.args.gref.0 l.result d.seat.view f.seat.view) c.dom-dom.ensures l.ensures.look in
     let made : Made k (LookControl d.seat.dom c.args.gref) (Word l.result) d.seat.view f.seat.view = (look, λ _. l.ensures.own c.dom-dom.ensures) in
-    look-quiet k d f c.args.gref.0 l.result (record { seat = l.ensures.seat; own = refl; mappings = refl; trail = refl; visits = refl }) made
+    look-quiet k d f c.args.gref.0 l.result (record { seat = l.ensures.seat; own = refl; mappings = refl; trail = refl }) made

@@ -43,7 +43,6 @@ returns-in-Some g c =
         (record { slots = refl; given = refl }, λ t q. refl),
       );
       silent = refl;
-      untouched = refl;
     }
 
 pub returns-then-is_err-clause-mine : goal.returns-then-is_err-clause-mine
@@ -100,7 +99,6 @@ returns-in-Err g c =
         (record { slots = slots; given = ap (λ (z : HandleMap HeldPin). z.given) (e.mappings ∙ one) }, same.pins),
       );
       silent = e.trail;
-      untouched = e.visits;
     }
 
 pub returns-in-Ok : goal.returns-in-Ok
@@ -127,5 +125,4 @@ returns-in-Ok g c =
         },
       );
       silent = e.trail;
-      untouched = e.visits;
     }

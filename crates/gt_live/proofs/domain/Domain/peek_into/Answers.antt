@@ -4,15 +4,12 @@ use Rattle.gt_types.specs.declared.DomId.{DomId}
 use Rattle.gt_calls.specs.Rules.{own_access_begun}
 use Rattle.gt_calls.specs.declared.action.Step.TheVariants as steps
 use Rattle.gt_calls.specs.declared.request.Request.TheVariants as requests
-use Rattle.gt_live.specs.Accesses.{IsReadBy, frame_named}
+use Rattle.gt_live.specs.Accesses.{IsReadBy, ReadsFrame, frame_named}
 use Rattle.gt_live.specs.Domains.{knowledge}
 use Rattle.gt_live.proofs.Accessing.{none-left, one-access, own-way, refused-access}
-use Rattle.gt_access.specs.Accesses.{IsReadOf}
 use Rattle.gt_frames.specs.Receipts.{Reading}
-use Rattle.gt_live.proofs.DomainKept.{retold}
+use Rattle.gt_live.proofs.DomainKept.{reseated}
 use Rattle.gt_live.proofs.Making.{same_seat-self}
-use Rattle.gt_live.proofs.Visiting.{none_visited}
-use Rattle.gt_live.specs.Visiting.{WasRead}
 use Rattle.gt_live.proofs.domain.Domain.peek_into.Goals as goal
 
 pub returns-clause-answers : goal.returns-clause-answers
@@ -23,11 +20,10 @@ returns-clause-answers g c =
     c.judge_own_access.ensures ∙ (ap (λ (x : DomId). own_access_begun ds x c.args.frame c.args.off (length c.args.buffer.now)) c.dom-caller.ensures) in
     let access = steps.Read d.seat.dom c.args.frame c.args.off (length c.args.buffer.now) in
     let way = own-way k d.seat.dom (requests.Peek c.args.frame c.args.off (length c.args.buffer.now)) access (sym judged ∙ none-left c.judge_own_access.result c.in_default.not-Some) refl in (
-      one-access m.words.layout _ access IsReadBy c.fill_through.result d.seat.view tt way
-          (subst (λ (x : DomId). IfOk c.fill_through.result (λ (r : Reading). IsReadOf r (frame_named x c.args.frame) c.args.off (length c.args.buffer.now))) c.dom-caller.ensures c.fill_through.ensures.read) c.fill_through.ensures.refused,
-      (record { slots = refl; given = refl }, λ t r. refl),
+      one-access m.words.layout _ access (IsReadBy m.words.layout) c.fill_through.result d.seat.view c.fill_through.new.seat.view tt way
+          (subst (λ (x : DomId). IfOk c.fill_through.result (λ (r : Reading). ReadsFrame m.words.layout (frame_named x c.args.frame) c.args.off (length c.args.buffer.now) r d.seat.view c.fill_through.new.seat.view)) c.dom-caller.ensures c.fill_through.ensures.read) c.fill_through.ensures.unmade c.fill_through.ensures.refused,
+      (record { slots = refl; given = refl }, c.fill_through.ensures.same.pins),
       refl,
-      c.fill_through.ensures.visited,
     )
 
 pub returns-in-Some-clause-answers : goal.returns-in-Some-clause-answers
@@ -36,17 +32,16 @@ returns-in-Some-clause-answers g c =
     let ds = m.config.domains.items in
     let judged : c.judge_own_access.result ≡ own_access_begun ds d.seat.dom c.args.frame c.args.off (length c.args.buffer.now) =
     c.judge_own_access.ensures ∙ (ap (λ (x : DomId). own_access_begun ds x c.args.frame c.args.off (length c.args.buffer.now)) c.dom-caller.ensures) in (
-      refused-access m.words.layout (knowledge m.config (g.P.Allows.may m.rights) d) d.seat.dom (requests.Peek c.args.frame c.args.off (length c.args.buffer.now)) IsReadBy
+      refused-access m.words.layout (knowledge m.config (g.P.Allows.may m.rights) d) d.seat.dom (requests.Peek c.args.frame c.args.off (length c.args.buffer.now)) (IsReadBy m.words.layout)
           c.in-Some.verdict c.refusal_of.result d.seat.view tt (sym judged ∙ c.in-Some.is) c.refusal_of.ensures,
       (record { slots = refl; given = refl }, λ t r. refl),
       refl,
-      none_visited WasRead c.refusal_of.result d.visits d.visits refl,
     )
 
 pub returns-clause-stays : goal.returns-clause-stays
 returns-clause-stays g c =
     let m = c.args.monitor.now in let d = c.args.self.now in
-    (retold m.words m.config (g.P.Allows.may m.rights) d (record d { visits = c.fill_through.new.visits }) c.requires.mine refl refl refl, same_seat-self d.seat)
+    (reseated m.words m.config (g.P.Allows.may m.rights) d c.fill_through.new.seat c.requires.mine c.fill_through.ensures.seat c.fill_through.ensures.same, c.fill_through.ensures.seat)
 
 pub returns-in-Some-clause-stays : goal.returns-in-Some-clause-stays
 returns-in-Some-clause-stays g c = (c.requires.mine, same_seat-self c.args.self.now.seat)

@@ -4,15 +4,12 @@ use Rattle.gt_types.specs.declared.DomId.{DomId}
 use Rattle.gt_calls.specs.Rules.{own_access_begun}
 use Rattle.gt_calls.specs.declared.action.Step.TheVariants as steps
 use Rattle.gt_calls.specs.declared.request.Request.TheVariants as requests
-use Rattle.gt_live.specs.Accesses.{IsWrittenBy, frame_named}
+use Rattle.gt_live.specs.Accesses.{IsWrittenBy, WritesFrame, frame_named}
 use Rattle.gt_live.specs.Domains.{knowledge}
 use Rattle.gt_live.proofs.Accessing.{none-left, one-access, own-way, refused-access}
-use Rattle.gt_access.specs.Accesses.{writing_at}
 use Rattle.gt_frames.specs.Receipts.{Writing}
-use Rattle.gt_live.proofs.DomainKept.{retold}
+use Rattle.gt_live.proofs.DomainKept.{reseated}
 use Rattle.gt_live.proofs.Making.{same_seat-self}
-use Rattle.gt_live.proofs.Visiting.{none_visited}
-use Rattle.gt_live.specs.Visiting.{WasWritten}
 use Rattle.gt_live.proofs.domain.Domain.poke.Goals as goal
 
 pub returns-clause-answers : goal.returns-clause-answers
@@ -23,11 +20,10 @@ returns-clause-answers g c =
     c.judge_own_access.ensures ∙ (ap (λ (x : DomId). own_access_begun ds x c.args.frame c.args.off (length c.args.bytes.now)) c.dom-caller.ensures) in
     let access = steps.Write d.seat.dom c.args.frame c.args.off (length c.args.bytes.now) in
     let way = own-way k d.seat.dom (requests.Poke c.args.frame c.args.off c.args.bytes) access (sym judged ∙ none-left c.judge_own_access.result c.in_default.not-Some) refl in (
-      one-access m.words.layout _ access (IsWrittenBy d.seat.dom c.args.bytes.now) c.write_through.result d.seat.view tt way
-          (subst (λ (x : DomId). IfOk c.write_through.result (λ (r : Writing). r ≡ writing_at (frame_named x c.args.frame) c.args.off c.args.bytes.now d.seat.dom)) c.dom-caller.ensures c.write_through.ensures.written) c.write_through.ensures.refused,
-      (record { slots = refl; given = refl }, λ t r. refl),
+      one-access m.words.layout _ access (IsWrittenBy m.words.layout d.seat.dom c.args.bytes.now) c.write_through.result d.seat.view c.write_through.new.seat.view tt way
+          (subst (λ (x : DomId). IfOk c.write_through.result (λ (r : Writing). WritesFrame m.words.layout (frame_named x c.args.frame) c.args.off c.args.bytes.now d.seat.dom r d.seat.view c.write_through.new.seat.view)) c.dom-caller.ensures c.write_through.ensures.written) c.write_through.ensures.unmade c.write_through.ensures.refused,
+      (record { slots = refl; given = refl }, c.write_through.ensures.same.pins),
       refl,
-      c.write_through.ensures.visited,
     )
 
 pub returns-in-Some-clause-answers : goal.returns-in-Some-clause-answers
@@ -36,17 +32,16 @@ returns-in-Some-clause-answers g c =
     let ds = m.config.domains.items in
     let judged : c.judge_own_access.result ≡ own_access_begun ds d.seat.dom c.args.frame c.args.off (length c.args.bytes.now) =
     c.judge_own_access.ensures ∙ (ap (λ (x : DomId). own_access_begun ds x c.args.frame c.args.off (length c.args.bytes.now)) c.dom-caller.ensures) in (
-      refused-access m.words.layout (knowledge m.config (g.P.Allows.may m.rights) d) d.seat.dom (requests.Poke c.args.frame c.args.off c.args.bytes) (IsWrittenBy d.seat.dom c.args.bytes.now)
+      refused-access m.words.layout (knowledge m.config (g.P.Allows.may m.rights) d) d.seat.dom (requests.Poke c.args.frame c.args.off c.args.bytes) (IsWrittenBy m.words.layout d.seat.dom c.args.bytes.now)
           c.in-Some.verdict c.refusal_of.result d.seat.view tt (sym judged ∙ c.in-Some.is) c.refusal_of.ensures,
       (record { slots = refl; given = refl }, λ t r. refl),
       refl,
-      none_visited WasWritten c.refusal_of.result d.visits d.visits refl,
     )
 
 pub returns-clause-stays : goal.returns-clause-stays
 returns-clause-stays g c =
     let m = c.args.monitor.now in let d = c.args.self.now in
-    (retold m.words m.config (g.P.Allows.may m.rights) d (record d { visits = c.write_through.new.visits }) c.requires.mine refl refl refl, same_seat-self d.seat)
+    (reseated m.words m.config (g.P.Allows.may m.rights) d c.write_through.new.seat c.requires.mine c.write_through.ensures.seat c.write_through.ensures.same, c.write_through.ensures.seat)
 
 pub returns-in-Some-clause-stays : goal.returns-in-Some-clause-stays
 returns-in-Some-clause-stays g c = (c.requires.mine, same_seat-self c.args.self.now.seat)

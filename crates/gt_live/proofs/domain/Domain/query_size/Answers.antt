@@ -24,6 +24,5 @@ returns-clause-answers g c =
           c.args.self.now.seat.view c.ask.new.self.seat.view) (sym c.size_by-result.ensures) (c.ask.ensures.called Size),
       c.ask.ensures.kept,
       c.ask.ensures.silent,
-      c.ask.ensures.untouched,
     ) c.tell.ensures.told
     c.size_reply.ensures.reply c.tell.ensures.kept

@@ -1,6 +1,5 @@
 use Rattle.std.proofs.Common.{◌≡◌, ◌∙◌, sym, ap, subst, refl, Some, length}
 use Rattle.std.specs.Prelude.{IfOk, ℕ, option_copied}
-use Rattle.gt_access.specs.Accesses.{writing_at}
 use Rattle.gt_frames.specs.Receipts.{Writing}
 use Rattle.gt_types.specs.declared.Dir.TheVariants as dirs
 use Rattle.gt_entry.specs.Entries.{frame_of}
@@ -8,13 +7,11 @@ use Rattle.gt_calls.specs.declared.action.Step.TheVariants as steps
 use Rattle.gt_calls.specs.declared.held.HeldPin.{HeldPin}
 use Rattle.gt_calls.specs.declared.request.Request.TheVariants as requests
 use Rattle.gt_handles.specs.Handles.{value_of}
-use Rattle.gt_live.specs.Accesses.{IsWrittenBy, frame_named}
+use Rattle.gt_live.specs.Accesses.{IsWrittenBy, WritesFrame, frame_named}
 use Rattle.gt_live.specs.Domains.{knowledge}
 use Rattle.gt_live.proofs.Accessing.{mapped-way, none-left, one-access, refused-access, reaches-mapped, writes-by}
-use Rattle.gt_live.proofs.DomainKept.{retold}
+use Rattle.gt_live.proofs.DomainKept.{reseated}
 use Rattle.gt_live.proofs.Making.{same_seat-self}
-use Rattle.gt_live.proofs.Visiting.{none_visited}
-use Rattle.gt_live.specs.Visiting.{WasWritten}
 use Rattle.gt_live.proofs.domain.Domain.store.Goals as goal
 
 pub write_through-requires-clause-reached : goal.write_through-requires-clause-reached
@@ -36,26 +33,24 @@ returns-clause-answers g c =
     let there : value_of d.mappings c.args.handle ≡ Some held = sym c.get.ensures.value ∙ ap option_copied c.unwrap-held.ensures in
     let k = knowledge m.config may d in
     let way = mapped-way k d.seat.dom (requests.Store c.args.handle c.args.off c.args.bytes) c.args.handle held (λ (p : HeldPin). steps.Write p.dom (frame_of p.entry) c.args.off (length c.args.bytes.now)) (sym c.judge_store.ensures ∙ none-left c.judge_store.result c.in_default.not-Some) there refl in (
-      one-access m.words.layout _ (steps.Write held.dom (frame_of held.entry) c.args.off (length c.args.bytes.now)) (IsWrittenBy d.seat.dom c.args.bytes.now) c.write_through.result d.seat.view tt way (subst (λ (n : ℕ). IfOk c.write_through.result (λ (r : Writing). r ≡ writing_at (frame_named held.dom n) c.args.off c.args.bytes.now d.seat.dom)) c.frame.ensures c.write_through.ensures.written) c.write_through.ensures.refused,
-      (record { slots = refl; given = refl }, λ t r. refl),
+      one-access m.words.layout _ (steps.Write held.dom (frame_of held.entry) c.args.off (length c.args.bytes.now)) (IsWrittenBy m.words.layout d.seat.dom c.args.bytes.now) c.write_through.result d.seat.view c.write_through.new.seat.view tt way (subst (λ (n : ℕ). IfOk c.write_through.result (λ (r : Writing). WritesFrame m.words.layout (frame_named held.dom n) c.args.off c.args.bytes.now d.seat.dom r d.seat.view c.write_through.new.seat.view)) c.frame.ensures c.write_through.ensures.written) c.write_through.ensures.unmade c.write_through.ensures.refused,
+      (record { slots = refl; given = refl }, c.write_through.ensures.same.pins),
       refl,
-      c.write_through.ensures.visited,
     )
 
 pub returns-in-Some-clause-answers : goal.returns-in-Some-clause-answers
 returns-in-Some-clause-answers g c =
     let m = c.args.monitor.now in let d = c.args.self.now in (
-      refused-access m.words.layout (knowledge m.config (g.P.Allows.may m.rights) d) d.seat.dom (requests.Store c.args.handle c.args.off c.args.bytes) (IsWrittenBy d.seat.dom c.args.bytes.now)
+      refused-access m.words.layout (knowledge m.config (g.P.Allows.may m.rights) d) d.seat.dom (requests.Store c.args.handle c.args.off c.args.bytes) (IsWrittenBy m.words.layout d.seat.dom c.args.bytes.now)
           c.in-Some.verdict c.refusal_of.result d.seat.view tt (sym c.judge_store.ensures ∙ c.in-Some.is) c.refusal_of.ensures,
       (record { slots = refl; given = refl }, λ t r. refl),
       refl,
-      none_visited WasWritten c.refusal_of.result d.visits d.visits refl,
     )
 
 pub returns-clause-stays : goal.returns-clause-stays
 returns-clause-stays g c =
     let m = c.args.monitor.now in let d = c.args.self.now in
-    (retold m.words m.config (g.P.Allows.may m.rights) d (record d { visits = c.write_through.new.visits }) c.requires.mine refl refl refl, same_seat-self d.seat)
+    (reseated m.words m.config (g.P.Allows.may m.rights) d c.write_through.new.seat c.requires.mine c.write_through.ensures.seat c.write_through.ensures.same, c.write_through.ensures.seat)
 
 pub returns-in-Some-clause-stays : goal.returns-in-Some-clause-stays
 returns-in-Some-clause-stays g c = (c.requires.mine, same_seat-self c.args.self.now.seat)

@@ -50,7 +50,6 @@ returns-in-Some g c =
       removed = tt;
       refused = (record { slots = refl; given = refl }, λ t r. refl);
       silent = refl;
-      untouched = refl;
     }
 
 pub unwrap-held-requires : goal.unwrap-held-requires
@@ -92,5 +91,4 @@ returns g c =
       removed = (held, record { taken = taken; spent = t.still_spent });
       refused = tt;
       silent = refl;
-      untouched = refl;
     }

@@ -60,7 +60,6 @@ returns-in-Ok-clause-quiet g c =
         λ t r. left.changes.pins t r ∙ left.same.pins t r,
       );
       trail = kept.trail;
-      visits = kept.visits;
       goes_on = called-goes c.drive_change.ensures.called;
     }
 
@@ -90,7 +89,6 @@ returns-in-Err-clause-quiet g c =
         c.in-Err.ensures.leaves.pins,
       );
       trail = kept.trail;
-      visits = kept.visits;
       goes_on = called-goes c.drive_change.ensures.called;
     }
 

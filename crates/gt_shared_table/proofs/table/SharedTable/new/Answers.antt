@@ -20,7 +20,7 @@ use Rattle.gt_word_history.proofs.Joining.{opens_same, opens_so}
 use Rattle.gt_word_history.proofs.Opens.{headers_ok, opens, opens_empty}
 use Rattle.gt_word_history.proofs.Order.{within}
 use Rattle.gt_shared_table.specs.Rule.{Cell, HoldsAll, newcomer, places_of}
-use Rattle.gt_shared_table.specs.Words.{HasRoom, HasTable, first_slots}
+use Rattle.gt_shared_table.specs.Words.{HasRoom, HasTable, first_slots, frames_kept}
 use Rattle.gt_shared_table.proofs.Names.{one_slot}
 use Rattle.gt_shared_table.proofs.Opens.{opens_all}
 use Rattle.gt_shared_table.proofs.Placed.{few_frames, id_here, names_len, zeros_at}
@@ -82,9 +82,9 @@ module _ (c : Config) (is : HasTable c) (ws : List ℕ) (fs : List FrameState) (
       (λ q n named. ap (λ (l : List Cell). get_elem? l q) (slots ∙ ap cells zeros) ∙ zeros_at (layout_of c).ids 0 c.domains.items (λ j d e. ap (λ (i : ℕ). slice_index_or (layout_of c).ids i (record { 0 = 0 })) (let z : 0 + j ≡ j = omega arith in z) ∙ id_here c.domains.items j d e) q n named)
       (λ q l. omega (arith, all_slots)) (λ q l. omega (arith, all_slots))
 
-has_room : (z : TableId) (key c : Config) → key ≡ c → z.words ≡ header_place (length c.domains.items) + 8 * length (places_of c).names → HasTable c → (firsts : List ℕ) → firsts ≡ first_slots 0 c.domains.items
-    → HasRoom z (places_of key) × HasTable key × (firsts ≡ first_slots 0 key.domains.items)
-has_room z key c same words is firsts first = subst (λ (k : Config). HasRoom z (places_of k) × HasTable k × (firsts ≡ first_slots 0 k.domains.items)) (sym same) ((words, is.few), is, first)
+has_room : (z : TableId) (key c : Config) → key ≡ c → z.words ≡ header_place (length c.domains.items) + 8 * length (places_of c).names → HasTable c → (firsts counts : List ℕ) → firsts ≡ first_slots 0 c.domains.items → counts ≡ frames_kept c
+    → HasRoom z (places_of key) × HasTable key × (firsts ≡ first_slots 0 key.domains.items) × (counts ≡ frames_kept key)
+has_room z key c same words is firsts counts first kept = subst (λ (k : Config). HasRoom z (places_of k) × HasTable k × (firsts ≡ first_slots 0 k.domains.items) × (counts ≡ frames_kept k)) (sym same) ((words, is.few), is, first, kept)
 
 pub first_words-requires-clause-frames : goal.first_words-requires-clause-frames
 first_words-requires-clause-frames c = let n = slots_are c.args.config.now c.in_ok-frames_of_zeros.field-0.items c.in_ok-slots.slots.items (c.in_ok-frames_of_zeros.ensures ∙ ap (λ l. flat_map zero_frames l) (c.deref.ensures.value ∙ c.in_ok-counts.ensures)) c.in_ok-slots.ensures in
@@ -105,4 +105,4 @@ invariant_of-result c = let ok = c.in-Ok.ensures.ok in let many = c.in_ok-words.
     (c.in_ok-frames_of_zeros.ensures ∙ ap (λ l. flat_map zero_frames l) (c.deref.ensures.value ∙ c.in_ok-counts.ensures)) c.in_ok-slots.ensures in
     let at_words = ap length c.deref-2.ensures.value in
     has_room c.in-Ok.table.shared.table_id c.in-Ok.table.shared.key config ok.5 (let e : c.in-Ok.table.shared.table_id.words ≡ header_place (length config.domains.items) + 8 * length (places_of config).names = (let w = ok.0 in omega arith) in e)
-    c.requires c.in_ok-firsts.firsts.items c.in_ok-firsts.ensures
+    c.requires c.in_ok-firsts.firsts.items c.in_ok-frames.frames.items c.in_ok-firsts.ensures c.in_ok-frames.ensures

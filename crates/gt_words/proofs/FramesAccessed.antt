@@ -1,0 +1,70 @@
+-- What an access to a frame leaves of what its seat knew.
+use Rattle.std.proofs.Common.{◌≡◌, ℕ, List, [], ◌∷◌, refl, sym, ap, ◌∙◌, subst, arith, length}
+use Rattle.std.specs.Prelude.{Result, Ok, Err, OnOk, OnErr}
+use Rattle.gt_frames.specs.declared.writ.Writ.{Writ}
+use Rattle.gt_types.specs.declared.Range.{Range}
+use Rattle.gt_shared_table.specs.Accesses.{TakesAccess, TakesCopy}
+use Rattle.gt_shared_table.specs.Rule.{FrameAt}
+use Rattle.gt_word_history.specs.Events.{TookPlace}
+use Rattle.gt_word_history.specs.History.{Layout, StepHistory}
+use Rattle.gt_word_history.specs.Places.{IsSamePlace, SeatAt}
+use Rattle.gt_word_history.specs.Views.{own_header, with_step}
+use Rattle.gt_word_history.specs.declared.view.FrameStep.{FrameStep}
+use Rattle.gt_word_history.specs.declared.view.SeatStep.{SeatStep}
+use Rattle.gt_word_history.specs.declared.view.SeatStep.TheVariants.{Frame}
+use Rattle.gt_word_history.specs.declared.view.View.{View}
+use Rattle.gt_words.specs.Frames.{AccessesFrame, CopiesAt}
+use Rattle.gt_words.specs.Keeping.{Keeps}
+use Rattle.gt_words.proofs.HistorySteps.{each_happened}
+
+keeps_all : (past : StepHistory) (t f : ℕ) (m : FrameStep) (v w : View) → w ≡ with_step past (Frame t f m) v → Keeps v w
+keeps_all past t f m v w e = subst (λ (u : View). Keeps v u) (sym e) (record {
+  rows = record { lists = λ q. refl; last = λ q. refl; bodies = λ q h. refl };
+  header = refl;
+  pins = λ t' r. refl;
+  seen = λ t' r. omega arith;
+})
+
+pub accesses : (k : Layout) (n : FrameAt) (m : FrameStep) (v w : View) → TakesAccess k n m v w → AccessesFrame k n.0 n.1 m v w
+accesses k n m v w a = let past = a.0 in let here = a.2.stood in let next = a.2.still_stands in record {
+  past = past;
+  view = a.1;
+  access = a.2;
+  took = each_happened k next.0 [] past v.position (Frame n.0 n.1 m) (record { history = (v.position, Frame n.0 n.1 m) ∷ past; now = next.1; stood = ((here.0, here.1), a.2.stood_before) }) refl;
+  keeps = keeps_all past n.0 n.1 m v w a.1;
+}
+
+pub copies : (k : Layout) (a b : FrameAt) (w : Writ) (range : Range) (to_off : ℕ) (u v : View) → TakesCopy k a b w range to_off u v → CopiesAt k a b w range to_off u v
+copies k a b w range to_off u v c = (c.0, c.1, accesses k b _ u v c.2)
+
+-- the seat stays the same
+pub same_place : (s t : SeatAt) (past : StepHistory) (x : SeatStep) → t.table ≡ s.table → t.view ≡ with_step past x s.view → IsSamePlace s t
+same_place s t past x table e = (table, ap (λ (v : View). v.position) e, ap (λ (v : View). v.first) e, ap (λ (v : View). v.headers) e, ap (λ (v : View). v.ids) e)
+
+pub still_place : (s t : SeatAt) → t.table ≡ s.table → t.view ≡ s.view → IsSamePlace s t
+still_place s t table e = (table, ap (λ (v : View). v.position) e, ap (λ (v : View). v.first) e, ap (λ (v : View). v.headers) e, ap (λ (v : View). v.ids) e)
+
+module _ {A E : Type 0} where
+  pub place_by : (result : Result A E) (k : Layout) (n : FrameAt) (m : FrameStep) (s t : SeatAt) → t.table ≡ s.table → OnOk result (TakesAccess k n m s.view t.view) → OnErr result (t.view ≡ s.view) → IsSamePlace s t
+  place_by (Ok r) k n m s t table ok err = same_place s t ok.0 (Frame n.0 n.1 m) table ok.1
+  place_by (Err e) k n m s t table ok err = still_place s t table err
+
+  pub header_by : (result : Result A E) (k : Layout) (n : FrameAt) (m : FrameStep) (v w : View) → OnOk result (TakesAccess k n m v w) → OnErr result (w ≡ v) → own_header w ≡ own_header v
+  header_by (Ok r) k n m v w ok err = ap own_header ok.1
+  header_by (Err e) k n m v w ok err = ap own_header err
+
+  pub step_by : (result : Result A E) (k : Layout) (n : FrameAt) (m : FrameStep) (v w : View) → OnOk result (TakesAccess k n m v w) → OnOk result (AccessesFrame k n.0 n.1 m v w)
+  step_by (Ok r) k n m v w ok = accesses k n m v w ok
+  step_by (Err e) k n m v w ok = ok
+
+  pub place_by_copy : (result : Result A E) (k : Layout) (a b : FrameAt) (w : Writ) (range : Range) (to_off : ℕ) (s t : SeatAt) → t.table ≡ s.table → OnOk result (TakesCopy k a b w range to_off s.view t.view) → OnErr result (t.view ≡ s.view) → IsSamePlace s t
+  place_by_copy (Ok r) k a b w range to_off s t table ok err = same_place s t ok.2.0 _ table ok.2.1
+  place_by_copy (Err e) k a b w range to_off s t table ok err = still_place s t table err
+
+  pub header_by_copy : (result : Result A E) (k : Layout) (a b : FrameAt) (w : Writ) (range : Range) (to_off : ℕ) (u v : View) → OnOk result (TakesCopy k a b w range to_off u v) → OnErr result (v ≡ u) → own_header v ≡ own_header u
+  header_by_copy (Ok r) k a b w range to_off u v ok err = ap own_header ok.2.1
+  header_by_copy (Err e) k a b w range to_off u v ok err = ap own_header err
+
+  pub step_by_copy : (result : Result A E) (k : Layout) (a b : FrameAt) (w : Writ) (range : Range) (to_off : ℕ) (u v : View) → OnOk result (TakesCopy k a b w range to_off u v) → OnOk result (CopiesAt k a b w range to_off u v)
+  step_by_copy (Ok r) k a b w range to_off u v ok = copies k a b w range to_off u v ok
+  step_by_copy (Err e) k a b w range to_off u v ok = ok

@@ -1,0 +1,229 @@
+//! The calls that access frames, each one step. Only these calls may wait.
+ghost use Rattle.std.specs.Prelude.{◌≡◌, ◌+◌, ◌≤◌, length, IfErr, IfNone, IfOk, IfSome, IsTrue, OnErr, OnOk};
+ghost use Rattle.gt_frames.specs.Frames.{covers};
+ghost use Rattle.gt_types.specs.declared.limits.TheConstants.{FRAME_SIZE};
+ghost use Rattle.gt_shared_table.specs.Accesses.{IsReadIn, copied_in, written_in};
+ghost use Rattle.gt_shared_table.specs.Words.{HasFrame, named_at};
+ghost use Rattle.gt_word_history.specs.Places.{IsSamePlace};
+ghost use Rattle.gt_word_history.specs.Rule.{id_at};
+ghost use Rattle.gt_word_history.specs.Views.{own_header};
+ghost use Rattle.gt_word_history.specs.declared.view.FrameStep.TheVariants as access;
+ghost use Rattle.gt_words.specs.Conditions.{IsSameSeat, IsSeatOf, position_at};
+ghost use Rattle.gt_words.specs.Frames.{AccessesFrame, CopiesAt, CopiesFrames, IsCopyFault, IsFaultAt, IsReadOf, KeepsFrame};
+ghost use Rattle.gt_words.specs.Frames.{copying_at, index_of, writing_at};
+
+use crate::words::{Seat, Words};
+use gt_frames::{Copied, Filled, Writ, Written};
+use gt_shared_table::{FrameIndex, SharedTable, TableSeat};
+use gt_types::{FrameName, Memory, Range, Spot};
+use std::sync::Wait;
+
+/// Why an access was not made. No frame has changed, and no step was made.
+#[derive(Clone, Copy, Debug, PartialEq, Eq)]
+pub enum AccessFault {
+    /// The table has no such frame.
+    Gone,
+    /// Allocation failed.
+    Memory,
+}
+
+// Reads a frame of the table.
+fn read_at<R: Wait>(
+    rt: &R,
+    words: &SharedTable,
+    seat: &mut TableSeat,
+    frame: FrameIndex,
+    off: u16,
+    out: &mut [u8],
+) -> Filled
+    requires table { seat.old.table ≡ words.now.table }
+    requires inside { HasFrame words.now frame }
+    requires range { off + length out.old ≤ FRAME_SIZE }
+    ensures seat { IsSamePlace seat.old seat.new }
+    ensures step { AccessesFrame words.now.layout frame.position frame.number (access.Read off result.bytes)
+        seat.old.view seat.new.view }
+    ensures filled { (out.new ≡ result.bytes) × (length result.bytes ≡ length out.old) }
+    ensures header { own_header seat.new.view ≡ own_header seat.old.view }
+    ensures receipt { IsReadIn words.now.layout (named_at frame) off result }
+{
+    words.read_frame(rt, seat, frame, off, out)
+}
+
+// Writes to a frame of the table.
+fn write_at<'a, R: Wait>(
+    rt: &R,
+    words: &SharedTable,
+    seat: &mut TableSeat,
+    frame: FrameIndex,
+    writ: &Writ,
+    off: u16,
+    bytes: &'a [u8],
+) -> Result<Written<'a>, Memory>
+    requires table { seat.old.table ≡ words.now.table }
+    requires inside { HasFrame words.now frame }
+    requires range { off + length bytes.now ≤ FRAME_SIZE }
+    requires right { IsTrue (covers writ.now (id_at words.now.layout.ids frame.position) frame.number off
+        (length bytes.now)) }
+    ensures seat { IsSamePlace seat.old seat.new }
+    ensures step { OnOk result (AccessesFrame words.now.layout frame.position frame.number
+        (access.Wrote (record { writ = writ.now; off = off; bytes = bytes.now })) seat.old.view seat.new.view) }
+    ensures header { own_header seat.new.view ≡ own_header seat.old.view }
+    ensures receipt { IfOk result (λ r. r ≡ written_in words.now.layout (named_at frame) writ.now off bytes.now) }
+    ensures refused { OnErr result (seat.new.view ≡ seat.old.view) }
+{
+    words.write_frame(rt, seat, frame, writ, off, bytes)
+}
+
+// Copies between frames of the table.
+fn copy_at<R: Wait>(
+    rt: &R,
+    words: &SharedTable,
+    seat: &mut TableSeat,
+    source: FrameIndex,
+    dest: FrameIndex,
+    writ: &Writ,
+    range: Range,
+    to_off: u16,
+) -> Result<Copied, Memory>
+    requires table { seat.old.table ≡ words.now.table }
+    requires source { HasFrame words.now source }
+    requires dest { HasFrame words.now dest }
+    requires ranges { (range.off + range.len ≤ FRAME_SIZE) × (to_off + range.len ≤ FRAME_SIZE) }
+    requires right { IsTrue (covers writ.now (id_at words.now.layout.ids dest.position) dest.number to_off range.len) }
+    ensures seat { IsSamePlace seat.old seat.new }
+    ensures step { OnOk result (CopiesAt words.now.layout (named_at source) (named_at dest) writ.now range to_off
+        seat.old.view seat.new.view) }
+    ensures header { own_header seat.new.view ≡ own_header seat.old.view }
+    ensures receipt { IfOk result (λ r. r ≡ copied_in words.now.layout (named_at source) (named_at dest)
+        writ.now range to_off) }
+    ensures refused { OnErr result (seat.new.view ≡ seat.old.view) }
+{
+    words.copy_frames(rt, seat, source, dest, writ, range, to_off)
+}
+
+impl Words {
+    // Finds a frame in the table.
+    #[inline(always)]
+    fn frame_at(&self, seat: &mut Seat, name: FrameName) -> Option<FrameIndex>
+        requires { IsSeatOf self.now seat.old }
+        ensures seat { seat.new ≡ seat.old }
+        ensures found { IfSome result (λ f. (f ≡ index_of self.now name) × HasFrame self.now f) }
+        ensures named { IfSome result (λ f. id_at self.now.layout.ids f.position ≡ name.owner) }
+        ensures none { IfNone result (KeepsFrame self.now name → ⊥) }
+    {
+        let frame = FrameIndex {
+            position: self.position(seat, name.owner),
+            number: name.number,
+        };
+        if self.words.has_frame(frame) {
+            Some(frame)
+        } else {
+            None
+        }
+    }
+
+    /// Reads a frame, starting at `off`, into all of `out`. Waits while another seat has the frame. The bytes are those
+    /// that the steps before this one make. Returns `None`, with `out` unchanged, if the table has no such frame.
+    pub fn read_frame<R: Wait>(
+        &self,
+        rt: &R,
+        seat: &mut Seat,
+        name: FrameName,
+        off: u16,
+        out: &mut [u8],
+    ) -> Option<Filled>
+        requires seat { IsSeatOf self.now seat.old }
+        requires range { off + length out.old ≤ FRAME_SIZE }
+        ensures seat { IsSameSeat seat.old seat.new }
+        ensures fits { IsSeatOf self.now seat.new }
+        ensures step { IfSome result (λ r. AccessesFrame self.now.layout (position_at self.now name.owner) name.number
+            (access.Read off r.bytes) seat.old.view seat.new.view) }
+        ensures receipt { IfSome result (λ r. IsReadOf r name off (length out.old)) }
+        ensures filled { IfSome result (λ r. out.new ≡ r.bytes) }
+        ensures none { IfNone result (KeepsFrame self.now name → ⊥) }
+        ensures kept { IfNone result ((out.new ≡ out.old) × (seat.new.view ≡ seat.old.view)) }
+    {
+        let frame = self.frame_at(seat, name)?;
+        Some(read_at(rt, &self.words, &mut seat.place, frame, off, out))
+    }
+
+    /// Writes `bytes` to a frame by this writ, starting at `off`. Waits while another seat has the frame.
+    ///
+    /// # Errors
+    /// [`AccessFault`]. No step was made.
+    pub fn write_frame<'a, R: Wait>(
+        &self,
+        rt: &R,
+        seat: &mut Seat,
+        name: FrameName,
+        writ: &Writ,
+        off: u16,
+        bytes: &'a [u8],
+    ) -> Result<Written<'a>, AccessFault>
+        requires seat { IsSeatOf self.now seat.old }
+        requires range { off + length bytes.now ≤ FRAME_SIZE }
+        requires right { IsTrue (covers writ.now name.owner name.number off (length bytes.now)) }
+        ensures seat { IsSameSeat seat.old seat.new }
+        ensures fits { IsSeatOf self.now seat.new }
+        ensures step { OnOk result (AccessesFrame self.now.layout (position_at self.now name.owner) name.number
+            (access.Wrote (record { writ = writ.now; off = off; bytes = bytes.now })) seat.old.view seat.new.view) }
+        ensures receipt { IfOk result (λ r. r ≡ writing_at name off bytes.now writ.now.writer) }
+        ensures fault { IfErr result (IsFaultAt self.now name) }
+        ensures refused { OnErr result (seat.new.view ≡ seat.old.view) }
+    {
+        let Some(frame) = self.frame_at(seat, name) else {
+            return Err(AccessFault::Gone);
+        };
+        match write_at(rt, &self.words, &mut seat.place, frame, writ, off, bytes) {
+            Ok(written) => Ok(written),
+            Err(Memory) => Err(AccessFault::Memory),
+        }
+    }
+
+    /// Copies `len` bytes from one place to another by this writ, in one frame or between two. Waits while another seat
+    /// has one of the frames. Ranges of one frame may overlap: the bytes written are those that the source range held
+    /// before.
+    ///
+    /// # Errors
+    /// [`AccessFault`]. No step was made.
+    pub fn copy_frames<R: Wait>(
+        &self,
+        rt: &R,
+        seat: &mut Seat,
+        from: Spot,
+        to: Spot,
+        len: u16,
+        writ: &Writ,
+    ) -> Result<Copied, AccessFault>
+        requires seat { IsSeatOf self.now seat.old }
+        requires ranges { (from.off + len ≤ FRAME_SIZE) × (to.off + len ≤ FRAME_SIZE) }
+        requires right { IsTrue (covers writ.now to.frame.owner to.frame.number to.off len) }
+        ensures seat { IsSameSeat seat.old seat.new }
+        ensures fits { IsSeatOf self.now seat.new }
+        ensures step { OnOk result (CopiesFrames self.now.layout from to len writ.now seat.old.view seat.new.view) }
+        ensures receipt { IfOk result (λ r. r ≡ copying_at from to len writ.now.writer) }
+        ensures fault { IfErr result (IsCopyFault self.now from to) }
+        ensures refused { OnErr result (seat.new.view ≡ seat.old.view) }
+    {
+        let Some(source) = self.frame_at(seat, from.frame) else {
+            return Err(AccessFault::Gone);
+        };
+        let Some(dest) = self.frame_at(seat, to.frame) else {
+            return Err(AccessFault::Gone);
+        };
+        let range = Range { off: from.off, len };
+        match copy_at(
+            rt,
+            &self.words,
+            &mut seat.place,
+            source,
+            dest,
+            writ,
+            range,
+            to.off,
+        ) {
+            Ok(copied) => Ok(copied),
+            Err(Memory) => Err(AccessFault::Memory),
+        }
+    }
+}
