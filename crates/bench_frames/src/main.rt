@@ -2,20 +2,22 @@
 //!
 //! `bench_frames WORK COUNT` does the work COUNT times, and prints what it did, never a time. WORK is `writes`, `reads`
 //! or `copies` (of 4,096 bytes), `overlaps` (copies of 4,095 bytes within one frame), `words` (writes of 4 bytes),
-//! `named` (copies of 4,096 bytes among the 1,024 frames of 16 domains), `locks` (of one of these frames), `locked`
-//! (copies of 4,096 bytes under two locks) or `handles` (COUNT in use, then all popped).
+//! `named` (copies of 4,096 bytes among the 1,024 frames of 16 domains), `locks` (reads of no bytes of one of these
+//! frames in the shared table), `locked` (copies of 4,096 bytes between two of them) or `handles` (COUNT in use, then
+//! all popped).
 //!
-//! It promises nothing beyond the calls that it makes, and uses `gt_access`, `gt_frames`, `gt_handles` and `gt_types`.
+//! It promises nothing beyond the calls that it makes, and uses `gt_words`, `gt_frames`, `gt_handles` and `gt_types`.
 //! The script `bench/frames.sh` runs and times it.
 #![tactic(auto)]
 
-ghost use Rattle.std.specs.Prelude.{◌≡◌};
+ghost use Rattle.std.specs.Prelude.{◌≡◌, IfOk};
+ghost use Rattle.gt_words.specs.Conditions.{IsSeatOf};
 
 use anyhow::{Result, bail};
-use gt_access::{FrameAccesses, Pool};
 use gt_frames::{Frame, FrameName, Frames, Spot, Writ, WriteBasis};
 use gt_handles::Handles;
 use gt_types::{Config, DomId, DomainConfig, FRAME_SIZE, Range, TypeId};
+use gt_words::{Seat, Words};
 use std::alloc::Global;
 use std::env;
 use std::sync::Wait;
@@ -149,26 +151,35 @@ fn copy_named(frames: &mut Frames, times: u32) -> u32 {
     times
 }
 
-/// Locks a frame and unlocks it. Returns how often.
-fn lock_all<R: Wait>(rt: &R, pool: &Pool, visits: &mut FrameAccesses, times: u32) -> u32 {
-    for done in 0..times {
-        match pool.lock(rt, far()) {
-            Some(frame) => frame.free(visits),
-            None => return done,
+/// Reads no bytes of a frame of the table, so its lock is taken and freed. Returns how often.
+fn lock_all<R: Wait>(rt: &R, words: &Words, seat: &mut Seat, times: u32) -> u32
+    requires { IsSeatOf words.now seat.old }
+{
+    'reads: for done in 0..times {
+        if words.read_frame(rt, seat, far(), 0, &mut []).is_none() {
+            return done;
         }
     }
     times
 }
 
-/// Copies one whole frame to another under their locks. Returns how often.
-fn copy_locked<R: Wait>(rt: &R, pool: &Pool, visits: &mut FrameAccesses, times: u32) -> u32 {
-    for done in 0..times {
-        let Some(mut ends) = pool.lock_both(rt, far(), near()) else {
-            return done;
-        };
-        let copied = ends.copy(&BY_OWNER, WHOLE, 0);
-        ends.free(visits);
-        if copied.is_err() {
+/// Copies one whole frame of the table to another. Returns how often.
+fn copy_locked<R: Wait>(rt: &R, words: &Words, seat: &mut Seat, times: u32) -> u32
+    requires { IsSeatOf words.now seat.old }
+{
+    let from = Spot {
+        frame: far(),
+        off: 0,
+    };
+    let to = Spot {
+        frame: near(),
+        off: 0,
+    };
+    'copies: for done in 0..times {
+        if words
+            .copy_frames(rt, seat, from, to, FRAME_SIZE, &BY_OWNER)
+            .is_err()
+        {
             return done;
         }
     }
@@ -214,14 +225,23 @@ fn work_on_frames(rt: &HostRuntime, work: &str, count: u32) -> Result<u32> {
     }
 }
 
-fn work_on_pool<R: Wait>(rt: &R, alloc: Global, work: &str, count: u32) -> Result<u32> {
-    let (pool, mut all_visits) = Pool::new(alloc, &config(alloc)?)?;
-    let Some(mut visits) = all_visits.pop() else {
+/// Makes the words of the run, with its frames, and a seat.
+fn start(alloc: Global) -> Result<(Words, Seat)>
+    ensures { IfOk result (λ r. IsSeatOf r.0 r.1) }
+{
+    let (words, mut seats) = Words::new(alloc, &config(alloc)?)?;
+    if seats.is_empty() {
         bail!("no domains");
-    };
+    }
+    let seat = seats.remove(0);
+    Ok((words, seat))
+}
+
+fn work_on_table<R: Wait>(rt: &R, alloc: Global, work: &str, count: u32) -> Result<u32> {
+    let (words, mut seat) = start(alloc)?;
     match work {
-        "locks" => Ok(lock_all(rt, &pool, &mut visits, count)),
-        _ => Ok(copy_locked(rt, &pool, &mut visits, count)),
+        "locks" => Ok(lock_all(rt, &words, &mut seat, count)),
+        _ => Ok(copy_locked(rt, &words, &mut seat, count)),
     }
 }
 
@@ -238,7 +258,7 @@ fn main(rt: HostRuntime) -> Result<()> {
         return Ok(());
     }
     let done = match work.as_str() {
-        "locks" | "locked" => work_on_pool(&rt, rt.alloc(), work.as_str(), count)?,
+        "locks" | "locked" => work_on_table(&rt, rt.alloc(), work.as_str(), count)?,
         other => work_on_frames(&rt, other, count)?,
     };
     println!(rt; "{} {done}", work.as_str())?;

@@ -1,6 +1,8 @@
 -- The attached domains of a run at its start.
-use Rattle.std.specs.Prelude.{◌≡◌, ℕ, ◌<◌, List, [], length, map, HoldsAt, None}
+use Rattle.std.specs.Prelude.{◌≡◌, ℕ, ◌<◌, List, length, map, HoldsAt, None}
 use Rattle.gt_types.specs.declared.config.Config.{Config}
+use Rattle.gt_types.specs.declared.places.FrameName.{FrameName}
+use Rattle.gt_words.specs.Frames.{KeepsFrame}
 use Rattle.gt_live.specs.Domains.{AllowRelation}
 use Rattle.gt_live.specs.Starting.{IsNewDomain}
 use Rattle.gt_live.specs.declared.domain.Domain.{Domain}
@@ -18,7 +20,7 @@ pub record AreNewGuests {P : Type 0} (may : P → AllowRelation) (c : Config) (r
   pub monitor : Monitor P
   pub config : monitor.config ≡ c
   pub rights_are : monitor.rights ≡ rights
-  pub no_frames : monitor.pool ≡ []
+  pub no_frames : (name : FrameName) → KeepsFrame monitor.words name → ⊥
   pub domains : List Domain
   pub guests_are : guests ≡ map (beside monitor) domains
   pub count : length domains ≡ length c.domains.items

@@ -4,7 +4,7 @@ use Rattle.gt_run.specs.Prelude.{Size, Denial, Copying, Reading, Writing, Handle
 use Rattle.gt_run.specs.Prelude.{Request, Answer, Domain, Monitor, IsCopiedBy, IsReadBy, IsWrittenBy}
 use Rattle.gt_run.specs.Prelude.{Accesses, Answered, KeepsPinned, MapAnswered, AllowRelation, mapping_reply}
 use Rattle.gt_run.specs.Prelude.{subject_of, told_copy, told_of, verdict_of, verdict_of_frames, verdict_of_size}
-use Rattle.gt_run.specs.Prelude.{verdict_of_version, Removes, HasVisited, WasCopied, WasRead, WasWritten}
+use Rattle.gt_run.specs.Prelude.{verdict_of_version, Removes}
 use Rattle.gt_live.specs.Domains.{AccessesQuietly, AnswersQuietly, AnswersTold, StaysIn}
 use Rattle.gt_audit.specs.declared.record.Hypercall.TheVariants as hypercalls
 use Rattle.gt_calls.specs.declared.request.Request.TheVariants as requests
@@ -57,13 +57,11 @@ AnswersCall may m d (requests.Map dom gref flags) answer e =
     (r : Result Handle Denial) × (answer ≡ mapped_answer r)
     × MapAnswered may m d (requests.Map dom gref flags) r e
     × Tells d.trail (record { dom = d.seat.dom; call = hypercalls.Map dom gref flags; reply = mapping_reply r }) e.trail
-    × (e.visits ≡ d.visits)
 AnswersCall may m d (requests.Unmap handle) answer e =
     (r : Result (Unit {0}) Denial) × (answer ≡ plain_answer r)
     × Answered may m d (requests.Unmap handle) (verdict_of r) e
     × OnOk r ((p : HeldPin) × Removes d.mappings e.mappings handle p) × OnErr r (KeepsPinned d e)
     × Tells d.trail (told_of d (hypercalls.Unmap (subject_of d handle)) (verdict_of r)) e.trail
-    × (e.visits ≡ d.visits)
 AnswersCall may m d (requests.SetVersion version) answer e =
     (r : Result (Unit {0}) Denial) × (answer ≡ plain_answer r)
     × AnswersTold may m d (requests.SetVersion version) (hypercalls.SetVersion version) (verdict_of r) e
@@ -78,21 +76,22 @@ AnswersCall may m d (requests.GetVersion dom) answer e =
     × AnswersTold may m d (requests.GetVersion dom) (hypercalls.GetVersion dom) (verdict_of_version r) e
 AnswersCall may m d (requests.Load handle off len) answer e =
     (r : Result Reading Denial) × IsReadAnswer r answer
-    × AccessesQuietly may m d (requests.Load handle off len) IsReadBy WasRead r e
+    × AccessesQuietly may m d (requests.Load handle off len) (IsReadBy m.words.layout) r e
 AnswersCall may m d (requests.Peek frame off len) answer e =
     (r : Result Reading Denial) × IsReadAnswer r answer
-    × AccessesQuietly may m d (requests.Peek frame off len) IsReadBy WasRead r e
+    × AccessesQuietly may m d (requests.Peek frame off len) (IsReadBy m.words.layout) r e
 AnswersCall may m d (requests.Store handle off bytes) answer e =
     (r : Result Writing Denial) × (answer ≡ plain_answer r)
-    × AccessesQuietly may m d (requests.Store handle off bytes) (IsWrittenBy d.seat.dom bytes.now) WasWritten r e
+    × AccessesQuietly may m d (requests.Store handle off bytes)
+    (IsWrittenBy m.words.layout d.seat.dom bytes.now) r e
 AnswersCall may m d (requests.Poke frame off bytes) answer e =
     (r : Result Writing Denial) × (answer ≡ plain_answer r)
-    × AccessesQuietly may m d (requests.Poke frame off bytes) (IsWrittenBy d.seat.dom bytes.now) WasWritten r e
+    × AccessesQuietly may m d (requests.Poke frame off bytes)
+    (IsWrittenBy m.words.layout d.seat.dom bytes.now) r e
 AnswersCall may m d (requests.Copy args) answer e =
     (r : Result Copying Denial) × (answer ≡ plain_answer r)
-    × Accesses may m d (requests.Copy args) (IsCopiedBy d.seat.dom) r e
+    × Accesses may m d (requests.Copy args) (IsCopiedBy m.words.layout d.seat.dom) r e
     × KeepsPinned d e × Tells d.trail (told_copy d args r) e.trail
-    × HasVisited WasCopied r d.visits e.visits
 AnswersCall may m d request answer e =
     (r : Result (Unit {0}) Denial) × (answer ≡ plain_answer r) × AnswersQuietly may m d request (verdict_of r) e
 

@@ -10,7 +10,6 @@ pub use Rattle.gt_calls.specs.declared.held.HeldPin.{HeldPin}
 pub use Rattle.gt_calls.specs.declared.request.Request.{Request}
 pub use Rattle.gt_core.specs.declared.trace.Answer.{Answer}
 pub use Rattle.gt_frames.specs.Receipts.{Copying, Reading, Writing}
-pub use Rattle.gt_access.specs.Visits.{FrameAccess}
 pub use Rattle.gt_handles.specs.declared.handles.Handle.{Handle}
 pub use Rattle.gt_host.specs.Auditing.{hypercall_of_request, encoded_record}
 pub use Rattle.gt_host.specs.Naming.{AreNamed}
@@ -25,7 +24,6 @@ pub use Rattle.gt_live.specs.Domains.{subject_of, told_copy, told_of, verdict_of
 pub use Rattle.gt_live.specs.Domains.{verdict_of_version}
 pub use Rattle.gt_live.specs.Mappings.{Removes}
 pub use Rattle.gt_live.specs.Starting.{IsNewDomain}
-pub use Rattle.gt_live.specs.Visiting.{HasVisited, WasCopied, WasRead, WasWritten}
 pub use Rattle.gt_live.specs.declared.domain.Domain.{Domain}
 pub use Rattle.gt_live.specs.declared.monitor.Monitor.{Monitor}
 pub use Rattle.gt_run.specs.declared.lists.ThreadJob.{ThreadJob}

@@ -1,15 +1,15 @@
 //! Accesses by a seat to frames of its own domain.
 ghost use Rattle.std.specs.Prelude.{◌≡◌, IfOk};
-ghost use Rattle.gt_words.specs.Conditions.{IsSeatOf};
+ghost use Rattle.gt_words.specs.Conditions.{IsSameSeat, IsSeatOf};
 
 use crate::places::{BYTES, config, text};
-use gt_access::{AccessContext, FrameAccesses, Pool, copy_by, read_by, write_by};
+use gt_access::{AccessContext, copy_under, read_under, write_under};
 use gt_calls::{AccessPath, CallPins};
-use gt_frames::{FrameName, Read, Spot};
+use gt_frames::{FrameName, Spot};
 use gt_roster::Roster;
-use gt_types::{Allows, Config, Perms, Range, StartFault, TypeId};
+use gt_types::{Allows, Config, Perms, StartFault, TypeId};
 use gt_words::{Seat, Words};
-use std::alloc::{AllocError, Global};
+use std::alloc::Global;
 use std::process::Abort;
 use std::sync::Wait;
 use std::test::Fail;
@@ -40,20 +40,15 @@ fn start(rt: &impl Abort, alloc: Global, config: &Config) -> Result<(Words, Seat
 }
 
 // Writes four bytes to one of its own frames.
-fn wrote<R: Wait>(
-    rt: &R,
-    run: &AccessContext<'_, Everything>,
-    seat: &Seat,
-    visits: &mut FrameAccesses,
-    number: u64,
-) -> bool
-    requires { IsSeatOf run.now.words.now seat.now }
+fn wrote<R: Wait>(rt: &R, run: &AccessContext<'_, Everything>, seat: &mut Seat, number: u64) -> bool
+    requires { IsSeatOf run.now.words.now seat.old }
+    ensures { IsSeatOf run.now.words.now seat.new }
 {
     let name = FrameName {
         owner: seat.dom(),
         number,
     };
-    write_by(rt, run, seat, visits, &AccessPath::Own, name, 0, &BYTES).is_ok()
+    write_under(rt, run, seat, &AccessPath::Own, name, 0, &BYTES).is_ok()
 }
 
 // Returns the spot with this number and offset in one of its own frames.
@@ -73,12 +68,12 @@ fn own(seat: &Seat, place: (u64, u16)) -> Spot
 fn copied<R: Wait>(
     rt: &R,
     run: &AccessContext<'_, Everything>,
-    seat: &Seat,
-    visits: &mut FrameAccesses,
+    seat: &mut Seat,
     from: (u64, u16),
     to: (u64, u16),
 ) -> bool
-    requires { IsSeatOf run.now.words.now seat.now }
+    requires { IsSeatOf run.now.words.now seat.old }
+    ensures { IsSeatOf run.now.words.now seat.new }
 {
     let (source, dest) = (own(seat, from), own(seat, to));
     let routes = CallPins {
@@ -87,28 +82,28 @@ fn copied<R: Wait>(
     };
     source.off <= 4092
         && dest.off <= 4092
-        && copy_by(rt, run, seat, visits, &routes, source, dest, 4).is_ok()
+        && copy_under(rt, run, seat, &routes, source, dest, 4).is_ok()
 }
 
 // Returns the first six bytes of one of its own frames.
 fn first_bytes<R: Wait>(
     rt: &R,
-    alloc: Global,
     run: &AccessContext<'_, Everything>,
-    seat: &Seat,
-    visits: &mut FrameAccesses,
+    seat: &mut Seat,
     number: u64,
-) -> Result<Option<Read>, AllocError>
-    requires { IsSeatOf run.now.words.now seat.now }
+) -> Option<[u8; 6]>
+    requires { IsSeatOf run.now.words.now seat.old }
+    ensures { IsSeatOf run.now.words.now seat.new }
 {
-    let room = Vec::with_capacity(alloc, 6)?;
     let name = FrameName {
         owner: seat.dom(),
         number,
     };
-    let range = Range { off: 0, len: 6 };
-    let route = AccessPath::Own;
-    Ok(read_by(rt, run, seat, visits, &route, name, range, room))
+    let mut out = [7; 6];
+    match read_under(rt, run, seat, &AccessPath::Own, name, 0, &mut out) {
+        Some(_) => Some(out),
+        None => None,
+    }
 }
 
 // The two ends of a copy of four bytes, each as frame and offset, whether it is made, and the first bytes of the frame
@@ -125,25 +120,17 @@ const COPIES: [((u64, u16), (u64, u16), bool, &str); 5] = [
 fn own_frames_are_written_copied_and_read(rt: HostRuntime) -> Result<(), Fail> {
     let alloc = rt.alloc();
     let config = config(alloc)?;
-    let (words, seat) = start(&rt, alloc, &config)?;
-    let (pool, mut all_visits) = Pool::new(alloc, &config)?;
-    let Some(mut visits) = all_visits.pop() else {
-        panic!(rt; "no domains");
-    };
+    let (words, mut seat) = start(&rt, alloc, &config)?;
     let roster = Roster::new(alloc, config)?;
     let run = AccessContext {
         words: &words,
         config: &roster,
         rights: &Everything,
-        pool: &pool,
     };
-    let begun = wrote(&rt, &run, &seat, &mut visits, 0);
-    for (from, to, done, bytes) in COPIES {
-        let answer = copied(&rt, &run, &seat, &mut visits, from, to);
-        let text = text(
-            alloc,
-            first_bytes(&rt, alloc, &run, &seat, &mut visits, to.0)?,
-        )?;
+    let begun = wrote(&rt, &run, &mut seat, 0);
+    'copies: for (from, to, done, bytes) in COPIES {
+        let answer = copied(&rt, &run, &mut seat, from, to);
+        let text = text(alloc, first_bytes(&rt, &run, &mut seat, to.0))?;
         assert_eq!(rt; (begun, answer, text.as_str()), (true, done, bytes));
     }
     Ok(())

@@ -1,8 +1,7 @@
 //! The frames of a run, found by owner and number.
 use crate::places::{BYTES, at, config, text};
-use gt_frames::{FrameName, Frames, Read, Spot, Writ, WriteBasis};
+use gt_frames::{FrameName, Frames, Spot, Writ, WriteBasis};
 use gt_types::{DomId, Range};
-use std::alloc::{AllocError, Global};
 use std::test::Fail;
 use test_rows::spot;
 
@@ -32,15 +31,14 @@ fn copied(frames: &mut Frames, from: Spot, to: Spot, len: u16) -> bool {
 }
 
 // Returns the first six bytes of a frame.
-fn first_bytes(
-    alloc: Global,
-    frames: &Frames,
-    name: FrameName,
-) -> Result<Option<Read>, AllocError> {
-    let out = vec![in alloc; 7u8; 6]?;
+fn first_bytes(frames: &Frames, name: FrameName) -> Option<[u8; 6]> {
+    let mut out = [7; 6];
     match frames.get(name) {
-        Some(frame) => Ok(Some(frame.read(0, out))),
-        None => Ok(None),
+        Some(frame) => {
+            frame.read_into(0, &mut out);
+            Some(out)
+        }
+        None => None,
     }
 }
 
@@ -80,7 +78,7 @@ fn frames_are_copied_by_name(rt: HostRuntime) -> Result<(), Fail> {
     let begun = wrote(&mut frames, at!(1, 0, 0), &BYTES);
     for (from, to, len, done, bytes) in COPIES {
         let answer = copied(&mut frames, from, to, len);
-        let text = text(alloc, first_bytes(alloc, &frames, to.frame)?)?;
+        let text = text(alloc, first_bytes(&frames, to.frame))?;
         assert_eq!(rt; (begun, answer, text.as_str()), (true, done, bytes));
     }
     Ok(())

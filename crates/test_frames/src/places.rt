@@ -1,5 +1,4 @@
 //! Two domains, spots in their frames, and bytes as a text.
-use gt_frames::Read;
 use gt_types::{Config, DomId, DomainConfig, Memory, TypeId};
 use std::alloc::{AllocError, Global};
 
@@ -36,12 +35,9 @@ macro_rules! at {
 pub(crate) use at;
 
 /// Returns the bytes that were read as a text, or that there is no such frame.
-pub fn text(alloc: Global, read: Option<Read>) -> Result<String, AllocError> {
+pub fn text(alloc: Global, read: Option<[u8; 6]>) -> Result<String, AllocError> {
     match read {
-        Some(read) => {
-            let bytes = read.into_bytes();
-            format!(in alloc; "{:?}", bytes.as_slice())
-        }
+        Some(bytes) => format!(in alloc; "{bytes:?}"),
         None => format!(in alloc; "none"),
     }
 }

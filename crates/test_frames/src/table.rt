@@ -1,0 +1,151 @@
+//! Frames in the table of the words, in threads.
+ghost use Rattle.std.specs.Prelude.{◌≡◌, IfOk};
+ghost use Rattle.gt_frames.specs.declared.writ.WriteBasis.{WriteBasis};
+ghost use Rattle.gt_words.specs.Conditions.{IsSeatOf};
+
+use crate::places::{BYTES, at, config, text};
+use gt_frames::{FrameName, Spot, Writ, WriteBasis};
+use gt_types::{DomId, StartFault};
+use gt_words::{Seat, Words};
+use std::alloc::Global;
+use std::process::Abort;
+use std::sync::Wait;
+use std::test::Fail;
+use std::thread;
+use std::thread::Threads;
+use test_rows::spot;
+
+// Makes the words of two domains, and the seats of both.
+fn start(rt: &impl Abort, alloc: Global) -> Result<(Words, Seat, Seat), StartFault>
+    ensures { IfOk result (λ r. IsSeatOf r.0 r.1 × IsSeatOf r.0 r.2) }
+{
+    let Ok(config) = config(alloc) else {
+        return Err(StartFault::Memory);
+    };
+    let (words, mut seats) = Words::new(alloc, &config)?;
+    if seats.len() < 2 {
+        panic!(rt; "no seats");
+    }
+    let first = seats.remove(0);
+    let second = seats.remove(0);
+    Ok((words, first, second))
+}
+
+// Returns the first six bytes of a frame.
+fn first_bytes<R: Wait>(rt: &R, words: &Words, seat: &mut Seat, frame: FrameName) -> Option<[u8; 6]>
+    requires { IsSeatOf words.now seat.old }
+    ensures { IsSeatOf words.now seat.new }
+{
+    let mut out = [7; 6];
+    match words.read_frame(rt, seat, frame, 0, &mut out) {
+        Some(_) => Some(out),
+        None => None,
+    }
+}
+
+fn by_owner(of: FrameName) -> Writ
+    ensures { (result.writer ≡ of.owner) × (result.basis ≡ WriteBasis.Owned) }
+{
+    Writ {
+        writer: of.owner,
+        basis: WriteBasis::Owned,
+    }
+}
+
+// Writes four bytes as the owner, if there is such a frame.
+fn wrote<R: Wait>(rt: &R, words: &Words, seat: &mut Seat, to: FrameName) -> bool
+    requires { IsSeatOf words.now seat.old }
+    ensures { IsSeatOf words.now seat.new }
+{
+    words
+        .write_frame(rt, seat, to, &by_owner(to), 0, &BYTES)
+        .is_ok()
+}
+
+// Copies four bytes as the owner of the second frame, if there are such frames.
+fn copied<R: Wait>(rt: &R, words: &Words, seat: &mut Seat, from: Spot, to: Spot) -> bool
+    requires { IsSeatOf words.now seat.old }
+    ensures { IsSeatOf words.now seat.new }
+{
+    from.off <= 4092
+        && to.off <= 4092
+        && words
+            .copy_frames(rt, seat, from, to, 4, &by_owner(to.frame))
+            .is_ok()
+}
+
+// The two ends of a copy, whether it is made, and the first bytes of the frame written then. Both ends are in one
+// frame, upwards and downwards over itself, in two frames of a domain and of two domains, with the lower slot as
+// source and as destination, and in frames that do not exist.
+const COPIES: [(Spot, Spot, bool, &str); 7] = [
+    (at!(1, 0, 0), at!(1, 0, 1), true, "[1, 1, 2, 3, 4, 0]"),
+    (at!(1, 0, 1), at!(1, 0, 0), true, "[1, 2, 3, 4, 4, 0]"),
+    (at!(1, 0, 0), at!(1, 1, 2), true, "[0, 0, 1, 2, 3, 4]"),
+    (at!(1, 1, 2), at!(2, 1, 0), true, "[1, 2, 3, 4, 0, 0]"),
+    (at!(2, 1, 1), at!(1, 0, 0), true, "[2, 3, 4, 0, 4, 0]"),
+    (at!(1, 0, 0), at!(2, 2, 0), false, "none"),
+    (at!(3, 0, 0), at!(1, 0, 0), false, "[2, 3, 4, 0, 4, 0]"),
+];
+
+#[test]
+fn frames_are_copied_in_the_table(rt: HostRuntime) -> Result<(), Fail> {
+    let alloc = rt.alloc();
+    let (words, mut seat, _) = start(&rt, alloc)?;
+    let begun = wrote(&rt, &words, &mut seat, HERE.frame);
+    'copies: for (from, to, done, bytes) in COPIES {
+        let answer = copied(&rt, &words, &mut seat, from, to);
+        let text = text(alloc, first_bytes(&rt, &words, &mut seat, to.frame))?;
+        assert_eq!(rt; (begun, answer, text.as_str()), (true, done, bytes));
+    }
+    Ok(())
+}
+
+const HERE: Spot = at!(1, 0, 0);
+
+const THERE: Spot = at!(2, 1, 0);
+
+// Copies a thousand times, and counts the copies that were made.
+fn copies<R: Wait>(rt: &R, words: &Words, seat: &mut Seat, from: Spot, to: Spot) -> usize
+    requires { IsSeatOf words.now seat.old }
+    ensures { IsSeatOf words.now seat.new }
+{
+    let mut done: usize = 0;
+    'copies: for _ in 0..1000u32 {
+        if copied(rt, words, seat, from, to) {
+            done = done.wrapping_add(1);
+        }
+    }
+    done
+}
+
+fn forth_and_back<R: Threads + Wait + Sync>(
+    rt: &R,
+    words: &Words,
+    one: &mut Seat,
+    mut other: Seat,
+) -> (usize, usize)
+    requires { IsSeatOf words.now one.old × IsSeatOf words.now other }
+    ensures { IsSeatOf words.now one.new }
+{
+    thread::join(
+        rt,
+        || copies(rt, words, one, HERE, THERE),
+        || copies(rt, words, &mut other, THERE, HERE),
+    )
+}
+
+// Two threads copy between the same two frames in opposite directions. Neither waits forever.
+#[test]
+fn two_threads_copy_forth_and_back(rt: HostRuntime) -> Result<(), Fail> {
+    let alloc = rt.alloc();
+    let (words, mut one, other) = start(&rt, alloc)?;
+    let begun = wrote(&rt, &words, &mut one, HERE.frame)
+        && wrote(&rt, &words, &mut one, THERE.frame);
+    let counts = forth_and_back(&rt, &words, &mut one, other);
+    let text = text(alloc, first_bytes(&rt, &words, &mut one, THERE.frame))?;
+    assert_eq!(rt;
+        (begun, counts, text.as_str()),
+        (true, (1000, 1000), "[1, 2, 3, 4, 0, 0]")
+    );
+    Ok(())
+}
