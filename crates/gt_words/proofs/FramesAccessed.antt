@@ -1,5 +1,5 @@
 -- What an access to a frame leaves of what its seat knew.
-use Rattle.std.proofs.Common.{◌≡◌, ℕ, List, [], ◌∷◌, refl, sym, ap, ◌∙◌, subst, arith, length}
+use Rattle.std.proofs.Common.{◌≡◌, ℕ, ◌<◌, List, [], ◌∷◌, refl, sym, ap, ◌∙◌, subst, arith, length}
 use Rattle.std.specs.Prelude.{Result, Ok, Err, OnOk, OnErr}
 use Rattle.gt_frames.specs.declared.writ.Writ.{Writ}
 use Rattle.gt_types.specs.declared.Range.{Range}
@@ -25,8 +25,9 @@ keeps_all past t f m v w e = subst (λ (u : View). Keeps v u) (sym e) (record {
   seen = λ t' r. omega arith;
 })
 
-pub accesses : (k : Layout) (n : FrameAt) (m : FrameStep) (v w : View) → TakesAccess k n m v w → AccessesFrame k n.0 n.1 m v w
-accesses k n m v w a = let past = a.0 in let here = a.2.stood in let next = a.2.still_stands in record {
+pub accesses : (k : Layout) (n : FrameAt) (m : FrameStep) (v w : View) → n.0 < k.domains → TakesAccess k n m v w → AccessesFrame k n.0 n.1 m v w
+accesses k n m v w l a = let past = a.0 in let here = a.2.stood in let next = a.2.still_stands in record {
+  inside = l;
   past = past;
   view = a.1;
   access = a.2;
@@ -34,8 +35,8 @@ accesses k n m v w a = let past = a.0 in let here = a.2.stood in let next = a.2.
   keeps = keeps_all past n.0 n.1 m v w a.1;
 }
 
-pub copies : (k : Layout) (a b : FrameAt) (w : Writ) (range : Range) (to_off : ℕ) (u v : View) → TakesCopy k a b w range to_off u v → CopiesAt k a b w range to_off u v
-copies k a b w range to_off u v c = (c.0, c.1, accesses k b _ u v c.2)
+pub copies : (k : Layout) (a b : FrameAt) (w : Writ) (range : Range) (to_off : ℕ) (u v : View) → a.0 < k.domains → b.0 < k.domains → TakesCopy k a b w range to_off u v → CopiesAt k a b w range to_off u v
+copies k a b w range to_off u v l n c = (l, c.0, c.1, accesses k b _ u v n c.2)
 
 -- the seat stays the same
 pub same_place : (s t : SeatAt) (past : StepHistory) (x : SeatStep) → t.table ≡ s.table → t.view ≡ with_step past x s.view → IsSamePlace s t
@@ -53,9 +54,9 @@ module _ {A E : Type 0} where
   header_by (Ok r) k n m v w ok err = ap own_header ok.1
   header_by (Err e) k n m v w ok err = ap own_header err
 
-  pub step_by : (result : Result A E) (k : Layout) (n : FrameAt) (m : FrameStep) (v w : View) → OnOk result (TakesAccess k n m v w) → OnOk result (AccessesFrame k n.0 n.1 m v w)
-  step_by (Ok r) k n m v w ok = accesses k n m v w ok
-  step_by (Err e) k n m v w ok = ok
+  pub step_by : (result : Result A E) (k : Layout) (n : FrameAt) (m : FrameStep) (v w : View) → n.0 < k.domains → OnOk result (TakesAccess k n m v w) → OnOk result (AccessesFrame k n.0 n.1 m v w)
+  step_by (Ok r) k n m v w l ok = accesses k n m v w l ok
+  step_by (Err e) k n m v w l ok = ok
 
   pub place_by_copy : (result : Result A E) (k : Layout) (a b : FrameAt) (w : Writ) (range : Range) (to_off : ℕ) (s t : SeatAt) → t.table ≡ s.table → OnOk result (TakesCopy k a b w range to_off s.view t.view) → OnErr result (t.view ≡ s.view) → IsSamePlace s t
   place_by_copy (Ok r) k a b w range to_off s t table ok err = same_place s t ok.2.0 _ table ok.2.1
@@ -65,6 +66,6 @@ module _ {A E : Type 0} where
   header_by_copy (Ok r) k a b w range to_off u v ok err = ap own_header ok.2.1
   header_by_copy (Err e) k a b w range to_off u v ok err = ap own_header err
 
-  pub step_by_copy : (result : Result A E) (k : Layout) (a b : FrameAt) (w : Writ) (range : Range) (to_off : ℕ) (u v : View) → OnOk result (TakesCopy k a b w range to_off u v) → OnOk result (CopiesAt k a b w range to_off u v)
-  step_by_copy (Ok r) k a b w range to_off u v ok = copies k a b w range to_off u v ok
-  step_by_copy (Err e) k a b w range to_off u v ok = ok
+  pub step_by_copy : (result : Result A E) (k : Layout) (a b : FrameAt) (w : Writ) (range : Range) (to_off : ℕ) (u v : View) → a.0 < k.domains → b.0 < k.domains → OnOk result (TakesCopy k a b w range to_off u v) → OnOk result (CopiesAt k a b w range to_off u v)
+  step_by_copy (Ok r) k a b w range to_off u v l n ok = copies k a b w range to_off u v l n ok
+  step_by_copy (Err e) k a b w range to_off u v l n ok = ok

@@ -1,5 +1,5 @@
 -- What the calls on frames promise.
-use Rattle.std.specs.Prelude.{◌≡◌, ℕ, List, length}
+use Rattle.std.specs.Prelude.{◌≡◌, ℕ, ◌<◌, List, length}
 use Rattle.gt_types.specs.declared.DomId.{DomId}
 use Rattle.gt_types.specs.declared.places.FrameName.{FrameName}
 use Rattle.gt_types.specs.declared.places.Spot.{Spot}
@@ -34,6 +34,7 @@ KeepsFrame b name = HasFrame b (index_of b name)
 -- the seat made this access to the frame f of the domain t, as one step at its moment, and nothing else: the step has
 -- the bytes that the steps before it make (Accesses). The seat knows the same of the words as before
 pub record AccessesFrame (k : Layout) (t f : ℕ) (m : FrameStep) (v w : View) : Type 0 where
+  pub inside : t < k.domains
   pub past : StepHistory
   pub view : w ≡ with_step past (Frame t f m) v
   pub access : Accesses k v past (Frame t f m)
@@ -44,7 +45,7 @@ pub record AccessesFrame (k : Layout) (t f : ℕ) (m : FrameStep) (v w : View) :
 -- second frame: the bytes are those that the first then had
 abbrev pub CopiesAt : Layout → FrameAt → FrameAt → Writ → Range → ℕ → View → View → Type 0
 CopiesAt k a b w range to_off u v =
-    (bytes : List ℕ) × (length bytes ≡ range.len)
+    (a.0 < k.domains) × (bytes : List ℕ) × (length bytes ≡ range.len)
     × AccessesFrame k b.0 b.1 (Copied a.0 a.1 range.off (record { writ = w; off = to_off; bytes = bytes })) u v
 
 -- the frame of this name, by the position of its owner

@@ -8,7 +8,7 @@ returns-clause-seat g c = let r = c.copy_frames in let a = c.args in
 
 pub returns-clause-step : goal.returns-clause-step
 returns-clause-step g c = let r = c.copy_frames in let a = c.args in
-    step_by_copy r.result a.words.now.layout (named_at a.source) (named_at a.dest) a.writ.now a.range a.to_off a.seat.now.view r.new.seat.view r.ensures.step
+    step_by_copy r.result a.words.now.layout (named_at a.source) (named_at a.dest) a.writ.now a.range a.to_off a.seat.now.view r.new.seat.view c.requires.source.0 c.requires.dest.0 r.ensures.step
 
 pub returns-clause-header : goal.returns-clause-header
 returns-clause-header g c = let r = c.copy_frames in let a = c.args in

@@ -9,7 +9,7 @@ pub returns-clause-seat : goal.returns-clause-seat
 returns-clause-seat g c = let r = c.read_frame in same_place c.args.seat.now r.new.seat r.ensures.step.0 _ r.ensures.table r.ensures.step.1
 
 pub returns-clause-step : goal.returns-clause-step
-returns-clause-step g c = let r = c.read_frame in accesses c.args.words.now.layout (named_at c.args.frame) (Read c.args.off r.result.bytes) c.args.seat.now.view r.new.seat.view r.ensures.step
+returns-clause-step g c = let r = c.read_frame in accesses c.args.words.now.layout (named_at c.args.frame) (Read c.args.off r.result.bytes) c.args.seat.now.view r.new.seat.view c.requires.inside.0 r.ensures.step
 
 pub returns-clause-header : goal.returns-clause-header
 returns-clause-header g c = ap own_header c.read_frame.ensures.step.1

@@ -9,7 +9,7 @@ returns-clause-seat g c = let r = c.write_frame in let a = c.args in
 
 pub returns-clause-step : goal.returns-clause-step
 returns-clause-step g c = let r = c.write_frame in let a = c.args in
-    step_by r.result a.words.now.layout (named_at a.frame) (Wrote (record { writ = a.writ.now; off = a.off; bytes = a.bytes.now })) a.seat.now.view r.new.seat.view r.ensures.step
+    step_by r.result a.words.now.layout (named_at a.frame) (Wrote (record { writ = a.writ.now; off = a.off; bytes = a.bytes.now })) a.seat.now.view r.new.seat.view c.requires.inside.0 r.ensures.step
 
 pub returns-clause-header : goal.returns-clause-header
 returns-clause-header g c = let r = c.write_frame in let a = c.args in
