@@ -15,7 +15,7 @@ use Rattle.gt_order.specs.Calling.{MapsAreMade, PlainCallsAreMade, UnmapsAreMade
 use Rattle.gt_order.specs.Runs.{LeavesMappings}
 use Rattle.gt_order.specs.Runs.CallOutcome.{Told, Kept, Starved}
 
-leaves : (request : OpenRequest) (verdict : CallResult) (old new : HandleMap HeldPin) → (IsOfMapping request → ⊥) → KeepsMappings old new → LeavesMappings request verdict old new
+pub leaves : (request : OpenRequest) (verdict : CallResult) (old new : HandleMap HeldPin) → (IsOfMapping request → ⊥) → KeepsMappings old new → LeavesMappings request verdict old new
 leaves (Unmap handle) verdict old new n k = absurd (n tt)
 leaves request verdict old new n k = k
 

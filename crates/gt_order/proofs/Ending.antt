@@ -39,7 +39,6 @@ use Rattle.gt_calls.specs.declared.action.Action.TheVariants.{Step as Makes, Don
 use Rattle.gt_calls.specs.declared.action.Observation.{Observation}
 use Rattle.gt_calls.specs.declared.action.Observation.TheVariants.{Nothing}
 use Rattle.gt_calls.specs.declared.action.Step.{Step}
-use Rattle.gt_calls.specs.declared.action.Step.TheVariants.{Write as WriteBytes}
 use Rattle.gt_calls.specs.declared.action.CallResult.{CallResult}
 use Rattle.gt_calls.specs.declared.action.CallResult.TheVariants.{Mapped as KeptPin, Refused}
 use Rattle.gt_calls.specs.declared.held.HeldPin.{HeldPin}
@@ -58,7 +57,7 @@ use Rattle.gt_core.specs.History.{one_if_mapped, open_call, seen_by, table_at, u
 use Rattle.gt_core.specs.Standing.{MappingsAgree}
 use Rattle.gt_core.specs.Acting.{answer_of, setting_of}
 use Rattle.gt_core.specs.declared.trace.Answer.{Answer}
-use Rattle.gt_core.specs.declared.trace.Answer.TheVariants.{Done as AnswerDone, Mapped}
+use Rattle.gt_core.specs.declared.trace.Answer.TheVariants.{Mapped}
 use Rattle.gt_core.specs.declared.trace.ItemEvent.TheVariants.{Stepped}
 use Rattle.gt_core.specs.declared.trace.Item.{Item}
 use Rattle.gt_live.specs.Domains.{AllowRelation, IsDomainOf, knowledge}
@@ -68,7 +67,7 @@ use Rattle.gt_live.specs.Walks.{all_shown, shown_by, seen_in_step}
 use Rattle.gt_live.specs.declared.domain.Domain.{Domain}
 use Rattle.gt_order.proofs.Ends.{KeepsOwn, clean-steps, handles-kept, keeps-own, kept-maps, last-leaves, leaves-known}
 use Rattle.gt_order.proofs.Ends.{leaves-of, maps-quiet, stands-open, told-maps}
-use Rattle.gt_order.proofs.NextItem.{GoesSo, same-way}
+use Rattle.gt_order.proofs.NextItem.{AccessesSo, GoesSo, same-way}
 use Rattle.gt_order.proofs.Making.{header-is}
 use Rattle.gt_order.proofs.DomainsAtRest.{rest-known}
 use Rattle.gt_order.proofs.Stages.{SeatNow}
@@ -78,7 +77,7 @@ use Rattle.gt_order.specs.Agreeing.{Agree, dom_at}
 use Rattle.gt_order.specs.Ordering.{item_of, item_of_beginning, items_by, items_by_outcome, items_of_call}
 use Rattle.gt_order.specs.Ordering.{items_of_calls, items_of_steps, step_in, way_of}
 use Rattle.gt_order.specs.Runs.{CallMade, IsAtRest, IsCall, LeavesMappings, domain_after}
-use Rattle.gt_order.specs.Runs.CallOutcome.{Told, Kept, Starved, Wrote}
+use Rattle.gt_order.specs.Runs.CallOutcome.{Told, Kept, Starved}
 
 -- what answers a call at its beginning
 
@@ -194,7 +193,7 @@ module _ (b : Board) (c : Config) (may : AllowRelation) (limits : IsWithinLimits
     items = own-items item g refl ∙ (λ j. same j ∷ seat.items j);
     maps = mappings-same m.old.mappings _ _ _ _ (sym keeps.mappings) (sym keeps.answered) seat.maps;
     known = keeps.known ∙ seat.known;
-    call = (then, open-then, seat.call.2, map-append (λ (p : Step × Observation). p.1) cl.steps ((r.step, seen_in_step x.1) ∷ []) ∙ ap (λ (z : List Observation). z ++ shown_by x ∷ []) seat.call.3);
+    call = (then, open-then, seat.call.2, map-append (λ (p : Step × Observation). p.1) cl.steps ((r.step, seen_in_step x.1) ∷ []) ∙ ap (λ (z : List Observation). z ++ shown_by x ∷ []) seat.call.3, seat.call.4);
   }
     where
       cl : Underway
@@ -251,11 +250,11 @@ module _ (b : Board) (c : Config) (may : AllowRelation) (limits : IsWithinLimits
   -- the step ends the call
 
   pub ends-told : (g : Items) (ms : List CallMade) (m : CallMade) (xs : List Moment) (x : Moment) (v w : View) (verdict : CallResult) (call : IsCall b c may m) (seat : SeatNow c may g d first (Going ms m xs))
-      → (r : GoesSo c may k g i seat.call.0 (all_shown xs) (way_of c may m) x v w (Some (answer_of verdict))) → m.steps ≡ x ∷ xs → m.outcome ≡ Told verdict → LeavesMappings (asked m.request) verdict m.old.mappings m.new.mappings
+      → (r : GoesSo c may k g i seat.call.0 (all_shown xs) (way_of c may m) x v w (Some (answer_of verdict))) → items_by_outcome d (way_of c may m) m.request m.outcome m.steps ≡ items_of_call d (way_of c may m) m.request (Some (answer_of verdict)) (x ∷ xs) → LeavesMappings (asked m.request) verdict m.old.mappings m.new.mappings
       → v.position ≡ i → w.position ≡ i → m.new.seat.view ≡ w → m.new.seat.view.steps ≡ part_of i ((i, x.1) ∷ x.0) → SeatNow c may (stepped d r.step (seen_in_step x.1) (Some (answer_of verdict)) ∷ g) d first (Resting (m ∷ ms))
-  ends-told g ms m xs x v w verdict call seat r made out leaves at-v at-w view steps = record {
+  ends-told g ms m xs x v w verdict call seat r out leaves at-v at-w view steps = record {
     items = own-items item g refl ∙ ((λ j. item-same m xs x r.step (Some (answer_of verdict)) r.next j ∷ seat.items j) ∙ (one-call ms m xs x (Some (answer_of verdict)) (items_of_calls c may d ms)
-        ∙ (λ j. items_by_outcome d (way_of c may m) m.request (sym out j) (sym made j) ++ items_of_calls c may d ms)));
+        ∙ ap (λ (z : List Item). z ++ items_of_calls c may d ms) (sym out)));
     maps = maps;
     known = ends-known g m x v w item call r.reached r.agree r.stands at-v at-w view steps maps;
     call = closed g item (answer_of verdict) refl refl;
@@ -308,7 +307,7 @@ module _ (b : Board) (c : Config) (may : AllowRelation) (limits : IsWithinLimits
         maps = subst (λ (z : HandleMap HeldPin). MappingsAgree z (mappings_at (item_of_beginning d m.request None ∷ g) d.0) (maps_answered_at (item_of_beginning d m.request None ∷ g) d.0)) (sym rest.mappings)
             (mappings-same _ _ _ _ _ (sym keeps.mappings) (sym keeps.answered) seat.maps);
         known = keeps.known ∙ (seat.known ∙ sym (known-alike (domain_after first ms) m.old rest));
-        call = (record { request = asked m.request; given = bytes_given_by m.request; steps = [] }, open_call-own (item_of_beginning d m.request None) g, refl, refl);
+        call = (record { request = asked m.request; given = bytes_given_by m.request; steps = [] }, open_call-own (item_of_beginning d m.request None) g, refl, refl, refl);
       }
 
   -- a call without a step
@@ -349,18 +348,45 @@ module _ (b : Board) (c : Config) (may : AllowRelation) (limits : IsWithinLimits
         call = closed g item (answer_of verdict) refl refl;
       }
 
-  -- it was a store or a poke, and wrote
-  pub wrote : (g : Items) (h : StepHistory) (ms : List CallMade) (m : CallMade) (dom : DomId) (frame off len : ℕ) → let item : Item = record { actor = d; happened = Stepped (WriteBytes dom frame off len) Nothing; answer = Some AnswerDone } in
-      CanBeReached s (item ∷ g) → Agree s k (item ∷ g) h → IsCall b c may m → m.outcome ≡ Wrote → way_of c may m [] ≡ Some (Makes (WriteBytes dom frame off len)) → m.new.seat.view ≡ m.old.seat.view → KeepsMappings m.old.mappings m.new.mappings
-      → m.old.seat.view.position ≡ i → m.old.seat.view.first ≡ k.first → m.old.seat.view.steps ≡ part_of i h → SeatNow c may g d first (Going ms m []) → SeatNow c may (item ∷ g) d first (Resting (m ∷ ms))
-  wrote g h ms m dom frame off len reached agree call out next view keeps at first-is steps seat =
-      let item : Item = record { actor = d; happened = Stepped (WriteBytes dom frame off len) Nothing; answer = Some AnswerDone } in
-      let own : KeepsOwn s g d item = keeps-own s g d item (λ r. refl) refl refl (maps-quiet g d _ (record { changes = λ z. refl; pins = λ before ps. refl; unpins = λ ps. refl })) in
-      let maps = handles-kept m.old.mappings m.new.mappings _ _ keeps (mappings-same _ _ _ _ _ (sym own.mappings) (sym own.answered) seat.maps) in
-      let tail : List Item = item_of_beginning d m.request None ∷ items_of_calls c may d ms in record {
-        items = own-items item g refl ∙ (ap (λ (z : List Item). item ∷ z) seat.items ∙ ((λ j. record { actor = d; happened = Stepped (step_in (sym next j)) Nothing; answer = Some AnswerDone } ∷ tail)
-            ∙ (λ j. items_by_outcome d (way_of c may m) m.request (sym out j) m.steps ++ items_of_calls c may d ms)));
-        maps = maps;
-        known = stays-known g (item ∷ g) h m.old m.new reached agree call.afterwards view at first-is steps seat.known (kept-table s item g d refl) maps;
-        call = closed g item AnswerDone refl refl;
-      }
+  -- an access
+
+  -- the call goes on after it
+  pub going-on-accessed : (g : Items) (ms : List CallMade) (m : CallMade) (xs : List Moment) (x : Moment) (v w : View) (seat : SeatNow c may g d first (Going ms m xs))
+      → (r : AccessesSo c may k g i (all_shown xs) (way_of c may m) x v w None) → SeatNow c may (stepped d r.step (seen_in_step x.1) None ∷ g) d first (Going ms m (x ∷ xs))
+  going-on-accessed g ms m xs x v w seat r = record {
+    items = own-items item g refl ∙ (λ j. item-same m xs x r.step None r.next j ∷ seat.items j);
+    maps = mappings-same m.old.mappings _ _ _ _ (sym r.keeps.mappings) (sym r.keeps.answered) seat.maps;
+    known = r.keeps.known ∙ seat.known;
+    call = (then, open-then, seat.call.2, map-append (λ (p : Step × Observation). p.1) cl.steps ((r.step, seen_in_step x.1) ∷ []) ∙ ap (λ (z : List Observation). z ++ shown_by x ∷ []) seat.call.3, seat.call.4);
+  }
+    where
+      cl : Underway
+      cl = seat.call.0
+
+      item : Item
+      item = stepped d r.step (seen_in_step x.1) None
+
+      then : Underway
+      then = record { request = cl.request; given = cl.given; steps = cl.steps ++ (r.step, seen_in_step x.1) ∷ [] }
+
+      open-then : open_call (item ∷ g) d.0 ≡ Some then
+      open-then = open_call-own item g ∙ ap (underway_after item) seat.call.1
+
+  -- it ends the call
+  pub ends-accessed : (g : Items) (ms : List CallMade) (m : CallMade) (xs : List Moment) (x : Moment) (v w : View) (answer : Answer) (call : IsCall b c may m) (seat : SeatNow c may g d first (Going ms m xs))
+      → (r : AccessesSo c may k g i (all_shown xs) (way_of c may m) x v w (Some answer)) → items_by_outcome d (way_of c may m) m.request m.outcome m.steps ≡ items_of_call d (way_of c may m) m.request (Some answer) (x ∷ xs)
+      → KeepsMappings m.old.mappings m.new.mappings → v.position ≡ i → w.position ≡ i → m.new.seat.view ≡ w → m.new.seat.view.steps ≡ part_of i ((i, x.1) ∷ x.0)
+      → SeatNow c may (stepped d r.step (seen_in_step x.1) (Some answer) ∷ g) d first (Resting (m ∷ ms))
+  ends-accessed g ms m xs x v w answer call seat r out keeps at-v at-w view steps = record {
+    items = own-items item g refl ∙ ((λ j. item-same m xs x r.step (Some answer) r.next j ∷ seat.items j) ∙ (one-call ms m xs x (Some answer) (items_of_calls c may d ms)
+        ∙ ap (λ (z : List Item). z ++ items_of_calls c may d ms) (sym out)));
+    maps = maps;
+    known = ends-known g m x v w item call r.reached r.agree r.stands at-v at-w view steps maps;
+    call = closed g item answer refl refl;
+  }
+    where
+      item : Item
+      item = stepped d r.step (seen_in_step x.1) (Some answer)
+
+      maps : MappingsAgree m.new.mappings (mappings_at (item ∷ g) d.0) (maps_answered_at (item ∷ g) d.0)
+      maps = handles-kept m.old.mappings m.new.mappings _ _ keeps (mappings-same _ _ _ _ _ (sym r.keeps.mappings) (sym r.keeps.answered) seat.maps)

@@ -34,6 +34,8 @@ use Rattle.gt_core.proofs.Values.{MapEnds, call-ends}
 use Rattle.gt_core.specs.Effects.{Adds}
 use Rattle.gt_core.specs.GoingOn.{IsOnWords, CanBeReached}
 use Rattle.gt_core.specs.History.{History as Items}
+use Rattle.gt_core.specs.GoingOn.{IsAccess}
+use Rattle.gt_core.specs.declared.trace.Answer.{Answer}
 use Rattle.gt_core.specs.declared.trace.Answer.TheVariants.{Denied, Mapped}
 use Rattle.gt_core.specs.declared.trace.Item.{Item}
 use Rattle.gt_handles.specs.Handles.{under}
@@ -117,6 +119,13 @@ keeps-own s g d item changes head maps same = let n = answered-stays g item d.0 
 
 pub maps-quiet : (g : Items) (d : DomId) (item : Item) → KeepsWords item → mappings_at (item ∷ g) d.0 ≡ mappings_at g d.0
 maps-quiet g d item q = ap (gather mapping_named d.0) (live-kept item g q)
+
+-- an access leaves all as it is
+pub accesses-known : (s : Setting) (g : Items) (d : DomId) (step : Step) (seen : Observation) (answer : Option Answer) → IsAccess step → one_if_mapped answer ≡ 0 → KeepsOwn s g d (stepped d step seen answer)
+accesses-known s g d (ReadBytes dom frame off len) seen answer is none = keeps-own s g d _ (λ r. refl) refl none (maps-quiet g d _ (record { changes = λ z. refl; pins = λ before ps. refl; unpins = λ ps. refl }))
+accesses-known s g d (WriteBytes dom frame off len) seen answer is none = keeps-own s g d _ (λ r. refl) refl none (maps-quiet g d _ (record { changes = λ z. refl; pins = λ before ps. refl; unpins = λ ps. refl }))
+accesses-known s g d (CopyBytes from to len) seen answer is none = keeps-own s g d _ (λ r. refl) refl none (maps-quiet g d _ (record { changes = λ z. refl; pins = λ before ps. refl; unpins = λ ps. refl }))
+accesses-known s g d step seen answer is none = absurd is
 
 -- a step that leaves all as it is, of a call that goes on
 pub leaves-known : (s : Setting) (g : Items) (d : DomId) (step : Step) (seen : Observation) → LeavesAll (step, seen) → KeepsOwn s g d (stepped d step seen None)

@@ -1,3 +1,5 @@
+pub mod Accesses
+pub mod Accessing
 pub mod AgreementKept
 pub mod Bytes
 pub mod Called
@@ -16,4 +18,4 @@ pub mod Spelled
 pub mod Stages
 pub mod Start
 pub mod Stepping
-pub mod Writes
+pub mod Walks

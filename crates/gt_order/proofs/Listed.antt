@@ -16,15 +16,17 @@ use Rattle.gt_word_history.specs.Views.{IsAmong}
 use Rattle.gt_word_history.specs.declared.view.View.{View}
 use Rattle.gt_handles.specs.declared.handles.Handle.{Handle}
 use Rattle.gt_calls.specs.declared.action.CallResult.{CallResult}
-use Rattle.gt_calls.specs.Asking.{asked}
+use Rattle.gt_calls.specs.Asking.{asked, bytes_given_by}
 use Rattle.gt_calls.specs.declared.request.Request.{Request}
 use Rattle.gt_calls.specs.declared.request.Request.TheVariants as requests
 use Rattle.gt_core.specs.Acting.{answer_of}
 use Rattle.gt_core.specs.declared.trace.Answer.{Answer}
+use Rattle.gt_core.specs.declared.trace.Bytes.{Bytes}
 use Rattle.gt_core.specs.declared.trace.Answer.TheVariants as answers
-use Rattle.gt_frames.specs.Receipts.{Writing}
+use Rattle.gt_frames.specs.Receipts.{Copying, Reading, Writing}
+use Rattle.gt_types.specs.declared.copies.CopyArgs.{CopyArgs}
 use Rattle.gt_calls.specs.declared.action.CallResult.TheVariants.{Refused}
-use Rattle.gt_live.specs.Accesses.{IsWrittenBy}
+use Rattle.gt_live.specs.Accesses.{IsCopiedBy, IsOfAccess, IsReadBy, IsWrittenBy}
 use Rattle.gt_live.specs.Domains.{Accesses, AllowRelation, Answered, HasLeft, BelongsTo, KeepsPinned, verdict_of}
 use Rattle.gt_live.specs.Domains.{verdict_of_frames, verdict_of_size, verdict_of_version}
 use Rattle.gt_live.specs.Ending.{IsOfMapping}
@@ -35,52 +37,61 @@ use Rattle.gt_live.specs.declared.monitor.Monitor.{Monitor}
 use Rattle.gt_order.proofs.Called.{map-made, plain-made, unmap-made}
 use Rattle.gt_order.proofs.Leaving.{leaving}
 use Rattle.gt_order.proofs.Order.{runs-have-legal-orders}
-use Rattle.gt_order.proofs.Writes.{lost-made, writes-made}
-use Rattle.gt_order.specs.Calling.{IsOutcomeOf, IsStoring, StaysOf, WasMade}
+use Rattle.gt_order.proofs.Accessing.{copies-made, lost-made, reads-made, writes-made}
+use Rattle.gt_order.specs.Calling.{IsLoading, IsOutcomeOf, IsSingle, IsStoring, StaysOf, WasMade}
 use Rattle.gt_order.specs.Leaving.{MayUnmapAll}
 use Rattle.gt_order.specs.Runs.{AreCalls, CallMade, FitsTypes, IsAtRest, IsMonitorRun, IsSeatRun, KeepsNoPin}
 use Rattle.gt_order.specs.Runs.{CallOutcome, SeatRun, domain_after}
-use Rattle.gt_order.specs.Runs.CallOutcome.{Told, Kept, Starved, Wrote}
+use Rattle.gt_order.specs.Runs.CallOutcome.{Told, Kept, Starved, Read, Wrote}
 use Rattle.gt_script_lines.specs.declared.calls.ScriptCall.{ScriptCall}
 use Rattle.gt_script_lines.specs.declared.calls.ScriptCall.TheVariants as calls
 use Rattle.gt_host.specs.Runs.{SaysRequest, Named, request_of}
 use Rattle.gt_script.specs.Lists.{RunAction, RunTask}
 use Rattle.gt_script.specs.declared.tasks.RunActionBy.TheVariants.{Await, Do, Tell}
-use Rattle.gt_run.specs.Asking.{AnswersCall, Asks, frames_answer, mapped_answer, plain_answer, size_answer}
+use Rattle.gt_run.specs.Asking.{AnswersCall, Asks, HasBytes, IsReadAnswer, frames_answer, mapped_answer, plain_answer}
+use Rattle.gt_run.specs.Asking.{size_answer}
 use Rattle.gt_run.specs.Asking.{version_answer}
 use Rattle.gt_run.specs.Printing.{Served}
 use Rattle.gt_run.specs.Serving.{DoesDeed, DoesWhere, ListLeadsTo, MakesCall, ListOutcome, ListProgress, list_start}
 use Rattle.gt_run.specs.declared.lists.ThreadJob.{ThreadJob}
-use Rattle.gt_order.specs.Texts.{AreCallsOf, AreCallsOfList, AreOfALegalOrder, HasList, OutcomeGivesAnswer, IsQuietDuty}
+use Rattle.gt_order.specs.Texts.{AreCallsOf, AreCallsOfList, AreMadeWhole, AreOfALegalOrder, FitsDuty, HasList}
 use Rattle.gt_types.specs.Config.{IsWithinLimits}
-use Rattle.gt_order.specs.Texts.{IsViewOf, ReadsNoBytes, TextsAreOfALegalOrder}
+use Rattle.gt_order.specs.Texts.{IsMadeWhole, IsViewOf, OutcomeGivesAnswer, TextsAreOfALegalOrder}
 
--- a request that reaches no bytes
-abbrev NoBytes : Request → Type 0
-NoBytes (requests.Load handle off len) = ⊥
-NoBytes (requests.Peek frame off len) = ⊥
-NoBytes (requests.Copy args) = ⊥
-NoBytes request = Unit {0}
+-- a copy with this answer did not reach its access without making it
+abbrev NotLost : Request → Answer → Type 0
+NotLost (requests.Copy args) answer = (denial : Denial) → answer ≡ answers.Denied denial → IsOfAccess denial → ⊥
+NotLost request answer = Unit {0}
 
-quiet-request : (named : List Named) (dom : DomId) (bytes : Bor (List ℕ)) (call : ScriptCall) → ReadsNoBytes call → NoBytes (request_of named dom bytes call)
+whole-request : (named : List Named) (dom : DomId) (bytes : Bor (List ℕ)) (call : ScriptCall) (answer : Answer) → IsMadeWhole call answer → NotLost (request_of named dom bytes call) answer
 unfolding request_of
-quiet-request named dom bytes (calls.Grant gref entry) q = tt
-quiet-request named dom bytes (calls.GrantBytes gref hex) q = tt
-quiet-request named dom bytes (calls.Revoke gref) q = tt
-quiet-request named dom bytes (calls.Withdraw gref) q = tt
-quiet-request named dom bytes (calls.Demote gref) q = tt
-quiet-request named dom bytes (calls.Promote gref) q = tt
-quiet-request named dom bytes (calls.Map label to gref flags) q = tt
-quiet-request named dom bytes (calls.Unmap label) q = tt
-quiet-request named dom bytes (calls.Load label off len) q = absurd q
-quiet-request named dom bytes (calls.Store label off hex) q = tt
-quiet-request named dom bytes (calls.Peek frame off len) q = absurd q
-quiet-request named dom bytes (calls.Poke frame off hex) q = tt
-quiet-request named dom bytes (calls.Copy c) q = absurd q
-quiet-request named dom bytes (calls.SetVersion version) q = tt
-quiet-request named dom bytes (calls.SetupTable frames) q = tt
-quiet-request named dom bytes (calls.QuerySize to) q = tt
-quiet-request named dom bytes (calls.GetVersion to) q = tt
+whole-request named dom bytes (calls.Grant gref entry) answer q = tt
+whole-request named dom bytes (calls.GrantBytes gref hex) answer q = tt
+whole-request named dom bytes (calls.Revoke gref) answer q = tt
+whole-request named dom bytes (calls.Withdraw gref) answer q = tt
+whole-request named dom bytes (calls.Demote gref) answer q = tt
+whole-request named dom bytes (calls.Promote gref) answer q = tt
+whole-request named dom bytes (calls.Map label to gref flags) answer q = tt
+whole-request named dom bytes (calls.Unmap label) answer q = tt
+whole-request named dom bytes (calls.Load label off len) answer q = tt
+whole-request named dom bytes (calls.Store label off hex) answer q = tt
+whole-request named dom bytes (calls.Peek frame off len) answer q = tt
+whole-request named dom bytes (calls.Poke frame off hex) answer q = tt
+whole-request named dom bytes (calls.Copy c) answer q = q
+whole-request named dom bytes (calls.SetVersion version) answer q = tt
+whole-request named dom bytes (calls.SetupTable frames) answer q = tt
+whole-request named dom bytes (calls.QuerySize to) answer q = tt
+whole-request named dom bytes (calls.GetVersion to) answer q = tt
+
+module _ {A : Type 0} where
+  in-left : (x : A) (xs ys : List A) → IsAmong x xs → IsAmong x (xs ++ ys)
+  in-left x [] ys is = absurd is
+  in-left x (z ∷ zs) ys (inl e) = inl e
+  in-left x (z ∷ zs) ys (inr is) = inr (in-left x zs ys is)
+
+  in-last : (x : A) (xs : List A) → IsAmong x (xs ++ x ∷ [])
+  in-last x [] = inl refl
+  in-last x (z ∷ zs) = inr (in-last x zs)
 
 -- what is printed is what the call answered
 
@@ -120,10 +131,12 @@ map-same : (r : Result Handle Denial) (outcome : CallOutcome) → IsOutcomeOf r 
 map-same (Ok handle) (Kept given p) e = ap (λ (h : Handle). answers.Mapped h) (sym e)
 map-same (Ok handle) (Told verdict) e = absurd e
 map-same (Ok handle) Starved e = absurd e
+map-same (Ok handle) (Read bytes) e = absurd e
 map-same (Ok handle) Wrote e = absurd e
 map-same (Err denial) (Kept given p) e = absurd e
 map-same (Err denial) (Told verdict) e = sym (ap answer_of e)
 map-same (Err denial) Starved e = (denial, refl, inl e)
+map-same (Err denial) (Read bytes) e = absurd e
 map-same (Err denial) Wrote e = absurd e
 
 module _ {P : Type 0} (may : P → AllowRelation) (m : Monitor P) where
@@ -137,13 +150,32 @@ module _ {P : Type 0} (may : P → AllowRelation) (m : Monitor P) where
         let z = plain-made may m d e request verdict stays other fits none answered kept in (Told verdict, z.0, is ∙ same, z.1)
 
     -- a store or a poke: it wrote, a rule refused it, or its access could not be made
-    storing : (request : Request) (bytes : List ℕ) → IsStoring request → (IsOfMapping (asked request) → ⊥) → FitsTypes request → (answer : Answer) (r : Result Writing Denial) → answer ≡ plain_answer r
-        → Accesses may m d request (IsWrittenBy d.seat.dom bytes) r e → KeepsPinned d e → IsMade request answer d e
-    storing request bytes is other fits answer (Ok w) told accessed kept = (Wrote, [], told, writes-made may m d e request bytes w stays is accessed kept)
-    storing request bytes is other fits answer (Err denial) told (inl called) kept = plain request (Refused denial) (answers.Denied denial) answer other fits tt refl told called kept
-    storing request bytes is other fits answer (Err denial) told (inr lost) kept = (Starved, [], (denial, told, lost.2), lost-made may m d e request lost.0 stays is lost.1 kept)
+    storing : (request : Request) → IsStoring request → IsSingle request → (IsOfMapping (asked request) → ⊥) → FitsTypes request → (answer : Answer) (r : Result Writing Denial) → answer ≡ plain_answer r
+        → Accesses may m d request (IsWrittenBy m.words.layout d.seat.dom (bytes_given_by request)) r e → KeepsPinned d e → IsMade request answer d e
+    storing request is one other fits answer (Ok w) told accessed kept = let z = writes-made may m d e request w stays is accessed kept in (Wrote, z.0, told, z.1)
+    storing request is one other fits answer (Err denial) told (inl called) kept = plain request (Refused denial) (answers.Denied denial) answer other fits tt refl told called kept
+    storing request is one other fits answer (Err denial) told (inr lost) kept = (Starved, [], (denial, told, lost.2), lost-made may m d e request lost.0 stays one lost.1 kept)
 
-    is-made : (request : Request) (answer : Answer) → NoBytes request → FitsTypes request → AnswersCall may m d request answer e → IsMade request answer d e
+    bytes-in : (ys : List ℕ) (answer : Answer) → HasBytes ys answer → (b : Bytes) × (answer ≡ answers.Bytes b) × (b.bytes.items ≡ ys)
+    bytes-in ys (answers.Bytes b) h = (b, refl, h)
+    bytes-in ys answer h = absurd h
+
+    -- a load or a peek
+    loading : (request : Request) → IsLoading request → IsSingle request → (IsOfMapping (asked request) → ⊥) → FitsTypes request → (answer : Answer) (r : Result Reading Denial) → IsReadAnswer r answer
+        → Accesses may m d request (IsReadBy m.words.layout) r e → KeepsPinned d e → IsMade request answer d e
+    loading request is one other fits answer (Ok r) told accessed kept =
+        let b = bytes-in r.bytes answer told in let z = reads-made may m d e request r b.0 stays is b.2 accessed kept in (Read b.0, z.0, b.1, z.1)
+    loading request is one other fits answer (Err denial) told (inl called) kept = plain request (Refused denial) (answers.Denied denial) answer other fits tt refl told called kept
+    loading request is one other fits answer (Err denial) told (inr lost) kept = (Starved, [], (denial, told, lost.2), lost-made may m d e request lost.0 stays one lost.1 kept)
+
+    -- a copy
+    copying : (args : CopyArgs) (answer : Answer) → NotLost (requests.Copy args) answer → FitsTypes (requests.Copy args) → (r : Result Copying Denial) → answer ≡ plain_answer r
+        → Accesses may m d (requests.Copy args) (IsCopiedBy m.words.layout d.seat.dom) r e → KeepsPinned d e → IsMade (requests.Copy args) answer d e
+    copying args answer whole fits (Ok r) told accessed kept = let z = copies-made may m d e args r stays fits accessed kept in (Wrote, z.0, told, z.1)
+    copying args answer whole fits (Err denial) told (inl called) kept = plain (requests.Copy args) (Refused denial) (answers.Denied denial) answer (λ q. q) fits tt refl told called kept
+    copying args answer whole fits (Err denial) told (inr lost) kept = absurd (whole denial told lost.2)
+
+    is-made : (request : Request) (answer : Answer) → NotLost request answer → FitsTypes request → AnswersCall may m d request answer e → IsMade request answer d e
     is-made (requests.Map dom gref flags) answer quiet fits x = let z = map-made may m d e dom gref flags x.0 stays x.2 in
         (z.0, z.2.0, subst (OutcomeGivesAnswer z.0) (sym x.1) (map-same x.0 z.0 z.1), z.2.1)
     is-made (requests.Unmap handle) answer quiet fits x = let z = unmap-made may m d e handle x.0 stays x.2 x.3 x.4 in (Told (verdict_of x.0), z.0, x.1 ∙ plain-same x.0, z.1)
@@ -151,11 +183,11 @@ module _ {P : Type 0} (may : P → AllowRelation) (m : Monitor P) where
     is-made (requests.SetupTable frames) answer quiet fits x = plain (requests.SetupTable frames) (verdict_of_frames x.0) (frames_answer x.0) answer (λ q. q) fits (frames-pin x.0) (frames-same x.0) x.1 x.2.0 x.2.1
     is-made (requests.QuerySize dom) answer quiet fits x = plain (requests.QuerySize dom) (verdict_of_size x.0) (size_answer x.0) answer (λ q. q) fits (size-pin x.0) (size-same x.0) x.1 x.2.0 x.2.1
     is-made (requests.GetVersion dom) answer quiet fits x = plain (requests.GetVersion dom) (verdict_of_version x.0) (version_answer x.0) answer (λ q. q) fits (version-pin x.0) (version-same x.0) x.1 x.2.0 x.2.1
-    is-made (requests.Load handle off len) answer quiet fits x = absurd quiet
-    is-made (requests.Peek frame off len) answer quiet fits x = absurd quiet
-    is-made (requests.Store handle off bytes) answer quiet fits x = storing (requests.Store handle off bytes) bytes.now tt (λ q. q) fits answer x.0 x.1 x.2.0 x.2.1
-    is-made (requests.Poke frame off bytes) answer quiet fits x = storing (requests.Poke frame off bytes) bytes.now tt (λ q. q) fits answer x.0 x.1 x.2.0 x.2.1
-    is-made (requests.Copy args) answer quiet fits x = absurd quiet
+    is-made (requests.Load handle off len) answer quiet fits x = loading (requests.Load handle off len) tt tt (λ q. q) fits answer x.0 x.1 x.2.0 x.2.1
+    is-made (requests.Peek frame off len) answer quiet fits x = loading (requests.Peek frame off len) tt tt (λ q. q) fits answer x.0 x.1 x.2.0 x.2.1
+    is-made (requests.Store handle off bytes) answer quiet fits x = storing (requests.Store handle off bytes) tt tt (λ q. q) fits answer x.0 x.1 x.2.0 x.2.1
+    is-made (requests.Poke frame off bytes) answer quiet fits x = storing (requests.Poke frame off bytes) tt tt (λ q. q) fits answer x.0 x.1 x.2.0 x.2.1
+    is-made (requests.Copy args) answer quiet fits x = copying args answer quiet fits x.0 x.1 x.2 x.3
     is-made (requests.Grant gref entry) answer quiet fits x = plain (requests.Grant gref entry) (verdict_of x.0) (plain_answer x.0) answer (λ q. q) fits (plain-pin x.0) (plain-same x.0) x.1 x.2.0 x.2.1
     is-made (requests.GrantBytes gref bytes) answer quiet fits x = plain (requests.GrantBytes gref bytes) (verdict_of x.0) (plain_answer x.0) answer (λ q. q) fits (plain-pin x.0) (plain-same x.0) x.1 x.2.0 x.2.1
     is-made (requests.Revoke gref) answer quiet fits x = plain (requests.Revoke gref) (verdict_of x.0) (plain_answer x.0) answer (λ q. q) fits (plain-pin x.0) (plain-same x.0) x.1 x.2.0 x.2.1
@@ -164,7 +196,25 @@ module _ {P : Type 0} (may : P → AllowRelation) (m : Monitor P) where
     is-made (requests.Promote gref) answer quiet fits x = plain (requests.Promote gref) (verdict_of x.0) (plain_answer x.0) answer (λ q. q) fits (plain-pin x.0) (plain-same x.0) x.1 x.2.0 x.2.1
 
   -- a list, as far as it has come
-  module _ (duty : ThreadJob P) (over : duty.monitor.now ≡ m) (quiet : IsQuietDuty duty) (first : Domain) where
+  module _ (duty : ThreadJob P) (over : duty.monitor.now ≡ m) (fitting : FitsDuty duty) (final : List ListOutcome) (whole : AreMadeWhole duty final) (first : Domain) where
+    -- the outcomes so far stay among those at the end
+    AreFinal : ListProgress → Type 0
+    AreFinal p = (o : ListOutcome) → IsAmong o p.outcomes → IsAmong o final
+
+    deed-grows : (line : ℕ) (deed : RunAction) (p q : ListProgress) → DoesDeed may duty line deed p q → AreFinal q → AreFinal p
+    unfolding DoesDeed
+    deed-grows line (Do call) p q does all = λ o is. all o (subst (IsAmong o) (sym does.outcomes) (in-left o p.outcomes _ is))
+    deed-grows line (Tell flag) p q does all = subst AreFinal does all
+    deed-grows line (Await flag) p q does all = subst AreFinal does all
+
+    line-grows : (task : RunTask) (b : Bool) (p q : ListProgress) → DoesWhere b may duty task p q → AreFinal q → AreFinal p
+    line-grows task true p q does all = deed-grows task.line task.deed p q does all
+    line-grows task false p q does all = subst AreFinal does all
+
+    grows : (tasks : List RunTask) (p q : ListProgress) → ListLeadsTo may duty p tasks q → AreFinal q → AreFinal p
+    grows [] p q leads all = subst AreFinal leads all
+    grows (task ∷ tasks) p q leads all = line-grows task (task.dom.0 == duty.part.dom.0) p leads.0 leads.1 (grows tasks leads.0 q leads.2 all)
+
     record Come (p : ListProgress) : Type 0 where
       made : List CallMade
       calls_are : AreCalls m.words m.config (may m.rights) first made
@@ -172,13 +222,13 @@ module _ {P : Type 0} (may : P → AllowRelation) (m : Monitor P) where
       lines : AreCallsOf may duty made p.outcomes
       mine : BelongsTo may m p.domain
 
-    one-call : (line : ℕ) (call : ScriptCall) (p q : ListProgress) → ReadsNoBytes call → ((named : List Named) (request : Request) → SaysRequest named duty.part.dom call request → FitsTypes request)
-        → MakesCall may duty line call p q → Come p → Come q
-    one-call line call p q none fits x come =
+    one-call : (line : ℕ) (call : ScriptCall) (p q : ListProgress) → ((named : List Named) (request : Request) → SaysRequest named duty.part.dom call request → FitsTypes request)
+        → (x : MakesCall may duty line call p q) → IsMadeWhole call x.answer → Come p → Come q
+    one-call line call p q fits x made-whole come =
         let says = x.says in
         let asks : Asks may m p.domain x.request x.answer q.domain = subst (λ (y : Monitor P). Asks may y p.domain x.request x.answer q.domain) over x.asks in
-        let no-bytes : NoBytes x.request = subst NoBytes (sym says.2) (quiet-request p.named duty.part.dom says.0 call none) in
-        let z = is-made p.domain q.domain (record { before = come.mine; afterwards = asks.2.0; seat = asks.2.1 }) x.request x.answer no-bytes (fits p.named x.request says) asks.1 in
+        let not-lost : NotLost x.request x.answer = subst (λ (z : Request). NotLost z x.answer) (sym says.2) (whole-request p.named duty.part.dom says.0 call x.answer made-whole) in
+        let z = is-made p.domain q.domain (record { before = come.mine; afterwards = asks.2.0; seat = asks.2.1 }) x.request x.answer not-lost (fits p.named x.request says) asks.1 in
         let m' : CallMade = record { request = x.request; outcome = z.0; steps = z.1; old = p.domain; new = q.domain } in
         let o : ListOutcome = record { line = line; answer = x.answer; told = x.told; lost = x.lost } in
         record {
@@ -189,20 +239,23 @@ module _ {P : Type 0} (may : P → AllowRelation) (m : Monitor P) where
           mine = asks.2.0;
         }
 
-    one-deed : (task : RunTask) → IsAmong task duty.part.tasks.now → (task.dom.0 == duty.part.dom.0) ≡ true → (deed : RunAction) → task.deed ≡ deed → (p q : ListProgress) → DoesDeed may duty task.line deed p q → Come p → Come q
+    one-deed : (task : RunTask) → IsAmong task duty.part.tasks.now → (task.dom.0 == duty.part.dom.0) ≡ true → (deed : RunAction) → task.deed ≡ deed → (p q : ListProgress) → DoesDeed may duty task.line deed p q → AreFinal q → Come p → Come q
     unfolding DoesDeed
-    one-deed task is-in own (Do call) is p q does come = let a = quiet task call is-in own is in one-call task.line call p q a.0 a.1 does come
-    one-deed task is-in own (Tell flag) is p q does come = subst Come (sym does) come
-    one-deed task is-in own (Await flag) is p q does come = subst Come (sym does) come
+    one-deed task is-in own (Do call) is p q does all come =
+        let o : ListOutcome = record { line = task.line; answer = does.answer; told = does.told; lost = does.lost } in
+        let there = all o (subst (IsAmong o) (sym does.outcomes) (in-last o p.outcomes)) in
+        one-call task.line call p q (fitting task call is-in own is) does (whole task call o is-in is there refl) come
+    one-deed task is-in own (Tell flag) is p q does all come = subst Come (sym does) come
+    one-deed task is-in own (Await flag) is p q does all come = subst Come (sym does) come
 
-    one-line : (task : RunTask) → IsAmong task duty.part.tasks.now → (b : Bool) → (task.dom.0 == duty.part.dom.0) ≡ b → (p q : ListProgress) → DoesWhere b may duty task p q → Come p → Come q
-    one-line task is-in true own p q does come = one-deed task is-in own task.deed refl p q does come
-    one-line task is-in false own p q does come = subst Come (sym does) come
+    one-line : (task : RunTask) → IsAmong task duty.part.tasks.now → (b : Bool) → (task.dom.0 == duty.part.dom.0) ≡ b → (p q : ListProgress) → DoesWhere b may duty task p q → AreFinal q → Come p → Come q
+    one-line task is-in true own p q does all come = one-deed task is-in own task.deed refl p q does all come
+    one-line task is-in false own p q does all come = subst Come (sym does) come
 
-    comes : (tasks : List RunTask) → ((task : RunTask) → IsAmong task tasks → IsAmong task duty.part.tasks.now) → (p q : ListProgress) → ListLeadsTo may duty p tasks q → Come p → Come q
-    comes [] each p q leads come = subst Come (sym leads) come
-    comes (task ∷ tasks) each p q leads come =
-        comes tasks (λ t is. each t (inr is)) leads.0 q leads.2 (one-line task (each task (inl refl)) (task.dom.0 == duty.part.dom.0) refl p leads.0 leads.1 come)
+    comes : (tasks : List RunTask) → ((task : RunTask) → IsAmong task tasks → IsAmong task duty.part.tasks.now) → (p q : ListProgress) → ListLeadsTo may duty p tasks q → AreFinal q → Come p → Come q
+    comes [] each p q leads all come = subst Come (sym leads) come
+    comes (task ∷ tasks) each p q leads all come =
+        comes tasks (λ t is. each t (inr is)) leads.0 q leads.2 all (one-line task (each task (inl refl)) (task.dom.0 == duty.part.dom.0) refl p leads.0 leads.1 (grows tasks leads.0 q leads.2 all) come)
 
   take-in : {A : Type 0} (n : ℕ) (xs : List A) (x : A) → IsAmong x (take n xs) → IsAmong x xs
   take-in zero xs x is = absurd is
@@ -250,8 +303,8 @@ module _ {P : Type 0} (may : P → AllowRelation) (m : Monitor P) where
       starts : IsNewDomain m.words m.config (may m.rights) i first
       starts = subst (λ (p : ℕ). IsNewDomain m.words m.config (may m.rights) p l.served.domain) (stands-at i l.served.first.position l.served.domain inside fresh (l.served.first.own ∙ l.dom)) fresh
 
-      come : Come s.duty l.monitor l.quiet first l.served.left
-      come = comes s.duty l.monitor l.quiet l.served.domain (take l.served.number s.duty.part.tasks.now) (λ t is. take-in l.served.number s.duty.part.tasks.now t is) (list_start l.served.domain) l.served.left l.served.leads
+      come : Come s.duty l.monitor l.fits s.outcomes l.whole first l.served.left
+      come = comes s.duty l.monitor l.fits s.outcomes l.whole l.served.domain (take l.served.number s.duty.part.tasks.now) (λ t is. take-in l.served.number s.duty.part.tasks.now t is) (list_start l.served.domain) l.served.left l.served.leads (λ o is. subst (IsAmong o) l.served.came is)
           (record { made = []; calls_are = tt; now = refl; lines = refl; mine = fresh.domain })
 
       lines : AreCallsOf may s.duty come.made s.outcomes

@@ -3,7 +3,8 @@ use Rattle.std.proofs.Common.{◌≡◌, ◌≢◌, ℕ, zero, suc, ◌<◌, ◌
 use Rattle.std.proofs.Common.{length, Option, Some, None, sym, refl, ap, ◌∙◌, subst, arith, ◌⊎◌, inl, inr, eq-eqb}
 use Rattle.std.proofs.Common.{ne_eqb}
 use Rattle.std.proofs.lemmas.Bool.{cases_eq, cases_lt}
-use Rattle.std.specs.Prelude.{IsSome}
+use Rattle.std.proofs.Common.{⊎_elim, ◌+◌}
+use Rattle.std.specs.Prelude.{IsSome, slice_range}
 use Rattle.gt_types.specs.Config.{IsWithinLimits}
 use Rattle.gt_types.specs.Names.{domain_of}
 use Rattle.gt_types.specs.declared.DomId.{DomId}
@@ -14,11 +15,14 @@ use Rattle.gt_words.specs.Conditions.{Board, HasDomain, SeatOf}
 use Rattle.gt_word_history.specs.History.{StepHistory, Layout, Moment, part_of, up_to}
 use Rattle.gt_words.specs.Laws.{domain_of_run, seat_at}
 use Rattle.gt_word_history.specs.Rule.{layout_of, position_in}
+use Rattle.gt_word_history.specs.Steps.{StoodWith}
 use Rattle.gt_word_history.specs.Views.{with_step}
+use Rattle.gt_word_history.specs.declared.view.FrameStep.TheVariants as frames
+use Rattle.gt_word_history.specs.declared.view.SeatStep.TheVariants.{Frame}
 use Rattle.gt_word_history.specs.declared.view.SeatStep.{SeatStep}
 use Rattle.gt_word_history.specs.declared.view.View.{View}
-use Rattle.gt_calls.specs.Asking.{SpellsItsEntry, asked, begun_of}
-use Rattle.gt_calls.specs.Path.{path, steps_of}
+use Rattle.gt_calls.specs.Asking.{SpellsItsEntry, asked, begun_of, bytes_given_by}
+use Rattle.gt_calls.specs.Path.{Continuation, path, steps_of}
 use Rattle.gt_calls.specs.Rules.{CallerKnowledge}
 use Rattle.gt_calls.specs.declared.action.Action.{Action}
 use Rattle.gt_calls.specs.declared.action.Action.TheVariants.{Step as Makes, Done}
@@ -28,39 +32,46 @@ use Rattle.gt_calls.specs.declared.request.Request.{Request}
 use Rattle.gt_calls.specs.declared.action.Observation.{Observation}
 use Rattle.gt_calls.specs.declared.action.Observation.TheVariants.{Nothing}
 use Rattle.gt_calls.specs.declared.action.Step.{Step}
-use Rattle.gt_calls.specs.declared.action.Step.TheVariants.{Write as WriteBytes}
-use Rattle.gt_core.proofs.GoingOn.{calls-can-begin, open-calls-can-access}
+use Rattle.gt_calls.specs.declared.action.Step.TheVariants.{Copy as CopyBytes, Read as ReadBytes, Write as WriteBytes}
+use Rattle.gt_core.proofs.GoingOn.{calls-can-begin}
 use Rattle.gt_core.proofs.Words.{fun_ext}
 use Rattle.gt_core.specs.declared.trace.ItemEvent.TheVariants.{Stepped}
 use Rattle.gt_core.specs.declared.trace.Item.{Item}
 use Rattle.gt_live.specs.Mappings.{KeepsMappings}
 use Rattle.gt_core.proofs.Steps.Observers.{stepped}
-use Rattle.gt_core.specs.GoingOn.{AnsweredSo, CanBeReached, MayBeGiven, begin_answer, beginning}
-use Rattle.gt_core.specs.History.{History as Items, Setting, known_at, seen_by, table_at, values}
+use Rattle.gt_core.specs.GoingOn.{AnsweredSo, CanBeReached, MayBeGiven, TellsAccess, begin_answer, beginning}
+use Rattle.gt_core.specs.History.{History as Items, Setting, contents_at, known_at, one_if_mapped, seen_by, table_at}
+use Rattle.gt_core.specs.History.{values}
 use Rattle.gt_core.specs.Legal.{IsRight}
 use Rattle.gt_core.specs.Acting.{answer_of, setting_of}
-use Rattle.gt_core.specs.declared.trace.Answer.TheVariants.{Done as AnswerDone, Mapped}
+use Rattle.gt_core.specs.declared.trace.Answer.{Answer}
+use Rattle.gt_core.specs.declared.trace.Answer.TheVariants.{Bytes as BytesAnswer, Done as AnswerDone, Mapped}
 use Rattle.gt_live.proofs.Walking.{after-position}
 use Rattle.gt_live.specs.Domains.{AllowRelation, knowledge}
 use Rattle.gt_live.specs.Starting.{IsNewDomain}
 use Rattle.gt_live.specs.Walks.{IsWalk, MakesStep, view_after, all_shown, shown_by, seen_in_step}
 use Rattle.gt_live.specs.declared.domain.Domain.{Domain}
+use Rattle.gt_order.proofs.Accesses.{AccessedAs, accessed-as, read-as, read-bytes, writes-by-none, writes-by-words}
 use Rattle.gt_order.proofs.Bytes.{said}
+use Rattle.gt_order.proofs.Called.{leaves}
 use Rattle.gt_order.proofs.Ending.{RefusesOnly, answered-at-once, answers, asked-refuses, begins, core-adds, ends-kept}
-use Rattle.gt_order.proofs.Ending.{ends-told, going-on, keeps-at-once, known-alike, no-pin-at-once, starves, wrote}
-use Rattle.gt_order.proofs.NextItem.{goes-so, on-way, same-way, unanswered}
+use Rattle.gt_order.proofs.Ending.{ends-accessed, ends-told, going-on, going-on-accessed, keeps-at-once, known-alike}
+use Rattle.gt_order.proofs.Ending.{no-pin-at-once, starves}
+use Rattle.gt_order.proofs.NextItem.{accesses-so, goes-so, on-way, unanswered}
 use Rattle.gt_order.proofs.Making.{made-as, one-moment}
 use Rattle.gt_order.proofs.DomainsAtRest.{can-be-answered, keeps-agreement}
 use Rattle.gt_order.proofs.Stages.{Fits, IsGoing, Ordered, SeatNow, Stage, one-more}
 use Rattle.gt_order.proofs.Stages.Stage.{Going, Resting}
 use Rattle.gt_order.proofs.Start.{ordered-first}
 use Rattle.gt_order.proofs.Stepping.{bounded-quiet, bounded-step}
-use Rattle.gt_order.specs.Agreeing.{IsThe, dom_at}
+use Rattle.gt_order.proofs.Walks.{as-walk}
+use Rattle.gt_order.specs.Agreeing.{IsThe, WritesAgree, dom_at}
 use Rattle.gt_order.specs.Laws.{RunsHaveLegalOrders}
-use Rattle.gt_order.specs.Ordering.{AreStepsOf, IsLegalOrder, ThenStep, item_of_beginning, way_of}
-use Rattle.gt_order.specs.Runs.{AreCalls, CallMade, IsAnswered, IsAtRest, IsCall, IsWriteStep, KeepsNoPin, CallOutcome}
-use Rattle.gt_order.specs.Runs.{TookSteps, domain_after}
-use Rattle.gt_order.specs.Runs.CallOutcome.{Told, Kept, Starved, Wrote}
+use Rattle.gt_order.specs.Ordering.{AreStepsOf, IsLegalOrder, IsNewest, item_of_beginning, items_by_outcome}
+use Rattle.gt_order.specs.Ordering.{items_of_call, way_of}
+use Rattle.gt_order.specs.Runs.{AreCalls, CallMade, CallOutcome, IsAnswered, IsAtRest, IsCall, IsCallWalk, KeepsNoPin}
+use Rattle.gt_order.specs.Runs.{LeavesMappings, MakesAccess, MakesTurn, TookSteps, domain_after}
+use Rattle.gt_order.specs.Runs.CallOutcome.{Told, Kept, Starved, Read, Wrote}
 
 -- a stage in the place of another
 abbrev put : ℕ → Stage → (ℕ → Stage) → ℕ → Stage
@@ -90,10 +101,66 @@ module _ {A : Type 0} where
   no-head : (x : A) (xs : List A) → x ∷ xs ≡ [] → ⊥
   no-head x xs e = cc
 
--- a step of the words is the newest one
-then-more : (k : Layout) (d : DomId) (i : ℕ) (step : Step) (seen : Observation) (x : SeatStep) (rest : StepHistory → Type 0) (h : StepHistory) → d ≡ dom_at k i → IsThe k i step x → seen ≡ seen_in_step x → rest h → ThenStep k d step seen rest ((i, x) ∷ h)
-then-more k d i (WriteBytes dom frame off len) seen x rest h own the shows r = absurd the
+-- a step is the newest one
+then-more : (k : Layout) (d : DomId) (i : ℕ) (step : Step) (seen : Observation) (x : SeatStep) (rest : StepHistory → Type 0) (h : StepHistory) → d ≡ dom_at k i → IsThe k i step x → seen ≡ seen_in_step x → rest h → IsNewest k d step seen rest ((i, x) ∷ h)
 then-more k d i step seen x rest h own the shows r = (own, the, shows, r)
+
+-- an access of a call, which comes next on its path
+abbrev IsNextAccess : Layout → ℕ → List ℕ → Continuation → List Moment → Moment → View → View → Type 0
+IsNextAccess k i given way xs x v w = (z : Step) × (way (all_shown xs) ≡ Some (Makes z)) × AccessedAs k i given z v w x × MakesAccess k given z v w
+
+-- the newest step of a call was made on the words, or is its access
+turn-of : (k : Layout) (i : ℕ) (given : List ℕ) (way : Continuation) (xs : List Moment) (x : Moment) (u : View) → MakesTurn k given (way (all_shown xs)) (shown_by x) (view_after xs u) (view_after (x ∷ xs) u)
+    → MakesStep k (way (all_shown xs)) (shown_by x) (view_after xs u) (view_after (x ∷ xs) u) ⊎ IsNextAccess k i given way xs x (view_after xs u) (view_after (x ∷ xs) u)
+turn-of k i given way xs x u turn = by (way (all_shown xs)) refl turn
+  where
+    abbrev v : View
+    v = view_after xs u
+
+    abbrev w : View
+    w = view_after (x ∷ xs) u
+
+    by : (o : Option Action) → way (all_shown xs) ≡ o → MakesTurn k given o (shown_by x) v w → MakesStep k (way (all_shown xs)) (shown_by x) v w ⊎ IsNextAccess k i given way xs x v w
+    by (Some (Makes z)) e (inl m) = inl (subst (λ (q : Option Action). MakesStep k q (shown_by x) v w) (sym e) m)
+    by (Some (Makes z)) e (inr m) =
+        let y = accessed-as k i given z v w m.1 in let same : x ≡ y.0 = one-moment x y.0 v y.1.view in
+        inr (z, e, subst (AccessedAs k i given z v w) (sym same) y.1, m.1)
+    by (Some (Done r)) e m = absurd m
+    by None e m = absurd m
+
+-- it was taken after the steps of its moment
+stood-of : (k : Layout) (i : ℕ) (given : List ℕ) (way : Continuation) (xs : List Moment) (x : Moment) (u : View) → (view_after xs u).position ≡ i → MakesTurn k given (way (all_shown xs)) (shown_by x) (view_after xs u) (view_after (x ∷ xs) u)
+    → (z : Step) × (way (all_shown xs) ≡ Some (Makes z)) × StoodWith (Unit {0}) k x.0 (view_after xs u)
+stood-of k i given way xs x u at turn = ⊎_elim (words (way (all_shown xs)) refl) (λ (q : IsNextAccess k i given way xs x v w). (q.0, q.1, q.2.stood)) (turn-of k i given way xs x u turn)
+  where
+    abbrev v : View
+    v = view_after xs u
+
+    abbrev w : View
+    w = view_after (x ∷ xs) u
+
+    words : (o : Option Action) → way (all_shown xs) ≡ o → MakesStep k (way (all_shown xs)) (shown_by x) v w → (z : Step) × (way (all_shown xs) ≡ Some (Makes z)) × StoodWith (Unit {0}) k x.0 v
+    words (Some (Makes z)) e m =
+        let y = made-as k i v w at z (shown_by x) (subst (λ (q : Option Action). MakesStep k q (shown_by x) v w) e m) in
+        let same : x ≡ y.0 = one-moment x y.0 v y.1.view in
+        (z, e, subst (λ (q : Moment). StoodWith (Unit {0}) k q.0 v) (sym same) y.1.stood)
+    words (Some (Done r)) e m = absurd (subst (λ (q : Option Action). MakesStep k q (shown_by x) v w) e m)
+    words None e m = absurd (subst (λ (q : Option Action). MakesStep k q (shown_by x) v w) e m)
+
+-- a write or a copy answers no bytes
+tells-done : (g : Items) (k : Layout) (given : List ℕ) (z : Step) (v w : View) → MakesAccess k given z v w → TellsAccess g z AnswerDone
+tells-done g k given (WriteBytes dom frame off len) v w m = refl
+tells-done g k given (CopyBytes from to len) v w m = refl
+tells-done g k given z v w m = absurd m
+
+-- the newest of these steps is this access
+abbrev LastIs : Layout → ℕ → List ℕ → Step → View → List Moment → Type 0
+LastIs k i given z u [] = ⊥
+LastIs k i given z u (y ∷ ys) = AccessedAs k i given z (view_after ys u) (view_after (y ∷ ys) u) y
+
+abbrev LastNext : Continuation → Step → List Moment → Type 0
+LastNext way z [] = ⊥
+LastNext way z (y ∷ ys) = way (all_shown ys) ≡ Some (Makes z)
 
 module _ (b : Board) (c : Config) (may : AllowRelation) (limits : IsWithinLimits c) (is : b.layout ≡ layout_of c) (firsts : ℕ → Domain) (new : (i : ℕ) → i < b.layout.domains → IsNewDomain b c may i (firsts i)) where
   abbrev k : Layout
@@ -146,28 +213,21 @@ module _ (b : Board) (c : Config) (may : AllowRelation) (limits : IsWithinLimits
 
   -- the call goes back by one step
   back : (h : StepHistory) (p : ℕ × SeatStep) (i : ℕ) (ms : List CallMade) (m : CallMade) (xs : List Moment) (x : Moment) → p.0 ≡ i → AreCalls b c may (firsts i) ms → IsAtRest (domain_after (firsts i) ms) m.old → IsCall b c may m → m.old.seat.view.position ≡ i
-      → IsWalk k (way_of c may m) m.old.seat.view (x ∷ xs) → (view_after (x ∷ xs) m.old.seat.view).steps ≡ part_of i (p ∷ h) → (view_after (x ∷ xs) m.old.seat.view).past ≡ up_to i (p ∷ h)
+      → (z : Step) × (way_of c may m (all_shown xs) ≡ Some (Makes z)) × StoodWith (Unit {0}) k x.0 (view_after xs m.old.seat.view) → IsCallWalk k (bytes_given_by m.request) (way_of c may m) m.old.seat.view xs
+      → (view_after (x ∷ xs) m.old.seat.view).steps ≡ part_of i (p ∷ h) → (view_after (x ∷ xs) m.old.seat.view).past ≡ up_to i (p ∷ h)
       → ((x.0 ≡ h) × (x.1 ≡ p.1)) × Fits b c may h i (firsts i) (Going ms m xs)
-  back h p i ms m xs x here calls rest call at walk steps past =
+  back h p i ms m xs x here calls rest call at newest walk steps past =
       let v = view_after xs m.old.seat.view in let at-v : v.position ≡ i = after-position xs m.old.seat.view ∙ at in
       let same = at-moment h x i p v at-v here past in
       let top : part_of i (p ∷ h) ≡ p.1 ∷ part_of i h = ap (λ (z : Bool). cond z (p.1 ∷ part_of i h) (part_of i h)) (eq-eqb p.0 i here) in
-      let before : v.steps ≡ part_of i h = tail-same _ _ _ _ (steps ∙ top) in
-      (same, by (way_of c may m (all_shown xs)) refl walk.0 before at-v same.0)
-    where
-      by : (o : Option Action) → way_of c may m (all_shown xs) ≡ o → MakesStep k o (shown_by x) (view_after xs m.old.seat.view) (view_after (x ∷ xs) m.old.seat.view) → (view_after xs m.old.seat.view).steps ≡ part_of i h → (view_after xs m.old.seat.view).position ≡ i → x.0 ≡ h
-          → Fits b c may h i (firsts i) (Going ms m xs)
-      by (Some (Makes z)) e made before at-v same =
-          let u = made-as k i (view_after xs m.old.seat.view) (view_after (x ∷ xs) m.old.seat.view) at-v z (shown_by x) made in
-          let w = one-moment x u.0 (view_after xs m.old.seat.view) u.1.view in
-          let stood = u.1.stood in
-          record {
-            is = record { calls = calls; rests = rest; call = call; walked = walk.1; step = z; next = e };
-            steps = before;
-            past = (stood.1.led_here.parts (view_after xs m.old.seat.view).position (view_after xs m.old.seat.view) stood.2).1 ∙ (λ j. up_to (at-v j) ((sym (ap (λ (q : Moment). q.0) w) ∙ same) j));
-          }
-      by (Some (Done verdict)) e made before at-v same = absurd made
-      by None e made before at-v same = absurd made
+      let before : v.steps ≡ part_of i h = tail-same _ _ _ _ (steps ∙ top) in let stood = newest.2 in (
+        same,
+        record {
+          is = record { calls = calls; rests = rest; call = call; walked = walk; step = newest.0; next = newest.1 };
+          steps = before;
+          past = (stood.1.led_here.parts v.position v stood.2).1 ∙ (λ j. up_to (at-v j) (same.0 j));
+        },
+      )
 
   -- a call that made no step kept its view
 
@@ -178,7 +238,8 @@ module _ (b : Board) (c : Config) (may : AllowRelation) (limits : IsWithinLimits
   same-view request (Told verdict) steps D E a none = took-none request verdict steps D E a.1 none
   same-view request (Kept handle p) steps D E a none = took-none request (KeptPin p) steps D E a.1 none
   same-view request Starved steps D E a none = a.1
-  same-view request Wrote steps D E a none = a.1
+  same-view request (Read bytes) steps D E a none = absurd (no-head _ _ (sym a.0.step ∙ none))
+  same-view request Wrote steps D E a none = absurd (no-head _ _ (sym a.0.all ∙ none))
 
   -- the beginning of a call that is to make a step
 
@@ -196,45 +257,9 @@ module _ (b : Board) (c : Config) (may : AllowRelation) (limits : IsWithinLimits
       let right : IsRight s o.g item = subst (λ (z : Option CallResult). IsRight s o.g (beginning d m.request (begin_answer z))) here begun.0 in
       let reached : CanBeReached s (item ∷ o.g) = subst (λ (z : Option CallResult). CanBeReached s (beginning d m.request (begin_answer z) ∷ o.g)) here begun.1 in
       one-more b c may limits is h h firsts (put i (Resting ms) stages) stages i item o l refl (named i l) right reached
-      (keeps-agreement s k o.g h item (record { changes = λ z. refl; pins = λ before ps. refl; unpins = λ ps. refl }) refl (λ z half. refl) o.agree) o.steps (bounded-quiet k o.g item (record { changes = λ z. refl; pins = λ before ps. refl; unpins = λ ps. refl }) o.bounded)
+      (keeps-agreement s k o.g h item (record { changes = λ z. refl; pins = λ before ps. refl; unpins = λ ps. refl }) refl (λ z half. refl) o.agree) o.steps (writes-by-none k o.g h item (λ given contents. refl) o.writes) (bounded-quiet k o.g item (record { changes = λ z. refl; pins = λ before ps. refl; unpins = λ ps. refl }) o.bounded)
       (λ j n. sym (put-else i (Resting ms) stages j n))
       (subst (SeatNow c may (item ∷ o.g) d (firsts i)) (sym e) (begins b c may limits is i l (firsts i) (named i l) o.g ms m rest seat))
-
-  -- a store or a poke, after the calls before it: its beginning, and its write
-
-  put-twice : (i : ℕ) (y z : Stage) (f : ℕ → Stage) → put i y (put i z f) ≡ put i y f
-  put-twice i y z f = fun_ext (λ j. both (i == j) (f j))
-    where
-      both : (t : Bool) (x : Stage) → cond t y (cond t z x) ≡ cond t y x
-      both true x = refl
-      both false x = refl
-
-  wrote-call : (h : StepHistory) (i : ℕ) (l : i < k.domains) (m : CallMade) (ms : List CallMade) (stages : ℕ → Stage) → stages i ≡ Resting (m ∷ ms) → m.outcome ≡ Wrote → AreCalls b c may (firsts i) (m ∷ ms) → m.new.seat.view ≡ m.old.seat.view
-      → KeepsMappings m.old.mappings m.new.mappings → (domain_after (firsts i) ms).seat.view.steps ≡ part_of i h → (access : Step) → IsWriteStep access → way_of c may m [] ≡ Some (Makes access) → way_of c may m (Nothing ∷ []) ≡ Some (Done Granted)
-      → Ordered b c may h firsts (put i (Resting ms) stages) → Ordered b c may h firsts stages
-  wrote-call h i l m ms stages e out calls view keeps steps (WriteBytes dom frame off len) writes next done o =
-      let d = dom_at k i in let call : IsCall b c may m = calls.0 in let rest = calls.1 in let at = placed i l ms calls.2 in
-      let access : Step = WriteBytes dom frame off len in
-      let going : IsGoing b c may (firsts i) ms m [] = record { calls = calls.2; rests = rest; call = call; walked = tt; step = access; next = next } in
-      let back : Ordered b c may h firsts (put i (Resting ms) (put i (Going ms m []) stages)) = subst (Ordered b c may h firsts) (sym (put-twice i (Resting ms) (Going ms m []) stages)) o in
-      let p = begin-call h i l m ms (put i (Going ms m []) stages) (put-here i (Going ms m []) stages) going back in
-      let seat = subst (SeatNow c may p.g d (firsts i)) (put-here i (Going ms m []) stages) (p.each i l) in
-      let own : m.old.seat.dom ≡ d = sym call.before.seat.named ∙ ap (dom_at k) (ap (λ (z : SeatOf). z.view.position) rest.seat ∙ at.0) in
-      let know = knowledge c may m.old in
-      let none : begun_of know m.old.seat.dom m.request ≡ None = unanswered (begun_of know m.old.seat.dom m.request) (steps_of know m.old.seat.dom (asked m.request)) [] access next in
-      let on : (vs : List Observation) → path (known_at s p.g d) d seat.call.0.request vs ≡ way_of c may m vs =
-      λ vs. (λ j. path (seat.known j) (sym own j) (seat.call.2 j) vs) ∙ same-way know m.old.seat.dom m.request none (said know m.old.seat.dom m.request call.fits.1) vs in
-      let comes : path (known_at s p.g d) d seat.call.0.request (values seat.call.0) ≡ Some (Makes access) = ap (path (known_at s p.g d) d seat.call.0.request) seat.call.3 ∙ (on [] ∙ next) in
-      let ends : path (known_at s p.g d) d seat.call.0.request (values seat.call.0 ++ Nothing ∷ []) ≡ Some (Done Granted) = (λ j. path (known_at s p.g d) d seat.call.0.request (seat.call.3 j ++ Nothing ∷ [])) ∙ (on (Nothing ∷ []) ∙ done) in
-      let made = open-calls-can-access s p.g d seat.call.0 access (Done Granted) (Some AnswerDone) p.reached (named i l) seat.call.1 comes tt ends (AnswerDone, refl, refl) in
-      let item : Item = record { actor = d; happened = Stepped (WriteBytes dom frame off len) Nothing; answer = Some AnswerDone } in
-      let agree = keeps-agreement s k p.g h item (record { changes = λ z. refl; pins = λ before ps. refl; unpins = λ ps. refl }) refl (λ z half. refl) p.agree in
-      let old-view = ap (λ (z : SeatOf). z.view) rest.seat in
-      one-more b c may limits is h h firsts (put i (Going ms m []) stages) stages i item p l refl (named i l) made.0 made.1 agree p.steps (bounded-quiet k p.g item (record { changes = λ z. refl; pins = λ before ps. refl; unpins = λ ps. refl }) p.bounded)
-      (λ j n. sym (put-else i (Going ms m []) stages j n))
-      (subst (SeatNow c may (item ∷ p.g) d (firsts i)) (sym e) (wrote b c may limits is i l (firsts i) (named i l) p.g h ms m dom frame off len made.1 agree call out next view keeps
-      (ap (λ (z : View). z.position) old-view ∙ at.0) (ap (λ (z : View). z.first) old-view ∙ at.1) (ap (λ (z : View). z.steps) old-view ∙ steps) seat))
-  wrote-call h i l m ms stages e out calls view keeps steps access writes next done o = absurd writes
 
   -- a call without a step, after those before it
 
@@ -280,6 +305,7 @@ module _ (b : Board) (c : Config) (may : AllowRelation) (limits : IsWithinLimits
         agree = o.agree;
         legal = o.legal;
         steps = o.steps;
+        writes = o.writes;
         bounded = o.bounded;
         each = λ j lj. elim (cases_eq i j) [
           | inl f ↦ subst (λ (z : ℕ). SeatNow c may o.g (dom_at k z) (firsts z) (stages z)) f (subst (SeatNow c may o.g d (firsts i)) (sym e)
@@ -287,7 +313,8 @@ module _ (b : Board) (c : Config) (may : AllowRelation) (limits : IsWithinLimits
           | inr n ↦ subst (SeatNow c may o.g (dom_at k j) (firsts j)) (sym (same j n)) (o.each j lj)
         ];
       }
-      by Wrote out a = wrote-call h i l m ms stages e out calls a.1 a.2 steps a.3.access a.3.writes a.3.next a.3.done o
+      by (Read bytes) out a = absurd (no-head _ _ (sym a.0.step ∙ none))
+      by Wrote out a = absurd (no-head _ _ (sym a.0.all ∙ none))
       by (Kept handle p) out a = absurd (no-pin-at-once (asked m.request) p a.0 (subst (RefusesOnly (asked m.request)) (at-once (KeptPin p) a.1) (asked-refuses (knowledge c may m.old) m.old.seat.dom m.request)))
       by (Told verdict) out a =
           let op = at-once verdict a.1 in
@@ -296,7 +323,7 @@ module _ (b : Board) (c : Config) (may : AllowRelation) (limits : IsWithinLimits
           let item = item_of_beginning d m.request (Some (answer_of verdict)) in
           let agree = keeps-agreement s k o.g h item (record { changes = λ z. refl; pins = λ before ps. refl; unpins = λ ps. refl }) refl (λ z half. refl) o.agree in
           let keeps = keeps-at-once (asked m.request) verdict m.old.mappings m.new.mappings (subst (RefusesOnly (asked m.request)) op (asked-refuses (knowledge c may m.old) m.old.seat.dom m.request)) a.2 in
-          one-more b c may limits is h h firsts (put i (Resting ms) stages) stages i item o l refl (named i l) answered.0 answered.1 agree o.steps (bounded-quiet k o.g item (record { changes = λ z. refl; pins = λ before ps. refl; unpins = λ ps. refl }) o.bounded) same
+          one-more b c may limits is h h firsts (put i (Resting ms) stages) stages i item o l refl (named i l) answered.0 answered.1 agree o.steps (writes-by-none k o.g h item (λ given contents. refl) o.writes) (bounded-quiet k o.g item (record { changes = λ z. refl; pins = λ before ps. refl; unpins = λ ps. refl }) o.bounded) same
           (subst (SeatNow c may (item ∷ o.g) d (firsts i)) (sym e) (answers b c may limits is i l (firsts i) (named i l) o.g h ms m verdict answered.1 agree call rest out none view keeps at.0 at.1 steps seat))
 
   -- a step of a call that goes on
@@ -307,10 +334,29 @@ module _ (b : Board) (c : Config) (may : AllowRelation) (limits : IsWithinLimits
       let d = dom_at k i in let call = going.call in let at = placed i l ms going.calls in
       let at-old : m.old.seat.view.position ≡ i = ap (λ (z : SeatOf). z.view.position) going.rests.seat ∙ at.0 in
       let seat = subst (SeatNow c may o.g d (firsts i)) (put-here i (Going ms m xs) stages) (o.each i l) in
-      let r = goes-so b c may limits is o.g i l m ms (firsts i) xs x call at-old (named i l) o.reached o.agree seat o.bounded going.walked.0 (Makes going.step) None going.next refl in
-      one-more b c may limits is x.0 ((i, x.1) ∷ x.0) firsts (put i (Going ms m xs) stages) stages i (stepped d r.step (seen_in_step x.1) None) o l refl (named i l) r.right r.reached r.agree (then-more k d i r.step (seen_in_step x.1) x.1 (AreStepsOf k o.g) x.0 refl r.the refl o.steps) (bounded-step k o.g d r.step (seen_in_step x.1) None r.inner o.bounded)
-      (λ j n. sym (put-else i (Going ms m xs) stages j n))
-      (subst (SeatNow c may (stepped d r.step (seen_in_step x.1) None ∷ o.g) d (firsts i)) (sym e) (going-on b c may limits is i l (firsts i) (named i l) o.g ms m xs x (view_after xs m.old.seat.view) (view_after (x ∷ xs) m.old.seat.view) call seat r))
+      ⊎_elim (words d call at-old seat) (access d call at-old seat) (turn-of k i (bytes_given_by m.request) (way_of c may m) xs x m.old.seat.view going.walked.0)
+    where
+      abbrev v : View
+      v = view_after xs m.old.seat.view
+
+      abbrev w : View
+      w = view_after (x ∷ xs) m.old.seat.view
+
+      words : (d : DomId) → IsCall b c may m → m.old.seat.view.position ≡ i → SeatNow c may o.g (dom_at k i) (firsts i) (Going ms m xs) → MakesStep k (way_of c may m (all_shown xs)) (shown_by x) v w → Ordered b c may ((i, x.1) ∷ x.0) firsts stages
+      words _ call at-old seat walk =
+          let d = dom_at k i in let r = goes-so b c may limits is o.g i l m ms (firsts i) xs x call at-old (named i l) o.reached o.agree seat o.bounded walk (Makes going.step) None going.next refl in
+          one-more b c may limits is x.0 ((i, x.1) ∷ x.0) firsts (put i (Going ms m xs) stages) stages i (stepped d r.step (seen_in_step x.1) None) o l refl (named i l) r.right r.reached r.agree (then-more k d i r.step (seen_in_step x.1) x.1 (AreStepsOf k o.g) x.0 refl r.the refl o.steps)
+          (writes-by-words k o.g x.0 i d r.step x.1 (seen_in_step x.1) None r.quiet r.the o.writes) (bounded-step k o.g d r.step (seen_in_step x.1) None r.inner o.bounded)
+          (λ j n. sym (put-else i (Going ms m xs) stages j n))
+          (subst (SeatNow c may (stepped d r.step (seen_in_step x.1) None ∷ o.g) d (firsts i)) (sym e) (going-on b c may limits is i l (firsts i) (named i l) o.g ms m xs x v w call seat r))
+
+      access : (d : DomId) → IsCall b c may m → m.old.seat.view.position ≡ i → SeatNow c may o.g (dom_at k i) (firsts i) (Going ms m xs) → IsNextAccess k i (bytes_given_by m.request) (way_of c may m) xs x v w → Ordered b c may ((i, x.1) ∷ x.0) firsts stages
+      access _ call at-old seat q =
+          let d = dom_at k i in let r = accesses-so b c may limits is o.g i l m ms (firsts i) xs x call at-old (named i l) o.reached o.agree o.writes seat o.bounded v w q.0 q.1 q.2 (Makes going.step) None going.next refl refl in
+          one-more b c may limits is x.0 ((i, x.1) ∷ x.0) firsts (put i (Going ms m xs) stages) stages i (stepped d r.step (seen_in_step x.1) None) o l refl (named i l) r.right r.reached r.agree (then-more k d i r.step (seen_in_step x.1) x.1 (AreStepsOf k o.g) x.0 refl r.the refl o.steps)
+          r.writes r.bounded
+          (λ j n. sym (put-else i (Going ms m xs) stages j n))
+          (subst (SeatNow c may (stepped d r.step (seen_in_step x.1) None ∷ o.g) d (firsts i)) (sym e) (going-on-accessed b c may limits is i l (firsts i) (named i l) o.g ms m xs x v w seat r))
 
   -- the last step of a call
 
@@ -354,15 +400,55 @@ module _ (b : Board) (c : Config) (may : AllowRelation) (limits : IsWithinLimits
       view-of : (verdict : CallResult) → (t : TookSteps b c may m.request verdict m.steps m.old m.new) → m.new.seat.view ≡ w
       view-of verdict t = t.0.view ∙ ap (λ (z : List Moment). view_after z m.old.seat.view) (t.1 ∙ made)
 
+      -- its last step is on words
+      told : (verdict : CallResult) → KeepsNoPin verdict → MakesStep k (way_of c may m (all_shown xs)) (shown_by x) v w → way_of c may m (all_shown (x ∷ xs)) ≡ Some (Done verdict)
+          → items_by_outcome d (way_of c may m) m.request m.outcome m.steps ≡ items_of_call d (way_of c may m) m.request (Some (answer_of verdict)) (x ∷ xs) → LeavesMappings (asked m.request) verdict m.old.mappings m.new.mappings → m.new.seat.view ≡ w
+          → Ordered b c may ((i, x.1) ∷ x.0) firsts stages
+      told verdict plain step then items leave view =
+          let r = goes-so b c may limits is o.g i l m ms (firsts i) xs x call at-old (named i l) o.reached o.agree seat o.bounded step (Done verdict) (Some (answer_of verdict)) then (answered-so o.g d verdict plain) in
+          one-more b c may limits is x.0 ((i, x.1) ∷ x.0) firsts (put i (Going ms m xs) stages) stages i (stepped d r.step (seen_in_step x.1) (Some (answer_of verdict))) o l refl (named i l) r.right r.reached r.agree (then-more k d i r.step (seen_in_step x.1) x.1 (AreStepsOf k o.g) x.0 refl r.the refl o.steps)
+          (writes-by-words k o.g x.0 i d r.step x.1 (seen_in_step x.1) (Some (answer_of verdict)) r.quiet r.the o.writes) (bounded-step k o.g d r.step (seen_in_step x.1) (Some (answer_of verdict)) r.inner o.bounded) same
+          (subst (SeatNow c may (stepped d r.step (seen_in_step x.1) (Some (answer_of verdict)) ∷ o.g) d (firsts i)) (sym e)
+          (ends-told b c may limits is i l (firsts i) (named i l) o.g ms m xs x v w verdict call seat r items leave at-v at-w view steps))
+
+      -- its last step is its access
+      ends : (answer : Answer) (z : Step) → way_of c may m (all_shown xs) ≡ Some (Makes z) → AccessedAs k i (bytes_given_by m.request) z v w x → way_of c may m (all_shown (x ∷ xs)) ≡ Some (Done Granted) → TellsAccess o.g z answer → one_if_mapped (Some answer) ≡ 0
+          → items_by_outcome d (way_of c may m) m.request m.outcome m.steps ≡ items_of_call d (way_of c may m) m.request (Some answer) (x ∷ xs) → KeepsMappings m.old.mappings m.new.mappings → m.new.seat.view ≡ w
+          → Ordered b c may ((i, x.1) ∷ x.0) firsts stages
+      ends answer z next so then tells plain items keeps view =
+          let r = accesses-so b c may limits is o.g i l m ms (firsts i) xs x call at-old (named i l) o.reached o.agree o.writes seat o.bounded v w z next so (Done Granted) (Some answer) then (answer, refl, tells) plain in
+          one-more b c may limits is x.0 ((i, x.1) ∷ x.0) firsts (put i (Going ms m xs) stages) stages i (stepped d r.step (seen_in_step x.1) (Some answer)) o l refl (named i l) r.right r.reached r.agree (then-more k d i r.step (seen_in_step x.1) x.1 (AreStepsOf k o.g) x.0 refl r.the refl o.steps)
+          r.writes r.bounded same
+          (subst (SeatNow c may (stepped d r.step (seen_in_step x.1) (Some answer) ∷ o.g) d (firsts i)) (sym e)
+          (ends-accessed b c may limits is i l (firsts i) (named i l) o.g ms m xs x v w answer call seat r items keeps at-v at-w view steps))
+
       by : (out : CallOutcome) → m.outcome ≡ out → IsAnswered b c may m.request out m.steps m.old m.new → Ordered b c may ((i, x.1) ∷ x.0) firsts stages
       by Starved out a = absurd (no-head x xs (sym made ∙ a.0))
-      by Wrote out a = absurd (no-head x xs (sym made ∙ a.0))
+      by (Read bytes) out a =
+          let t = a.0 in let given = bytes_given_by m.request in let z : Step = ReadBytes t.dom t.frame t.off t.len in
+          let last : Moment = (t.made.past, Frame (position_in k.ids t.dom) t.frame (frames.Read t.off bytes.bytes.items)) in
+          let all : last ∷ [] ≡ x ∷ xs = sym t.step ∙ made in
+          let so : AccessedAs k i given z v w x = subst (LastIs k i given z m.old.seat.view) all (read-as k i given t.dom t.frame t.off t.len bytes.bytes.items m.old.seat.view m.new.seat.view (view_after (last ∷ []) m.old.seat.view) t.made refl t.length_is) in
+          let next : way_of c may m (all_shown xs) ≡ Some (Makes z) = subst (LastNext (way_of c may m) z) all t.next in
+          let then : way_of c may m (all_shown (x ∷ xs)) ≡ Some (Done Granted) = ap (λ (q : List Moment). way_of c may m (all_shown q)) (sym all) ∙ t.done in
+          let agree : WritesAgree k o.g t.made.past = subst (WritesAgree k o.g) (ap (λ (q : Moment). q.0) (sym (head-same _ _ _ _ all))) o.writes in
+          let had = read-bytes c k is limits o.g t.made.past t.dom t.frame t.off bytes.bytes.items t.made.inside t.made.access.says agree in
+          let tells : TellsAccess o.g z (BytesAnswer bytes) = (bytes, refl, had ∙ ap (λ (n : ℕ). slice_range (contents_at o.g t.dom.0 t.frame) t.off (t.off + n)) t.length_is) in
+          ends (BytesAnswer bytes) z next so then tells refl (λ j. items_by_outcome d (way_of c may m) m.request (out j) (made j)) a.1
+          (t.made.view ∙ ap (λ (q : List Moment). view_after q m.old.seat.view) all)
+      by Wrote out a =
+          let t = a.0 in let given = bytes_given_by m.request in
+          let walk : IsCallWalk k given (way_of c may m) m.old.seat.view (x ∷ xs) = subst (IsCallWalk k given (way_of c may m) m.old.seat.view) made t.walked in
+          let then : way_of c may m (all_shown (x ∷ xs)) ≡ Some (Done Granted) = ap (λ (q : List Moment). way_of c may m (all_shown q)) (sym made) ∙ t.done in
+          let view : m.new.seat.view ≡ w = t.view ∙ ap (λ (q : List Moment). view_after q m.old.seat.view) made in
+          let items = λ j. items_by_outcome d (way_of c may m) m.request (out j) (made j) in
+          ⊎_elim (λ (step : MakesStep k (way_of c may m (all_shown xs)) (shown_by x) v w).
+          told Granted tt step then items (leaves (asked m.request) Granted m.old.mappings m.new.mappings t.other a.1) view)
+          (λ (q : IsNextAccess k i given (way_of c may m) xs x v w).
+          ends AnswerDone q.0 q.1 q.2 then (tells-done o.g k given q.0 v w q.3) refl items a.1 view)
+          (turn-of k i given (way_of c may m) xs x m.old.seat.view walk.0)
       by (Told verdict) out a =
-          let t = a.1 in
-          let r = goes-so b c may limits is o.g i l m ms (firsts i) xs x call at-old (named i l) o.reached o.agree seat o.bounded (walk-of verdict t).0 (Done verdict) (Some (answer_of verdict)) (done-of verdict t) (answered-so o.g d verdict a.0) in
-          one-more b c may limits is x.0 ((i, x.1) ∷ x.0) firsts (put i (Going ms m xs) stages) stages i (stepped d r.step (seen_in_step x.1) (Some (answer_of verdict))) o l refl (named i l) r.right r.reached r.agree (then-more k d i r.step (seen_in_step x.1) x.1 (AreStepsOf k o.g) x.0 refl r.the refl o.steps) (bounded-step k o.g d r.step (seen_in_step x.1) (Some (answer_of verdict)) r.inner o.bounded) same
-          (subst (SeatNow c may (stepped d r.step (seen_in_step x.1) (Some (answer_of verdict)) ∷ o.g) d (firsts i)) (sym e)
-          (ends-told b c may limits is i l (firsts i) (named i l) o.g ms m xs x v w verdict call seat r made out a.2 at-v at-w (view-of verdict t) steps))
+          let t = a.1 in told verdict a.0 (walk-of verdict t).0 (done-of verdict t) (λ j. items_by_outcome d (way_of c may m) m.request (out j) (made j)) a.2 (view-of verdict t)
       by (Kept handle p) out a =
           let t = a.1 in
           let given : MayBeGiven o.g d handle p = record { old = m.old.mappings; new = m.new.mappings; agrees = seat.maps; adds = core-adds b c may limits is i l (firsts i) (named i l) m.old.mappings m.new.mappings handle p a.2 } in
@@ -370,7 +456,8 @@ module _ (b : Board) (c : Config) (may : AllowRelation) (limits : IsWithinLimits
           let last : path (known_at s o.g d) d seat.call.0.request (values seat.call.0 ++ seen_by s o.g d r.step ∷ []) ≡ Some (Done (KeptPin p)) =
           on-way b c may limits is o.g i l m ms (firsts i) xs x call at-old (named i l) o.reached o.agree seat o.bounded (walk-of (KeptPin p) t).0 r.step r.next (values seat.call.0 ++ seen_by s o.g d r.step ∷ [])
           ∙ ((λ j. way_of c may m (seat.call.3 j ++ r.sees j ∷ [])) ∙ done-of (KeptPin p) t) in
-          one-more b c may limits is x.0 ((i, x.1) ∷ x.0) firsts (put i (Going ms m xs) stages) stages i (stepped d r.step (seen_in_step x.1) (Some (Mapped handle))) o l refl (named i l) r.right r.reached r.agree (then-more k d i r.step (seen_in_step x.1) x.1 (AreStepsOf k o.g) x.0 refl r.the refl o.steps) (bounded-step k o.g d r.step (seen_in_step x.1) (Some (Mapped handle)) r.inner o.bounded) same
+          one-more b c may limits is x.0 ((i, x.1) ∷ x.0) firsts (put i (Going ms m xs) stages) stages i (stepped d r.step (seen_in_step x.1) (Some (Mapped handle))) o l refl (named i l) r.right r.reached r.agree (then-more k d i r.step (seen_in_step x.1) x.1 (AreStepsOf k o.g) x.0 refl r.the refl o.steps)
+          (writes-by-words k o.g x.0 i d r.step x.1 (seen_in_step x.1) (Some (Mapped handle)) r.quiet r.the o.writes) (bounded-step k o.g d r.step (seen_in_step x.1) (Some (Mapped handle)) r.inner o.bounded) same
           (subst (SeatNow c may (stepped d r.step (seen_in_step x.1) (Some (Mapped handle)) ∷ o.g) d (firsts i)) (sym e)
           (ends-kept b c may limits is i l (firsts i) (named i l) o.g ms m xs x v w handle p call seat r last made out a.2 at-v at-w (view-of (KeptPin p) t) steps))
 
@@ -414,7 +501,8 @@ module _ (b : Board) (c : Config) (may : AllowRelation) (limits : IsWithinLimits
 
           some-steps : (o : CallOutcome) → IsAnswered b c may m.request o m.steps m.old m.new → ⊥
           some-steps Starved a = no-head x xs (sym made ∙ a.0)
-          some-steps Wrote a = no-head x xs (sym made ∙ a.0)
+          some-steps (Read bytes) a = no-head _ _ (ap (λ (q : View). q.steps) (sym a.0.made.view) ∙ (subst (Fits b c may [] n (firsts n)) e (f n l)).steps)
+          some-steps Wrote a = no-head x.1 _ (ap (λ (q : View). q.steps) (sym (a.0.view ∙ ap (λ (z : List Moment). view_after z m.old.seat.view) made)) ∙ (subst (Fits b c may [] n (firsts n)) e (f n l)).steps)
           some-steps (Told verdict) a = view-then verdict a.1 ((subst (Fits b c may [] n (firsts n)) e (f n l)).steps)
           some-steps (Kept handle p) a = view-then (KeptPin p) a.1 ((subst (Fits b c may [] n (firsts n)) e (f n l)).steps)
 
@@ -465,19 +553,35 @@ module _ (b : Board) (c : Config) (may : AllowRelation) (limits : IsWithinLimits
           at-old : m.old.seat.view.position ≡ i
           at-old = ap (λ (z : SeatOf). z.view.position) fit.is.1.seat ∙ (placed i l ms fit.is.2).0
 
-          took : (verdict : CallResult) → TookSteps b c may m.request verdict m.steps m.old m.new → Ordered b c may (p ∷ h) firsts st
-          took verdict t =
-              let view : m.new.seat.view ≡ view_after (x ∷ xs) m.old.seat.view = t.0.view ∙ ap (λ (z : List Moment). view_after z m.old.seat.view) (t.1 ∙ made) in
-              let bk = back h p i ms m xs x refl fit.is.2 fit.is.1 fit.is.0 at-old (subst (IsWalk k (way_of c may m) m.old.seat.view) (t.1 ∙ made) t.0.walked)
+          goes : (z : Step) × (way_of c may m (all_shown xs) ≡ Some (Makes z)) × StoodWith (Unit {0}) k x.0 (view_after xs m.old.seat.view) → IsCallWalk k (bytes_given_by m.request) (way_of c may m) m.old.seat.view xs → m.new.seat.view ≡ view_after (x ∷ xs) m.old.seat.view
+              → Ordered b c may (p ∷ h) firsts st
+          goes newest walk view =
+              let bk = back h p i ms m xs x refl fit.is.2 fit.is.1 fit.is.0 at-old newest walk
               (ap (λ (q : View). q.steps) (sym view) ∙ fit.steps) (ap (λ (q : View). q.past) (sym view) ∙ fit.past) in
               let o = rec (put i (Going ms m xs) st) (refit h (p ∷ h) st i (Going ms m xs) f others bk.1) in
               to-here x st bk.0.0 bk.0.1 (end-call i l ms m xs x st e made fit.is
               (fit.steps ∙ (λ j. part_of i ((i, sym bk.0.1 j) ∷ sym bk.0.0 j)))
               (subst (λ (q : StepHistory). Ordered b c may q firsts (put i (Going ms m xs) st)) (sym bk.0.0) o))
 
+          walks : IsCallWalk k (bytes_given_by m.request) (way_of c may m) m.old.seat.view (x ∷ xs) → m.new.seat.view ≡ view_after (x ∷ xs) m.old.seat.view → Ordered b c may (p ∷ h) firsts st
+          walks walk view = goes (stood-of k i (bytes_given_by m.request) (way_of c may m) xs x m.old.seat.view (after-position xs m.old.seat.view ∙ at-old) walk.0) walk.1 view
+
+          took : (verdict : CallResult) → TookSteps b c may m.request verdict m.steps m.old m.new → Ordered b c may (p ∷ h) firsts st
+          took verdict t = walks (as-walk k (bytes_given_by m.request) (way_of c may m) m.old.seat.view (x ∷ xs) (subst (IsWalk k (way_of c may m) m.old.seat.view) (t.1 ∙ made) t.0.walked))
+              (t.0.view ∙ ap (λ (z : List Moment). view_after z m.old.seat.view) (t.1 ∙ made))
+
           go : (o : CallOutcome) → IsAnswered b c may m.request o m.steps m.old m.new → Ordered b c may (p ∷ h) firsts st
           go Starved a = absurd (no-head x xs (sym made ∙ a.0))
-          go Wrote a = absurd (no-head x xs (sym made ∙ a.0))
+          go (Read bytes) a =
+              let t = a.0 in let given = bytes_given_by m.request in let z : Step = ReadBytes t.dom t.frame t.off t.len in
+              let last : Moment = (t.made.past, Frame (position_in k.ids t.dom) t.frame (frames.Read t.off bytes.bytes.items)) in
+              let all : last ∷ [] ≡ x ∷ xs = sym t.step ∙ made in
+              let so : AccessedAs k i given z (view_after xs m.old.seat.view) (view_after (x ∷ xs) m.old.seat.view) x =
+              subst (LastIs k i given z m.old.seat.view) all (read-as k i given t.dom t.frame t.off t.len bytes.bytes.items m.old.seat.view m.new.seat.view (view_after (last ∷ []) m.old.seat.view) t.made refl t.length_is) in
+              goes (z, subst (LastNext (way_of c may m) z) all t.next, so.stood)
+              (subst (IsCallWalk k given (way_of c may m) m.old.seat.view) (tail-same _ _ _ _ all) tt)
+              (t.made.view ∙ ap (λ (q : List Moment). view_after q m.old.seat.view) all)
+          go Wrote a = walks (subst (IsCallWalk k (bytes_given_by m.request) (way_of c may m) m.old.seat.view) made a.0.walked) (a.0.view ∙ ap (λ (z : List Moment). view_after z m.old.seat.view) made)
           go (Told verdict) a = took verdict a.1
           go (Kept handle q) a = took (KeptPin q) a.1
 
@@ -500,7 +604,8 @@ module _ (b : Board) (c : Config) (may : AllowRelation) (limits : IsWithinLimits
           by (Going ms m (x ∷ xs)) e =
               let fit = subst (Fits b c may (p ∷ h) i (firsts i)) e (fits i l) in
               let at-old : m.old.seat.view.position ≡ i = ap (λ (z : SeatOf). z.view.position) fit.is.rests.seat ∙ (placed i l ms fit.is.calls).0 in
-              let bk = back h p i ms m xs x refl fit.is.calls fit.is.rests fit.is.call at-old fit.is.walked fit.steps fit.past in
+              let newest = stood-of k i (bytes_given_by m.request) (way_of c may m) xs x m.old.seat.view (after-position xs m.old.seat.view ∙ at-old) fit.is.walked.0 in
+              let bk = back h p i ms m xs x refl fit.is.calls fit.is.rests fit.is.call at-old newest fit.is.walked.1 fit.steps fit.past in
               let o = rec (put i (Going ms m xs) stages) (refit h (p ∷ h) stages i (Going ms m xs) fits others bk.1) in
               to-here x stages bk.0.0 bk.0.1 (go-on i l ms m xs x stages e fit.is (subst (λ (q : StepHistory). Ordered b c may q firsts (put i (Going ms m xs) stages)) (sym bk.0.0) o))
 
@@ -526,4 +631,4 @@ runs-have-legal-orders b c may s seats run = by ordered
         (λ j le. run.shown.now.led_here.no_other j (let n = run.shown.now.dealt.1 in omega arith))
 
     by : Ordered b c may run.shown.history firsts stages → (g : Items) × IsLegalOrder c may k run.shown.history seats g
-    by o = (o.g, record { reached = o.reached; legal = o.legal; steps = o.steps; calls = λ i l. (o.each i l).items })
+    by o = (o.g, record { reached = o.reached; legal = o.legal; steps = o.steps; writes = o.writes; calls = λ i l. (o.each i l).items })

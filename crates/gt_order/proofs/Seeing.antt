@@ -16,7 +16,8 @@ use Rattle.gt_word_history.specs.declared.view.SeatStep.TheVariants.{Entry, Head
 use Rattle.gt_calls.specs.declared.action.Observation.TheVariants.{Word, Taken, Missed}
 use Rattle.gt_calls.specs.declared.action.Step.{Step}
 use Rattle.gt_calls.specs.declared.action.Step.TheVariants.{LookHeader, LookControl, LookBody, Pin as PinStep, Unpin}
-use Rattle.gt_calls.specs.declared.action.Step.TheVariants.{StoreBody, StoreHeader, Exchange}
+use Rattle.gt_calls.specs.declared.action.Step.TheVariants.{StoreBody, StoreHeader, Exchange, Read as ReadBytes}
+use Rattle.gt_calls.specs.declared.action.Step.TheVariants.{Write as WriteBytes, Copy as CopyBytes}
 use Rattle.gt_core.specs.History.{History as Items, Setting, body_at, exchange_sees, seen_by, table_at, word_at}
 use Rattle.gt_core.specs.Acting.{setting_of}
 use Rattle.gt_live.specs.Walks.{seen_in_step}
@@ -59,6 +60,9 @@ module _ (c : Config) (s : Setting) (k : Layout) (g : Items) (h : StepHistory) (
   sees (StoreHeader version frames) (Header t (header.Stored n)) w a b = refl
   sees (Exchange q looked change) (Entry t r (Changed z e n y)) w a b = taken _ looked e (own-word t r q.0 w a.0 a.1 ∙ sym b) a.3
   sees (Exchange q looked change) (Entry t r (ChangeMissed z e f n)) w a b = missed _ looked e n (own-word t r q.0 w a.0 a.1 ∙ sym b.0) b.1 a.3
+  sees (ReadBytes dom frame off len) x w a b = absurd w
+  sees (WriteBytes dom frame off len) x w a b = absurd w
+  sees (CopyBytes from to len) x w a b = absurd w
   sees step x w a b = absurd a
 
 pub core-sees : CoreSeesTheWords

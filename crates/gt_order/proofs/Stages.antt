@@ -10,7 +10,7 @@ use Rattle.gt_words.specs.Conditions.{Board}
 use Rattle.gt_word_history.specs.History.{StepHistory, Layout, Moment, part_of, up_to}
 use Rattle.gt_word_history.specs.Rule.{layout_of}
 use Rattle.gt_word_history.specs.declared.view.View.{View}
-use Rattle.gt_calls.specs.Asking.{asked}
+use Rattle.gt_calls.specs.Asking.{asked, bytes_given_by}
 use Rattle.gt_calls.specs.declared.action.Action.TheVariants.{Step as Makes}
 use Rattle.gt_calls.specs.declared.action.Step.{Step}
 use Rattle.gt_core.proofs.AgreementKept.{open_call-other}
@@ -29,14 +29,14 @@ use Rattle.gt_core.specs.declared.trace.ItemEvent.{ItemEvent}
 use Rattle.gt_core.specs.declared.trace.ItemEvent.TheVariants.{Began, Stepped}
 use Rattle.gt_core.specs.declared.trace.Item.{Item}
 use Rattle.gt_live.specs.Domains.{AllowRelation, knowledge}
-use Rattle.gt_live.specs.Walks.{IsWalk, view_after, all_shown}
+use Rattle.gt_live.specs.Walks.{view_after, all_shown}
 use Rattle.gt_live.specs.declared.domain.Domain.{Domain}
 use Rattle.gt_order.proofs.Places.{test-apart}
 use Rattle.gt_order.proofs.Stepping.{AreBounded}
-use Rattle.gt_order.specs.Agreeing.{Agree, dom_at}
+use Rattle.gt_order.specs.Agreeing.{Agree, WritesAgree, dom_at}
 use Rattle.gt_order.specs.Ordering.{AreStepsOf, event_in, events_of, item_of_beginning, items_by, items_of_calls}
 use Rattle.gt_order.specs.Ordering.{items_of_steps, trace_of, way_of}
-use Rattle.gt_order.specs.Runs.{AreCalls, CallMade, IsAtRest, IsCall, domain_after}
+use Rattle.gt_order.specs.Runs.{AreCalls, CallMade, IsAtRest, IsCall, IsCallWalk, domain_after}
 
 -- where a domain is: between two calls, after these; or after these in a call that has made these steps
 pub data Stage : Type 0 where
@@ -62,7 +62,7 @@ pub record IsGoing (b : Board) (c : Config) (may : AllowRelation) (first : Domai
   pub calls : AreCalls b c may first ms
   pub rests : IsAtRest (domain_after first ms) m.old
   pub call : IsCall b c may m
-  pub walked : IsWalk b.layout (way_of c may m) m.old.seat.view xs
+  pub walked : IsCallWalk b.layout (bytes_given_by m.request) (way_of c may m) m.old.seat.view xs
   pub step : Step
   pub next : way_of c may m (all_shown xs) ≡ Some (Makes step)
 
@@ -79,7 +79,7 @@ pub record Fits (b : Board) (c : Config) (may : AllowRelation) (h : StepHistory)
 -- the open call of a domain
 abbrev pub CallNow : Items → DomId → Stage → Type 0
 CallNow g d (Resting ms) = open_call g d.0 ≡ None
-CallNow g d (Going ms m xs) = (cl : Underway) × (open_call g d.0 ≡ Some cl) × (cl.request ≡ asked m.request) × (values cl ≡ all_shown xs)
+CallNow g d (Going ms m xs) = (cl : Underway) × (open_call g d.0 ≡ Some cl) × (cl.request ≡ asked m.request) × (values cl ≡ all_shown xs) × (cl.given ≡ bytes_given_by m.request)
 
 -- what the items have made of a domain
 pub record SeatNow (c : Config) (may : AllowRelation) (g : Items) (d : DomId) (first : Domain) (stage : Stage) : Type 0 where
@@ -95,6 +95,7 @@ pub record Ordered (b : Board) (c : Config) (may : AllowRelation) (h : StepHisto
   pub agree : Agree (setting_of c may) b.layout g h
   pub legal : Legal (setting_of c may) (events_of g) (trace_of g)
   pub steps : AreStepsOf b.layout g h
+  pub writes : WritesAgree b.layout g h
   pub bounded : AreBounded b.layout g
   pub each : (i : ℕ) → i < b.layout.domains → SeatNow c may g (dom_at b.layout i) (firsts i) (stages i)
 
@@ -124,7 +125,7 @@ module _ (b : Board) (c : Config) (may : AllowRelation) (limits : IsWithinLimits
 
       call : (st : Stage) → CallNow g d st → CallNow (item ∷ g) d st
       call (Resting ms) e = open_call-other item g d.0 apart ∙ e
-      call (Going ms m xs) e = (e.0, open_call-other item g d.0 apart ∙ e.1, e.2, e.3)
+      call (Going ms m xs) e = (e.0, open_call-other item g d.0 apart ∙ e.1, e.2, e.3, e.4)
 
   -- the trace of the items is one element longer
 
@@ -142,13 +143,14 @@ module _ (b : Board) (c : Config) (may : AllowRelation) (limits : IsWithinLimits
 
   -- one item more, of one domain
   pub one-more : (h' h : StepHistory) (firsts : ℕ → Domain) (old new : ℕ → Stage) (i : ℕ) (item : Item) (o : Ordered b c may h' firsts old) → i < k.domains → item.actor ≡ dom_at k i → domain_of c.domains.items (dom_at k i) ≢ None → IsRight s o.g item → CanBeReached s (item ∷ o.g)
-      → Agree s k (item ∷ o.g) h → AreStepsOf k (item ∷ o.g) h → AreBounded k (item ∷ o.g) → ((j : ℕ) → i ≢ j → new j ≡ old j) → SeatNow c may (item ∷ o.g) (dom_at k i) (firsts i) (new i) → Ordered b c may h firsts new
-  one-more h' h firsts old new i item o inside own named right reached agree steps bounded same seat = record {
+      → Agree s k (item ∷ o.g) h → AreStepsOf k (item ∷ o.g) h → WritesAgree k (item ∷ o.g) h → AreBounded k (item ∷ o.g) → ((j : ℕ) → i ≢ j → new j ≡ old j) → SeatNow c may (item ∷ o.g) (dom_at k i) (firsts i) (new i) → Ordered b c may h firsts new
+  one-more h' h firsts old new i item o inside own named right reached agree steps writes bounded same seat = record {
     g = item ∷ o.g;
     reached = reached;
     agree = agree;
     legal = legal-longer o.g item (subst (λ (z : DomId). domain_of c.domains.items z ≢ None) (sym own) named) right o.legal;
     steps = steps;
+    writes = writes;
     bounded = bounded;
     each = λ j l. elim (cases_eq i j) [
       | inl e ↦ subst (λ (z : ℕ). SeatNow c may (item ∷ o.g) (dom_at k z) (firsts z) (new z)) e seat

@@ -25,7 +25,7 @@ use Rattle.gt_core.proofs.Mappings.{no-handles}
 use Rattle.gt_core.proofs.Steps.See.{table-fits}
 use Rattle.gt_core.specs.GoingOn.{CanBeReached}
 use Rattle.gt_core.specs.History.{Setting, generation_at, header_from, mappings_at, word_at}
-unfoldable use Rattle.gt_core.specs.History.{body_at, entry_at, gather, live, maps_answered_at, open_call, raises_at, table_at}
+unfoldable use Rattle.gt_core.specs.History.{body_at, entry_at, gather, live, maps_answered_at, open_call, patches_at, raises_at, table_at}
 use Rattle.gt_core.specs.Standing.{MappingsAgree}
 use Rattle.gt_core.specs.Acting.{setting_of}
 use Rattle.gt_live.specs.Domains.{AllowRelation}
@@ -35,7 +35,7 @@ use Rattle.gt_order.proofs.DomainsAtRest.{rest-known}
 use Rattle.gt_order.proofs.Stages.{Ordered, SeatNow, Stage}
 use Rattle.gt_order.proofs.Stages.Stage.{Resting}
 use Rattle.gt_order.proofs.Stepping.{AreBounded, IsBounded, state-there}
-use Rattle.gt_order.specs.Agreeing.{Agree, dom_at}
+use Rattle.gt_order.specs.Agreeing.{Agree, WritesAgree, dom_at}
 
 -- the first words
 
@@ -115,6 +115,10 @@ module _ (b : Board) (c : Config) (may : AllowRelation) (limits : IsWithinLimits
   unfolding open_call
   none-open d = refl
 
+  none-written : WritesAgree k [] []
+  unfolding patches_at
+  none-written t f l = refl
+
   none-bounded : AreBounded k []
   unfolding live
   none-bounded = All-nil (λ (q : Pin). IsBounded k q.held)
@@ -127,6 +131,7 @@ module _ (b : Board) (c : Config) (may : AllowRelation) (limits : IsWithinLimits
     agree = agree-first;
     legal = tt;
     steps = refl;
+    writes = none-written;
     bounded = none-bounded;
     each = λ i l. subst (SeatNow c may [] (dom_at k i) (firsts i)) (sym (rest i l)) (first-seat i l);
   }

@@ -247,6 +247,9 @@ module _ (c : Config) (may : AllowRelation) (k : Layout) (g : Items) (h : StepHi
       ((λ j. Entry (sym a.0 j) (sym a.1 j) (Changed (sym a.2 j) (sym a.3 j) (changed_word (sym a.2 j) (last_at k (sym a.0 j) (sym a.1 j) h) (sym a.3 j)) (changed (sym a.2 j) (last_at k (sym a.0 j) (sym a.1 j) h)))) ∙ (λ j. Entry t y (Changed b v (sym st.0 j) (sym st.1 j))))
       (changes-entry c s k g h i is limits agree inside q looked change answer w fits (turned q looked change r) (idle q change safe) found)
   goes (Exchange q looked change) (Entry t y (ChangeMissed b v f n)) e r a w st says ok = quiet c s k g h i is limits agree inside (stepped d (Exchange q looked change) (Missed n) answer) (Entry t y (ChangeMissed b v f n)) (record { changes = λ z. refl; pins = λ before ps. refl; unpins = λ ps. refl }) refl (λ z half. refl) (λ z. refl) tt
+  goes (ReadBytes dom frame off len) x e r a w st says ok = absurd w
+  goes (WriteBytes dom frame off len) x e r a w st says ok = absurd w
+  goes (CopyBytes from to len) x e r a w st says ok = absurd w
   goes z x e r a w st says ok = absurd a
 
 pub step-kept : StepsKeepAgreement

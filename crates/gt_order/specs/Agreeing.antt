@@ -7,6 +7,9 @@ use Rattle.gt_order.specs.Prelude.{PinMissed, Unpinned, StoredBody, Changed, Cha
 use Rattle.gt_order.specs.Prelude.{DomId, Step, LookHeader, LookControl, LookBody, PinStep, Unpin, StoreBody}
 use Rattle.gt_order.specs.Prelude.{StoreHeader, Exchange, Items, Setting, body_at, entry_at, generation_at, table_at}
 use Rattle.gt_order.specs.Prelude.{word_at}
+use Rattle.std.specs.Prelude.{length}
+use Rattle.gt_order.specs.Prelude.{CopyBytes, Frame, ReadBytes, WriteBytes, journal_made, patches, patches_at}
+use Rattle.gt_word_history.specs.declared.view.FrameStep.TheVariants as frames
 use Rattle.gt_word_history.specs.declared.view.HeaderStep.TheVariants as header
 
 -- the domain at a position
@@ -25,8 +28,12 @@ pub record Agree (s : Setting) (k : Layout) (g : Items) (h : StepHistory) : Type
   pub generations : (t r : ℕ) → t < k.domains → r < TABLE_ENTRIES
       → generation_at s g (dom_at k t).0 r ≡ (last_record k.first (entry_steps t r (part_of t h))).generation
 
+-- items and history have written the same bytes to each frame of the run, in the same order
+abbrev pub WritesAgree : Layout → Items → StepHistory → Type 0
+WritesAgree k g h = (t f : ℕ) → t < k.domains → patches_at g (dom_at k t).0 f ≡ patches (journal_made t f h)
+
 -- this step of a call by the domain at the position i is this step of its seat: on the same word, of the same kind, and
--- for an exchange from the same word, whether it was taken or missed
+-- for an exchange from the same word, whether it was taken or missed; or an access to the same range of the same frame
 abbrev pub IsThe : Layout → ℕ → Step → SeatStep → Type 0
 IsThe k i (LookHeader d) (Header t (header.Looked n)) = t ≡ position_in k.ids d
 IsThe k i (LookControl d q) (Entry t r (Looked n)) = (t ≡ position_in k.ids d) × (r ≡ q.0)
@@ -44,6 +51,13 @@ IsThe k i (Exchange q looked change) (Entry t r (Changed c e n x)) =
     (t ≡ i) × (r ≡ q.0) × (c ≡ change) × (e ≡ looked)
 IsThe k i (Exchange q looked change) (Entry t r (ChangeMissed c e f n)) =
     (t ≡ i) × (r ≡ q.0) × (c ≡ change) × (e ≡ looked)
+IsThe k i (ReadBytes dom frame off len) (Frame t q (frames.Read o bytes)) =
+    (t ≡ position_in k.ids dom) × (q ≡ frame) × (o ≡ off) × (length bytes ≡ len)
+IsThe k i (WriteBytes dom frame off len) (Frame t q (frames.Wrote r)) =
+    (t ≡ position_in k.ids dom) × (q ≡ frame) × (r.off ≡ off)
+IsThe k i (CopyBytes from to len) (Frame t q (frames.Copied u f o r)) =
+    (t ≡ position_in k.ids to.frame.owner) × (q ≡ to.frame.number) × (r.off ≡ to.off)
+    × (u ≡ position_in k.ids from.frame.owner) × (f ≡ from.frame.number) × (o ≡ from.off) × (length r.bytes ≡ len)
 IsThe k i _ _ = ⊥
 
 -- the step is on words of entries and headers of the run

@@ -5,9 +5,11 @@ use Rattle.gt_order.specs.Prelude.{CallResult, Refused, HeldPin, Request, Writin
 use Rattle.gt_order.specs.Prelude.{Accesses, AllowRelation, Answered, BelongsTo, KeepsPinned, MapAnswered, known_on}
 use Rattle.gt_order.specs.Prelude.{verdict_of}
 use Rattle.gt_order.specs.Prelude.{IsOfMapping, Removes, Domain, Monitor}
+use Rattle.gt_order.specs.Prelude.{Bytes, Copying, IsCopiedBy, IsReadBy, IsUnmade, Reading, bytes_given_by}
+use Rattle.gt_types.specs.declared.copies.CopyArgs.{CopyArgs}
 use Rattle.gt_calls.specs.declared.request.Request.TheVariants as requests
 use Rattle.gt_order.specs.Runs.{FitsTypes, IsCall, KeepsNoPin, CallOutcome}
-use Rattle.gt_order.specs.Runs.CallOutcome.{Told, Kept, Starved, Wrote}
+use Rattle.gt_order.specs.Runs.CallOutcome.{Told, Kept, Starved, Read, Wrote}
 
 -- the domain d of the monitor m was asked this, with these steps and this outcome, and is then e: a call of a run
 abbrev pub WasMade : {P : Type 0} → (P → AllowRelation) → Monitor P → Request → CallOutcome → List Moment → Domain
@@ -59,17 +61,45 @@ IsStoring (requests.Store handle off bytes) = Unit {0}
 IsStoring (requests.Poke frame off bytes) = Unit {0}
 IsStoring request = ⊥
 
--- a store or a poke that is Ok: it wrote, and made no step on the words
+-- the request is a load or a peek
+abbrev pub IsLoading : Request → Type 0
+IsLoading (requests.Load handle off len) = Unit {0}
+IsLoading (requests.Peek frame off len) = Unit {0}
+IsLoading request = ⊥
+
+-- the request makes one access, and no step on the words
+abbrev pub IsSingle : Request → Type 0
+IsSingle (requests.Load handle off len) = Unit {0}
+IsSingle (requests.Peek frame off len) = Unit {0}
+IsSingle (requests.Store handle off bytes) = Unit {0}
+IsSingle (requests.Poke frame off bytes) = Unit {0}
+IsSingle request = ⊥
+
+-- a store or a poke that is Ok
 abbrev pub WritesAreMade : {P : Type 0} → (P → AllowRelation) → Monitor P → Type 0
 WritesAreMade may m =
-    (d e : Domain) (request : Request) (bytes : List ℕ) (r : Writing) → StaysOf may m d e → IsStoring request
-    → Accesses may m d request (IsWrittenBy d.seat.dom bytes) (Ok r) e → KeepsPinned d e
-    → WasMade may m request Wrote [] d e
+    (d e : Domain) (request : Request) (r : Writing) → StaysOf may m d e → IsStoring request
+    → Accesses may m d request (IsWrittenBy m.words.layout d.seat.dom (bytes_given_by request)) (Ok r) e
+    → KeepsPinned d e → (steps : List Moment) × WasMade may m request Wrote steps d e
 
--- a store or a poke that reached its access and could not make it: it made no step on the words, and counts as never
+-- a copy that is Ok
+abbrev pub CopiesAreMade : {P : Type 0} → (P → AllowRelation) → Monitor P → Type 0
+CopiesAreMade may m =
+    (d e : Domain) (args : CopyArgs) (r : Copying) → StaysOf may m d e → FitsTypes (requests.Copy args)
+    → Accesses may m d (requests.Copy args) (IsCopiedBy m.words.layout d.seat.dom) (Ok r) e → KeepsPinned d e
+    → (steps : List Moment) × WasMade may m (requests.Copy args) Wrote steps d e
+
+-- a load or a peek that is Ok, with the bytes that it read
+abbrev pub ReadsAreMade : {P : Type 0} → (P → AllowRelation) → Monitor P → Type 0
+ReadsAreMade may m =
+    (d e : Domain) (request : Request) (r : Reading) (bytes : Bytes) → StaysOf may m d e → IsLoading request
+    → bytes.bytes.items ≡ r.bytes → Accesses may m d request (IsReadBy m.words.layout) (Ok r) e → KeepsPinned d e
+    → (steps : List Moment) × WasMade may m request (Read bytes) steps d e
+
+-- a load, a peek, a store or a poke that reached its access and could not make it: it made no step, and counts as never
 -- asked
-abbrev pub LostWritesAreMade : {P : Type 0} → (P → AllowRelation) → Monitor P → Type 0
-LostWritesAreMade may m =
-    (d e : Domain) (request : Request) (access : Step) → StaysOf may m d e → IsStoring request
-    → Accessed m.words.layout (path_of (known_on may m d) d.seat.dom request) access d.seat.view e.seat.view
+abbrev pub LostAccessesAreMade : {P : Type 0} → (P → AllowRelation) → Monitor P → Type 0
+LostAccessesAreMade may m =
+    (d e : Domain) (request : Request) (access : Step) → StaysOf may m d e → IsSingle request
+    → Accessed m.words.layout (path_of (known_on may m d) d.seat.dom request) access IsUnmade d.seat.view e.seat.view
     → KeepsPinned d e → WasMade may m request Starved [] d e

@@ -2,31 +2,26 @@
 use Rattle.std.specs.Prelude.{◌≡◌, ℕ, ◌<◌, ◌==◌, if◌then◌else◌, List, [], ◌∷◌, ◌++◌, Option, Some, None}
 use Rattle.gt_order.specs.Prelude.{DomId, Config, StepHistory, Layout, Moment, Continuation, path_of, Action, Makes}
 use Rattle.gt_order.specs.Prelude.{Observation}
-use Rattle.gt_order.specs.Prelude.{Step, Nothing, LookHeader, WriteBytes, Request, CanBeReached, Items, Legal}
+use Rattle.gt_order.specs.Prelude.{Step, LookHeader, Request, CanBeReached, Items, Legal}
 use Rattle.gt_order.specs.Prelude.{answer_of}
-use Rattle.gt_order.specs.Prelude.{setting_of, Answer, AnswerDone, MappedAnswer, Element, Did, Event, Begin, Tick}
+use Rattle.gt_order.specs.Prelude.{setting_of, Answer, AnswerDone, BytesAnswer, MappedAnswer, Element, Did, Event, Begin, Tick}
 use Rattle.gt_order.specs.Prelude.{ItemEvent, Began, Stepped, Item, AllowRelation, knowledge, all_shown, shown_by}
 use Rattle.gt_order.specs.Prelude.{seen_in_step}
-use Rattle.gt_order.specs.Agreeing.{IsThe, dom_at}
+use Rattle.gt_order.specs.Agreeing.{IsThe, WritesAgree, dom_at}
 use Rattle.gt_order.specs.Runs.{CallMade, CallOutcome, SeatRun}
-use Rattle.gt_order.specs.Runs.CallOutcome.{Told, Kept, Starved, Wrote}
+use Rattle.gt_order.specs.Runs.CallOutcome.{Told, Kept, Starved, Read, Wrote}
 
--- the step on the words is the newest one of the history, by its seat's domain, and it saw what that step shows
+-- the step is the newest one of the history, by its seat's domain, and it saw what that step shows
 abbrev pub IsNewest : Layout → DomId → Step → Observation → (StepHistory → Type 0) → StepHistory → Type 0
 IsNewest k d step seen rest [] = ⊥
 IsNewest k d step seen rest (p ∷ h) =
     (d ≡ dom_at k p.0) × IsThe k p.0 step p.1 × (seen ≡ seen_in_step p.1) × rest h
 
--- a write is not a step of the words, and each other step is
-abbrev pub ThenStep : Layout → DomId → Step → Observation → (StepHistory → Type 0) → StepHistory → Type 0
-ThenStep k d (WriteBytes dom frame off len) seen rest h = rest h
-ThenStep k d step seen rest h = IsNewest k d step seen rest h
-
--- the steps on the words among the items are those of the history, one by one in the same order, each by its seat's
--- domain, and each saw what the history's step shows
+-- the steps among the items are those of the history, one by one in the same order, each by its seat's domain, and each
+-- saw what the history's step shows
 abbrev pub ThenSteps : Layout → DomId → ItemEvent → (StepHistory → Type 0) → StepHistory → Type 0
 ThenSteps k d (Began request) rest h = rest h
-ThenSteps k d (Stepped step seen) rest h = ThenStep k d step seen rest h
+ThenSteps k d (Stepped step seen) rest h = IsNewest k d step seen rest h
 
 abbrev pub AreStepsOf : Layout → Items → StepHistory → Type 0
 AreStepsOf k [] h = h ≡ []
@@ -64,18 +59,13 @@ abbrev pub answer_to : CallOutcome → Option Answer
 answer_to (Told verdict) = Some (answer_of verdict)
 answer_to (Kept handle p) = Some (MappedAnswer handle)
 answer_to Starved = None
+answer_to (Read bytes) = Some (BytesAnswer bytes)
 answer_to Wrote = Some AnswerDone
 
--- the item of the write of a call: it shows nothing, and the call is Ok after it
-abbrev pub item_of_access : DomId → Continuation → Item
-item_of_access d way =
-    record { actor = d; happened = Stepped (step_in (way [])) Nothing; answer = Some AnswerDone }
-
--- the items of a call with this outcome: none if allocation failed or its access could not be made, its beginning and
--- its write if it wrote, and otherwise those of its steps
+-- the items of a call with this outcome: none if allocation failed or its access could not be made, and otherwise those
+-- of its steps
 abbrev pub items_by_outcome : DomId → Continuation → Request → CallOutcome → List Moment → List Item
 items_by_outcome d way request Starved steps = []
-items_by_outcome d way request Wrote steps = item_of_access d way ∷ item_of_beginning d request None ∷ []
 items_by_outcome d way request outcome steps = items_of_call d way request (answer_to outcome) steps
 
 -- the path of a call
@@ -108,10 +98,12 @@ trace_of [] = []
 trace_of (i ∷ g) = trace_of g ++ Did i ∷ []
 
 -- the items are a legal order of the run's calls: a core represents them, their trace is legal for their events, their
--- steps are those of the history in its order, and those of each domain are the items of its calls
+-- steps are those of the history in its order and wrote the same bytes, and those of each domain are the items of its
+-- calls
 pub record IsLegalOrder (c : Config) (may : AllowRelation) (k : Layout) (h : StepHistory) (seats : ℕ → SeatRun)
     (g : Items) : Type 0 where
   pub reached : CanBeReached (setting_of c may) g
   pub legal : Legal (setting_of c may) (events_of g) (trace_of g)
   pub steps : AreStepsOf k g h
+  pub writes : WritesAgree k g h
   pub calls : (i : ℕ) → i < k.domains → items_by (dom_at k i) g ≡ items_of_calls c may (dom_at k i) (seats i).calls

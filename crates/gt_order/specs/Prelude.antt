@@ -1,6 +1,6 @@
 -- Names from other crates, and from the code, that these definitions use.
 pub use Rattle.atomic_table.specs.Table.{State}
-pub use Rattle.gt_calls.specs.Asking.{FitsAsked, asked, bytes_of}
+pub use Rattle.gt_calls.specs.Asking.{FitsAsked, asked, bytes_given_by, bytes_of}
 pub use Rattle.gt_calls.specs.Path.{Continuation, path, path_of}
 pub use Rattle.gt_calls.specs.declared.action.Action.{Action}
 pub use Rattle.gt_calls.specs.declared.action.Action.TheVariants.{Done, Step as Makes}
@@ -9,7 +9,7 @@ pub use Rattle.gt_calls.specs.declared.action.Observation.TheVariants.{Nothing}
 pub use Rattle.gt_calls.specs.declared.action.Step.{Step}
 pub use Rattle.gt_calls.specs.declared.action.Step.TheVariants.{Exchange, LookBody, LookControl, LookHeader}
 pub use Rattle.gt_calls.specs.declared.action.Step.TheVariants.{Pin as PinStep, StoreBody, StoreHeader, Unpin}
-pub use Rattle.gt_calls.specs.declared.action.Step.TheVariants.{Write as WriteBytes}
+pub use Rattle.gt_calls.specs.declared.action.Step.TheVariants.{Copy as CopyBytes, Read as ReadBytes, Write as WriteBytes}
 pub use Rattle.gt_calls.specs.declared.action.CallResult.{CallResult}
 pub use Rattle.gt_calls.specs.declared.action.CallResult.TheVariants.{Granted, Mapped, Refused}
 pub use Rattle.gt_calls.specs.declared.held.HeldPin.{HeldPin}
@@ -18,10 +18,12 @@ pub use Rattle.gt_calls.specs.declared.request.Request.{Request}
 pub use Rattle.gt_core.specs.Acting.{answer_of, setting_of}
 pub use Rattle.gt_core.specs.GoingOn.{CanBeReached}
 pub use Rattle.gt_core.specs.History.{History as Items, Setting, Underway, body_at, entry_at, generation_at, known_at}
-pub use Rattle.gt_core.specs.History.{open_call, seen_by, table_at, values, word_at}
+pub use Rattle.gt_core.specs.History.{open_call, patches_at, seen_by, table_at, values, word_at}
 pub use Rattle.gt_core.specs.Legal.{IsRight, Legal}
 pub use Rattle.gt_core.specs.declared.trace.Answer.{Answer}
-pub use Rattle.gt_core.specs.declared.trace.Answer.TheVariants.{Done as AnswerDone, Mapped as MappedAnswer}
+pub use Rattle.gt_core.specs.declared.trace.Answer.TheVariants.{Bytes as BytesAnswer, Done as AnswerDone}
+pub use Rattle.gt_core.specs.declared.trace.Answer.TheVariants.{Mapped as MappedAnswer}
+pub use Rattle.gt_core.specs.declared.trace.Bytes.{Bytes}
 pub use Rattle.gt_core.specs.declared.trace.Element.{Element}
 pub use Rattle.gt_core.specs.declared.trace.Element.TheVariants.{Item as Did}
 pub use Rattle.gt_core.specs.declared.trace.Event.{Event}
@@ -31,17 +33,20 @@ pub use Rattle.gt_core.specs.declared.trace.ItemEvent.TheVariants.{Began, Steppe
 pub use Rattle.gt_core.specs.declared.trace.Item.{Item}
 pub use Rattle.gt_entry.specs.Words.{header_word}
 pub use Rattle.gt_entry.specs.declared.change.BodyWord.{BodyWord}
-pub use Rattle.gt_frames.specs.Receipts.{Writing}
+pub use Rattle.gt_frames.specs.Frames.{patches}
+pub use Rattle.gt_frames.specs.Receipts.{Copying, Reading, Writing}
+pub use Rattle.gt_frames.specs.declared.writ.Writ.{Writ}
 pub use Rattle.gt_handles.specs.Handles.{HandleMap}
 pub use Rattle.gt_handles.specs.declared.handles.Handle.{Handle}
-pub use Rattle.gt_live.specs.Accesses.{Accessed, IsWrittenBy}
+pub use Rattle.gt_live.specs.Accesses.{Accessed, IsCopiedBy, IsReadBy, IsUnmade, IsWrittenBy}
 pub use Rattle.gt_live.specs.Domains.{Accesses, AllowRelation, Answered, IsDomainOf, BelongsTo, KeepsPinned}
 pub use Rattle.gt_live.specs.Domains.{MapAnswered}
 pub use Rattle.gt_live.specs.Domains.{knowledge, known_on, verdict_of}
 pub use Rattle.gt_live.specs.Ending.{IsMap, IsOfMapping}
 pub use Rattle.gt_live.specs.Mappings.{AddsMapping, KeepsMappings, Removes}
 pub use Rattle.gt_live.specs.Starting.{IsNewDomain}
-pub use Rattle.gt_live.specs.Walks.{Called, all_shown, shown_by, seen_in_step}
+pub use Rattle.gt_live.specs.Walks.{Called, Made, all_shown, shown_by, seen_in_step, view_after}
+pub use Rattle.gt_shared_table.specs.Bytes.{frame_made, journal_made}
 pub use Rattle.gt_live.specs.declared.domain.Domain.{Domain}
 pub use Rattle.gt_live.specs.declared.monitor.Monitor.{Monitor}
 pub use Rattle.gt_types.specs.Config.{IsWithinLimits}
@@ -55,6 +60,7 @@ pub use Rattle.gt_types.specs.declared.denial.Facts.TheVariants.{None as NoFacts
 pub use Rattle.gt_types.specs.declared.denial.Rule.TheVariants.{N26}
 pub use Rattle.gt_types.specs.declared.limits.TheConstants.{TABLE_ENTRIES}
 pub use Rattle.gt_words.specs.Conditions.{Board, HasDomain, IsSameSeat}
+pub use Rattle.gt_words.specs.Frames.{AccessesFrame, CopiesFrames}
 pub use Rattle.gt_word_history.specs.Controls.{generation_of}
 pub use Rattle.gt_word_history.specs.History.{StepHistory, Layout, Moment, SaysWord, half_index, part_of, word_place_of}
 pub use Rattle.gt_word_history.specs.History.{word_after}
@@ -66,7 +72,7 @@ pub use Rattle.gt_word_history.specs.declared.view.EntryStep.TheVariants.{Change
 pub use Rattle.gt_word_history.specs.declared.view.EntryStep.TheVariants.{Pinned}
 pub use Rattle.gt_word_history.specs.declared.view.EntryStep.TheVariants.{ReadBody, StoredBody, Unpinned}
 pub use Rattle.gt_word_history.specs.declared.view.SeatStep.{SeatStep}
-pub use Rattle.gt_word_history.specs.declared.view.SeatStep.TheVariants.{Entry, Header}
+pub use Rattle.gt_word_history.specs.declared.view.SeatStep.TheVariants.{Entry, Frame, Header}
 pub use Rattle.gt_word_history.specs.declared.view.View.{View}
 pub use lib.ListN.{get_elem?}
 pub use mathlib.Core.Option.{some}

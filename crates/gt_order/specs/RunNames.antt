@@ -14,7 +14,7 @@ pub use Rattle.gt_live.specs.declared.monitor.Monitor.{Monitor}
 pub use Rattle.gt_order.specs.Leaving.{AreUnmaps, MayUnmapAll}
 pub use Rattle.gt_order.specs.Ordering.{IsLegalOrder}
 pub use Rattle.gt_order.specs.Runs.{CallMade, FitsTypes, CallOutcome, SeatRun}
-pub use Rattle.gt_order.specs.Runs.CallOutcome.{Kept, Starved, Told, Wrote}
+pub use Rattle.gt_order.specs.Runs.CallOutcome.{Kept, Read, Starved, Told, Wrote}
 pub use Rattle.gt_run.specs.Printing.{Served}
 pub use Rattle.gt_run.specs.Serving.{IsServed, MakesCall, ListOutcome, ListProgress}
 pub use Rattle.gt_run.specs.declared.lists.ThreadJob.{ThreadJob}

@@ -5,14 +5,20 @@ use Rattle.gt_order.specs.Prelude.{Shows, layout_of, View, HandleMap, Handle, Fi
 use Rattle.gt_order.specs.Prelude.{path_of, Makes, Done, Nothing, Step, WriteBytes, CallResult, Granted, Mapped, Refused}
 use Rattle.gt_order.specs.Prelude.{HeldPin, OpenRequest, Request, AllowRelation, IsDomainOf, knowledge, IsMap, AddsMapping}
 use Rattle.gt_order.specs.Prelude.{KeepsMappings, Removes, IsNewDomain, Called, Domain}
+use Rattle.gt_order.specs.Prelude.{AccessesFrame, Action, Bytes, CopiesFrames, CopyBytes, DomId, Frame, Layout, Made}
+use Rattle.gt_order.specs.Prelude.{Observation, ReadBytes, Writ, all_shown, bytes_given_by, position_in, shown_by}
+use Rattle.gt_order.specs.Prelude.{IsOfMapping, view_after}
+use Rattle.std.specs.Prelude.{◌⊎◌}
+use Rattle.gt_word_history.specs.declared.view.FrameStep.TheVariants as frames
 use Rattle.gt_calls.specs.declared.request.OpenRequest.TheVariants as asks
 
 -- the outcome of a call: the result of its path; a mapping under a handle; a refusal since allocation failed or its
--- access could not be made; or Ok after it wrote the bytes passed
+-- access could not be made; Ok with the bytes that it read; or Ok after it wrote or copied
 pub data CallOutcome : Type 0 where
   Told : CallResult → CallOutcome
   Kept : Handle → HeldPin → CallOutcome
   Starved : CallOutcome
+  Read : Bytes → CallOutcome
   Wrote : CallOutcome
 
 -- a finished call of a domain: its request, its outcome, its steps (each with its moment, the last one first), and the
@@ -42,20 +48,55 @@ TookSteps b c may request verdict steps d e =
     (called : Called b.layout (path_of (knowledge c may d) d.seat.dom request) verdict d.seat.view e.seat.view)
     × (called.steps ≡ steps)
 
--- the step writes the bytes passed to its call
-abbrev pub IsWriteStep : Step → Type 0
-IsWriteStep (WriteBytes dom frame off len) = Unit {0}
-IsWriteStep step = ⊥
+-- an access of a call, which was passed these bytes to write, was made as one step of its seat: a write or a copy
+abbrev pub MakesAccess : Layout → List ℕ → Step → View → View → Type 0
+MakesAccess k given (WriteBytes dom frame off len) v w =
+    (u : Writ)
+    × AccessesFrame k (position_in k.ids dom) frame (frames.Wrote (record { writ = u; off = off; bytes = given })) v w
+MakesAccess k given (CopyBytes from to len) v w = (u : Writ) × CopiesFrames k from to len u v w
+MakesAccess k given step v w = ⊥
 
--- the path of a store or a poke: it has one step, which writes, and ends with Ok
-pub record WritesOnce (way : Continuation) : Type 0 where
-  pub access : Step
-  pub writes : IsWriteStep access
-  pub next : way [] ≡ Some (Makes access)
-  pub done : way (Nothing ∷ []) ≡ Some (Done Granted)
+-- a step of a call was made on the words, or as an access, which shows nothing
+abbrev pub MakesTurn : Layout → List ℕ → Option Action → Observation → View → View → Type 0
+MakesTurn k given (Some (Makes step)) seen v w = Made k step seen v w ⊎ ((seen ≡ Nothing) × MakesAccess k given step v w)
+MakesTurn k given action seen v w = ⊥
+
+-- each of these steps after the view v, the last first, is what comes next on this path after the observations of the
+-- steps before it
+abbrev pub IsCallWalk : Layout → List ℕ → Continuation → View → List Moment → Type 0
+IsCallWalk k given way v [] = Unit {0}
+IsCallWalk k given way v (x ∷ xs) =
+    MakesTurn k given (way (all_shown xs)) (shown_by x) (view_after xs v) (view_after (x ∷ xs) v)
+    × IsCallWalk k given way v xs
+
+-- the call took its seat's view from d to e by these steps of its path, of which one is its access, and is Ok after them
+pub record TookTurns (b : Board) (c : Config) (may : AllowRelation) (request : Request) (steps : List Moment)
+    (d e : Domain) : Type 0 where
+  pub other : IsOfMapping (asked request) → ⊥
+  pub last : Moment
+  pub before : List Moment
+  pub all : steps ≡ last ∷ before
+  pub view : e.seat.view ≡ view_after steps d.seat.view
+  pub walked : IsCallWalk b.layout (bytes_given_by request) (path_of (knowledge c may d) d.seat.dom request) d.seat.view
+      steps
+  pub done : path_of (knowledge c may d) d.seat.dom request (all_shown steps) ≡ Some (Done Granted)
+
+-- the call read these bytes by one step, and is Ok after it
+pub record TookRead (b : Board) (c : Config) (may : AllowRelation) (request : Request) (bytes : Bytes)
+    (steps : List Moment) (d e : Domain) : Type 0 where
+  pub dom : DomId
+  pub frame : ℕ
+  pub off : ℕ
+  pub len : ℕ
+  pub next : path_of (knowledge c may d) d.seat.dom request [] ≡ Some (Makes (ReadBytes dom frame off len))
+  pub done : path_of (knowledge c may d) d.seat.dom request (Nothing ∷ []) ≡ Some (Done Granted)
+  pub made : AccessesFrame b.layout (position_in b.layout.ids dom) frame (frames.Read off bytes.bytes.items)
+      d.seat.view e.seat.view
+  pub step : steps ≡ (made.past, Frame (position_in b.layout.ids dom) frame (frames.Read off bytes.bytes.items)) ∷ []
+  pub length_is : length bytes.bytes.items ≡ len
 
 -- the call has this outcome: mostly by its path; one whose allocation failed or whose access could not be made made no
--- step, and one that wrote made no step on the words
+-- step
 abbrev pub IsAnswered : Board → Config → AllowRelation → Request → CallOutcome → List Moment → Domain → Domain → Type 0
 IsAnswered b c may request (Told verdict) steps d e =
     KeepsNoPin verdict × TookSteps b c may request verdict steps d e
@@ -64,9 +105,10 @@ IsAnswered b c may request (Kept handle p) steps d e =
     IsMap (asked request) × TookSteps b c may request (Mapped p) steps d e × AddsMapping d.mappings e.mappings handle p
 IsAnswered b c may request Starved steps d e =
     (steps ≡ []) × (e.seat.view ≡ d.seat.view) × KeepsMappings d.mappings e.mappings
+IsAnswered b c may request (Read bytes) steps d e =
+    TookRead b c may request bytes steps d e × KeepsMappings d.mappings e.mappings
 IsAnswered b c may request Wrote steps d e =
-    (steps ≡ []) × (e.seat.view ≡ d.seat.view) × KeepsMappings d.mappings e.mappings
-    × WritesOnce (path_of (knowledge c may d) d.seat.dom request)
+    TookTurns b c may request steps d e × KeepsMappings d.mappings e.mappings
 
 -- each byte is below 256
 abbrev pub AreBytesOf : Option (GrantRef × List ℕ) → Type 0
@@ -77,7 +119,7 @@ AreBytesOf (Some b) = All (λ byte. byte < 256) b.1
 abbrev pub FitsTypes : Request → Type 0
 FitsTypes request = FitsAsked (asked request) × AreBytesOf (bytes_of request)
 
--- the call made no access to bytes, or was a store or a poke, as the contract of its function of Domain promises
+-- the call was made as the contract of its function of Domain promises
 pub record IsCall (b : Board) (c : Config) (may : AllowRelation) (m : CallMade) : Type 0 where
   pub before : IsDomainOf b c may m.old
   pub afterwards : IsDomainOf b c may m.new

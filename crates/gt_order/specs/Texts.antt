@@ -1,37 +1,40 @@
--- The lists of a run that read and copy no bytes, and the legal order whose answers they print.
+-- The lists of a run, and the legal order whose answers they print, bytes too.
 use Rattle.std.specs.Prelude.{◌≡◌, ◌⊎◌, ℕ, ◌<◌, ◌==◌, true, List, [], ◌∷◌, ◌++◌, length}
 use Rattle.gt_order.specs.RunNames.{some, get_elem?, State, Config, Denial, Board, StepHistory, Shows, id_at}
 use Rattle.gt_order.specs.Prelude.{IsWithinLimits}
 use Rattle.gt_order.specs.RunNames.{IsAmong}
 use Rattle.gt_order.specs.RunNames.{View, Request, Items, answer_of, Answer, IsOfAccess, AllowRelation, HasLeft}
 use Rattle.gt_order.specs.RunNames.{Domain, Departed, Monitor, AreUnmaps, MayUnmapAll, IsLegalOrder, CallMade}
-use Rattle.gt_order.specs.RunNames.{FitsTypes, CallOutcome, SeatRun, Told, Kept, Starved, Wrote, ScriptCall}
+use Rattle.gt_order.specs.RunNames.{FitsTypes, CallOutcome, SeatRun, Told, Kept, Starved, Read, Wrote, ScriptCall}
 use Rattle.gt_order.specs.RunNames.{SaysRequest, Named, Do, RunTask, ThreadJob, Served, IsServed, MakesCall, ListOutcome}
 use Rattle.gt_order.specs.RunNames.{ListProgress}
 use Rattle.gt_core.specs.declared.trace.Answer.TheVariants as answers
 use Rattle.gt_script_lines.specs.declared.calls.ScriptCall.TheVariants as calls
 
--- the line asks for no read of bytes and no copy
-abbrev pub ReadsNoBytes : ScriptCall → Type 0
-ReadsNoBytes (calls.Load label off len) = ⊥
-ReadsNoBytes (calls.Peek frame off len) = ⊥
-ReadsNoBytes (calls.Copy c) = ⊥
-ReadsNoBytes call = Unit {0}
-
--- each call of the job's list reads and copies no bytes, and the numbers of its request are in the range of their
--- types, whatever its labels name
-abbrev pub IsQuietDuty : {P : Type 0} → ThreadJob P → Type 0
-IsQuietDuty duty =
+-- the numbers of each request of the job's list are in the range of their types, whatever its labels name
+abbrev pub FitsDuty : {P : Type 0} → ThreadJob P → Type 0
+FitsDuty duty =
     (task : RunTask) (call : ScriptCall) → IsAmong task duty.part.tasks.now → (task.dom.0 == duty.part.dom.0) ≡ true
-    → task.deed ≡ Do call
-    → ReadsNoBytes call
-    × ((named : List Named) (request : Request) → SaysRequest named duty.part.dom call request → FitsTypes request)
+    → task.deed ≡ Do call → (named : List Named) (request : Request) → SaysRequest named duty.part.dom call request
+    → FitsTypes request
+
+-- the answer to a copy is not the refusal of an access that could not be made
+abbrev pub IsMadeWhole : ScriptCall → Answer → Type 0
+IsMadeWhole (calls.Copy c) answer = (denial : Denial) → answer ≡ answers.Denied denial → IsOfAccess denial → ⊥
+IsMadeWhole call answer = Unit {0}
+
+-- no copy of the job's list reached its access without making it
+abbrev pub AreMadeWhole : {P : Type 0} → ThreadJob P → List ListOutcome → Type 0
+AreMadeWhole duty outcomes =
+    (task : RunTask) (call : ScriptCall) (o : ListOutcome) → IsAmong task duty.part.tasks.now → task.deed ≡ Do call
+    → IsAmong o outcomes → o.line ≡ task.line → IsMadeWhole call o.answer
 
 -- a call with this outcome has this answer
 abbrev pub OutcomeGivesAnswer : CallOutcome → Answer → Type 0
 OutcomeGivesAnswer (Told verdict) answer = answer ≡ answer_of verdict
 OutcomeGivesAnswer (Kept handle p) answer = answer ≡ answers.Mapped handle
 OutcomeGivesAnswer Starved answer = (denial : Denial) × (answer ≡ answers.Denied denial) × IsOfAccess denial
+OutcomeGivesAnswer (Read bytes) answer = answer ≡ answers.Bytes bytes
 OutcomeGivesAnswer Wrote answer = answer ≡ answers.Done
 
 -- the call m of a run is the one that a line of the job's list made, with its outcome: the domain was asked what the
@@ -55,12 +58,13 @@ AreCallsOf may duty (m ∷ ms) outcomes =
     (before : List ListOutcome) × (o : ListOutcome) × (outcomes ≡ before ++ o ∷ []) × IsCallOf may duty m o
     × AreCallsOf may duty ms before
 
--- the list of the domain at the position i was served, and reads and copies no bytes
+-- the list of the domain at the position i was served, and no copy of it reached its access without making it
 pub record HasList {P : Type 0} (may : P → AllowRelation) (m : Monitor P) (i : ℕ) (s : Served P) : Type 0 where
   pub monitor : s.duty.monitor.now ≡ m
   pub dom : s.duty.part.dom ≡ id_at m.words.layout.ids i
   pub served : IsServed may s.duty s.outcomes s.text
-  pub quiet : IsQuietDuty s.duty
+  pub fits : FitsDuty s.duty
+  pub whole : AreMadeWhole s.duty s.outcomes
 
 -- the view is the domain's at the end of its list; or the domain has left since, and the policy allows it to unmap each
 -- of its mappings
@@ -86,9 +90,9 @@ pub record AreOfALegalOrder {P : Type 0} (may : P → AllowRelation) (m : Monito
   pub legal : IsLegalOrder m.config (may m.rights) m.words.layout h seats items
   pub each : (i : ℕ) → i < length m.config.domains.items → AreCallsOfList may (lists i) (seats i).calls
 
--- if the configuration is within the limits of the core, each domain's list was served, and reads and copies no bytes,
--- and words and views show a state in which each domain has the view with which its list ended or it left, then the text
--- of the lists is that of a legal order
+-- if the configuration is within the limits of the core, each domain's list was served, no copy reached its access
+-- without making it, and words and views show a state in which each domain has the view with which its list ended or it
+-- left, then the text of the lists is that of a legal order
 abbrev pub TextsAreOfALegalOrder : {P : Type 0} → (P → AllowRelation) → Monitor P → Type 0
 TextsAreOfALegalOrder {P} may m =
     (lists : ℕ → Served P) (s : State (Unit {0}) View) (ends : ℕ → View) → IsWithinLimits m.config

@@ -1,6 +1,6 @@
 //! Consequences of the definitions. Each law is a function that does nothing; its contract is the law.
-ghost use Rattle.gt_order.specs.Calling.{LostWritesAreMade, MapsAreMade, PlainCallsAreMade, UnmapsAreMade};
-ghost use Rattle.gt_order.specs.Calling.{WritesAreMade};
+ghost use Rattle.gt_order.specs.Calling.{CopiesAreMade, LostAccessesAreMade, MapsAreMade, PlainCallsAreMade};
+ghost use Rattle.gt_order.specs.Calling.{ReadsAreMade, UnmapsAreMade, WritesAreMade};
 ghost use Rattle.gt_order.specs.Leaving.{LeavingIsUnmapping};
 ghost use Rattle.gt_order.specs.Laws.{CoreSeesTheWords, RunsHaveLegalOrders, StepsKeepAgreement};
 ghost use Rattle.gt_order.specs.Texts.{TextsAreOfALegalOrder};
@@ -20,19 +20,20 @@ pub fn steps_keep_agreement()
     ensures { StepsKeepAgreement }
 {}
 
-/// A law: the contracts of a domain's calls make each of them a call of a run, if it makes no access to bytes or is a
-/// store or a poke. Nothing beyond the clauses of those contracts is needed. A load, a peek or a copy makes no access
-/// if a rule refuses it.
+/// A law: the contracts of a domain's calls make each of them a call of a run, bytes and all, except a copy that reached
+/// its access and could not make it. Nothing beyond the clauses of those contracts is needed.
 pub fn calls_of_domains_are_made<P: Allows>(monitor: &Monitor<P>)
     ensures plain { PlainCallsAreMade P.may monitor.now }
     ensures unmaps { UnmapsAreMade P.may monitor.now }
     ensures maps { MapsAreMade P.may monitor.now }
     ensures writes { WritesAreMade P.may monitor.now }
-    ensures lost { LostWritesAreMade P.may monitor.now }
+    ensures reads { ReadsAreMade P.may monitor.now }
+    ensures copies { CopiesAreMade P.may monitor.now }
+    ensures lost { LostAccessesAreMade P.may monitor.now }
 {}
 
-/// A law: each run of the monitor whose calls read and copy no bytes, and are all finished, is one legal interleaving
-/// of the core's events, in which each call has the answer that its domain gave.
+/// A law: each run of the monitor whose calls are all finished is one legal interleaving of the core's events, in which
+/// each call has the answer that its domain gave, bytes and all.
 pub fn every_run_has_a_legal_order()
     ensures { RunsHaveLegalOrders }
 {}
@@ -43,7 +44,8 @@ pub fn leaving_is_unmapping()
     ensures { LeavingIsUnmapping }
 {}
 
-/// A law: the lists of a run that read and copy no bytes print the answers of one legal interleaving of their calls.
+/// A law: the lists of a run print the answers of one legal interleaving of their calls, bytes and all, if no copy was
+/// refused at its access.
 pub fn every_text_is_of_a_legal_order<P: Allows>(monitor: &Monitor<P>)
     ensures { TextsAreOfALegalOrder P.may monitor.now }
 {}

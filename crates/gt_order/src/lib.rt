@@ -4,11 +4,11 @@
 //! the law. A run is the one order of all steps of all seats (`gt_words`), with the calls that each domain made, as
 //! their contracts describe them (`gt_live`).
 //!
-//! For each run whose calls read no bytes, copy none and are finished, there is a list of the core's items that is
-//! legal (`gt_core`). Its steps are those of the run in their order, and each call has the answer that its domain gave
+//! For each run whose calls are finished, there is a list of the core's items that is legal (`gt_core`). Its steps are
+//! those of the run in their order, accesses to bytes too, and each call has the answer that its domain gave
 //! ([`every_run_has_a_legal_order`]). The contracts of a domain's calls make them calls of a run
-//! ([`calls_of_domains_are_made`]). The lists of `gt_run` that read and copy no bytes print the answers of such a list
-//! of items ([`every_text_is_of_a_legal_order`]).
+//! ([`calls_of_domains_are_made`]). The lists of `gt_run` print the answers of such a list of items
+//! ([`every_text_is_of_a_legal_order`]).
 //!
 //! It uses `gt_run`, `gt_host`, `gt_script`, `gt_script_lines`, `gt_live`, `gt_core`, `gt_words`, `gt_word_history`,
 //! `gt_calls`, `gt_frames`, `gt_handles`, `gt_entry`, `gt_types` and the kit's `atomic_table`.
