@@ -19,3 +19,5 @@ pub mod Tries
 pub mod Halves
 pub mod Prelude
 pub mod Questions
+pub mod Unmarked
+pub mod Following
