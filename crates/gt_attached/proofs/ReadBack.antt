@@ -11,10 +11,11 @@ use Rattle.gt_types.specs.declared.denial.Facts.TheVariants as facts
 use Rattle.gt_types.specs.declared.denial.Field.{Field}
 use Rattle.gt_types.specs.declared.denial.Field.TheVariants as fields
 use Rattle.gt_types.specs.Denial.{rule_number, status_number}
+use Rattle.gt_live.specs.declared.domain.following.Followed.TheVariants as follows
 use Rattle.gt_attached.specs.declared.answer.AttachedOutcome.{AttachedOutcome}
 use Rattle.gt_attached.specs.declared.answer.AttachedOutcome.TheVariants.{Done, Mapped, Frames, Version, Size, Denied}
 use Rattle.gt_attached.specs.declared.answer.AttachedOutcome.TheVariants.{NoDomain, Busy, NoMemory, NoCopy, Absent, NullPointer}
-use Rattle.gt_attached.specs.declared.answer.AttachedOutcome.TheVariants.{Left, Taken as TakenRecords}
+use Rattle.gt_attached.specs.declared.answer.AttachedOutcome.TheVariants.{Left, Taken as TakenRecords, Followed as FollowedBytes}
 use Rattle.gt_attached.specs.Encoding.{encoded, field_number}
 use Rattle.gt_attached.specs.Decoding.{AnswersAreReadBack, decoded, field_named, rule_named, status_named}
 
@@ -103,3 +104,8 @@ read_back Absent = refl
 read_back NullPointer = refl
 read_back (Left remains) = refl
 read_back (TakenRecords taken) = refl
+read_back (FollowedBytes follows.Same) = refl
+read_back (FollowedBytes follows.Demoted) = refl
+read_back (FollowedBytes follows.Promoted) = refl
+read_back (FollowedBytes follows.Withdrawn) = refl
+read_back (FollowedBytes follows.Granted) = refl

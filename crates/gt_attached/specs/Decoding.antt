@@ -9,12 +9,14 @@ use Rattle.gt_types.specs.declared.denial.Facts.{Facts}
 use Rattle.gt_types.specs.declared.denial.Facts.TheVariants as facts
 use Rattle.gt_types.specs.declared.denial.Field.{Field}
 use Rattle.gt_types.specs.declared.denial.Field.TheVariants as fields
+use Rattle.gt_live.specs.declared.domain.following.Followed.{Followed}
+use Rattle.gt_live.specs.declared.domain.following.Followed.TheVariants as follows
 use Rattle.gt_attached.specs.declared.answer.EncodedAnswer.{EncodedAnswer}
 use Rattle.gt_attached.specs.declared.answer.MappingName.{MappingName}
 use Rattle.gt_attached.specs.declared.answer.AttachedOutcome.{AttachedOutcome}
 use Rattle.gt_attached.specs.declared.answer.AttachedOutcome.TheVariants.{Done, Mapped, Frames, Version, Size as SizeOf, Denied}
 use Rattle.gt_attached.specs.declared.answer.AttachedOutcome.TheVariants.{NoDomain, Busy, NoMemory, NoCopy, Absent, NullPointer}
-use Rattle.gt_attached.specs.declared.answer.AttachedOutcome.TheVariants.{Left, Taken as TakenRecords}
+use Rattle.gt_attached.specs.declared.answer.AttachedOutcome.TheVariants.{Left, Taken as TakenRecords, Followed as FollowedBytes}
 use Rattle.gt_attached.specs.Encoding.{encoded}
 
 -- the rule with this number, or the last one if there is none
@@ -77,6 +79,15 @@ field_named n =
     if n == 8 then fields.SubPage else
     fields.Reserved
 
+-- what was done to an entry that followed the bytes of its guest, by its number
+abbrev pub followed_named : ℕ → Followed
+followed_named n =
+    if n == 0 then follows.Same else
+    if n == 1 then follows.Demoted else
+    if n == 2 then follows.Promoted else
+    if n == 3 then follows.Withdrawn else
+    follows.Granted
+
 -- the facts of a refusal
 abbrev pub facts_in : EncodedAnswer → Facts
 facts_in a =
@@ -105,6 +116,7 @@ decoded_answer a =
     if a.kind == 4 then SizeOf (record { frames = a.value; max = a.more }) else
     if a.kind == 9 then Left (record { lost = a.value; in_use = a.more }) else
     if a.kind == 10 then TakenRecords (record { records = a.value; lost = a.more }) else
+    if a.kind == 11 then FollowedBytes (followed_named a.value) else
     Done
 
 -- the result that is encoded

@@ -11,12 +11,14 @@ use Rattle.gt_types.specs.declared.denial.Facts.TheVariants as facts
 use Rattle.gt_types.specs.declared.denial.Field.{Field}
 use Rattle.gt_types.specs.declared.denial.Field.TheVariants as fields
 use Rattle.gt_types.specs.Denial.{rule_number, status_number}
+use Rattle.gt_live.specs.declared.domain.following.Followed.{Followed}
+use Rattle.gt_live.specs.declared.domain.following.Followed.TheVariants as follows
 use Rattle.gt_attached.specs.declared.answer.EncodedAnswer.{EncodedAnswer}
 use Rattle.gt_attached.specs.declared.answer.MappingName.{MappingName}
 use Rattle.gt_attached.specs.declared.answer.AttachedOutcome.{AttachedOutcome}
 use Rattle.gt_attached.specs.declared.answer.AttachedOutcome.TheVariants.{Done, Mapped, Frames, Version, Size as SizeOf, Denied}
 use Rattle.gt_attached.specs.declared.answer.AttachedOutcome.TheVariants.{NoDomain, Busy, NoMemory, NoCopy, Absent, NullPointer}
-use Rattle.gt_attached.specs.declared.answer.AttachedOutcome.TheVariants.{Left, Taken as TakenRecords}
+use Rattle.gt_attached.specs.declared.answer.AttachedOutcome.TheVariants.{Left, Taken as TakenRecords, Followed as FollowedBytes}
 
 -- the number of a field of an entry's bytes
 abbrev pub field_number : Field → ℕ
@@ -29,6 +31,14 @@ field_number fields.Pcd = 6
 field_number fields.Pat = 7
 field_number fields.SubPage = 8
 field_number fields.Reserved = 9
+
+-- the number of what was done to an entry that followed the bytes of its guest
+abbrev pub followed_number : Followed → ℕ
+followed_number follows.Same = 0
+followed_number follows.Demoted = 1
+followed_number follows.Promoted = 2
+followed_number follows.Withdrawn = 3
+followed_number follows.Granted = 4
 
 -- a result that has only a rule and a status
 abbrev pub bare : ℕ → ℤ → EncodedAnswer
@@ -88,3 +98,4 @@ encoded Absent = bare 260 (pos 0)
 encoded NullPointer = bare 261 (pos 0)
 encoded (Left remains) = given 9 remains.lost remains.in_use
 encoded (TakenRecords taken) = given 10 taken.records taken.lost
+encoded (FollowedBytes followed) = given 11 (followed_number followed) 0

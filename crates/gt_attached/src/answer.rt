@@ -1,10 +1,11 @@
 //! The result of a call, in a layout that C reads.
 ghost use Rattle.std.specs.Prelude.{◌≡◌, pos};
-ghost use Rattle.gt_attached.specs.Encoding.{bare, encoded, field_number, given, mapped, refusal};
+ghost use Rattle.gt_attached.specs.Encoding.{bare, encoded, field_number, followed_number, given, mapped, refusal};
 ghost use Rattle.gt_attached.specs.Decoding.{AnswersAreReadBack};
 
 use bitflags::Flags;
 use gt_calls::Handle;
+use gt_live::Followed;
 use gt_types::{Denial, DomId, Facts, Field, Size};
 
 /// The name of a mapping: its handle, the domain that has it, and the number of its run.
@@ -60,6 +61,8 @@ pub enum AttachedOutcome {
     Left(Departure),
     /// Ok: its records were taken.
     Taken(TakenCounts),
+    /// Ok: an entry followed the bytes of its guest, by this change.
+    Followed(Followed),
 }
 
 /// The result of a call, in a layout that C reads. A field without a meaning is 0.
@@ -73,7 +76,7 @@ pub struct EncodedAnswer {
     pub status: i32,
     /// The kind of the other fields: 0 none, 1 a handle, 2 a number of frames, 3 a version, 4 a size, 5 what the policy
     /// denies, 6 a field of an entry's bytes, 7 a header's word, 8 an entry's word, 9 what a domain leaves, 10 taken
-    /// records.
+    /// records, 11 what was done to an entry that followed its guest's bytes.
     pub kind: u32,
     /// The domain of the header or entry whose word this carries, or the domain that has the mapping.
     pub dom: u32,
@@ -87,8 +90,8 @@ pub struct EncodedAnswer {
     pub detail: u32,
     /// The word of the deciding look or exchange.
     pub word: u64,
-    /// The serial of a handle, a number of frames, a version, the number of records that a departed domain lost, or the
-    /// number of records taken.
+    /// The serial of a handle, a number of frames, a version, the number of records that a departed domain lost, the
+    /// number of records taken, or the number of what was done to an entry that followed its guest's bytes.
     pub value: u64,
     /// The key of a handle, the maximum number of frames of a table, the number of entries of a departed domain that
     /// are in use, or the number of records lost before those taken.
@@ -141,6 +144,19 @@ fn field_number(field: Field) -> u32
         Field::Pat => 7,
         Field::SubPage => 8,
         Field::Reserved => 9,
+    }
+}
+
+// Returns the number of what was done to an entry that followed the bytes of its guest.
+fn followed_number(followed: Followed) -> u64
+    ensures { result ≡ followed_number followed }
+{
+    match followed {
+        Followed::Same => 0,
+        Followed::Demoted => 1,
+        Followed::Promoted => 2,
+        Followed::Withdrawn => 3,
+        Followed::Granted => 4,
     }
 }
 
@@ -245,6 +261,7 @@ impl EncodedAnswer {
             AttachedOutcome::NullPointer => by_rule(NULL_POINTER),
             AttachedOutcome::Left(remains) => given(9, remains.lost, remains.in_use),
             AttachedOutcome::Taken(taken) => given(10, taken.records, taken.lost),
+            AttachedOutcome::Followed(followed) => given(11, followed_number(followed), 0),
         }
     }
 }

@@ -7,7 +7,7 @@ use crate::answer::{Departure, TakenCounts};
 use gt_audit::{Record, Trail};
 use gt_calls::{CopyArgs, Handle, HeldPin, Spot};
 use gt_entry::{Control, Entry};
-use gt_live::{Domain, Monitor, PendingCopy};
+use gt_live::{Domain, Followed, Monitor, PendingCopy};
 use gt_types::{Allows, Denial, DomId, GrantRef, Memory, Size};
 use std::alloc::Global;
 use std::marker::Model;
@@ -81,6 +81,7 @@ impl<P: Allows + Drop> AttachedDomain<P> {
     ghost use Rattle.gt_calls.specs.declared.request.Request.TheVariants as Request;
     ghost use Rattle.gt_live.specs.Domains.{Answered, AnswersQuietly, AnswersTold};
     ghost use Rattle.gt_live.specs.Closing.{LooksAtOwn, Resets};
+    ghost use Rattle.gt_live.specs.Following.{Follows};
     ghost use Rattle.gt_live.specs.Domains.{KeepsPinned, MapAnswered, mapping_reply, subject_of};
     ghost use Rattle.gt_live.specs.Domains.{told_of, verdict_of, verdict_of_frames, verdict_of_size};
     ghost use Rattle.gt_live.specs.Domains.{verdict_of_version};
@@ -178,6 +179,20 @@ impl<P: Allows + Drop> AttachedDomain<P> {
             (Request.Promote gref) (verdict_of result) self.new.domain }
     {
         self.domain.promote(&self.monitor, gref)
+    }
+
+    /// Brings one of the domain's entries to what its guest has written: the bytes are the guest's entry, as its memory
+    /// has them. Their bits `GTF_reading` and `GTF_writing` count as clear, and their type 0 means that the guest has
+    /// ended access.
+    ///
+    /// # Errors
+    /// N9, N25, N18, N19 or N22. The entry is then as before, or Invalid if it was withdrawn.
+    pub fn follow(&mut self, gref: GrantRef, bytes: &[u8]) -> Result<Followed, Denial>
+        requires idle { self.old.copying ≡ None }
+        ensures stays { StaysIdle self.old self.new }
+        ensures follows { Follows P.may self.old.monitor self.old.domain gref bytes.now result self.new.domain }
+    {
+        self.domain.follow(&self.monitor, gref, bytes)
     }
 
     /// Gives the domain's table this version, 1 or 2, while all its entries are invalid.

@@ -32,3 +32,5 @@ pub mod Reaching
 mod Numbers
 pub mod Closing
 mod OneFrame
+pub mod Following
+pub mod Marks

@@ -18,3 +18,5 @@ pub mod Tries
 pub mod Halves
 pub mod Prelude
 pub mod Questions
+pub mod Unmarked
+pub mod Following

@@ -17,6 +17,7 @@ ghost use Rattle.gt_audit.specs.Telling.{Tells};
 mod bytes;
 mod closing;
 mod copies;
+mod following;
 mod mappings;
 mod owner_calls;
 mod table_calls;
@@ -24,6 +25,7 @@ mod table_calls;
 use crate::driving::pin_of;
 use crate::monitor::Monitor;
 pub use copies::PendingCopy;
+pub use following::Followed;
 use gt_audit::{Hypercall, Record, Reply, Trail};
 use gt_calls::{
     CallResult, CallValue, CallerState, Handle, Handles, HeldPin, OwnerEntry, own_entry, size_in,

@@ -1,4 +1,5 @@
 //! Consequences of the definitions, for readers. A law does nothing; its contract is the theorem.
+ghost use Rattle.gt_live.specs.Following.{MarksChangeNoMeaning};
 ghost use Rattle.gt_live.specs.Halves.{TwoHalvesMakeACopy};
 ghost use Rattle.gt_live.specs.Tries.{ChangesMakeFourTries, FourTriesWereMissed, LegsMakeFourTries};
 
@@ -23,4 +24,9 @@ pub fn every_call_that_gives_up_missed_four_tries()
 /// A law: a copy that reached its access, and whose pins were then released, is a whole copy of its path.
 pub fn two_halves_make_a_copy()
     ensures { TwoHalvesMakeACopy }
+{}
+
+/// A law: the bytes of an entry mean the same when the hypervisor has set `GTF_reading` or `GTF_writing` in them.
+pub fn marks_change_no_meaning()
+    ensures { MarksChangeNoMeaning }
 {}

@@ -22,6 +22,9 @@ mod owning;
 mod routes;
 mod start;
 
-pub use domain::{Departed, Domain, PendingCopy};
-pub use laws::{every_change_makes_four_tries, every_leg_makes_four_tries, two_halves_make_a_copy};
+pub use domain::{Departed, Domain, Followed, PendingCopy};
+pub use laws::{
+    every_change_makes_four_tries, every_leg_makes_four_tries, marks_change_no_meaning,
+    two_halves_make_a_copy,
+};
 pub use monitor::Monitor;

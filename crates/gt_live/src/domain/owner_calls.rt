@@ -11,9 +11,13 @@ use gt_entry::{Entry, EntryChange};
 use gt_types::{Allows, Denial, GrantRef};
 
 impl Domain {
-    ghost use Rattle.std.specs.Prelude.{◌≡◌, IfOk, IfErr, None, Some};
+    ghost use Rattle.std.specs.Prelude.{◌≡◌, ◌<◌, IfOk, IfErr, OnOk, OnErr, None, Some};
+    ghost use Rattle.gt_types.specs.declared.limits.TheConstants.{TABLE_ENTRIES};
     ghost use Rattle.gt_live.specs.Domains.{BelongsTo};
     ghost use Rattle.gt_live.specs.Domains.{IsUnsettled, KeepsPinned};
+    ghost use Rattle.gt_entry.specs.Changes.{changed_entry};
+    ghost use Rattle.gt_live.specs.Following.{entry_of};
+    ghost use Rattle.gt_live.specs.Rows.{row_changed};
     ghost use Rattle.gt_live.specs.Owning.{IsRowOf, asks_change, change_effect};
     ghost use Rattle.gt_calls.specs.Asking.{asked, begun_of};
     ghost use Rattle.gt_calls.specs.Path.{idle_word, path};
@@ -92,6 +96,8 @@ impl Domain {
             (verdict_of result) self.old.seat.view self.new.seat.view }
         ensures kept { KeepsPinned self.old self.new }
         ensures silent { self.new.trail ≡ self.old.trail }
+        ensures row { OnOk result (self.new.own.items ≡ row_changed self.old.own.items gref.0 change) }
+        ensures same { OnErr result (self.new.own.items ≡ self.old.own.items) }
     {
         match self.drive_change(monitor, gref, own.idle_word(), change) {
             Ok(()) => {
@@ -104,7 +110,7 @@ impl Domain {
 
     // Makes an owner's call that changes an entry.
     #[inline(always)]
-    fn owner_call<P: Allows>(
+    pub(super) fn owner_call<P: Allows>(
         &mut self,
         monitor: &Monitor<P>,
         gref: GrantRef,
@@ -117,6 +123,9 @@ impl Domain {
             (verdict_of result) self.old.seat.view self.new.seat.view }
         ensures kept { KeepsPinned self.old self.new }
         ensures silent { self.new.trail ≡ self.old.trail }
+        ensures changed { gref.0 < TABLE_ENTRIES →
+            OnOk result (entry_of self.new gref ≡ changed_entry change (entry_of self.old gref)) }
+        ensures same { OnErr result (entry_of self.new gref ≡ entry_of self.old gref) }
     {
         let own = self.own_entry(monitor, gref);
         if let Some(verdict) = self.judge_own(monitor, own, gref, change) {

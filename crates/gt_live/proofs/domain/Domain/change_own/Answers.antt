@@ -26,6 +26,16 @@ returns-in-Ok-clause-stays g c =
       kept.seat,
     )
 
+pub returns-in-Ok-clause-row : goal.returns-in-Ok-clause-row
+returns-in-Ok-clause-row g c =
+    let f = c.drive_change.new.self in let kept = c.drive_change.ensures.kept in
+    let q = c.args.gref.0 in let ch = c.args.change in
+    with_items_is f.own c.change_row.new.own (c.change_row.auto.own ∙ c.deref_mut.ensures.len) ∙ c.change_row.ensures
+    ∙ ap (λ (os : List OwnerEntry). row_changed os q ch) (c.deref_mut.ensures.value ∙ ap (λ v. v.items) kept.own)
+
+pub returns-in-Err-clause-same : goal.returns-in-Err-clause-same
+returns-in-Err-clause-same g c = ap (λ v. v.items) c.drive_change.ensures.kept.own
+
 pub returns-in-Err-clause-stays : goal.returns-in-Err-clause-stays
 returns-in-Err-clause-stays g c =
     let m = c.args.monitor.now in let d = c.args.self.now in let may = g.P.Allows.may m.rights in
