@@ -10,7 +10,7 @@ returns-in-Ok-all_guests-clause-guests g c =
       monitor = made.0;
       config = run.0;
       rights_are = run.1;
-      no_frames = run.2;
+      no_frames = c.in-Ok.ensures.frames;
       domains = made.1.items;
       guests_are = c.in-Ok-all_guests.ensures
           ∙ ap (λ (m : Monitor g.row.P.Denot). map (beside m) made.1.items) c.in-Ok-new.ensures.ok;
