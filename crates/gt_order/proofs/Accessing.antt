@@ -146,8 +146,11 @@ copies-made may m d e args r stays fits answered kept = by answered.0 answered.1
     by : (access : Step) → Accessed k way access (IsCopiedBy k d.seat.dom access r) d.seat.view e.seat.view → (steps : List Moment) × WasMade may m (requests.Copy args) Wrote steps d e
     by (CopyBytes from to len) a =
         let u = a.did.1 in let f = a.did.3.3 in
-        let x : Moment = (f.past, Frame (position_in k.ids to.frame.owner) to.frame.number
-        (frames.Copied (position_in k.ids from.frame.owner) from.frame.number from.off (record { writ = u; off = to.off; bytes = a.did.3.1 }))) in
+        let x : Moment = (
+          f.past,
+          Frame (position_in k.ids to.frame.owner) to.frame.number
+              (frames.Copied (position_in k.ids from.frame.owner) from.frame.number from.off (record { writ = u; off = to.off; bytes = a.did.3.1 })),
+        ) in
         let z = whole k [] way (CopyBytes from to len) _ d.seat.view e.seat.view a x (record { made = (u, a.did.3); view = f.view; shows = refl }) in (
           z.0,
           record {

@@ -114,10 +114,10 @@ turn-of : (k : Layout) (i : ℕ) (given : List ℕ) (way : Continuation) (xs : L
     → MakesStep k (way (all_shown xs)) (shown_by x) (view_after xs u) (view_after (x ∷ xs) u) ⊎ IsNextAccess k i given way xs x (view_after xs u) (view_after (x ∷ xs) u)
 turn-of k i given way xs x u turn = by (way (all_shown xs)) refl turn
   where
-    abbrev v : View
+    v : View
     v = view_after xs u
 
-    abbrev w : View
+    w : View
     w = view_after (x ∷ xs) u
 
     by : (o : Option Action) → way (all_shown xs) ≡ o → MakesTurn k given o (shown_by x) v w → MakesStep k (way (all_shown xs)) (shown_by x) v w ⊎ IsNextAccess k i given way xs x v w
@@ -133,10 +133,10 @@ stood-of : (k : Layout) (i : ℕ) (given : List ℕ) (way : Continuation) (xs : 
     → (z : Step) × (way (all_shown xs) ≡ Some (Makes z)) × StoodWith (Unit {0}) k x.0 (view_after xs u)
 stood-of k i given way xs x u at turn = ⊎_elim (words (way (all_shown xs)) refl) (λ (q : IsNextAccess k i given way xs x v w). (q.0, q.1, q.2.stood)) (turn-of k i given way xs x u turn)
   where
-    abbrev v : View
+    v : View
     v = view_after xs u
 
-    abbrev w : View
+    w : View
     w = view_after (x ∷ xs) u
 
     words : (o : Option Action) → way (all_shown xs) ≡ o → MakesStep k (way (all_shown xs)) (shown_by x) v w → (z : Step) × (way (all_shown xs) ≡ Some (Makes z)) × StoodWith (Unit {0}) k x.0 v
@@ -336,10 +336,10 @@ module _ (b : Board) (c : Config) (may : AllowRelation) (limits : IsWithinLimits
       let seat = subst (SeatNow c may o.g d (firsts i)) (put-here i (Going ms m xs) stages) (o.each i l) in
       ⊎_elim (words d call at-old seat) (access d call at-old seat) (turn-of k i (bytes_given_by m.request) (way_of c may m) xs x m.old.seat.view going.walked.0)
     where
-      abbrev v : View
+      v : View
       v = view_after xs m.old.seat.view
 
-      abbrev w : View
+      w : View
       w = view_after (x ∷ xs) m.old.seat.view
 
       words : (d : DomId) → IsCall b c may m → m.old.seat.view.position ≡ i → SeatNow c may o.g (dom_at k i) (firsts i) (Going ms m xs) → MakesStep k (way_of c may m (all_shown xs)) (shown_by x) v w → Ordered b c may ((i, x.1) ∷ x.0) firsts stages
