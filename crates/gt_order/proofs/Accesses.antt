@@ -217,12 +217,12 @@ module _ (c : Config) (k : Layout) (is : k ≡ layout_of c) (limits : IsWithinLi
   -- after an access
   pub writes-by-access : (g : Items) (h : StepHistory) (i : ℕ) (d : DomId) (given : List ℕ) (step : Step) (x : SeatStep) (seen : Observation) (answer : Option Answer) → given_in (open_call g d.0) ≡ given → NamesRun k step → IsThe k i step x
       → IsWriteOf k h given step x → WritesAgree k g h → WritesAgree k (stepped d step seen answer ∷ g) ((i, x) ∷ h)
-  writes-by-access g h i d given (ReadBytes dom frame off len) (Frame t q (frames.Read o bytes)) seen answer passed run the writes agree u f n =
-      patches-none g (stepped d (ReadBytes dom frame off len) seen answer) (dom_at k u).0 f refl ∙ (agree u f n ∙ ap patches (sym (by ((t == u) && (q == f)))))
+  writes-by-access g h i d given (ReadBytes dom frame off len) (Frame t q (frames.Read o bytes)) seen answer passed run the writes agree =
+      λ u f n. patches-none g (stepped d (ReadBytes dom frame off len) seen answer) (dom_at k u).0 f refl ∙ (agree u f n ∙ ap patches (sym (by (journal_made u f h) ((t == u) && (q == f)))))
     where
-      by : (z : Bool) → cond z (journal_made u f h) (journal_made u f h) ≡ journal_made u f h
-      by true = refl
-      by false = refl
+      by : (rs : List WriteRecord) (z : Bool) → cond z rs rs ≡ rs
+      by rs true = refl
+      by rs false = refl
   writes-by-access g h i d given (WriteBytes dom frame off len) (Frame t q (frames.Wrote r)) seen answer passed run the writes agree =
       one-write g h (stepped d (WriteBytes dom frame off len) seen answer) dom frame off given t q (frames.Wrote r) r (λ rs. refl)
       (ap (λ (bytes : List ℕ). Some (record { at = record { frame = record { owner = dom; number = frame }; off = off }; bytes = bytes })) passed) run the.0 the.1 the.2 writes i agree

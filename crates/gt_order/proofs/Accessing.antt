@@ -115,7 +115,7 @@ writes-made may m d e request r stays is answered kept = by answered.0 answered.
 
     by : (access : Step) → Accessed k way access (IsWrittenBy k d.seat.dom (bytes_given_by request) access r) d.seat.view e.seat.view → (steps : List Moment) × WasMade may m request Wrote steps d e
     by (WriteBytes dom frame off len) a =
-        let u = a.did.1 in let f = a.did.3 in
+        let u = a.did.1.0 in let f = a.did.1.2 in
         let x : Moment = (f.past, Frame (position_in k.ids dom) frame (frames.Wrote (record { writ = u; off = off; bytes = bytes_given_by request }))) in
         let z = whole k (bytes_given_by request) way (WriteBytes dom frame off len) _ d.seat.view e.seat.view a x (record { made = (u, f); view = f.view; shows = refl }) in (
           z.0,
@@ -127,11 +127,7 @@ writes-made may m d e request r stays is answered kept = by answered.0 answered.
             answered = (record { other = plain request is; last = z.1; before = z.2; all = z.3; view = z.4; walked = z.5; done = z.6 }, kept.0);
           },
         )
-    by access a = absurd (never access a.did)
-      where
-        never : (z : Step) → IsWrittenBy k d.seat.dom (bytes_given_by request) z r a.at a.after → ⊥
-        never (WriteBytes dom frame off len) x = absurd x
-        never z x = absurd x
+    by access a = absurd a.did
 
 -- a copy
 pub copies-made : {P : Type 0} (may : P → AllowRelation) (m : Monitor P) → CopiesAreMade may m
@@ -145,13 +141,13 @@ copies-made may m d e args r stays fits answered kept = by answered.0 answered.1
 
     by : (access : Step) → Accessed k way access (IsCopiedBy k d.seat.dom access r) d.seat.view e.seat.view → (steps : List Moment) × WasMade may m (requests.Copy args) Wrote steps d e
     by (CopyBytes from to len) a =
-        let u = a.did.1 in let f = a.did.3.3 in
+        let u = a.did.1.0 in let c = a.did.1.2 in
         let x : Moment = (
-          f.past,
+          c.3.past,
           Frame (position_in k.ids to.frame.owner) to.frame.number
-              (frames.Copied (position_in k.ids from.frame.owner) from.frame.number from.off (record { writ = u; off = to.off; bytes = a.did.3.1 })),
+              (frames.Copied (position_in k.ids from.frame.owner) from.frame.number from.off (record { writ = u; off = to.off; bytes = c.1 })),
         ) in
-        let z = whole k [] way (CopyBytes from to len) _ d.seat.view e.seat.view a x (record { made = (u, a.did.3); view = f.view; shows = refl }) in (
+        let z = whole k [] way (CopyBytes from to len) _ d.seat.view e.seat.view a x (record { made = (u, c); view = c.3.view; shows = refl }) in (
           z.0,
           record {
             before = stays.before;

@@ -67,7 +67,8 @@ use Rattle.gt_live.specs.Walks.{all_shown, shown_by, seen_in_step}
 use Rattle.gt_live.specs.declared.domain.Domain.{Domain}
 use Rattle.gt_order.proofs.Ends.{KeepsOwn, clean-steps, handles-kept, keeps-own, kept-maps, last-leaves, leaves-known}
 use Rattle.gt_order.proofs.Ends.{leaves-of, maps-quiet, stands-open, told-maps}
-use Rattle.gt_order.proofs.NextItem.{AccessesSo, GoesSo, same-way}
+use Rattle.gt_order.proofs.NextAccess.{AccessesSo}
+use Rattle.gt_order.proofs.NextItem.{GoesSo, same-way}
 use Rattle.gt_order.proofs.Making.{header-is}
 use Rattle.gt_order.proofs.DomainsAtRest.{rest-known}
 use Rattle.gt_order.proofs.Stages.{SeatNow}

@@ -10,6 +10,7 @@ pub mod Ends
 pub mod Leaving
 pub mod Listed
 pub mod Making
+pub mod NextAccess
 pub mod NextItem
 pub mod Order
 pub mod Places

@@ -198,7 +198,7 @@ module _ {P : Type 0} (may : P → AllowRelation) (m : Monitor P) where
   -- a list, as far as it has come
   module _ (duty : ThreadJob P) (over : duty.monitor.now ≡ m) (fitting : FitsDuty duty) (final : List ListOutcome) (whole : AreMadeWhole duty final) (first : Domain) where
     -- the outcomes so far stay among those at the end
-    AreFinal : ListProgress → Type 0
+    abbrev AreFinal : ListProgress → Type 0
     AreFinal p = (o : ListOutcome) → IsAmong o p.outcomes → IsAmong o final
 
     deed-grows : (line : ℕ) (deed : RunAction) (p q : ListProgress) → DoesDeed may duty line deed p q → AreFinal q → AreFinal p

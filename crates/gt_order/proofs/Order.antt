@@ -57,7 +57,8 @@ use Rattle.gt_order.proofs.Called.{leaves}
 use Rattle.gt_order.proofs.Ending.{RefusesOnly, answered-at-once, answers, asked-refuses, begins, core-adds, ends-kept}
 use Rattle.gt_order.proofs.Ending.{ends-accessed, ends-told, going-on, going-on-accessed, keeps-at-once, known-alike}
 use Rattle.gt_order.proofs.Ending.{no-pin-at-once, starves}
-use Rattle.gt_order.proofs.NextItem.{accesses-so, goes-so, on-way, unanswered}
+use Rattle.gt_order.proofs.NextAccess.{accesses-so}
+use Rattle.gt_order.proofs.NextItem.{goes-so, on-way, unanswered}
 use Rattle.gt_order.proofs.Making.{made-as, one-moment}
 use Rattle.gt_order.proofs.DomainsAtRest.{can-be-answered, keeps-agreement}
 use Rattle.gt_order.proofs.Stages.{Fits, IsGoing, Ordered, SeatNow, Stage, one-more}
@@ -441,7 +442,7 @@ module _ (b : Board) (c : Config) (may : AllowRelation) (limits : IsWithinLimits
           let walk : IsCallWalk k given (way_of c may m) m.old.seat.view (x ∷ xs) = subst (IsCallWalk k given (way_of c may m) m.old.seat.view) made t.walked in
           let then : way_of c may m (all_shown (x ∷ xs)) ≡ Some (Done Granted) = ap (λ (q : List Moment). way_of c may m (all_shown q)) (sym made) ∙ t.done in
           let view : m.new.seat.view ≡ w = t.view ∙ ap (λ (q : List Moment). view_after q m.old.seat.view) made in
-          let items = λ j. items_by_outcome d (way_of c may m) m.request (out j) (made j) in
+          let items : items_by_outcome d (way_of c may m) m.request m.outcome m.steps ≡ items_by_outcome d (way_of c may m) m.request Wrote (x ∷ xs) = λ j. items_by_outcome d (way_of c may m) m.request (out j) (made j) in
           ⊎_elim (λ (step : MakesStep k (way_of c may m (all_shown xs)) (shown_by x) v w).
           told Granted tt step then items (leaves (asked m.request) Granted m.old.mappings m.new.mappings t.other a.1) view)
           (λ (q : IsNextAccess k i given (way_of c may m) xs x v w).
