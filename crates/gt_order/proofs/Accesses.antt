@@ -1,17 +1,15 @@
 -- What an access of a call is among the steps of the history, and what items and history have written after it.
-use Rattle.std.proofs.Common.{◌≡◌, ◌≢◌, ℕ, ◌+◌, ◌-◌, ◌<◌, Bool, true, false, cond, ◌==◌, ◌&&◌, List, [], ◌∷◌, ◌++◌, length}
+use Rattle.std.proofs.Common.{◌≡◌, ℕ, ◌+◌, ◌-◌, ◌<◌, Bool, true, false, cond, ◌==◌, ◌&&◌, List, [], ◌∷◌, ◌++◌, length}
 use Rattle.std.proofs.Common.{Option, Some, None, sym, refl, ap, ◌∙◌, subst, arith, inl, inr, eq-eqb, ne_eqb, take, drop}
 use Rattle.std.proofs.lemmas.Bool.{cases_eq}
 use Rattle.std.specs.Prelude.{slice_range}
 use Rattle.gt_types.specs.Config.{IsWithinLimits}
 use Rattle.gt_types.specs.declared.DomId.{DomId}
 use Rattle.gt_types.specs.declared.config.Config.{Config}
-use Rattle.gt_types.specs.declared.places.Spot.{Spot}
-use Rattle.gt_frames.specs.Bytes.{Patch, written}
+use Rattle.gt_frames.specs.Bytes.{written}
 use Rattle.gt_frames.specs.Frames.{bytes_at, patch_of, patches}
 use Rattle.gt_frames.specs.declared.writ.WriteRecord.{WriteRecord}
 use Rattle.gt_shared_table.specs.Bytes.{SaysBytes, frame_made, journal_after, journal_by, journal_made}
-use Rattle.gt_words.specs.Conditions.{HasDomain}
 use Rattle.gt_words.specs.Frames.{AccessesFrame}
 use Rattle.gt_word_history.specs.History.{StepHistory, Layout, Moment}
 use Rattle.gt_word_history.specs.Rule.{layout_of, position_in}
@@ -35,7 +33,6 @@ use Rattle.gt_core.specs.History.{History as Items, Setting, WriteMade, contents
 use Rattle.gt_core.specs.History.{patches_by, seen_by, written_by}
 use Rattle.gt_core.specs.declared.trace.Answer.{Answer}
 use Rattle.gt_core.specs.declared.trace.Item.{Item}
-use Rattle.gt_core.specs.declared.trace.ItemEvent.{ItemEvent}
 use Rattle.gt_live.specs.Walks.{seen_in_step}
 use Rattle.gt_order.proofs.Places.{as-many, dom-there, test-apart, test-same}
 use Rattle.gt_order.specs.Agreeing.{IsThe, WritesAgree, dom_at}

@@ -1,5 +1,5 @@
 -- A call with an access is a call of a run: its access is one of its steps, if it could be made.
-use Rattle.std.proofs.Common.{◌≡◌, ◌⊎◌, inl, inr, ⊎_elim, ℕ, List, [], ◌∷◌, ◌++◌, length, Option, Some, None, Ok, refl, sym}
+use Rattle.std.proofs.Common.{◌≡◌, inr, ℕ, List, [], ◌∷◌, ◌++◌, length, Option, Some, None, refl, sym}
 use Rattle.std.proofs.Common.{ap, ◌∙◌, subst, append_assoc}
 use Rattle.gt_word_history.specs.History.{Moment}
 use Rattle.gt_word_history.specs.Rule.{Layout, position_in}
@@ -10,7 +10,7 @@ use Rattle.gt_word_history.specs.declared.view.View.{View}
 use Rattle.gt_calls.specs.Asking.{asked, begun_of, bytes_given_by}
 use Rattle.gt_calls.specs.Path.{Continuation, after_beginning, by_mapping, ended, makes, path_of}
 use Rattle.gt_calls.specs.declared.action.Action.{Action}
-use Rattle.gt_calls.specs.declared.action.Action.TheVariants.{Done, Step as Makes}
+use Rattle.gt_calls.specs.declared.action.Action.TheVariants.{Done}
 use Rattle.gt_calls.specs.declared.action.Observation.{Observation}
 use Rattle.gt_calls.specs.declared.action.Observation.TheVariants.{Missed, Nothing, Taken, Word}
 use Rattle.gt_calls.specs.declared.action.Step.{Step}
@@ -20,21 +20,18 @@ use Rattle.gt_calls.specs.declared.action.CallResult.TheVariants.{Granted}
 use Rattle.gt_calls.specs.declared.held.HeldPin.{HeldPin}
 use Rattle.gt_calls.specs.declared.request.Request.{Request}
 use Rattle.gt_calls.specs.declared.request.Request.TheVariants as requests
-use Rattle.gt_core.specs.declared.trace.Bytes.{Bytes}
-use Rattle.gt_frames.specs.Receipts.{Copying, Reading, Writing}
-use Rattle.gt_types.specs.declared.DomId.{DomId}
-use Rattle.gt_live.specs.Accesses.{Accessed, ComesTo, IsAccess, IsCopiedBy, IsReadBy, IsUnmade, IsWrittenBy, onward}
+use Rattle.gt_live.specs.Accesses.{Accessed, IsAccess, IsCopiedBy, IsReadBy, IsUnmade, IsWrittenBy, onward}
 use Rattle.gt_live.specs.Domains.{AllowRelation, knowledge}
 use Rattle.gt_live.specs.Ending.{IsOfMapping}
-use Rattle.gt_live.specs.Walks.{Called, IsWalk, Made, MakesStep, all_shown, shown_by, view_after}
+use Rattle.gt_live.specs.Walks.{IsWalk, Made, MakesStep, all_shown, shown_by, view_after}
 use Rattle.gt_live.specs.declared.domain.Domain.{Domain}
 use Rattle.gt_live.specs.declared.monitor.Monitor.{Monitor}
 use Rattle.gt_words.specs.Frames.{AccessesFrame}
 use Rattle.gt_order.proofs.Walks.{as-turn, as-walk}
-use Rattle.gt_order.specs.Calling.{CopiesAreMade, IsLoading, IsSingle, IsStoring, LostAccessesAreMade, ReadsAreMade, StaysOf}
+use Rattle.gt_order.specs.Calling.{CopiesAreMade, IsLoading, IsSingle, IsStoring, LostAccessesAreMade, ReadsAreMade}
 use Rattle.gt_order.specs.Calling.{WasMade, WritesAreMade}
-use Rattle.gt_order.specs.Runs.{FitsTypes, IsCallWalk, MakesAccess, MakesTurn, TookRead, TookTurns}
-use Rattle.gt_order.specs.Runs.CallOutcome.{Read, Starved, Wrote}
+use Rattle.gt_order.specs.Runs.{FitsTypes, IsCallWalk, MakesAccess, MakesTurn}
+use Rattle.gt_order.specs.Runs.CallOutcome.{Read, Wrote}
 
 -- walks one after another
 

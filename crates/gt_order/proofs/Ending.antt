@@ -37,7 +37,6 @@ use Rattle.gt_calls.specs.Rules.{CallerKnowledge, begun, denied, first, knowledg
 use Rattle.gt_calls.specs.Rules.{rights_to_map, rights_to_unmap, unmap_begun, unmap_denied}
 use Rattle.gt_calls.specs.declared.action.Action.TheVariants.{Step as Makes, Done}
 use Rattle.gt_calls.specs.declared.action.Observation.{Observation}
-use Rattle.gt_calls.specs.declared.action.Observation.TheVariants.{Nothing}
 use Rattle.gt_calls.specs.declared.action.Step.{Step}
 use Rattle.gt_calls.specs.declared.action.CallResult.{CallResult}
 use Rattle.gt_calls.specs.declared.action.CallResult.TheVariants.{Mapped as KeptPin, Refused}

@@ -8,33 +8,29 @@ use Rattle.gt_types.specs.declared.config.Config.{Config}
 use Rattle.gt_types.specs.declared.limits.TheConstants.{TABLE_ENTRIES}
 use Rattle.gt_handles.specs.declared.handles.Handle.{Handle}
 use Rattle.gt_words.specs.Conditions.{Board, HasDomain}
-use Rattle.gt_word_history.specs.History.{Layout, Moment, StepHistory}
+use Rattle.gt_word_history.specs.History.{Layout, Moment}
 use Rattle.gt_word_history.specs.Rule.{layout_of}
 use Rattle.gt_word_history.specs.Steps.{StoodWith}
-use Rattle.gt_word_history.specs.declared.view.FrameStep.TheVariants as frames
-use Rattle.gt_word_history.specs.declared.view.SeatStep.{SeatStep}
-use Rattle.gt_word_history.specs.declared.view.SeatStep.TheVariants.{Frame}
 use Rattle.gt_word_history.specs.declared.view.View.{View}
 use Rattle.gt_calls.proofs.Saying.{begun-asked}
-use Rattle.gt_calls.specs.Asking.{SpellsItsEntry, asked, begun_of, bytes_given_by}
+use Rattle.gt_calls.specs.Asking.{SpellsItsEntry, asked, begun_of}
 use Rattle.gt_calls.specs.Path.{Continuation, FitsStep, after_beginning, path, path_of, steps_of}
 use Rattle.gt_calls.specs.Rules.{CallerKnowledge, begun}
 use Rattle.gt_calls.specs.declared.action.Action.{Action}
 use Rattle.gt_calls.specs.declared.action.Action.TheVariants.{Step as Makes, Done}
 use Rattle.gt_calls.specs.declared.action.Observation.{Observation}
 use Rattle.gt_calls.specs.declared.action.Step.{Step}
-use Rattle.gt_calls.specs.declared.action.Observation.TheVariants.{Nothing}
-use Rattle.gt_calls.specs.declared.action.Step.TheVariants.{Copy as CopyBytes, Read as ReadBytes, Unpin, Write as WriteBytes}
+use Rattle.gt_calls.specs.declared.action.Step.TheVariants.{Unpin}
 use Rattle.gt_calls.specs.declared.action.CallResult.{CallResult}
 use Rattle.gt_calls.specs.declared.held.HeldPin.{HeldPin}
 use Rattle.gt_calls.specs.declared.request.PinHolder.{PinHolder}
 use Rattle.gt_calls.specs.declared.request.PinHolder.TheVariants.{Mapping as ByMapping, Leg as ByLeg}
 use Rattle.gt_calls.specs.declared.request.Request.{Request}
-use Rattle.gt_core.proofs.GoingOn.{open-calls-can-access, open-calls-can-go-on}
-use Rattle.gt_core.proofs.Steps.Observers.{kept-table, stepped}
-use Rattle.gt_core.specs.GoingOn.{AccessAnsweredSo, AnsweredSo, IsAccess, IsOnWords, CanBeReached}
+use Rattle.gt_core.proofs.GoingOn.{open-calls-can-go-on}
+use Rattle.gt_core.proofs.Steps.Observers.{stepped}
+use Rattle.gt_core.specs.GoingOn.{AnsweredSo, IsOnWords, CanBeReached}
 use Rattle.gt_core.specs.History.{History as Items, Setting, Underway, known_at, mapping_of, mappings_at, seen_by}
-use Rattle.gt_core.specs.History.{given_in, one_if_mapped, table_at, values}
+use Rattle.gt_core.specs.History.{values}
 use Rattle.gt_core.specs.Legal.{IsRight}
 use Rattle.gt_core.specs.Acting.{setting_of}
 use Rattle.gt_core.specs.declared.trace.Answer.{Answer}
@@ -43,16 +39,13 @@ use Rattle.gt_live.proofs.Walking.{after-position}
 use Rattle.gt_live.specs.Domains.{AllowRelation, knowledge}
 use Rattle.gt_live.specs.Walks.{Made, MakesStep, view_after, all_shown, shown_by, seen_in_step}
 use Rattle.gt_live.specs.declared.domain.Domain.{Domain}
-use Rattle.gt_order.proofs.Accesses.{AccessedAs, sees-nothing, writes-by-access}
-use Rattle.gt_order.proofs.AgreementKept.{quiet}
 use Rattle.gt_order.proofs.Bytes.{said}
-use Rattle.gt_order.proofs.Ends.{KeepsOwn, accesses-known}
 use Rattle.gt_order.proofs.Making.{MadeAs, made-as, on-words, one-moment}
 use Rattle.gt_order.proofs.Seeing.{sees}
 use Rattle.gt_order.proofs.Stages.{SeatNow}
 use Rattle.gt_order.proofs.Stages.Stage.{Going}
-use Rattle.gt_order.proofs.Stepping.{AreBounded, IsBounded, bounded-quiet, StandsHere, leg-all, stands-here, step-kept, within}
-use Rattle.gt_order.specs.Agreeing.{Agree, IsThe, IsWithin, WritesAgree, dom_at}
+use Rattle.gt_order.proofs.Stepping.{AreBounded, IsBounded, StandsHere, leg-all, stands-here, step-kept, within}
+use Rattle.gt_order.specs.Agreeing.{Agree, IsThe, IsWithin, dom_at}
 use Rattle.gt_order.specs.Ordering.{way_of}
 use Rattle.gt_order.specs.Runs.{CallMade, IsCall}
 

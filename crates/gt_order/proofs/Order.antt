@@ -1,5 +1,5 @@
 -- Each run of the monitor has a legal order: by its history, from the newest step back.
-use Rattle.std.proofs.Common.{◌≡◌, ◌≢◌, ℕ, zero, suc, ◌<◌, ◌≤◌, Bool, true, false, cond, ◌==◌, List, [], ◌∷◌, ◌++◌}
+use Rattle.std.proofs.Common.{◌≡◌, ◌≢◌, ℕ, zero, suc, ◌<◌, ◌≤◌, Bool, cond, ◌==◌, List, [], ◌∷◌, ◌++◌}
 use Rattle.std.proofs.Common.{length, Option, Some, None, sym, refl, ap, ◌∙◌, subst, arith, ◌⊎◌, inl, inr, eq-eqb}
 use Rattle.std.proofs.Common.{ne_eqb}
 use Rattle.std.proofs.lemmas.Bool.{cases_eq, cases_lt}
@@ -30,13 +30,9 @@ use Rattle.gt_calls.specs.declared.action.CallResult.{CallResult}
 use Rattle.gt_calls.specs.declared.action.CallResult.TheVariants.{Granted, Given, Mapped as KeptPin, Refused}
 use Rattle.gt_calls.specs.declared.request.Request.{Request}
 use Rattle.gt_calls.specs.declared.action.Observation.{Observation}
-use Rattle.gt_calls.specs.declared.action.Observation.TheVariants.{Nothing}
 use Rattle.gt_calls.specs.declared.action.Step.{Step}
 use Rattle.gt_calls.specs.declared.action.Step.TheVariants.{Copy as CopyBytes, Read as ReadBytes, Write as WriteBytes}
 use Rattle.gt_core.proofs.GoingOn.{calls-can-begin}
-use Rattle.gt_core.proofs.Words.{fun_ext}
-use Rattle.gt_core.specs.declared.trace.ItemEvent.TheVariants.{Stepped}
-use Rattle.gt_core.specs.declared.trace.Item.{Item}
 use Rattle.gt_live.specs.Mappings.{KeepsMappings}
 use Rattle.gt_core.proofs.Steps.Observers.{stepped}
 use Rattle.gt_core.specs.GoingOn.{AnsweredSo, CanBeReached, MayBeGiven, TellsAccess, begin_answer, beginning}
