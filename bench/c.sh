@@ -8,13 +8,14 @@
 #   smoke     each answer of a short run is as the rules give it; each call of a handle of no domain and of a null pointer
 #   memory    which calls take memory, and each allocation of a start failing in turn
 #   blk       the split block driver of examples/blk, with its hostile back end (where Xen's headers are installed)
+#   xen_front a guest that grants by stores into its own table, and a back end: examples/xen_front
 #   threads   four threads on one monitor
 #   rust      the wrapper of contrib/rust, its tests, and the program of its README (where there is a rustc)
 #   lists     LISTS random lists of calls (10,000) get the answers and the audit of `gthost play`
 #
 # All C is compiled with -Wall -Wextra -Wpedantic -Werror by each of gcc and clang that there is. smoke, memory, blk,
-# threads and 200 of the lists run under AddressSanitizer and UBSan too, blk and threads under ThreadSanitizer, where
-# the compiler has them. The sanitizers see the C side: the library is compiled by its own compiler.
+# xen_front, threads and 200 of the lists run under AddressSanitizer and UBSan too, blk, xen_front and threads under
+# ThreadSanitizer, where the compiler has them. The sanitizers see the C side: the library is compiled by its own compiler.
 # LIBRARY=DIR takes the library from DIR, where tools/library.sh left it, and PLAY=FILE the built program gthost.
 set -euo pipefail
 cd "$(dirname "$0")/.."
@@ -34,11 +35,11 @@ archive="$library/libgthost.a"
 xen=no
 ! printf '#include <xen/io/blkif.h>\n' | "${CC:-cc}" -include stdint.h -include string.h -E - >/dev/null 2>&1 || xen=yes
 
-# build COMPILER NAME FLAG..: a program of bench/c, or blk
+# build COMPILER NAME FLAG..: a program of bench/c, or of examples
 build() {
   local compiler="$1" name="$2" files=("bench/c/$2.c") flags=()
   shift 2
-  [ "$name" != blk ] || files=(examples/blk/*.c)
+  [ ! -d "examples/$name" ] || files=("examples/$name"/*.c)
   [ "$name" != memory ] || flags=("${wrapped[@]}")
   "$compiler" -std=c11 "${warnings[@]}" -pthread -I"$library" "$@" "${files[@]}" "$archive" "${flags[@]}" -o "$work/$name"
 }
@@ -78,7 +79,7 @@ vmm() {
   "$1" -std=c99 "${warnings[@]}" -I"$library" -c "$work/lines.c" -o "$work/lines.o"
 }
 
-programs=(smoke memory threads)
+programs=(smoke memory threads xen_front)
 [ "$xen" = no ] || programs+=(blk)
 
 # What a program is run with: fewer rounds under a sanitizer.
@@ -86,6 +87,8 @@ words_of() {
   case "$1 $2" in
     "blk plain") echo 20000 ;;
     "blk "*) echo 2000 ;;
+    "xen_front plain") echo 100000 ;;
+    "xen_front "*) echo 5000 ;;
     "threads plain") echo 1000000 ;;
     "threads "*) echo 50000 ;;
     *) echo ;;
@@ -96,7 +99,7 @@ run_all() {
   local compiler="$1" kind="$2" name words
   shift 2
   for name in "${programs[@]}"; do
-    [ "$kind" != thread ] || [ "$name" = blk ] || [ "$name" = threads ] || continue
+    [ "$kind" != thread ] || [[ " blk xen_front threads " = *" $name "* ]] || continue
     build "$compiler" "$name" "$@"
     read -ra words <<<"$(words_of "$name" "$kind")"
     "$work/$name" "${words[@]}" >"$work/said" || { cat "$work/said"; echo "$compiler, $kind: $name FAILED"; exit 1; }

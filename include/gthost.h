@@ -43,7 +43,8 @@
  * GTHOST_BUSY. A program in another language calls the exports of the library, whose names end in _at, and tests for
  * null itself.
  *
- * After a refusal the domain's mappings, its pins and its table are unchanged.
+ * After a refusal the domain's mappings, its pins and its table are unchanged. Only a refused gthost_follow may have
+ * withdrawn its entry.
  */
 #ifndef GTHOST_H
 #define GTHOST_H
@@ -106,6 +107,7 @@ struct gthost_answer gthost_grant_via_at(struct gthost_domain *domain, uint32_t 
                                          uint32_t ref2, uint32_t ro);
 struct gthost_answer gthost_grant_bytes_at(struct gthost_domain *domain, uint32_t gref,
                                            struct gthost_entry_bytes bytes);
+struct gthost_answer gthost_follow_at(struct gthost_domain *domain, uint32_t gref, struct gthost_entry_bytes bytes);
 struct gthost_answer gthost_revoke_at(struct gthost_domain *domain, uint32_t gref);
 struct gthost_answer gthost_withdraw_at(struct gthost_domain *domain, uint32_t gref);
 struct gthost_answer gthost_demote_at(struct gthost_domain *domain, uint32_t gref);
@@ -214,6 +216,28 @@ static inline struct gthost_answer gthost_grant_bytes(struct gthost_domain *doma
                                                       struct gthost_entry_bytes bytes)
 {
     return domain ? gthost_grant_bytes_at(domain, gref, bytes) : gthost_null_answer();
+}
+
+/*
+ * Brings one of the domain's entries to what its guest has written into a grant table in its own memory. The bytes are
+ * the guest's entry as that memory has them: 8 in a table of version 1, 16 in version 2, read in one piece. GTF_reading
+ * and GTF_writing, which the program sets there, count as clear. Bytes of type 0 (GTF_invalid) mean that the guest has
+ * ended access. The answer is a GTHOST_FOLLOWED, with what was done:
+ *
+ *   the entry already is what the bytes mean    nothing
+ *   only the read-only bit differs              gthost_demote or gthost_promote
+ *   the guest has ended access                  gthost_withdraw: pins stay, and no more are taken
+ *   another entry                               gthost_withdraw if the one before is valid, and then a grant
+ *   no entry of this table                      gthost_withdraw if the one before is valid, and then N25
+ *
+ * N9, N18, N19, N22, N25. N19: a demotion found write pins, or a grant found pins from before. After a refusal the
+ * entry is as it was, or invalid if it was withdrawn. So don't map it then, and follow again later. None of this is
+ * recorded.
+ */
+static inline struct gthost_answer gthost_follow(struct gthost_domain *domain, uint32_t gref,
+                                                 struct gthost_entry_bytes bytes)
+{
+    return domain ? gthost_follow_at(domain, gref, bytes) : gthost_null_answer();
 }
 
 /* Makes one of the domain's entries invalid if it has no pins. N9, N10, N19. */

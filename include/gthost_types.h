@@ -126,7 +126,17 @@ enum gthost_kind {
     GTHOST_HEADER = 7,  /* refused: the header `word` of the domain `dom` */
     GTHOST_ENTRY = 8,   /* refused: the control `word` of the entry `gref` of the domain `dom` */
     GTHOST_LEFT = 9,    /* Ok: the domain left; `value` records were lost, `more` entries are still in use */
-    GTHOST_TAKEN = 10   /* Ok: `value` records were taken; `more` were lost before */
+    GTHOST_TAKEN = 10,  /* Ok: `value` records were taken; `more` were lost before */
+    GTHOST_FOLLOWED = 11 /* Ok: the entry is what its guest has written; `value` was done (enum gthost_followed) */
+};
+
+/* What gthost_follow did to an entry. */
+enum gthost_followed {
+    GTHOST_FOLLOWED_SAME = 0,      /* nothing: it was already what the guest has written */
+    GTHOST_FOLLOWED_DEMOTED = 1,   /* it was writable, and is now read-only */
+    GTHOST_FOLLOWED_PROMOTED = 2,  /* it was read-only, and is now writable */
+    GTHOST_FOLLOWED_WITHDRAWN = 3, /* it was valid, and is now invalid */
+    GTHOST_FOLLOWED_GRANTED = 4    /* it is now the guest's entry; another valid one was withdrawn before */
 };
 
 /* The fields of an entry's bytes. */

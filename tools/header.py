@@ -186,6 +186,8 @@ def numbers(text):
         yield "GTHOST_HANDLE", number
     for number, word in enumerate(re.findall(r"^\s*(N\d+)(?: = 1)?,$", text, re.M), 1):
         yield f"GTHOST_{word}", str(number)
+    for word, number in re.findall(r"\bFollowed::(\w+) => (\d+),", text):
+        yield f"GTHOST_FOLLOWED_{spelled(word)}", number
     for word, number in re.findall(r"EntryKind::(Invalid|Page|Sub|Via) => (\d+),", text):
         yield f"GTHOST_ENTRY_{spelled(word)}", number
     for word, number in re.findall(r"Facts::(\w+)[^=]*=> EncodedAnswer \{\s*kind: (\d+),", text):

@@ -97,6 +97,7 @@ static void calls(struct gthost_domain *one, struct gthost_domain *two)
     NONE(GTHOST_OK, answer = gthost_grant_sub(one, 8, 2, 5, 0, 64, 0));
     NONE(GTHOST_OK, answer = gthost_grant_via(one, 9, 2, 2, 3, 0));
     NONE(GTHOST_OK, answer = gthost_grant_bytes(one, 10, entry));
+    NONE(GTHOST_OK, answer = gthost_follow(one, 10, entry));
     for (int i = 0; i < 3; i++) {
         struct gthost_handle name = mapped(two, 0);
         NONE(GTHOST_OK, answer = gthost_mapping(two, name).answer);

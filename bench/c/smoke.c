@@ -354,8 +354,9 @@ static void nulls(void)
     const struct gthost_answer answers[] = {
         gthost_grant_page(NULL, 0, 0, 0, 0),   gthost_grant_sub(NULL, 0, 0, 0, 0, 0, 0),
         gthost_grant_via(NULL, 0, 0, 0, 0, 0), gthost_grant_bytes(NULL, 0, entry),
-        gthost_revoke(NULL, 0),                gthost_withdraw(NULL, 0),
-        gthost_demote(NULL, 0),                gthost_promote(NULL, 0),
+        gthost_follow(NULL, 0, entry),         gthost_revoke(NULL, 0),
+        gthost_withdraw(NULL, 0),              gthost_demote(NULL, 0),
+        gthost_promote(NULL, 0),
         gthost_map(NULL, 0, 0, 0),             gthost_unmap(NULL, name),
         gthost_set_version(NULL, 0),           gthost_setup_table(NULL, 0),
         gthost_query_size(NULL, 0),            gthost_get_version(NULL, 0),

@@ -147,6 +147,18 @@ pub struct Status {
     pub read_only: bool,
 }
 
+/// What was done to an entry that followed its guest's bytes.
+#[derive(Clone, Copy, Debug, PartialEq, Eq)]
+pub enum Followed {
+    /// Nothing: it was already what the bytes mean.
+    Same,
+    Demoted,
+    Promoted,
+    Withdrawn,
+    /// It is now the entry that the bytes encode. Another valid one was withdrawn before.
+    Granted,
+}
+
 /// What a domain leaves behind: how many of its records were lost, and how many of its entries are in use still.
 #[derive(Clone, Copy, Debug, PartialEq, Eq)]
 pub struct Remains {
@@ -354,6 +366,18 @@ impl Domain {
             }
         })
         .map(drop)
+    }
+
+    /// Brings an entry to what its guest has written: the bytes are the guest's entry, as its memory has them. After a
+    /// refusal the entry is as it was, or invalid.
+    pub fn follow(&mut self, gref: u32, bytes: &[u8]) -> Result<Followed, Refusal> {
+        self.call(|d| unsafe { raw::gthost_follow_at(d, gref, spelled(bytes)) }).map(|answer| match answer.value {
+            0 => Followed::Same,
+            1 => Followed::Demoted,
+            2 => Followed::Promoted,
+            3 => Followed::Withdrawn,
+            _ => Followed::Granted,
+        })
     }
 
     pub fn revoke(&mut self, gref: u32) -> Result<(), Refusal> {

@@ -141,6 +141,7 @@ extern "C" {
     ) -> Answer;
     pub fn gthost_grant_via_at(domain: &mut Domain, gref: u32, to: u16, dom2: u16, ref2: u32, ro: u32) -> Answer;
     pub fn gthost_grant_bytes_at(domain: &mut Domain, gref: u32, bytes: EntryBytes) -> Answer;
+    pub fn gthost_follow_at(domain: &mut Domain, gref: u32, bytes: EntryBytes) -> Answer;
     pub fn gthost_revoke_at(domain: &mut Domain, gref: u32) -> Answer;
     pub fn gthost_withdraw_at(domain: &mut Domain, gref: u32) -> Answer;
     pub fn gthost_demote_at(domain: &mut Domain, gref: u32) -> Answer;

@@ -1,4 +1,6 @@
-use gthost::{rule_text, start, type_of, version, Access, Call, Domain, Entry, Facts, Fault, Kind, Rule, Settings, Side};
+use gthost::{
+    rule_text, start, type_of, version, Access, Call, Domain, Entry, Facts, Fault, Followed, Kind, Rule, Settings, Side,
+};
 
 const POLICY: &str = "type a_t; allow a_t a_t:grant { map_read map_write unmap copy query };";
 
@@ -89,6 +91,23 @@ fn a_guest_that_leaves_is_mapped_no_more() {
     back.unmap(handle).unwrap();
     assert_eq!(front.entry(3).unwrap().writes, 0);
     assert_eq!(front.finish().in_use, 0);
+}
+
+#[test]
+fn an_entry_follows_what_its_guest_has_written() {
+    let (mut front, mut back) = two();
+    let entry = |flags: u8, frame: u8| [flags, 0, 2, 0, frame, 0, 0, 0];
+    assert_eq!(front.follow(3, &entry(1, 4)), Ok(Followed::Granted));
+    let handle = back.map(1, 3, Access::Write).unwrap();
+    assert_eq!(front.follow(3, &entry(1 + 8 + 16, 4)), Ok(Followed::Same));
+    assert_eq!(front.follow(3, &entry(1, 5)).unwrap_err().rule, Rule::N19);
+    assert_eq!(front.entry(3).unwrap().kind, Kind::Invalid);
+    back.unmap(handle).unwrap();
+    assert_eq!(front.follow(3, &entry(1, 5)), Ok(Followed::Granted));
+    assert_eq!(front.follow(3, &entry(5, 5)), Ok(Followed::Demoted));
+    assert_eq!(front.follow(3, &entry(1, 5)), Ok(Followed::Promoted));
+    assert_eq!(front.follow(3, &entry(0, 5)), Ok(Followed::Withdrawn));
+    assert_eq!(front.follow(3, &entry(2, 5)).unwrap_err().facts, Facts::Field(2));
 }
 
 #[test]

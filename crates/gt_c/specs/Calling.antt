@@ -1,5 +1,5 @@
 -- The answer of an export, for the call that it made.
-use Rattle.std.specs.Prelude.{◌≡◌, ◌≤◌, ◌⊎◌, ℕ, Option, Some, None, IsSome, Result, Ok, Err, OnOk, OnErr}
+use Rattle.std.specs.Prelude.{◌≡◌, ◌≤◌, ◌⊎◌, ℕ, List, Option, Some, None, IsSome, Result, Ok, Err, OnOk, OnErr}
 use Rattle.gt_c.specs.Prelude.{GrantRef, DomId, Memory, Size, Denial, Table, may, Hypercall, Kept}
 use Rattle.gt_c.specs.Prelude.{HasNone, Tells, CallResult, Mapped, Request, Name, Domain, Answered, AnswersQuietly}
 use Rattle.gt_c.specs.Prelude.{AnswersTold, KeepsPinned, Leaves, Departure, Resets, taken_of}
@@ -7,6 +7,8 @@ use Rattle.gt_c.specs.Prelude.{MapAnswered, mapping_reply, subject_of, told_of, 
 use Rattle.gt_c.specs.Prelude.{EndsAccess}
 use Rattle.gt_c.specs.Prelude.{Seated, StaysIdle, EncodedAnswer, AttachedOutcome, CDomain}
 use Rattle.gt_attached.specs.declared.answer.AttachedOutcome.TheVariants as outcomes
+use Rattle.gt_live.specs.Following.{Follows}
+use Rattle.gt_live.specs.declared.domain.following.Followed.{Followed}
 
 -- no call was made: the handle is unchanged, and the answer gives the reason: it has no domain, or one in a copy
 abbrev pub TurnedAway : Option CDomain → Option CDomain → EncodedAnswer → Type 0
@@ -59,6 +61,10 @@ abbrev pub outcome_size : Result Size Denial → AttachedOutcome
 outcome_size (Ok size) = outcomes.Size size
 outcome_size (Err denial) = outcomes.Denied denial
 
+abbrev pub outcome_followed : Result Followed Denial → AttachedOutcome
+outcome_followed (Ok followed) = outcomes.Followed followed
+outcome_followed (Err denial) = outcomes.Denied denial
+
 -- the answer encodes a result with this property; the domain keeps its monitor, and is in no copy
 pub record SaysAs {R : Type 0} (said : Result R Denial → AttachedOutcome) (Holds : Result R Denial → Type 0) (answer : EncodedAnswer)
     (d e : CDomain) : Type 0 where
@@ -72,6 +78,11 @@ abbrev pub SaysDone : Request → EncodedAnswer → CDomain → CDomain → Type
 SaysDone request answer d e =
     SaysAs outcome (λ r. AnswersQuietly may d.guest.monitor d.guest.domain request (verdict_of r) e.guest.domain)
     answer d e
+
+-- the same for an entry of the domain that followed these bytes
+abbrev pub SaysFollowed : GrantRef → List ℕ → EncodedAnswer → CDomain → CDomain → Type 0
+SaysFollowed gref bytes answer d e =
+    SaysAs outcome_followed (λ r. Follows may d.guest.monitor d.guest.domain gref bytes r e.guest.domain) answer d e
 
 -- the same for a call that is recorded, whose result gives this verdict
 abbrev pub SaysTold : {R : Type 0} → (Result R Denial → AttachedOutcome) → (Result R Denial → CallResult) → Request → Hypercall

@@ -14,8 +14,8 @@ use Rattle.gt_c.specs.declared.telling.EntryReport.{EntryReport}
 use Rattle.gt_c.specs.declared.telling.MappingReport.{MappingReport}
 use Rattle.gt_c.specs.declared.telling.RecordReport.{RecordReport}
 use Rattle.gt_c.specs.Asking.{handle_named, page, spelled, sub, via}
-use Rattle.gt_c.specs.Calling.{CallsGuest, CallsTelling, KeepsAtMost, Reserves, SaysDone, SaysMapped, SaysTold}
-use Rattle.gt_c.specs.Calling.{SaysUnmapped, TakesAll, dom_of, ref_at}
+use Rattle.gt_c.specs.Calling.{CallsGuest, CallsTelling, KeepsAtMost, Reserves, SaysDone, SaysFollowed, SaysMapped}
+use Rattle.gt_c.specs.Calling.{SaysTold, SaysUnmapped, TakesAll, dom_of, ref_at}
 use Rattle.gt_c.specs.Calling.{outcome, outcome_frames, outcome_size, outcome_version}
 use Rattle.gt_c.specs.Telling.{SaysBegun, SaysEntry, SaysMapping, SaysRecord, copy_asked, no_entry, no_mapping}
 use Rattle.gt_c.specs.Telling.{no_places, no_record}
@@ -40,6 +40,11 @@ abbrev pub GrantsBytes : ℕ → EntryBytes → EncodedAnswer → Option CDomain
 GrantsBytes gref bytes answer before after =
     CallsGuest before after answer (λ d e.
     (s : Bor (List ℕ)) × (s.now ≡ spelled bytes) × SaysDone (requests.GrantBytes (ref_at gref) s) answer d e)
+
+-- an entry follows the bytes that its guest keeps for it
+abbrev pub FollowsBytes : ℕ → EntryBytes → EncodedAnswer → Option CDomain → Option CDomain → Type 0
+FollowsBytes gref bytes answer before after =
+    CallsGuest before after answer (SaysFollowed (ref_at gref) (spelled bytes) answer)
 
 -- an entry is revoked, withdrawn, demoted, promoted
 abbrev pub RevokesEntry : ℕ → EncodedAnswer → Option CDomain → Option CDomain → Type 0

@@ -1,10 +1,10 @@
 //! The exports for a domain's own entries and table, and for its mappings of other domains' pages.
 ghost use Rattle.std.specs.Prelude.{◌≡◌, IfSome, None};
 ghost use Rattle.gt_c.specs.Asking.{handle_named, page, spelled, sub, via};
-ghost use Rattle.gt_c.specs.Calling.{MayBeCalled, TurnedAway, outcome, outcome_frames, outcome_mapped, outcome_size};
-ghost use Rattle.gt_c.specs.Calling.{outcome_version};
-ghost use Rattle.gt_c.specs.Promises.{AsksSize, AsksVersion, DemotesEntry, GrantsBytes, GrantsPage, GrantsSub};
-ghost use Rattle.gt_c.specs.Promises.{GrantsVia};
+ghost use Rattle.gt_c.specs.Calling.{MayBeCalled, TurnedAway, outcome, outcome_followed, outcome_frames};
+ghost use Rattle.gt_c.specs.Calling.{outcome_mapped, outcome_size, outcome_version};
+ghost use Rattle.gt_c.specs.Promises.{AsksSize, AsksVersion, DemotesEntry, FollowsBytes, GrantsBytes, GrantsPage};
+ghost use Rattle.gt_c.specs.Promises.{GrantsSub, GrantsVia};
 ghost use Rattle.gt_c.specs.Promises.{Maps, Promotes, RevokesEntry, SetsUp, SetsVersion, Unmaps, Withdraws};
 
 use crate::handle::DomainHandle;
@@ -13,6 +13,7 @@ use crate::lending::here_mut;
 use gt_attached::{AttachedOutcome, EncodedAnswer, MappingName as Named};
 use gt_calls::Handle as Name;
 use gt_entry::Entry;
+use gt_live::Followed;
 use gt_types::{Denial, DomId, GrantRef, Size};
 
 /// The name of a mapping: its handle, the number of its run, and the domain that has it.
@@ -84,6 +85,15 @@ fn done(answer: Result<(), Denial>) -> AttachedOutcome
 {
     match answer {
         Ok(()) => AttachedOutcome::Done,
+        Err(denial) => AttachedOutcome::Denied(denial),
+    }
+}
+
+fn followed_outcome(answer: Result<Followed, Denial>) -> AttachedOutcome
+    ensures { result ≡ outcome_followed answer }
+{
+    match answer {
+        Ok(followed) => AttachedOutcome::Followed(followed),
         Err(denial) => AttachedOutcome::Denied(denial),
     }
 }
@@ -233,6 +243,22 @@ pub extern "C" fn gthost_grant_bytes_at(
     }
     let here = here_mut(&mut domain.held);
     EncodedAnswer::of(done(here.guest.grant_bytes(GrantRef(gref), spelled(&bytes))))
+}
+
+/// Brings an entry of the caller to what its guest has written: the bytes are the guest's entry as its memory has them.
+#[unsafe(no_mangle)]
+pub extern "C" fn gthost_follow_at(
+    domain: &mut DomainHandle,
+    gref: u32,
+    bytes: EntryBytes,
+) -> EncodedAnswer
+    ensures { FollowsBytes gref bytes result domain.old.held.value domain.new.held.value }
+{
+    if let Some(answer) = turned_away(domain) {
+        return answer;
+    }
+    let here = here_mut(&mut domain.held);
+    EncodedAnswer::of(followed_outcome(here.guest.follow(GrantRef(gref), spelled(&bytes))))
 }
 
 /// Makes an entry of the caller invalid if it has no pins.

@@ -3,6 +3,7 @@ use gt_allow::AllowTable;
 use gt_attached::AttachedDomain;
 use gt_calls::Handle;
 use gt_entry::{Entry, EntryKind};
+use gt_live::Followed;
 use gt_start::{DomainSettings, begin, type_of};
 use gt_types::{DomId, GrantRef, Rule};
 use std::alloc::{AllocError, Global};
@@ -68,6 +69,21 @@ fn status(guest: &mut AttachedDomain<AllowTable>) -> Option<(EntryKind, u16)> {
     }
     let control = guest.status(PAGE)?;
     Some((control.kind, control.writes))
+}
+
+// Lets the page's entry follow its guest's bytes of version 1: these flags, domain 2, and this frame.
+fn follows(
+    guest: &mut AttachedDomain<AllowTable>,
+    flags: u8,
+    frame: u8,
+) -> Option<Result<Followed, Rule>> {
+    if guest.is_copying() {
+        return None;
+    }
+    match guest.follow(PAGE, &[flags, 0, 2, 0, frame, 0, 0, 0]) {
+        Ok(followed) => Some(Ok(followed)),
+        Err(denial) => Some(Err(denial.rule)),
+    }
 }
 
 // Makes a guest ready for its successor. Returns how many entries are in use.
@@ -192,6 +208,40 @@ fn a_place_is_made_ready_for_the_next_guest(rt: HostRuntime) -> Result<(), Alloc
     assert!(rt; grants(&mut owner, 2));
     assert!(rt; maps(&mut mapper, 1).is_some());
     assert_eq!(rt; resets(&mut mapper), Some(0));
+    assert_eq!(rt; (leaves(owner), leaves(mapper)), (Some(0), Some(0)));
+    Ok(())
+}
+
+#[test]
+fn an_entry_follows_the_bytes_of_its_guest(rt: HostRuntime) -> Result<(), AllocError> {
+    let settings = settings(rt.alloc(), 2, 1)?;
+    let Ok(mut guests) = begin(rt.alloc(), settings.as_slice(), 0, POLICY) else {
+        return Err(AllocError);
+    };
+    let (Some(mut mapper), Some(mut owner)) = (guests.pop(), guests.pop()) else {
+        return Err(AllocError);
+    };
+    assert_eq!(rt; follows(&mut owner, 0, 4), Some(Ok(Followed::Same)));
+    assert_eq!(rt; follows(&mut owner, 1, 4), Some(Ok(Followed::Granted)));
+    let Some(handle) = maps(&mut mapper, 1) else {
+        return Err(AllocError);
+    };
+    // the VMM has marked the entry as in use
+    assert_eq!(rt; follows(&mut owner, 25, 4), Some(Ok(Followed::Same)));
+    assert_eq!(rt; follows(&mut owner, 29, 4), Some(Err(Rule::N19)));
+    assert_eq!(rt; status(&mut owner), Some((EntryKind::Page, 1)));
+    assert_eq!(rt; follows(&mut owner, 1, 5), Some(Err(Rule::N19)));
+    assert_eq!(rt; status(&mut owner), Some((EntryKind::Invalid, 1)));
+    assert!(rt; unmaps(&mut mapper, handle));
+    assert_eq!(rt; follows(&mut owner, 1, 5), Some(Ok(Followed::Granted)));
+    assert_eq!(rt; follows(&mut owner, 5, 5), Some(Ok(Followed::Demoted)));
+    assert!(rt; maps(&mut mapper, 1).is_none());
+    assert_eq!(rt; follows(&mut owner, 1, 5), Some(Ok(Followed::Promoted)));
+    assert_eq!(rt; follows(&mut owner, 1, 6), Some(Ok(Followed::Granted)));
+    assert_eq!(rt; follows(&mut owner, 0, 6), Some(Ok(Followed::Withdrawn)));
+    assert_eq!(rt; follows(&mut owner, 1, 6), Some(Ok(Followed::Granted)));
+    assert_eq!(rt; follows(&mut owner, 2, 6), Some(Err(Rule::N25)));
+    assert_eq!(rt; status(&mut owner), Some((EntryKind::Invalid, 0)));
     assert_eq!(rt; (leaves(owner), leaves(mapper)), (Some(0), Some(0)));
     Ok(())
 }

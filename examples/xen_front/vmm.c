@@ -1,0 +1,130 @@
+#include "vmm.h"
+
+#include <stdio.h>
+#include <string.h>
+
+enum { TRIES = 4 };
+
+static const char POLICY[] = "type back_t; type front_t;\n"
+                             "allow back_t front_t:grant { map_read map_write unmap };\n";
+
+bool vmm_start(struct vmm *vmm, struct guest *guest)
+{
+    const struct gthost_settings settings[DOMAINS] = {{FRONT, 1, FRAMES, 1, 1}, {BACK, 0, 1, 1, 1}};
+    memset(vmm, 0, sizeof *vmm);
+    vmm->guest = guest;
+    pthread_mutex_init(&vmm->lock, NULL);
+    const struct gthost_fault fault =
+        gthost_start(settings, DOMAINS, 0, 0, (const uint8_t *)POLICY, strlen(POLICY), vmm->domains, DOMAINS);
+    if (fault.kind != GTHOST_FAULT_NONE) {
+        fprintf(stderr, "xen_front: no run: fault %u, line %u\n", fault.kind, fault.line);
+    }
+    return fault.kind == GTHOST_FAULT_NONE;
+}
+
+uint64_t vmm_finish(struct vmm *vmm)
+{
+    gthost_finish(&vmm->domains[BACK - 1]);
+    pthread_mutex_destroy(&vmm->lock);
+    return gthost_finish(&vmm->domains[FRONT - 1]).more;
+}
+
+/* An entry of the guest in one piece: the guest may write it meanwhile. */
+static uint64_t look(const struct vmm *vmm, uint32_t ref)
+{
+    return __atomic_load_n(&vmm->guest->table[ref].word, __ATOMIC_ACQUIRE);
+}
+
+/* Requires the lock. */
+static struct gthost_answer follow(struct vmm *vmm, uint32_t ref, uint64_t word)
+{
+    struct gthost_entry_bytes bytes = {sizeof word, {0}};
+    memcpy(bytes.bytes, &word, sizeof word);
+    const struct gthost_answer answer = gthost_follow(&vmm->domains[FRONT - 1], ref, bytes);
+    if (answer.rule == GTHOST_OK) {
+        vmm->followed[answer.value]++;
+    } else {
+        vmm->refused++;
+    }
+    return answer;
+}
+
+struct gthost_answer vmm_follow(struct vmm *vmm, uint32_t ref)
+{
+    pthread_mutex_lock(&vmm->lock);
+    const struct gthost_answer answer = follow(vmm, ref, look(vmm, ref));
+    pthread_mutex_unlock(&vmm->lock);
+    return answer;
+}
+
+/* Marks the guest's entry as in use, if it still is what was followed. */
+static bool mark(struct vmm *vmm, uint32_t ref, uint64_t word, bool writes)
+{
+    union entry marked = {.word = word};
+    marked.v1.flags |= writes ? GTF_reading | GTF_writing : GTF_reading;
+    return __atomic_compare_exchange_n(&vmm->guest->table[ref].word, &word, marked.word, false, __ATOMIC_ACQ_REL,
+                                       __ATOMIC_ACQUIRE);
+}
+
+/* Clears the marks of the pins that are gone. Requires the lock. */
+static void clear_marks(struct vmm *vmm, uint32_t ref)
+{
+    const struct gthost_entry_status entry = gthost_entry(&vmm->domains[FRONT - 1], ref).entry;
+    const bool writes = entry.writes > 0, reads = entry.reads > 0 || writes;
+    const unsigned gone = (writes ? 0u : GTF_writing) | (reads ? 0u : GTF_reading);
+    __atomic_fetch_and(&vmm->guest->table[ref].v1.flags, (uint16_t)~gone, __ATOMIC_RELEASE);
+}
+
+/* One try. GTHOST_N18 if the guest changed its entry meanwhile. Requires the lock. */
+static uint32_t map_once(struct vmm *vmm, uint32_t ref, bool writes, struct gthost_handle *name)
+{
+    const uint64_t word = look(vmm, ref);
+    const struct gthost_answer followed = follow(vmm, ref, word);
+    if (followed.rule != GTHOST_OK) {
+        return followed.rule;
+    }
+    const struct gthost_answer mapped =
+        gthost_map(&vmm->domains[BACK - 1], FRONT, ref, writes ? GTHOST_MAP_WRITABLE : GTHOST_MAP_READ_ONLY);
+    if (mapped.rule != GTHOST_OK) {
+        return mapped.rule;
+    }
+    *name = gthost_handle_of(mapped);
+    if (mark(vmm, ref, word, writes)) {
+        return GTHOST_OK;
+    }
+    gthost_unmap(&vmm->domains[BACK - 1], *name); /* the back end has not had the page */
+    vmm->missed++;
+    return GTHOST_N18;
+}
+
+uint32_t vmm_map(struct vmm *vmm, uint32_t ref, bool writes, struct gthost_handle *name)
+{
+    uint32_t rule = GTHOST_N18;
+    if (ref >= REFERENCES) {
+        return GTHOST_N9;
+    }
+    pthread_mutex_lock(&vmm->lock);
+    for (int i = 0; i < TRIES && rule == GTHOST_N18; i++) {
+        rule = map_once(vmm, ref, writes, name);
+    }
+    pthread_mutex_unlock(&vmm->lock);
+    return rule;
+}
+
+uint8_t *vmm_page(struct vmm *vmm, struct gthost_handle name)
+{
+    const struct gthost_found_mapping found = gthost_mapping(&vmm->domains[BACK - 1], name);
+    return found.answer.rule == GTHOST_OK ? guest_page(vmm->guest, found.mapping.frame) : NULL;
+}
+
+bool vmm_unmap(struct vmm *vmm, struct gthost_handle name)
+{
+    const uint32_t ref = gthost_mapping(&vmm->domains[BACK - 1], name).mapping.gref;
+    pthread_mutex_lock(&vmm->lock);
+    const bool is_done = gthost_unmap(&vmm->domains[BACK - 1], name).rule == GTHOST_OK;
+    if (is_done) {
+        clear_marks(vmm, ref);
+    }
+    pthread_mutex_unlock(&vmm->lock);
+    return is_done;
+}
