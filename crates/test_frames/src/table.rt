@@ -127,10 +127,10 @@ fn forth_and_back<R: Threads + Wait + Sync>(
     requires { IsSeatOf words.now one.old × IsSeatOf words.now other }
     ensures { IsSeatOf words.now one.new }
 {
-    thread::join(
+    thread::join_mut(
         rt,
-        || copies(rt, words, one, HERE, THERE),
-        || copies(rt, words, &mut other, THERE, HERE),
+        &mut || copies(rt, words, one, HERE, THERE),
+        &mut || copies(rt, words, &mut other, THERE, HERE),
     )
 }
 

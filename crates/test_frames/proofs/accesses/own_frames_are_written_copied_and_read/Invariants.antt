@@ -2,4 +2,4 @@ use Rattle.gt_words.specs.Conditions.{IsSeatOf}
 use Rattle.test_frames.proofs.accesses.own_frames_are_written_copied_and_read.Given as goal
 
 abbrev pub invariant-copies : goal.invariant-copies
-invariant-copies l = IsSeatOf l.words l.seat
+invariant-copies g l = IsSeatOf l.run.words.now l.seat
