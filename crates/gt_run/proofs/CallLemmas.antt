@@ -1,13 +1,11 @@
 -- What the call of a line comes to.
-use Rattle.std.proofs.Common.{◌≡◌, ◌⊎◌, ◌++◌, ℕ, ◌+◌, ◌-◌, ◌^◌, ◌≤◌, Bool, true, false, List, [], ◌∷◌, length, map, min}
+use Rattle.std.proofs.Common.{◌≡◌, ◌++◌, ℕ, ◌+◌, ◌-◌, ◌^◌, Bool, true, false, List, [], ◌∷◌, length, map, min}
 use Rattle.std.proofs.Common.{Option, None, Some, Result, Ok, Err, IfOk, refl, sym, subst, ap, ◌∙◌, inl, inr, arith}
 use Rattle.std.specs.Prelude.{is_some, slice_get}
-use Rattle.std.specs.List.{flat_map, sum_by}
 use Rattle.std.proofs.lemmas.Grind.{flat_map-append}
 use Rattle.std.proofs.lemmas.List.{append-nil, map-append}
 use Rattle.std.proofs.lemmas.List.Sums.{sum_by-append}
 use Rattle.std.proofs.lemmas.Option.{slice_get_past}
-use Rattle.gt_types.specs.declared.denial.Denial.{Denial}
 use Rattle.gt_audit.specs.Telling.{Telling, Tells, TellsUnder}
 use Rattle.gt_audit.specs.declared.record.Record.{Record}
 use Rattle.gt_calls.specs.declared.request.Request.{Request}
@@ -22,7 +20,7 @@ use Rattle.gt_live.specs.declared.domain.Domain.{Domain}
 use Rattle.gt_live.specs.declared.monitor.Monitor.{Monitor}
 use Rattle.gt_types.specs.declared.DomId.{DomId}
 use Rattle.gt_run.specs.Asking.{AnswersCall, Asks}
-use Rattle.gt_run.specs.Serving.{Calls, IsKeptAt, TellsOutcomes, Makes, MakesCall, ListOutcome, ListProgress, Records}
+use Rattle.gt_run.specs.Serving.{Calls, TellsOutcomes, Makes, ListOutcome, Records}
 use Rattle.gt_run.specs.Serving.{answer_lines}
 use Rattle.gt_run.specs.Serving.{counted, is_logged, lost_in, record_made, records_told}
 use Rattle.gt_run.specs.Telling.{TellsNext, LogsTrail}
@@ -41,30 +39,30 @@ adds d e request answer told is a = subst (λ (x : Answer). AddsRecord (record_m
 -- the record that a call adds is that of what was asked and answered
 adds_record : {P : Type 0} (may : P → AllowRelation) (m : Monitor P) (d : Domain) (request : Request) (answer : Answer) (e : Domain) → AnswersCall may m d request answer e
     → AddsRecord (record_made d.seat.dom d request answer) d.trail e.trail
-adds_record may m d (requests.Map dom gref flags) answer e (Ok handle, is, answered, told, still) = adds d e (requests.Map dom gref flags) answer _ is told
-adds_record may m d (requests.Map dom gref flags) answer e (Err denial, is, answered, told, still) = adds d e (requests.Map dom gref flags) answer _ is told
-adds_record may m d (requests.Unmap handle) answer e (Ok done, is, answered, removed, refused, told, still) = adds d e (requests.Unmap handle) answer _ is told
-adds_record may m d (requests.Unmap handle) answer e (Err denial, is, answered, removed, refused, told, still) = adds d e (requests.Unmap handle) answer _ is told
-adds_record may m d (requests.SetVersion version) answer e (Ok done, is, (answered, kept, told, still)) = adds d e (requests.SetVersion version) answer _ is told
-adds_record may m d (requests.SetVersion version) answer e (Err denial, is, (answered, kept, told, still)) = adds d e (requests.SetVersion version) answer _ is told
-adds_record may m d (requests.SetupTable frames) answer e (Ok given, is, (answered, kept, told, still)) = adds d e (requests.SetupTable frames) answer _ is told
-adds_record may m d (requests.SetupTable frames) answer e (Err denial, is, (answered, kept, told, still)) = adds d e (requests.SetupTable frames) answer _ is told
-adds_record may m d (requests.QuerySize dom) answer e (Ok size, is, (answered, kept, told, still)) = adds d e (requests.QuerySize dom) answer _ is told
-adds_record may m d (requests.QuerySize dom) answer e (Err denial, is, (answered, kept, told, still)) = adds d e (requests.QuerySize dom) answer _ is told
-adds_record may m d (requests.GetVersion dom) answer e (Ok version, is, (answered, kept, told, still)) = adds d e (requests.GetVersion dom) answer _ is told
-adds_record may m d (requests.GetVersion dom) answer e (Err denial, is, (answered, kept, told, still)) = adds d e (requests.GetVersion dom) answer _ is told
-adds_record may m d (requests.Load handle off len) answer e (r, is, (accessed, kept, silent, visited)) = silent
-adds_record may m d (requests.Peek frame off len) answer e (r, is, (accessed, kept, silent, visited)) = silent
-adds_record may m d (requests.Store handle off bytes) answer e (r, is, (accessed, kept, silent, visited)) = silent
-adds_record may m d (requests.Poke frame off bytes) answer e (r, is, (accessed, kept, silent, visited)) = silent
-adds_record may m d (requests.Copy args) answer e (Ok copied, is, accessed, kept, told, visited) = adds d e (requests.Copy args) answer _ is told
-adds_record may m d (requests.Copy args) answer e (Err denial, is, accessed, kept, told, visited) = adds d e (requests.Copy args) answer _ is told
-adds_record may m d (requests.Grant gref entry) answer e (r, is, (answered, kept, silent, still)) = silent
-adds_record may m d (requests.GrantBytes gref bytes) answer e (r, is, (answered, kept, silent, still)) = silent
-adds_record may m d (requests.Revoke gref) answer e (r, is, (answered, kept, silent, still)) = silent
-adds_record may m d (requests.Withdraw gref) answer e (r, is, (answered, kept, silent, still)) = silent
-adds_record may m d (requests.Demote gref) answer e (r, is, (answered, kept, silent, still)) = silent
-adds_record may m d (requests.Promote gref) answer e (r, is, (answered, kept, silent, still)) = silent
+adds_record may m d (requests.Map dom gref flags) answer e (Ok handle, is, answered, told) = adds d e (requests.Map dom gref flags) answer _ is told
+adds_record may m d (requests.Map dom gref flags) answer e (Err denial, is, answered, told) = adds d e (requests.Map dom gref flags) answer _ is told
+adds_record may m d (requests.Unmap handle) answer e (Ok done, is, answered, removed, refused, told) = adds d e (requests.Unmap handle) answer _ is told
+adds_record may m d (requests.Unmap handle) answer e (Err denial, is, answered, removed, refused, told) = adds d e (requests.Unmap handle) answer _ is told
+adds_record may m d (requests.SetVersion version) answer e (Ok done, is, (answered, kept, told)) = adds d e (requests.SetVersion version) answer _ is told
+adds_record may m d (requests.SetVersion version) answer e (Err denial, is, (answered, kept, told)) = adds d e (requests.SetVersion version) answer _ is told
+adds_record may m d (requests.SetupTable frames) answer e (Ok given, is, (answered, kept, told)) = adds d e (requests.SetupTable frames) answer _ is told
+adds_record may m d (requests.SetupTable frames) answer e (Err denial, is, (answered, kept, told)) = adds d e (requests.SetupTable frames) answer _ is told
+adds_record may m d (requests.QuerySize dom) answer e (Ok size, is, (answered, kept, told)) = adds d e (requests.QuerySize dom) answer _ is told
+adds_record may m d (requests.QuerySize dom) answer e (Err denial, is, (answered, kept, told)) = adds d e (requests.QuerySize dom) answer _ is told
+adds_record may m d (requests.GetVersion dom) answer e (Ok version, is, (answered, kept, told)) = adds d e (requests.GetVersion dom) answer _ is told
+adds_record may m d (requests.GetVersion dom) answer e (Err denial, is, (answered, kept, told)) = adds d e (requests.GetVersion dom) answer _ is told
+adds_record may m d (requests.Load handle off len) answer e (r, is, (accessed, kept, silent)) = silent
+adds_record may m d (requests.Peek frame off len) answer e (r, is, (accessed, kept, silent)) = silent
+adds_record may m d (requests.Store handle off bytes) answer e (r, is, (accessed, kept, silent)) = silent
+adds_record may m d (requests.Poke frame off bytes) answer e (r, is, (accessed, kept, silent)) = silent
+adds_record may m d (requests.Copy args) answer e (Ok copied, is, accessed, kept, told) = adds d e (requests.Copy args) answer _ is told
+adds_record may m d (requests.Copy args) answer e (Err denial, is, accessed, kept, told) = adds d e (requests.Copy args) answer _ is told
+adds_record may m d (requests.Grant gref entry) answer e (r, is, (answered, kept, silent)) = silent
+adds_record may m d (requests.GrantBytes gref bytes) answer e (r, is, (answered, kept, silent)) = silent
+adds_record may m d (requests.Revoke gref) answer e (r, is, (answered, kept, silent)) = silent
+adds_record may m d (requests.Withdraw gref) answer e (r, is, (answered, kept, silent)) = silent
+adds_record may m d (requests.Demote gref) answer e (r, is, (answered, kept, silent)) = silent
+adds_record may m d (requests.Promote gref) answer e (r, is, (answered, kept, silent)) = silent
 
 -- counts
 
