@@ -1,6 +1,6 @@
 //! A domain of the run, and its calls.
 ghost use Rattle.std.specs.Prelude.{◌≡◌, ◌≤◌, OnOk, IfOk, None, Some};
-ghost use Rattle.gt_words.specs.Conditions.{IsSameSeat};
+ghost use Rattle.gt_words.specs.Conditions.{IsSameSeat, IsSeatOf};
 ghost use Rattle.gt_word_history.specs.Rule.{IsKeptHeader};
 ghost use Rattle.gt_word_history.specs.Views.{own_table};
 ghost use Rattle.gt_calls.specs.Rules.{knows};
@@ -49,7 +49,7 @@ pub struct Domain {
 #[derive(Drop)]
 pub struct Departed {
     trail: Trail,
-    seat: Seat,
+    pub(crate) seat: Seat,
 }
 
 impl Departed {
@@ -384,6 +384,7 @@ impl Domain {
     pub fn finish<P: Allows>(mut self, monitor: &Monitor<P>) -> Departed
         requires mine { BelongsTo P.may monitor.now self }
         ensures left { HasLeft monitor.now.words.layout self result }
+        ensures seat { IsSeatOf monitor.now.words result.seat }
     {
         self.release(monitor);
         let Domain {

@@ -15,6 +15,7 @@
 
 mod domain;
 mod driving;
+mod gathering;
 mod headers;
 mod laws;
 mod monitor;

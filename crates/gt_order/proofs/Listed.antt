@@ -1,15 +1,20 @@
 -- The calls of a list are calls of a run, and the run of all lists has a legal order.
 use Rattle.std.proofs.Common.{Bor, ◌≡◌, inl, inr, ⊎_elim, ◌<◌, ◌==◌, nat_lt, ℕ, zero, suc, Bool, true, false, List, []}
-use Rattle.std.proofs.Common.{◌∷◌, ◌++◌, length, Result, Ok, Err, refl, sym, ap, ◌∙◌, subst, arith}
-use Rattle.std.specs.Prelude.{take}
+use Rattle.std.proofs.Common.{◌∷◌, ◌++◌, All, Some, get_or, length, map, Result, Ok, Err, refl, sym, ap, ◌∙◌, subst, arith}
+use Rattle.std.proofs.lemmas.List.{get_or-map, length-map}
+use Rattle.std.proofs.lemmas.List.Elements.{All-get_or, All-head}
+use Rattle.std.specs.Prelude.{slice_get, take}
 use Rattle.std.proofs.lemmas.Bool.Decides.{nat_tests}
 use mathlib.Core.Option.{some}
 use lib.ListN.{get_elem?}
 use Rattle.atomic_table.specs.Table.{State}
 use Rattle.gt_types.specs.declared.DomId.{DomId}
 use Rattle.gt_types.specs.declared.Size.{Size}
+use Rattle.gt_types.specs.declared.config.Config.{Config}
+use Rattle.gt_types.specs.declared.config.DomainConfig.{DomainConfig}
 use Rattle.gt_types.specs.declared.denial.Denial.{Denial}
 use Rattle.gt_word_history.specs.History.{Layout, Moment}
+use Rattle.gt_words.specs.Conditions.{Board, SeatOf}
 use Rattle.gt_words.specs.Laws.{length-ids, own_position}
 use Rattle.gt_word_history.specs.Rule.{Shows, id_at}
 use Rattle.gt_word_history.specs.Views.{IsAmong}
@@ -51,12 +56,13 @@ use Rattle.gt_script.specs.declared.tasks.RunActionBy.TheVariants.{Await, Do, Te
 use Rattle.gt_run.specs.Asking.{AnswersCall, Asks, HasBytes, IsReadAnswer, frames_answer, mapped_answer, plain_answer}
 use Rattle.gt_run.specs.Asking.{size_answer}
 use Rattle.gt_run.specs.Asking.{version_answer}
-use Rattle.gt_run.specs.Printing.{Served}
+use Rattle.gt_run.specs.Printing.{AreServed, HasViewIn, Served, ShowOneState, WasServed, duties_in}
 use Rattle.gt_run.specs.Serving.{DoesDeed, DoesWhere, ListLeadsTo, MakesCall, ListOutcome, ListProgress, list_start}
 use Rattle.gt_run.specs.declared.lists.ThreadJob.{ThreadJob}
 use Rattle.gt_order.specs.Texts.{AreCallsOf, AreCallsOfList, AreMadeWhole, AreOfALegalOrder, FitsDuty, HasList}
 use Rattle.gt_types.specs.Config.{IsWithinLimits}
-use Rattle.gt_order.specs.Texts.{IsMadeWhole, IsViewOf, OutcomeGivesAnswer, TextsAreOfALegalOrder}
+use Rattle.gt_order.specs.Texts.{AreOfOneOrder, IsMadeWhole, IsOrderly, IsViewOf, OutcomeGivesAnswer, RunsWriteALegalOrder}
+use Rattle.gt_order.specs.Texts.{TextsAreOfALegalOrder}
 
 -- a copy with this answer did not reach its access without making it
 abbrev NotLost : Request → Answer → Type 0
@@ -368,3 +374,68 @@ module _ {P : Type 0} (may : P → AllowRelation) (m : Monitor P) where
 
 pub texts-legal : {P : Type 0} (may : P → AllowRelation) (m : Monitor P) → TextsAreOfALegalOrder may m
 texts-legal may m lists s ends limits each shown = text-legal may m lists s ends each limits shown
+
+found : {A : Type 0} (xs : List A) (i : ℕ) (x d : A) → slice_get xs i ≡ Some x → get_or xs i d ≡ x
+found [] i x d e = cc
+found (y ∷ ys) zero x d e = cc
+found (y ∷ ys) (suc i) x d e = found ys i x d e
+
+stays-at : (b : Board) (c : Config) (may : AllowRelation) (i : ℕ) (first : Domain) (ms : List CallMade) → first.seat.view.position ≡ i → AreCalls b c may first ms → (domain_after first ms).seat.view.position ≡ i
+stays-at b c may i first [] at calls = at
+stays-at b c may i first (u ∷ us) at calls = calls.0.seat.position ∙ (ap (λ (z : SeatOf). z.view.position) calls.1.seat ∙ stays-at b c may i first us at calls.2)
+
+-- what a run wrote is the text of a legal order
+module _ {P : Type 0} (may : P → AllowRelation) (m : Monitor P) (x : Served P) (xs : List (Served P)) (on : All (λ (d : ThreadJob P). d.monitor.now ≡ m) (duties_in (x ∷ xs)))
+    (ids : map (λ (d : ThreadJob P). d.part.dom) (duties_in (x ∷ xs)) ≡ map (λ (d : DomainConfig). d.id) m.config.domains.items) (are : AreServed may (x ∷ xs)) (one : ShowOneState (x ∷ xs))
+    (orderly : All (IsOrderly may m) (x ∷ xs)) where
+  abbrev lists : ℕ → Served P
+  lists i = get_or (x ∷ xs) i x
+
+  many : length (duties_in (x ∷ xs)) ≡ length m.config.domains.items
+  many = sym (length-map (duties_in (x ∷ xs)) (λ (d : ThreadJob P). d.part.dom)) ∙ ap length ids ∙ length-map m.config.domains.items (λ (d : DomainConfig). d.id)
+
+  within : (i : ℕ) → i < length m.config.domains.items → i < length (x ∷ xs)
+  within i l = let e = length-map (x ∷ xs) (λ (s : Served P). s.duty) in omega (arith, e, many)
+
+  duty-at : (i : ℕ) → i < length m.config.domains.items → get_or (duties_in (x ∷ xs)) i x.duty ≡ (lists i).duty
+  duty-at i l = get_or-map (λ (s : Served P). s.duty) (x ∷ xs) i x x.duty (within i l)
+
+  list-at : (i : ℕ) → i < length m.config.domains.items → HasList may m i (lists i)
+  list-at i l =
+      let o = All-get_or (IsOrderly may m) (x ∷ xs) i x (within i l) orderly in
+      let inside : i < length (duties_in (x ∷ xs)) = omega (arith, many) in record {
+        monitor = subst (λ (d : ThreadJob P). d.monitor.now ≡ m) (duty-at i l) (All-get_or (λ (d : ThreadJob P). d.monitor.now ≡ m) (duties_in (x ∷ xs)) i x.duty inside on);
+        dom = ap (λ (d : ThreadJob P). d.part.dom) (sym (duty-at i l)) ∙ sym (get_or-map (λ (d : ThreadJob P). d.part.dom) (duties_in (x ∷ xs)) i x.duty (record { 0 = 0 }) inside)
+            ∙ ap (λ (ys : List DomId). id_at ys i) (ids ∙ sym (ap (λ (k : Layout). k.ids) m.same_run));
+        served = All-get_or (WasServed may) (x ∷ xs) i x (within i l) are;
+        fits = o.fits;
+        whole = o.whole;
+      }
+
+  left-at : (i : ℕ) (l : i < length m.config.domains.items) → IsViewOf m.words m.config (may m.rights) (list-at i l).served.left.domain (lists i).departed.seat.view
+  left-at i l =
+      let h = list-at i l in
+      inr ((lists i).departed, subst (λ (n : Monitor P). HasLeft n.words.layout h.served.left.domain (lists i).departed) h.monitor h.served.leaves, (All-get_or (IsOrderly may m) (x ∷ xs) i x (within i l) orderly).may_leave h.served, refl)
+
+  view-at : (i : ℕ) (l : i < length m.config.domains.items) → get_elem? one.0.views i ≡ some (lists i).departed.seat.view
+  view-at i l =
+      let f = finished may m i (lists i) (lists i).departed.seat.view l (list-at i l) (left-at i l) in
+      let here : (lists i).departed.seat.view.position ≡ i = ap (λ (v : View). v.position) (sym f.view) ∙ stays-at m.words m.config (may m.rights) i f.first f.made f.starts.seat.position f.calls_are in
+      subst (λ (p : ℕ). get_elem? one.0.views p ≡ some (lists i).departed.seat.view) here (All-get_or (HasViewIn one.0) (x ∷ xs) i x (within i l) one.2)
+
+  one-order : IsWithinLimits m.config → AreOfOneOrder may m (x ∷ xs)
+  one-order limits =
+      let shown : Shows m.words.layout one.0 = subst (λ (n : Monitor P). Shows n.words.layout one.0) (All-head (λ (d : ThreadJob P). d.monitor.now ≡ m) x.duty (duties_in xs) on) one.1 in
+      (lists, λ i s e. found (x ∷ xs) i s x e, (shown.history, texts-legal may m lists one.0 (λ i. (lists i).departed.seat.view) limits (λ i l. (list-at i l, left-at i l, view-at i l)) shown))
+
+pub runs-legal : {P : Type 0} (may : P → AllowRelation) (m : Monitor P) → RunsWriteALegalOrder may m
+runs-legal {P} may m duties old new limits of wrote orderly = by wrote.0 wrote.1 wrote.2 wrote.3 orderly
+  where
+    by : (all : List (Served P)) → duties_in all ≡ duties → AreServed may all → ShowOneState all → All (IsOrderly may m) all → AreOfOneOrder may m all
+    by [] same are one orderly =
+        absurd (none (ap length (ap (map (λ (d : ThreadJob P). d.part.dom)) same ∙ of.1)))
+      where
+        none : 0 ≡ length (map (λ (d : DomainConfig). d.id) m.config.domains.items) → ⊥
+        none e = let l = length-map m.config.domains.items (λ (d : DomainConfig). d.id) in let some = limits.some in omega (arith, e, l, some)
+    by (x ∷ xs) same are one orderly =
+        one-order may m x xs (subst (All (λ (d : ThreadJob P). d.monitor.now ≡ m)) (sym same) of.0) (ap (map (λ (d : ThreadJob P). d.part.dom)) same ∙ of.1) are one orderly limits

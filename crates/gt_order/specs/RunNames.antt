@@ -15,8 +15,8 @@ pub use Rattle.gt_order.specs.Leaving.{AreUnmaps, MayUnmapAll}
 pub use Rattle.gt_order.specs.Ordering.{IsLegalOrder}
 pub use Rattle.gt_order.specs.Runs.{CallMade, FitsTypes, CallOutcome, SeatRun}
 pub use Rattle.gt_order.specs.Runs.CallOutcome.{Kept, Read, Starved, Told, Wrote}
-pub use Rattle.gt_run.specs.Printing.{Served}
-pub use Rattle.gt_run.specs.Serving.{IsServed, MakesCall, ListOutcome, ListProgress}
+pub use Rattle.gt_run.specs.Printing.{Served, WasServed, WritesAll}
+pub use Rattle.gt_run.specs.Serving.{MakesCall, ListOutcome, ListProgress}
 pub use Rattle.gt_run.specs.declared.lists.ThreadJob.{ThreadJob}
 pub use Rattle.gt_script.specs.declared.tasks.RunActionBy.TheVariants.{Do}
 pub use Rattle.gt_script.specs.Lists.{RunTask}

@@ -1,13 +1,14 @@
 -- The lists of a run, and the legal order whose answers they print, bytes too.
-use Rattle.std.specs.Prelude.{◌≡◌, ◌⊎◌, ℕ, ◌<◌, ◌==◌, true, List, [], ◌∷◌, ◌++◌, length}
+use Rattle.std.specs.Prelude.{◌≡◌, ◌⊎◌, ℕ, ◌<◌, ◌==◌, true, All, List, [], ◌∷◌, ◌++◌, length, map, Option, Some}
+use Rattle.std.specs.Prelude.{slice_get}
 use Rattle.gt_order.specs.RunNames.{some, get_elem?, State, Config, Denial, Board, StepHistory, Shows, id_at}
 use Rattle.gt_order.specs.Prelude.{IsWithinLimits}
 use Rattle.gt_order.specs.RunNames.{IsAmong}
 use Rattle.gt_order.specs.RunNames.{View, Request, Items, answer_of, Answer, IsOfAccess, AllowRelation, HasLeft}
 use Rattle.gt_order.specs.RunNames.{Domain, Departed, Monitor, AreUnmaps, MayUnmapAll, IsLegalOrder, CallMade}
 use Rattle.gt_order.specs.RunNames.{FitsTypes, CallOutcome, SeatRun, Told, Kept, Starved, Read, Wrote, ScriptCall}
-use Rattle.gt_order.specs.RunNames.{SaysRequest, Named, Do, RunTask, ThreadJob, Served, IsServed, MakesCall, ListOutcome}
-use Rattle.gt_order.specs.RunNames.{ListProgress}
+use Rattle.gt_order.specs.RunNames.{SaysRequest, Named, Do, RunTask, ThreadJob, Served, WasServed, WritesAll, MakesCall}
+use Rattle.gt_order.specs.RunNames.{ListOutcome, ListProgress}
 use Rattle.gt_core.specs.declared.trace.Answer.TheVariants as answers
 use Rattle.gt_script_lines.specs.declared.calls.ScriptCall.TheVariants as calls
 
@@ -62,7 +63,7 @@ AreCallsOf may duty (m ∷ ms) outcomes =
 pub record HasList {P : Type 0} (may : P → AllowRelation) (m : Monitor P) (i : ℕ) (s : Served P) : Type 0 where
   pub monitor : s.duty.monitor.now ≡ m
   pub dom : s.duty.part.dom ≡ id_at m.words.layout.ids i
-  pub served : IsServed may s.duty s.outcomes s.text
+  pub served : WasServed may s
   pub fits : FitsDuty s.duty
   pub whole : AreMadeWhole s.duty s.outcomes
 
@@ -99,3 +100,27 @@ TextsAreOfALegalOrder {P} may m =
     → ((i : ℕ) → i < length m.config.domains.items → (l : HasList may m i (lists i))
     × IsViewOf m.words m.config (may m.rights) l.served.left.domain (ends i) × (get_elem? s.views i ≡ some (ends i)))
     → (shown : Shows m.words.layout s) → AreOfALegalOrder may m shown.history lists
+
+-- the numbers of the list's requests are in the range of their types, no copy of it was refused at its access, and the
+-- policy allows its domain to unmap each mapping with which it left
+pub record IsOrderly {P : Type 0} (may : P → AllowRelation) (m : Monitor P) (s : Served P) : Type 0 where
+  pub fits : FitsDuty s.duty
+  pub whole : AreMadeWhole s.duty s.outcomes
+  pub may_leave : (served : WasServed may s) → MayUnmapAll m.config (may m.rights) served.left.domain
+
+-- the jobs are those of the monitor's domains, in their order
+abbrev pub AreOfDomains : {P : Type 0} → Monitor P → List (ThreadJob P) → Type 0
+AreOfDomains m duties =
+    All (λ d. d.monitor.now ≡ m) duties × (map (λ d. d.part.dom) duties ≡ map (λ d. d.id) m.config.domains.items)
+
+-- the lists of a run, in the order of their domains, are those of a legal order
+abbrev pub AreOfOneOrder : {P : Type 0} → (P → AllowRelation) → Monitor P → List (Served P) → Type 0
+AreOfOneOrder {P} may m all =
+    (lists : ℕ → Served P) × ((i : ℕ) (s : Served P) → slice_get all i ≡ Some s → lists i ≡ s)
+    × ((h : StepHistory) × AreOfALegalOrder may m h lists)
+
+-- what a run wrote at Ok, by the contract of `run`, is the text of a legal order
+abbrev pub RunsWriteALegalOrder : {P : Type 0} → (P → AllowRelation) → Monitor P → Type 0
+RunsWriteALegalOrder {P} may m =
+    (duties : List (ThreadJob P)) (old new : Option (List ℕ)) → IsWithinLimits m.config → AreOfDomains m duties
+    → (wrote : WritesAll may duties old new) → All (IsOrderly may m) wrote.0 → AreOfOneOrder may m wrote.0

@@ -3,7 +3,7 @@ ghost use Rattle.gt_order.specs.Calling.{CopiesAreMade, LostAccessesAreMade, Map
 ghost use Rattle.gt_order.specs.Calling.{ReadsAreMade, UnmapsAreMade, WritesAreMade};
 ghost use Rattle.gt_order.specs.Leaving.{LeavingIsUnmapping};
 ghost use Rattle.gt_order.specs.Laws.{CoreSeesTheWords, RunsHaveLegalOrders, StepsKeepAgreement};
-ghost use Rattle.gt_order.specs.Texts.{TextsAreOfALegalOrder};
+ghost use Rattle.gt_order.specs.Texts.{RunsWriteALegalOrder, TextsAreOfALegalOrder};
 
 use gt_live::Monitor;
 use gt_types::Allows;
@@ -48,4 +48,10 @@ pub fn leaving_is_unmapping()
 /// refused at its access.
 pub fn every_text_is_of_a_legal_order<P: Allows>(monitor: &Monitor<P>)
     ensures { TextsAreOfALegalOrder P.may monitor.now }
+{}
+
+/// A law: what a run wrote, by the contract of `run`, is the text of one legal interleaving of its calls, bytes and all,
+/// if no copy was refused at its access and the policy allows each domain to unmap the mappings with which it leaves.
+pub fn every_run_writes_a_legal_order<P: Allows>(monitor: &Monitor<P>)
+    ensures { RunsWriteALegalOrder P.may monitor.now }
 {}

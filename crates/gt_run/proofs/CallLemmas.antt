@@ -1,13 +1,11 @@
 -- What the call of a line comes to.
-use Rattle.std.proofs.Common.{◌≡◌, ◌⊎◌, ◌++◌, ℕ, ◌+◌, ◌-◌, ◌^◌, ◌≤◌, Bool, true, false, List, [], ◌∷◌, length, map, min}
+use Rattle.std.proofs.Common.{◌≡◌, ◌++◌, ℕ, ◌+◌, ◌-◌, ◌^◌, Bool, true, false, List, [], ◌∷◌, length, map, min}
 use Rattle.std.proofs.Common.{Option, None, Some, Result, Ok, Err, IfOk, refl, sym, subst, ap, ◌∙◌, inl, inr, arith}
 use Rattle.std.specs.Prelude.{is_some, slice_get}
-use Rattle.std.specs.List.{flat_map, sum_by}
 use Rattle.std.proofs.lemmas.Grind.{flat_map-append}
 use Rattle.std.proofs.lemmas.List.{append-nil, map-append}
 use Rattle.std.proofs.lemmas.List.Sums.{sum_by-append}
 use Rattle.std.proofs.lemmas.Option.{slice_get_past}
-use Rattle.gt_types.specs.declared.denial.Denial.{Denial}
 use Rattle.gt_audit.specs.Telling.{Telling, Tells, TellsUnder}
 use Rattle.gt_audit.specs.declared.record.Record.{Record}
 use Rattle.gt_calls.specs.declared.request.Request.{Request}
@@ -22,7 +20,7 @@ use Rattle.gt_live.specs.declared.domain.Domain.{Domain}
 use Rattle.gt_live.specs.declared.monitor.Monitor.{Monitor}
 use Rattle.gt_types.specs.declared.DomId.{DomId}
 use Rattle.gt_run.specs.Asking.{AnswersCall, Asks}
-use Rattle.gt_run.specs.Serving.{Calls, IsKeptAt, TellsOutcomes, Makes, MakesCall, ListOutcome, ListProgress, Records}
+use Rattle.gt_run.specs.Serving.{Calls, TellsOutcomes, Makes, ListOutcome, Records}
 use Rattle.gt_run.specs.Serving.{answer_lines}
 use Rattle.gt_run.specs.Serving.{counted, is_logged, lost_in, record_made, records_told}
 use Rattle.gt_run.specs.Telling.{TellsNext, LogsTrail}

@@ -1,39 +1,52 @@
 -- What the threads of a run come to, one after the other.
-use Rattle.std.proofs.Common.{◌≡◌, ◌⊎◌, ◌++◌, ◌+◌, ◌-◌, ◌^◌, ℕ, ◌<◌, Bool, true, false, List, [], ◌∷◌, get_or, drop}
+use Rattle.std.proofs.Common.{◌≡◌, ◌≢◌, ◌⊎◌, ◌++◌, ◌+◌, ◌-◌, ◌^◌, ℕ, ◌<◌, Bool, true, false, List, [], ◌∷◌, get_or, drop}
 use Rattle.std.proofs.Common.{length, map, min, suc, take, Option, None, Some, Result, Ok, Err, OnOk, IfOk, IfErr}
 use Rattle.std.proofs.Common.{IsTrue, refl, sym, subst, ap, ◌∙◌, append_assoc, add-one, drop-cons, inl, inr, arith, All}
 use Rattle.std.proofs.lemmas.Bool.{false≢true}
 use Rattle.std.specs.Prelude.{IsOk, is_err, is_ok, is_some, if◌then◌else◌}
 use Rattle.std.specs.declared.thread.PromisedHandle.{PromisedHandle}
-use Rattle.std.specs.List.{AllZip, HoldsAt, flat_map, sum_by}
+use Rattle.std.specs.List.{AllZip, HoldsAt, flat_map}
 use Rattle.std.specs.Io.KnownBytes.{Appends, Keeps}
 use Rattle.std.proofs.Math.Seq.{take-length, take-suc}
 use Rattle.std.proofs.lemmas.Grind.{flat_map-append}
-use Rattle.std.proofs.lemmas.List.{append-nil, get_or-map, length-map, map-append, map_more}
-use Rattle.std.proofs.lemmas.List.Elements.{All-append, All-cons, All-nil}
+use Rattle.std.proofs.lemmas.List.{append-nil, get_or-map, length-map, map-append}
+use Rattle.std.proofs.lemmas.List.Elements.{All-append, All-cons, All-head, All-nil, All-push, All-tail, All-weaker}
+use Rattle.std.specs.Iterator.{Yields}
+use Rattle.std.specs.Vec.Iter.{into_iter_items, into_iter_steps}
+use Rattle.std.specs.declared.vec.IntoIter.{IntoIter}
 use Rattle.std.proofs.lemmas.List.Sums.{sum_by-append}
 use Rattle.gt_types.specs.declared.DomId.{DomId}
 use Rattle.gt_types.specs.declared.config.Config.{Config}
 use Rattle.gt_types.specs.declared.config.DomainConfig.{DomainConfig}
-use Rattle.gt_word_history.specs.Rule.{Layout, id_at}
+use mathlib.Core.Option.{some}
+use lib.ListN.{get_elem?}
+use Rattle.gt_word_history.specs.Prelude.{State}
+use Rattle.gt_word_history.specs.Joining.{AreIn, GatheredOf, StandTogether, with_view}
+use Rattle.gt_word_history.specs.Rule.{Layout, Shows, id_at}
+use Rattle.gt_word_history.specs.Views.{IsAmong}
+use Rattle.gt_word_history.specs.declared.view.View.{View}
+use Rattle.gt_words.specs.Conditions.{Board, IsSeatOf, position_at}
+use Rattle.gt_words.specs.Laws.{own_position, seat_at}
 use Rattle.gt_audit.specs.Lines.{line_text, lost_text}
 use Rattle.gt_audit.specs.Telling.{Telling}
 use Rattle.gt_text.specs.Printing.{type_text}
-use Rattle.gt_live.specs.Domains.{AllowRelation}
+use Rattle.gt_live.specs.Domains.{AllowRelation, HasLeft}
+use Rattle.gt_live.specs.declared.domain.Departed.{Departed}
 use Rattle.gt_live.specs.Starting.{IsNewDomain}
 use Rattle.gt_live.specs.declared.domain.Domain.{Domain}
 use Rattle.gt_live.specs.declared.monitor.Monitor.{Monitor}
-use Rattle.gt_text.specs.Laws.{appends_both, begins_after, begins_longer, keeps_same}
+use Rattle.gt_text.specs.Laws.{appends_both, begins_after, keeps_same}
 use Rattle.gt_text.specs.Streams.{AppendsBeginning}
 use Rattle.gt_host.specs.declared.fault.PlayFault.TheVariants as plays
 use Rattle.gt_run.specs.Asking.{Stand}
 use Rattle.gt_run.specs.Faults.{run_out_of_memory}
-use Rattle.gt_run.specs.Joining.{IsLate, Joins, WritesNext, WroteStarted}
-use Rattle.gt_run.specs.Printing.{AreDuties, AreServed, BeginsLists, BeginsRunText, CameBy, PrintsOn, Served}
-use Rattle.gt_run.specs.Printing.{WritesLists}
+use Rattle.gt_run.specs.Joining.{AreGathered, AreOfThisRun, AreOnRun, BeginsFirst, IsLate, IsOfThisRun, IsTakenIn}
+use Rattle.gt_run.specs.Joining.{JoinsWhere, MayTakeIn, ShowTogether, WritesNext, WroteStarted, views_in}
+use Rattle.gt_run.specs.Printing.{AreDuties, BeginsLists, BeginsRunText, CameBy, HasViewIn, LeavesSeat, PrintsOn, Served}
+use Rattle.gt_run.specs.Printing.{ShowOneState, WasServed, WritesLists}
 use Rattle.gt_run.specs.Printing.{all_lost, audits_in, duties_in, promised, texts_in}
 use Rattle.gt_run.specs.Runs.{Wrote, WroteLists}
-use Rattle.gt_run.specs.Serving.{AreReady, IsBegun, IsFirst, IsReady, IsServed, ListOutcome, Serves, ServesAll, ServesSome}
+use Rattle.gt_run.specs.Serving.{AreReady, IsBegun, IsFirst, IsReady, IsServed, Serves, ServesAll, ServesSome}
 use Rattle.gt_run.specs.Serving.{list_start, audit_lines, counted, lost_in}
 use Rattle.gt_run.specs.declared.fault.RunFault.{RunFault}
 use Rattle.gt_run.specs.declared.fault.RunFault.TheVariants.{Play, Thread}
@@ -54,9 +67,9 @@ begun_not may duty s text none ready =
 begun : {P : Type 0} (may : P → AllowRelation) (duty : ThreadJob P) (d : Domain) (text : List ℕ) → IsFirst may duty.monitor.now duty.part.dom d → ServesSome may duty d text → IsBegun may duty text
 begun may duty d text first s = record { domain = d; first = first; number = s.number; left = s.left; leads = s.leads; prints = s.prints }
 
-served : {P : Type 0} (may : P → AllowRelation) (duty : ThreadJob P) (d e : Domain) (text : List ℕ) (t : Option TrailLogger) → IsFirst may duty.monitor.now duty.part.dom d
-    → (s : ServesAll may duty d text e t) → IsServed may duty s.left.outcomes text
-served may duty d e text t first s = record {
+served : {P : Type 0} (may : P → AllowRelation) (duty : ThreadJob P) (d e : Domain) (text : List ℕ) (t : Option TrailLogger) (l : Departed) → IsFirst may duty.monitor.now duty.part.dom d
+    → HasLeft duty.monitor.now.words.layout e l → (s : ServesAll may duty d text e t) → IsServed may duty s.left.outcomes text l
+served may duty d e text t l first leaves s = record {
   domain = d;
   first = first;
   number = s.number;
@@ -66,6 +79,7 @@ served may duty d e text t first s = record {
   last = s.last;
   ends = s.ends;
   prints = s.prints;
+  leaves = subst (λ (x : Domain). HasLeft duty.monitor.now.words.layout x l) (sym s.domain) leaves;
 }
 
 if_ok_as : {V E : Type 0} (r : Result V E) (P Q : V → Type 0) → ((v : V) → P v → Q v) → IfOk r P → IfOk r Q
@@ -74,27 +88,27 @@ if_ok_as (Err e) P Q f p = tt
 
 -- a list was served without a log
 pub came_plain : {P : Type 0} (may : P → AllowRelation) (duty : ThreadJob P) (s : Stand P) (e : Domain) (whole : Bool) (t : Option TrailLogger) (o : Output) → IsReady may duty.monitor.now duty.part.dom s
-    → t ≡ None → Serves may duty s.domain whole o.text.items e t → IfOk o.audit (λ a. a.items ≡ []) → o.lost ≡ 0 → CameBy whole may duty o
-came_plain may duty s e false t o ready none serves audit lost = begun may duty s.domain o.text.items ready.1 serves
-came_plain may duty s e true (Some t) o ready none serves audit lost = let e : Some t ≡ None = none in cc
-came_plain may duty s e true None o ready none serves audit lost = (
+    → t ≡ None → HasLeft duty.monitor.now.words.layout e o.left → Serves may duty s.domain whole o.text.items e t → IfOk o.audit (λ a. a.items ≡ []) → o.lost ≡ 0 → CameBy whole may duty o
+came_plain may duty s e false t o ready none leaves serves audit lost = begun may duty s.domain o.text.items ready.1 serves
+came_plain may duty s e true (Some t) o ready none leaves serves audit lost = let e : Some t ≡ None = none in cc
+came_plain may duty s e true None o ready none leaves serves audit lost = (
   serves.left.outcomes,
-  served may duty s.domain e o.text.items None ready.1 serves,
+  served may duty s.domain e o.text.items None o.left ready.1 leaves serves,
   if_ok_as o.audit _ _ (λ a is. is ∙ sym (ap (flat_map (line_text (type_text (λ name. name) duty.part.types.now))) serves.told.0)) audit,
   lost ∙ sym (ap counted serves.told.1),
 )
 
 -- a list was served with one
 pub came_told : {P : Type 0} (may : P → AllowRelation) (duty : ThreadJob P) (s : Stand P) (e : Domain) (trail : Telling) (whole : Bool) (t : Option TrailLogger) (u : TrailLogger) (o : Output)
-    → IsReady may duty.monitor.now duty.part.dom s → t ≡ Some u → trail ≡ e.trail → Serves may duty s.domain whole o.text.items e t
+    → IsReady may duty.monitor.now duty.part.dom s → t ≡ Some u → trail ≡ e.trail → HasLeft duty.monitor.now.words.layout e o.left → Serves may duty s.domain whole o.text.items e t
     → IfOk o.audit (λ a. a.items ≡ flat_map (line_text (type_text (λ name. name) duty.part.types.now)) (map (λ x. x.1) u.told.told))
     → o.lost ≡ counted (trail.lost + u.told.lost) → CameBy whole may duty o
-came_told may duty s e trail false t u o ready some same serves audit lost = begun may duty s.domain o.text.items ready.1 serves
-came_told may duty s e trail true None u o ready some same serves audit lost = let e : None ≡ Some u = some in cc
-came_told may duty s e trail true (Some t) u o ready some same serves audit lost =
-    let is : t ≡ u = cc some in (
+came_told may duty s e trail false t u o ready given same leaves serves audit lost = begun may duty s.domain o.text.items ready.1 serves
+came_told may duty s e trail true None u o ready given same leaves serves audit lost = let e : None ≡ Some u = given in cc
+came_told may duty s e trail true (Some t) u o ready given same leaves serves audit lost =
+    let is : t ≡ u = cc given in (
       serves.left.outcomes,
-      served may duty s.domain e o.text.items (Some t) ready.1 serves,
+      served may duty s.domain e o.text.items (Some t) o.left ready.1 leaves serves,
       if_ok_as o.audit _ _ (λ a of_u. of_u ∙ ap (λ (x : TrailLogger). flat_map (line_text (type_text (λ name. name) duty.part.types.now)) (map (λ y. y.1) x.told.told)) (sym is)
           ∙ ap (flat_map (line_text (type_text (λ name. name) duty.part.types.now))) serves.told.1) audit,
       lost ∙ ap (λ (x : TrailLogger). counted (trail.lost + x.told.lost)) (sym is) ∙ ap (λ (x : Telling). counted (x.lost + t.told.lost)) same ∙ serves.told.2,
@@ -203,24 +217,22 @@ both_ok (Err e) P Q ok p q = let o : false ≡ true = ok in cc
 
 -- the lists that were served, and one more
 lists_more : {P : Type 0} (may : P → AllowRelation) (all : List (Served P)) (s : Served P) (ds : List (ThreadJob P)) (old now new : Option (List ℕ)) → WritesLists may ds all old now
-    → IsServed may s.duty s.outcomes s.text → Appends now new s.text → WritesLists may (ds ++ s.duty ∷ []) (all ++ s ∷ []) old new
+    → WasServed may s → Appends now new s.text → WritesLists may (ds ++ s.duty ∷ []) (all ++ s ∷ []) old new
 lists_more {P} may all s ds old now new (same, are, out) is more = (
   duties_behind all s ds same,
-  All-append (λ (x : Served P). IsServed may x.duty x.outcomes x.text) all (s ∷ []) are
-      (All-cons (λ (x : Served P). IsServed may x.duty x.outcomes x.text) s [] is (All-nil (λ (x : Served P). IsServed may x.duty x.outcomes x.text))),
+  All-append (WasServed may) all (s ∷ []) are (All-cons (WasServed may) s [] is (All-nil (WasServed may))),
   subst (λ (l : List ℕ). Appends old new l) (sym (texts_behind all s)) (appends_both old now new (texts_in all) s.text out more),
 )
 
 -- the same, of which a beginning went out
 begins_served : {P : Type 0} (may : P → AllowRelation) (all : List (Served P)) (s : Served P) (ds : List (ThreadJob P)) (old now new : Option (List ℕ)) → WritesLists may ds all old now
-    → IsServed may s.duty s.outcomes s.text → AppendsBeginning now new s.text → BeginsLists may (ds ++ s.duty ∷ []) old new
+    → WasServed may s → AppendsBeginning now new s.text → BeginsLists may (ds ++ s.duty ∷ []) old new
 begins_served {P} may all s ds old now new (same, are, out) is more = (
   all ++ s ∷ [],
   [],
   [],
   append-nil (duties_in (all ++ s ∷ [])) ∙ duties_behind all s ds same,
-  All-append (λ (x : Served P). IsServed may x.duty x.outcomes x.text) all (s ∷ []) are
-      (All-cons (λ (x : Served P). IsServed may x.duty x.outcomes x.text) s [] is (All-nil (λ (x : Served P). IsServed may x.duty x.outcomes x.text))),
+  All-append (WasServed may) all (s ∷ []) are (All-cons (WasServed may) s [] is (All-nil (WasServed may))),
   refl,
   subst (λ (l : List ℕ). AppendsBeginning old new l) (sym (append-nil (texts_in (all ++ s ∷ [])) ∙ texts_behind all s))
       (begins_after old now new (texts_in all) s.text out more),
@@ -242,7 +254,7 @@ begins_next may all d text ds old now new (same, are, out) is more = (
 begins_one : {P : Type 0} (may : P → AllowRelation) (all : List (Served P)) (d : ThreadJob P) (whole : Bool) (o : Output) (ds : List (ThreadJob P)) (old now new : Option (List ℕ)) → WritesLists may ds all old now
     → CameBy whole may d o → AppendsBeginning now new o.text.items → BeginsLists may (ds ++ d ∷ []) old new
 begins_one may all d true o ds old now new lists came out =
-    begins_served may all (record { duty = d; outcomes = came.0; text = o.text.items }) ds old now new lists came.1 out
+    begins_served may all (record { duty = d; outcomes = came.0; text = o.text.items; departed = o.left }) ds old now new lists came.1 out
 begins_one may all d false o ds old now new lists came out = begins_next may all d o.text.items ds old now new lists came out
 
 not_ok : {E : Type 0} (e : E) → IsOk {T = Unit {0}} (Err e) → ⊥
@@ -258,54 +270,150 @@ count_more : (most a b l0 lost l1 : ℕ) → l1 ≡ min (l0 + lost) most → l0 
 count_more most a b l0 lost l1 is before more = omega (arith, is, before, more)
 
 -- a list was joined, and all went well
-joins_well : {P : Type 0} (may : P → AllowRelation) (ds : List (ThreadJob P)) (d : ThreadJob P) (o : Output) (a0 a1 : List ℕ) (l0 l1 : ℕ) (old now new : Option (List ℕ))
-    → Joins may ds a0 l0 old now (Ok tt) → Appends now new o.text.items → IfOk o.audit (λ more. a1 ≡ a0 ++ more.items) → IsOk o.audit
-    → l1 ≡ counted (l0 + o.lost) → CameBy true may d o → Joins may (ds ++ d ∷ []) a1 l1 old new (Ok tt)
-joins_well {P} may ds d o a0 a1 l0 l1 old now new (all, lists, audit, count) out more ok lost came =
-    let s : Served P = record { duty = d; outcomes = came.0; text = o.text.items } in
+joins_well : {P : Type 0} (Q Q' : List (Served P) → Type 0) (may : P → AllowRelation) (ds : List (ThreadJob P)) (d : ThreadJob P) (o : Output) (a0 a1 : List ℕ) (l0 l1 : ℕ) (old now new : Option (List ℕ))
+    → ((all : List (Served P)) (s : Served P) → s.departed ≡ o.left → Q all → Q' (all ++ s ∷ []))
+    → JoinsWhere Q may ds a0 l0 old now (Ok tt) → Appends now new o.text.items → IfOk o.audit (λ more. a1 ≡ a0 ++ more.items) → IsOk o.audit
+    → l1 ≡ counted (l0 + o.lost) → CameBy true may d o → JoinsWhere Q' may (ds ++ d ∷ []) a1 l1 old new (Ok tt)
+joins_well {P} Q Q' may ds d o a0 a1 l0 l1 old now new grows (all, lists, audit, count, q) out more ok lost came =
+    let s : Served P = record { duty = d; outcomes = came.0; text = o.text.items; departed = o.left } in
     let both = both_ok o.audit (λ a. a1 ≡ a0 ++ a.items) (λ a. a.items ≡ audit_lines d.part.types.now came.0) ok more came.2 in (
       all ++ s ∷ [],
       lists_more may all s ds old now new lists came.1 out,
       both.1 ∙ ap (λ (l : List ℕ). l ++ both.0.items) audit ∙ ap (λ (l : List ℕ). audits_in all ++ l) both.2 ∙ sym (audits_behind all s),
       count_more (2 ^ 64 - 1) (all_lost all) (lost_in came.0) l0 o.lost l1 lost count came.3 ∙ sym (ap counted (all_lost_behind all s)),
+      grows all s refl q,
     )
 
 -- what is known of all threads that were joined, where one more is
-joins_on : {P : Type 0} (may : P → AllowRelation) (ds : List (ThreadJob P)) (d : ThreadJob P) (whole : Bool) (o : Output) (a0 a1 : List ℕ) (l0 l1 : ℕ) (r0 r1 r2 : Result (Unit {0}) RunFault)
+joins_on : {P : Type 0} (Q Q' : List (Served P) → Type 0) (may : P → AllowRelation) (ds : List (ThreadJob P)) (d : ThreadJob P) (whole : Bool) (o : Output) (a0 a1 : List ℕ) (l0 l1 : ℕ) (r0 r1 r2 : Result (Unit {0}) RunFault)
     (old now new : Option (List ℕ))
-    → Joins may ds a0 l0 old now r0
+    → ((all : List (Served P)) (s : Served P) → s.departed ≡ o.left → Q all → Q' (all ++ s ∷ []))
+    → JoinsWhere Q may ds a0 l0 old now r0
     → WritesNext r0 whole o.text.items now new r1
     → OnOk r2 (IsOk r1 × IfOk o.audit (λ more. a1 ≡ a0 ++ more.items) × IsOk o.audit)
     → IfErr r2 (λ e. (r1 ≡ Err e) ⊎ (e ≡ run_out_of_memory))
     → l1 ≡ counted (l0 + o.lost) → CameBy whole may d o
-    → Joins may (ds ++ d ∷ []) a1 l1 old new r2
-joins_on may ds d whole o a0 a1 l0 l1 r0 (Err f) (Ok x) old now new i w k e lost came = absurd (not_ok f k.0)
-joins_on may ds d whole o a0 a1 l0 l1 (Err f) (Ok c) (Ok x) old now new i w k e lost came = absurd (ok_not_err c f w.0)
-joins_on may ds d false o a0 a1 l0 l1 (Ok b) (Ok c) (Ok x) old now new i w k e lost came = absurd (not_true w.0)
-joins_on may ds d true o a0 a1 l0 l1 (Ok b) (Ok c) (Ok x) old now new i w k e lost came =
-    joins_well may ds d o a0 a1 l0 l1 old now new i w.1 k.1 k.2 lost came
-joins_on may ds d whole o a0 a1 l0 l1 (Err f) r1 (Err g) old now new i w k e lost came = (late_after r1 f g i.0 w.0 e, begins_more may ds d old now new i.1 w.1)
-joins_on may ds d whole o a0 a1 l0 l1 (Ok b) (Ok c) (Err g) old now new (all, lists, audit, count) w k e lost came =
+    → JoinsWhere Q' may (ds ++ d ∷ []) a1 l1 old new r2
+joins_on Q Q' may ds d whole o a0 a1 l0 l1 r0 (Err f) (Ok x) old now new grows i w k e lost came = absurd (not_ok f k.0)
+joins_on Q Q' may ds d whole o a0 a1 l0 l1 (Err f) (Ok c) (Ok x) old now new grows i w k e lost came = absurd (ok_not_err c f w.0)
+joins_on Q Q' may ds d false o a0 a1 l0 l1 (Ok b) (Ok c) (Ok x) old now new grows i w k e lost came = absurd (not_true w.0)
+joins_on Q Q' may ds d true o a0 a1 l0 l1 (Ok b) (Ok c) (Ok x) old now new grows i w k e lost came =
+    joins_well Q Q' may ds d o a0 a1 l0 l1 old now new grows i w.1 k.1 k.2 lost came
+joins_on Q Q' may ds d whole o a0 a1 l0 l1 (Err f) r1 (Err g) old now new grows i w k e lost came = (late_after r1 f g i.0 w.0 e, begins_more may ds d old now new i.1 w.1)
+joins_on Q Q' may ds d whole o a0 a1 l0 l1 (Ok b) (Ok c) (Err g) old now new grows (all, lists, audit, count, q) w k e lost came =
     (late_now (Ok c) c g refl e, begins_one may all d whole o ds old now new lists came (begins_whole now new o.text.items w.1))
-joins_on may ds d whole o a0 a1 l0 l1 (Ok b) (Err f) (Err g) old now new (all, lists, audit, count) w k e lost came =
+joins_on Q Q' may ds d whole o a0 a1 l0 l1 (Ok b) (Err f) (Err g) old now new grows (all, lists, audit, count, q) w k e lost came =
     (late_after (Err f) f g w.0 refl e, begins_one may all d whole o ds old now new lists came w.1)
 
-pub joins_more : {A P : Type 0} (may : P → AllowRelation) (duty : A → ThreadJob P) (hs : List A) (h : A) (o : Output) (a0 a1 : List ℕ) (l0 l1 : ℕ) (r0 r1 r2 : Result (Unit {0}) RunFault)
-    (old now new : Option (List ℕ))
-    → Joins may (map duty hs) a0 l0 old now r0
+-- gathering
+
+-- what one domain more left is among what was gathered
+pub gathered_more : {P : Type 0} (b : Board) (old : Option GatheredOf) (l : Departed) (g : GatheredOf) (all : List (Served P)) (s : Served P) → IsTakenIn b old l g → s.departed ≡ l → AreGathered (views_in old) all
+    → AreGathered g.views (all ++ s ∷ [])
+gathered_more {P} b old l g all s taken is are =
+    All-push (λ (x : Served P). IsAmong x.departed.seat.view g.views) all s
+    (All-weaker (λ (x : Served P). IsAmong x.departed.seat.view (views_in old)) (λ (x : Served P). IsAmong x.departed.seat.view g.views) (λ x. taken.2 x.departed.seat.view) all are)
+    (subst (λ (x : Departed). IsAmong x.seat.view g.views) (sym is) taken.1)
+
+-- before the first view, and behind it
+in-with : (v w : View) (us : List View) → us ≢ [] → ((w ≡ v) ⊎ IsAmong w us) → IsAmong w (with_view v us)
+in-with v w [] more is = absurd (more refl)
+in-with v w (u ∷ us) more (inl is) = inr (inl is)
+in-with v w (u ∷ us) more (inr (inl is)) = inl is
+in-with v w (u ∷ us) more (inr (inr is)) = inr (inr is)
+
+still-some : (v : View) (us : List View) → us ≢ [] → with_view v us ≢ []
+still-some v [] more e = absurd (more refl)
+still-some v (u ∷ us) more e = cc
+
+pub taken_first : (b : Board) (l : Departed) (g : GatheredOf) → g.table ≡ b.table → g.views ≡ l.seat.view ∷ [] → IsTakenIn b None l g
+taken_first b l g table views = ((table, λ e. no-views l.seat.view (sym views ∙ e)), subst (IsAmong l.seat.view) (sym views) (inl refl), λ v is. absurd is)
+  where
+    no-views : (v : View) → v ∷ [] ≡ [] → ⊥
+    no-views v e = cc
+
+pub taken_more : (b : Board) (old g : GatheredOf) (l : Departed) → IsOfThisRun b old → g.table ≡ old.table → g.views ≡ with_view l.seat.view old.views → IsTakenIn b (Some old) l g
+taken_more b old g l of table views = (
+  (table ∙ of.0, λ e. still-some l.seat.view old.views of.1 (sym views ∙ e)),
+  subst (IsAmong l.seat.view) (sym views) (in-with l.seat.view l.seat.view old.views of.1 (inl refl)),
+  λ v is. subst (IsAmong v) (sym views) (in-with l.seat.view v old.views of.1 (inr is)),
+)
+
+in-state : (s : State (Unit {0}) View) (us : List View) (v : View) → AreIn s.views us → IsAmong v us → get_elem? s.views v.position ≡ some v
+in-state s [] v are is = absurd is
+in-state s (u ∷ us) v are (inl is) = subst (λ (x : View). get_elem? s.views x.position ≡ some x) (sym is) are.0
+in-state s (u ∷ us) v are (inr is) = in-state s us v are.1 is
+
+-- the words and the views that were gathered show one state
+one-state : {P : Type 0} (m : Monitor P) (us : List View) (all : List (Served P)) → StandTogether m.words.layout us → All (λ d. d.monitor.now ≡ m) (duties_in all) → AreGathered us all → ShowOneState all
+one-state m us [] together on are = tt
+one-state {P} m us (x ∷ xs) together on are =
+    let same : x.duty.monitor.now ≡ m = All-head (λ (d : ThreadJob P). d.monitor.now ≡ m) x.duty (duties_in xs) on in (
+      together.0,
+      subst (λ (n : Monitor P). Shows n.words.layout together.0) (sym same) together.1,
+      All-weaker (λ (y : Served P). IsAmong y.departed.seat.view us) (HasViewIn together.0) (λ y. in-state together.0 us y.departed.seat.view together.2) (x ∷ xs) are,
+    )
+
+-- nothing was gathered, so no list was served
+no-state : {P : Type 0} (all : List (Served P)) → AreGathered [] all → ShowOneState all
+no-state [] are = tt
+no-state {P} (x ∷ xs) are = absurd (All-head (λ (y : Served P). IsAmong y.departed.seat.view []) x xs are)
+
+pub joined_together : {P : Type 0} (may : P → AllowRelation) (m : Monitor P) (ds : List (ThreadJob P)) (us : List View) (audit : List ℕ) (lost : ℕ) (old new : Option (List ℕ)) (r : Result (Unit {0}) RunFault)
+    → All (λ d. d.monitor.now ≡ m) ds → ShowTogether m.words.layout us → JoinsWhere (AreGathered us) may ds audit lost old new r → JoinsWhere ShowOneState may ds audit lost old new r
+joined_together {P} may m ds us audit lost old new (Ok done) on (inr together) (all, lists, a, l, q) =
+    (all, lists, a, l, one-state m us all together (subst (All (λ (d : ThreadJob P). d.monitor.now ≡ m)) (sym lists.0) on) q)
+joined_together {P} may m ds us audit lost old new (Ok done) on (inl none) (all, lists, a, l, q) =
+    (all, lists, a, l, no-state all (subst (λ (vs : List View). AreGathered vs all) none q))
+joined_together may m ds us audit lost old new (Err e) on together j = j
+
+-- what was gathered may be told of all, since what a domain left may be taken in
+yields_front : {X Z : Type 0} (s : IntoIter X Z) (xs : List X) (t : IntoIter X Z) → Yields into_iter_steps s xs t → into_iter_items s ≡ xs ++ into_iter_items t
+yields_front s [] t y = ap into_iter_items y
+yields_front s (x ∷ xs) t y = y.1.0 ∙ ap (λ ys. x ∷ ys) (yields_front y.0 xs t y.2)
+
+-- the next handle, and those before and after it
+pub next_handle : {X Z : Type 0} (all : List X) (s : IntoIter X Z) (xs : List X) (t u : IntoIter X Z) (x : X) → into_iter_items s ≡ all → Yields into_iter_steps s xs t → into_iter_steps t (Some x) u → all ≡ xs ++ x ∷ into_iter_items u
+next_handle all s xs t u x is y step = sym is ∙ yields_front s xs t y ∙ ap (λ l. xs ++ l) step.0
+
+on_run_at : {P : Type 0} (m : Monitor P) (before rest : List (ThreadJob P)) (d : ThreadJob P) → All (λ x. x.monitor.now ≡ m) (before ++ d ∷ rest) → d.monitor.now ≡ m
+on_run_at {P} m [] rest d all = All-head (λ (x : ThreadJob P). x.monitor.now ≡ m) d rest all
+on_run_at {P} m (x ∷ before) rest d all = on_run_at m before rest d (All-tail (λ (y : ThreadJob P). y.monitor.now ≡ m) x (before ++ d ∷ rest) all)
+
+may_take : {P : Type 0} (m : Monitor P) (gathered : Option GatheredOf) (l : Departed) (before rest : List (ThreadJob P)) (d : ThreadJob P) → AreOnRun m (before ++ d ∷ rest) → AreOfThisRun m.words gathered
+    → (gathered ≡ None → before ≡ []) → LeavesSeat d l → MayTakeIn m.words gathered l
+may_take {P} m (Some g) l before rest d on of none left =
+    (subst (λ (n : Monitor P). IsSeatOf n.words l.seat) (on_run_at m before rest d on.0) left.0, of)
+may_take {P} m None l before rest d on of none left =
+    let first = subst (λ (ds : List (ThreadJob P)). BeginsFirst m.words (map (λ x. x.part) (ds ++ d ∷ rest))) (none refl) on.1 in
+    let seat : IsSeatOf m.words l.seat = subst (λ (n : Monitor P). IsSeatOf n.words l.seat) (on_run_at m before rest d on.0) left.0 in
+    (seat, seat_at m.config m.words l.seat m.limits.distinct m.same_run seat ∙ ap (position_at m.words) left.1 ∙ first)
+
+pub may_take_next : {P : Type 0} (m : Monitor P) (gathered : Option GatheredOf) (l : Departed) (all xs rest : List (PromisedHandle Output (ThreadJob P))) (h : PromisedHandle Output (ThreadJob P)) → AreOnRun m (promised all) → all ≡ xs ++ h ∷ rest
+    → AreOfThisRun m.words gathered → (gathered ≡ None → xs ≡ []) → LeavesSeat h.promise l → MayTakeIn m.words gathered l
+may_take_next {P} m gathered l all xs rest h on is of none left =
+    may_take m gathered l (promised xs) (promised rest) h.promise
+    (subst (AreOnRun m) (ap promised is ∙ map-append (λ (x : PromisedHandle Output (ThreadJob P)). x.promise) xs (h ∷ rest)) on) of (λ e. ap promised (none e)) left
+
+-- one thread more was joined
+pub joins_next : {P : Type 0} (may : P → AllowRelation) (b : Board) (hs : List (PromisedHandle Output (ThreadJob P))) (h : PromisedHandle Output (ThreadJob P)) (o : Output) (a0 a1 : List ℕ) (l0 l1 : ℕ) (r0 r1 r2 : Result (Unit {0}) RunFault)
+    (old now new : Option (List ℕ)) (g0 : Option GatheredOf) (g1 : GatheredOf)
+    → IsTakenIn b g0 o.left g1
+    → JoinsWhere (AreGathered (views_in g0)) may (promised hs) a0 l0 old now r0
     → WritesNext r0 o.whole o.text.items now new r1
     → OnOk r2 (IsOk r1 × IfOk o.audit (λ more. a1 ≡ a0 ++ more.items) × IsOk o.audit)
     → IfErr r2 (λ e. (r1 ≡ Err e) ⊎ (e ≡ run_out_of_memory))
-    → l1 ≡ counted (l0 + o.lost) → CameBy o.whole may (duty h) o
-    → Joins may (map duty (hs ++ h ∷ [])) a1 l1 old new r2
-joins_more may duty hs h o a0 a1 l0 l1 r0 r1 r2 old now new i w k e lost came =
-    subst (λ l. Joins may l a1 l1 old new r2) (sym (map-append duty hs (h ∷ [])))
-    (joins_on may (map duty hs) (duty h) o.whole o a0 a1 l0 l1 r0 r1 r2 old now new i w k e lost came)
+    → l1 ≡ counted (l0 + o.lost) → CameBy o.whole may h.promise o
+    → JoinsWhere (AreGathered g1.views) may (promised (hs ++ h ∷ [])) a1 l1 old new r2
+joins_next may b hs h o a0 a1 l0 l1 r0 r1 r2 old now new g0 g1 taken i w k e lost came =
+    subst (λ l. JoinsWhere (AreGathered g1.views) may l a1 l1 old new r2) (sym (promised_more hs h))
+    (joins_on (AreGathered (views_in g0)) (AreGathered g1.views) may (promised hs) h.promise o.whole o a0 a1 l0 l1 r0 r1 r2 old now new
+    (λ all s is are. gathered_more b g0 o.left g1 all s taken is are) i w k e lost came)
 
 -- before the first thread is joined
-pub joins_none : {P : Type 0} (may : P → AllowRelation) (old : Option (List ℕ)) (audit : List ℕ) → audit ≡ [] → Joins may [] audit 0 old old (Ok tt)
-joins_none may None audit none = ([], (refl, All-nil _, tt), none, refl)
-joins_none may (Some xs) audit none = ([], (refl, All-nil _, sym (append-nil xs)), none, refl)
+pub joins_none : {P : Type 0} (may : P → AllowRelation) (old : Option (List ℕ)) (audit : List ℕ) → audit ≡ [] → JoinsWhere (AreGathered []) may [] audit 0 old old (Ok tt)
+joins_none may None audit none = ([], (refl, All-nil _, tt), none, refl, All-nil _)
+joins_none may (Some xs) audit none = ([], (refl, All-nil _, sym (append-nil xs)), none, refl, All-nil _)
 
 -- a fault that came late
 late_wrote : {P : Type 0} (may : P → AllowRelation) (ds : List (ThreadJob P)) (e : RunFault) (old new : Option (List ℕ)) → IsLate e → BeginsLists may ds old new ⊎ BeginsRunText may ds old new
@@ -314,29 +422,29 @@ late_wrote may ds e old new (inl memory) begun = subst (λ (f : RunFault). Wrote
 late_wrote may ds e old new (inr write) begun = subst (λ (f : RunFault). WroteLists may ds old new (Err f)) (sym write) begun
 
 -- a fault stopped the threads' lines
-pub wrote_lines : {P : Type 0} (may : P → AllowRelation) (ds : List (ThreadJob P)) (all : Option ThreadRefusal) (r : Result (Unit {0}) RunFault) (e : RunFault) (audit : List ℕ) (lost : ℕ) (old new : Option (List ℕ))
-    → r ≡ Err e → all ≡ None → Joins may ds audit lost old new r → WroteStarted may all ds old new (Err e)
-wrote_lines may ds all r e audit lost old new is given joined =
-    let j = subst (λ (q : Result (Unit {0}) RunFault). Joins may ds audit lost old new q) is joined in
+pub wrote_lines : {P : Type 0} (Q : List (Served P) → Type 0) (may : P → AllowRelation) (ds : List (ThreadJob P)) (all : Option ThreadRefusal) (r : Result (Unit {0}) RunFault) (e : RunFault) (audit : List ℕ) (lost : ℕ) (old new : Option (List ℕ))
+    → r ≡ Err e → all ≡ None → JoinsWhere Q may ds audit lost old new r → WroteStarted may all ds old new (Err e)
+wrote_lines Q may ds all r e audit lost old new is given joined =
+    let j = subst (λ (q : Result (Unit {0}) RunFault). JoinsWhere Q may ds audit lost old new q) is joined in
     subst (λ (b : Option ThreadRefusal). WroteStarted may b ds old new (Err e)) (sym given) (late_wrote may ds e old new j.0 (inl j.1))
 
 -- the audit lines went out too, or a beginning of them
 wrote_end : {P : Type 0} (may : P → AllowRelation) (ds : List (ThreadJob P)) (all : List (Served P)) (r : Result (Unit {0}) RunFault) (audit : List ℕ) (lost : ℕ) (old now new : Option (List ℕ))
-    → WritesLists may ds all old now → audit ≡ audits_in all → lost ≡ counted (all_lost all)
+    → WritesLists may ds all old now → audit ≡ audits_in all → lost ≡ counted (all_lost all) → ShowOneState all
     → OnOk r (Appends now new (audit ++ lost_text lost)) → AppendsBeginning now new (audit ++ lost_text lost) → IfErr r IsLate → WroteLists may ds old new r
-wrote_end may ds all (Ok done) audit lost old now new (same, are, out) a l end begun late =
+wrote_end may ds all (Ok done) audit lost old now new (same, are, out) a l one end begun late =
     let tail : audit ++ lost_text lost ≡ audits_in all ++ lost_text (counted (all_lost all)) = ap (λ (x : List ℕ). x ++ lost_text lost) a ∙ ap (λ (n : ℕ). audits_in all ++ lost_text n) l in
-    (all, same, are, appends_both old now new (texts_in all) _ out (subst (λ (x : List ℕ). Appends now new x) tail end))
-wrote_end may ds all (Err e) audit lost old now new (same, are, out) a l end begun late =
+    (all, same, are, one, appends_both old now new (texts_in all) _ out (subst (λ (x : List ℕ). Appends now new x) tail end))
+wrote_end may ds all (Err e) audit lost old now new (same, are, out) a l one end begun late =
     let tail : audit ++ lost_text lost ≡ audits_in all ++ lost_text (counted (all_lost all)) = ap (λ (x : List ℕ). x ++ lost_text lost) a ∙ ap (λ (n : ℕ). audits_in all ++ lost_text n) l in
     late_wrote may ds e old new late (inr (all, same, are, begins_after old now new (texts_in all) _ out (subst (λ (x : List ℕ). AppendsBeginning now new x) tail begun)))
 
 pub wrote_all : {P : Type 0} (may : P → AllowRelation) (ds : List (ThreadJob P)) (all : Option ThreadRefusal) (r0 r : Result (Unit {0}) RunFault) (d : Unit {0}) (audit : List ℕ) (lost : ℕ) (old now new : Option (List ℕ))
-    → r0 ≡ Ok d → all ≡ None → Joins may ds audit lost old now r0 → OnOk r (Appends now new (audit ++ lost_text lost)) → AppendsBeginning now new (audit ++ lost_text lost)
+    → r0 ≡ Ok d → all ≡ None → JoinsWhere ShowOneState may ds audit lost old now r0 → OnOk r (Appends now new (audit ++ lost_text lost)) → AppendsBeginning now new (audit ++ lost_text lost)
     → IfErr r IsLate → WroteStarted may all ds old new r
 wrote_all may ds all r0 r d audit lost old now new was given joined out begun late =
-    let j = subst (λ (q : Result (Unit {0}) RunFault). Joins may ds audit lost old now q) was joined in
-    subst (λ (b : Option ThreadRefusal). WroteStarted may b ds old new r) (sym given) (wrote_end may ds j.0 r audit lost old now new j.1 j.2 j.3 out begun late)
+    let j = subst (λ (q : Result (Unit {0}) RunFault). JoinsWhere ShowOneState may ds audit lost old now q) was joined in
+    subst (λ (b : Option ThreadRefusal). WroteStarted may b ds old new r) (sym given) (wrote_end may ds j.0 r audit lost old now new j.1 j.2 j.3 j.4 out begun late)
 
 -- what duties wrote of which this is known
 wrote_of : {P : Type 0} (may : P → AllowRelation) (Are : List (ThreadJob P) → Type 0) (ds : List (ThreadJob P)) (r : Result (Unit {0}) RunFault) (old new : Option (List ℕ)) → Are ds → WroteLists may ds old new r
@@ -414,3 +522,11 @@ ready_all {P} may m config rights domains stands parts same is allows count new 
     (ap (λ (k : Layout). k.ids) m.same_run ∙ ap (λ (x : Config). map (λ (y : DomainConfig). y.id) x.domains.items) is) (omega (arith, within, count, many))
     (subst (λ (x : Config). IsNewDomain m.words x (may m.rights) i (get_or domains i d)) (sym is)
     (subst (λ (x : P). IsNewDomain m.words config (may x) i (get_or domains i d)) (sym allows) (new i (omega (arith, within, count)) d)))))
+
+-- the first part is that of the domain at the first position
+pub begins_first : {P : Type 0} (m : Monitor P) (config : Config) (parts : List DomainPart) → map (λ (x : DomainPart). x.dom) parts ≡ map (λ (x : DomainConfig). x.id) config.domains.items → m.config ≡ config → BeginsFirst m.words parts
+begins_first m config [] same is = tt
+begins_first m config (p ∷ parts) same is =
+    let ids : m.words.layout.ids ≡ p.dom ∷ map (λ (x : DomainPart). x.dom) parts =
+    ap (λ (k : Layout). k.ids) m.same_run ∙ ap (λ (x : Config). map (λ (y : DomainConfig). y.id) x.domains.items) is ∙ sym same in
+    sym (own_position m.config m.words.layout m.words.layout.ids 0 p.dom (sym m.same_run) m.limits.distinct (ap (λ (k : Layout). k.ids) m.same_run) (omega (arith, ap length ids)) (ap (λ (l : List DomId). id_at l 0) ids))

@@ -1,5 +1,5 @@
 -- What the lines of a list come to, one after the other.
-use Rattle.std.proofs.Common.{◌≡◌, ◌⊎◌, ◌++◌, ◌==◌, ℕ, ◌+◌, ◌<◌, Bool, true, false, List, [], ◌∷◌, take, length, map}
+use Rattle.std.proofs.Common.{◌≡◌, ◌++◌, ◌==◌, ℕ, ◌+◌, ◌<◌, Bool, true, false, List, [], ◌∷◌, take, length}
 use Rattle.std.proofs.Common.{get_or, Option, None, Some, Result, Ok, Err, IfOk, IsTrue, refl, sym, subst, ap, ◌∙◌}
 use Rattle.std.proofs.Common.{add-one, inl, inr}
 use Rattle.std.specs.Prelude.{IsOk, is_some}
@@ -16,7 +16,7 @@ use Rattle.gt_live.specs.Domains.{AllowRelation}
 use Rattle.gt_live.specs.declared.domain.Domain.{Domain}
 use Rattle.gt_script.specs.Lists.{RunAction, RunTask}
 use Rattle.gt_script.specs.declared.tasks.RunActionBy.TheVariants.{Do, Tell, Await}
-use Rattle.gt_run.specs.Serving.{Calls, DoesDeed, DoesWhere, HasCome, IsAwait, IsKeptAt, IsReady, TellsOutcomes}
+use Rattle.gt_run.specs.Serving.{Calls, DoesDeed, DoesWhere, HasCome, IsAwait, IsReady, TellsOutcomes}
 use Rattle.gt_run.specs.Serving.{ListLeadsTo}
 use Rattle.gt_run.specs.Serving.{ListProgress, Serves, ServesSome, StartsTold, answer_lines, list_start, counted}
 use Rattle.gt_run.specs.Serving.{gate_line}
@@ -111,6 +111,7 @@ unfolding IsAwait
 gate_stops may items duty d true true i l (Ok v) old new e labels t flag within is own awaits line_is (q, leads, kept, prints) more same =
     record {
       left = q;
+      domain = kept.domain;
       number = i;
       leads = leads;
       last = gate_line l.line duty.part.dom;
@@ -136,6 +137,7 @@ pub list_ends : {P : Type 0} (may : P → AllowRelation) (duty : ThreadJob P) (d
 list_ends may duty d true i text e labels t all (q, leads, kept, prints) =
     record {
       left = q;
+      domain = kept.domain;
       number = i;
       leads = leads;
       last = [];

@@ -1,6 +1,6 @@
 -- The requests of a running domain, and their answers.
 use Rattle.std.specs.Prelude.{◌≡◌, ℕ, List, Result, Ok, Err, OnOk, OnErr}
-use Rattle.gt_run.specs.Prelude.{Size, Denial, Copying, Reading, Writing, Handle, Tells, Hypercall, HeldPin}
+use Rattle.gt_run.specs.Prelude.{Size, Denial, Copying, Reading, Writing, Handle, Tells, HeldPin}
 use Rattle.gt_run.specs.Prelude.{Request, Answer, Domain, Monitor, IsCopiedBy, IsReadBy, IsWrittenBy}
 use Rattle.gt_run.specs.Prelude.{Accesses, Answered, KeepsPinned, MapAnswered, AllowRelation, mapping_reply}
 use Rattle.gt_run.specs.Prelude.{subject_of, told_copy, told_of, verdict_of, verdict_of_frames, verdict_of_size}
@@ -14,6 +14,10 @@ use Rattle.gt_core.specs.declared.trace.Answer.TheVariants as answers
 pub record Stand (P : Type 0) : Type 0 where
   pub monitor : Monitor P
   pub domain : Domain
+
+-- the same domain on the same monitor, whatever it did in between
+abbrev pub IsSameStand : {P : Type 0} → Stand P → Stand P → Type 0
+IsSameStand s t = (t.monitor ≡ s.monitor) × (t.domain.seat.dom ≡ s.domain.seat.dom)
 
 -- the answer of a call that gives no value
 abbrev pub plain_answer : {R : Type 0} → Result R Denial → Answer

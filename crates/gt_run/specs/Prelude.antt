@@ -18,12 +18,13 @@ pub use Rattle.gt_host.specs.Runs.{SaysRequest, Named, handle_given, label_given
 pub use Rattle.gt_host.specs.declared.labels.Labels.{Labels}
 pub use Rattle.gt_script_lines.specs.declared.calls.ScriptCall.{ScriptCall}
 pub use Rattle.gt_live.specs.Accesses.{IsCopiedBy, IsReadBy, IsWrittenBy}
-pub use Rattle.gt_live.specs.Domains.{Accesses, AllowRelation, Answered, BelongsTo, KeepsPinned, MapAnswered}
+pub use Rattle.gt_live.specs.Domains.{Accesses, AllowRelation, Answered, BelongsTo, HasLeft, KeepsPinned, MapAnswered}
 pub use Rattle.gt_live.specs.Domains.{mapping_reply}
 pub use Rattle.gt_live.specs.Domains.{subject_of, told_copy, told_of, verdict_of, verdict_of_frames, verdict_of_size}
 pub use Rattle.gt_live.specs.Domains.{verdict_of_version}
 pub use Rattle.gt_live.specs.Mappings.{Removes}
 pub use Rattle.gt_live.specs.Starting.{IsNewDomain}
+pub use Rattle.gt_live.specs.declared.domain.Departed.{Departed}
 pub use Rattle.gt_live.specs.declared.domain.Domain.{Domain}
 pub use Rattle.gt_live.specs.declared.monitor.Monitor.{Monitor}
 pub use Rattle.gt_run.specs.declared.lists.ThreadJob.{ThreadJob}

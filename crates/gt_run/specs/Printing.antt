@@ -1,10 +1,17 @@
 -- The output of all lists of a run.
 use Rattle.std.specs.Prelude.{◌≡◌, ◌⊎◌, ◌++◌, ℕ, Bool, true, false, List, [], ◌∷◌, map, All, Option, IfOk, is_some}
+use mathlib.Core.Option.{some}
+use lib.ListN.{get_elem?}
 use Rattle.std.specs.List.{flat_map, sum_by}
 use Rattle.std.specs.Io.KnownBytes.{Appends}
 use Rattle.std.specs.declared.thread.PromisedHandle.{PromisedHandle}
 use Rattle.gt_audit.specs.Lines.{lost_text}
+use Rattle.gt_word_history.specs.Prelude.{State}
+use Rattle.gt_word_history.specs.Rule.{Shows}
+use Rattle.gt_word_history.specs.declared.view.View.{View}
+use Rattle.gt_words.specs.Conditions.{IsSeatOf}
 use Rattle.gt_live.specs.Domains.{AllowRelation}
+use Rattle.gt_live.specs.declared.domain.Departed.{Departed}
 use Rattle.gt_live.specs.declared.monitor.Monitor.{Monitor}
 use Rattle.gt_text.specs.Streams.{AppendsBeginning}
 use Rattle.gt_run.specs.declared.lists.ThreadJob.{ThreadJob}
@@ -12,15 +19,31 @@ use Rattle.gt_run.specs.declared.lists.DomainPart.{DomainPart}
 use Rattle.gt_run.specs.declared.serving.Output.{Output}
 use Rattle.gt_run.specs.Serving.{IsBegun, IsServed, ListOutcome, audit_lines, counted, lost_in}
 
--- a list that was served, the outcomes of its calls, and what it printed
+-- a list that was served, the outcomes of its calls, what it printed, and what its domain left behind
 pub record Served (P : Type 0) : Type 0 where
   pub duty : ThreadJob P
   pub outcomes : List ListOutcome
   pub text : List ℕ
+  pub departed : Departed
+
+-- the list was served
+abbrev pub WasServed : {P : Type 0} → (P → AllowRelation) → Served P → Type 0
+WasServed may s = IsServed may s.duty s.outcomes s.text s.departed
 
 -- each of these lists was served
 abbrev pub AreServed : {P : Type 0} → (P → AllowRelation) → List (Served P) → Type 0
-AreServed may all = All (λ s. IsServed may s.duty s.outcomes s.text) all
+AreServed may all = All (WasServed may) all
+
+-- the domain of the list has in this state the view with which it left
+abbrev pub HasViewIn : {P : Type 0} → State (Unit {0}) View → Served P → Type 0
+HasViewIn s x = get_elem? s.views x.departed.seat.view.position ≡ some x.departed.seat.view
+
+-- words and views show one state, in which the domain of each of these lists has the view with which it left: so the
+-- steps of all of them have one order
+abbrev pub ShowOneState : {P : Type 0} → List (Served P) → Type 0
+ShowOneState [] = Unit {0}
+ShowOneState (x ∷ xs) =
+    (s : State (Unit {0}) View) × Shows x.duty.monitor.now.words.layout s × All (HasViewIn s) (x ∷ xs)
 
 -- the jobs of these lists
 abbrev pub duties_in : {P : Type 0} → List (Served P) → List (ThreadJob P)
@@ -46,13 +69,17 @@ run_text all = texts_in all ++ (audits_in all ++ lost_text (counted (all_lost al
 -- those of the outcomes of its calls; or its text is that of some first lines
 abbrev pub CameBy : {P : Type 0} → Bool → (P → AllowRelation) → ThreadJob P → Output → Type 0
 CameBy true may duty o =
-    (outcomes : List ListOutcome) × IsServed may duty outcomes o.text.items
+    (outcomes : List ListOutcome) × IsServed may duty outcomes o.text.items o.left
     × IfOk o.audit (λ audit. audit.items ≡ audit_lines duty.part.types.now outcomes)
     × (o.lost ≡ counted (lost_in outcomes))
 CameBy false may duty o = IsBegun may duty o.text.items
 
+-- the job's domain left this seat
+abbrev pub LeavesSeat : {P : Type 0} → ThreadJob P → Departed → Type 0
+LeavesSeat duty l = IsSeatOf duty.monitor.now.words l.seat × (l.seat.dom ≡ duty.part.dom)
+
 abbrev pub IsOutputOf : {P : Type 0} → (P → AllowRelation) → ThreadJob P → Output → Type 0
-IsOutputOf may duty o = CameBy o.whole may duty o
+IsOutputOf may duty o = CameBy o.whole may duty o × LeavesSeat duty o.left
 
 -- the jobs of these parts, in their order, all over this monitor, and with a log or without
 abbrev pub AreDuties : {P : Type 0} → Monitor P → Bool → List DomainPart → List (ThreadJob P) → Type 0
@@ -64,10 +91,11 @@ abbrev pub WritesLists : {P : Type 0} → (P → AllowRelation) → List (Thread
     → Option (List ℕ) → Type 0
 WritesLists may duties all old new = (duties_in all ≡ duties) × AreServed may all × Appends old new (texts_in all)
 
--- the lists of these jobs were served, and their whole text went out
+-- the lists of these jobs were served, their whole text went out, and words and views show one state of all domains
 abbrev pub WritesAll : {P : Type 0} → (P → AllowRelation) → List (ThreadJob P) → Option (List ℕ) → Option (List ℕ) → Type 0
 WritesAll {P} may duties old new =
-    (all : List (Served P)) × (duties_in all ≡ duties) × AreServed may all × Appends old new (run_text all)
+    (all : List (Served P)) × (duties_in all ≡ duties) × AreServed may all × ShowOneState all
+    × Appends old new (run_text all)
 
 -- what follows those lists that printed all: nothing, or what some first lines of the next list printed
 abbrev pub PrintsOn : {P : Type 0} → (P → AllowRelation) → List (ThreadJob P) → List ℕ → Type 0

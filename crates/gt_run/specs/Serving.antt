@@ -1,13 +1,12 @@
 -- The run of a domain's list: a call for each of its lines, one after the other.
 use Rattle.std.specs.Prelude.{◌≡◌, ◌⊎◌, ◌++◌, ◌+◌, ◌==◌, ◌^◌, ◌-◌, ℕ, Bool, true, false, List, [], ◌∷◌, length, map}
 use Rattle.std.specs.Prelude.{min, take, codes, Option, None, Some, is_some, slice_get}
-use Rattle.gt_run.specs.Prelude.{AllZip, flat_map, sum_by, DomId, type_text, line_text, Telling, Tells, Record, asked}
+use Rattle.gt_run.specs.Prelude.{AllZip, flat_map, sum_by, DomId, type_text, line_text, Telling, Record, asked}
 use Rattle.gt_run.specs.Prelude.{Request, Answer, hypercall_of_request, encoded_record, AreNamed, answer_line, call_text, Named}
 use Rattle.gt_run.specs.Prelude.{handle_given, label_given, with_name, SaysRequest, Labels, ScriptCall, AllowRelation}
-use Rattle.gt_run.specs.Prelude.{subject_of, IsNewDomain, Domain, Monitor, RunAction, Do, Tell, Await, RunTask, ThreadJob, DomainPart}
+use Rattle.gt_run.specs.Prelude.{subject_of, HasLeft, IsNewDomain, Departed, Domain, Monitor, RunAction, Do, Tell, Await, RunTask, ThreadJob, DomainPart}
 use Rattle.gt_run.specs.Prelude.{TrailLogger}
 use Rattle.gt_run.specs.Asking.{Asks, Stand}
-use Rattle.gt_run.specs.Telling.{LogsTrail}
 
 -- calls
 
@@ -136,9 +135,9 @@ abbrev pub EndsList : DomId → List RunTask → ℕ → List ℕ → Type 0
 EndsList dom tasks number last = ((number ≡ length tasks) × (last ≡ [])) ⊎ Stops dom tasks number last
 
 -- The list of the job was served to its end, from a domain that had done nothing. Its calls had these outcomes. It
--- printed the lines of their answers, and the line of its gate if that ended it.
+-- printed the lines of their answers, and the line of its gate if that ended it. Then the domain left.
 pub record IsServed {P : Type 0} (may : P → AllowRelation) (duty : ThreadJob P) (outcomes : List ListOutcome)
-    (text : List ℕ) : Type 0 where
+    (text : List ℕ) (departed : Departed) : Type 0 where
   pub domain : Domain
   pub first : IsFirst may duty.monitor.now duty.part.dom domain
   pub number : ℕ
@@ -148,6 +147,7 @@ pub record IsServed {P : Type 0} (may : P → AllowRelation) (duty : ThreadJob P
   pub last : List ℕ
   pub ends : EndsList duty.part.dom duty.part.tasks.now number last
   pub prints : text ≡ answer_lines duty.part.types.now duty.part.dom outcomes ++ last
+  pub leaves : HasLeft duty.monitor.now.words.layout left.domain departed
 
 -- some first lines of the job's list were served from a domain that had done nothing, and this is what their calls
 -- printed
@@ -205,6 +205,7 @@ StartsTold duty d teller =
 pub record ServesAll {P : Type 0} (may : P → AllowRelation) (duty : ThreadJob P) (d : Domain) (text : List ℕ) (e : Domain)
     (teller : Option TrailLogger) : Type 0 where
   pub left : ListProgress
+  pub domain : left.domain ≡ e
   pub number : ℕ
   pub leads : ListLeadsTo may duty (list_start d) (take number duty.part.tasks.now) left
   pub last : List ℕ

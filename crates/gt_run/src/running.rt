@@ -76,7 +76,8 @@ fn copied(answer: Result<Copied, Denial>) -> Answer
 }
 
 impl<'m, P: Allows> RunningDomain<'m, P> {
-    ghost use Rattle.gt_live.specs.Domains.{BelongsTo};
+    ghost use Rattle.gt_words.specs.Conditions.{IsSeatOf};
+    ghost use Rattle.gt_live.specs.Domains.{BelongsTo, HasLeft};
     ghost use Rattle.gt_run.specs.Asking.{Asks};
 
     /// Pairs a domain with its monitor.
@@ -94,9 +95,10 @@ impl<'m, P: Allows> RunningDomain<'m, P> {
         self.domain.trail()
     }
 
-    /// Leaves the run.
+    /// Leaves the run: releases each mapping with its pin.
     pub fn finish(self) -> Departed
-        ensures { result.trail ≡ self.entry.domain.trail }
+        ensures left { HasLeft self.entry.monitor.words.layout self.entry.domain result }
+        ensures seat { IsSeatOf self.entry.monitor.words result.seat }
     {
         let RunningDomain { monitor, domain } = self;
         domain.finish(monitor)

@@ -1,5 +1,6 @@
 //! One domain's list, from its first line to its last.
 ghost use Rattle.std.specs.Prelude.{◌≡◌, ◌++◌, [], false, IfOk, IsOk, IsTrue};
+ghost use Rattle.gt_run.specs.Asking.{IsSameStand};
 ghost use Rattle.gt_run.specs.Printing.{IsOutputOf};
 ghost use Rattle.gt_run.specs.Serving.{gate_line, Calls, IsReady, Makes, Serves, StartsTold};
 
@@ -9,6 +10,7 @@ use crate::running::RunningDomain;
 use crate::telling::{TrailLogger, tell_next, teller_for};
 use gt_core::Answer;
 use gt_host::{Labels, call_bytes, label_given, name_mapping, push_answer_line, request_of};
+use gt_live::Departed;
 use gt_script::RunAction;
 use gt_script_lines::ScriptCall;
 use gt_text::{push_number, push_text};
@@ -27,6 +29,8 @@ pub struct Output {
     pub audit: Result<Vec<u8>, Memory>,
     /// The number of its records that were lost. It is 0 if no log was given.
     pub lost: u64,
+    /// What the domain left behind when it was finished.
+    pub left: Departed,
 }
 
 // Makes the call of a line. A map that is answered Ok gives its handle to its label.
@@ -39,7 +43,7 @@ fn make_call<'a, R: Wait, P: Allows>(
     call: &ScriptCall<'a>,
 ) -> Result<Answer, AllocError>
     requires { domain.old.monitor ≡ duty.now.monitor.now }
-    ensures monitor { domain.new.monitor ≡ domain.old.monitor }
+    ensures same { IsSameStand domain.old domain.new }
     ensures made { IfOk result
         (Makes P.may duty.now call.now domain.old.domain domain.new.domain labels.old labels.new) }
 {
@@ -68,7 +72,7 @@ fn call_line<'a, R: Wait, P: Allows>(
     at: CallLine<'_, 'a>,
 ) -> Result<Vec<u8>, AllocError>
     requires { domain.old.monitor ≡ duty.now.monitor.now }
-    ensures monitor { domain.new.monitor ≡ domain.old.monitor }
+    ensures same { IsSameStand domain.old domain.new }
     ensures calls { IfOk result (λ text. Calls P.may duty.now at.entry.line at.entry.call.now
         domain.old.domain domain.new.domain labels.old labels.new teller.old teller.new text.items) }
 {
@@ -125,7 +129,8 @@ fn serve<'a, R: Wait, P: Allows, G: Gate>(
     requires monitor { domain.old.monitor ≡ duty.monitor.now }
     requires told { StartsTold duty domain.old.domain teller.old }
     requires text { text.old.items ≡ [] }
-    ensures { Serves P.may duty.entry domain.old.domain result text.new.items domain.new.domain teller.new }
+    ensures same { IsSameStand domain.old domain.new }
+    ensures served { Serves P.may duty.entry domain.old.domain result text.new.items domain.new.domain teller.new }
 {
     let mut labels = Labels::new(alloc);
     let mut whole = true;
@@ -166,29 +171,28 @@ pub fn work<'a, R: Wait, P: Allows, G: Gate>(
 {
     let mut domain = domain;
     let types = duty.part.types;
-    let mut output = Output {
-        text: Vec::new(alloc),
-        whole: false,
-        audit: Ok(Vec::new(alloc)),
-        lost: 0,
-    };
+    let mut text = Vec::new(alloc);
     if !*start.wait(rt) {
-        return output;
+        return Output {
+            text,
+            whole: false,
+            audit: Ok(Vec::new(alloc)),
+            lost: 0,
+            left: domain.finish(),
+        };
     }
     let mut teller = teller_for(alloc, duty.log, duty.part.dom);
-    output.whole = serve(
-        rt,
-        alloc,
-        &mut domain,
-        duty,
-        &mut teller,
-        gate,
-        &mut output.text,
-    );
+    let whole = serve(rt, alloc, &mut domain, duty, &mut teller, gate, &mut text);
     let left = domain.finish();
-    if let Some(teller) = teller {
-        output.audit = teller.audit(alloc, types);
-        output.lost = teller.lost(&left);
+    let (audit, lost) = match teller {
+        Some(teller) => (teller.audit(alloc, types), teller.lost(&left)),
+        None => (Ok(Vec::new(alloc)), 0),
+    };
+    Output {
+        text,
+        whole,
+        audit,
+        lost,
+        left,
     }
-    output
 }

@@ -8,7 +8,9 @@ ghost use Rattle.gt_audit.specs.Lines.{lost_text};
 ghost use Rattle.gt_live.specs.Domains.{BelongsTo};
 ghost use Rattle.gt_text.specs.Streams.{AppendsBeginning};
 ghost use Rattle.gt_run.specs.Faults.{run_out_of_memory};
-ghost use Rattle.gt_run.specs.Joining.{IsLate, Joins, WritesNext, WroteStarted, run_fault_of};
+ghost use Rattle.gt_run.specs.Joining.{AreGathered, AreOfThisRun, AreOnRun, BeginsFirst, IsLate, IsTakenIn};
+ghost use Rattle.gt_run.specs.Joining.{JoinsWhere, MayTakeIn, ShowTogether, WritesNext, WroteStarted};
+ghost use Rattle.gt_run.specs.Joining.{run_fault_of, views_in};
 ghost use Rattle.gt_run.specs.declared.threads.ThreadRefusal.TheVariants as refusals;
 ghost use Rattle.gt_run.specs.Printing.{AreDuties, IsOutputOf, promised};
 ghost use Rattle.gt_run.specs.Runs.{AreUnder, Wrote};
@@ -20,9 +22,10 @@ use crate::lists::{DomainPart, RunContext, ThreadJob};
 use crate::running::RunningDomain;
 use crate::serving::{Output, work};
 use gt_audit::push_lost;
-use gt_live::{Domain, Monitor};
+use gt_live::{Departed, Domain, Monitor};
 use gt_text::{finish, write_text};
 use gt_types::{Allows, Config, Memory, StartFault};
+use gt_words::Gathered;
 use std::alloc::{AllocFailed, Global};
 use std::io::Write;
 use std::sync::{OnceLock, Wait};
@@ -151,12 +154,14 @@ fn start_each<'s, 'a, E, R: Wait + Sync, P: Allows + Sync, G: Gate + Sync>(
     }
 }
 
-// The result of joining: the outcome, the audit lines of the domains, and the number of lost records.
+// The result of joining: the outcome, the audit lines of the domains, the number of lost records, and what the domains
+// left behind.
 #[derive(Drop)]
 struct Joined {
     outcome: Result<(), RunFault>,
     audit: Vec<u8>,
     lost: u64,
+    gathered: Option<Gathered>,
 }
 
 // Writes the text of a domain's list, whole or a prefix of it, if all went well before.
@@ -193,29 +198,65 @@ fn keep_audit(
     Ok(())
 }
 
+// Adds what a domain left behind to what was gathered. The first domain's comes first.
+fn take_in<P: Allows>(monitor: &Monitor<P>, gathered: Option<Gathered>, left: Departed) -> Gathered
+    requires { MayTakeIn monitor.now.words gathered left }
+    ensures { IsTakenIn monitor.now.words gathered left result }
+{
+    match gathered {
+        Some(mut all) => {
+            monitor.gather_more(&mut all, left);
+            all
+        }
+        None => monitor.gather(left),
+    }
+}
+
 // Joins all threads in their order. Writes the lines of each domain as it is joined, unless something failed before.
+// Gathers what the domains left behind.
 fn join_each<'s, 'a, R: Threads, P: Allows, W: Write>(
     rt: &R,
     alloc: Global,
+    monitor: &Monitor<P>,
     handles: Vec<PromisedHandle<Output, ThreadJob<'s, 'a, P>>>,
     writer: &mut W,
 ) -> Joined
-    ensures { Joins P.may (promised handles.entry.items) result.audit.items result.lost
-        (W.contents writer.old) (W.contents writer.new) result.outcome }
+    requires { AreOnRun monitor.now (promised handles.items) }
+    ensures joins { JoinsWhere (AreGathered (views_in result.gathered)) P.may (promised handles.entry.items)
+        result.audit.items result.lost (W.contents writer.old) (W.contents writer.new) result.outcome }
+    ensures run { AreOfThisRun monitor.now.words result.gathered }
 {
     let mut outcome = Ok(());
     let mut audit = Vec::new(alloc);
     let mut lost: u64 = 0;
+    let mut gathered = None;
     'joins: for handle in handles {
         let output = handle.join(rt);
         outcome = write_next(outcome, writer, &output);
         lost = lost.saturating_add(output.lost);
-        outcome = keep_audit(outcome, &mut audit, output.audit);
+        let Output {
+            audit: lines,
+            left,
+            ..
+        } = output;
+        outcome = keep_audit(outcome, &mut audit, lines);
+        gathered = Some(take_in(monitor, gathered, left));
     }
     Joined {
         outcome,
         audit,
         lost,
+        gathered,
+    }
+}
+
+// Loads one word with all gathered seats, if there are any: then words and views show one state of all domains.
+fn tell_of_all<P: Allows>(monitor: &Monitor<P>, gathered: Option<Gathered>)
+    requires { AreOfThisRun monitor.now.words gathered }
+    ensures { ShowTogether monitor.now.words.layout (views_in gathered) }
+{
+    if let Some(mut all) = gathered {
+        monitor.tell_of_all(&mut all);
     }
 }
 
@@ -263,13 +304,15 @@ fn take_back<W>(writer: &mut W)
 fn write_each<'s, 'a, R: Threads, P: Allows, W: Write>(
     rt: &R,
     alloc: Global,
-    handles: Vec<PromisedHandle<Output, ThreadJob<'s, 'a, P>>>,
-    refused: Option<ThreadRefusal>,
+    monitor: &Monitor<P>,
+    started: Started<'s, 'a, P>,
     writer: &mut W,
 ) -> Result<(), RunFault>
-    ensures { WroteStarted P.may refused (promised handles.entry.items)
+    requires { (started.refused ≡ None) → AreOnRun monitor.now (promised started.handles.items) }
+    ensures { WroteStarted P.may started.entry.refused (promised started.entry.handles.items)
         (W.contents writer.old) (W.contents writer.new) result }
 {
+    let Started { handles, refused } = started;
     if let Some(refusal) = refused {
         join_idle(rt, handles);
         return Err(RunFault::from(refusal));
@@ -278,7 +321,9 @@ fn write_each<'s, 'a, R: Threads, P: Allows, W: Write>(
         outcome,
         audit,
         lost,
-    } = join_each(rt, alloc, handles, writer);
+        gathered,
+    } = join_each(rt, alloc, monitor, handles, writer);
+    tell_of_all(monitor, gathered);
     outcome?;
     write_audit(alloc, writer, audit.as_slice(), lost)
 }
@@ -293,7 +338,8 @@ pub fn run_each<'a, R: Threads + Wait + Sync, P: Allows + Sync, G: Gate + Sync, 
     parts: &[DomainPart<'_, 'a>],
     writer: &mut W,
 ) -> Result<(), RunFault>
-    requires { AreReady P.may monitor.now domains.items parts.now }
+    requires ready { AreReady P.may monitor.now domains.items parts.now }
+    requires first { BeginsFirst monitor.now.words parts.now }
     ensures { Wrote P.may (AreDuties monitor.now (is_some context.now.log) parts.now)
         (W.contents writer.old) (W.contents writer.new) result }
 {
@@ -304,16 +350,15 @@ pub fn run_each<'a, R: Threads + Wait + Sync, P: Allows + Sync, G: Gate + Sync, 
         thread::scope_env(),
         rt,
         move |scope| -> ReturnedWriter<'_, W>
-            requires { AreReady P.may monitor.now domains.items parts.now }
+            requires ready { AreReady P.may monitor.now domains.items parts.now }
+            requires first { BeginsFirst monitor.now.words parts.now }
             ensures same { result.writer.ghost_name ≡ writer.entry.ghost_name }
             ensures text { Wrote P.may (AreDuties monitor.entry.now (is_some context.entry.now.log) parts.entry.now)
                 (W.contents writer.entry.now) (W.contents result.writer.now) result.outcome }
         {
-            let Started { handles, refused } = start_each(
-                scope, context, monitor, domains, parts, start,
-            );
-            let _ = start.try_set(refused.is_none());
-            let outcome = write_each(rt, alloc, handles, refused, writer);
+            let started = start_each(scope, context, monitor, domains, parts, start);
+            let _ = start.try_set(started.refused.is_none());
+            let outcome = write_each(rt, alloc, monitor, started, writer);
             ReturnedWriter { writer, outcome }
         },
     );

@@ -1,4 +1,4 @@
-use Rattle.std.proofs.Common.{◌≡◌, ◌+◌, ◌<◌, ◌≤◌, ℕ, [], length, All}
+use Rattle.std.proofs.Common.{◌≡◌, ◌+◌, ◌<◌, ◌≤◌, ℕ, length, All}
 use Rattle.std.specs.Prelude.{HoldsAt, vec_capacity}
 use Rattle.gt_words.specs.Answers.{IsNewSeat}
 use Rattle.gt_live.specs.Starting.{first_rows, IsNewDomain}

@@ -1,4 +1,4 @@
-use Rattle.std.proofs.Common.{◌≡◌, ◌∙◌, ℕ, List, Option, ap, subst}
+use Rattle.std.proofs.Common.{◌∙◌, ℕ, List, Option, subst}
 use Rattle.gt_live.specs.declared.monitor.Monitor.{Monitor}
 use Rattle.gt_run.specs.Asking.{Asks}
 use Rattle.gt_run.specs.Prelude.{AreNamed, handle_given, with_name}

@@ -1,8 +1,7 @@
-use Rattle.std.proofs.Common.{◌≡◌, ◌++◌, ◌∷◌, [], map, sym, ap, subst, ◌∙◌, append_assoc, arith, All}
+use Rattle.std.proofs.Common.{subst, arith, All}
 use Rattle.std.proofs.lemmas.List.Elements.{All-head, All-tail}
 use Rattle.std.specs.Vec.Iter.{into_iter_items}
 use Rattle.gt_live.specs.Domains.{BelongsTo}
-use Rattle.gt_live.specs.declared.domain.Domain.{Domain}
 use Rattle.gt_run.proofs.DutyLemmas.{stands_on}
 use Rattle.gt_run.proofs.threads.all_running.Goals as goal
 

@@ -1,9 +1,7 @@
-use Rattle.std.proofs.Common.{◌+◌, ◌++◌, ◌≤◌, ◌≡◌, vec_len, map, All, length}
+use Rattle.std.proofs.Common.{◌+◌, ◌++◌, ◌≤◌, ◌≡◌, vec_len, map, All}
 use Rattle.std.specs.Prelude.{vec_capacity}
 use Rattle.std.specs.Vec.Iter.{into_iter_items, into_iter_len}
-use Rattle.gt_live.specs.declared.domain.Domain.{Domain}
 use Rattle.gt_live.specs.Domains.{BelongsTo}
-use Rattle.gt_run.specs.Asking.{Stand}
 use Rattle.gt_run.proofs.threads.all_running.Given as goal
 
 abbrev pub invariant-rest : goal.invariant-rest

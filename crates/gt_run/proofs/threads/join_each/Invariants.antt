@@ -1,7 +1,9 @@
-use Rattle.gt_run.specs.Joining.{Joins}
+use Rattle.std.proofs.Common.{◌≡◌, None, []}
+use Rattle.gt_run.specs.Joining.{AreGathered, AreOfThisRun, JoinsWhere, views_in}
 use Rattle.gt_run.specs.Printing.{promised}
 use Rattle.gt_run.proofs.threads.join_each.Given as goal
 
 abbrev pub invariant-joins : goal.invariant-joins
 invariant-joins g l =
-    Joins g.P.Allows.may (promised l.yielded) l.audit.items l.lost (g.W.Write.contents l.initial.writer) (g.W.Write.contents l.writer) l.outcome
+    JoinsWhere (AreGathered (views_in l.gathered)) g.P.Allows.may (promised l.yielded) l.audit.items l.lost (g.W.Write.contents l.initial.writer) (g.W.Write.contents l.writer) l.outcome
+    × AreOfThisRun l.monitor.words l.gathered × ((l.gathered ≡ None) → l.yielded ≡ [])

@@ -1,5 +1,5 @@
 use Rattle.std.proofs.lemmas.Result.{err_from_is_err_and}
-use Rattle.gt_run.proofs.DutyLemmas.{ready_all, wrote_as, wrote_none}
+use Rattle.gt_run.proofs.DutyLemmas.{begins_first, ready_all, wrote_as, wrote_none}
 use Rattle.gt_run.proofs.threads.run_lists.Goals as goal
 
 pub run_each-requires : goal.run_each-requires
@@ -9,8 +9,11 @@ run_each-requires g c = (
     c.type_bounds.sync-P,
     (
       c.type_bounds.sync-G,
-      ready_all g.P.Allows.may c.in-Ok.monitor c.args.config c.args.rights c.in-Ok.domains.items _ _ c.requires.each c.in-Ok.ensures.run.0 c.in-Ok.ensures.run.1 c.in-Ok.ensures.count
-          c.in-Ok.ensures.domains c.in_ok-domains-in-Ok.ensures,
+      (
+        ready_all g.P.Allows.may c.in-Ok.monitor c.args.config c.args.rights c.in-Ok.domains.items _ _ c.requires.each c.in-Ok.ensures.run.0 c.in-Ok.ensures.run.1 c.in-Ok.ensures.count
+            c.in-Ok.ensures.domains c.in_ok-domains-in-Ok.ensures,
+        begins_first c.in-Ok.monitor c.args.config _ c.requires.each c.in-Ok.ensures.run.0,
+      ),
     ),
   ),
 )

@@ -1,4 +1,4 @@
-use Rattle.std.proofs.Common.{◌≡◌, ◌+◌, ◌≤◌, ◌∙◌, ap, arith, refl, subst, sym, [], ◌∷◌, ◌++◌, length, length-append, ℕ, true, false}
+use Rattle.std.proofs.Common.{◌≡◌, ◌+◌, ◌≤◌, ◌∙◌, arith, refl, sym, [], ◌∷◌, ◌++◌, length-append}
 use Rattle.std.specs.List.{count_by}
 use Rattle.gt_types.specs.declared.limits.TheConstants.{TABLE_ENTRIES}
 use Rattle.gt_live.specs.Closing.{is_in_use}

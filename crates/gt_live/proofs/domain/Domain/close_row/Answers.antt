@@ -1,4 +1,4 @@
-use Rattle.std.proofs.Common.{◌≡◌, ◌∙◌, ap, inl, inr, refl, subst, sym, List, ℕ}
+use Rattle.std.proofs.Common.{◌≡◌, ◌∙◌, ap, subst, List}
 use Rattle.std.specs.Prelude.{slice_get}
 use Rattle.gt_types.specs.declared.DomId.{DomId}
 use Rattle.gt_words.specs.Conditions.{IsWordOf}
@@ -8,7 +8,7 @@ use Rattle.gt_calls.specs.declared.known.OwnerEntry.{OwnerEntry}
 use Rattle.gt_calls.specs.declared.action.Observation.TheVariants.{Word}
 use Rattle.gt_calls.specs.declared.action.Step.TheVariants.{LookControl}
 use Rattle.gt_live.specs.Walks.{Made}
-use Rattle.gt_live.proofs.Closing.{goes-self, goes-then, quiet-then, shut-within, valid-used}
+use Rattle.gt_live.proofs.Closing.{goes-self, quiet-then, shut-within, valid-used}
 use Rattle.gt_live.proofs.domain.Domain.close_row.Goals as goal
 
 pub returns : goal.returns

@@ -19,4 +19,5 @@ returns g c =
         records = e.silent;
         no_pins = without-pins m.words m.config (g.P.Allows.may m.rights) f e.mine e.all_given.count;
       };
+      seat = e.mine.seat;
     }

@@ -1,8 +1,8 @@
-use Rattle.std.proofs.Common.{◌≡◌, ◌<◌, ◌∙◌, ap, arith, inl, inr, refl, subst, sym, length, List, ℕ}
+use Rattle.std.proofs.Common.{◌∙◌, ap, arith, inl, inr, refl, List}
 use Rattle.std.specs.Prelude.{slice_get}
 use Rattle.gt_entry.specs.declared.change.EntryChange.TheVariants.{Withdraw}
 use Rattle.gt_calls.specs.declared.known.OwnerEntry.{OwnerEntry}
-use Rattle.gt_live.proofs.Closing.{called-goes, goes-self, goes-then, quiet-self, quiet-then, row-shut}
+use Rattle.gt_live.proofs.Closing.{goes-self, quiet-self, quiet-then, row-shut}
 use Rattle.gt_live.proofs.RowsKept.{row-other}
 use Rattle.gt_live.proofs.domain.Domain.withdraw_often.Goals as goal
 
