@@ -31,11 +31,11 @@ Made by \`tools/wrong_bodies_list.sh\` from the edits themselves; don't edit it.
 Each line is a body that the proofs refuse: an edit of a crate, and what it would do. The gate tries
 $(count must-fail) of them (\`must-fail/\`), those that a definition of meaning refuses. The other $(count wrong-bodies)
 (\`wrong-bodies/\`) are tried by \`tools/wrong_bodies.sh CRATE\`, which whoever changes a crate runs for it. Those of
-\`gt_roster\` and \`gt_commands\`, two of \`gt_c\`, three of \`gt_live\`, and the newest of the accesses and the
-program wait for such a run.
+\`gt_roster\` and \`gt_commands\`, two of \`gt_c\`, three of \`gt_live\`, and the newest of the program wait for
+such a run.
 
-A lock round the words of an entry can't be written as an edit: taking one asks for a bound \`Wait\`, and no
-signature of \`gt_words\` has it.
+A lock round the words of an entry can't be written as an edit: taking one asks for a bound \`Wait\`, and
+no call of \`gt_words\` on words has it.
 END
   for crate in $(crates); do
     for folder in must-fail wrong-bodies; do

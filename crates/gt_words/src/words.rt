@@ -38,7 +38,7 @@ pub(crate) struct DomainPosition {
     pub position: usize,
 }
 
-/// A domain's right to step on the words. Each domain of the run has one.
+/// A domain's right to step on the words and to access frames. Each domain of the run has one.
 #[derive(Drop)]
 pub struct Seat {
     pub(crate) place: TableSeat,
@@ -84,7 +84,7 @@ impl Seat {
     }
 }
 
-/// The words of all entries and headers of a run.
+/// The words of all entries and headers of a run, and its frames, unless the caller keeps them.
 #[derive(Drop)]
 pub struct Words {
     pub(crate) words: SharedTable,
