@@ -46,9 +46,9 @@ kept_on logged Told a b old new (Play Read) kept same = kept
 
 module _ (old new : Option (List ℕ)) (text : List ℕ) where
   relayed_text : (logged : Bool) (Told : Result RunContents Wrong → Type 0) (outcome answer : Result (Unit {0}) RunFault) → Ran logged Told (Some []) (Some text) outcome → Relays text outcome old new answer → Ran logged Told old new answer
-  relayed_text logged Told (Ok done) (Ok sent) (c, told, (duties, are, (all, is, served, whole))) went =
-      (c, told, (duties, are, (all, is, served, subst (λ (l : List ℕ). Appends old new l) whole went)))
-  relayed_text logged Told (Ok done) (Err fault) (c, told, (duties, are, (all, is, served, whole))) (wrote, begins) =
+  relayed_text logged Told (Ok done) (Ok sent) (c, told, (duties, are, (all, is, served, one, whole))) went =
+      (c, told, (duties, are, (all, is, served, one, subst (λ (l : List ℕ). Appends old new l) whole went)))
+  relayed_text logged Told (Ok done) (Err fault) (c, told, (duties, are, (all, is, served, one, whole))) (wrote, begins) =
       subst (λ (f : RunFault). Ran logged Told old new (Err f)) (sym wrote) (c, told, (duties, are, inr (all, is, served, subst (λ (l : List ℕ). AppendsBeginning old new l) whole begins)))
   relayed_text logged Told (Err why) (Ok sent) ran went = absurd went
   relayed_text logged Told (Err why) (Err fault) ran (inl memory, kept) = subst (λ (f : RunFault). Ran logged Told old new (Err f)) (sym memory) (inl kept)
