@@ -105,4 +105,4 @@ module _ (b : Board) (c : Config) (may : AllowRelation) (d : Domain) (mine : IsD
 pub leaving : LeavingIsUnmapping
 leaving b c may d l mine left may-unmap =
     let u = unmaps-each b c may d mine may-unmap left.handles left.rest l.seat.view left.released in
-    (u.calls, u.made, u.unmaps, ap (λ (z : Domain). z.seat.view) u.now)
+    (u.calls, u.made, u.unmaps, ap (λ (z : Domain). z.seat.view) u.now, λ h. ap (λ (z : Domain). value_of z.mappings h) u.now ∙ left.all_given h)

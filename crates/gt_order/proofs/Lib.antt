@@ -7,6 +7,10 @@ pub mod Counting
 pub mod DomainsAtRest
 pub mod Ending
 pub mod Ends
+pub mod Explored
+pub mod Following
+pub mod Happenings
+pub mod Held
 pub mod Leaving
 pub mod Listed
 pub mod Making

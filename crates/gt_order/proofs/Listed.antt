@@ -1,7 +1,9 @@
 -- The calls of a list are calls of a run, and the run of all lists has a legal order.
-use Rattle.std.proofs.Common.{Bor, ◌≡◌, inl, inr, ⊎_elim, ◌<◌, ◌==◌, nat_lt, ℕ, zero, suc, Bool, true, false, List, []}
-use Rattle.std.proofs.Common.{◌∷◌, ◌++◌, All, Some, get_or, length, map, Result, Ok, Err, refl, sym, ap, ◌∙◌, subst, arith}
-use Rattle.std.proofs.lemmas.List.{get_or-map, length-map}
+use Rattle.std.proofs.Common.{Bor, ◌≡◌, inl, inr, ◌<◌, ◌==◌, nat_lt, ℕ, zero, suc, Bool, true, false, List, []}
+use Rattle.std.proofs.Common.{◌∷◌, ◌++◌, All, None, Some, append_assoc, cond, get_or, length, map, Result, Ok, Err, refl, sym, ap, ◌∙◌, subst, arith}
+use Rattle.std.proofs.Math.Seq.{take-length}
+use Rattle.std.proofs.lemmas.Grind.{flat_map-append}
+use Rattle.std.proofs.lemmas.List.{append-nil, get_or-map, length-map}
 use Rattle.std.proofs.lemmas.List.Elements.{All-get_or, All-head}
 use Rattle.std.specs.Prelude.{slice_get, take}
 use Rattle.std.proofs.lemmas.Bool.Decides.{nat_tests}
@@ -19,12 +21,15 @@ use Rattle.gt_words.specs.Laws.{length-ids, own_position}
 use Rattle.gt_word_history.specs.Rule.{Shows, id_at}
 use Rattle.gt_word_history.specs.Views.{IsAmong}
 use Rattle.gt_word_history.specs.declared.view.View.{View}
+use Rattle.gt_handles.specs.Handles.{value_of}
 use Rattle.gt_handles.specs.declared.handles.Handle.{Handle}
 use Rattle.gt_calls.specs.declared.action.CallResult.{CallResult}
 use Rattle.gt_calls.specs.Asking.{asked, bytes_given_by}
 use Rattle.gt_calls.specs.declared.request.Request.{Request}
 use Rattle.gt_calls.specs.declared.request.Request.TheVariants as requests
-use Rattle.gt_core.specs.Acting.{answer_of}
+use Rattle.gt_core.specs.Acting.{answer_of, setting_of}
+use Rattle.gt_core.specs.History.{History as Items}
+use Rattle.gt_core.specs.Legal.{Legal}
 use Rattle.gt_core.specs.declared.trace.Answer.{Answer}
 use Rattle.gt_core.specs.declared.trace.Bytes.{Bytes}
 use Rattle.gt_core.specs.declared.trace.Answer.TheVariants as answers
@@ -37,27 +42,35 @@ use Rattle.gt_live.specs.Domains.{verdict_of_frames, verdict_of_size, verdict_of
 use Rattle.gt_live.specs.Ending.{IsOfMapping}
 use Rattle.gt_live.specs.Starting.{IsNewDomain}
 use Rattle.gt_live.specs.declared.domain.Domain.{Domain}
-use Rattle.gt_live.specs.declared.domain.Departed.{Departed}
 use Rattle.gt_live.specs.declared.monitor.Monitor.{Monitor}
 use Rattle.gt_order.proofs.Called.{map-made, plain-made, unmap-made}
+use Rattle.gt_order.proofs.Following.{Follows, answered-keeps, calls-both, follows-more, follows-none, gives-back}
+use Rattle.gt_order.proofs.Happenings.{happenings, happenings-both}
+use Rattle.gt_order.proofs.Held.{Keeps, keeps-new, keeps-none}
 use Rattle.gt_order.proofs.Leaving.{leaving}
 use Rattle.gt_order.proofs.Order.{runs-have-legal-orders}
 use Rattle.gt_order.proofs.Accessing.{copies-made, lost-made, reads-made, writes-made}
 use Rattle.gt_order.specs.Calling.{IsLoading, IsOutcomeOf, IsSingle, IsStoring, StaysOf, WasMade}
-use Rattle.gt_order.specs.Leaving.{MayUnmapAll}
+use Rattle.gt_order.specs.Explored.{AreCallLines, HasNoneLost, IsCallLine, IsNotLost}
+use Rattle.gt_order.specs.Leaving.{AreUnmaps}
+use Rattle.gt_order.specs.Ordering.{IsLegalOrder, events_of, items_by, items_of_calls, trace_of}
 use Rattle.gt_order.specs.Runs.{AreCalls, CallMade, FitsTypes, IsAtRest, IsMonitorRun, IsSeatRun, KeepsNoPin}
 use Rattle.gt_order.specs.Runs.{CallOutcome, SeatRun, domain_after}
 use Rattle.gt_order.specs.Runs.CallOutcome.{Told, Kept, Starved, Read, Wrote}
 use Rattle.gt_script_lines.specs.declared.calls.ScriptCall.{ScriptCall}
 use Rattle.gt_script_lines.specs.declared.calls.ScriptCall.TheVariants as calls
+use Rattle.gt_host.specs.Printing.{answer_line}
 use Rattle.gt_host.specs.Runs.{SaysRequest, Named, request_of}
+use Rattle.gt_script.specs.RunScripts.{list_of}
+use Rattle.gt_explore_replay.specs.Orders.{FollowsList, Happening, given_up, held_after}
 use Rattle.gt_script.specs.Lists.{RunAction, RunTask}
 use Rattle.gt_script.specs.declared.tasks.RunActionBy.TheVariants.{Await, Do, Tell}
 use Rattle.gt_run.specs.Asking.{AnswersCall, Asks, HasBytes, IsReadAnswer, frames_answer, mapped_answer, plain_answer}
 use Rattle.gt_run.specs.Asking.{size_answer}
 use Rattle.gt_run.specs.Asking.{version_answer}
 use Rattle.gt_run.specs.Printing.{AreServed, HasViewIn, Served, ShowOneState, WasServed, duties_in}
-use Rattle.gt_run.specs.Serving.{DoesDeed, DoesWhere, ListLeadsTo, MakesCall, ListOutcome, ListProgress, list_start}
+use Rattle.gt_run.specs.Serving.{DoesDeed, DoesWhere, EndsList, IsAwait, ListLeadsTo, MakesCall, ListOutcome, ListProgress}
+use Rattle.gt_run.specs.Serving.{answer_lines, list_start}
 use Rattle.gt_run.specs.declared.lists.ThreadJob.{ThreadJob}
 use Rattle.gt_order.specs.Texts.{AreCallsOf, AreCallsOfList, AreMadeWhole, AreOfALegalOrder, FitsDuty, HasList}
 use Rattle.gt_types.specs.Config.{IsWithinLimits}
@@ -221,47 +234,84 @@ module _ {P : Type 0} (may : P → AllowRelation) (m : Monitor P) where
     grows [] p q leads all = subst AreFinal leads all
     grows (task ∷ tasks) p q leads all = line-grows task (task.dom.0 == duty.part.dom.0) p leads.0 leads.1 (grows tasks leads.0 q leads.2 all)
 
-    record Come (p : ListProgress) : Type 0 where
+    -- the list has only calls, and none of its answers was lost
+    abbrev IsFollowed : Type 0
+    IsFollowed = AreCallLines duty.part.tasks.now × ((o : ListOutcome) → IsAmong o final → IsNotLost o.answer)
+
+    record Come (done : List RunTask) (p : ListProgress) : Type 0 where
       made : List CallMade
       calls_are : AreCalls m.words m.config (may m.rights) first made
       now : domain_after first made ≡ p.domain
       lines : AreCallsOf may duty made p.outcomes
       mine : BelongsTo may m p.domain
+      held : List Handle
+      keeps : Keeps p.domain.mappings held
+      follows : IsFollowed → Follows m.config (may m.rights) duty.part.types.now duty.part.dom p.named held done made (answer_lines duty.part.types.now duty.part.dom p.outcomes)
 
-    one-call : (line : ℕ) (call : ScriptCall) (p q : ListProgress) → ((named : List Named) (request : Request) → SaysRequest named duty.part.dom call request → FitsTypes request)
-        → (x : MakesCall may duty line call p q) → IsMadeWhole call x.answer → Come p → Come q
-    one-call line call p q fits x made-whole come =
+    one-call : (task : RunTask) (call : ScriptCall) (done : List RunTask) (p q : ListProgress) → task.deed ≡ Do call → ((named : List Named) (request : Request) → SaysRequest named duty.part.dom call request → FitsTypes request)
+        → (x : MakesCall may duty task.line call p q) → IsMadeWhole call x.answer → (IsFollowed → IsNotLost x.answer) → Come done p → Come (done ++ task ∷ []) q
+    one-call task call done p q deed fits x made-whole none-lost come =
         let says = x.says in
         let asks : Asks may m p.domain x.request x.answer q.domain = subst (λ (y : Monitor P). Asks may y p.domain x.request x.answer q.domain) over x.asks in
         let not-lost : NotLost x.request x.answer = subst (λ (z : Request). NotLost z x.answer) (sym says.2) (whole-request p.named duty.part.dom says.0 call x.answer made-whole) in
         let z = is-made p.domain q.domain (record { before = come.mine; afterwards = asks.2.0; seat = asks.2.1 }) x.request x.answer not-lost (fits p.named x.request says) asks.1 in
         let m' : CallMade = record { request = x.request; outcome = z.0; steps = z.1; old = p.domain; new = q.domain } in
-        let o : ListOutcome = record { line = line; answer = x.answer; told = x.told; lost = x.lost } in
+        let o : ListOutcome = record { line = task.line; answer = x.answer; told = x.told; lost = x.lost } in
+        let types = duty.part.types.now in let dom = duty.part.dom in
+        let printed : answer_lines types dom q.outcomes ≡ answer_lines types dom p.outcomes ++ answer_line types task.line dom x.answer =
+        ap (answer_lines types dom) x.outcomes ∙ (flat_map-append (λ (y : ListOutcome). answer_line types y.line dom y.answer) p.outcomes (o ∷ [])
+        ∙ ap (λ (l : List ℕ). answer_lines types dom p.outcomes ++ l) (append-nil (answer_line types task.line dom x.answer))) in
+        let later : List Handle = held_after come.held (given_up x.request) x.answer in
         record {
           made = m' ∷ come.made;
           calls_are = (z.3, subst (λ (y : Domain). IsAtRest y p.domain) (sym come.now) (record { seat = refl; own = refl; mappings = refl }), come.calls_are);
           now = refl;
           lines = (p.outcomes, o, x.outcomes, record { call = call; before = p; afterwards = q; made = x; request = refl; old = refl; new = refl; answer = refl; answered = z.2 }, come.lines);
           mine = asks.2.0;
+          held = later;
+          keeps = answered-keeps may m p.domain q.domain come.held come.keeps x.request x.answer asks.1;
+          follows = λ followed.
+              let f = follows-more m.config (may m.rights) types dom p.named come.held done come.made (answer_lines types dom p.outcomes) task call m' x.answer (come.follows followed) deed says z.2 (none-lost followed) in
+              subst (Follows m.config (may m.rights) types dom q.named later (done ++ task ∷ []) (m' ∷ come.made)) (sym printed)
+              (subst (λ (named : List Named). Follows m.config (may m.rights) types dom named later (done ++ task ∷ []) (m' ∷ come.made) (answer_lines types dom p.outcomes ++ answer_line types task.line dom x.answer)) (sym x.named) f);
         }
 
-    one-deed : (task : RunTask) → IsAmong task duty.part.tasks.now → (task.dom.0 == duty.part.dom.0) ≡ true → (deed : RunAction) → task.deed ≡ deed → (p q : ListProgress) → DoesDeed may duty task.line deed p q → AreFinal q → Come p → Come q
+    -- a flag, which the list doesn't have if it is followed
+    one-flag : (task : RunTask) (done : List RunTask) (p q : ListProgress) → (IsFollowed → ⊥) → q ≡ p → Come done p → Come (done ++ task ∷ []) q
+    one-flag task done p q none same come = subst (Come (done ++ task ∷ [])) (sym same) (record {
+      made = come.made;
+      calls_are = come.calls_are;
+      now = come.now;
+      lines = come.lines;
+      mine = come.mine;
+      held = come.held;
+      keeps = come.keeps;
+      follows = λ followed. absurd (none followed);
+    })
+
+    one-deed : (task : RunTask) → IsAmong task duty.part.tasks.now → (task.dom.0 == duty.part.dom.0) ≡ true → (deed : RunAction) → task.deed ≡ deed → (done : List RunTask) (p q : ListProgress) → DoesDeed may duty task.line deed p q → AreFinal q → Come done p → Come (done ++ task ∷ []) q
     unfolding DoesDeed
-    one-deed task is-in own (Do call) is p q does all come =
+    one-deed task is-in own (Do call) is done p q does all come =
         let o : ListOutcome = record { line = task.line; answer = does.answer; told = does.told; lost = does.lost } in
         let there = all o (subst (IsAmong o) (sym does.outcomes) (in-last o p.outcomes)) in
-        one-call task.line call p q (fitting task call is-in own is) does (whole task call o is-in is there refl) come
-    one-deed task is-in own (Tell flag) is p q does all come = subst Come (sym does) come
-    one-deed task is-in own (Await flag) is p q does all come = subst Come (sym does) come
+        one-call task call done p q is (fitting task call is-in own is) does (whole task call o is-in is there refl) (λ followed. followed.1 o there) come
+    one-deed task is-in own (Tell flag) is done p q does all come = one-flag task done p q (λ followed. subst IsCallLine is (followed.0 task is-in)) does come
+    one-deed task is-in own (Await flag) is done p q does all come = one-flag task done p q (λ followed. subst IsCallLine is (followed.0 task is-in)) does come
 
-    one-line : (task : RunTask) → IsAmong task duty.part.tasks.now → (b : Bool) → (task.dom.0 == duty.part.dom.0) ≡ b → (p q : ListProgress) → DoesWhere b may duty task p q → AreFinal q → Come p → Come q
-    one-line task is-in true own p q does all come = one-deed task is-in own task.deed refl p q does all come
-    one-line task is-in false own p q does all come = subst Come (sym does) come
+    one-line : (task : RunTask) → IsAmong task duty.part.tasks.now → (b : Bool) → (task.dom.0 == duty.part.dom.0) ≡ b → (done : List RunTask) (p q : ListProgress) → DoesWhere b may duty task p q → AreFinal q → Come done p → Come (done ++ cond b (task ∷ []) []) q
+    one-line task is-in true own done p q does all come = one-deed task is-in own task.deed refl done p q does all come
+    one-line task is-in false own done p q does all come = subst (λ (ts : List RunTask). Come ts q) (sym (append-nil done)) (subst (Come done) (sym does) come)
 
-    comes : (tasks : List RunTask) → ((task : RunTask) → IsAmong task tasks → IsAmong task duty.part.tasks.now) → (p q : ListProgress) → ListLeadsTo may duty p tasks q → AreFinal q → Come p → Come q
-    comes [] each p q leads all come = subst Come (sym leads) come
-    comes (task ∷ tasks) each p q leads all come =
-        comes tasks (λ t is. each t (inr is)) leads.0 q leads.2 all (one-line task (each task (inl refl)) (task.dom.0 == duty.part.dom.0) refl p leads.0 leads.1 (grows tasks leads.0 q leads.2 all) come)
+    then-rest : (b : Bool) (done : List RunTask) (task : RunTask) (rest : List RunTask) → (done ++ cond b (task ∷ []) []) ++ rest ≡ done ++ cond b (task ∷ rest) rest
+    then-rest true done task rest = append_assoc done (task ∷ []) rest
+    then-rest false done task rest = ap (λ (l : List RunTask). l ++ rest) (append-nil done)
+
+    comes : (tasks : List RunTask) → ((task : RunTask) → IsAmong task tasks → IsAmong task duty.part.tasks.now) → (done : List RunTask) (p q : ListProgress) → ListLeadsTo may duty p tasks q → AreFinal q → Come done p → Come (done ++ list_of tasks duty.part.dom) q
+    comes [] each done p q leads all come = subst (λ (ts : List RunTask). Come ts q) (sym (append-nil done)) (subst (Come done) (sym leads) come)
+    comes (task ∷ tasks) each done p q leads all come =
+        subst (λ (ts : List RunTask). Come ts q) (then-rest (task.dom.0 == duty.part.dom.0) done task (list_of tasks duty.part.dom))
+        (comes tasks (λ t is. each t (inr is)) (done ++ cond (task.dom.0 == duty.part.dom.0) (task ∷ []) []) leads.0 q leads.2 all
+        (one-line task (each task (inl refl)) (task.dom.0 == duty.part.dom.0) refl done p leads.0 leads.1 (grows tasks leads.0 q leads.2 all) come))
 
   take-in : {A : Type 0} (n : ℕ) (xs : List A) (x : A) → IsAmong x (take n xs) → IsAmong x xs
   take-in zero xs x is = absurd is
@@ -279,14 +329,25 @@ module _ {P : Type 0} (may : P → AllowRelation) (m : Monitor P) where
     calls-on [] made x = made
     calls-on (u ∷ us) made x = (x.0, subst (λ (y : Domain). IsAtRest y u.old) (sym (after-on us)) x.1, calls-on us made x.2)
 
+  -- the domain left after its list
+  abbrev IsGone : (d : Domain) (v : View) → IsViewOf m.words m.config (may m.rights) d v → Type 0
+  IsGone d v (inl e) = ⊥
+  IsGone d v (inr g) = Unit {0}
+
+  -- what these calls did follows the list
+  abbrev DidFollow : Served P → List CallMade → Type 0
+  DidFollow s made = AreCallLines s.duty.part.tasks.now → HasNoneLost s
+      → FollowsList s.duty.part.types.now s.duty.part.dom [] [] (list_of s.duty.part.tasks.now s.duty.part.dom) (happenings (items_of_calls m.config (may m.rights) s.duty.part.dom made)) s.text
+
   -- a list that was served, up to its last view
-  record Finished (i : ℕ) (s : Served P) (v : View) : Type 0 where
+  record Finished (i : ℕ) (s : Served P) (v : View) (gone : Type 0) : Type 0 where
     first : Domain
     starts : IsNewDomain m.words m.config (may m.rights) i first
     made : List CallMade
     calls_are : AreCalls m.words m.config (may m.rights) first made
     view : (domain_after first made).seat.view ≡ v
     of_list : AreCallsOfList may s made
+    follows : gone → DidFollow s made
 
   -- a domain of this number is at that position
   stands-at : (i p : ℕ) (d : Domain) → i < length m.config.domains.items → IsNewDomain m.words m.config (may m.rights) p d → d.seat.dom ≡ id_at m.words.layout.ids i → p ≡ i
@@ -297,44 +358,81 @@ module _ {P : Type 0} (may : P → AllowRelation) (m : Monitor P) where
       let there = own_position m.config k k.ids i d.seat.dom (sym m.same_run) m.limits.distinct (ap (λ (l : Layout). l.ids) m.same_run) (omega arith) (sym own) in
       sym fresh.seat.position ∙ (here ∙ sym there)
 
-  finished : (i : ℕ) (s : Served P) (v : View) → i < length m.config.domains.items → (l : HasList may m i s) → IsViewOf m.words m.config (may m.rights) l.served.left.domain v → Finished i s v
-  finished i s v inside l ends = ⊎_elim stayed gone ends
-    where
-      first : Domain
-      first = l.served.domain
+  among-at : {A : Type 0} (xs : List A) (n : ℕ) (x : A) → slice_get xs n ≡ Some x → IsAmong x xs
+  among-at [] n x e = cc
+  among-at (y ∷ ys) zero x e = inl (cc e)
+  among-at (y ∷ ys) (suc n) x e = inr (among-at ys n x e)
 
-      fresh : IsNewDomain m.words m.config (may m.rights) l.served.first.position first
-      fresh = subst (λ (y : Monitor P). IsNewDomain y.words y.config (may y.rights) l.served.first.position l.served.domain) l.monitor l.served.first.fresh
+  never-awaits : (deed : RunAction) → IsCallLine deed → IsAwait deed → ⊥
+  unfolding IsAwait
+  never-awaits (Do call) a b = b
+  never-awaits (Tell flag) a b = a
+  never-awaits (Await flag) a b = a
 
-      starts : IsNewDomain m.words m.config (may m.rights) i first
-      starts = subst (λ (p : ℕ). IsNewDomain m.words m.config (may m.rights) p l.served.domain) (stands-at i l.served.first.position l.served.domain inside fresh (l.served.first.own ∙ l.dom)) fresh
+  -- a list of calls is served to its last line
+  all-lines : (dom : DomId) (tasks : List RunTask) (number : ℕ) (last : List ℕ) → AreCallLines tasks → EndsList dom tasks number last → (take number tasks ≡ tasks) × (last ≡ [])
+  all-lines dom tasks number last calls (inl e) = (ap (λ (n : ℕ). take n tasks) e.0 ∙ take-length tasks, e.1)
+  all-lines dom tasks number last calls (inr stops) = absurd (never-awaits stops.at.deed (calls stops.at (among-at tasks number stops.at stops.stands)) stops.awaits)
 
-      come : Come s.duty l.monitor l.fits s.outcomes l.whole first l.served.left
-      come = comes s.duty l.monitor l.fits s.outcomes l.whole l.served.domain (take l.served.number s.duty.part.tasks.now) (λ t is. take-in l.served.number s.duty.part.tasks.now t is) (list_start l.served.domain) l.served.left l.served.leads (λ o is. subst (IsAmong o) l.served.came is)
-          (record { made = []; calls_are = tt; now = refl; lines = refl; mine = fresh.domain })
+  module _ (i : ℕ) (s : Served P) (inside : i < length m.config.domains.items) (l : HasList may m i s) where
+    fresh : IsNewDomain m.words m.config (may m.rights) l.served.first.position l.served.domain
+    fresh = subst (λ (y : Monitor P). IsNewDomain y.words y.config (may y.rights) l.served.first.position l.served.domain) l.monitor l.served.first.fresh
 
-      lines : AreCallsOf may s.duty come.made s.outcomes
-      lines = subst (AreCallsOf may s.duty come.made) l.served.came come.lines
+    starts : IsNewDomain m.words m.config (may m.rights) i l.served.domain
+    starts = subst (λ (p : ℕ). IsNewDomain m.words m.config (may m.rights) p l.served.domain) (stands-at i l.served.first.position l.served.domain inside fresh (l.served.first.own ∙ l.dom)) fresh
 
-      stayed : v ≡ l.served.left.domain.seat.view → Finished i s v
-      stayed e = record {
-        first = first;
-        starts = starts;
-        made = come.made;
-        calls_are = come.calls_are;
-        view = ap (λ (d : Domain). d.seat.view) come.now ∙ sym e;
-        of_list = record { leaving = []; listed = come.made; all = refl; unmaps = tt; lines = lines };
-      }
+    come : Come s.duty l.monitor l.fits s.outcomes l.whole l.served.domain (list_of (take l.served.number s.duty.part.tasks.now) s.duty.part.dom) l.served.left
+    come = comes s.duty l.monitor l.fits s.outcomes l.whole l.served.domain (take l.served.number s.duty.part.tasks.now) (λ t is. take-in l.served.number s.duty.part.tasks.now t is) [] (list_start l.served.domain) l.served.left l.served.leads (λ o is. subst (IsAmong o) l.served.came is)
+        (record {
+          made = [];
+          calls_are = tt;
+          now = refl;
+          lines = refl;
+          mine = fresh.domain;
+          held = [];
+          keeps = keeps-new l.served.domain.mappings fresh.mappings;
+          follows = λ followed. follows-none m.config (may m.rights) s.duty.part.types.now s.duty.part.dom;
+        })
 
-      gone : (x : Departed) × HasLeft m.words.layout l.served.left.domain x × MayUnmapAll m.config (may m.rights) l.served.left.domain × (v ≡ x.seat.view) → Finished i s v
-      gone g = let u = leaving m.words m.config (may m.rights) l.served.left.domain g.0 come.mine g.1 g.2 in record {
-        first = first;
-        starts = starts;
-        made = u.0 ++ come.made;
-        calls_are = calls-on first l.served.left.domain come.made come.now u.0 come.calls_are u.1;
-        view = ap (λ (d : Domain). d.seat.view) (after-on first l.served.left.domain come.made come.now u.0) ∙ (u.3 ∙ sym g.3);
-        of_list = record { leaving = u.0; listed = come.made; all = refl; unmaps = u.2; lines = lines };
-      }
+    lines : AreCallsOf may s.duty come.made s.outcomes
+    lines = subst (AreCallsOf may s.duty come.made) l.served.came come.lines
+
+    -- the calls and the unmaps behind them follow the list
+    followed : (us : List CallMade) → AreCalls m.words m.config (may m.rights) l.served.left.domain us → AreUnmaps us → ((h : Handle) → value_of (domain_after l.served.left.domain us).mappings h ≡ None) → DidFollow s (us ++ come.made)
+    followed us calls unmaps none alone whole =
+        let types = s.duty.part.types.now in let dom = s.duty.part.dom in let tasks = s.duty.part.tasks.now in
+        let behind = gives-back m.config (may m.rights) types dom m.words l.served.left.domain us come.held calls unmaps come.keeps in
+        let empty : behind.held' ≡ [] = keeps-none (domain_after l.served.left.domain us).mappings behind.held' none behind.keeps in
+        let left = items_of_calls m.config (may m.rights) dom us in let listed = items_of_calls m.config (may m.rights) dom come.made in
+        let f = come.follows (alone, whole) [] (happenings left ++ []) [] (behind.order ++ [], behind.back [] [] (empty, refl), refl) in
+        let ends = all-lines dom tasks l.served.number l.served.last alone l.served.ends in
+        let e1 : list_of (take l.served.number tasks) dom ++ [] ≡ list_of tasks dom = append-nil (list_of (take l.served.number tasks) dom) ∙ ap (λ (ts : List RunTask). list_of ts dom) ends.0 in
+        let e2 : happenings listed ++ (happenings left ++ []) ≡ happenings (items_of_calls m.config (may m.rights) dom (us ++ come.made)) =
+        ap (λ (hs : List Happening). happenings listed ++ hs) (append-nil (happenings left)) ∙ (sym (happenings-both left listed) ∙ ap happenings (sym (calls-both m.config (may m.rights) types dom us come.made))) in
+        let e3 : answer_lines types dom l.served.left.outcomes ++ [] ≡ s.text = sym (l.served.prints ∙ (λ j. answer_lines types dom (sym l.served.came j) ++ ends.1 j)) in
+        subst (λ (ts : List RunTask). FollowsList types dom [] [] ts (happenings (items_of_calls m.config (may m.rights) dom (us ++ come.made))) s.text) e1
+        (subst (λ (hs : List Happening). FollowsList types dom [] [] (list_of (take l.served.number tasks) dom ++ []) hs s.text) e2
+        (subst (λ (text : List ℕ). FollowsList types dom [] [] (list_of (take l.served.number tasks) dom ++ []) (happenings listed ++ (happenings left ++ [])) text) e3 f))
+
+    finished : (v : View) (ends : IsViewOf m.words m.config (may m.rights) l.served.left.domain v) → Finished i s v (IsGone l.served.left.domain v ends)
+    finished v (inl e) = record {
+      first = l.served.domain;
+      starts = starts;
+      made = come.made;
+      calls_are = come.calls_are;
+      view = ap (λ (d : Domain). d.seat.view) come.now ∙ sym e;
+      of_list = record { leaving = []; listed = come.made; all = refl; unmaps = tt; lines = lines };
+      follows = λ gone. absurd gone;
+    }
+    finished v (inr g) = let u = leaving m.words m.config (may m.rights) l.served.left.domain g.0 come.mine g.1 g.2 in record {
+      first = l.served.domain;
+      starts = starts;
+      made = u.0 ++ come.made;
+      calls_are = calls-on l.served.domain l.served.left.domain come.made come.now u.0 come.calls_are u.1;
+      view = ap (λ (d : Domain). d.seat.view) (after-on l.served.domain l.served.left.domain come.made come.now u.0) ∙ (u.3 ∙ sym g.3);
+      of_list = record { leaving = u.0; listed = come.made; all = refl; unmaps = u.2; lines = lines };
+      follows = λ gone. followed u.0 u.1 u.2 u.4;
+    }
 
   below : (i n : ℕ) → nat_lt i n ≡ true → i < n
   below i n e = grind (arith, nat_tests)
@@ -345,8 +443,11 @@ module _ {P : Type 0} (may : P → AllowRelation) (m : Monitor P) where
   -- all lists
   module _ (lists : ℕ → Served P) (s : State (Unit {0}) View) (ends : ℕ → View)
       (each : (i : ℕ) → i < length m.config.domains.items → (l : HasList may m i (lists i)) × IsViewOf m.words m.config (may m.rights) l.served.left.domain (ends i) × (get_elem? s.views i ≡ some (ends i))) where
-    done : (i : ℕ) → i < length m.config.domains.items → Finished i (lists i) (ends i)
-    done i inside = let l = each i inside in finished i (lists i) (ends i) inside l.0 l.1
+    abbrev Gone : (i : ℕ) → i < length m.config.domains.items → Type 0
+    Gone i inside = IsGone (each i inside).0.served.left.domain (ends i) (each i inside).1
+
+    done : (i : ℕ) (inside : i < length m.config.domains.items) → Finished i (lists i) (ends i) (Gone i inside)
+    done i inside = let l = each i inside in finished i (lists i) inside l.0 (ends i) l.1
 
     abbrev run-of : (i : ℕ) → i < length m.config.domains.items → SeatRun
     run-of i inside = record { first = (done i inside).first; calls = (done i inside).made }
@@ -361,16 +462,23 @@ module _ {P : Type 0} (may : P → AllowRelation) (m : Monitor P) where
 
     runs-so : (i : ℕ) → i < length m.config.domains.items → (b : Bool) (e : nat_lt i (length m.config.domains.items) ≡ b)
         → IsSeatRun m.words m.config (may m.rights) i (pick i b e) s.views × AreCallsOfList may (lists i) (pick i b e).calls
+        × ((inside : i < length m.config.domains.items) × (Gone i inside → DidFollow (lists i) (pick i b e).calls))
     runs-so i inside true e = let l : i < length m.config.domains.items = below i (length m.config.domains.items) e in let f = done i l in
-        (record { starts = f.starts; calls = f.calls_are; now = (each i l).2 ∙ ap (λ (v : View). some v) (sym f.view) }, f.of_list)
+        (record { starts = f.starts; calls = f.calls_are; now = (each i l).2 ∙ ap (λ (v : View). some v) (sym f.view) }, f.of_list, (l, f.follows))
     runs-so i inside false e = absurd (not-below i (length m.config.domains.items) e inside)
 
-    text-legal : IsWithinLimits m.config → (shown : Shows m.words.layout s) → AreOfALegalOrder may m shown.history lists
-    text-legal limits shown =
+    -- the order of a run, with what each list's calls are
+    text-order : IsWithinLimits m.config → (shown : Shows m.words.layout s)
+        → (g : Items) × IsLegalOrder m.config (may m.rights) m.words.layout shown.history seats g × ((i : ℕ) → i < length m.config.domains.items → AreCallsOfList may (lists i) (seats i).calls
+        × ((inside : i < length m.config.domains.items) × (Gone i inside → DidFollow (lists i) (seats i).calls)))
+    text-order limits shown =
         let run : IsMonitorRun m.words m.config (may m.rights) s seats =
         record { limits = limits; layout = m.same_run; shown = shown; each = λ i inside. (runs-so i inside (nat_lt i (length m.config.domains.items)) refl).0 } in
         let order = runs-have-legal-orders m.words m.config (may m.rights) s seats run in
-        record { items = order.0; seats = seats; legal = order.1; each = λ i inside. (runs-so i inside (nat_lt i (length m.config.domains.items)) refl).1 }
+        (order.0, order.1, λ i inside. let r = runs-so i inside (nat_lt i (length m.config.domains.items)) refl in (r.1, r.2))
+
+    text-legal : IsWithinLimits m.config → (shown : Shows m.words.layout s) → AreOfALegalOrder may m shown.history lists
+    text-legal limits shown = let o = text-order limits shown in record { items = o.0; seats = seats; legal = o.1; each = λ i inside. (o.2 i inside).0 }
 
 pub texts-legal : {P : Type 0} (may : P → AllowRelation) (m : Monitor P) → TextsAreOfALegalOrder may m
 texts-legal may m lists s ends limits each shown = text-legal may m lists s ends each limits shown
@@ -419,14 +527,39 @@ module _ {P : Type 0} (may : P → AllowRelation) (m : Monitor P) (x : Served P)
 
   view-at : (i : ℕ) (l : i < length m.config.domains.items) → get_elem? one.0.views i ≡ some (lists i).departed.seat.view
   view-at i l =
-      let f = finished may m i (lists i) (lists i).departed.seat.view l (list-at i l) (left-at i l) in
+      let f = finished may m i (lists i) l (list-at i l) (lists i).departed.seat.view (left-at i l) in
       let here : (lists i).departed.seat.view.position ≡ i = ap (λ (v : View). v.position) (sym f.view) ∙ stays-at m.words m.config (may m.rights) i f.first f.made f.starts.seat.position f.calls_are in
       subst (λ (p : ℕ). get_elem? one.0.views p ≡ some (lists i).departed.seat.view) here (All-get_or (HasViewIn one.0) (x ∷ xs) i x (within i l) one.2)
 
+  shows : Shows m.words.layout one.0
+  shows = subst (λ (n : Monitor P). Shows n.words.layout one.0) (All-head (λ (d : ThreadJob P). d.monitor.now ≡ m) x.duty (duties_in xs) on) one.1
+
   one-order : IsWithinLimits m.config → AreOfOneOrder may m (x ∷ xs)
   one-order limits =
-      let shown : Shows m.words.layout one.0 = subst (λ (n : Monitor P). Shows n.words.layout one.0) (All-head (λ (d : ThreadJob P). d.monitor.now ≡ m) x.duty (duties_in xs) on) one.1 in
-      (lists, λ i s e. found (x ∷ xs) i s x e, (shown.history, texts-legal may m lists one.0 (λ i. (lists i).departed.seat.view) limits (λ i l. (list-at i l, left-at i l, view-at i l)) shown))
+      (lists, λ i s e. found (x ∷ xs) i s x e, (shows.history, texts-legal may m lists one.0 (λ i. (lists i).departed.seat.view) limits (λ i l. (list-at i l, left-at i l, view-at i l)) shows))
+
+  -- the order of a run, in which what each domain did follows its list
+  pub record FollowsAll : Type 0 where
+    pub items : Items
+    pub legal : Legal (setting_of m.config (may m.rights)) (events_of items) (trace_of items)
+    pub follow : (i : ℕ) → i < length m.config.domains.items → AreCallLines (lists i).duty.part.tasks.now → HasNoneLost (lists i)
+        → FollowsList (lists i).duty.part.types.now (lists i).duty.part.dom [] [] (list_of (lists i).duty.part.tasks.now (lists i).duty.part.dom) (happenings (items_by (lists i).duty.part.dom items)) (lists i).text
+
+  pub follows-all : IsWithinLimits m.config → FollowsAll
+  unfolding left-at
+  follows-all limits =
+      let o = text-order may m lists one.0 (λ i. (lists i).departed.seat.view) (λ i l. (list-at i l, left-at i l, view-at i l)) limits shows in record {
+        items = o.0;
+        legal = o.1.legal;
+        follow = λ i l alone whole.
+            let dom : (lists i).duty.part.dom ≡ id_at m.words.layout.ids i = (list-at i l).dom in
+            let seats-at = seats may m lists one.0 (λ i. (lists i).departed.seat.view) (λ i l. (list-at i l, left-at i l, view-at i l)) i in
+            let inside : i < m.words.layout.domains = subst (λ (n : ℕ). i < n) (sym (ap (λ (k : Layout). k.domains) m.same_run)) l in
+            let mine : items_by (lists i).duty.part.dom o.0 ≡ items_of_calls m.config (may m.rights) (lists i).duty.part.dom seats-at.calls =
+            subst (λ (d : DomId). items_by d o.0 ≡ items_of_calls m.config (may m.rights) d seats-at.calls) (sym dom) (o.1.calls i inside) in
+            subst (λ (g : Items). FollowsList (lists i).duty.part.types.now (lists i).duty.part.dom [] [] (list_of (lists i).duty.part.tasks.now (lists i).duty.part.dom) (happenings g) (lists i).text) (sym mine)
+            ((o.2 i l).1.1 tt alone whole);
+      }
 
 pub runs-legal : {P : Type 0} (may : P → AllowRelation) (m : Monitor P) → RunsWriteALegalOrder may m
 runs-legal {P} may m duties old new limits of wrote orderly = by wrote.0 wrote.1 wrote.2 wrote.3 orderly

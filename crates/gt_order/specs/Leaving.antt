@@ -1,5 +1,5 @@
 -- A domain that leaves unmaps its mappings.
-use Rattle.std.specs.Prelude.{◌≡◌, List, [], ◌∷◌, Some}
+use Rattle.std.specs.Prelude.{◌≡◌, List, [], ◌∷◌, Some, None}
 use Rattle.gt_types.specs.declared.config.Config.{Config}
 use Rattle.gt_words.specs.Conditions.{Board}
 use Rattle.gt_handles.specs.Handles.{value_of}
@@ -28,10 +28,11 @@ AreUnmaps (m ∷ ms) =
     ((handle : Handle) × (m.request ≡ requests.Unmap handle) × (m.outcome ≡ Told Granted)) × AreUnmaps ms
 
 -- if the policy allows a domain to unmap each of its mappings, leaving is exactly that: the steps are those of unmaps,
--- one after another, each Ok. So a run continues beyond a domain that leaves
+-- one after another, each Ok, until no mapping is left. So a run continues beyond a domain that leaves
 abbrev pub LeavingIsUnmapping : Type 0
 LeavingIsUnmapping =
     (b : Board) (c : Config) (may : AllowRelation) (d : Domain) (l : Departed) → IsDomainOf b c may d
     → HasLeft b.layout d l → MayUnmapAll c may d
     → (calls : List CallMade) × AreCalls b c may d calls × AreUnmaps calls
     × ((domain_after d calls).seat.view ≡ l.seat.view)
+    × ((h : Handle) → value_of (domain_after d calls).mappings h ≡ None)

@@ -1,6 +1,7 @@
 pub mod Runs
 pub mod Calling
 pub mod Leaving
+pub mod Explored
 pub mod Agreeing
 pub mod Ordering
 pub mod Laws

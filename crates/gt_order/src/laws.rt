@@ -1,6 +1,7 @@
 //! Consequences of the definitions. Each law is a function that does nothing; its contract is the law.
 ghost use Rattle.gt_order.specs.Calling.{CopiesAreMade, LostAccessesAreMade, MapsAreMade, PlainCallsAreMade};
 ghost use Rattle.gt_order.specs.Calling.{ReadsAreMade, UnmapsAreMade, WritesAreMade};
+ghost use Rattle.gt_order.specs.Explored.{RunsAreExplored};
 ghost use Rattle.gt_order.specs.Leaving.{LeavingIsUnmapping};
 ghost use Rattle.gt_order.specs.Laws.{CoreSeesTheWords, RunsHaveLegalOrders, StepsKeepAgreement};
 ghost use Rattle.gt_order.specs.Texts.{RunsWriteALegalOrder, TextsAreOfALegalOrder};
@@ -54,4 +55,11 @@ pub fn every_text_is_of_a_legal_order<P: Allows>(monitor: &Monitor<P>)
 /// if no copy was refused at its access and the policy allows each domain to unmap the mappings with which it leaves.
 pub fn every_run_writes_a_legal_order<P: Allows>(monitor: &Monitor<P>)
     ensures { RunsWriteALegalOrder P.may monitor.now }
+{}
+
+/// A law: what a run of a script without flags writes, but for its audit lines, is a text that the script may give, so
+/// one that `explore` lists, bytes and all. No allocation failed during its calls, and the policy allows each domain to
+/// unmap the mappings with which it leaves.
+pub fn every_run_without_flags_is_explored()
+    ensures { RunsAreExplored }
 {}

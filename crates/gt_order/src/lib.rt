@@ -9,16 +9,17 @@
 //! ([`every_run_has_a_legal_order`]). The contracts of a domain's calls make them calls of a run
 //! ([`calls_of_domains_are_made`]). The lists of `gt_run` print the answers of such a list of items
 //! ([`every_text_is_of_a_legal_order`]), and so does each text that `run` writes at Ok
-//! ([`every_run_writes_a_legal_order`]).
+//! ([`every_run_writes_a_legal_order`]). If the script has no flags, `explore` lists that text
+//! ([`every_run_without_flags_is_explored`]).
 //!
-//! It uses `gt_run`, `gt_host`, `gt_script`, `gt_script_lines`, `gt_live`, `gt_core`, `gt_words`, `gt_word_history`,
-//! `gt_calls`, `gt_frames`, `gt_handles`, `gt_entry`, `gt_types` and the kit's `atomic_table`.
+//! It uses `gt_run`, `gt_explore_replay`, `gt_host`, `gt_script`, `gt_script_lines`, `gt_live`, `gt_core`, `gt_words`,
+//! `gt_word_history`, `gt_calls`, `gt_frames`, `gt_handles`, `gt_entry`, `gt_types` and the kit's `atomic_table`.
 #![tactic(auto)]
 
 mod laws;
 
 pub use laws::{
     calls_of_domains_are_made, core_sees_the_words, every_run_has_a_legal_order,
-    every_run_writes_a_legal_order, every_text_is_of_a_legal_order, leaving_is_unmapping,
-    steps_keep_agreement,
+    every_run_without_flags_is_explored, every_run_writes_a_legal_order,
+    every_text_is_of_a_legal_order, leaving_is_unmapping, steps_keep_agreement,
 };

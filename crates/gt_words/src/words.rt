@@ -159,8 +159,8 @@ impl Words {
             → HoldsAt (IsNewSeat r.0 i) r.1.items i) }
         ensures err { IfErr result (IsStartFault config.now) }
     {
-        if let Err(fault) = config.check() {
-            return Err(StartFault::Config(fault));
+        if let Err(first) = config.check() {
+            return Err(StartFault::Config(first));
         }
         match make_without_frames(alloc, config) {
             Ok(made) => Ok(made),

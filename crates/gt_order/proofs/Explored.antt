@@ -1,0 +1,150 @@
+-- What a run of a script without flags writes is a text that the script may give.
+use Rattle.std.proofs.Common.{◌≡◌, ◌≢◌, ◌<◌, ℕ, zero, suc, Bool, List, [], ◌∷◌, All, get_or, length, map, None, refl, sym, ap}
+use Rattle.std.proofs.Common.{◌∙◌, subst, arith}
+use Rattle.std.specs.Prelude.{is_some}
+use Rattle.std.proofs.lemmas.List.{get_or-map, length-map}
+use Rattle.std.proofs.lemmas.List.Elements.{All-get_or, All-weaker}
+use Rattle.gt_types.specs.Config.{IsWithinLimits}
+use Rattle.gt_types.specs.Names.{domain_of}
+use Rattle.gt_types.specs.declared.DomId.{DomId}
+use Rattle.gt_types.specs.declared.config.DomainConfig.{DomainConfig}
+use Rattle.gt_core.specs.Acting.{setting_of}
+use Rattle.gt_core.specs.History.{Setting}
+use Rattle.gt_core.specs.Legal.{Legal}
+use Rattle.gt_host.specs.Playing.{setting_of_script}
+use Rattle.gt_host.specs.Rights.{may_by}
+use Rattle.gt_host.specs.declared.rights.ScriptPolicy.{ScriptPolicy as ScriptRights}
+use Rattle.gt_script.specs.Contents.{type_names}
+use Rattle.gt_script.specs.Lists.{RunTask}
+use Rattle.gt_script.specs.RunContents.{RunContents}
+use Rattle.gt_script.specs.RunScripts.{list_of}
+use Rattle.gt_explore_replay.specs.Orders.{AllFollow, FollowsList, Happening, IsOrderOf, doer, events_in, own_happenings, trace_in}
+use Rattle.gt_live.specs.declared.monitor.Monitor.{Monitor}
+use Rattle.gt_run.specs.Printing.{AreDuties, AreServed, Served, ShowOneState, duties_in, texts_in}
+use Rattle.gt_run.specs.Runs.{AreOf, IsOver}
+use Rattle.gt_run.specs.declared.lists.DomainPart.{DomainPart}
+use Rattle.gt_run.specs.declared.lists.ThreadJob.{ThreadJob}
+use Rattle.gt_order.proofs.Happenings.{events-are, happenings, items-known, no-flags, own-are, trace-is}
+use Rattle.gt_order.proofs.Listed.{FollowsAll, follows-all}
+use Rattle.gt_order.specs.Explored.{AreCallLines, HasNoneLost, RunsAreExplored}
+use Rattle.gt_order.specs.Ordering.{events_of, items_by}
+use Rattle.gt_order.specs.Texts.{IsOrderly}
+
+-- each domain follows its list
+all-follow : (c : RunContents) (hs : List Happening) (ds : List DomainConfig) (all : List (Served ScriptRights)) → length ds ≡ length all
+    → ((i : ℕ) (d : DomainConfig) (s : Served ScriptRights) → i < length ds → FollowsList (type_names c.head) (get_or ds i d).id [] [] (list_of c.tasks (get_or ds i d).id) (own_happenings (get_or ds i d).id hs) (get_or all i s).text)
+    → AllFollow c hs ds (texts_in all)
+all-follow c hs [] [] same each = refl
+all-follow c hs [] (s ∷ all) same each = absurd (omega (arith, same))
+all-follow c hs (d ∷ ds) [] same each = absurd (omega (arith, same))
+all-follow c hs (d ∷ ds) (s ∷ all) same each =
+    (s.text, (texts_in all, refl, all-follow c hs ds all (omega (arith, same)) (λ i e t inside. each (suc i) e t (omega (arith, inside)))), each 0 d s (omega arith))
+
+module _ (c : RunContents) (logged : Bool) (x : Served ScriptRights) (xs : List (Served ScriptRights)) (of : AreOf c logged (duties_in (x ∷ xs))) (limits : IsWithinLimits of.monitor.config) (alone : AreCallLines c.tasks)
+    (are : AreServed may_by (x ∷ xs)) (one : ShowOneState (x ∷ xs)) (orderly : All (IsOrderly may_by of.monitor) (x ∷ xs)) (whole : All HasNoneLost (x ∷ xs)) where
+  abbrev m : Monitor ScriptRights
+  m = of.monitor
+
+  abbrev lists : ℕ → Served ScriptRights
+  lists i = get_or (x ∷ xs) i x
+
+  on : All (λ (d : ThreadJob ScriptRights). d.monitor.now ≡ m) (duties_in (x ∷ xs))
+  on = All-weaker (λ (d : ThreadJob ScriptRights). (d.monitor.now ≡ m) × (is_some d.log ≡ logged)) (λ (d : ThreadJob ScriptRights). d.monitor.now ≡ m) (λ d both. both.0) (duties_in (x ∷ xs)) of.duties_are.1
+
+  parts-are : map (λ (d : ThreadJob ScriptRights). d.part) (duties_in (x ∷ xs)) ≡ of.parts
+  parts-are = of.duties_are.0
+
+  map-dom : (ds : List (ThreadJob ScriptRights)) → map (λ (p : DomainPart). p.dom) (map (λ (d : ThreadJob ScriptRights). d.part) ds) ≡ map (λ (d : ThreadJob ScriptRights). d.part.dom) ds
+  map-dom [] = refl
+  map-dom (d ∷ ds) = ap (λ l. d.part.dom ∷ l) (map-dom ds)
+
+  ids : map (λ (d : ThreadJob ScriptRights). d.part.dom) (duties_in (x ∷ xs)) ≡ map (λ (d : DomainConfig). d.id) m.config.domains.items
+  ids = sym (map-dom (duties_in (x ∷ xs))) ∙ (ap (map (λ (p : DomainPart). p.dom)) parts-are ∙ (of.of_script.0 ∙ ap (map (λ (d : DomainConfig). d.id)) (sym of.domains)))
+
+  many : length (duties_in (x ∷ xs)) ≡ length m.config.domains.items
+  many = sym (length-map (duties_in (x ∷ xs)) (λ (d : ThreadJob ScriptRights). d.part.dom)) ∙ ap length ids ∙ length-map m.config.domains.items (λ (d : DomainConfig). d.id)
+
+  same-many : length (x ∷ xs) ≡ length c.head.domains
+  same-many = sym (length-map (x ∷ xs) (λ (s : Served ScriptRights). s.duty)) ∙ (many ∙ ap length of.domains)
+
+  setting-is : setting_of m.config (may_by m.rights) ≡ setting_of_script c.head
+  setting-is = λ j. record { domains = of.domains j; first_generation = of.generation j; may = of.rights j }
+
+  over-at : (i : ℕ) → i < length (x ∷ xs) → IsOver c.tasks (type_names c.head) (lists i).duty.part
+  over-at i l =
+      let inside : i < length (duties_in (x ∷ xs)) = let e = length-map (x ∷ xs) (λ (s : Served ScriptRights). s.duty) in omega (arith, l, e) in
+      let all : All (IsOver c.tasks (type_names c.head)) (map (λ (d : ThreadJob ScriptRights). d.part) (duties_in (x ∷ xs))) = subst (All (IsOver c.tasks (type_names c.head))) (sym parts-are) of.of_script.1 in
+      let within : i < length (map (λ (d : ThreadJob ScriptRights). d.part) (duties_in (x ∷ xs))) = let e = length-map (duties_in (x ∷ xs)) (λ (d : ThreadJob ScriptRights). d.part) in omega (arith, inside, e) in
+      subst (IsOver c.tasks (type_names c.head)) (get_or-map (λ (d : ThreadJob ScriptRights). d.part) (duties_in (x ∷ xs)) i x.duty x.duty.part inside ∙ ap (λ (d : ThreadJob ScriptRights). d.part) (get_or-map (λ (s : Served ScriptRights). s.duty) (x ∷ xs) i x x.duty l))
+      (All-get_or (IsOver c.tasks (type_names c.head)) (map (λ (d : ThreadJob ScriptRights). d.part) (duties_in (x ∷ xs))) i x.duty.part within all)
+
+  -- the number of a list's domain
+  dom-at : (i : ℕ) (d : DomainConfig) → i < length (x ∷ xs) → (lists i).duty.part.dom ≡ (get_or c.head.domains i d).id
+  dom-at i d l =
+      let inside : i < length (duties_in (x ∷ xs)) = let e = length-map (x ∷ xs) (λ (s : Served ScriptRights). s.duty) in omega (arith, l, e) in
+      let there : i < length c.head.domains = omega (arith, l, same-many) in
+      ap (λ (e : ThreadJob ScriptRights). e.part.dom) (sym (get_or-map (λ (s : Served ScriptRights). s.duty) (x ∷ xs) i x x.duty l))
+      ∙ (sym (get_or-map (λ (e : ThreadJob ScriptRights). e.part.dom) (duties_in (x ∷ xs)) i x.duty d.id inside)
+      ∙ (ap (λ (ys : List DomId). get_or ys i d.id) (ids ∙ ap (map (λ (e : DomainConfig). e.id)) of.domains) ∙ get_or-map (λ (e : DomainConfig). e.id) c.head.domains i d d.id there))
+
+  same-list : (s t : Served ScriptRights) (i : ℕ) → i < length (x ∷ xs) → get_or (x ∷ xs) i s ≡ get_or (x ∷ xs) i t
+  same-list s t zero l = refl
+  same-list s t (suc i) l = others xs i (omega (arith, l))
+    where
+      others : (ys : List (Served ScriptRights)) (n : ℕ) → n < length ys → get_or ys n s ≡ get_or ys n t
+      others [] n l = absurd (omega (arith, l))
+      others (y ∷ ys) zero l = refl
+      others (y ∷ ys) (suc n) l = others ys n (omega (arith, l))
+
+  order : FollowsAll may_by m x xs on ids are one orderly
+  order = follows-all may_by m x xs on ids are one orderly limits
+
+  pub explored : (hs : List Happening) × IsOrderOf c hs (texts_in (x ∷ xs))
+  explored = (
+    happenings order.items,
+    record {
+      legal = legal;
+      follow = all-follow c (happenings order.items) c.head.domains (x ∷ xs) (sym same-many) each;
+      known = subst (λ (s : Setting). All (λ y. domain_of s.domains (doer y) ≢ None) (happenings order.items)) setting-is (items-known (setting_of m.config (may_by m.rights)) order.items order.legal);
+      flags = no-flags order.items;
+    },
+  )
+    where
+      legal : Legal (setting_of_script c.head) (events_in (happenings order.items)) (trace_in (happenings order.items))
+      legal = subst (λ (s : Setting). Legal s (events_in (happenings order.items)) (trace_in (happenings order.items))) setting-is
+          (subst (λ es. Legal (setting_of m.config (may_by m.rights)) es (trace_in (happenings order.items))) (sym (events-are order.items))
+          (subst (λ ts. Legal (setting_of m.config (may_by m.rights)) (events_of order.items) ts) (sym (trace-is order.items)) order.legal))
+
+      each : (i : ℕ) (d : DomainConfig) (s : Served ScriptRights) → i < length c.head.domains
+          → FollowsList (type_names c.head) (get_or c.head.domains i d).id [] [] (list_of c.tasks (get_or c.head.domains i d).id) (own_happenings (get_or c.head.domains i d).id (happenings order.items)) (get_or (x ∷ xs) i s).text
+      each i d s inside =
+          let l : i < length (x ∷ xs) = omega (arith, inside, same-many) in
+          let within : i < length m.config.domains.items = let e = ap length of.domains in omega (arith, inside, e) in
+          let over = over-at i l in
+          let mine = order.follow i within (subst AreCallLines (sym over.0) alone) (All-get_or HasNoneLost (x ∷ xs) i x l whole) in
+          let typed = subst (λ (ts : List (List ℕ)). FollowsList ts (lists i).duty.part.dom [] [] (list_of (lists i).duty.part.tasks.now (lists i).duty.part.dom) (happenings (items_by (lists i).duty.part.dom order.items)) (lists i).text) over.1 mine in
+          let tasked = subst (λ (ts : List RunTask). FollowsList (type_names c.head) (lists i).duty.part.dom [] [] (list_of ts (lists i).duty.part.dom) (happenings (items_by (lists i).duty.part.dom order.items)) (lists i).text) over.0 typed in
+          let named = subst (λ (n : DomId). FollowsList (type_names c.head) n [] [] (list_of c.tasks n) (happenings (items_by n order.items)) (lists i).text) (dom-at i d l) tasked in
+          subst (λ (hs : List Happening). FollowsList (type_names c.head) (get_or c.head.domains i d).id [] [] (list_of c.tasks (get_or c.head.domains i d).id) hs (get_or (x ∷ xs) i s).text) (sym (own-are (get_or c.head.domains i d).id order.items))
+          (subst (λ (q : Served ScriptRights). FollowsList (type_names c.head) (get_or c.head.domains i d).id [] [] (list_of c.tasks (get_or c.head.domains i d).id) (happenings (items_by (get_or c.head.domains i d).id order.items)) q.text) (same-list x s i l) named)
+
+pub runs-explored : RunsAreExplored
+runs-explored c logged duties old new of limits alone wrote orderly whole = by wrote.0 wrote.1 wrote.2 wrote.3 of limits orderly whole
+  where
+    by : (all : List (Served ScriptRights)) → duties_in all ≡ duties → AreServed may_by all → ShowOneState all → (of : AreOf c logged duties) → IsWithinLimits of.monitor.config → All (IsOrderly may_by of.monitor) all → All HasNoneLost all
+        → (hs : List Happening) × IsOrderOf c hs (texts_in all)
+    by [] same are one of limits orderly whole = absurd (none (ap (map (λ (d : ThreadJob ScriptRights). d.part)) same ∙ of.duties_are.0))
+      where
+        none : [] ≡ of.parts → ⊥
+        none e = let some = limits.some in let l = ap length (ap (map (λ (p : DomainPart). p.dom)) e ∙ of.of_script.0) in let k = length-map c.head.domains (λ (d : DomainConfig). d.id) in let j = ap length of.domains in omega (arith, some, l, k, j)
+    by (x ∷ xs) same are one of limits orderly whole =
+        let here : AreOf c logged (duties_in (x ∷ xs)) = record {
+          parts = of.parts;
+          of_script = of.of_script;
+          monitor = of.monitor;
+          domains = of.domains;
+          generation = of.generation;
+          rights = of.rights;
+          duties_are = subst (AreDuties of.monitor logged of.parts) (sym same) of.duties_are;
+        } in
+        explored c logged x xs here limits alone are one orderly whole

@@ -1,0 +1,183 @@
+-- The calls of a list are those with which its domain follows the list in an order of the script.
+use Rattle.std.proofs.Common.{◌≡◌, ℕ, List, [], ◌∷◌, ◌++◌, Some, None, Result, Ok, Err, append_assoc, refl, sym, ap}
+use Rattle.std.proofs.Common.{◌∙◌, subst}
+use Rattle.gt_types.specs.declared.DomId.{DomId}
+use Rattle.gt_types.specs.declared.Size.{Size}
+use Rattle.gt_types.specs.declared.config.Config.{Config}
+use Rattle.gt_types.specs.declared.denial.Denial.{Denial}
+use Rattle.gt_handles.specs.Handles.{HandleMap}
+use Rattle.gt_handles.specs.declared.handles.Handle.{Handle}
+use Rattle.gt_calls.specs.declared.action.CallResult.TheVariants.{Granted}
+use Rattle.gt_calls.specs.declared.held.HeldPin.{HeldPin}
+use Rattle.gt_calls.specs.declared.request.Request.{Request}
+use Rattle.gt_calls.specs.declared.request.Request.TheVariants as requests
+use Rattle.gt_core.specs.History.{History as Items}
+use Rattle.gt_core.specs.declared.trace.Answer.{Answer}
+use Rattle.gt_core.specs.declared.trace.Answer.TheVariants as answers
+use Rattle.gt_host.specs.Printing.{answer_line}
+use Rattle.gt_host.specs.Runs.{SaysRequest, Named, handle_given, label_given, with_name}
+use Rattle.gt_script.specs.Lists.{RunAction, RunTask}
+use Rattle.gt_script.specs.declared.tasks.RunActionBy.TheVariants.{Do}
+use Rattle.gt_script_lines.specs.declared.calls.ScriptCall.{ScriptCall}
+use Rattle.gt_explore_replay.specs.Orders.{CallHappens, DeedHappens, FollowsList, GivesMappingsBack, Happening, Prints, given_up}
+use Rattle.gt_explore_replay.specs.Orders.{handles_without, held_after}
+use Rattle.gt_frames.specs.Receipts.{Reading}
+use Rattle.gt_words.specs.Conditions.{Board}
+use Rattle.gt_live.specs.Domains.{AllowRelation}
+use Rattle.gt_live.specs.Mappings.{KeepsMappings}
+use Rattle.gt_live.specs.declared.domain.Domain.{Domain}
+use Rattle.gt_live.specs.declared.monitor.Monitor.{Monitor}
+use Rattle.gt_run.specs.Asking.{AnswersCall, HasBytes, IsReadAnswer, frames_answer, plain_answer, size_answer, version_answer}
+use Rattle.gt_order.proofs.Happenings.{call-happens, happenings, happenings-both}
+use Rattle.gt_order.proofs.Held.{Keeps, keeps-less, keeps-more, keeps-same}
+use Rattle.gt_order.specs.Explored.{IsNotLost}
+use Rattle.gt_order.specs.Leaving.{AreUnmaps}
+use Rattle.gt_order.specs.Ordering.{items_by_outcome, items_of_call, items_of_calls, way_of}
+use Rattle.gt_order.specs.Runs.{AreCalls, CallMade, CallOutcome, IsAnswered, domain_after}
+use Rattle.gt_order.specs.Runs.CallOutcome.{Told, Kept, Starved, Read, Wrote}
+use Rattle.gt_order.specs.Texts.{OutcomeGivesAnswer}
+
+-- the handles after an answer
+
+plain-held : {R : Type 0} (held : List Handle) (r : Result R Denial) → held_after held None (plain_answer r) ≡ held
+plain-held held (Ok done) = refl
+plain-held held (Err denial) = refl
+
+frames-held : (held : List Handle) (r : Result ℕ Denial) → held_after held None (frames_answer r) ≡ held
+frames-held held (Ok n) = refl
+frames-held held (Err denial) = refl
+
+size-held : (held : List Handle) (r : Result Size Denial) → held_after held None (size_answer r) ≡ held
+size-held held (Ok s) = refl
+size-held held (Err denial) = refl
+
+version-held : (held : List Handle) (r : Result ℕ Denial) → held_after held None (version_answer r) ≡ held
+version-held held (Ok n) = refl
+version-held held (Err denial) = refl
+
+bytes-held : (held : List Handle) (ys : List ℕ) (answer : Answer) → HasBytes ys answer → held_after held None answer ≡ held
+bytes-held held ys (answers.Bytes b) h = refl
+bytes-held held ys answer h = absurd h
+
+read-held : (held : List Handle) (r : Result Reading Denial) (answer : Answer) → IsReadAnswer r answer → held_after held None answer ≡ held
+read-held held (Ok r) answer told = bytes-held held r.bytes answer told
+read-held held (Err denial) answer told = ap (held_after held None) told
+
+module _ {P : Type 0} (may : P → AllowRelation) (m : Monitor P) (d e : Domain) (held : List Handle) (k : Keeps d.mappings held) where
+  kept-so : (answer : Answer) → held_after held None answer ≡ held → KeepsMappings d.mappings e.mappings → Keeps e.mappings (held_after held None answer)
+  kept-so answer same keeps = subst (Keeps e.mappings) (sym same) (keeps-same d.mappings e.mappings held keeps k)
+
+  told-so : (answer told : Answer) → answer ≡ told → held_after held None told ≡ held → KeepsMappings d.mappings e.mappings → Keeps e.mappings (held_after held None answer)
+  told-so answer told is same keeps = kept-so answer (ap (held_after held None) is ∙ same) keeps
+
+  -- after an answered call the domain has the handles that its list gives it
+  pub answered-keeps : (request : Request) (answer : Answer) → AnswersCall may m d request answer e → Keeps e.mappings (held_after held (given_up request) answer)
+  answered-keeps (requests.Map dom gref flags) answer (Ok handle, is, (p, called, adds), told) =
+      subst (λ (a : Answer). Keeps e.mappings (held_after held None a)) (sym is) (keeps-more d.mappings e.mappings handle p held adds k)
+  answered-keeps (requests.Map dom gref flags) answer (Err denial, is, (called, kept), told) = told-so answer (answers.Denied denial) is refl kept.0
+  answered-keeps (requests.Unmap handle) answer (Ok done, is, answered, removed, refused, told) =
+      subst (λ (a : Answer). Keeps e.mappings (held_after held (Some handle) a)) (sym is) (keeps-less d.mappings e.mappings handle removed.0 held removed.1 k).keeps
+  answered-keeps (requests.Unmap handle) answer (Err denial, is, answered, removed, refused, told) =
+      subst (λ (a : Answer). Keeps e.mappings (held_after held (Some handle) a)) (sym is) (keeps-same d.mappings e.mappings held refused.0 k)
+  answered-keeps (requests.SetVersion version) answer (r, is, (answered, kept, told)) = told-so answer (plain_answer r) is (plain-held held r) kept.0
+  answered-keeps (requests.SetupTable frames) answer (r, is, (answered, kept, told)) = told-so answer (frames_answer r) is (frames-held held r) kept.0
+  answered-keeps (requests.QuerySize dom) answer (r, is, (answered, kept, told)) = told-so answer (size_answer r) is (size-held held r) kept.0
+  answered-keeps (requests.GetVersion dom) answer (r, is, (answered, kept, told)) = told-so answer (version_answer r) is (version-held held r) kept.0
+  answered-keeps (requests.Load handle off len) answer (r, is, (accessed, kept, silent)) = kept-so answer (read-held held r answer is) kept.0
+  answered-keeps (requests.Peek frame off len) answer (r, is, (accessed, kept, silent)) = kept-so answer (read-held held r answer is) kept.0
+  answered-keeps (requests.Store handle off bytes) answer (r, is, (accessed, kept, silent)) = told-so answer (plain_answer r) is (plain-held held r) kept.0
+  answered-keeps (requests.Poke frame off bytes) answer (r, is, (accessed, kept, silent)) = told-so answer (plain_answer r) is (plain-held held r) kept.0
+  answered-keeps (requests.Copy args) answer (r, is, accessed, kept, told) = told-so answer (plain_answer r) is (plain-held held r) kept.0
+  answered-keeps (requests.Grant gref entry) answer (r, is, (answered, kept, silent)) = told-so answer (plain_answer r) is (plain-held held r) kept.0
+  answered-keeps (requests.GrantBytes gref bytes) answer (r, is, (answered, kept, silent)) = told-so answer (plain_answer r) is (plain-held held r) kept.0
+  answered-keeps (requests.Revoke gref) answer (r, is, (answered, kept, silent)) = told-so answer (plain_answer r) is (plain-held held r) kept.0
+  answered-keeps (requests.Withdraw gref) answer (r, is, (answered, kept, silent)) = told-so answer (plain_answer r) is (plain-held held r) kept.0
+  answered-keeps (requests.Demote gref) answer (r, is, (answered, kept, silent)) = told-so answer (plain_answer r) is (plain-held held r) kept.0
+  answered-keeps (requests.Promote gref) answer (r, is, (answered, kept, silent)) = told-so answer (plain_answer r) is (plain-held held r) kept.0
+
+module _ (c : Config) (may : AllowRelation) (types : List (List ℕ)) (dom : DomId) where
+  same-items : (m : CallMade) (out : CallOutcome) (answer : Answer) → OutcomeGivesAnswer out answer → IsNotLost answer
+      → items_by_outcome dom (way_of c may m) m.request out m.steps ≡ items_of_call dom (way_of c may m) m.request (Some answer) m.steps
+  same-items m (Told verdict) answer gives whole = ap (λ (a : Answer). items_of_call dom (way_of c may m) m.request (Some a) m.steps) (sym gives)
+  same-items m (Kept handle p) answer gives whole = ap (λ (a : Answer). items_of_call dom (way_of c may m) m.request (Some a) m.steps) (sym gives)
+  same-items m (Read bytes) answer gives whole = ap (λ (a : Answer). items_of_call dom (way_of c may m) m.request (Some a) m.steps) (sym gives)
+  same-items m Wrote answer gives whole = ap (λ (a : Answer). items_of_call dom (way_of c may m) m.request (Some a) m.steps) (sym gives)
+  same-items m Starved answer gives whole = absurd (whole gives.0 gives.1 gives.2)
+
+  -- whatever follows these calls follows the lines of the list that made them
+  abbrev pub Follows : List Named → List Handle → List RunTask → List CallMade → List ℕ → Type 0
+  Follows named held done made printed =
+      (rest : List RunTask) (more : List Happening) (text : List ℕ) → FollowsList types dom named held rest more text
+      → FollowsList types dom [] [] (done ++ rest) (happenings (items_of_calls c may dom made) ++ more) (printed ++ text)
+
+  pub follows-none : Follows [] [] [] [] []
+  follows-none rest more text f = f
+
+  pub follows-more : (named : List Named) (held : List Handle) (done : List RunTask) (made : List CallMade) (printed : List ℕ) (task : RunTask) (call : ScriptCall) (m : CallMade) (answer : Answer)
+      → Follows named held done made printed → task.deed ≡ Do call → SaysRequest named dom call m.request → OutcomeGivesAnswer m.outcome answer → IsNotLost answer
+      → Follows (with_name named dom (label_given call) (handle_given answer)) (held_after held (given_up m.request) answer) (done ++ task ∷ []) (m ∷ made) (printed ++ answer_line types task.line dom answer)
+  follows-more named held done made printed task call m answer before is says gives whole rest more text f =
+      subst (λ (ts : List RunTask). FollowsList types dom [] [] ts (happenings (mine ++ items_of_calls c may dom made) ++ more) ((printed ++ line) ++ text)) (sym (append_assoc done (task ∷ []) rest))
+      (subst (λ (hs : List Happening). FollowsList types dom [] [] (done ++ task ∷ rest) hs ((printed ++ line) ++ text))
+      (sym (ap (λ (hs : List Happening). hs ++ more) (happenings-both mine (items_of_calls c may dom made)) ∙ append_assoc (happenings (items_of_calls c may dom made)) (happenings mine) more))
+      (subst (λ (t : List ℕ). FollowsList types dom [] [] (done ++ task ∷ rest) (happenings (items_of_calls c may dom made) ++ (happenings mine ++ more)) t) (sym (append_assoc printed line text))
+      (before (task ∷ rest) (happenings mine ++ more) (line ++ text) deed)))
+    where
+      mine : Items
+      mine = items_by_outcome dom (way_of c may m) m.request m.outcome m.steps
+
+      line : List ℕ
+      line = answer_line types task.line dom answer
+
+      NextOf : List Named → List Handle → List Happening → List ℕ → Type 0
+      NextOf names holds hs left = FollowsList types dom names holds rest hs left
+
+      After : Answer → List Happening → Type 0
+      After a hs = Prints (answer_line types task.line dom a) (NextOf (with_name named dom (label_given call) (handle_given a)) (held_after held (given_up m.request) a) hs) (line ++ text)
+
+      happens : CallHappens dom m.request After (happenings mine ++ more)
+      happens = subst (λ g. CallHappens dom m.request After (happenings g ++ more)) (sym (same-items m m.outcome answer gives whole)) (call-happens dom (way_of c may m) m.request answer m.steps After more (text, refl, f))
+
+      deed : DeedHappens types dom named held task.line task.deed NextOf (happenings mine ++ more) (line ++ text)
+      deed = subst (λ (x : RunAction). DeedHappens types dom named held task.line x NextOf (happenings mine ++ more) (line ++ text)) (sym is) (m.request, says, happens)
+
+  -- the unmaps with which a domain leaves
+  pub record GivesBack (held : List Handle) (us : List CallMade) (after : Domain) : Type 0 where
+    pub order : List Handle
+    pub held' : List Handle
+    pub keeps : Keeps after.mappings held'
+    pub back : (last : List Handle) (more : List Happening) → GivesMappingsBack dom last held' more → GivesMappingsBack dom (order ++ last) held (happenings (items_of_calls c may dom us) ++ more)
+
+  pub gives-back : (b : Board) (d : Domain) (us : List CallMade) (held : List Handle) → AreCalls b c may d us → AreUnmaps us → Keeps d.mappings held → GivesBack held us (domain_after d us)
+  gives-back b d [] held calls unmaps k = record { order = []; held' = held; keeps = k; back = λ last more g. g }
+  gives-back b d (u ∷ us) held calls unmaps k =
+      let was = gives-back b d us held calls.2 unmaps.1 k in
+      let old : Keeps u.old.mappings was.held' = subst (λ (x : HandleMap HeldPin). Keeps x was.held') (sym calls.1.mappings) was.keeps in
+      let answered : IsAnswered b c may (requests.Unmap unmaps.0.0) (Told Granted) u.steps u.old u.new = subst (λ (r : Request). IsAnswered b c may r (Told Granted) u.steps u.old u.new) unmaps.0.1
+      (subst (λ (o : CallOutcome). IsAnswered b c may u.request o u.steps u.old u.new) unmaps.0.2 calls.0.answered) in
+      let less = keeps-less u.old.mappings u.new.mappings unmaps.0.0 answered.2.0 was.held' answered.2.1 old in
+      let mine = items_by_outcome dom (way_of c may u) u.request u.outcome u.steps in
+      let same : mine ≡ items_of_call dom (way_of c may u) (requests.Unmap unmaps.0.0) (Some answers.Done) u.steps = λ j. items_by_outcome dom (way_of c may u) (unmaps.0.1 j) (unmaps.0.2 j) u.steps in record {
+        order = was.order ++ unmaps.0.0 ∷ [];
+        held' = handles_without unmaps.0.0 was.held';
+        keeps = less.keeps;
+        back = λ last more g.
+            let one : GivesMappingsBack dom (unmaps.0.0 ∷ last) was.held' (happenings mine ++ more) = (
+              less.before,
+              less.after,
+              less.whole,
+              subst (λ g. CallHappens dom (requests.Unmap unmaps.0.0) (λ answer more. (answer ≡ answers.Done) × GivesMappingsBack dom last (less.before ++ less.after) more) (happenings g ++ more)) (sym same)
+                  (call-happens dom (way_of c may u) (requests.Unmap unmaps.0.0) answers.Done u.steps (λ answer more. (answer ≡ answers.Done) × GivesMappingsBack dom last (less.before ++ less.after) more) more (refl, subst (λ (l : List Handle). GivesMappingsBack dom last l more) less.left g)),
+            ) in
+            subst (λ (l : List Handle). GivesMappingsBack dom l held (happenings (mine ++ items_of_calls c may dom us) ++ more)) (sym (append_assoc was.order (unmaps.0.0 ∷ []) last))
+            (subst (GivesMappingsBack dom (was.order ++ unmaps.0.0 ∷ last) held)
+            (sym (ap (λ (hs : List Happening). hs ++ more) (happenings-both mine (items_of_calls c may dom us)) ∙ append_assoc (happenings (items_of_calls c may dom us)) (happenings mine) more))
+            (was.back (unmaps.0.0 ∷ last) (happenings mine ++ more) one));
+      }
+
+  -- the calls of a list, and the unmaps behind them
+  pub calls-both : (us ms : List CallMade) → items_of_calls c may dom (us ++ ms) ≡ items_of_calls c may dom us ++ items_of_calls c may dom ms
+  calls-both [] ms = refl
+  calls-both (u ∷ us) ms =
+      ap (λ l. items_by_outcome dom (way_of c may u) u.request u.outcome u.steps ++ l) (calls-both us ms)
+      ∙ sym (append_assoc (items_by_outcome dom (way_of c may u) u.request u.outcome u.steps) (items_of_calls c may dom us) (items_of_calls c may dom ms))
