@@ -1,5 +1,5 @@
 -- A route that reaches a range for writing covers it by its writ.
-use Rattle.std.proofs.Common.{◌≡◌, ℕ, true, ◌&&◌, IsTrue, sym, ◌∙◌, ap, subst, arith}
+use Rattle.std.proofs.Common.{◌≡◌, ℕ, true, ◌&&◌, IsTrue, sym, ◌∙◌, ap, arith}
 use Rattle.std.proofs.lemmas.Bool.{and_from, eq-eqb}
 use Rattle.std.proofs.lemmas.Bool.Decides.{nat_tests}
 use Rattle.gt_types.specs.declared.DomId.{DomId}
