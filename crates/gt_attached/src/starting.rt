@@ -59,7 +59,7 @@ fn all_guests<P: Allows + Drop>(
 /// frames from 1 on.
 ///
 /// # Errors
-/// The first fault of the configuration, where no number of frames is too large; or `Memory`. No domain is left.
+/// The first fault of the configuration, or `Memory`. Any number of frames from 1 on is in range. No domain is left.
 pub fn start<P: Allows + Drop>(
     alloc: Global,
     config: Config,

@@ -117,7 +117,7 @@ pub enum Invocation<'a> {
         file: Option<&'a str>,
         more: MoreFiles<'a>,
     },
-    /// Any type or any permission, if there is no name.
+    /// `None` is any type or any permission.
     Why {
         source: Option<&'a str>,
         target: Option<&'a str>,

@@ -103,7 +103,7 @@ fn check_places(
 /// Reads an expression as conditions on the texts of a script.
 ///
 /// # Errors
-/// `Expression` with the first term that is no condition, or that speaks of a line or a domain that the script does not
+/// `Expression` with the first term that is not a condition, or that names a line or a domain that the script does not
 /// have; and `Memory`.
 pub fn conditions_for<'e>(
     alloc: Global,

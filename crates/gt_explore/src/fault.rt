@@ -22,7 +22,7 @@ pub enum TextsFault {
     Astray,
     /// No text has the number of the witness.
     Witness,
-    /// The expression is none, or speaks of a line or a domain that the script does not have.
+    /// A term of the expression is not a condition, or names a line or a domain that the script does not have.
     Expression(ExpressionFault),
 }
 

@@ -48,7 +48,7 @@ pub enum NextMove {
     Free,
 }
 
-// Returns whether a step of the first domain reads or changes the words of this entry. A copy that gives back a pin may
+// Returns whether a step of the first domain reads or changes the words of this entry. A copy that releases a pin may
 // do so on any entry.
 fn is_on(dom: DomId, step: Step, owner: DomId, gref: GrantRef) -> bool
     ensures { result ≡ is_on dom step owner.0 gref.0 }

@@ -172,7 +172,7 @@ fn read_terms<'e>(alloc: Global, terms: &[&'e [u8]]) -> Result<Vec<Condition<'e>
 /// of this domain that does.
 ///
 /// # Errors
-/// The first term that is no condition, and `Memory`.
+/// The first term that is not a condition, and `Memory`.
 pub fn conditions_of<'e>(
     alloc: Global,
     text: &'e str,

@@ -48,7 +48,7 @@ fn looks_like_rule(word: &[u8]) -> bool
     }
 }
 
-/// Returns whether the word is written as a rule and is none.
+/// Returns whether the word looks like a rule but names none of them.
 pub fn is_wrong_rule(word: &[u8]) -> bool
     ensures { result ≡ is_wrong_rule word.now }
 {

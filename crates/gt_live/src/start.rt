@@ -148,7 +148,7 @@ impl<P: Allows + Drop> Monitor<P> {
     /// whole copies are N16 at their access. A domain may have any number of frames from 1 on.
     ///
     /// # Errors
-    /// The first fault of the configuration, where no number of frames is too large; or `Memory`.
+    /// The first fault of the configuration, or `Memory`. Any number of frames from 1 on is in range.
     pub fn without_frames(
         alloc: Global,
         config: Config,

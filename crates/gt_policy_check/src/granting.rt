@@ -184,8 +184,8 @@ fn gives_any_permission<'a>(
     Perms::EVERY.iter().any(|perm| gives_some(statement, sources, targets, perm.name()))
 }
 
-/// Returns whether a statement grants the permission, or any if there is none, to some of the sources on some of the
-/// targets.
+/// Returns whether a statement grants the permission, or any permission if it is `None`, to some of the sources on some
+/// of the targets.
 pub(crate) fn gives_of<'a>(
     statement: &Statement,
     sources: &[Member<'a>],
@@ -250,7 +250,7 @@ fn near_any_permission<'a>(
         .any(|perm| near_some(statement, sources, targets, perm.name()))
 }
 
-/// Returns whether a statement is a near miss for the permission, or for any if there is none.
+/// Returns whether a statement is a near miss for the permission, or for any permission if it is `None`.
 pub(crate) fn near_of<'a>(
     statement: &Statement,
     sources: &[Member<'a>],

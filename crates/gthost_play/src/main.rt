@@ -121,7 +121,7 @@ impl<I: Read + Drop, F: Read + Drop> Read for Source<I, F> {
     }
 }
 
-// Opens the file of this name, or the standard input if there is none.
+// Opens the file of this name. `None` is the standard input.
 fn opened<R: Runtime>(rt: &R, name: Option<&str>) -> Result<Source<R::Reader, R::File>, Failure> {
     let Some(name) = name else {
         return Ok(Source::Input(rt.reader()));
