@@ -75,8 +75,8 @@ fn make_domains<P: Allows>(
     Ok(domains)
 }
 
-// Makes the words and seats of a run whose frames the caller keeps, and its roster. The configuration is checked with at
-// most one frame a domain.
+// Makes the words and seats of a run whose frames the caller keeps, and its roster. The configuration is checked with
+// at most one frame a domain.
 fn frameless_words(alloc: Global, config: Config) -> Result<(Words, Vec<Seat>, Roster), StartFault>
     ensures ok { OnOk result (IsRunnable config) }
     ensures words { IfOk result (λ r. r.0.layout ≡ layout_of config) }
