@@ -16,6 +16,7 @@
 
 mod calls;
 mod frames;
+mod gathering;
 mod laws;
 mod start;
 mod words;

@@ -1,13 +1,14 @@
-//! The seats of a run at its start.
+//! The seats of a run at its start, and its configuration without frames.
 ghost use Rattle.std.specs.Prelude.{◌≡◌, ℕ, ◌<◌, length, IfOk, HoldsAt};
 ghost use Rattle.gt_types.specs.Config.{IsWithinLimits};
 ghost use Rattle.gt_words.specs.Answers.{IsNewSeat};
+ghost use Rattle.gt_words.specs.Frameless.{IsFrameless};
 ghost use Rattle.gt_word_history.specs.Places.{IsNewPlace};
 ghost use Rattle.gt_word_history.specs.Rule.{layout_of};
 
 use crate::words::{DomainPosition, Seat};
 use gt_shared_table::{SharedTable, TableSeat};
-use gt_types::Config;
+use gt_types::{Config, DomainConfig, Memory};
 use gt_word_history::first_header;
 use std::alloc::{AllocError, Global};
 
@@ -53,4 +54,21 @@ pub(crate) fn deal_seats(
     }
     seats.insert(0, new_seat(words, config, first, 0))?;
     Ok(seats)
+}
+
+/// Copies a configuration, with no frames.
+pub(crate) fn without_frames(alloc: Global, config: &Config) -> Result<Config, Memory>
+    ensures { IfOk result (λ c. IsFrameless config.now c) }
+{
+    let mut domains = Vec::new(alloc);
+    'domains: for domain in &config.domains {
+        domains.push(DomainConfig {
+            frames: 0,
+            ..*domain
+        })?;
+    }
+    Ok(Config {
+        domains,
+        first_gen: config.first_gen,
+    })
 }

@@ -11,7 +11,6 @@ ghost use Rattle.gt_words.specs.Conditions.{Board, SeatOf, IsOfRun, IsSeatOf, Is
 ghost use Rattle.gt_words.specs.Answers.{IsNewSeat, IsStartFault};
 ghost use Rattle.gt_shared_table.specs.Words.{HasTable, frames_kept};
 ghost use Rattle.gt_types.specs.declared.places.FrameName.{FrameName};
-ghost use Rattle.gt_words.specs.Frameless.{IsFrameless};
 ghost use Rattle.gt_words.specs.Frames.{KeepsFrame};
 ghost use Rattle.gt_words.specs.Conditions.{IsEntryOf, position_at, with_version, with_frames, IsWordOf, Holds};
 ghost use Rattle.gt_words.specs.Conditions.{CanPin, CanPublish, CanRevoke, CanWithdraw, CanDemote, CanTurn, CountsPins};
@@ -20,13 +19,11 @@ ghost use Rattle.gt_words.specs.Answers.{UnpinsPin, Pins, MissesPin, Changes, Mi
 ghost use Rattle.gt_words.specs.Answers.{Demotes, Publishes};
 
 use crate::calls;
-use crate::start::deal_seats;
+use crate::start::{deal_seats, without_frames};
 use gt_entry::{BodyWord, Control, Entry, EntryChange, Header};
 use gt_roster::Positions;
-use gt_shared_table::{Gathered, SharedTable, TableSeat};
-use gt_types::{
-    Config, Dir, DomId, DomainConfig, GrantRef, MAX_TABLE_FRAMES, Memory, StartFault, TABLE_ENTRIES,
-};
+use gt_shared_table::{SharedTable, TableSeat};
+use gt_types::{Config, Dir, DomId, GrantRef, MAX_TABLE_FRAMES, Memory, StartFault, TABLE_ENTRIES};
 use gt_word_history::EntryAt;
 use std::alloc::Global;
 use std::marker::Model;
@@ -451,56 +448,6 @@ impl Words {
         };
         calls::promote(&self.words, &mut seat.place, at, word)
     }
-}
-
-impl Words {
-    ghost use Rattle.std.specs.Prelude.{◌≡◌, ◌∷◌, []};
-    ghost use Rattle.gt_word_history.specs.Joining.{StandTogether, with_view};
-
-    /// Begins to gather the seats of a run, with the seat of the first domain. A gathered seat makes no more steps.
-    pub fn gather(&self, first: Seat) -> Gathered
-        requires { IsSeatOf self.now first × (first.view.position ≡ 0) }
-        ensures { (result.table ≡ self.now.table) × (result.views ≡ first.view ∷ []) }
-    {
-        let Seat { place, .. } = first;
-        Gathered::new(place)
-    }
-
-    /// Adds a seat to the gathered ones.
-    pub fn gather_more(&self, all: &mut Gathered, other: Seat)
-        requires { (all.old.table ≡ self.now.table) × IsSeatOf self.now other }
-        ensures { (all.new.table ≡ all.old.table) × (all.new.views ≡ with_view other.view all.old.views) }
-    {
-        let Seat { place, .. } = other;
-        self.words.take_in(all, place);
-    }
-
-    /// Loads one word with all gathered seats. By its contract, words and views show one state with the views of all of
-    /// them, so their steps have one order.
-    pub fn tell_of_all(&self, all: &mut Gathered)
-        requires { all.old.table ≡ self.now.table }
-        ensures same { all.new.views ≡ all.old.views }
-        ensures together { StandTogether self.now.layout all.old.views }
-    {
-        self.words.tell_of_all(all);
-    }
-}
-
-// Copies a configuration, with no frames.
-fn without_frames(alloc: Global, config: &Config) -> Result<Config, Memory>
-    ensures { IfOk result (λ c. IsFrameless config.now c) }
-{
-    let mut domains = Vec::new(alloc);
-    'domains: for domain in &config.domains {
-        domains.push(DomainConfig {
-            frames: 0,
-            ..*domain
-        })?;
-    }
-    Ok(Config {
-        domains,
-        first_gen: config.first_gen,
-    })
 }
 
 // Makes the words and the seats of a configuration within the limits, with the frames of another one that is the same
