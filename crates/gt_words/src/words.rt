@@ -462,7 +462,7 @@ fn make_words(alloc: Global, config: &Config, framed: &Config) -> Result<(Words,
     ensures seats { IfOk result (λ r. (i : ℕ) → i < length config.now.domains.items
         → HoldsAt (IsNewSeat r.0 i) r.1.items i) }
 {
-    let (words, first) = SharedTable::new(alloc, framed)?;
+    let (words, first) = SharedTable::new(alloc, framed, 0)?;
     let ids = Positions::new(alloc, config)?;
     let seats = deal_seats(alloc, &words, config, first)?;
     Ok((Words { words, ids }, seats))
