@@ -17,6 +17,7 @@ ghost use Rattle.gt_audit.specs.Telling.{Tells};
 mod bytes;
 mod closing;
 mod copies;
+mod flags;
 mod following;
 mod mappings;
 mod owner_calls;
