@@ -8,6 +8,7 @@ pub mod DomainsAtRest
 pub mod Ending
 pub mod Ends
 pub mod Explored
+pub mod FlagSteps
 pub mod Following
 pub mod Happenings
 pub mod Held

@@ -18,7 +18,9 @@ use Rattle.gt_word_history.specs.Rule.{layout_of, position_in}
 use Rattle.gt_word_history.specs.Steps.{StoodWith}
 use Rattle.gt_word_history.specs.Views.{with_step}
 use Rattle.gt_word_history.specs.declared.view.FrameStep.TheVariants as frames
-use Rattle.gt_word_history.specs.declared.view.SeatStep.TheVariants.{Frame}
+use Rattle.gt_word_history.specs.declared.view.FlagStep.{FlagStep}
+use Rattle.gt_word_history.specs.declared.view.FlagStep.TheVariants.{Passed, Raised}
+use Rattle.gt_word_history.specs.declared.view.SeatStep.TheVariants.{Flag, Frame}
 use Rattle.gt_word_history.specs.declared.view.SeatStep.{SeatStep}
 use Rattle.gt_word_history.specs.declared.view.View.{View}
 use Rattle.gt_calls.specs.Asking.{SpellsItsEntry, asked, begun_of, bytes_given_by}
@@ -38,9 +40,11 @@ use Rattle.gt_core.proofs.Steps.Observers.{stepped}
 use Rattle.gt_core.specs.GoingOn.{AnsweredSo, CanBeReached, MayBeGiven, TellsAccess, begin_answer, beginning}
 use Rattle.gt_core.specs.History.{History as Items, Setting, contents_at, known_at, one_if_mapped, seen_by, table_at}
 use Rattle.gt_core.specs.History.{values}
-use Rattle.gt_core.specs.Legal.{IsRight}
+use Rattle.gt_core.specs.Legal.{IsRight, Legal}
 use Rattle.gt_core.specs.Acting.{answer_of, setting_of}
 use Rattle.gt_core.specs.declared.trace.Answer.{Answer}
+use Rattle.gt_core.specs.declared.trace.Item.{Item}
+use Rattle.gt_shared_table.specs.Bytes.{IsTrueStep}
 use Rattle.gt_core.specs.declared.trace.Answer.TheVariants.{Bytes as BytesAnswer, Done as AnswerDone, Mapped}
 use Rattle.gt_live.proofs.Walking.{after-position}
 use Rattle.gt_live.specs.Domains.{AllowRelation, knowledge}
@@ -51,23 +55,28 @@ use Rattle.gt_order.proofs.Accesses.{AccessedAs, accessed-as, read-as, read-byte
 use Rattle.gt_order.proofs.Bytes.{said}
 use Rattle.gt_order.proofs.Called.{leaves}
 use Rattle.gt_order.proofs.Ending.{RefusesOnly, answered-at-once, answers, asked-refuses, begins, core-adds, ends-kept}
-use Rattle.gt_order.proofs.Ending.{ends-accessed, ends-told, going-on, going-on-accessed, keeps-at-once, known-alike}
+use Rattle.gt_order.proofs.Ending.{ends-accessed, after-flag, ends-told, going-on, going-on-accessed, grows-last, grows-on}
+use Rattle.gt_order.proofs.Ending.{keeps-at-once, known-alike}
 use Rattle.gt_order.proofs.Ending.{no-pin-at-once, starves}
 use Rattle.gt_order.proofs.NextAccess.{accesses-so}
 use Rattle.gt_order.proofs.NextItem.{goes-so, on-way, unanswered}
 use Rattle.gt_order.proofs.Making.{made-as, one-moment}
 use Rattle.gt_order.proofs.DomainsAtRest.{can-be-answered, keeps-agreement}
-use Rattle.gt_order.proofs.Stages.{Fits, IsGoing, Ordered, SeatNow, Stage, one-more}
+use Rattle.gt_order.proofs.FlagSteps.{agree-on-flag, raised-in}
+use Rattle.gt_order.proofs.Stages.{Fits, IsGoing, Ordered, SeatNow, Stage, one-more, order_now, own-more}
 use Rattle.gt_order.proofs.Stages.Stage.{Going, Resting}
 use Rattle.gt_order.proofs.Start.{ordered-first}
 use Rattle.gt_order.proofs.Stepping.{bounded-quiet, bounded-step}
 use Rattle.gt_order.proofs.Walks.{as-walk}
 use Rattle.gt_order.specs.Agreeing.{IsThe, WritesAgree, dom_at}
 use Rattle.gt_order.specs.Laws.{RunsHaveLegalOrders}
-use Rattle.gt_order.specs.Ordering.{AreStepsOf, IsLegalOrder, IsNewest, item_of_beginning, items_by_outcome}
-use Rattle.gt_order.specs.Ordering.{items_of_call, way_of}
-use Rattle.gt_order.specs.Runs.{AreCalls, CallMade, CallOutcome, IsAnswered, IsAtRest, IsCall, IsCallWalk, KeepsNoPin}
-use Rattle.gt_order.specs.Runs.{LeavesMappings, MakesAccess, MakesTurn, TookSteps, domain_after}
+use Rattle.gt_order.specs.Ordering.{AreStepsOf, IsLegalOrder, IsNewest, Occurrence, RunOrder, WasRaised, events_of}
+use Rattle.gt_order.specs.Ordering.{item_of_beginning, items_by_outcome, items_of_call, of_core, order_of_deeds, trace_of}
+use Rattle.gt_order.specs.Ordering.{way_of}
+use Rattle.gt_order.specs.Ordering.Occurrence.{OfCore, OfFlag}
+use Rattle.gt_order.specs.Runs.{AreDeeds, CallMade, CallOutcome, Deed, FlagMade, IsAnswered, IsAtRest, IsCall, IsCallWalk}
+use Rattle.gt_order.specs.Runs.{KeepsNoPin, LeavesMappings, MakesAccess, MakesTurn, TookSteps, domain_after}
+use Rattle.gt_order.specs.Runs.Deed.{Call, OnFlag}
 use Rattle.gt_order.specs.Runs.CallOutcome.{Told, Kept, Starved, Read, Wrote}
 
 -- a stage in the place of another
@@ -79,6 +88,10 @@ put-here i y f = ap (λ (b : Bool). cond b y (f i)) (eq-eqb i i refl)
 
 put-else : (i : ℕ) (y : Stage) (f : ℕ → Stage) (j : ℕ) → i ≢ j → put i y f j ≡ f j
 put-else i y f j n = ap (λ (b : Bool). cond b y (f j)) (ne_eqb i j n)
+
+-- what its stage before and the one after it are in an order
+grows-by : (c : Config) (may : AllowRelation) (d : DomId) (i : ℕ) (x : Occurrence) (stages : ℕ → Stage) (was is : Stage) → stages i ≡ is → x ∷ order_now c may d was ≡ order_now c may d is → x ∷ order_now c may d (put i was stages i) ≡ order_now c may d (stages i)
+grows-by c may d i x stages was is e grows = ap (λ (st : Stage). x ∷ order_now c may d st) (put-here i was stages) ∙ (grows ∙ ap (order_now c may d) (sym e))
 
 -- how a call is answered that ends so without a pin
 answered-so : (g : Items) (d : DomId) (v : CallResult) → KeepsNoPin v → AnsweredSo g d (Done v) (Some (answer_of v))
@@ -171,11 +184,14 @@ module _ (b : Board) (c : Config) (may : AllowRelation) (limits : IsWithinLimits
   abbrev IsPlaced : ℕ → Domain → Type 0
   IsPlaced i D = (D.seat.view.position ≡ i) × (D.seat.view.first ≡ k.first)
 
-  placed : (i : ℕ) → i < k.domains → (ms : List CallMade) → AreCalls b c may (firsts i) ms → IsPlaced i (domain_after (firsts i) ms)
+  placed : (i : ℕ) → i < k.domains → (ms : List Deed) → AreDeeds b c may (firsts i) ms → IsPlaced i (domain_after (firsts i) ms)
   placed i l [] calls = ((new i l).seat.position, (new i l).seat.first)
-  placed i l (m ∷ ms) calls =
+  placed i l (Call m ∷ ms) calls =
       let p = placed i l ms calls.2 in
       (calls.0.seat.position ∙ (ap (λ (z : SeatOf). z.view.position) calls.1.seat ∙ p.0), calls.0.seat.first ∙ (ap (λ (z : SeatOf). z.view.first) calls.1.seat ∙ p.1))
+  placed i l (OnFlag x ∷ ms) calls =
+      let p = placed i l ms calls.2 in let kept = calls.0.kept.seat in
+      (kept.position ∙ (ap (λ (z : SeatOf). z.view.position) calls.1.seat ∙ p.0), kept.first ∙ (ap (λ (z : SeatOf). z.view.first) calls.1.seat ∙ p.1))
 
   named : (i : ℕ) → i < k.domains → domain_of c.domains.items (dom_at k i) ≢ None
   named i l =
@@ -209,7 +225,7 @@ module _ (b : Board) (c : Config) (may : AllowRelation) (limits : IsWithinLimits
       (tail-same _ _ _ _ all, ap (λ (q : ℕ × SeatStep). q.1) (head-same _ _ _ _ all))
 
   -- the call goes back by one step
-  back : (h : StepHistory) (p : ℕ × SeatStep) (i : ℕ) (ms : List CallMade) (m : CallMade) (xs : List Moment) (x : Moment) → p.0 ≡ i → AreCalls b c may (firsts i) ms → IsAtRest (domain_after (firsts i) ms) m.old → IsCall b c may m → m.old.seat.view.position ≡ i
+  back : (h : StepHistory) (p : ℕ × SeatStep) (i : ℕ) (ms : List Deed) (m : CallMade) (xs : List Moment) (x : Moment) → p.0 ≡ i → AreDeeds b c may (firsts i) ms → IsAtRest (domain_after (firsts i) ms) m.old → IsCall b c may m → m.old.seat.view.position ≡ i
       → (z : Step) × (way_of c may m (all_shown xs) ≡ Some (Makes z)) × StoodWith (Unit {0}) k x.0 (view_after xs m.old.seat.view) → IsCallWalk k (bytes_given_by m.request) (way_of c may m) m.old.seat.view xs
       → (view_after (x ∷ xs) m.old.seat.view).steps ≡ part_of i (p ∷ h) → (view_after (x ∷ xs) m.old.seat.view).past ≡ up_to i (p ∷ h)
       → ((x.0 ≡ h) × (x.1 ≡ p.1)) × Fits b c may h i (firsts i) (Going ms m xs)
@@ -220,7 +236,7 @@ module _ (b : Board) (c : Config) (may : AllowRelation) (limits : IsWithinLimits
       let before : v.steps ≡ part_of i h = tail-same _ _ _ _ (steps ∙ top) in let stood = newest.2 in (
         same,
         record {
-          is = record { calls = calls; rests = rest; call = call; walked = walk; step = newest.0; next = newest.1 };
+          is = record { deeds = calls; rests = rest; call = call; walked = walk; step = newest.0; next = newest.1 };
           steps = before;
           past = (stood.1.led_here.parts v.position v stood.2).1 ∙ (λ j. up_to (at-v j) (same.0 j));
         },
@@ -240,9 +256,9 @@ module _ (b : Board) (c : Config) (may : AllowRelation) (limits : IsWithinLimits
 
   -- the beginning of a call that is to make a step
 
-  begin-call : (h : StepHistory) (i : ℕ) (l : i < k.domains) (m : CallMade) (ms : List CallMade) (stages : ℕ → Stage) → stages i ≡ Going ms m [] → IsGoing b c may (firsts i) ms m [] → Ordered b c may h firsts (put i (Resting ms) stages) → Ordered b c may h firsts stages
+  begin-call : (h : StepHistory) (i : ℕ) (l : i < k.domains) (m : CallMade) (ms : List Deed) (stages : ℕ → Stage) → stages i ≡ Going ms m [] → IsGoing b c may (firsts i) ms m [] → Ordered b c may h firsts (put i (Resting ms) stages) → Ordered b c may h firsts stages
   begin-call h i l m ms stages e going o =
-      let d = dom_at k i in let call = going.call in let rest = going.rests in let at = placed i l ms going.calls in
+      let d = dom_at k i in let call = going.call in let rest = going.rests in let at = placed i l ms going.deeds in
       let seat = subst (SeatNow c may o.g d (firsts i)) (put-here i (Resting ms) stages) (o.each i l) in
       let known : known_at s o.g d ≡ knowledge c may m.old = seat.known ∙ sym (known-alike b c may limits is i l (firsts i) (named i l) (domain_after (firsts i) ms) m.old rest) in
       let own : m.old.seat.dom ≡ d = sym call.before.seat.named ∙ ap (dom_at k) (ap (λ (z : SeatOf). z.view.position) rest.seat ∙ at.0) in
@@ -255,12 +271,12 @@ module _ (b : Board) (c : Config) (may : AllowRelation) (limits : IsWithinLimits
       let reached : CanBeReached s (item ∷ o.g) = subst (λ (z : Option CallResult). CanBeReached s (beginning d m.request (begin_answer z) ∷ o.g)) here begun.1 in
       one-more b c may limits is h h firsts (put i (Resting ms) stages) stages i item o l refl (named i l) right reached
       (keeps-agreement s k o.g h item (record { changes = λ z. refl; pins = λ before ps. refl; unpins = λ ps. refl }) refl (λ z half. refl) o.agree) o.steps (writes-by-none k o.g h item (λ given contents. refl) o.writes) (bounded-quiet k o.g item (record { changes = λ z. refl; pins = λ before ps. refl; unpins = λ ps. refl }) o.bounded)
-      (λ j n. sym (put-else i (Resting ms) stages j n))
+      (λ j n. sym (put-else i (Resting ms) stages j n)) (grows-by c may d i (OfCore item) stages (Resting ms) (Going ms m []) e refl)
       (subst (SeatNow c may (item ∷ o.g) d (firsts i)) (sym e) (begins b c may limits is i l (firsts i) (named i l) o.g ms m rest seat))
 
   -- a call without a step, after those before it
 
-  quiet-call : (h : StepHistory) (i : ℕ) (l : i < k.domains) (m : CallMade) (ms : List CallMade) (stages : ℕ → Stage) → stages i ≡ Resting (m ∷ ms) → m.steps ≡ [] → AreCalls b c may (firsts i) (m ∷ ms)
+  quiet-call : (h : StepHistory) (i : ℕ) (l : i < k.domains) (m : CallMade) (ms : List Deed) (stages : ℕ → Stage) → stages i ≡ Resting (Call m ∷ ms) → m.steps ≡ [] → AreDeeds b c may (firsts i) (Call m ∷ ms)
       → (domain_after (firsts i) ms).seat.view.steps ≡ part_of i h → Ordered b c may h firsts (put i (Resting ms) stages) → Ordered b c may h firsts stages
   quiet-call h i l m ms stages e none calls steps o = by m.outcome refl calls.0.answered
     where
@@ -298,15 +314,23 @@ module _ (b : Board) (c : Config) (may : AllowRelation) (limits : IsWithinLimits
       by : (out : CallOutcome) → m.outcome ≡ out → IsAnswered b c may m.request out m.steps m.old m.new → Ordered b c may h firsts stages
       by Starved out a = record {
         g = o.g;
+        order = o.order;
+        items = o.items;
         reached = o.reached;
         agree = o.agree;
         legal = o.legal;
         steps = o.steps;
         writes = o.writes;
+        flags = o.flags;
         bounded = o.bounded;
+        own = λ j lj. o.own j lj ∙ elim (cases_eq i j) [
+          | inl f ↦ subst (λ (z : ℕ). order_now c may (dom_at k z) (put i (Resting ms) stages z) ≡ order_now c may (dom_at k z) (stages z)) f
+              (ap (order_now c may d) (put-here i (Resting ms) stages) ∙ ((λ j. of_core (items_by_outcome d (way_of c may m) m.request (sym out j) m.steps) ++ order_of_deeds c may d ms) ∙ ap (order_now c may d) (sym e)))
+          | inr n ↦ ap (order_now c may (dom_at k j)) (sym (same j n))
+        ];
         each = λ j lj. elim (cases_eq i j) [
           | inl f ↦ subst (λ (z : ℕ). SeatNow c may o.g (dom_at k z) (firsts z) (stages z)) f (subst (SeatNow c may o.g d (firsts i)) (sym e)
-              (starves b c may limits is i l (firsts i) (named i l) o.g h ms m o.reached o.agree call rest out a.1 a.2 at.0 at.1 steps seat))
+              (starves b c may limits is i l (firsts i) (named i l) o.g h ms m o.reached o.agree call rest a.1 a.2 at.0 at.1 steps seat))
           | inr n ↦ subst (SeatNow c may o.g (dom_at k j) (firsts j)) (sym (same j n)) (o.each j lj)
         ];
       }
@@ -321,14 +345,15 @@ module _ (b : Board) (c : Config) (may : AllowRelation) (limits : IsWithinLimits
           let agree = keeps-agreement s k o.g h item (record { changes = λ z. refl; pins = λ before ps. refl; unpins = λ ps. refl }) refl (λ z half. refl) o.agree in
           let keeps = keeps-at-once (asked m.request) verdict m.old.mappings m.new.mappings (subst (RefusesOnly (asked m.request)) op (asked-refuses (knowledge c may m.old) m.old.seat.dom m.request)) a.2 in
           one-more b c may limits is h h firsts (put i (Resting ms) stages) stages i item o l refl (named i l) answered.0 answered.1 agree o.steps (writes-by-none k o.g h item (λ given contents. refl) o.writes) (bounded-quiet k o.g item (record { changes = λ z. refl; pins = λ before ps. refl; unpins = λ ps. refl }) o.bounded) same
-          (subst (SeatNow c may (item ∷ o.g) d (firsts i)) (sym e) (answers b c may limits is i l (firsts i) (named i l) o.g h ms m verdict answered.1 agree call rest out none view keeps at.0 at.1 steps seat))
+          (grows-by c may d i (OfCore item) stages (Resting ms) (Resting (Call m ∷ ms)) e (λ j. of_core (items_by_outcome d (way_of c may m) m.request (sym out j) (sym none j)) ++ order_of_deeds c may d ms))
+          (subst (SeatNow c may (item ∷ o.g) d (firsts i)) (sym e) (answers b c may limits is i l (firsts i) (named i l) o.g h ms m verdict answered.1 agree call rest view keeps at.0 at.1 steps seat))
 
   -- a step of a call that goes on
 
-  go-on : (i : ℕ) (l : i < k.domains) (ms : List CallMade) (m : CallMade) (xs : List Moment) (x : Moment) (stages : ℕ → Stage) → stages i ≡ Going ms m (x ∷ xs) → IsGoing b c may (firsts i) ms m (x ∷ xs) → Ordered b c may x.0 firsts (put i (Going ms m xs) stages)
+  go-on : (i : ℕ) (l : i < k.domains) (ms : List Deed) (m : CallMade) (xs : List Moment) (x : Moment) (stages : ℕ → Stage) → stages i ≡ Going ms m (x ∷ xs) → IsGoing b c may (firsts i) ms m (x ∷ xs) → Ordered b c may x.0 firsts (put i (Going ms m xs) stages)
       → Ordered b c may ((i, x.1) ∷ x.0) firsts stages
   go-on i l ms m xs x stages e going o =
-      let d = dom_at k i in let call = going.call in let at = placed i l ms going.calls in
+      let d = dom_at k i in let call = going.call in let at = placed i l ms going.deeds in
       let at-old : m.old.seat.view.position ≡ i = ap (λ (z : SeatOf). z.view.position) going.rests.seat ∙ at.0 in
       let seat = subst (SeatNow c may o.g d (firsts i)) (put-here i (Going ms m xs) stages) (o.each i l) in
       ⊎_elim (words d call at-old seat) (access d call at-old seat) (turn-of k i (bytes_given_by m.request) (way_of c may m) xs x m.old.seat.view going.walked.0)
@@ -342,22 +367,24 @@ module _ (b : Board) (c : Config) (may : AllowRelation) (limits : IsWithinLimits
       words : (d : DomId) → IsCall b c may m → m.old.seat.view.position ≡ i → SeatNow c may o.g (dom_at k i) (firsts i) (Going ms m xs) → MakesStep k (way_of c may m (all_shown xs)) (shown_by x) v w → Ordered b c may ((i, x.1) ∷ x.0) firsts stages
       words _ call at-old seat walk =
           let d = dom_at k i in let r = goes-so b c may limits is o.g i l m ms (firsts i) xs x call at-old (named i l) o.reached o.agree seat o.bounded walk (Makes going.step) None going.next refl in
-          one-more b c may limits is x.0 ((i, x.1) ∷ x.0) firsts (put i (Going ms m xs) stages) stages i (stepped d r.step (seen_in_step x.1) None) o l refl (named i l) r.right r.reached r.agree (then-more k d i r.step (seen_in_step x.1) x.1 (AreStepsOf k o.g) x.0 refl r.the refl o.steps)
+          one-more b c may limits is x.0 ((i, x.1) ∷ x.0) firsts (put i (Going ms m xs) stages) stages i (stepped d r.step (seen_in_step x.1) None) o l refl (named i l) r.right r.reached r.agree (then-more k d i r.step (seen_in_step x.1) x.1 (AreStepsOf k o.order) x.0 refl r.the refl o.steps)
           (writes-by-words k o.g x.0 i d r.step x.1 (seen_in_step x.1) None r.quiet r.the o.writes) (bounded-step k o.g d r.step (seen_in_step x.1) None r.inner o.bounded)
           (λ j n. sym (put-else i (Going ms m xs) stages j n))
+          (grows-by c may d i (OfCore (stepped d r.step (seen_in_step x.1) None)) stages (Going ms m xs) (Going ms m (x ∷ xs)) e (grows-on b c may limits is i l (firsts i) (named i l) ms m xs x r.step r.next))
           (subst (SeatNow c may (stepped d r.step (seen_in_step x.1) None ∷ o.g) d (firsts i)) (sym e) (going-on b c may limits is i l (firsts i) (named i l) o.g ms m xs x v w call seat r))
 
       access : (d : DomId) → IsCall b c may m → m.old.seat.view.position ≡ i → SeatNow c may o.g (dom_at k i) (firsts i) (Going ms m xs) → IsNextAccess k i (bytes_given_by m.request) (way_of c may m) xs x v w → Ordered b c may ((i, x.1) ∷ x.0) firsts stages
       access _ call at-old seat q =
           let d = dom_at k i in let r = accesses-so b c may limits is o.g i l m ms (firsts i) xs x call at-old (named i l) o.reached o.agree o.writes seat o.bounded v w q.0 q.1 q.2 (Makes going.step) None going.next refl refl in
-          one-more b c may limits is x.0 ((i, x.1) ∷ x.0) firsts (put i (Going ms m xs) stages) stages i (stepped d r.step (seen_in_step x.1) None) o l refl (named i l) r.right r.reached r.agree (then-more k d i r.step (seen_in_step x.1) x.1 (AreStepsOf k o.g) x.0 refl r.the refl o.steps)
+          one-more b c may limits is x.0 ((i, x.1) ∷ x.0) firsts (put i (Going ms m xs) stages) stages i (stepped d r.step (seen_in_step x.1) None) o l refl (named i l) r.right r.reached r.agree (then-more k d i r.step (seen_in_step x.1) x.1 (AreStepsOf k o.order) x.0 refl r.the refl o.steps)
           r.writes r.bounded
           (λ j n. sym (put-else i (Going ms m xs) stages j n))
+          (grows-by c may d i (OfCore (stepped d r.step (seen_in_step x.1) None)) stages (Going ms m xs) (Going ms m (x ∷ xs)) e (grows-on b c may limits is i l (firsts i) (named i l) ms m xs x r.step r.next))
           (subst (SeatNow c may (stepped d r.step (seen_in_step x.1) None ∷ o.g) d (firsts i)) (sym e) (going-on-accessed b c may limits is i l (firsts i) (named i l) o.g ms m xs x v w seat r))
 
   -- the last step of a call
 
-  end-call : (i : ℕ) (l : i < k.domains) (ms : List CallMade) (m : CallMade) (xs : List Moment) (x : Moment) (stages : ℕ → Stage) → stages i ≡ Resting (m ∷ ms) → m.steps ≡ x ∷ xs → AreCalls b c may (firsts i) (m ∷ ms) → m.new.seat.view.steps ≡ part_of i ((i, x.1) ∷ x.0)
+  end-call : (i : ℕ) (l : i < k.domains) (ms : List Deed) (m : CallMade) (xs : List Moment) (x : Moment) (stages : ℕ → Stage) → stages i ≡ Resting (Call m ∷ ms) → m.steps ≡ x ∷ xs → AreDeeds b c may (firsts i) (Call m ∷ ms) → m.new.seat.view.steps ≡ part_of i ((i, x.1) ∷ x.0)
       → Ordered b c may x.0 firsts (put i (Going ms m xs) stages) → Ordered b c may ((i, x.1) ∷ x.0) firsts stages
   end-call i l ms m xs x stages e made calls steps o = by m.outcome refl calls.0.answered
     where
@@ -388,6 +415,9 @@ module _ (b : Board) (c : Config) (may : AllowRelation) (limits : IsWithinLimits
       same : (j : ℕ) → i ≢ j → stages j ≡ put i (Going ms m xs) stages j
       same j n = sym (put-else i (Going ms m xs) stages j n)
 
+      grows : (item : Item) → OfCore item ∷ order_now c may d (Going ms m xs) ≡ order_now c may d (Resting (Call m ∷ ms)) → OfCore item ∷ order_now c may d (put i (Going ms m xs) stages i) ≡ order_now c may d (stages i)
+      grows item more = grows-by c may d i (OfCore item) stages (Going ms m xs) (Resting (Call m ∷ ms)) e more
+
       walk-of : (verdict : CallResult) → (t : TookSteps b c may m.request verdict m.steps m.old m.new) → IsWalk k (way_of c may m) m.old.seat.view (x ∷ xs)
       walk-of verdict t = subst (IsWalk k (way_of c may m) m.old.seat.view) (t.1 ∙ made) t.0.walked
 
@@ -403,10 +433,11 @@ module _ (b : Board) (c : Config) (may : AllowRelation) (limits : IsWithinLimits
           → Ordered b c may ((i, x.1) ∷ x.0) firsts stages
       told verdict plain step then items leave view =
           let r = goes-so b c may limits is o.g i l m ms (firsts i) xs x call at-old (named i l) o.reached o.agree seat o.bounded step (Done verdict) (Some (answer_of verdict)) then (answered-so o.g d verdict plain) in
-          one-more b c may limits is x.0 ((i, x.1) ∷ x.0) firsts (put i (Going ms m xs) stages) stages i (stepped d r.step (seen_in_step x.1) (Some (answer_of verdict))) o l refl (named i l) r.right r.reached r.agree (then-more k d i r.step (seen_in_step x.1) x.1 (AreStepsOf k o.g) x.0 refl r.the refl o.steps)
+          one-more b c may limits is x.0 ((i, x.1) ∷ x.0) firsts (put i (Going ms m xs) stages) stages i (stepped d r.step (seen_in_step x.1) (Some (answer_of verdict))) o l refl (named i l) r.right r.reached r.agree (then-more k d i r.step (seen_in_step x.1) x.1 (AreStepsOf k o.order) x.0 refl r.the refl o.steps)
           (writes-by-words k o.g x.0 i d r.step x.1 (seen_in_step x.1) (Some (answer_of verdict)) r.quiet r.the o.writes) (bounded-step k o.g d r.step (seen_in_step x.1) (Some (answer_of verdict)) r.inner o.bounded) same
+          (grows (stepped d r.step (seen_in_step x.1) (Some (answer_of verdict))) (grows-last b c may limits is i l (firsts i) (named i l) ms m xs x r.step (Some (answer_of verdict)) r.next items))
           (subst (SeatNow c may (stepped d r.step (seen_in_step x.1) (Some (answer_of verdict)) ∷ o.g) d (firsts i)) (sym e)
-          (ends-told b c may limits is i l (firsts i) (named i l) o.g ms m xs x v w verdict call seat r items leave at-v at-w view steps))
+          (ends-told b c may limits is i l (firsts i) (named i l) o.g ms m xs x v w verdict call seat r leave at-v at-w view steps))
 
       -- its last step is its access
       ends : (answer : Answer) (z : Step) → way_of c may m (all_shown xs) ≡ Some (Makes z) → AccessedAs k i (bytes_given_by m.request) z v w x → way_of c may m (all_shown (x ∷ xs)) ≡ Some (Done Granted) → TellsAccess o.g z answer → one_if_mapped (Some answer) ≡ 0
@@ -414,10 +445,11 @@ module _ (b : Board) (c : Config) (may : AllowRelation) (limits : IsWithinLimits
           → Ordered b c may ((i, x.1) ∷ x.0) firsts stages
       ends answer z next so then tells plain items keeps view =
           let r = accesses-so b c may limits is o.g i l m ms (firsts i) xs x call at-old (named i l) o.reached o.agree o.writes seat o.bounded v w z next so (Done Granted) (Some answer) then (answer, refl, tells) plain in
-          one-more b c may limits is x.0 ((i, x.1) ∷ x.0) firsts (put i (Going ms m xs) stages) stages i (stepped d r.step (seen_in_step x.1) (Some answer)) o l refl (named i l) r.right r.reached r.agree (then-more k d i r.step (seen_in_step x.1) x.1 (AreStepsOf k o.g) x.0 refl r.the refl o.steps)
+          one-more b c may limits is x.0 ((i, x.1) ∷ x.0) firsts (put i (Going ms m xs) stages) stages i (stepped d r.step (seen_in_step x.1) (Some answer)) o l refl (named i l) r.right r.reached r.agree (then-more k d i r.step (seen_in_step x.1) x.1 (AreStepsOf k o.order) x.0 refl r.the refl o.steps)
           r.writes r.bounded same
+          (grows (stepped d r.step (seen_in_step x.1) (Some answer)) (grows-last b c may limits is i l (firsts i) (named i l) ms m xs x r.step (Some answer) r.next items))
           (subst (SeatNow c may (stepped d r.step (seen_in_step x.1) (Some answer) ∷ o.g) d (firsts i)) (sym e)
-          (ends-accessed b c may limits is i l (firsts i) (named i l) o.g ms m xs x v w answer call seat r items keeps at-v at-w view steps))
+          (ends-accessed b c may limits is i l (firsts i) (named i l) o.g ms m xs x v w answer call seat r keeps at-v at-w view steps))
 
       by : (out : CallOutcome) → m.outcome ≡ out → IsAnswered b c may m.request out m.steps m.old m.new → Ordered b c may ((i, x.1) ∷ x.0) firsts stages
       by Starved out a = absurd (no-head x xs (sym made ∙ a.0))
@@ -453,22 +485,55 @@ module _ (b : Board) (c : Config) (may : AllowRelation) (limits : IsWithinLimits
           let last : path (known_at s o.g d) d seat.call.0.request (values seat.call.0 ++ seen_by s o.g d r.step ∷ []) ≡ Some (Done (KeptPin p)) =
           on-way b c may limits is o.g i l m ms (firsts i) xs x call at-old (named i l) o.reached o.agree seat o.bounded (walk-of (KeptPin p) t).0 r.step r.next (values seat.call.0 ++ seen_by s o.g d r.step ∷ [])
           ∙ ((λ j. way_of c may m (seat.call.3 j ++ r.sees j ∷ [])) ∙ done-of (KeptPin p) t) in
-          one-more b c may limits is x.0 ((i, x.1) ∷ x.0) firsts (put i (Going ms m xs) stages) stages i (stepped d r.step (seen_in_step x.1) (Some (Mapped handle))) o l refl (named i l) r.right r.reached r.agree (then-more k d i r.step (seen_in_step x.1) x.1 (AreStepsOf k o.g) x.0 refl r.the refl o.steps)
+          one-more b c may limits is x.0 ((i, x.1) ∷ x.0) firsts (put i (Going ms m xs) stages) stages i (stepped d r.step (seen_in_step x.1) (Some (Mapped handle))) o l refl (named i l) r.right r.reached r.agree (then-more k d i r.step (seen_in_step x.1) x.1 (AreStepsOf k o.order) x.0 refl r.the refl o.steps)
           (writes-by-words k o.g x.0 i d r.step x.1 (seen_in_step x.1) (Some (Mapped handle)) r.quiet r.the o.writes) (bounded-step k o.g d r.step (seen_in_step x.1) (Some (Mapped handle)) r.inner o.bounded) same
+          (grows (stepped d r.step (seen_in_step x.1) (Some (Mapped handle))) (grows-last b c may limits is i l (firsts i) (named i l) ms m xs x r.step (Some (Mapped handle)) r.next
+          (λ j. items_by_outcome d (way_of c may m) m.request (out j) (made j))))
           (subst (SeatNow c may (stepped d r.step (seen_in_step x.1) (Some (Mapped handle)) ∷ o.g) d (firsts i)) (sym e)
-          (ends-kept b c may limits is i l (firsts i) (named i l) o.g ms m xs x v w handle p call seat r last made out a.2 at-v at-w (view-of (KeptPin p) t) steps))
+          (ends-kept b c may limits is i l (firsts i) (named i l) o.g ms m xs x v w handle p call seat r last a.2 at-v at-w (view-of (KeptPin p) t) steps))
+
+  -- a step on a flag
+
+  was-raised : (h : StepHistory) (order : RunOrder) (flag : ℕ) (step : FlagStep) → AreStepsOf k order h → IsTrueStep k h (Flag flag step) → WasRaised flag step order
+  was-raised h order flag Raised steps says = tt
+  was-raised h order flag Passed steps says = raised-in k order h flag steps says
+
+  step-on-flag : (h : StepHistory) (i : ℕ) (l : i < k.domains) (ms : List Deed) (x : FlagMade) (stages : ℕ → Stage) → stages i ≡ Resting (OnFlag x ∷ ms) → AreDeeds b c may (firsts i) (OnFlag x ∷ ms) → IsTrueStep k h (Flag x.flag x.step) → Ordered b c may h firsts (put i (Resting ms) stages)
+      → Ordered b c may ((i, Flag x.flag x.step) ∷ h) firsts stages
+  step-on-flag h i l ms x stages e deeds says o =
+      let d = dom_at k i in let y : Occurrence = OfFlag d x.flag x.step in
+      let same : (j : ℕ) → i ≢ j → stages j ≡ put i (Resting ms) stages j = λ j n. sym (put-else i (Resting ms) stages j n) in
+      let seat = subst (SeatNow c may o.g d (firsts i)) (put-here i (Resting ms) stages) (o.each i l) in record {
+        g = o.g;
+        order = y ∷ o.order;
+        items = o.items;
+        reached = o.reached;
+        agree = agree-on-flag s k o.g h i x.flag x.step o.agree;
+        legal = o.legal;
+        steps = (refl, refl, o.steps);
+        writes = λ t f lt. o.writes t f lt;
+        flags = (named i l, was-raised h o.order x.flag x.step o.steps says, o.flags);
+        bounded = o.bounded;
+        own = own-more b c may limits is o.order (put i (Resting ms) stages) stages i y l refl same (grows-by c may d i y stages (Resting ms) (Resting (OnFlag x ∷ ms)) e refl) o.own;
+        each = λ j lj. elim (cases_eq i j) [
+          | inl f ↦ subst (λ (z : ℕ). SeatNow c may o.g (dom_at k z) (firsts z) (stages z)) f (subst (SeatNow c may o.g d (firsts i)) (sym e) (after-flag b c may limits is i l (firsts i) (named i l) o.g ms x deeds.0 deeds.1 seat))
+          | inr n ↦ subst (SeatNow c may o.g (dom_at k j) (firsts j)) (sym (same j n)) (o.each j lj)
+        ];
+      }
 
   -- back over the calls without a step
 
   strip : (h : StepHistory) (i : ℕ) (l : i < k.domains) (orig : ℕ → Stage)
-      → ((ms : List CallMade) (m : CallMade) (xs : List Moment) (x : Moment) (stages : ℕ → Stage) → stages i ≡ Resting (m ∷ ms) → m.steps ≡ x ∷ xs → FitAll h stages → Ordered b c may h firsts stages)
+      → ((ms : List Deed) (m : CallMade) (xs : List Moment) (x : Moment) (stages : ℕ → Stage) → stages i ≡ Resting (Call m ∷ ms) → m.steps ≡ x ∷ xs → FitAll h stages → Ordered b c may h firsts stages)
+      → ((ms : List Deed) (x : FlagMade) (stages : ℕ → Stage) → stages i ≡ Resting (OnFlag x ∷ ms) → FitAll h stages → Ordered b c may h firsts stages)
       → ((stages : ℕ → Stage) → stages i ≡ Resting [] → ((j : ℕ) → i ≢ j → stages j ≡ orig j) → FitAll h stages → Ordered b c may h firsts stages)
-      → (ms : List CallMade) (stages : ℕ → Stage) → stages i ≡ Resting ms → ((j : ℕ) → i ≢ j → stages j ≡ orig j) → FitAll h stages → Ordered b c may h firsts stages
-  strip h i l orig on-step on-empty [] stages e same fits = on-empty stages e same fits
-  strip h i l orig on-step on-empty (m ∷ ms) stages e same fits =
-      by m.steps refl (λ more. strip h i l orig on-step on-empty ms (put i (Resting ms) stages) (put-here i (Resting ms) stages) (λ j n. put-else i (Resting ms) stages j n ∙ same j n) more)
+      → (ms : List Deed) (stages : ℕ → Stage) → stages i ≡ Resting ms → ((j : ℕ) → i ≢ j → stages j ≡ orig j) → FitAll h stages → Ordered b c may h firsts stages
+  strip h i l orig on-step on-flag on-empty [] stages e same fits = on-empty stages e same fits
+  strip h i l orig on-step on-flag on-empty (OnFlag x ∷ ms) stages e same fits = on-flag ms x stages e fits
+  strip h i l orig on-step on-flag on-empty (Call m ∷ ms) stages e same fits =
+      by m.steps refl (λ more. strip h i l orig on-step on-flag on-empty ms (put i (Resting ms) stages) (put-here i (Resting ms) stages) (λ j n. put-else i (Resting ms) stages j n ∙ same j n) more)
     where
-      fit : Fits b c may h i (firsts i) (Resting (m ∷ ms))
+      fit : Fits b c may h i (firsts i) (Resting (Call m ∷ ms))
       fit = subst (Fits b c may h i (firsts i)) e (fits i l)
 
       by : (z : List Moment) → m.steps ≡ z → (FitAll h (put i (Resting ms) stages) → Ordered b c may h firsts (put i (Resting ms) stages)) → Ordered b c may h firsts stages
@@ -488,7 +553,7 @@ module _ (b : Board) (c : Config) (may : AllowRelation) (limits : IsWithinLimits
       l : n < k.domains
       l = omega arith
 
-      no-steps : (ms : List CallMade) (m : CallMade) (xs : List Moment) (x : Moment) (st : ℕ → Stage) → st n ≡ Resting (m ∷ ms) → m.steps ≡ x ∷ xs → FitAll [] st → Ordered b c may [] firsts st
+      no-steps : (ms : List Deed) (m : CallMade) (xs : List Moment) (x : Moment) (st : ℕ → Stage) → st n ≡ Resting (Call m ∷ ms) → m.steps ≡ x ∷ xs → FitAll [] st → Ordered b c may [] firsts st
       no-steps ms m xs x st e made f =
           let fit = subst (Fits b c may [] n (firsts n)) e (f n l) in
           absurd (some-steps m.outcome fit.is.0.answered)
@@ -503,18 +568,23 @@ module _ (b : Board) (c : Config) (may : AllowRelation) (limits : IsWithinLimits
           some-steps (Told verdict) a = view-then verdict a.1 ((subst (Fits b c may [] n (firsts n)) e (f n l)).steps)
           some-steps (Kept handle p) a = view-then (KeptPin p) a.1 ((subst (Fits b c may [] n (firsts n)) e (f n l)).steps)
 
+      no-flags : (ms : List Deed) (x : FlagMade) (st : ℕ → Stage) → st n ≡ Resting (OnFlag x ∷ ms) → FitAll [] st → Ordered b c may [] firsts st
+      no-flags ms x st e f =
+          let fit = subst (Fits b c may [] n (firsts n)) e (f n l) in
+          absurd (no-head _ _ (ap (λ (q : View). q.steps) (sym fit.is.0.step.view) ∙ fit.steps))
+
       on : ((st : ℕ → Stage) → ((j : ℕ) → n ≤ j → j < k.domains → st j ≡ Resting []) → FitAll [] st → Ordered b c may [] firsts st)
           → (st : ℕ → Stage) → st n ≡ Resting [] → ((j : ℕ) → n ≢ j → st j ≡ stages j) → FitAll [] st → Ordered b c may [] firsts st
       on rec st e same f = rec st (λ j a lj. elim (cases_eq n j) [ inl z ↦ subst (λ (q : ℕ). st q ≡ Resting []) z e | inr z ↦ same j z ∙ rest j (omega arith) lj ]) f
 
       by : ((st : ℕ → Stage) → ((j : ℕ) → n ≤ j → j < k.domains → st j ≡ Resting []) → FitAll [] st → Ordered b c may [] firsts st) → (st : Stage) → stages n ≡ st → Ordered b c may [] firsts stages
-      by rec (Resting ms) e = strip [] n l stages no-steps (on rec) ms stages e (λ j z. refl) fits
+      by rec (Resting ms) e = strip [] n l stages no-steps no-flags (on rec) ms stages e (λ j z. refl) fits
       by rec (Going ms m []) e =
           let fit = subst (Fits b c may [] n (firsts n)) e (fits n l) in
           let seat : (domain_after (firsts n) ms).seat.view ≡ m.old.seat.view = sym (ap (λ (q : SeatOf). q.view) fit.is.rests.seat) in
           begin-call [] n l m ms stages e fit.is
-          (strip [] n l stages no-steps (on rec) ms (put n (Resting ms) stages) (put-here n (Resting ms) stages) (λ j z. put-else n (Resting ms) stages j z)
-          (refit [] [] stages n (Resting ms) fits (λ j z. (refl, refl)) (record { is = fit.is.calls; steps = ap (λ (q : View). q.steps) seat ∙ fit.steps; past = ap (λ (q : View). q.past) seat ∙ fit.past })))
+          (strip [] n l stages no-steps no-flags (on rec) ms (put n (Resting ms) stages) (put-here n (Resting ms) stages) (λ j z. put-else n (Resting ms) stages j z)
+          (refit [] [] stages n (Resting ms) fits (λ j z. (refl, refl)) (record { is = fit.is.deeds; steps = ap (λ (q : View). q.steps) seat ∙ fit.steps; past = ap (λ (q : View). q.past) seat ∙ fit.past })))
       by rec (Going ms m (x ∷ xs)) e = absurd (no-head x.1 _ (subst (Fits b c may [] n (firsts n)) e (fits n l)).steps)
 
   -- the history from its newest step back
@@ -541,10 +611,10 @@ module _ (b : Board) (c : Config) (may : AllowRelation) (limits : IsWithinLimits
       to-here : (x : Moment) (st : ℕ → Stage) → x.0 ≡ h → x.1 ≡ p.1 → Ordered b c may ((i, x.1) ∷ x.0) firsts st → Ordered b c may (p ∷ h) firsts st
       to-here x st a e o = subst (λ (q : StepHistory). Ordered b c may q firsts st) (λ j. (i, e j) ∷ a j) o
 
-      module-step : (i < k.domains) → ((st : ℕ → Stage) → FitAll h st → Ordered b c may h firsts st) → (ms : List CallMade) (m : CallMade) (xs : List Moment) (x : Moment) (st : ℕ → Stage) → st i ≡ Resting (m ∷ ms) → m.steps ≡ x ∷ xs → FitAll (p ∷ h) st → Ordered b c may (p ∷ h) firsts st
+      module-step : (i < k.domains) → ((st : ℕ → Stage) → FitAll h st → Ordered b c may h firsts st) → (ms : List Deed) (m : CallMade) (xs : List Moment) (x : Moment) (st : ℕ → Stage) → st i ≡ Resting (Call m ∷ ms) → m.steps ≡ x ∷ xs → FitAll (p ∷ h) st → Ordered b c may (p ∷ h) firsts st
       module-step l rec ms m xs x st e made f = go m.outcome fit.is.0.answered
         where
-          fit : Fits b c may (p ∷ h) i (firsts i) (Resting (m ∷ ms))
+          fit : Fits b c may (p ∷ h) i (firsts i) (Resting (Call m ∷ ms))
           fit = subst (Fits b c may (p ∷ h) i (firsts i)) e (f i l)
 
           at-old : m.old.seat.view.position ≡ i
@@ -582,6 +652,20 @@ module _ (b : Board) (c : Config) (may : AllowRelation) (limits : IsWithinLimits
           go (Told verdict) a = took verdict a.1
           go (Kept handle q) a = took (KeptPin q) a.1
 
+      flag-step : (i < k.domains) → ((st : ℕ → Stage) → FitAll h st → Ordered b c may h firsts st) → (ms : List Deed) (x : FlagMade) (st : ℕ → Stage) → st i ≡ Resting (OnFlag x ∷ ms) → FitAll (p ∷ h) st → Ordered b c may (p ∷ h) firsts st
+      flag-step l rec ms x st e f =
+          let fit = subst (Fits b c may (p ∷ h) i (firsts i)) e (f i l) in
+          let made = fit.is.0.step in let v = x.old.seat.view in
+          let at-v : v.position ≡ i = ap (λ (z : SeatOf). z.view.position) fit.is.1.seat ∙ (placed i l ms fit.is.2).0 in
+          let moment : Moment = (made.past, Flag x.flag x.step) in
+          let same = at-moment h moment i p v at-v refl (ap (λ (q : View). q.past) (sym made.view) ∙ fit.past) in
+          let before : v.steps ≡ part_of i h = tail-same _ _ _ _ (ap (λ (q : View). q.steps) (sym made.view) ∙ (fit.steps ∙ top)) in
+          let stood = made.access.stood in
+          let past : v.past ≡ up_to i h = (stood.1.led_here.parts v.position v stood.2).1 ∙ (λ j. up_to (at-v j) (same.0 j)) in
+          let seat : (domain_after (firsts i) ms).seat.view ≡ v = sym (ap (λ (q : SeatOf). q.view) fit.is.1.seat) in
+          let o = rec (put i (Resting ms) st) (refit h (p ∷ h) st i (Resting ms) f others (record { is = fit.is.2; steps = ap (λ (q : View). q.steps) seat ∙ before; past = ap (λ (q : View). q.past) seat ∙ past })) in
+          to-here moment st same.0 same.1 (step-on-flag made.past i l ms x st e fit.is made.access.says (subst (λ (q : StepHistory). Ordered b c may q firsts (put i (Resting ms) st)) (sym same.0) o))
+
       on : (i < k.domains) → (orig : ℕ → Stage) → (st : ℕ → Stage) → st i ≡ Resting [] → ((j : ℕ) → i ≢ j → st j ≡ orig j) → FitAll (p ∷ h) st → Ordered b c may (p ∷ h) firsts st
       on l orig st e same f = let fit = subst (Fits b c may (p ∷ h) i (firsts i)) e (f i l) in
           absurd (no-head p.1 (part_of i h) (sym top ∙ (sym fit.steps ∙ (new i l).seat.steps)))
@@ -591,18 +675,18 @@ module _ (b : Board) (c : Config) (may : AllowRelation) (limits : IsWithinLimits
       at rec (inl l) = by (stages i) refl
         where
           by : (st : Stage) → stages i ≡ st → Ordered b c may (p ∷ h) firsts stages
-          by (Resting ms) e = strip (p ∷ h) i l stages (module-step l rec) (on l stages) ms stages e (λ j z. refl) fits
+          by (Resting ms) e = strip (p ∷ h) i l stages (module-step l rec) (flag-step l rec) (on l stages) ms stages e (λ j z. refl) fits
           by (Going ms m []) e =
               let fit = subst (Fits b c may (p ∷ h) i (firsts i)) e (fits i l) in
               let seat : (domain_after (firsts i) ms).seat.view ≡ m.old.seat.view = sym (ap (λ (q : SeatOf). q.view) fit.is.rests.seat) in
               begin-call (p ∷ h) i l m ms stages e fit.is
-              (strip (p ∷ h) i l stages (module-step l rec) (on l stages) ms (put i (Resting ms) stages) (put-here i (Resting ms) stages) (λ j z. put-else i (Resting ms) stages j z)
-              (refit (p ∷ h) (p ∷ h) stages i (Resting ms) fits (λ j z. (refl, refl)) (record { is = fit.is.calls; steps = ap (λ (q : View). q.steps) seat ∙ fit.steps; past = ap (λ (q : View). q.past) seat ∙ fit.past })))
+              (strip (p ∷ h) i l stages (module-step l rec) (flag-step l rec) (on l stages) ms (put i (Resting ms) stages) (put-here i (Resting ms) stages) (λ j z. put-else i (Resting ms) stages j z)
+              (refit (p ∷ h) (p ∷ h) stages i (Resting ms) fits (λ j z. (refl, refl)) (record { is = fit.is.deeds; steps = ap (λ (q : View). q.steps) seat ∙ fit.steps; past = ap (λ (q : View). q.past) seat ∙ fit.past })))
           by (Going ms m (x ∷ xs)) e =
               let fit = subst (Fits b c may (p ∷ h) i (firsts i)) e (fits i l) in
-              let at-old : m.old.seat.view.position ≡ i = ap (λ (z : SeatOf). z.view.position) fit.is.rests.seat ∙ (placed i l ms fit.is.calls).0 in
+              let at-old : m.old.seat.view.position ≡ i = ap (λ (z : SeatOf). z.view.position) fit.is.rests.seat ∙ (placed i l ms fit.is.deeds).0 in
               let newest = stood-of k i (bytes_given_by m.request) (way_of c may m) xs x m.old.seat.view (after-position xs m.old.seat.view ∙ at-old) fit.is.walked.0 in
-              let bk = back h p i ms m xs x refl fit.is.calls fit.is.rests fit.is.call at-old newest fit.is.walked.1 fit.steps fit.past in
+              let bk = back h p i ms m xs x refl fit.is.deeds fit.is.rests fit.is.call at-old newest fit.is.walked.1 fit.steps fit.past in
               let o = rec (put i (Going ms m xs) stages) (refit h (p ∷ h) stages i (Going ms m xs) fits others bk.1) in
               to-here x stages bk.0.0 bk.0.1 (go-on i l ms m xs x stages e fit.is (subst (λ (q : StepHistory). Ordered b c may q firsts (put i (Going ms m xs) stages)) (sym bk.0.0) o))
 
@@ -620,12 +704,22 @@ runs-have-legal-orders b c may s seats run = by ordered
     firsts i = (seats i).first
 
     stages : ℕ → Stage
-    stages i = Resting (seats i).calls
+    stages i = Resting (seats i).deeds
 
     ordered : Ordered b c may run.shown.history firsts stages
     ordered = build b c may run.limits run.layout firsts (λ i l. (run.each i (inside i l)).starts) run.shown.history stages
-        (λ i l. let e = run.each i (inside i l) in let p = run.shown.now.led_here.parts i _ e.now in record { is = e.calls; steps = p.0; past = p.1 })
+        (λ i l. let e = run.each i (inside i l) in let p = run.shown.now.led_here.parts i _ e.now in record { is = e.deeds; steps = p.0; past = p.1 })
         (λ j le. run.shown.now.led_here.no_other j (let n = run.shown.now.dealt.1 in omega arith))
 
-    by : Ordered b c may run.shown.history firsts stages → (g : Items) × IsLegalOrder c may k run.shown.history seats g
-    by o = (o.g, record { reached = o.reached; legal = o.legal; steps = o.steps; writes = o.writes; calls = λ i l. (o.each i l).items })
+    by : Ordered b c may run.shown.history firsts stages → (o : RunOrder) × IsLegalOrder c may k run.shown.history seats o
+    by o = (
+      o.order,
+      record {
+        reached = subst (CanBeReached (setting_of c may)) (sym o.items) o.reached;
+        legal = subst (λ (g : Items). Legal (setting_of c may) (events_of g) (trace_of g)) (sym o.items) o.legal;
+        steps = o.steps;
+        writes = subst (λ (g : Items). WritesAgree k g run.shown.history) (sym o.items) o.writes;
+        flags = o.flags;
+        deeds = o.own;
+      },
+    )
