@@ -17,6 +17,7 @@ pub mod Listed
 pub mod Making
 pub mod NextAccess
 pub mod NextItem
+pub mod NextStage
 pub mod Order
 pub mod Places
 pub mod Seeing
