@@ -1,4 +1,4 @@
--- The order of a run: the steps of its history in their order, with the beginnings of its calls in between.
+-- The order of a run: the steps of its history in their order, with the beginnings of its calls between them.
 use Rattle.std.specs.Prelude.{◌≡◌, ◌≢◌, ◌⊎◌, ℕ, ◌<◌, ◌==◌, if◌then◌else◌, List, [], ◌∷◌, ◌++◌, map, Option, Some, None}
 use Rattle.gt_order.specs.Prelude.{DomId, Config, StepHistory, Layout, Moment, Continuation, path_of, Action, Makes}
 use Rattle.gt_order.specs.Prelude.{Observation}
@@ -32,7 +32,7 @@ pub data Occurrence : Type 0 where
 abbrev pub RunOrder : Type 0
 RunOrder = List Occurrence
 
--- the items among it
+-- the items in an order
 abbrev pub items_in : RunOrder → Items
 items_in [] = []
 items_in (OfCore i ∷ o) = i ∷ items_in o
@@ -49,18 +49,19 @@ AreStepsOf k [] h = h ≡ []
 AreStepsOf k (OfCore i ∷ o) h = ThenSteps k i.actor i.happened (AreStepsOf k o) h
 AreStepsOf k (OfFlag d flag m ∷ o) h = IsNewestOnFlag k d flag m (AreStepsOf k o) h
 
--- a domain raised this flag
+-- a domain raised this flag in the order
 abbrev pub IsRaisedIn : ℕ → RunOrder → Type 0
 IsRaisedIn flag [] = ⊥
 IsRaisedIn flag (OfCore i ∷ o) = IsRaisedIn flag o
 IsRaisedIn flag (OfFlag d f Raised ∷ o) = (f ≡ flag) ⊎ IsRaisedIn flag o
 IsRaisedIn flag (OfFlag d f Passed ∷ o) = IsRaisedIn flag o
 
--- each step on a flag is by a domain of the run, and each flag that a domain passes was raised before
+-- a flag that is passed after this order was raised in it
 abbrev pub WasRaised : ℕ → FlagStep → RunOrder → Type 0
 WasRaised flag Raised o = Unit {0}
 WasRaised flag Passed o = IsRaisedIn flag o
 
+-- each step on a flag is by a domain of the run, and each flag that a domain passes was raised before
 abbrev pub AreOnRaisedFlags : Config → RunOrder → Type 0
 AreOnRaisedFlags c [] = Unit {0}
 AreOnRaisedFlags c (OfCore i ∷ o) = AreOnRaisedFlags c o
