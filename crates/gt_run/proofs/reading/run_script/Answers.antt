@@ -1,7 +1,8 @@
-use Rattle.std.proofs.Common.{ap, ◌∙◌}
+use Rattle.std.proofs.Common.{ℕ, ap, ◌∙◌, subst, sym}
 use Rattle.std.proofs.lemmas.Result.{err_from_is_err_and}
 use Rattle.gt_script.specs.Contents.{KeptContents, first_gen, contents_told, type_names}
 use Rattle.gt_script.specs.RunContents.{run_told}
+use Rattle.gt_script.specs.Stuck.{AreNumbered}
 use Rattle.gt_host.specs.Rights.{may_in}
 use Rattle.gt_run.proofs.RanLemmas.{wrote_nothing, wrote_script}
 use Rattle.gt_run.proofs.reading.run_script.Goals as goal
@@ -34,4 +35,4 @@ returns g c =
     (c.in_ok-from_slice.ensures.items ∙ c.domains.ensures ∙ ap (λ (k : KeptContents). k.domains) c.head-head.ensures)
     (c.first_gen.ensures ∙ ap (λ (k : KeptContents). first_gen (contents_told k)) c.head-head.ensures)
     (c.in_ok-rights.ensures ∙ ap (λ (k : KeptContents). may_in (contents_told k)) c.head-head.ensures)
-    (subst (λ (n : ℕ). AreNumbered n c.args.script.now.tasks) ? c.requires.numbered) c.run_lists.ensures
+    (subst (λ (n : ℕ). AreNumbered n c.args.script.now.tasks) (sym (c.in-Ok.ensures.1 ∙ c.flags.ensures)) c.requires.numbered) c.run_lists.ensures
