@@ -1,6 +1,6 @@
 -- What the items make of a domain by its own next item: a call begins, goes on, or ends.
 use Rattle.std.proofs.Common.{◌≡◌, ◌≢◌, ℕ, ◌<◌, Bool, true, false, cond, ◌==◌, List, [], ◌∷◌, ◌++◌, Option, Some, None}
-use Rattle.std.proofs.Common.{sym, refl, ap, ◌∙◌, subst, eq-eqb, append_assoc}
+use Rattle.std.proofs.Common.{sym, refl, ap, ◌∙◌, subst, append_assoc}
 use Rattle.std.proofs.lemmas.List.{map-append}
 use Rattle.std.proofs.lemmas.Option.{none-some}
 use Rattle.gt_types.specs.Config.{IsWithinLimits}
@@ -210,7 +210,6 @@ module _ (b : Board) (c : Config) (may : AllowRelation) (limits : IsWithinLimits
       keeps = let o = stands-open s (item ∷ g) d then r.reached named open-then in
           leaves-known s g d r.step (seen_in_step x.1) (leaves-of (known_at s g d) d cl.request (pins_at r.here.phase) (values cl) r.step (seen_in_step x.1) r.quiet r.here.here.rests
           (λ waits. last-leaves cl.steps (r.step, seen_in_step x.1) (clean-steps s (item ∷ g) d then o.0 o.1 waits)))
-
 
   -- what a domain knows after its call's last step
 

@@ -1,6 +1,5 @@
 -- A step on a flag leaves words, bytes and records, and a flag that the history raised is raised in the order.
-use Rattle.std.proofs.Common.{◌≡◌, ℕ, List, [], ◌∷◌, ◌⊎◌, inl, inr, refl, sym, ap, ◌∙◌, subst}
-use Rattle.gt_types.specs.declared.limits.TheConstants.{TABLE_ENTRIES}
+use Rattle.std.proofs.Common.{ℕ, [], ◌∷◌, inl, inr, refl, sym, ap, ◌∙◌, subst}
 use Rattle.gt_word_history.specs.Flags.{IsRaised, Raises}
 use Rattle.gt_word_history.specs.History.{Layout, StepHistory, half_index}
 use Rattle.gt_word_history.specs.Rule.{header_place, place}
@@ -9,7 +8,6 @@ use Rattle.gt_word_history.specs.declared.view.FlagStep.{FlagStep}
 use Rattle.gt_word_history.specs.declared.view.FlagStep.TheVariants.{Passed, Raised}
 use Rattle.gt_word_history.specs.declared.view.SeatStep.{SeatStep}
 use Rattle.gt_word_history.specs.declared.view.SeatStep.TheVariants.{Entry, Flag, Frame, Header}
-use Rattle.gt_calls.specs.declared.action.Observation.{Observation}
 use Rattle.gt_calls.specs.declared.action.Step.{Step}
 use Rattle.gt_calls.specs.declared.action.Step.TheVariants.{Copy as CopyBytes, Exchange, LookBody, LookControl, LookHeader}
 use Rattle.gt_calls.specs.declared.action.Step.TheVariants.{Pin, Read as ReadBytes, StoreBody, StoreHeader, Unpin}

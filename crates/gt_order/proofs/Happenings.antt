@@ -127,8 +127,8 @@ call-happens d way request answer (x ∷ xs) After more then =
       answer,
       more,
       ap (λ l. l ++ more)
-      (ap happenings (map-append (λ (i : Item). OfCore i) steps (begins ∷ []))
-      ∙ (happenings-both (of_core steps) (OfCore begins ∷ []) ∙ ap (λ l. did (Begin d request) (Did begins) ∷ l) (steps-tick d way (Some answer) (x ∷ xs)))),
+          (ap happenings (map-append (λ (i : Item). OfCore i) steps (begins ∷ []))
+          ∙ (happenings-both (of_core steps) (OfCore begins ∷ []) ∙ ap (λ l. did (Begin d request) (Did begins) ∷ l) (steps-tick d way (Some answer) (x ∷ xs)))),
       record { before = Did begins ∷ rest; last = Did (item_of d way _ x (Some answer)); order = refl; quiet = (refl, steps-quiet d way xs); answers = refl },
       then,
     )

@@ -1,8 +1,8 @@
 -- The next stage of a domain: a call begins, makes a step or ends, or the domain makes a step on a flag.
-use Rattle.std.proofs.Common.{◌≡◌, ◌≢◌, ℕ, zero, suc, ◌<◌, ◌≤◌, Bool, cond, ◌==◌, List, [], ◌∷◌, ◌++◌}
-use Rattle.std.proofs.Common.{length, Option, Some, None, sym, refl, ap, ◌∙◌, subst, arith, ◌⊎◌, inl, inr, eq-eqb}
+use Rattle.std.proofs.Common.{◌≡◌, ◌≢◌, ℕ, ◌<◌, Bool, cond, ◌==◌, List, [], ◌∷◌, ◌++◌}
+use Rattle.std.proofs.Common.{length, Option, Some, None, sym, refl, ap, ◌∙◌, subst, ◌⊎◌, inl, inr, eq-eqb}
 use Rattle.std.proofs.Common.{ne_eqb}
-use Rattle.std.proofs.lemmas.Bool.{cases_eq, cases_lt}
+use Rattle.std.proofs.lemmas.Bool.{cases_eq}
 use Rattle.std.proofs.Common.{⊎_elim, ◌+◌}
 use Rattle.std.specs.Prelude.{IsSome, slice_range}
 use Rattle.gt_types.specs.Config.{IsWithinLimits}
@@ -10,13 +10,11 @@ use Rattle.gt_types.specs.Names.{domain_of}
 use Rattle.gt_types.specs.declared.DomId.{DomId}
 use Rattle.gt_types.specs.declared.config.Config.{Config}
 use Rattle.gt_types.specs.declared.config.DomainConfig.{DomainConfig}
-use Rattle.gt_word_history.proofs.Order.{part_else, part_here, up_else}
 use Rattle.gt_words.specs.Conditions.{Board, HasDomain, SeatOf}
-use Rattle.gt_word_history.specs.History.{StepHistory, Layout, Moment, part_of, up_to}
+use Rattle.gt_word_history.specs.History.{StepHistory, Layout, Moment, part_of}
 use Rattle.gt_words.specs.Laws.{domain_of_run, seat_at}
 use Rattle.gt_word_history.specs.Rule.{layout_of, position_in}
 use Rattle.gt_word_history.specs.Steps.{StoodWith}
-use Rattle.gt_word_history.specs.Views.{with_step}
 use Rattle.gt_word_history.specs.declared.view.FrameStep.TheVariants as frames
 use Rattle.gt_word_history.specs.declared.view.FlagStep.{FlagStep}
 use Rattle.gt_word_history.specs.declared.view.FlagStep.TheVariants.{Passed, Raised}
@@ -40,7 +38,7 @@ use Rattle.gt_core.proofs.Steps.Observers.{stepped}
 use Rattle.gt_core.specs.GoingOn.{AnsweredSo, CanBeReached, MayBeGiven, TellsAccess, begin_answer, beginning}
 use Rattle.gt_core.specs.History.{History as Items, Setting, contents_at, known_at, one_if_mapped, seen_by, table_at}
 use Rattle.gt_core.specs.History.{values}
-use Rattle.gt_core.specs.Legal.{IsRight, Legal}
+use Rattle.gt_core.specs.Legal.{IsRight}
 use Rattle.gt_core.specs.Acting.{answer_of, setting_of}
 use Rattle.gt_core.specs.declared.trace.Answer.{Answer}
 use Rattle.gt_core.specs.declared.trace.Item.{Item}
@@ -63,15 +61,12 @@ use Rattle.gt_order.proofs.NextItem.{goes-so, on-way, unanswered}
 use Rattle.gt_order.proofs.Making.{made-as, one-moment}
 use Rattle.gt_order.proofs.DomainsAtRest.{can-be-answered, keeps-agreement}
 use Rattle.gt_order.proofs.FlagSteps.{agree-on-flag, raised-in}
-use Rattle.gt_order.proofs.Stages.{Fits, IsGoing, Ordered, SeatNow, Stage, one-more, order_now, own-more}
+use Rattle.gt_order.proofs.Stages.{IsGoing, Ordered, SeatNow, Stage, one-more, order_now, own-more}
 use Rattle.gt_order.proofs.Stages.Stage.{Going, Resting}
-use Rattle.gt_order.proofs.Start.{ordered-first}
 use Rattle.gt_order.proofs.Stepping.{bounded-quiet, bounded-step}
-use Rattle.gt_order.proofs.Walks.{as-walk}
 use Rattle.gt_order.specs.Agreeing.{IsThe, WritesAgree, dom_at}
-use Rattle.gt_order.specs.Laws.{RunsHaveLegalOrders}
-use Rattle.gt_order.specs.Ordering.{AreStepsOf, IsLegalOrder, IsNewest, Occurrence, RunOrder, WasRaised, events_of}
-use Rattle.gt_order.specs.Ordering.{item_of_beginning, items_by_outcome, items_of_call, of_core, order_of_deeds, trace_of}
+use Rattle.gt_order.specs.Ordering.{AreStepsOf, IsNewest, Occurrence, RunOrder, WasRaised}
+use Rattle.gt_order.specs.Ordering.{item_of_beginning, items_by_outcome, items_of_call, of_core, order_of_deeds}
 use Rattle.gt_order.specs.Ordering.{way_of}
 use Rattle.gt_order.specs.Ordering.Occurrence.{OfCore, OfFlag}
 use Rattle.gt_order.specs.Runs.{AreDeeds, CallMade, CallOutcome, Deed, FlagMade, IsAnswered, IsAtRest, IsCall, IsCallWalk}

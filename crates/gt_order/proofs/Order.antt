@@ -1,81 +1,46 @@
 -- Each run of the monitor has a legal order: by its history, from the newest step back.
-use Rattle.std.proofs.Common.{◌≡◌, ◌≢◌, ℕ, zero, suc, ◌<◌, ◌≤◌, Bool, cond, ◌==◌, List, [], ◌∷◌, ◌++◌}
-use Rattle.std.proofs.Common.{length, Option, Some, None, sym, refl, ap, ◌∙◌, subst, arith, ◌⊎◌, inl, inr, eq-eqb}
-use Rattle.std.proofs.Common.{ne_eqb}
+use Rattle.std.proofs.Common.{◌≡◌, ◌≢◌, ℕ, zero, suc, ◌<◌, ◌≤◌, Bool, cond, List, [], ◌∷◌}
+use Rattle.std.proofs.Common.{length, Some, sym, refl, ap, ◌∙◌, subst, arith, ◌⊎◌, inl, inr, eq-eqb}
 use Rattle.std.proofs.lemmas.Bool.{cases_eq, cases_lt}
-use Rattle.std.proofs.Common.{⊎_elim, ◌+◌}
-use Rattle.std.specs.Prelude.{IsSome, slice_range}
 use Rattle.gt_types.specs.Config.{IsWithinLimits}
-use Rattle.gt_types.specs.Names.{domain_of}
-use Rattle.gt_types.specs.declared.DomId.{DomId}
 use Rattle.gt_types.specs.declared.config.Config.{Config}
-use Rattle.gt_types.specs.declared.config.DomainConfig.{DomainConfig}
 use Rattle.gt_word_history.proofs.Order.{part_else, part_here, up_else}
-use Rattle.gt_words.specs.Conditions.{Board, HasDomain, SeatOf}
+use Rattle.gt_words.specs.Conditions.{Board, SeatOf}
 use Rattle.gt_word_history.specs.History.{StepHistory, Layout, Moment, part_of, up_to}
-use Rattle.gt_words.specs.Laws.{domain_of_run, seat_at}
 use Rattle.gt_word_history.specs.Rule.{layout_of, position_in}
 use Rattle.gt_word_history.specs.Steps.{StoodWith}
 use Rattle.gt_word_history.specs.Views.{with_step}
 use Rattle.gt_word_history.specs.declared.view.FrameStep.TheVariants as frames
-use Rattle.gt_word_history.specs.declared.view.FlagStep.{FlagStep}
-use Rattle.gt_word_history.specs.declared.view.FlagStep.TheVariants.{Passed, Raised}
 use Rattle.gt_word_history.specs.declared.view.SeatStep.TheVariants.{Flag, Frame}
 use Rattle.gt_word_history.specs.declared.view.SeatStep.{SeatStep}
 use Rattle.gt_word_history.specs.declared.view.View.{View}
-use Rattle.gt_calls.specs.Asking.{SpellsItsEntry, asked, begun_of, bytes_given_by}
-use Rattle.gt_calls.specs.Path.{Continuation, path, steps_of}
-use Rattle.gt_calls.specs.Rules.{CallerKnowledge}
-use Rattle.gt_calls.specs.declared.action.Action.{Action}
-use Rattle.gt_calls.specs.declared.action.Action.TheVariants.{Step as Makes, Done}
+use Rattle.gt_calls.specs.Asking.{bytes_given_by}
+use Rattle.gt_calls.specs.declared.action.Action.TheVariants.{Step as Makes}
 use Rattle.gt_calls.specs.declared.action.CallResult.{CallResult}
-use Rattle.gt_calls.specs.declared.action.CallResult.TheVariants.{Granted, Given, Mapped as KeptPin, Refused}
-use Rattle.gt_calls.specs.declared.request.Request.{Request}
-use Rattle.gt_calls.specs.declared.action.Observation.{Observation}
+use Rattle.gt_calls.specs.declared.action.CallResult.TheVariants.{Mapped as KeptPin}
 use Rattle.gt_calls.specs.declared.action.Step.{Step}
-use Rattle.gt_calls.specs.declared.action.Step.TheVariants.{Copy as CopyBytes, Read as ReadBytes, Write as WriteBytes}
-use Rattle.gt_core.proofs.GoingOn.{calls-can-begin}
-use Rattle.gt_live.specs.Mappings.{KeepsMappings}
-use Rattle.gt_core.proofs.Steps.Observers.{stepped}
-use Rattle.gt_core.specs.GoingOn.{AnsweredSo, CanBeReached, MayBeGiven, TellsAccess, begin_answer, beginning}
-use Rattle.gt_core.specs.History.{History as Items, Setting, contents_at, known_at, one_if_mapped, seen_by, table_at}
-use Rattle.gt_core.specs.History.{values}
-use Rattle.gt_core.specs.Legal.{IsRight, Legal}
-use Rattle.gt_core.specs.Acting.{answer_of, setting_of}
-use Rattle.gt_core.specs.declared.trace.Answer.{Answer}
-use Rattle.gt_core.specs.declared.trace.Item.{Item}
-use Rattle.gt_shared_table.specs.Bytes.{IsTrueStep}
-use Rattle.gt_core.specs.declared.trace.Answer.TheVariants.{Bytes as BytesAnswer, Done as AnswerDone, Mapped}
+use Rattle.gt_calls.specs.declared.action.Step.TheVariants.{Read as ReadBytes}
+use Rattle.gt_core.specs.GoingOn.{CanBeReached}
+use Rattle.gt_core.specs.History.{History as Items}
+use Rattle.gt_core.specs.Legal.{Legal}
+use Rattle.gt_core.specs.Acting.{setting_of}
 use Rattle.gt_live.proofs.Walking.{after-position}
-use Rattle.gt_live.specs.Domains.{AllowRelation, knowledge}
+use Rattle.gt_live.specs.Domains.{AllowRelation}
 use Rattle.gt_live.specs.Starting.{IsNewDomain}
-use Rattle.gt_live.specs.Walks.{IsWalk, MakesStep, view_after, all_shown, shown_by, seen_in_step}
+use Rattle.gt_live.specs.Walks.{IsWalk, view_after, all_shown}
 use Rattle.gt_live.specs.declared.domain.Domain.{Domain}
-use Rattle.gt_order.proofs.Accesses.{AccessedAs, accessed-as, read-as, read-bytes, writes-by-none, writes-by-words}
-use Rattle.gt_order.proofs.Bytes.{said}
-use Rattle.gt_order.proofs.Called.{leaves}
-use Rattle.gt_order.proofs.Ending.{RefusesOnly, answered-at-once, answers, asked-refuses, begins, core-adds, ends-kept}
-use Rattle.gt_order.proofs.Ending.{ends-accessed, after-flag, ends-told, going-on, going-on-accessed, grows-last, grows-on}
-use Rattle.gt_order.proofs.Ending.{keeps-at-once, known-alike}
-use Rattle.gt_order.proofs.Ending.{no-pin-at-once, starves}
-use Rattle.gt_order.proofs.NextAccess.{accesses-so}
-use Rattle.gt_order.proofs.NextItem.{goes-so, on-way, unanswered}
-use Rattle.gt_order.proofs.Making.{made-as, one-moment}
-use Rattle.gt_order.proofs.DomainsAtRest.{can-be-answered, keeps-agreement}
-use Rattle.gt_order.proofs.FlagSteps.{agree-on-flag, raised-in}
-use Rattle.gt_order.proofs.Stages.{Fits, IsGoing, Ordered, SeatNow, Stage, one-more, order_now, own-more}
+use Rattle.gt_order.proofs.Accesses.{AccessedAs, read-as}
+use Rattle.gt_order.proofs.Stages.{Fits, Ordered, Stage}
 use Rattle.gt_order.proofs.Stages.Stage.{Going, Resting}
 use Rattle.gt_order.proofs.Start.{ordered-first}
-use Rattle.gt_order.proofs.Stepping.{bounded-quiet, bounded-step}
 use Rattle.gt_order.proofs.Walks.{as-walk}
-use Rattle.gt_order.specs.Agreeing.{IsThe, WritesAgree, dom_at}
+use Rattle.gt_order.specs.Agreeing.{WritesAgree}
 use Rattle.gt_order.specs.Laws.{RunsHaveLegalOrders}
-use Rattle.gt_order.specs.Ordering.{AreStepsOf, IsLegalOrder, IsNewest, Occurrence, RunOrder, WasRaised, events_of}
-use Rattle.gt_order.specs.Ordering.{item_of_beginning, items_by_outcome, items_of_call, of_core, order_of_deeds, trace_of}
+use Rattle.gt_order.specs.Ordering.{IsLegalOrder, RunOrder, events_of}
+use Rattle.gt_order.specs.Ordering.{trace_of}
 use Rattle.gt_order.specs.Ordering.{way_of}
-use Rattle.gt_order.specs.Ordering.Occurrence.{OfCore, OfFlag}
 use Rattle.gt_order.specs.Runs.{AreDeeds, CallMade, CallOutcome, Deed, FlagMade, IsAnswered, IsAtRest, IsCall, IsCallWalk}
-use Rattle.gt_order.specs.Runs.{KeepsNoPin, LeavesMappings, MakesAccess, MakesTurn, TookSteps, domain_after}
+use Rattle.gt_order.specs.Runs.{TookSteps, domain_after}
 use Rattle.gt_order.specs.Runs.Deed.{Call, OnFlag}
 use Rattle.gt_order.specs.Runs.CallOutcome.{Told, Kept, Starved, Read, Wrote}
 use Rattle.gt_order.proofs.NextStage.{begin-call, end-call, go-on, head-same, named, no-head, placed, put, put-else, put-here}

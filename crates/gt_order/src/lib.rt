@@ -20,7 +20,7 @@
 mod laws;
 
 pub use laws::{
-    calls_of_domains_are_made, core_sees_the_words, every_run_has_a_legal_order, every_run_is_explored,
-    every_run_writes_a_legal_order, every_text_is_of_a_legal_order, leaving_is_unmapping,
-    steps_keep_agreement,
+    calls_of_domains_are_made, core_sees_the_words, every_run_has_a_legal_order,
+    every_run_is_explored, every_run_writes_a_legal_order, every_text_is_of_a_legal_order,
+    leaving_is_unmapping, steps_keep_agreement,
 };
