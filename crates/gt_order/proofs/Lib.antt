@@ -1,6 +1,7 @@
 pub mod Accesses
 pub mod Accessing
 pub mod AgreementKept
+pub mod Answering
 pub mod Bytes
 pub mod Called
 pub mod Counting
