@@ -56,7 +56,7 @@ use Rattle.gt_run.specs.Printing.{AreServed, HasViewIn, Served, ShowOneState, Wa
 use Rattle.gt_run.specs.Serving.{DoesDeed, DoesWhere, EndsList, ListLeadsTo, MakesCall, ListOutcome, ListProgress}
 use Rattle.gt_run.specs.Serving.{answer_lines, list_start}
 use Rattle.gt_run.specs.declared.lists.ThreadJob.{ThreadJob}
-use Rattle.gt_order.specs.Texts.{HasCallsOf, AreDeedsOfList, AreMadeWhole, AreOfALegalOrder, FitsDuty, HasList}
+use Rattle.gt_order.specs.Texts.{AreDeedsOf, IsFlagStepOf, AreDeedsOfList, AreMadeWhole, AreOfALegalOrder, FitsDuty, HasList}
 use Rattle.gt_types.specs.Config.{IsWithinLimits}
 use Rattle.gt_order.specs.Texts.{AreOfOneOrder, IsMadeWhole, IsOrderly, IsViewOf, RunsWriteALegalOrder}
 use Rattle.gt_order.specs.Texts.{TextsAreOfALegalOrder}
@@ -111,7 +111,7 @@ module _ {P : Type 0} (may : P → AllowRelation) (m : Monitor P) where
       made : List Deed
       deeds_are : AreDeeds m.words m.config (may m.rights) first made
       now : domain_after first made ≡ p.domain
-      lines : HasCallsOf may duty made p.outcomes
+      lines : AreDeedsOf may duty made p.outcomes
       mine : BelongsTo may m p.domain
       held : List Handle
       keeps : Keeps p.domain.mappings held
@@ -146,11 +146,11 @@ module _ {P : Type 0} (may : P → AllowRelation) (m : Monitor P) where
         }
 
     -- a line that made a step on a flag
-    one-flag : (task : RunTask) (flag : ℕ) (step : FlagStep) (done : List RunTask) (p q : ListProgress) → q ≡ record p { domain = q.domain } → MakesFlagStep may duty.monitor.now flag step p.domain q.domain
+    one-flag : (task : RunTask) → IsAmong task duty.part.tasks.now → (flag : ℕ) (step : FlagStep) → IsFlagStepOf task.deed flag step → (done : List RunTask) (p q : ListProgress) → q ≡ record p { domain = q.domain } → MakesFlagStep may duty.monitor.now flag step p.domain q.domain
         → ((types : List (List ℕ)) (dom : DomId) (named : List Named) (held : List Handle) (Next : List Named → List Handle → List Happening → List ℕ → Type 0) (more : List Happening) (text : List ℕ) → Next named held more text
         → DeedHappens types dom named held task.line task.deed Next (happening_of (OfFlag dom flag step) ∷ more) text)
         → Come done p → Come (done ++ task ∷ []) q
-    one-flag task flag step done p q same makes happens come =
+    one-flag task is-in flag step asks done p q same makes happens come =
         let made : MakesFlagStep may m flag step p.domain q.domain = subst (λ (y : Monitor P). MakesFlagStep may y flag step p.domain q.domain) over makes in
         let x : FlagMade = record { flag = flag; step = step; old = p.domain; new = q.domain } in
         let types = duty.part.types.now in let dom = duty.part.dom in
@@ -159,7 +159,7 @@ module _ {P : Type 0} (may : P → AllowRelation) (m : Monitor P) where
           made = OnFlag x ∷ come.made;
           deeds_are = (made.0, subst (λ (y : Domain). IsAtRest y p.domain) (sym come.now) (record { seat = refl; own = refl; mappings = refl }), come.deeds_are);
           now = refl;
-          lines = subst (HasCallsOf may duty come.made) outcomes come.lines;
+          lines = ((task, is-in, asks), subst (AreDeedsOf may duty come.made) outcomes come.lines);
           mine = made.1.0;
           held = come.held;
           keeps = subst (λ (y : HandleMap HeldPin). Keeps y come.held) (sym made.0.kept.mappings) come.keeps;
@@ -187,7 +187,7 @@ module _ {P : Type 0} (may : P → AllowRelation) (m : Monitor P) where
     raising task is-in flag is done p q same raises come = by (nat_lt flag duty.monitor.now.words.flags) refl raises
       where
         by : (b : Bool) → nat_lt flag duty.monitor.now.words.flags ≡ b → MatchBool b (MakesFlagStep may duty.monitor.now flag Raised p.domain q.domain) (q.domain ≡ p.domain) → Come (done ++ task ∷ []) q
-        by true has makes = one-flag task flag Raised done p q same makes (λ types dom named held Next more text f. subst (λ (a : RunAction). DeedHappens types dom named held task.line a Next (raised dom flag ∷ more) text) (sym is) (more, refl, f)) come
+        by true has makes = one-flag task is-in flag Raised (subst (λ (a : RunAction). IsFlagStepOf a flag Raised) (sym is) refl) done p q same makes (λ types dom named held Next more text f. subst (λ (a : RunAction). DeedHappens types dom named held task.line a Next (raised dom flag ∷ more) text) (sym is) (more, refl, f)) come
         by false has still = no-flag task done p q (λ followed. not-below flag m.words.flags (ap (λ (y : Monitor P). nat_lt flag y.words.flags) (sym over) ∙ has) (subst (IsBelow m.words.flags) is (followed.0 task is-in))) same still come
 
     one-deed : (task : RunTask) → IsAmong task duty.part.tasks.now → (task.dom.0 == duty.part.dom.0) ≡ true → (deed : RunAction) → task.deed ≡ deed → (done : List RunTask) (p q : ListProgress) → DoesDeed may duty task.line deed p q → AreFinal q → Come done p → Come (done ++ task ∷ []) q
@@ -198,7 +198,7 @@ module _ {P : Type 0} (may : P → AllowRelation) (m : Monitor P) where
         one-call task call done p q is (fitting task call is-in own is) does (whole task call o is-in is there refl) (λ followed. followed.1 o there) come
     one-deed task is-in own (Tell flag) is done p q does all come = raising task is-in flag is done p q does.0 does.1 come
     one-deed task is-in own (Await flag) is done p q does all come =
-        one-flag task flag Passed done p q does.0 does.1 (λ types dom named held Next more text f. subst (λ (a : RunAction). DeedHappens types dom named held task.line a Next (passed dom flag ∷ more) text) (sym is) (more, refl, f)) come
+        one-flag task is-in flag Passed (subst (λ (a : RunAction). IsFlagStepOf a flag Passed) (sym is) refl) done p q does.0 does.1 (λ types dom named held Next more text f. subst (λ (a : RunAction). DeedHappens types dom named held task.line a Next (passed dom flag ∷ more) text) (sym is) (more, refl, f)) come
 
     one-line : (task : RunTask) → IsAmong task duty.part.tasks.now → (b : Bool) → (task.dom.0 == duty.part.dom.0) ≡ b → (done : List RunTask) (p q : ListProgress) → DoesWhere b may duty task p q → AreFinal q → Come done p → Come (done ++ cond b (task ∷ []) []) q
     one-line task is-in true own done p q does all come = one-deed task is-in own task.deed refl done p q does all come
@@ -290,8 +290,8 @@ module _ {P : Type 0} (may : P → AllowRelation) (m : Monitor P) where
           follows = λ followed. follows-none m.config (may m.rights) s.duty.part.types.now s.duty.part.dom;
         })
 
-    lines : HasCallsOf may s.duty come.made s.outcomes
-    lines = subst (HasCallsOf may s.duty come.made) l.served.came come.lines
+    lines : AreDeedsOf may s.duty come.made s.outcomes
+    lines = subst (AreDeedsOf may s.duty come.made) l.served.came come.lines
 
     -- the calls and the unmaps behind them follow the list
     followed : (us : List Deed) → AreDeeds m.words m.config (may m.rights) l.served.left.domain us → AreUnmaps us → ((h : Handle) → value_of (domain_after l.served.left.domain us).mappings h ≡ None) → DidFollow s (us ++ come.made)
