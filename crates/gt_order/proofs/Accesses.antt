@@ -18,7 +18,7 @@ use Rattle.gt_word_history.specs.Views.{with_step}
 use Rattle.gt_word_history.specs.declared.view.FrameStep.{FrameStep}
 use Rattle.gt_word_history.specs.declared.view.FrameStep.TheVariants as frames
 use Rattle.gt_word_history.specs.declared.view.SeatStep.{SeatStep}
-use Rattle.gt_word_history.specs.declared.view.SeatStep.TheVariants.{Entry, Frame, Header}
+use Rattle.gt_word_history.specs.declared.view.SeatStep.TheVariants.{Entry, Flag, Frame, Header}
 use Rattle.gt_word_history.specs.declared.view.View.{View}
 use Rattle.gt_calls.specs.declared.action.Observation.{Observation}
 use Rattle.gt_calls.specs.declared.action.Observation.TheVariants.{Nothing}
@@ -168,6 +168,7 @@ writes-by-words k g h i d step x seen answer quiet the agree t f l =
     same (Entry u r m) a = refl
     same (Header u m) a = refl
     same (Frame u q m) a = absurd (not-frame k i step u q m quiet a)
+    same (Flag g m) a = refl
 
 -- after an item that is no step
 pub writes-by-none : (k : Layout) (g : Items) (h : StepHistory) (item : Item) → ((given : List ℕ) (contents : ℕ → ℕ → List ℕ) → written_by item.happened given contents ≡ None) → WritesAgree k g h → WritesAgree k (item ∷ g) h
