@@ -11,7 +11,7 @@ byte body[N];    /* the domain in the body word of an entry */
 bit valid[N];    /* the control word: its kind, */
 byte pins[N];    /* and its count of write pins */
 byte frame[N];
-bit told;
+bit raised;
 
 proctype owner() {
   byte at;
@@ -19,7 +19,7 @@ proctype owner() {
     body[at] = at + 2;
     valid[at] = 1
   }
-  told = 1;
+  raised = 1;
   for (at : 0 .. N - 1) {
     if
     :: atomic { valid[at] == 1 && pins[at] == 0 -> valid[at] = 0 }
@@ -31,7 +31,7 @@ proctype owner() {
 proctype mapper(byte at) {
   byte tries, looked_pins, looked_body;
   bit looked_valid;
-  told == 1;
+  raised == 1;
   skip; /* the header of the owner's table */
 try:
   atomic { looked_valid = valid[at]; looked_pins = pins[at] };
