@@ -17,8 +17,12 @@ use Rattle.gt_core.specs.declared.trace.Answer.TheVariants as answers
 use Rattle.gt_frames.specs.Receipts.{Copying, Reading, Writing}
 use Rattle.gt_types.specs.declared.copies.CopyArgs.{CopyArgs}
 use Rattle.gt_calls.specs.declared.action.CallResult.TheVariants.{Refused}
-use Rattle.gt_live.specs.Accesses.{IsCopiedBy, IsOfAccess, IsReadBy, IsWrittenBy}
-use Rattle.gt_live.specs.Domains.{Accesses, AllowRelation, Answered, KeepsPinned, verdict_of}
+use Rattle.gt_calls.specs.Path.{path_of}
+use Rattle.gt_calls.specs.declared.action.Step.{Step}
+use Rattle.gt_types.specs.declared.GrantRef.{GrantRef}
+use Rattle.gt_word_history.specs.declared.view.View.{View}
+use Rattle.gt_live.specs.Accesses.{Accessed, HasCause, IsCopiedBy, IsOfAccess, IsReadBy, IsUnmade, IsWrittenBy}
+use Rattle.gt_live.specs.Domains.{Accesses, AllowRelation, Answered, KeepsPinned, known_on, verdict_of}
 use Rattle.gt_live.specs.Domains.{verdict_of_frames, verdict_of_size, verdict_of_version}
 use Rattle.gt_live.specs.Ending.{IsOfMapping}
 use Rattle.gt_live.specs.declared.domain.Domain.{Domain}
@@ -35,32 +39,34 @@ use Rattle.gt_host.specs.Runs.{Named, request_of}
 use Rattle.gt_run.specs.Asking.{AnswersCall, HasBytes, IsReadAnswer, frames_answer}
 use Rattle.gt_run.specs.Asking.{mapped_answer, plain_answer, size_answer}
 use Rattle.gt_run.specs.Asking.{version_answer}
-use Rattle.gt_order.specs.Texts.{IsMadeWhole, OutcomeGivesAnswer}
+use Rattle.gt_order.proofs.KeptFrames.{MakesOne, never-missing}
+use Rattle.gt_order.specs.Printed.{IsAllocating}
+use Rattle.gt_order.specs.Texts.{IsLost, IsMadeWhole, OutcomeGivesAnswer}
 
 -- a copy with this answer did not reach its access without making it
-abbrev pub NotLost : Request → Answer → Type 0
-NotLost (requests.Copy args) answer = (denial : Denial) → answer ≡ answers.Denied denial → IsOfAccess denial → ⊥
-NotLost request answer = Unit {0}
+abbrev pub NotLost : {P : Type 0} → Monitor P → Request → Answer → Type 0
+NotLost m (requests.Copy args) answer = (denial : Denial) → answer ≡ answers.Denied denial → IsLost m denial → ⊥
+NotLost m request answer = Unit {0}
 
-pub whole-request : (named : List Named) (dom : DomId) (bytes : Bor (List ℕ)) (call : ScriptCall) (answer : Answer) → IsMadeWhole call answer → NotLost (request_of named dom bytes call) answer
+pub whole-request : {P : Type 0} (m : Monitor P) (named : List Named) (dom : DomId) (bytes : Bor (List ℕ)) (call : ScriptCall) (answer : Answer) → IsMadeWhole m call answer → NotLost m (request_of named dom bytes call) answer
 unfolding request_of
-whole-request named dom bytes (calls.Grant gref entry) answer q = tt
-whole-request named dom bytes (calls.GrantBytes gref hex) answer q = tt
-whole-request named dom bytes (calls.Revoke gref) answer q = tt
-whole-request named dom bytes (calls.Withdraw gref) answer q = tt
-whole-request named dom bytes (calls.Demote gref) answer q = tt
-whole-request named dom bytes (calls.Promote gref) answer q = tt
-whole-request named dom bytes (calls.Map label to gref flags) answer q = tt
-whole-request named dom bytes (calls.Unmap label) answer q = tt
-whole-request named dom bytes (calls.Load label off len) answer q = tt
-whole-request named dom bytes (calls.Store label off hex) answer q = tt
-whole-request named dom bytes (calls.Peek frame off len) answer q = tt
-whole-request named dom bytes (calls.Poke frame off hex) answer q = tt
-whole-request named dom bytes (calls.Copy c) answer q = q
-whole-request named dom bytes (calls.SetVersion version) answer q = tt
-whole-request named dom bytes (calls.SetupTable frames) answer q = tt
-whole-request named dom bytes (calls.QuerySize to) answer q = tt
-whole-request named dom bytes (calls.GetVersion to) answer q = tt
+whole-request m named dom bytes (calls.Grant gref entry) answer q = tt
+whole-request m named dom bytes (calls.GrantBytes gref hex) answer q = tt
+whole-request m named dom bytes (calls.Revoke gref) answer q = tt
+whole-request m named dom bytes (calls.Withdraw gref) answer q = tt
+whole-request m named dom bytes (calls.Demote gref) answer q = tt
+whole-request m named dom bytes (calls.Promote gref) answer q = tt
+whole-request m named dom bytes (calls.Map label to gref flags) answer q = tt
+whole-request m named dom bytes (calls.Unmap label) answer q = tt
+whole-request m named dom bytes (calls.Load label off len) answer q = tt
+whole-request m named dom bytes (calls.Store label off hex) answer q = tt
+whole-request m named dom bytes (calls.Peek frame off len) answer q = tt
+whole-request m named dom bytes (calls.Poke frame off hex) answer q = tt
+whole-request m named dom bytes (calls.Copy c) answer q = q
+whole-request m named dom bytes (calls.SetVersion version) answer q = tt
+whole-request m named dom bytes (calls.SetupTable frames) answer q = tt
+whole-request m named dom bytes (calls.QuerySize to) answer q = tt
+whole-request m named dom bytes (calls.GetVersion to) answer q = tt
 
 -- what is printed is what the call answered
 
@@ -96,34 +102,66 @@ version-pin : (r : Result ℕ Denial) → KeepsNoPin (verdict_of_version r)
 version-pin (Ok version) = tt
 version-pin (Err denial) = tt
 
-map-same : (r : Result Handle Denial) (outcome : CallOutcome) → IsOutcomeOf r outcome → OutcomeGivesAnswer outcome (mapped_answer r)
-map-same (Ok handle) (Kept given p) e = ap (λ (h : Handle). answers.Mapped h) (sym e)
-map-same (Ok handle) (Told verdict) e = absurd e
-map-same (Ok handle) Starved e = absurd e
-map-same (Ok handle) (Read bytes) e = absurd e
-map-same (Ok handle) Wrote e = absurd e
-map-same (Err denial) (Kept given p) e = absurd e
-map-same (Err denial) (Told verdict) e = sym (ap answer_of e)
-map-same (Err denial) Starved e = (denial, refl, inl e)
-map-same (Err denial) (Read bytes) e = absurd e
-map-same (Err denial) Wrote e = absurd e
+-- a call with no memory is one that allocates
+abbrev pub IsStarvedOnly : CallOutcome → Request → Type 0
+IsStarvedOnly Starved request = IsAllocating request
+IsStarvedOnly outcome request = Unit {0}
+
+map-same : {P : Type 0} (m : Monitor P) (r : Result Handle Denial) (outcome : CallOutcome) → IsOutcomeOf r outcome → OutcomeGivesAnswer m outcome (mapped_answer r)
+map-same m (Ok handle) (Kept given p) e = ap (λ (h : Handle). answers.Mapped h) (sym e)
+map-same m (Ok handle) (Told verdict) e = absurd e
+map-same m (Ok handle) Starved e = absurd e
+map-same m (Ok handle) (Read bytes) e = absurd e
+map-same m (Ok handle) Wrote e = absurd e
+map-same m (Err denial) (Kept given p) e = absurd e
+map-same m (Err denial) (Told verdict) e = sym (ap answer_of e)
+map-same m (Err denial) Starved e = (denial, refl, inl e)
+map-same m (Err denial) (Read bytes) e = absurd e
+map-same m (Err denial) Wrote e = absurd e
+
+map-only : (dom : DomId) (gref : GrantRef) (flags : ℕ) (outcome : CallOutcome) → IsStarvedOnly outcome (requests.Map dom gref flags)
+map-only dom gref flags (Told verdict) = tt
+map-only dom gref flags (Kept handle p) = tt
+map-only dom gref flags Starved = tt
+map-only dom gref flags (Read bytes) = tt
+map-only dom gref flags Wrote = tt
+
+single-one : (request : Request) → IsSingle request → MakesOne request
+single-one (requests.Load handle off len) is = tt
+single-one (requests.Store handle off bytes) is = tt
+single-one (requests.Peek frame off len) is = tt
+single-one (requests.Poke frame off bytes) is = tt
+single-one request is = absurd is
+
+single-allocates : (request : Request) → IsSingle request → IsAllocating request
+single-allocates (requests.Load handle off len) is = tt
+single-allocates (requests.Store handle off bytes) is = tt
+single-allocates (requests.Peek frame off len) is = tt
+single-allocates (requests.Poke frame off bytes) is = tt
+single-allocates request is = absurd is
 
 module _ {P : Type 0} (may : P → AllowRelation) (m : Monitor P) where
   -- a call that was answered so is one of a run
   abbrev pub IsMade : Request → Answer → Domain → Domain → Type 0
-  IsMade request answer d e = (outcome : CallOutcome) × (steps : List Moment) × OutcomeGivesAnswer outcome answer × WasMade may m request outcome steps d e
+  IsMade request answer d e = (outcome : CallOutcome) × (steps : List Moment) × OutcomeGivesAnswer m outcome answer × WasMade may m request outcome steps d e × IsStarvedOnly outcome request
 
   module _ (d e : Domain) (stays : StaysOf may m d e) where
+    -- an access that could not be made was refused with N26, or a frame is missing
+    lost-is : (request : Request) → MakesOne request → (access : Step) (denial : Denial) (v w : View) → Accessed m.words.layout (path_of (known_on may m d) d.seat.dom request) access IsUnmade v w → HasCause m.words access denial
+        → IsOfAccess denial → IsLost m denial
+    lost-is request one access denial v w a cause (inl e) = inl e
+    lost-is request one access denial v w a cause (inr e) = inr (e, λ all. never-missing may m all d stays.before request one access denial v w a cause e)
+
     plain : (request : Request) (verdict : CallResult) (told answer : Answer) → (IsOfMapping (asked request) → ⊥) → FitsTypes request → KeepsNoPin verdict → told ≡ answer_of verdict → answer ≡ told → Answered may m d request verdict e → KeepsPinned d e → IsMade request answer d e
     plain request verdict told answer other fits none same is answered kept =
-        let z = plain-made may m d e request verdict stays other fits none answered kept in (Told verdict, z.0, is ∙ same, z.1)
+        let z = plain-made may m d e request verdict stays other fits none answered kept in (Told verdict, z.0, is ∙ same, z.1, tt)
 
     -- a store or a poke: it wrote, a rule refused it, or its access could not be made
     storing : (request : Request) → IsStoring request → IsSingle request → (IsOfMapping (asked request) → ⊥) → FitsTypes request → (answer : Answer) (r : Result Writing Denial) → answer ≡ plain_answer r
         → Accesses may m d request (IsWrittenBy m.words.layout d.seat.dom (bytes_given_by request)) r e → KeepsPinned d e → IsMade request answer d e
-    storing request is one other fits answer (Ok w) told accessed kept = let z = writes-made may m d e request w stays is accessed kept in (Wrote, z.0, told, z.1)
+    storing request is one other fits answer (Ok w) told accessed kept = let z = writes-made may m d e request w stays is accessed kept in (Wrote, z.0, told, z.1, tt)
     storing request is one other fits answer (Err denial) told (inl called) kept = plain request (Refused denial) (answers.Denied denial) answer other fits tt refl told called kept
-    storing request is one other fits answer (Err denial) told (inr lost) kept = (Starved, [], (denial, told, lost.2), lost-made may m d e request lost.0 stays one lost.1 kept)
+    storing request is one other fits answer (Err denial) told (inr lost) kept = (Starved, [], (denial, told, lost-is request (single-one request one) lost.0 denial _ _ lost.1 lost.3 lost.2), lost-made may m d e request lost.0 stays one lost.1 kept, single-allocates request one)
 
     bytes-in : (ys : List ℕ) (answer : Answer) → HasBytes ys answer → (b : Bytes) × (answer ≡ answers.Bytes b) × (b.bytes.items ≡ ys)
     bytes-in ys (answers.Bytes b) h = (b, refl, h)
@@ -133,21 +171,21 @@ module _ {P : Type 0} (may : P → AllowRelation) (m : Monitor P) where
     loading : (request : Request) → IsLoading request → IsSingle request → (IsOfMapping (asked request) → ⊥) → FitsTypes request → (answer : Answer) (r : Result Reading Denial) → IsReadAnswer r answer
         → Accesses may m d request (IsReadBy m.words.layout) r e → KeepsPinned d e → IsMade request answer d e
     loading request is one other fits answer (Ok r) told accessed kept =
-        let b = bytes-in r.bytes answer told in let z = reads-made may m d e request r b.0 stays is b.2 accessed kept in (Read b.0, z.0, b.1, z.1)
+        let b = bytes-in r.bytes answer told in let z = reads-made may m d e request r b.0 stays is b.2 accessed kept in (Read b.0, z.0, b.1, z.1, tt)
     loading request is one other fits answer (Err denial) told (inl called) kept = plain request (Refused denial) (answers.Denied denial) answer other fits tt refl told called kept
-    loading request is one other fits answer (Err denial) told (inr lost) kept = (Starved, [], (denial, told, lost.2), lost-made may m d e request lost.0 stays one lost.1 kept)
+    loading request is one other fits answer (Err denial) told (inr lost) kept = (Starved, [], (denial, told, lost-is request (single-one request one) lost.0 denial _ _ lost.1 lost.3 lost.2), lost-made may m d e request lost.0 stays one lost.1 kept, single-allocates request one)
 
     -- a copy
-    copying : (args : CopyArgs) (answer : Answer) → NotLost (requests.Copy args) answer → FitsTypes (requests.Copy args) → (r : Result Copying Denial) → answer ≡ plain_answer r
+    copying : (args : CopyArgs) (answer : Answer) → NotLost m (requests.Copy args) answer → FitsTypes (requests.Copy args) → (r : Result Copying Denial) → answer ≡ plain_answer r
         → Accesses may m d (requests.Copy args) (IsCopiedBy m.words.layout d.seat.dom) r e → KeepsPinned d e → IsMade (requests.Copy args) answer d e
-    copying args answer whole fits (Ok r) told accessed kept = let z = copies-made may m d e args r stays fits accessed kept in (Wrote, z.0, told, z.1)
+    copying args answer whole fits (Ok r) told accessed kept = let z = copies-made may m d e args r stays fits accessed kept in (Wrote, z.0, told, z.1, tt)
     copying args answer whole fits (Err denial) told (inl called) kept = plain (requests.Copy args) (Refused denial) (answers.Denied denial) answer (λ q. q) fits tt refl told called kept
-    copying args answer whole fits (Err denial) told (inr lost) kept = absurd (whole denial told lost.2)
+    copying args answer whole fits (Err denial) told (inr lost) kept = absurd (whole denial told (lost-is (requests.Copy args) tt lost.0 denial _ _ lost.1 lost.3 lost.2))
 
-    pub is-made : (request : Request) (answer : Answer) → NotLost request answer → FitsTypes request → AnswersCall may m d request answer e → IsMade request answer d e
+    pub is-made : (request : Request) (answer : Answer) → NotLost m request answer → FitsTypes request → AnswersCall may m d request answer e → IsMade request answer d e
     is-made (requests.Map dom gref flags) answer quiet fits x = let z = map-made may m d e dom gref flags x.0 stays x.2 in
-        (z.0, z.2.0, subst (OutcomeGivesAnswer z.0) (sym x.1) (map-same x.0 z.0 z.1), z.2.1)
-    is-made (requests.Unmap handle) answer quiet fits x = let z = unmap-made may m d e handle x.0 stays x.2 x.3 x.4 in (Told (verdict_of x.0), z.0, x.1 ∙ plain-same x.0, z.1)
+        (z.0, z.2.0, subst (OutcomeGivesAnswer m z.0) (sym x.1) (map-same m x.0 z.0 z.1), z.2.1, map-only dom gref flags z.0)
+    is-made (requests.Unmap handle) answer quiet fits x = let z = unmap-made may m d e handle x.0 stays x.2 x.3 x.4 in (Told (verdict_of x.0), z.0, x.1 ∙ plain-same x.0, z.1, tt)
     is-made (requests.SetVersion version) answer quiet fits x = plain (requests.SetVersion version) (verdict_of x.0) (plain_answer x.0) answer (λ q. q) fits (plain-pin x.0) (plain-same x.0) x.1 x.2.0 x.2.1
     is-made (requests.SetupTable frames) answer quiet fits x = plain (requests.SetupTable frames) (verdict_of_frames x.0) (frames_answer x.0) answer (λ q. q) fits (frames-pin x.0) (frames-same x.0) x.1 x.2.0 x.2.1
     is-made (requests.QuerySize dom) answer quiet fits x = plain (requests.QuerySize dom) (verdict_of_size x.0) (size_answer x.0) answer (λ q. q) fits (size-pin x.0) (size-same x.0) x.1 x.2.0 x.2.1

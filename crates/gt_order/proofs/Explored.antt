@@ -1,6 +1,10 @@
--- What a run of a script without flags writes is a text that the script may give.
+-- What a run of a script writes is a text that it may print, and one that the script may give if no call got no memory
+-- and no gate stopped a list.
 use Rattle.std.proofs.Common.{◌≡◌, ◌≢◌, ◌<◌, ℕ, zero, suc, Bool, List, [], ◌∷◌, All, get_or, length, map, None, refl, sym, ap}
-use Rattle.std.proofs.Common.{◌∙◌, subst, arith, inl, inr}
+use Rattle.std.proofs.Common.{◌∙◌, subst, arith, inl, inr, ⊎_elim}
+use Rattle.gt_types.specs.Denial.{denial_of}
+use Rattle.gt_types.specs.declared.denial.Facts.TheVariants.{None as NoFacts}
+use Rattle.gt_types.specs.declared.denial.Rule.TheVariants.{N16, N26}
 use Rattle.std.specs.Prelude.{is_some}
 use Rattle.std.proofs.lemmas.List.{get_or-map, length-map}
 use Rattle.std.proofs.lemmas.List.Elements.{All-get_or, All-head, All-tail, All-weaker}
@@ -11,6 +15,11 @@ use Rattle.gt_types.specs.declared.config.DomainConfig.{DomainConfig}
 use Rattle.gt_core.specs.Acting.{setting_of}
 use Rattle.gt_core.specs.History.{Setting}
 use Rattle.gt_core.specs.Legal.{Legal}
+use Rattle.gt_core.specs.declared.trace.Answer.TheVariants as answers
+use Rattle.gt_types.specs.declared.denial.Denial.{Denial}
+use Rattle.gt_script.specs.declared.tasks.RunActionBy.TheVariants.{Do}
+use Rattle.gt_script_lines.specs.declared.calls.ScriptCall.{ScriptCall}
+use Rattle.gt_script_lines.specs.declared.calls.ScriptCall.TheVariants as calls
 use Rattle.gt_host.specs.Playing.{setting_of_script}
 use Rattle.gt_host.specs.Rights.{may_by}
 use Rattle.gt_host.specs.declared.rights.ScriptPolicy.{ScriptPolicy as ScriptRights}
@@ -20,17 +29,19 @@ use Rattle.gt_script.specs.Stuck.{IsBelow}
 use Rattle.gt_word_history.specs.Views.{IsAmong}
 use Rattle.gt_script.specs.RunContents.{RunContents}
 use Rattle.gt_script.specs.RunScripts.{list_of}
-use Rattle.gt_explore_replay.specs.Orders.{AllFollow, FollowsList, Happening, IsOrderOf, doer, events_in, own_happenings, trace_in}
+use Rattle.gt_explore_replay.specs.Orders.{AllFollow, FollowsList, Happening, MayGive, doer, events_in, own_happenings, trace_in}
 use Rattle.gt_live.specs.declared.monitor.Monitor.{Monitor}
 use Rattle.gt_run.specs.Printing.{AreDuties, AreServed, Served, ShowOneState, duties_in, texts_in}
 use Rattle.gt_run.specs.Runs.{AreOf, IsOver}
 use Rattle.gt_run.specs.declared.lists.DomainPart.{DomainPart}
 use Rattle.gt_run.specs.declared.lists.ThreadJob.{ThreadJob}
 use Rattle.gt_order.proofs.Happenings.{events-are, happenings, order-known, order-raised, own-are, trace-is}
-use Rattle.gt_order.proofs.Listed.{AreFlagsOf, FollowsAll, follows-all}
+use Rattle.gt_order.proofs.Listed.{AreFlagsOf, FollowsAll, HasStarved, IsStopped, follows-all}
+use Rattle.gt_order.proofs.Served.{Serves, follows-list, prints-list}
 use Rattle.gt_order.specs.Explored.{EndsAtNoGate, HasNoneLost, RunsAreExplored}
 use Rattle.gt_order.specs.Ordering.{events_of, items_in, own_in}
-use Rattle.gt_order.specs.Texts.{IsOrderly}
+use Rattle.gt_order.specs.Printed.{AllPrint, CopiesGetMemory, MayPrint, PrintsList, RunsArePrinted}
+use Rattle.gt_order.specs.Texts.{HasAllFrames, HasWholeCopies, IsMadeWhole, IsOrderly}
 
 -- each domain follows its list
 all-follow : (c : RunContents) (hs : List Happening) (ds : List DomainConfig) (all : List (Served ScriptRights)) → length ds ≡ length all
@@ -42,13 +53,33 @@ all-follow c hs (d ∷ ds) [] same each = absurd (omega (arith, same))
 all-follow c hs (d ∷ ds) (s ∷ all) same each =
     (s.text, (texts_in all, refl, all-follow c hs ds all (omega (arith, same)) (λ i e t inside. each (suc i) e t (omega (arith, inside)))), each 0 d s (omega arith))
 
+-- each domain serves its list so
+all-print : (c : RunContents) (hs : List Happening) (ds : List DomainConfig) (all : List (Served ScriptRights)) → length ds ≡ length all
+    → ((i : ℕ) (d : DomainConfig) (s : Served ScriptRights) → i < length ds → PrintsList (type_names c.head) (get_or ds i d).id [] [] (list_of c.tasks (get_or ds i d).id) (own_happenings (get_or ds i d).id hs) (get_or all i s).text)
+    → AllPrint c hs ds (texts_in all)
+all-print c hs [] [] same each = refl
+all-print c hs [] (s ∷ all) same each = absurd (omega (arith, same))
+all-print c hs (d ∷ ds) [] same each = absurd (omega (arith, same))
+all-print c hs (d ∷ ds) (s ∷ all) same each =
+    (s.text, (texts_in all, refl, all-print c hs ds all (omega (arith, same)) (λ i e t inside. each (suc i) e t (omega (arith, inside)))), each 0 d s (omega arith))
+
+-- copies that got memory reached and made their accesses, since no frame is missing
+copies-whole : (s : Served ScriptRights) → HasAllFrames s.duty.monitor.now → CopiesGetMemory s → HasWholeCopies s
+copies-whole s frames gets task call o is-in does among line = by call does
+  where
+    by : (z : ScriptCall) → task.deed ≡ Do z → IsMadeWhole s.duty.monitor.now z o.answer
+    by (calls.Copy a) does =
+        λ denial e lost. ⊎_elim (λ (n26 : denial ≡ denial_of N26 NoFacts). gets task (calls.Copy a) o is-in does among line tt (e ∙ ap (λ (d : Denial). answers.Denied d) n26))
+        (λ (missing : (denial ≡ denial_of N16 NoFacts) × (HasAllFrames s.duty.monitor.now → ⊥)). missing.1 frames) lost
+    by z does = tt
+
 all-among : {A : Type 0} (Is : A → Type 0) (xs : List A) → All Is xs → (x : A) → IsAmong x xs → Is x
 all-among Is [] all x is = absurd is
 all-among Is (y ∷ ys) all x (inl e) = subst Is (sym e) (All-head Is y ys all)
 all-among Is (y ∷ ys) all x (inr is) = all-among Is ys (All-tail Is y ys all) x is
 
 module _ (c : RunContents) (logged : Bool) (x : Served ScriptRights) (xs : List (Served ScriptRights)) (of : AreOf c logged (duties_in (x ∷ xs))) (limits : IsWithinLimits of.monitor.config)
-    (are : AreServed may_by (x ∷ xs)) (one : ShowOneState (x ∷ xs)) (orderly : All (IsOrderly may_by of.monitor) (x ∷ xs)) (passes : All EndsAtNoGate (x ∷ xs)) (whole : All HasNoneLost (x ∷ xs)) where
+    (are : AreServed may_by (x ∷ xs)) (one : ShowOneState (x ∷ xs)) (orderly : All (IsOrderly may_by of.monitor) (x ∷ xs)) (gets : All CopiesGetMemory (x ∷ xs)) where
   abbrev m : Monitor ScriptRights
   m = of.monitor
 
@@ -103,59 +134,95 @@ module _ (c : RunContents) (logged : Bool) (x : Served ScriptRights) (xs : List 
       others (y ∷ ys) zero l = refl
       others (y ∷ ys) (suc n) l = others ys n (omega (arith, l))
 
-  all : FollowsAll may_by m x xs on ids are one orderly
-  all = follows-all may_by m x xs on ids are one orderly limits
+  copies : All HasWholeCopies (x ∷ xs)
+  copies i s l =
+      let inside : i < length (duties_in (x ∷ xs)) = let e = length-map (x ∷ xs) (λ (t : Served ScriptRights). t.duty) in omega (arith, l, e) in
+      let here : (get_or (x ∷ xs) i s).duty.monitor.now ≡ m = subst (λ (d : ThreadJob ScriptRights). d.monitor.now ≡ m) (get_or-map (λ (t : Served ScriptRights). t.duty) (x ∷ xs) i s s.duty l)
+      (All-get_or (λ (d : ThreadJob ScriptRights). d.monitor.now ≡ m) (duties_in (x ∷ xs)) i s.duty inside on) in
+      copies-whole (get_or (x ∷ xs) i s) (subst (λ (n : Monitor ScriptRights). HasAllFrames n) (sym here) of.frames) (gets i s l)
+
+  all : FollowsAll may_by m x xs on ids are one orderly copies
+  all = follows-all may_by m x xs on ids are one orderly copies limits
 
   numbered : AreFlagsOf m c.tasks
   numbered task is = all-among (λ (t : RunTask). IsBelow m.words.flags t.deed) c.tasks of.flags task is
 
-  pub explored : (hs : List Happening) × IsOrderOf c hs (texts_in (x ∷ xs))
-  explored = (
-    happenings all.order,
-    record {
-      legal = legal;
-      follow = all-follow c (happenings all.order) c.head.domains (x ∷ xs) (sym same-many) each;
-      known = subst (λ (ds : List DomainConfig). All (λ y. domain_of ds (doer y) ≢ None) (happenings all.order)) of.domains (order-known m.config (may_by m.rights) all.order all.flags all.legal);
-      flags = order-raised m.config all.order all.flags;
-    },
-  )
-    where
-      legal : Legal (setting_of_script c.head) (events_in (happenings all.order)) (trace_in (happenings all.order))
-      legal = subst (λ (s : Setting). Legal s (events_in (happenings all.order)) (trace_in (happenings all.order))) setting-is
-          (subst (λ es. Legal (setting_of m.config (may_by m.rights)) es (trace_in (happenings all.order))) (sym (events-are all.order))
-          (subst (λ ts. Legal (setting_of m.config (may_by m.rights)) (events_of (items_in all.order)) ts) (sym (trace-is all.order)) all.legal))
+  order-legal : Legal (setting_of_script c.head) (events_in (happenings all.order)) (trace_in (happenings all.order))
+  order-legal = subst (λ (s : Setting). Legal s (events_in (happenings all.order)) (trace_in (happenings all.order))) setting-is
+      (subst (λ es. Legal (setting_of m.config (may_by m.rights)) es (trace_in (happenings all.order))) (sym (events-are all.order))
+      (subst (λ ts. Legal (setting_of m.config (may_by m.rights)) (events_of (items_in all.order)) ts) (sym (trace-is all.order)) all.legal))
 
+  all-known : All (λ y. domain_of c.head.domains (doer y) ≢ None) (happenings all.order)
+  all-known = subst (λ (ds : List DomainConfig). All (λ y. domain_of ds (doer y) ≢ None) (happenings all.order)) of.domains (order-known m.config (may_by m.rights) all.order all.flags all.legal)
+
+  -- the list of the domain at a position
+  serves-at : (i : ℕ) (d : DomainConfig) → i < length c.head.domains
+      → Serves (HasStarved (lists i).outcomes) (IsStopped (lists i)) (type_names c.head) (get_or c.head.domains i d).id [] [] (list_of c.tasks (get_or c.head.domains i d).id) (own_happenings (get_or c.head.domains i d).id (happenings all.order)) (lists i).text
+  serves-at i d inside =
+      let l : i < length (x ∷ xs) = omega (arith, inside, same-many) in
+      let within : i < length m.config.domains.items = let e = ap length of.domains in omega (arith, inside, e) in
+      let over = over-at i l in
+      let mine = all.follow i within (subst (AreFlagsOf m) (sym over.0) numbered) of.frames in
+      let typed = subst (λ (ts : List (List ℕ)). Serves (HasStarved (lists i).outcomes) (IsStopped (lists i)) ts (lists i).duty.part.dom [] [] (list_of (lists i).duty.part.tasks.now (lists i).duty.part.dom) (happenings (own_in (lists i).duty.part.dom all.order)) (lists i).text) over.1 mine in
+      let tasked = subst (λ (ts : List RunTask). Serves (HasStarved (lists i).outcomes) (IsStopped (lists i)) (type_names c.head) (lists i).duty.part.dom [] [] (list_of ts (lists i).duty.part.dom) (happenings (own_in (lists i).duty.part.dom all.order)) (lists i).text) over.0 typed in
+      let named = subst (λ (n : DomId). Serves (HasStarved (lists i).outcomes) (IsStopped (lists i)) (type_names c.head) n [] [] (list_of c.tasks n) (happenings (own_in n all.order)) (lists i).text) (dom-at i d l) tasked in
+      subst (λ (hs : List Happening). Serves (HasStarved (lists i).outcomes) (IsStopped (lists i)) (type_names c.head) (get_or c.head.domains i d).id [] [] (list_of c.tasks (get_or c.head.domains i d).id) hs (lists i).text) (sym (own-are (get_or c.head.domains i d).id all.order)) named
+
+  pub printed : MayPrint c (texts_in (x ∷ xs))
+  printed = (happenings all.order, record { legal = order-legal; print = all-print c (happenings all.order) c.head.domains (x ∷ xs) (sym same-many) each; known = all-known; flags = order-raised m.config all.order all.flags })
+    where
+      each : (i : ℕ) (d : DomainConfig) (s : Served ScriptRights) → i < length c.head.domains
+          → PrintsList (type_names c.head) (get_or c.head.domains i d).id [] [] (list_of c.tasks (get_or c.head.domains i d).id) (own_happenings (get_or c.head.domains i d).id (happenings all.order)) (get_or (x ∷ xs) i s).text
+      each i d s inside =
+          subst (λ (q : Served ScriptRights). PrintsList (type_names c.head) (get_or c.head.domains i d).id [] [] (list_of c.tasks (get_or c.head.domains i d).id) (own_happenings (get_or c.head.domains i d).id (happenings all.order)) q.text) (same-list x s i (omega (arith, inside, same-many)))
+          (prints-list (HasStarved (lists i).outcomes) (IsStopped (lists i)) (type_names c.head) (get_or c.head.domains i d).id (list_of c.tasks (get_or c.head.domains i d).id) [] [] _ (lists i).text (serves-at i d inside))
+
+  pub explored : All EndsAtNoGate (x ∷ xs) → All HasNoneLost (x ∷ xs) → MayGive c (texts_in (x ∷ xs))
+  explored passes whole = (happenings all.order, record { legal = order-legal; follow = all-follow c (happenings all.order) c.head.domains (x ∷ xs) (sym same-many) each; known = all-known; flags = order-raised m.config all.order all.flags })
+    where
       each : (i : ℕ) (d : DomainConfig) (s : Served ScriptRights) → i < length c.head.domains
           → FollowsList (type_names c.head) (get_or c.head.domains i d).id [] [] (list_of c.tasks (get_or c.head.domains i d).id) (own_happenings (get_or c.head.domains i d).id (happenings all.order)) (get_or (x ∷ xs) i s).text
       each i d s inside =
           let l : i < length (x ∷ xs) = omega (arith, inside, same-many) in
-          let within : i < length m.config.domains.items = let e = ap length of.domains in omega (arith, inside, e) in
-          let over = over-at i l in
-          let mine = all.follow i within (subst (AreFlagsOf m) (sym over.0) numbered) (All-get_or EndsAtNoGate (x ∷ xs) i x l passes) (All-get_or HasNoneLost (x ∷ xs) i x l whole) in
-          let typed = subst (λ (ts : List (List ℕ)). FollowsList ts (lists i).duty.part.dom [] [] (list_of (lists i).duty.part.tasks.now (lists i).duty.part.dom) (happenings (own_in (lists i).duty.part.dom all.order)) (lists i).text) over.1 mine in
-          let tasked = subst (λ (ts : List RunTask). FollowsList (type_names c.head) (lists i).duty.part.dom [] [] (list_of ts (lists i).duty.part.dom) (happenings (own_in (lists i).duty.part.dom all.order)) (lists i).text) over.0 typed in
-          let named = subst (λ (n : DomId). FollowsList (type_names c.head) n [] [] (list_of c.tasks n) (happenings (own_in n all.order)) (lists i).text) (dom-at i d l) tasked in
-          subst (λ (hs : List Happening). FollowsList (type_names c.head) (get_or c.head.domains i d).id [] [] (list_of c.tasks (get_or c.head.domains i d).id) hs (get_or (x ∷ xs) i s).text) (sym (own-are (get_or c.head.domains i d).id all.order))
-          (subst (λ (q : Served ScriptRights). FollowsList (type_names c.head) (get_or c.head.domains i d).id [] [] (list_of c.tasks (get_or c.head.domains i d).id) (happenings (own_in (get_or c.head.domains i d).id all.order)) q.text) (same-list x s i l) named)
+          subst (λ (q : Served ScriptRights). FollowsList (type_names c.head) (get_or c.head.domains i d).id [] [] (list_of c.tasks (get_or c.head.domains i d).id) (own_happenings (get_or c.head.domains i d).id (happenings all.order)) q.text) (same-list x s i l)
+          (follows-list (HasStarved (lists i).outcomes) (IsStopped (lists i)) (type_names c.head) (get_or c.head.domains i d).id
+          (λ starved. whole i x l starved.0 starved.1 starved.2) (λ stopped. passes i x l stopped.0 stopped.1 stopped.2)
+          (list_of c.tasks (get_or c.head.domains i d).id) [] [] _ (lists i).text (serves-at i d inside))
+
+-- a list without N26 has no copy without memory
+copies-get : (served : List (Served ScriptRights)) → All HasNoneLost served → All CopiesGetMemory served
+copies-get served whole i s l task call o is-in does among line copy starved = whole i s l o among starved
+
+-- a run of a script has a domain
+none-run : (c : RunContents) (logged : Bool) (duties : List (ThreadJob ScriptRights)) (of : AreOf c logged duties) → IsWithinLimits of.monitor.config → [] ≡ duties → ⊥
+none-run c logged duties of limits same = none (ap (map (λ (d : ThreadJob ScriptRights). d.part)) same ∙ of.duties_are.0)
+  where
+    none : [] ≡ of.parts → ⊥
+    none e = let some = limits.some in let l = ap length (ap (map (λ (p : DomainPart). p.dom)) e ∙ of.of_script.0) in let k = length-map c.head.domains (λ (d : DomainConfig). d.id) in let j = ap length of.domains in omega (arith, some, l, k, j)
+
+abbrev of-lists : (c : RunContents) (logged : Bool) (duties : List (ThreadJob ScriptRights)) (served : List (Served ScriptRights)) → duties_in served ≡ duties → AreOf c logged duties → AreOf c logged (duties_in served)
+of-lists c logged duties served same of = record {
+  parts = of.parts;
+  of_script = of.of_script;
+  monitor = of.monitor;
+  domains = of.domains;
+  generation = of.generation;
+  rights = of.rights;
+  flags = of.flags;
+  frames = of.frames;
+  duties_are = subst (AreDuties of.monitor logged of.parts) (sym same) of.duties_are;
+}
 
 pub runs-explored : RunsAreExplored
-runs-explored c logged duties old new of limits wrote orderly passes whole = by wrote.0 wrote.1 wrote.2 wrote.3 of limits orderly passes whole
+runs-explored c logged duties old new of limits wrote orderly passes whole = by wrote.0 wrote.1 wrote.2 wrote.3 orderly passes whole
   where
-    by : (all : List (Served ScriptRights)) → duties_in all ≡ duties → AreServed may_by all → ShowOneState all → (of : AreOf c logged duties) → IsWithinLimits of.monitor.config → All (IsOrderly may_by of.monitor) all → All EndsAtNoGate all → All HasNoneLost all
-        → (hs : List Happening) × IsOrderOf c hs (texts_in all)
-    by [] same are one of limits orderly passes whole = absurd (none (ap (map (λ (d : ThreadJob ScriptRights). d.part)) same ∙ of.duties_are.0))
-      where
-        none : [] ≡ of.parts → ⊥
-        none e = let some = limits.some in let l = ap length (ap (map (λ (p : DomainPart). p.dom)) e ∙ of.of_script.0) in let k = length-map c.head.domains (λ (d : DomainConfig). d.id) in let j = ap length of.domains in omega (arith, some, l, k, j)
-    by (x ∷ xs) same are one of limits orderly passes whole =
-        let here : AreOf c logged (duties_in (x ∷ xs)) = record {
-          parts = of.parts;
-          of_script = of.of_script;
-          monitor = of.monitor;
-          domains = of.domains;
-          generation = of.generation;
-          rights = of.rights;
-          flags = of.flags;
-          duties_are = subst (AreDuties of.monitor logged of.parts) (sym same) of.duties_are;
-        } in
-        explored c logged x xs here limits are one orderly passes whole
+    by : (all : List (Served ScriptRights)) → duties_in all ≡ duties → AreServed may_by all → ShowOneState all → All (IsOrderly may_by of.monitor) all → All EndsAtNoGate all → All HasNoneLost all → MayGive c (texts_in all)
+    by [] same are one orderly passes whole = absurd (none-run c logged duties of limits same)
+    by (x ∷ xs) same are one orderly passes whole = explored c logged x xs (of-lists c logged duties (x ∷ xs) same of) limits are one orderly (copies-get (x ∷ xs) whole) passes whole
+
+pub runs-printed : RunsArePrinted
+runs-printed c logged duties old new of limits wrote orderly gets = by wrote.0 wrote.1 wrote.2 wrote.3 orderly gets
+  where
+    by : (all : List (Served ScriptRights)) → duties_in all ≡ duties → AreServed may_by all → ShowOneState all → All (IsOrderly may_by of.monitor) all → All CopiesGetMemory all → MayPrint c (texts_in all)
+    by [] same are one orderly gets = absurd (none-run c logged duties of limits same)
+    by (x ∷ xs) same are one orderly gets = printed c logged x xs (of-lists c logged duties (x ∷ xs) same of) limits are one orderly gets

@@ -1,5 +1,5 @@
 -- The deeds of a list are those with which its domain follows the list in an order of the script.
-use Rattle.std.proofs.Common.{◌≡◌, ℕ, List, [], ◌∷◌, ◌++◌, Some, None, Result, Ok, Err, append_assoc, refl, sym, ap}
+use Rattle.std.proofs.Common.{◌≡◌, ℕ, List, [], ◌∷◌, ◌++◌, Option, Some, None, inl, inr, Result, Ok, Err, append_assoc, refl, sym, ap}
 use Rattle.std.proofs.Common.{◌∙◌, subst}
 use Rattle.gt_types.specs.declared.DomId.{DomId}
 use Rattle.gt_types.specs.declared.Size.{Size}
@@ -29,14 +29,19 @@ use Rattle.gt_live.specs.declared.monitor.Monitor.{Monitor}
 use Rattle.gt_run.specs.Asking.{AnswersCall, HasBytes, IsReadAnswer, frames_answer, plain_answer, size_answer, version_answer}
 use Rattle.gt_order.proofs.Happenings.{call-happens, happening_of, happenings, happenings-both}
 use Rattle.gt_order.proofs.Held.{Keeps, keeps-less, keeps-more, keeps-same}
-use Rattle.gt_order.specs.Explored.{IsNotLost}
+use Rattle.gt_order.proofs.Answering.{IsStarvedOnly}
+use Rattle.gt_order.proofs.Served.{Serves}
+use Rattle.gt_order.specs.Printed.{GetsNoMemory, IsAllocating, no_memory}
+use Rattle.gt_order.specs.Texts.{HasAllFrames, OutcomeGivesAnswer}
+use Rattle.gt_types.specs.Denial.{denial_of}
+use Rattle.gt_types.specs.declared.denial.Facts.TheVariants.{None as NoFacts}
+use Rattle.gt_types.specs.declared.denial.Rule.TheVariants.{N26}
 use Rattle.gt_order.specs.Leaving.{AreUnmaps}
 use Rattle.gt_order.specs.Ordering.{RunOrder, items_by_outcome, items_of_call, of_core, order_of_deeds, way_of}
 use Rattle.gt_order.specs.Ordering.Occurrence.{OfFlag}
 use Rattle.gt_order.specs.Runs.{AreDeeds, CallMade, CallOutcome, Deed, FlagMade, IsAnswered, domain_after}
 use Rattle.gt_order.specs.Runs.Deed.{Call, OnFlag}
 use Rattle.gt_order.specs.Runs.CallOutcome.{Told, Kept, Starved, Read, Wrote}
-use Rattle.gt_order.specs.Texts.{OutcomeGivesAnswer}
 
 -- the handles after an answer
 
@@ -96,51 +101,109 @@ module _ {P : Type 0} (may : P → AllowRelation) (m : Monitor P) (d e : Domain)
   answered-keeps (requests.Demote gref) answer (r, is, (answered, kept, silent)) = told-so answer (plain_answer r) is (plain-held held r) kept.0
   answered-keeps (requests.Promote gref) answer (r, is, (answered, kept, silent)) = told-so answer (plain_answer r) is (plain-held held r) kept.0
 
-module _ (c : Config) (may : AllowRelation) (types : List (List ℕ)) (dom : DomId) where
-  same-items : (m : CallMade) (out : CallOutcome) (answer : Answer) → OutcomeGivesAnswer out answer → IsNotLost answer
-      → items_by_outcome dom (way_of c may m) m.request out m.steps ≡ items_of_call dom (way_of c may m) m.request (Some answer) m.steps
-  same-items m (Told verdict) answer gives whole = ap (λ (a : Answer). items_of_call dom (way_of c may m) m.request (Some a) m.steps) (sym gives)
-  same-items m (Kept handle p) answer gives whole = ap (λ (a : Answer). items_of_call dom (way_of c may m) m.request (Some a) m.steps) (sym gives)
-  same-items m (Read bytes) answer gives whole = ap (λ (a : Answer). items_of_call dom (way_of c may m) m.request (Some a) m.steps) (sym gives)
-  same-items m Wrote answer gives whole = ap (λ (a : Answer). items_of_call dom (way_of c may m) m.request (Some a) m.steps) (sym gives)
-  same-items m Starved answer gives whole = absurd (whole gives.0 gives.1 gives.2)
+-- an answer without memory names no label and leaves the handles
 
+named-none : (named : List Named) (dom : DomId) (label : Option (List ℕ)) → with_name named dom label None ≡ named
+named-none named dom None = refl
+named-none named dom (Some label) = refl
+
+held-none : (held : List Handle) (lost : Option Handle) (denial : Denial) → held_after held lost (answers.Denied denial) ≡ held
+held-none held None denial = refl
+held-none held (Some handle) denial = refl
+
+module _ {P : Type 0} (m : Monitor P) (all : HasAllFrames m) where
+  -- a call without memory answered N26
+  pub starved-answer : (answer : Answer) → OutcomeGivesAnswer m Starved answer → answer ≡ no_memory
+  starved-answer answer (denial, is, inl e) = is ∙ ap (λ (d : Denial). answers.Denied d) e
+  starved-answer answer (denial, is, inr e) = absurd (e.1 all)
+
+module _ (Lost Stopped : Type 0) (c : Config) (may : AllowRelation) (types : List (List ℕ)) (dom : DomId) where
   -- whatever follows these deeds follows the lines of the list that did them
   abbrev pub Follows : List Named → List Handle → List RunTask → List Deed → List ℕ → Type 0
   Follows named held done made printed =
-      (rest : List RunTask) (more : List Happening) (text : List ℕ) → FollowsList types dom named held rest more text
-      → FollowsList types dom [] [] (done ++ rest) (happenings (order_of_deeds c may dom made) ++ more) (printed ++ text)
+      (rest : List RunTask) (more : List Happening) (text : List ℕ) → Serves Lost Stopped types dom named held rest more text
+      → Serves Lost Stopped types dom [] [] (done ++ rest) (happenings (order_of_deeds c may dom made) ++ more) (printed ++ text)
 
   pub follows-none : Follows [] [] [] [] []
   follows-none rest more text f = f
 
-  pub follows-more : (named : List Named) (held : List Handle) (done : List RunTask) (made : List Deed) (printed : List ℕ) (task : RunTask) (call : ScriptCall) (m : CallMade) (answer : Answer)
-      → Follows named held done made printed → task.deed ≡ Do call → SaysRequest named dom call m.request → OutcomeGivesAnswer m.outcome answer → IsNotLost answer
-      → Follows (with_name named dom (label_given call) (handle_given answer)) (held_after held (given_up m.request) answer) (done ++ task ∷ []) (Call m ∷ made) (printed ++ answer_line types task.line dom answer)
-  follows-more named held done made printed task call m answer before is says gives whole rest more text f =
-      subst (λ (ts : List RunTask). FollowsList types dom [] [] ts (happenings (mine ++ order_of_deeds c may dom made) ++ more) ((printed ++ line) ++ text)) (sym (append_assoc done (task ∷ []) rest))
-      (subst (λ (hs : List Happening). FollowsList types dom [] [] (done ++ task ∷ rest) hs ((printed ++ line) ++ text))
+  -- the items of one more deed, and its line
+  follows-on : (done : List RunTask) (made : List Deed) (printed : List ℕ) (task : RunTask) (mine : RunOrder) (line : List ℕ) (rest : List RunTask) (more : List Happening) (text : List ℕ)
+      → Serves Lost Stopped types dom [] [] (done ++ task ∷ rest) (happenings (order_of_deeds c may dom made) ++ (happenings mine ++ more)) (printed ++ (line ++ text))
+      → Serves Lost Stopped types dom [] [] ((done ++ task ∷ []) ++ rest) (happenings (mine ++ order_of_deeds c may dom made) ++ more) ((printed ++ line) ++ text)
+  follows-on done made printed task mine line rest more text f =
+      subst (λ (ts : List RunTask). Serves Lost Stopped types dom [] [] ts (happenings (mine ++ order_of_deeds c may dom made) ++ more) ((printed ++ line) ++ text)) (sym (append_assoc done (task ∷ []) rest))
+      (subst (λ (hs : List Happening). Serves Lost Stopped types dom [] [] (done ++ task ∷ rest) hs ((printed ++ line) ++ text))
       (sym (ap (λ (hs : List Happening). hs ++ more) (happenings-both mine (order_of_deeds c may dom made)) ∙ append_assoc (happenings (order_of_deeds c may dom made)) (happenings mine) more))
-      (subst (λ (t : List ℕ). FollowsList types dom [] [] (done ++ task ∷ rest) (happenings (order_of_deeds c may dom made) ++ (happenings mine ++ more)) t) (sym (append_assoc printed line text))
-      (before (task ∷ rest) (happenings mine ++ more) (line ++ text) deed)))
+      (subst (λ (t : List ℕ). Serves Lost Stopped types dom [] [] (done ++ task ∷ rest) (happenings (order_of_deeds c may dom made) ++ (happenings mine ++ more)) t) (sym (append_assoc printed line text)) f))
+
+  -- the items of a call with this answer
+  abbrev HasItems : CallMade → CallOutcome → Answer → Type 0
+  HasItems m out answer = items_by_outcome dom (way_of c may m) m.request out m.steps ≡ items_of_call dom (way_of c may m) m.request (Some answer) m.steps
+
+  -- a call that had memory
+  follows-answered : (named : List Named) (held : List Handle) (done : List RunTask) (made : List Deed) (printed : List ℕ) (task : RunTask) (call : ScriptCall) (m : CallMade) (out : CallOutcome) (answer : Answer)
+      → Follows named held done made printed → task.deed ≡ Do call → SaysRequest named dom call m.request → HasItems m out answer
+      → (rest : List RunTask) (more : List Happening) (text : List ℕ) → Serves Lost Stopped types dom (with_name named dom (label_given call) (handle_given answer)) (held_after held (given_up m.request) answer) rest more text
+      → Serves Lost Stopped types dom [] [] ((done ++ task ∷ []) ++ rest) (happenings (of_core (items_by_outcome dom (way_of c may m) m.request out m.steps) ++ order_of_deeds c may dom made) ++ more) ((printed ++ answer_line types task.line dom answer) ++ text)
+  follows-answered named held done made printed task call m out answer before is says items rest more text f =
+      follows-on done made printed task mine line rest more text (before (task ∷ rest) (happenings mine ++ more) (line ++ text) (inl deed))
     where
       mine : RunOrder
-      mine = of_core (items_by_outcome dom (way_of c may m) m.request m.outcome m.steps)
+      mine = of_core (items_by_outcome dom (way_of c may m) m.request out m.steps)
 
       line : List ℕ
       line = answer_line types task.line dom answer
 
       NextOf : List Named → List Handle → List Happening → List ℕ → Type 0
-      NextOf names holds hs left = FollowsList types dom names holds rest hs left
+      NextOf names holds hs left = Serves Lost Stopped types dom names holds rest hs left
 
       After : Answer → List Happening → Type 0
       After a hs = Prints (answer_line types task.line dom a) (NextOf (with_name named dom (label_given call) (handle_given a)) (held_after held (given_up m.request) a) hs) (line ++ text)
 
       happens : CallHappens dom m.request After (happenings mine ++ more)
-      happens = subst (λ g. CallHappens dom m.request After (happenings (of_core g) ++ more)) (sym (same-items m m.outcome answer gives whole)) (call-happens dom (way_of c may m) m.request answer m.steps After more (text, refl, f))
+      happens = subst (λ g. CallHappens dom m.request After (happenings (of_core g) ++ more)) (sym items) (call-happens dom (way_of c may m) m.request answer m.steps After more (text, refl, f))
 
       deed : DeedHappens types dom named held task.line task.deed NextOf (happenings mine ++ more) (line ++ text)
       deed = subst (λ (x : RunAction). DeedHappens types dom named held task.line x NextOf (happenings mine ++ more) (line ++ text)) (sym is) (m.request, says, happens)
+
+  -- a call that got no memory
+  follows-starved : (named : List Named) (held : List Handle) (done : List RunTask) (made : List Deed) (printed : List ℕ) (task : RunTask) (call : ScriptCall) (m : CallMade)
+      → Follows named held done made printed → task.deed ≡ Do call → SaysRequest named dom call m.request → IsAllocating m.request → Lost
+      → (rest : List RunTask) (more : List Happening) (text : List ℕ) → Serves Lost Stopped types dom (with_name named dom (label_given call) None) (held_after held (given_up m.request) no_memory) rest more text
+      → Serves Lost Stopped types dom [] [] ((done ++ task ∷ []) ++ rest) (happenings (order_of_deeds c may dom made) ++ more) ((printed ++ answer_line types task.line dom no_memory) ++ text)
+  follows-starved named held done made printed task call m before is says allocates lost rest more text f =
+      follows-on done made printed task [] line rest more text (before (task ∷ rest) more (line ++ text) (inr (inl (lost, gets))))
+    where
+      line : List ℕ
+      line = answer_line types task.line dom no_memory
+
+      NextOf : List Named → List Handle → List Happening → List ℕ → Type 0
+      NextOf names holds hs left = Serves Lost Stopped types dom names holds rest hs left
+
+      then : NextOf named held more text
+      then = subst (λ (q : List Named × List Handle). NextOf q.0 q.1 more text) (λ j. (named-none named dom (label_given call) j, held-none held (given_up m.request) (denial_of N26 NoFacts) j)) f
+
+      gets : GetsNoMemory types dom named held task.line task.deed NextOf more (line ++ text)
+      gets = subst (λ (x : RunAction). GetsNoMemory types dom named held task.line x NextOf more (line ++ text)) (sym is) (m.request, says, allocates, (text, refl, then))
+
+  module _ {P : Type 0} (mon : Monitor P) (all : HasAllFrames mon) where
+    pub follows-more : (named : List Named) (held : List Handle) (done : List RunTask) (made : List Deed) (printed : List ℕ) (task : RunTask) (call : ScriptCall) (m : CallMade) (answer : Answer)
+        → Follows named held done made printed → task.deed ≡ Do call → SaysRequest named dom call m.request → OutcomeGivesAnswer mon m.outcome answer → IsStarvedOnly m.outcome m.request → (answer ≡ no_memory → Lost)
+        → Follows (with_name named dom (label_given call) (handle_given answer)) (held_after held (given_up m.request) answer) (done ++ task ∷ []) (Call m ∷ made) (printed ++ answer_line types task.line dom answer)
+    follows-more named held done made printed task call m answer before is says gives only lost rest more text f = by m.outcome gives only
+      where
+        by : (out : CallOutcome) → OutcomeGivesAnswer mon out answer → IsStarvedOnly out m.request
+            → Serves Lost Stopped types dom [] [] ((done ++ task ∷ []) ++ rest) (happenings (of_core (items_by_outcome dom (way_of c may m) m.request out m.steps) ++ order_of_deeds c may dom made) ++ more) ((printed ++ answer_line types task.line dom answer) ++ text)
+        by Starved g o =
+            let e : answer ≡ no_memory = starved-answer mon all answer g in
+            subst (λ (a : Answer). Serves Lost Stopped types dom [] [] ((done ++ task ∷ []) ++ rest) (happenings (order_of_deeds c may dom made) ++ more) ((printed ++ answer_line types task.line dom a) ++ text)) (sym e)
+            (follows-starved named held done made printed task call m before is says o (lost e) rest more text
+            (subst (λ (a : Answer). Serves Lost Stopped types dom (with_name named dom (label_given call) (handle_given a)) (held_after held (given_up m.request) a) rest more text) e f))
+        by (Told verdict) g o = follows-answered named held done made printed task call m (Told verdict) answer before is says (ap (λ (a : Answer). items_of_call dom (way_of c may m) m.request (Some a) m.steps) (sym g)) rest more text f
+        by (Kept handle p) g o = follows-answered named held done made printed task call m (Kept handle p) answer before is says (ap (λ (a : Answer). items_of_call dom (way_of c may m) m.request (Some a) m.steps) (sym g)) rest more text f
+        by (Read bytes) g o = follows-answered named held done made printed task call m (Read bytes) answer before is says (ap (λ (a : Answer). items_of_call dom (way_of c may m) m.request (Some a) m.steps) (sym g)) rest more text f
+        by Wrote g o = follows-answered named held done made printed task call m Wrote answer before is says (ap (λ (a : Answer). items_of_call dom (way_of c may m) m.request (Some a) m.steps) (sym g)) rest more text f
 
   -- a line that raises or awaits a flag
   pub follows-flag : (named : List Named) (held : List Handle) (done : List RunTask) (made : List Deed) (printed : List ℕ) (task : RunTask) (x : FlagMade) → Follows named held done made printed
@@ -148,10 +211,11 @@ module _ (c : Config) (may : AllowRelation) (types : List (List ℕ)) (dom : Dom
       → Follows named held (done ++ task ∷ []) (OnFlag x ∷ made) printed
   follows-flag named held done made printed task x before happens rest more text f =
       let mine = happening_of (OfFlag dom x.flag x.step) in
-      subst (λ (ts : List RunTask). FollowsList types dom [] [] ts ((happenings (order_of_deeds c may dom made) ++ mine ∷ []) ++ more) (printed ++ text)) (sym (append_assoc done (task ∷ []) rest))
-      (subst (λ (hs : List Happening). FollowsList types dom [] [] (done ++ task ∷ rest) hs (printed ++ text)) (sym (append_assoc (happenings (order_of_deeds c may dom made)) (mine ∷ []) more))
-      (before (task ∷ rest) (mine ∷ more) text (happens (λ names holds hs left. FollowsList types dom names holds rest hs left) more text f)))
+      subst (λ (ts : List RunTask). Serves Lost Stopped types dom [] [] ts ((happenings (order_of_deeds c may dom made) ++ mine ∷ []) ++ more) (printed ++ text)) (sym (append_assoc done (task ∷ []) rest))
+      (subst (λ (hs : List Happening). Serves Lost Stopped types dom [] [] (done ++ task ∷ rest) hs (printed ++ text)) (sym (append_assoc (happenings (order_of_deeds c may dom made)) (mine ∷ []) more))
+      (before (task ∷ rest) (mine ∷ more) text (inl (happens (λ names holds hs left. Serves Lost Stopped types dom names holds rest hs left) more text f))))
 
+module _ (c : Config) (may : AllowRelation) (types : List (List ℕ)) (dom : DomId) where
   -- the unmaps with which a domain leaves
   pub record GivesBack (held : List Handle) (us : List Deed) (after : Domain) : Type 0 where
     pub order : List Handle

@@ -13,6 +13,7 @@ pub mod FlagSteps
 pub mod Following
 pub mod Happenings
 pub mod Held
+pub mod KeptFrames
 pub mod Leaving
 pub mod Listed
 pub mod Making
@@ -22,6 +23,7 @@ pub mod NextStage
 pub mod Order
 pub mod Places
 pub mod Seeing
+pub mod Served
 pub mod Spelled
 pub mod Stages
 pub mod Start

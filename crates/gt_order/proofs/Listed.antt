@@ -36,7 +36,9 @@ use Rattle.gt_order.proofs.Happenings.{happening_of, happenings, happenings-both
 use Rattle.gt_order.proofs.Held.{Keeps, keeps-new, keeps-none}
 use Rattle.gt_order.proofs.Leaving.{leaving}
 use Rattle.gt_order.proofs.Order.{runs-have-legal-orders}
-use Rattle.gt_order.specs.Explored.{EndsAtNoGate, HasNoneLost, IsNotLost}
+use Rattle.gt_order.proofs.Served.{Serves, gate-split}
+use Rattle.gt_order.specs.Explored.{IsStarved}
+use Rattle.gt_order.specs.Printed.{Leaves, no_memory}
 use Rattle.gt_order.specs.Leaving.{AreUnmaps}
 use Rattle.gt_order.specs.Ordering.{AreOnRaisedFlags, IsLegalOrder, RunOrder, events_of, items_in, order_of_deeds, own_in, trace_of}
 use Rattle.gt_order.specs.Ordering.Occurrence.{OfFlag}
@@ -54,11 +56,11 @@ use Rattle.gt_script.specs.declared.tasks.RunActionBy.TheVariants.{Await, Do, Te
 use Rattle.gt_run.specs.Asking.{Asks, MakesFlagStep, RaisesFlag}
 use Rattle.gt_run.specs.Printing.{AreServed, HasViewIn, Served, ShowOneState, WasServed, duties_in}
 use Rattle.gt_run.specs.Serving.{DoesDeed, DoesWhere, EndsList, ListLeadsTo, MakesCall, ListOutcome, ListProgress}
-use Rattle.gt_run.specs.Serving.{answer_lines, list_start}
+use Rattle.gt_run.specs.Serving.{answer_lines, gate_line, list_start}
 use Rattle.gt_run.specs.declared.lists.ThreadJob.{ThreadJob}
 use Rattle.gt_order.specs.Texts.{AreDeedsOf, IsFlagStepOf, AreDeedsOfList, AreMadeWhole, AreOfALegalOrder, FitsDuty, HasList}
 use Rattle.gt_types.specs.Config.{IsWithinLimits}
-use Rattle.gt_order.specs.Texts.{AreOfOneOrder, IsMadeWhole, IsOrderly, IsViewOf, RunsWriteALegalOrder}
+use Rattle.gt_order.specs.Texts.{AreOfOneOrder, HasAllFrames, HasWholeCopies, IsMadeWhole, IsOrderly, IsViewOf, OutcomeGivesAnswer, RunsWriteALegalOrder}
 use Rattle.gt_order.specs.Texts.{TextsAreOfALegalOrder}
 use Rattle.gt_order.proofs.Answering.{NotLost, is-made, whole-request}
 
@@ -76,12 +78,20 @@ module _ {A : Type 0} where
 abbrev pub AreFlagsOf : {P : Type 0} → Monitor P → List RunTask → Type 0
 AreFlagsOf m tasks = (task : RunTask) → IsAmong task tasks → IsBelow m.words.flags task.deed
 
+-- a call of these outcomes got no memory
+abbrev pub HasStarved : List ListOutcome → Type 0
+HasStarved outcomes = (o : ListOutcome) × IsAmong o outcomes × IsStarved o
+
+-- the list was stopped by its gate
+abbrev pub IsStopped : {P : Type 0} → Served P → Type 0
+IsStopped s = (before : List ℕ) × (line : ℕ) × (s.text ≡ before ++ gate_line line s.duty.part.dom)
+
 not-below : (i n : ℕ) → nat_lt i n ≡ false → i < n → ⊥
 not-below i n e l = grind (arith, nat_tests)
 
 module _ {P : Type 0} (may : P → AllowRelation) (m : Monitor P) where
   -- a list, as far as it has come
-  module _ (duty : ThreadJob P) (over : duty.monitor.now ≡ m) (fitting : FitsDuty duty) (final : List ListOutcome) (whole : AreMadeWhole duty final) (first : Domain) where
+  module _ (duty : ThreadJob P) (over : duty.monitor.now ≡ m) (fitting : FitsDuty duty) (final : List ListOutcome) (whole : AreMadeWhole duty final) (first : Domain) (Stopped : Type 0) where
     -- the outcomes so far stay among those at the end
     abbrev AreFinal : ListProgress → Type 0
     AreFinal p = (o : ListOutcome) → IsAmong o p.outcomes → IsAmong o final
@@ -103,9 +113,9 @@ module _ {P : Type 0} (may : P → AllowRelation) (m : Monitor P) where
     grows [] p q leads all = subst AreFinal leads all
     grows (task ∷ tasks) p q leads all = line-grows task (task.dom.0 == duty.part.dom.0) p leads.0 leads.1 (grows tasks leads.0 q leads.2 all)
 
-    -- the flags of the list are the run's, and none of its answers was lost
+    -- the flags of the list are the run's, and its table has all frames
     abbrev IsFollowed : Type 0
-    IsFollowed = AreFlagsOf m duty.part.tasks.now × ((o : ListOutcome) → IsAmong o final → IsNotLost o.answer)
+    IsFollowed = AreFlagsOf m duty.part.tasks.now × HasAllFrames m
 
     record Come (done : List RunTask) (p : ListProgress) : Type 0 where
       made : List Deed
@@ -115,14 +125,14 @@ module _ {P : Type 0} (may : P → AllowRelation) (m : Monitor P) where
       mine : BelongsTo may m p.domain
       held : List Handle
       keeps : Keeps p.domain.mappings held
-      follows : IsFollowed → Follows m.config (may m.rights) duty.part.types.now duty.part.dom p.named held done made (answer_lines duty.part.types.now duty.part.dom p.outcomes)
+      follows : IsFollowed → Follows (HasStarved final) Stopped m.config (may m.rights) duty.part.types.now duty.part.dom p.named held done made (answer_lines duty.part.types.now duty.part.dom p.outcomes)
 
     one-call : (task : RunTask) (call : ScriptCall) (done : List RunTask) (p q : ListProgress) → task.deed ≡ Do call → ((named : List Named) (request : Request) → SaysRequest named duty.part.dom call request → FitsTypes request)
-        → (x : MakesCall may duty task.line call p q) → IsMadeWhole call x.answer → (IsFollowed → IsNotLost x.answer) → Come done p → Come (done ++ task ∷ []) q
-    one-call task call done p q deed fits x made-whole none-lost come =
+        → (x : MakesCall may duty task.line call p q) → IsMadeWhole m call x.answer → (x.answer ≡ no_memory → HasStarved final) → Come done p → Come (done ++ task ∷ []) q
+    one-call task call done p q deed fits x made-whole starves come =
         let says = x.says in
         let asks : Asks may m p.domain x.request x.answer q.domain = subst (λ (y : Monitor P). Asks may y p.domain x.request x.answer q.domain) over x.asks in
-        let not-lost : NotLost x.request x.answer = subst (λ (z : Request). NotLost z x.answer) (sym says.2) (whole-request p.named duty.part.dom says.0 call x.answer made-whole) in
+        let not-lost : NotLost m x.request x.answer = subst (λ (z : Request). NotLost m z x.answer) (sym says.2) (whole-request m p.named duty.part.dom says.0 call x.answer made-whole) in
         let z = is-made may m p.domain q.domain (record { before = come.mine; afterwards = asks.2.0; seat = asks.2.1 }) x.request x.answer not-lost (fits p.named x.request says) asks.1 in
         let m' : CallMade = record { request = x.request; outcome = z.0; steps = z.1; old = p.domain; new = q.domain } in
         let o : ListOutcome = record { line = task.line; answer = x.answer; told = x.told; lost = x.lost } in
@@ -135,14 +145,14 @@ module _ {P : Type 0} (may : P → AllowRelation) (m : Monitor P) where
           made = Call m' ∷ come.made;
           deeds_are = (z.3, subst (λ (y : Domain). IsAtRest y p.domain) (sym come.now) (record { seat = refl; own = refl; mappings = refl }), come.deeds_are);
           now = refl;
-          lines = (p.outcomes, o, x.outcomes, record { call = call; before = p; afterwards = q; made = x; request = refl; old = refl; new = refl; answer = refl; answered = z.2 }, come.lines);
+          lines = (p.outcomes, o, x.outcomes, record { call = call; before = p; afterwards = q; made = x; request = refl; old = refl; new = refl; answer = refl; answered = subst (λ (y : Monitor P). OutcomeGivesAnswer y z.0 x.answer) (sym over) z.2 }, come.lines);
           mine = asks.2.0;
           held = later;
           keeps = answered-keeps may m p.domain q.domain come.held come.keeps x.request x.answer asks.1;
           follows = λ followed.
-              let f = follows-more m.config (may m.rights) types dom p.named come.held done come.made (answer_lines types dom p.outcomes) task call m' x.answer (come.follows followed) deed says z.2 (none-lost followed) in
-              subst (Follows m.config (may m.rights) types dom q.named later (done ++ task ∷ []) (Call m' ∷ come.made)) (sym printed)
-              (subst (λ (named : List Named). Follows m.config (may m.rights) types dom named later (done ++ task ∷ []) (Call m' ∷ come.made) (answer_lines types dom p.outcomes ++ answer_line types task.line dom x.answer)) (sym x.named) f);
+              let f = follows-more (HasStarved final) Stopped m.config (may m.rights) types dom m followed.1 p.named come.held done come.made (answer_lines types dom p.outcomes) task call m' x.answer (come.follows followed) deed says z.2 z.4 starves in
+              subst (Follows (HasStarved final) Stopped m.config (may m.rights) types dom q.named later (done ++ task ∷ []) (Call m' ∷ come.made)) (sym printed)
+              (subst (λ (named : List Named). Follows (HasStarved final) Stopped m.config (may m.rights) types dom named later (done ++ task ∷ []) (Call m' ∷ come.made) (answer_lines types dom p.outcomes ++ answer_line types task.line dom x.answer)) (sym x.named) f);
         }
 
     -- a line that made a step on a flag
@@ -164,9 +174,9 @@ module _ {P : Type 0} (may : P → AllowRelation) (m : Monitor P) where
           held = come.held;
           keeps = subst (λ (y : HandleMap HeldPin). Keeps y come.held) (sym made.0.kept.mappings) come.keeps;
           follows = λ followed.
-              subst (λ (os : List ListOutcome). Follows m.config (may m.rights) types dom q.named come.held (done ++ task ∷ []) (OnFlag x ∷ come.made) (answer_lines types dom os)) outcomes
-              (subst (λ (named : List Named). Follows m.config (may m.rights) types dom named come.held (done ++ task ∷ []) (OnFlag x ∷ come.made) (answer_lines types dom p.outcomes)) (ap (λ (r : ListProgress). r.named) (sym same))
-              (follows-flag m.config (may m.rights) types dom p.named come.held done come.made (answer_lines types dom p.outcomes) task x (come.follows followed) (happens types dom p.named come.held)));
+              subst (λ (os : List ListOutcome). Follows (HasStarved final) Stopped m.config (may m.rights) types dom q.named come.held (done ++ task ∷ []) (OnFlag x ∷ come.made) (answer_lines types dom os)) outcomes
+              (subst (λ (named : List Named). Follows (HasStarved final) Stopped m.config (may m.rights) types dom named come.held (done ++ task ∷ []) (OnFlag x ∷ come.made) (answer_lines types dom p.outcomes)) (ap (λ (r : ListProgress). r.named) (sym same))
+              (follows-flag (HasStarved final) Stopped m.config (may m.rights) types dom p.named come.held done come.made (answer_lines types dom p.outcomes) task x (come.follows followed) (happens types dom p.named come.held)));
         }
 
     -- a flag that the run doesn't have, so that the list is not followed
@@ -195,7 +205,7 @@ module _ {P : Type 0} (may : P → AllowRelation) (m : Monitor P) where
     one-deed task is-in own (Do call) is done p q does all come =
         let o : ListOutcome = record { line = task.line; answer = does.answer; told = does.told; lost = does.lost } in
         let there = all o (subst (IsAmong o) (sym does.outcomes) (in-last o p.outcomes)) in
-        one-call task call done p q is (fitting task call is-in own is) does (whole task call o is-in is there refl) (λ followed. followed.1 o there) come
+        one-call task call done p q is (fitting task call is-in own is) does (subst (λ (y : Monitor P). IsMadeWhole y call does.answer) over (whole task call o is-in is there refl)) (λ none. (o, there, none)) come
     one-deed task is-in own (Tell flag) is done p q does all come = raising task is-in flag is done p q does.0 does.1 come
     one-deed task is-in own (Await flag) is done p q does all come =
         one-flag task is-in flag Passed (subst (λ (a : RunAction). IsFlagStepOf a flag Passed) (sym is) refl) done p q does.0 does.1 (λ types dom named held Next more text f. subst (λ (a : RunAction). DeedHappens types dom named held task.line a Next (passed dom flag ∷ more) text) (sym is) (more, refl, f)) come
@@ -240,8 +250,8 @@ module _ {P : Type 0} (may : P → AllowRelation) (m : Monitor P) where
 
   -- what these deeds did follows the list
   abbrev DidFollow : Served P → List Deed → Type 0
-  DidFollow s made = AreFlagsOf m s.duty.part.tasks.now → EndsAtNoGate s → HasNoneLost s
-      → FollowsList s.duty.part.types.now s.duty.part.dom [] [] (list_of s.duty.part.tasks.now s.duty.part.dom) (happenings (order_of_deeds m.config (may m.rights) s.duty.part.dom made)) s.text
+  DidFollow s made = AreFlagsOf m s.duty.part.tasks.now → HasAllFrames m
+      → Serves (HasStarved s.outcomes) (IsStopped s) s.duty.part.types.now s.duty.part.dom [] [] (list_of s.duty.part.tasks.now s.duty.part.dom) (happenings (order_of_deeds m.config (may m.rights) s.duty.part.dom made)) s.text
 
   -- a list that was served, up to its last view
   record Finished (i : ℕ) (s : Served P) (v : View) (gone : Type 0) : Type 0 where
@@ -262,14 +272,6 @@ module _ {P : Type 0} (may : P → AllowRelation) (m : Monitor P) where
       let there = own_position m.config k k.ids i d.seat.dom (sym m.same_run) m.limits.distinct (ap (λ (l : Layout). l.ids) m.same_run) (omega arith) (sym own) in
       sym fresh.seat.position ∙ (here ∙ sym there)
 
-  -- a list that was not stopped by its gate is served to its last line
-  all-lines : (s : Served P) (w : WasServed may s) → EndsAtNoGate s → (take w.number s.duty.part.tasks.now ≡ s.duty.part.tasks.now) × (w.last ≡ [])
-  all-lines s w passes = by w.ends
-    where
-      by : EndsList s.duty.part.dom s.duty.part.tasks.now w.number w.last → (take w.number s.duty.part.tasks.now ≡ s.duty.part.tasks.now) × (w.last ≡ [])
-      by (inl e) = (ap (λ (n : ℕ). take n s.duty.part.tasks.now) e.0 ∙ take-length s.duty.part.tasks.now, e.1)
-      by (inr stops) = absurd (passes (answer_lines s.duty.part.types.now s.duty.part.dom s.outcomes) stops.at.line (w.prints ∙ ap (λ (l : List ℕ). answer_lines s.duty.part.types.now s.duty.part.dom s.outcomes ++ l) stops.last_is))
-
   module _ (i : ℕ) (s : Served P) (inside : i < length m.config.domains.items) (l : HasList may m i s) where
     fresh : IsNewDomain m.words m.config (may m.rights) l.served.first.position l.served.domain
     fresh = subst (λ (y : Monitor P). IsNewDomain y.words y.config (may y.rights) l.served.first.position l.served.domain) l.monitor l.served.first.fresh
@@ -277,8 +279,8 @@ module _ {P : Type 0} (may : P → AllowRelation) (m : Monitor P) where
     starts : IsNewDomain m.words m.config (may m.rights) i l.served.domain
     starts = subst (λ (p : ℕ). IsNewDomain m.words m.config (may m.rights) p l.served.domain) (stands-at i l.served.first.position l.served.domain inside fresh (l.served.first.own ∙ l.dom)) fresh
 
-    come : Come s.duty l.monitor l.fits s.outcomes l.whole l.served.domain (list_of (take l.served.number s.duty.part.tasks.now) s.duty.part.dom) l.served.left
-    come = comes s.duty l.monitor l.fits s.outcomes l.whole l.served.domain (take l.served.number s.duty.part.tasks.now) (λ t is. take-in l.served.number s.duty.part.tasks.now t is) [] (list_start l.served.domain) l.served.left l.served.leads (λ o is. subst (IsAmong o) l.served.came is)
+    come : Come s.duty l.monitor l.fits s.outcomes l.whole l.served.domain (IsStopped s) (list_of (take l.served.number s.duty.part.tasks.now) s.duty.part.dom) l.served.left
+    come = comes s.duty l.monitor l.fits s.outcomes l.whole l.served.domain (IsStopped s) (take l.served.number s.duty.part.tasks.now) (λ t is. take-in l.served.number s.duty.part.tasks.now t is) [] (list_start l.served.domain) l.served.left l.served.leads (λ o is. subst (IsAmong o) l.served.came is)
         (record {
           made = [];
           deeds_are = tt;
@@ -287,7 +289,7 @@ module _ {P : Type 0} (may : P → AllowRelation) (m : Monitor P) where
           mine = fresh.domain;
           held = [];
           keeps = keeps-new l.served.domain.mappings fresh.mappings;
-          follows = λ followed. follows-none m.config (may m.rights) s.duty.part.types.now s.duty.part.dom;
+          follows = λ followed. follows-none (HasStarved s.outcomes) (IsStopped s) m.config (may m.rights) s.duty.part.types.now s.duty.part.dom;
         })
 
     lines : AreDeedsOf may s.duty come.made s.outcomes
@@ -295,20 +297,48 @@ module _ {P : Type 0} (may : P → AllowRelation) (m : Monitor P) where
 
     -- the calls and the unmaps behind them follow the list
     followed : (us : List Deed) → AreDeeds m.words m.config (may m.rights) l.served.left.domain us → AreUnmaps us → ((h : Handle) → value_of (domain_after l.served.left.domain us).mappings h ≡ None) → DidFollow s (us ++ come.made)
-    followed us calls unmaps none numbered passes whole =
-        let types = s.duty.part.types.now in let dom = s.duty.part.dom in let tasks = s.duty.part.tasks.now in
-        let behind = gives-back m.config (may m.rights) types dom m.words l.served.left.domain us come.held calls unmaps come.keeps in
-        let empty : behind.held' ≡ [] = keeps-none (domain_after l.served.left.domain us).mappings behind.held' none behind.keeps in
-        let left = order_of_deeds m.config (may m.rights) dom us in let listed = order_of_deeds m.config (may m.rights) dom come.made in
-        let f = come.follows (numbered, whole) [] (happenings left ++ []) [] (behind.order ++ [], behind.back [] [] (empty, refl), refl) in
-        let ends = all-lines s l.served passes in
-        let e1 : list_of (take l.served.number tasks) dom ++ [] ≡ list_of tasks dom = append-nil (list_of (take l.served.number tasks) dom) ∙ ap (λ (ts : List RunTask). list_of ts dom) ends.0 in
-        let e2 : happenings listed ++ (happenings left ++ []) ≡ happenings (order_of_deeds m.config (may m.rights) dom (us ++ come.made)) =
-        ap (λ (hs : List Happening). happenings listed ++ hs) (append-nil (happenings left)) ∙ (sym (happenings-both left listed) ∙ ap happenings (sym (deeds-both m.config (may m.rights) types dom us come.made))) in
-        let e3 : answer_lines types dom l.served.left.outcomes ++ [] ≡ s.text = sym (l.served.prints ∙ (λ j. answer_lines types dom (sym l.served.came j) ++ ends.1 j)) in
-        subst (λ (ts : List RunTask). FollowsList types dom [] [] ts (happenings (order_of_deeds m.config (may m.rights) dom (us ++ come.made))) s.text) e1
-        (subst (λ (hs : List Happening). FollowsList types dom [] [] (list_of (take l.served.number tasks) dom ++ []) hs s.text) e2
-        (subst (λ (text : List ℕ). FollowsList types dom [] [] (list_of (take l.served.number tasks) dom ++ []) (happenings listed ++ (happenings left ++ [])) text) e3 f))
+    followed us calls unmaps none numbered all = by l.served.ends
+      where
+        types : List (List ℕ)
+        types = s.duty.part.types.now
+
+        dom : DomId
+        dom = s.duty.part.dom
+
+        tasks : List RunTask
+        tasks = s.duty.part.tasks.now
+
+        left : RunOrder
+        left = order_of_deeds m.config (may m.rights) dom us
+
+        listed : RunOrder
+        listed = order_of_deeds m.config (may m.rights) dom come.made
+
+        leaves : Leaves dom come.held (happenings left ++ [])
+        leaves =
+            let behind = gives-back m.config (may m.rights) types dom m.words l.served.left.domain us come.held calls unmaps come.keeps in
+            let empty : behind.held' ≡ [] = keeps-none (domain_after l.served.left.domain us).mappings behind.held' none behind.keeps in
+            (behind.order ++ [], behind.back [] [] (empty, refl))
+
+        -- with the lines that were not served, and what was printed at the end
+        ends-so : (rest : List RunTask) (last : List ℕ) → list_of (take l.served.number tasks) dom ++ rest ≡ list_of tasks dom → l.served.last ≡ last → Serves (HasStarved s.outcomes) (IsStopped s) types dom l.served.left.named come.held rest (happenings left ++ []) last
+            → Serves (HasStarved s.outcomes) (IsStopped s) types dom [] [] (list_of tasks dom) (happenings (order_of_deeds m.config (may m.rights) dom (us ++ come.made))) s.text
+        ends-so rest last e1 printed serves =
+            let f = come.follows (numbered, all) rest (happenings left ++ []) last serves in
+            let e2 : happenings listed ++ (happenings left ++ []) ≡ happenings (order_of_deeds m.config (may m.rights) dom (us ++ come.made)) =
+            ap (λ (hs : List Happening). happenings listed ++ hs) (append-nil (happenings left)) ∙ (sym (happenings-both left listed) ∙ ap happenings (sym (deeds-both m.config (may m.rights) types dom us come.made))) in
+            let e3 : answer_lines types dom l.served.left.outcomes ++ last ≡ s.text = sym (l.served.prints ∙ (λ j. answer_lines types dom (sym l.served.came j) ++ printed j)) in
+            subst (λ (ts : List RunTask). Serves (HasStarved s.outcomes) (IsStopped s) types dom [] [] ts (happenings (order_of_deeds m.config (may m.rights) dom (us ++ come.made))) s.text) e1
+            (subst (λ (hs : List Happening). Serves (HasStarved s.outcomes) (IsStopped s) types dom [] [] (list_of (take l.served.number tasks) dom ++ rest) hs s.text) e2
+            (subst (λ (text : List ℕ). Serves (HasStarved s.outcomes) (IsStopped s) types dom [] [] (list_of (take l.served.number tasks) dom ++ rest) (happenings listed ++ (happenings left ++ [])) text) e3 f))
+
+        by : EndsList dom tasks l.served.number l.served.last → Serves (HasStarved s.outcomes) (IsStopped s) types dom [] [] (list_of tasks dom) (happenings (order_of_deeds m.config (may m.rights) dom (us ++ come.made))) s.text
+        by (inl e) =
+            ends-so [] [] (append-nil (list_of (take l.served.number tasks) dom) ∙ ap (λ (ts : List RunTask). list_of ts dom) (ap (λ (n : ℕ). take n tasks) e.0 ∙ take-length tasks)) e.1 (leaves, refl)
+        by (inr stops) =
+            let split = gate-split tasks l.served.number stops.at dom stops.stands stops.own in
+            let stopped : IsStopped s = (answer_lines types dom s.outcomes, stops.at.line, l.served.prints ∙ ap (λ (t : List ℕ). answer_lines types dom s.outcomes ++ t) stops.last_is) in
+            ends-so (stops.at ∷ split.0) (gate_line stops.at.line dom) (sym split.1) stops.last_is (inr (inr (stopped, (stops.awaits, leaves, refl))))
 
     finished : (v : View) (ends : IsViewOf m.words m.config (may m.rights) l.served.left.domain v) → Finished i s v (IsGone l.served.left.domain v ends)
     finished v (inl e) = record {
@@ -389,7 +419,7 @@ stays-at b c may i first (OnFlag x ∷ us) at calls = calls.0.kept.seat.position
 -- what a run wrote is the text of a legal order
 module _ {P : Type 0} (may : P → AllowRelation) (m : Monitor P) (x : Served P) (xs : List (Served P)) (on : All (λ (d : ThreadJob P). d.monitor.now ≡ m) (duties_in (x ∷ xs)))
     (ids : map (λ (d : ThreadJob P). d.part.dom) (duties_in (x ∷ xs)) ≡ map (λ (d : DomainConfig). d.id) m.config.domains.items) (are : AreServed may (x ∷ xs)) (one : ShowOneState (x ∷ xs))
-    (orderly : All (IsOrderly may m) (x ∷ xs)) where
+    (orderly : All (IsOrderly may m) (x ∷ xs)) (copies : All HasWholeCopies (x ∷ xs)) where
   abbrev lists : ℕ → Served P
   lists i = get_or (x ∷ xs) i x
 
@@ -411,7 +441,7 @@ module _ {P : Type 0} (may : P → AllowRelation) (m : Monitor P) (x : Served P)
             ∙ ap (λ (ys : List DomId). id_at ys i) (ids ∙ sym (ap (λ (k : Layout). k.ids) m.same_run));
         served = All-get_or (WasServed may) (x ∷ xs) i x (within i l) are;
         fits = o.fits;
-        whole = o.whole;
+        whole = All-get_or HasWholeCopies (x ∷ xs) i x (within i l) copies;
       }
 
   left-at : (i : ℕ) (l : i < length m.config.domains.items) → IsViewOf m.words m.config (may m.rights) (list-at i l).served.left.domain (lists i).departed.seat.view
@@ -437,8 +467,8 @@ module _ {P : Type 0} (may : P → AllowRelation) (m : Monitor P) (x : Served P)
     pub order : RunOrder
     pub legal : Legal (setting_of m.config (may m.rights)) (events_of (items_in order)) (trace_of (items_in order))
     pub flags : AreOnRaisedFlags m.config order
-    pub follow : (i : ℕ) → i < length m.config.domains.items → AreFlagsOf m (lists i).duty.part.tasks.now → EndsAtNoGate (lists i) → HasNoneLost (lists i)
-        → FollowsList (lists i).duty.part.types.now (lists i).duty.part.dom [] [] (list_of (lists i).duty.part.tasks.now (lists i).duty.part.dom) (happenings (own_in (lists i).duty.part.dom order)) (lists i).text
+    pub follow : (i : ℕ) → i < length m.config.domains.items → AreFlagsOf m (lists i).duty.part.tasks.now → HasAllFrames m
+        → Serves (HasStarved (lists i).outcomes) (IsStopped (lists i)) (lists i).duty.part.types.now (lists i).duty.part.dom [] [] (list_of (lists i).duty.part.tasks.now (lists i).duty.part.dom) (happenings (own_in (lists i).duty.part.dom order)) (lists i).text
 
   pub follows-all : IsWithinLimits m.config → FollowsAll
   unfolding left-at
@@ -447,24 +477,24 @@ module _ {P : Type 0} (may : P → AllowRelation) (m : Monitor P) (x : Served P)
         order = o.0;
         legal = o.1.legal;
         flags = o.1.flags;
-        follow = λ i l numbered passes whole.
+        follow = λ i l numbered all.
             let dom : (lists i).duty.part.dom ≡ id_at m.words.layout.ids i = (list-at i l).dom in
             let seats-at = seats may m lists one.0 (λ i. (lists i).departed.seat.view) (λ i l. (list-at i l, left-at i l, view-at i l)) i in
             let inside : i < m.words.layout.domains = subst (λ (n : ℕ). i < n) (sym (ap (λ (k : Layout). k.domains) m.same_run)) l in
             let mine : own_in (lists i).duty.part.dom o.0 ≡ order_of_deeds m.config (may m.rights) (lists i).duty.part.dom seats-at.deeds =
             subst (λ (d : DomId). own_in d o.0 ≡ order_of_deeds m.config (may m.rights) d seats-at.deeds) (sym dom) (o.1.deeds i inside) in
-            subst (λ (g : RunOrder). FollowsList (lists i).duty.part.types.now (lists i).duty.part.dom [] [] (list_of (lists i).duty.part.tasks.now (lists i).duty.part.dom) (happenings g) (lists i).text) (sym mine)
-            ((o.2 i l).1.1 tt numbered passes whole);
+            subst (λ (g : RunOrder). Serves (HasStarved (lists i).outcomes) (IsStopped (lists i)) (lists i).duty.part.types.now (lists i).duty.part.dom [] [] (list_of (lists i).duty.part.tasks.now (lists i).duty.part.dom) (happenings g) (lists i).text) (sym mine)
+            ((o.2 i l).1.1 tt numbered all);
       }
 
 pub runs-legal : {P : Type 0} (may : P → AllowRelation) (m : Monitor P) → RunsWriteALegalOrder may m
-runs-legal {P} may m duties old new limits of wrote orderly = by wrote.0 wrote.1 wrote.2 wrote.3 orderly
+runs-legal {P} may m duties old new limits of wrote orderly copies = by wrote.0 wrote.1 wrote.2 wrote.3 orderly copies
   where
-    by : (all : List (Served P)) → duties_in all ≡ duties → AreServed may all → ShowOneState all → All (IsOrderly may m) all → AreOfOneOrder may m all
-    by [] same are one orderly =
+    by : (all : List (Served P)) → duties_in all ≡ duties → AreServed may all → ShowOneState all → All (IsOrderly may m) all → All HasWholeCopies all → AreOfOneOrder may m all
+    by [] same are one orderly copies =
         absurd (none (ap length (ap (map (λ (d : ThreadJob P). d.part.dom)) same ∙ of.1)))
       where
         none : 0 ≡ length (map (λ (d : DomainConfig). d.id) m.config.domains.items) → ⊥
         none e = let l = length-map m.config.domains.items (λ (d : DomainConfig). d.id) in let some = limits.some in omega (arith, e, l, some)
-    by (x ∷ xs) same are one orderly =
-        one-order may m x xs (subst (All (λ (d : ThreadJob P). d.monitor.now ≡ m)) (sym same) of.0) (ap (map (λ (d : ThreadJob P). d.part.dom)) same ∙ of.1) are one orderly limits
+    by (x ∷ xs) same are one orderly copies =
+        one-order may m x xs (subst (All (λ (d : ThreadJob P). d.monitor.now ≡ m)) (sym same) of.0) (ap (map (λ (d : ThreadJob P). d.part.dom)) same ∙ of.1) are one orderly copies limits

@@ -1,7 +1,7 @@
--- The text that a run writes is one that `explore` lists.
+-- The text that a run writes is one that `explore` lists, if it tells of no failed allocation and no stopping gate.
 use Rattle.std.specs.Prelude.{◌≡◌, ◌++◌, ℕ, Bool, All, List, Option}
-use Rattle.gt_order.specs.Prelude.{IsWithinLimits}
-use Rattle.gt_order.specs.RunNames.{Denial, IsAmong, Answer, IsOfAccess, ThreadJob, Served, WritesAll}
+use Rattle.gt_order.specs.Prelude.{IsWithinLimits, N26, NoFacts, denial_of}
+use Rattle.gt_order.specs.RunNames.{IsAmong, ThreadJob, Served, WritesAll}
 use Rattle.gt_order.specs.RunNames.{ListOutcome}
 use Rattle.gt_core.specs.declared.trace.Answer.TheVariants as answers
 use Rattle.gt_script.specs.RunContents.{RunContents}
@@ -13,20 +13,20 @@ use Rattle.gt_run.specs.Serving.{gate_line}
 use Rattle.gt_explore_replay.specs.Orders.{MayGive}
 use Rattle.gt_order.specs.Texts.{IsOrderly}
 
--- the answer is not the refusal of an allocation, or of an access that could not be made
-abbrev pub IsNotLost : Answer → Type 0
-IsNotLost answer = (denial : Denial) → answer ≡ answers.Denied denial → IsOfAccess denial → ⊥
+-- the call got no memory
+abbrev pub IsStarved : ListOutcome → Type 0
+IsStarved o = o.answer ≡ answers.Denied (denial_of N26 NoFacts)
 
--- no answer of the list is one
+-- no call of the list is one
 abbrev pub HasNoneLost : {P : Type 0} → Served P → Type 0
-HasNoneLost s = (o : ListOutcome) → IsAmong o s.outcomes → IsNotLost o.answer
+HasNoneLost s = (o : ListOutcome) → IsAmong o s.outcomes → IsStarved o → ⊥
 
 -- the list was not stopped by its gate: its text does not end with the line of a gate
 abbrev pub EndsAtNoGate : {P : Type 0} → Served P → Type 0
 EndsAtNoGate s = (before : List ℕ) (line : ℕ) → s.text ≡ before ++ gate_line line s.duty.part.dom → ⊥
 
 -- what a run of a script writes is a text that the script may give, so one that `explore` lists, if no list was stopped
--- by its gate, no allocation failed, and the policy allows each domain to unmap the mappings with which it leaves
+-- by its gate, no answer is N26, and the policy allows each domain to unmap the mappings with which it leaves
 abbrev pub RunsAreExplored : Type 0
 RunsAreExplored =
     (c : RunContents) (logged : Bool) (duties : List (ThreadJob ScriptRights)) (old new : Option (List ℕ))

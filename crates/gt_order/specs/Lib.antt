@@ -2,6 +2,7 @@ pub mod Runs
 pub mod Calling
 pub mod Leaving
 pub mod Explored
+pub mod Printed
 pub mod Agreeing
 pub mod Ordering
 pub mod Laws

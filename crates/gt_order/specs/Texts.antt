@@ -2,15 +2,17 @@
 use Rattle.std.specs.Prelude.{◌≡◌, ◌⊎◌, ℕ, ◌<◌, ◌==◌, true, All, List, [], ◌∷◌, ◌++◌, length, map, Option, Some}
 use Rattle.std.specs.Prelude.{slice_get}
 use Rattle.gt_order.specs.RunNames.{some, get_elem?, State, Config, Denial, Board, StepHistory, Shows, id_at}
-use Rattle.gt_order.specs.Prelude.{IsWithinLimits}
+use Rattle.gt_order.specs.Prelude.{IsWithinLimits, N26, NoFacts, denial_of}
 use Rattle.gt_order.specs.RunNames.{IsAmong}
-use Rattle.gt_order.specs.RunNames.{View, Request, answer_of, Answer, IsOfAccess, AllowRelation, HasLeft}
+use Rattle.gt_order.specs.RunNames.{View, Request, answer_of, Answer, AllowRelation, HasLeft}
 use Rattle.gt_order.specs.RunNames.{Domain, Departed, Monitor, AreUnmaps, MayUnmapAll, IsLegalOrder, CallMade}
 use Rattle.gt_order.specs.RunNames.{Await, Call, Deed, FlagMade, FlagStep, OnFlag, Passed, Raised, RunAction, RunOrder, Tell}
 use Rattle.gt_order.specs.RunNames.{FitsTypes, CallOutcome, SeatRun, Told, Kept, Starved, Read, Wrote, ScriptCall}
 use Rattle.gt_order.specs.RunNames.{SaysRequest, Named, Do, RunTask, ThreadJob, Served, WasServed, WritesAll, MakesCall}
 use Rattle.gt_order.specs.RunNames.{ListOutcome, ListProgress}
 use Rattle.gt_core.specs.declared.trace.Answer.TheVariants as answers
+use Rattle.gt_shared_table.specs.Words.{frames_kept}
+use Rattle.gt_types.specs.declared.denial.Rule.TheVariants.{N16}
 use Rattle.gt_script_lines.specs.declared.calls.ScriptCall.TheVariants as calls
 
 -- the numbers of each request of the job's list are in the range of their types, whatever its labels name
@@ -20,24 +22,33 @@ FitsDuty duty =
     → task.deed ≡ Do call → (named : List Named) (request : Request) → SaysRequest named duty.part.dom call request
     → FitsTypes request
 
+-- the table of the monitor has all frames of its configuration
+abbrev pub HasAllFrames : {P : Type 0} → Monitor P → Type 0
+HasAllFrames m = m.words.frames ≡ frames_kept m.config
+
+-- the refusal of an allocation, or of an access to a frame that is missing, which no table with all frames gives
+abbrev pub IsLost : {P : Type 0} → Monitor P → Denial → Type 0
+IsLost m denial =
+    (denial ≡ denial_of N26 NoFacts) ⊎ ((denial ≡ denial_of N16 NoFacts) × (HasAllFrames m → ⊥))
+
 -- the answer to a copy is not the refusal of an access that could not be made
-abbrev pub IsMadeWhole : ScriptCall → Answer → Type 0
-IsMadeWhole (calls.Copy c) answer = (denial : Denial) → answer ≡ answers.Denied denial → IsOfAccess denial → ⊥
-IsMadeWhole call answer = Unit {0}
+abbrev pub IsMadeWhole : {P : Type 0} → Monitor P → ScriptCall → Answer → Type 0
+IsMadeWhole m (calls.Copy c) answer = (denial : Denial) → answer ≡ answers.Denied denial → IsLost m denial → ⊥
+IsMadeWhole m call answer = Unit {0}
 
 -- no copy of the job's list reached its access without making it
 abbrev pub AreMadeWhole : {P : Type 0} → ThreadJob P → List ListOutcome → Type 0
 AreMadeWhole duty outcomes =
     (task : RunTask) (call : ScriptCall) (o : ListOutcome) → IsAmong task duty.part.tasks.now → task.deed ≡ Do call
-    → IsAmong o outcomes → o.line ≡ task.line → IsMadeWhole call o.answer
+    → IsAmong o outcomes → o.line ≡ task.line → IsMadeWhole duty.monitor.now call o.answer
 
 -- a call with this outcome has this answer
-abbrev pub OutcomeGivesAnswer : CallOutcome → Answer → Type 0
-OutcomeGivesAnswer (Told verdict) answer = answer ≡ answer_of verdict
-OutcomeGivesAnswer (Kept handle p) answer = answer ≡ answers.Mapped handle
-OutcomeGivesAnswer Starved answer = (denial : Denial) × (answer ≡ answers.Denied denial) × IsOfAccess denial
-OutcomeGivesAnswer (Read bytes) answer = answer ≡ answers.Bytes bytes
-OutcomeGivesAnswer Wrote answer = answer ≡ answers.Done
+abbrev pub OutcomeGivesAnswer : {P : Type 0} → Monitor P → CallOutcome → Answer → Type 0
+OutcomeGivesAnswer m (Told verdict) answer = answer ≡ answer_of verdict
+OutcomeGivesAnswer m (Kept handle p) answer = answer ≡ answers.Mapped handle
+OutcomeGivesAnswer m Starved answer = (denial : Denial) × (answer ≡ answers.Denied denial) × IsLost m denial
+OutcomeGivesAnswer m (Read bytes) answer = answer ≡ answers.Bytes bytes
+OutcomeGivesAnswer m Wrote answer = answer ≡ answers.Done
 
 -- the call m of a run is the one that a line of the job's list made, with its outcome: the domain was asked what the
 -- line encodes, with the handles that its labels named then, and the answer is the one that the line prints
@@ -51,7 +62,7 @@ pub record IsCallOf {P : Type 0} (may : P → AllowRelation) (duty : ThreadJob P
   pub old : m.old ≡ before.domain
   pub new : m.new ≡ afterwards.domain
   pub answer : o.answer ≡ made.answer
-  pub answered : OutcomeGivesAnswer m.outcome o.answer
+  pub answered : OutcomeGivesAnswer duty.monitor.now m.outcome o.answer
 
 -- the action raises the flag, or awaits it, by this step
 abbrev pub IsFlagStepOf : RunAction → ℕ → FlagStep → Type 0
@@ -114,11 +125,14 @@ TextsAreOfALegalOrder {P} may m =
     × IsViewOf m.words m.config (may m.rights) l.served.left.domain (ends i) × (get_elem? s.views i ≡ some (ends i)))
     → (shown : Shows m.words.layout s) → AreOfALegalOrder may m shown.history lists
 
--- the numbers of the list's requests are in the range of their types, no copy of it was refused at its access, and the
--- policy allows its domain to unmap each mapping with which it left
+-- no copy of the list reached its access without making it
+abbrev pub HasWholeCopies : {P : Type 0} → Served P → Type 0
+HasWholeCopies s = AreMadeWhole s.duty s.outcomes
+
+-- the numbers of the list's requests are in the range of their types, and the policy allows its domain to unmap each
+-- mapping with which it left
 pub record IsOrderly {P : Type 0} (may : P → AllowRelation) (m : Monitor P) (s : Served P) : Type 0 where
   pub fits : FitsDuty s.duty
-  pub whole : AreMadeWhole s.duty s.outcomes
   pub may_leave : (served : WasServed may s) → MayUnmapAll m.config (may m.rights) served.left.domain
 
 -- the jobs are those of the monitor's domains, in their order
@@ -136,4 +150,5 @@ AreOfOneOrder {P} may m all =
 abbrev pub RunsWriteALegalOrder : {P : Type 0} → (P → AllowRelation) → Monitor P → Type 0
 RunsWriteALegalOrder {P} may m =
     (duties : List (ThreadJob P)) (old new : Option (List ℕ)) → IsWithinLimits m.config → AreOfDomains m duties
-    → (wrote : WritesAll may duties old new) → All (IsOrderly may m) wrote.0 → AreOfOneOrder may m wrote.0
+    → (wrote : WritesAll may duties old new) → All (IsOrderly may m) wrote.0 → All HasWholeCopies wrote.0
+    → AreOfOneOrder may m wrote.0

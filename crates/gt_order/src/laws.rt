@@ -2,6 +2,7 @@
 ghost use Rattle.gt_order.specs.Calling.{CopiesAreMade, LostAccessesAreMade, MapsAreMade, PlainCallsAreMade};
 ghost use Rattle.gt_order.specs.Calling.{ReadsAreMade, UnmapsAreMade, WritesAreMade};
 ghost use Rattle.gt_order.specs.Explored.{RunsAreExplored};
+ghost use Rattle.gt_order.specs.Printed.{PrintedTextsAreGiven, RunsArePrinted};
 ghost use Rattle.gt_order.specs.Leaving.{LeavingIsUnmapping};
 ghost use Rattle.gt_order.specs.Laws.{CoreSeesTheWords, RunsHaveLegalOrders, StepsKeepAgreement};
 ghost use Rattle.gt_order.specs.Texts.{RunsWriteALegalOrder, TextsAreOfALegalOrder};
@@ -58,8 +59,22 @@ pub fn every_run_writes_a_legal_order<P: Allows>(monitor: &Monitor<P>)
 {}
 
 /// A law: what a run writes, but for its audit lines, is a text that the script may give, so one that `explore` lists,
-/// bytes and all, if no list was stopped by its gate, no allocation failed during the calls, and the policy allows each
-/// domain to unmap the mappings with which it leaves.
+/// bytes and all, if no list was stopped by its gate, no answer is N26, and the policy allows each domain to unmap the
+/// mappings with which it leaves.
 pub fn every_run_is_explored()
     ensures { RunsAreExplored }
+{}
+
+/// A law: what a run writes, but for its audit lines, is a text that a run of the script may print: of one legal order
+/// of its calls, with N26 for a call that got no memory and made no step, and with the line of a gate that stopped a
+/// list. Its premises: no copy was refused with N26, and the policy allows each domain to unmap the mappings with which
+/// it leaves.
+pub fn every_run_is_printed()
+    ensures { RunsArePrinted }
+{}
+
+/// A law: a text that a run of the script may print is one that `explore` lists, if it has neither a line with N26 nor
+/// the line of a gate.
+pub fn printed_texts_are_given()
+    ensures { PrintedTextsAreGiven }
 {}

@@ -9,8 +9,9 @@
 //! the answer that its domain gave ([`every_run_has_a_legal_order`]). The contracts of a domain's calls make them calls
 //! of a run ([`calls_of_domains_are_made`]). The lists of `gt_run` print the answers of such an order
 //! ([`every_text_is_of_a_legal_order`]), and so does each text that `run` writes at Ok
-//! ([`every_run_writes_a_legal_order`]). If no list was stopped by its gate and no allocation failed, `explore` lists
-//! that text ([`every_run_is_explored`]).
+//! ([`every_run_writes_a_legal_order`]). It is a text that a run of the script may print ([`every_run_is_printed`]): such
+//! a text without N26 and without the line of a gate is one that `explore` lists ([`printed_texts_are_given`],
+//! [`every_run_is_explored`]).
 //!
 //! It uses `gt_run`, `gt_explore_replay`, `gt_host`, `gt_script`, `gt_script_lines`, `gt_live`, `gt_core`, `gt_words`,
 //! `gt_shared_table`, `gt_word_history`, `gt_calls`, `gt_frames`, `gt_handles`, `gt_entry`, `gt_types` and the kit's
@@ -21,6 +22,7 @@ mod laws;
 
 pub use laws::{
     calls_of_domains_are_made, core_sees_the_words, every_run_has_a_legal_order,
-    every_run_is_explored, every_run_writes_a_legal_order, every_text_is_of_a_legal_order,
-    leaving_is_unmapping, steps_keep_agreement,
+    every_run_is_explored, every_run_is_printed, every_run_writes_a_legal_order,
+    every_text_is_of_a_legal_order, leaving_is_unmapping, printed_texts_are_given,
+    steps_keep_agreement,
 };

@@ -22,6 +22,7 @@ use Rattle.gt_text.specs.Laws.{keeps_same, of_any_input}
 use Rattle.gt_text.specs.Streams.{OfInput}
 use Rattle.gt_text.specs.declared.fault.ReadFault.{ReadFault}
 use Rattle.gt_text.specs.declared.fault.ReadFault.TheVariants as reads
+use Rattle.gt_shared_table.specs.Words.{frames_kept}
 use Rattle.gt_run.specs.Faults.{run_out_of_memory}
 use Rattle.gt_run.specs.Runs.{AreOf, AreParts, AreListsOf, AreUnder, IsOver, Ran, Wrote, WroteScript}
 use Rattle.gt_run.specs.declared.fault.RunFault.{RunFault}
@@ -43,7 +44,7 @@ parts_more domains i d tasks names parts p within is same over (doms, all) = (
 -- the duties are those of the script
 are_of : (c : RunContents) (logged : Bool) (config : Config) (rights : ScriptRights) (flags : ℕ) (parts : List DomainPart) → AreListsOf c parts → config.domains.items ≡ c.head.domains
     → config.first_gen ≡ first_gen c.head → may_by rights ≡ may_in c.head → AreNumbered flags c.tasks → (ds : List (ThreadJob ScriptRights)) → AreUnder config rights flags logged parts ds → AreOf c logged ds
-are_of c logged config rights flags parts are domains generation may numbered ds (m, of_config, of_rights, of_flags, duties) = record {
+are_of c logged config rights flags parts are domains generation may numbered ds (m, of_config, of_rights, of_flags, of_frames, duties) = record {
   parts = parts;
   of_script = are;
   monitor = m;
@@ -51,6 +52,7 @@ are_of c logged config rights flags parts are domains generation may numbered ds
   generation = ap (λ (x : Config). x.first_gen) of_config ∙ generation;
   rights = ap may_by of_rights ∙ may;
   flags = subst (λ (n : ℕ). AreNumbered n c.tasks) (sym of_flags) numbered;
+  frames = of_frames ∙ ap frames_kept (sym of_config);
   duties_are = duties;
 }
 

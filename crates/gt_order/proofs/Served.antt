@@ -1,0 +1,122 @@
+-- What a list's deeds and lines are: with the calls that got no memory and the gate that stopped it, and without.
+use Rattle.std.proofs.Common.{◌≡◌, ◌⊎◌, ◌++◌, ℕ, zero, suc, Bool, true, false, cond, List, [], ◌∷◌, Option, Some, None}
+use Rattle.std.proofs.Common.{append_assoc, refl, sym, ap, ◌∙◌, subst, inl, inr, ◌==◌}
+use Rattle.std.specs.Prelude.{slice_get, take}
+use Rattle.gt_types.specs.declared.DomId.{DomId}
+use Rattle.gt_types.specs.declared.config.DomainConfig.{DomainConfig}
+use Rattle.gt_handles.specs.declared.handles.Handle.{Handle}
+use Rattle.gt_host.specs.Printing.{answer_line}
+use Rattle.gt_host.specs.Runs.{Named}
+use Rattle.gt_script.specs.Contents.{type_names}
+use Rattle.gt_script.specs.Lists.{RunAction, RunTask}
+use Rattle.gt_script.specs.RunContents.{RunContents}
+use Rattle.gt_script.specs.RunScripts.{list_of}
+use Rattle.gt_script.specs.declared.tasks.RunActionBy.TheVariants.{Await, Do, Tell}
+use Rattle.gt_run.specs.Serving.{gate_line}
+use Rattle.gt_explore_replay.specs.Orders.{AllFollow, DeedHappens, FollowsList, Happening}
+use Rattle.gt_order.specs.Printed.{AllPrint, GetsNoMemory, HasPart, Leaves, PrintedTextsAreGiven, PrintsList, StopsAtGate}
+use Rattle.gt_order.specs.Printed.{TellsOfNoStop, no_memory}
+
+-- what follows a line
+abbrev Next : Type 1
+Next = List Named → List Handle → List Happening → List ℕ → Type 0
+
+-- a domain serves its list; a call may get no memory if Lost, and a gate may stop the list if Stopped
+abbrev pub Serves : Type 0 → Type 0 → List (List ℕ) → DomId → List Named → List Handle → List RunTask → List Happening → List ℕ → Type 0
+Serves Lost Stopped types dom named held [] hs text = Leaves dom held hs × (text ≡ [])
+Serves Lost Stopped types dom named held (t ∷ ts) hs text =
+    DeedHappens types dom named held t.line t.deed (λ names holds more rest. Serves Lost Stopped types dom names holds ts more rest) hs text
+    ⊎ ((Lost × GetsNoMemory types dom named held t.line t.deed (λ names holds more rest. Serves Lost Stopped types dom names holds ts more rest) hs text)
+    ⊎ (Stopped × StopsAtGate dom held t hs text))
+
+abbrev IsEndOf : List ℕ → List ℕ → Type 0
+IsEndOf rest text = (before : List ℕ) × (text ≡ before ++ rest)
+
+-- what follows a line changes to what it implies
+deed-map : (types : List (List ℕ)) (dom : DomId) (named : List Named) (held : List Handle) (line : ℕ) (action : RunAction) (N M : Next) (hs : List Happening) (text : List ℕ)
+    → ((names : List Named) (holds : List Handle) (more : List Happening) (rest : List ℕ) → IsEndOf rest text → N names holds more rest → M names holds more rest)
+    → DeedHappens types dom named held line action N hs text → DeedHappens types dom named held line action M hs text
+deed-map types dom named held line (Tell flag) N M hs text f d = (d.0, d.1, f named held d.0 text ([], refl) d.2)
+deed-map types dom named held line (Await flag) N M hs text f d = (d.0, d.1, f named held d.0 text ([], refl) d.2)
+deed-map types dom named held line (Do call) N M hs text f (request, says, (first, trace, answer, more, is, ends, (rest, printed, then))) =
+    (request, says, (first, trace, answer, more, is, ends, (rest, printed, f _ _ more rest (answer_line types line dom answer, printed) then)))
+
+lost-map : (types : List (List ℕ)) (dom : DomId) (named : List Named) (held : List Handle) (line : ℕ) (action : RunAction) (N M : Next) (hs : List Happening) (text : List ℕ)
+    → ((names : List Named) (holds : List Handle) (more : List Happening) (rest : List ℕ) → N names holds more rest → M names holds more rest)
+    → GetsNoMemory types dom named held line action N hs text → GetsNoMemory types dom named held line action M hs text
+lost-map types dom named held line (Tell flag) N M hs text f d = d
+lost-map types dom named held line (Await flag) N M hs text f d = d
+lost-map types dom named held line (Do call) N M hs text f (request, says, is, (rest, printed, then)) = (request, says, is, (rest, printed, f named held hs rest then))
+
+module _ (Lost Stopped : Type 0) (types : List (List ℕ)) (dom : DomId) where
+  -- the list is one that a run may print
+  pub prints-list : (ts : List RunTask) (named : List Named) (held : List Handle) (hs : List Happening) (text : List ℕ) → Serves Lost Stopped types dom named held ts hs text → PrintsList types dom named held ts hs text
+  prints-list [] named held hs text s = s
+  prints-list (t ∷ ts) named held hs text (inl d) = inl (deed-map types dom named held t.line t.deed _ _ hs text (λ names holds more rest end s. prints-list ts names holds more rest s) d)
+  prints-list (t ∷ ts) named held hs text (inr (inl (lost, d))) = inr (inl (lost-map types dom named held t.line t.deed _ _ hs text (λ names holds more rest s. prints-list ts names holds more rest s) d))
+  prints-list (t ∷ ts) named held hs text (inr (inr (stopped, d))) = inr (inr d)
+
+  -- without lost calls and gates the list is followed
+  pub follows-list : (Lost → ⊥) → (Stopped → ⊥) → (ts : List RunTask) (named : List Named) (held : List Handle) (hs : List Happening) (text : List ℕ) → Serves Lost Stopped types dom named held ts hs text → FollowsList types dom named held ts hs text
+  follows-list none passes [] named held hs text s = (s.0.0, s.0.1, s.1)
+  follows-list none passes (t ∷ ts) named held hs text (inl d) = deed-map types dom named held t.line t.deed _ _ hs text (λ names holds more rest end s. follows-list none passes ts names holds more rest s) d
+  follows-list none passes (t ∷ ts) named held hs text (inr (inl (lost, d))) = absurd (none lost)
+  follows-list none passes (t ∷ ts) named held hs text (inr (inr (stopped, d))) = absurd (passes stopped)
+
+-- texts without such lines
+
+end-part : (part rest text : List ℕ) → IsEndOf rest text → HasPart part rest → HasPart part text
+end-part part rest text (before, is) (b, r, e) = (before ++ b, r, is ∙ (ap (λ (l : List ℕ). before ++ l) e ∙ sym (append_assoc before b (part ++ r))))
+
+start-part : (part one rest text : List ℕ) → text ≡ one ++ rest → HasPart part one → HasPart part text
+start-part part one rest text is (b, r, e) =
+    (b, r ++ rest, is ∙ (ap (λ (l : List ℕ). l ++ rest) e ∙ (append_assoc b (part ++ r) rest ∙ ap (λ (l : List ℕ). b ++ l) (append_assoc part r rest))))
+
+end-tells : (types : List (List ℕ)) (rest text : List ℕ) → IsEndOf rest text → TellsOfNoStop types text → TellsOfNoStop types rest
+end-tells types rest text end none = record {
+  memory = λ line dom part. none.memory line dom (end-part (answer_line types line dom no_memory) rest text end part);
+  gates = λ line dom part. none.gates line dom (end-part (gate_line line dom) rest text end part);
+}
+
+start-tells : (types : List (List ℕ)) (one rest text : List ℕ) → text ≡ one ++ rest → TellsOfNoStop types text → TellsOfNoStop types one
+start-tells types one rest text is none = record {
+  memory = λ line dom part. none.memory line dom (start-part (answer_line types line dom no_memory) one rest text is part);
+  gates = λ line dom part. none.gates line dom (start-part (gate_line line dom) one rest text is part);
+}
+
+lost-line : (types : List (List ℕ)) (dom : DomId) (named : List Named) (held : List Handle) (line : ℕ) (action : RunAction) (N : Next) (hs : List Happening) (text : List ℕ) → GetsNoMemory types dom named held line action N hs text → HasPart (answer_line types line dom no_memory) text
+lost-line types dom named held line (Tell flag) N hs text d = absurd d
+lost-line types dom named held line (Await flag) N hs text d = absurd d
+lost-line types dom named held line (Do call) N hs text (request, says, is, (rest, printed, then)) = ([], rest, printed)
+
+append-none : (xs : List ℕ) → xs ++ [] ≡ xs
+append-none [] = refl
+append-none (x ∷ xs) = ap (λ (l : List ℕ). x ∷ l) (append-none xs)
+
+module _ (types : List (List ℕ)) (dom : DomId) where
+  list-given : (ts : List RunTask) (named : List Named) (held : List Handle) (hs : List Happening) (text : List ℕ) → TellsOfNoStop types text → PrintsList types dom named held ts hs text → FollowsList types dom named held ts hs text
+  list-given [] named held hs text none s = (s.0.0, s.0.1, s.1)
+  list-given (t ∷ ts) named held hs text none (inl d) = deed-map types dom named held t.line t.deed _ _ hs text (λ names holds more rest end s. list-given ts names holds more rest (end-tells types rest text end none) s) d
+  list-given (t ∷ ts) named held hs text none (inr (inl d)) = absurd (none.memory t.line dom (lost-line types dom named held t.line t.deed _ hs text d))
+  list-given (t ∷ ts) named held hs text none (inr (inr d)) = absurd (none.gates t.line dom ([], [], d.2 ∙ sym (append-none (gate_line t.line dom))))
+
+all-given : (c : RunContents) (hs : List Happening) (ds : List DomainConfig) (text : List ℕ) → TellsOfNoStop (type_names c.head) text → AllPrint c hs ds text → AllFollow c hs ds text
+all-given c hs [] text none all = all
+all-given c hs (d ∷ ds) text none (part, (rest, printed, then), list) =
+    (part, (rest, printed, all-given c hs ds rest (end-tells (type_names c.head) rest text (part, printed) none) then), list-given (type_names c.head) d.id (list_of c.tasks d.id) [] [] _ part (start-tells (type_names c.head) part rest text printed none) list)
+
+pub printed-given : PrintedTextsAreGiven
+printed-given c text (hs, run) none = (hs, record { legal = run.legal; follow = all-given c hs c.head.domains text none run.print; known = run.known; flags = run.flags })
+
+-- the lines of a domain before the one at which its list stopped, and that one
+pub gate-split : (tasks : List RunTask) (n : ℕ) (at : RunTask) (dom : DomId) → slice_get tasks n ≡ Some at → (at.dom.0 == dom.0) ≡ true → (tail : List RunTask) × (list_of tasks dom ≡ list_of (take n tasks) dom ++ at ∷ tail)
+gate-split [] n at dom there own = absurd (cc)
+gate-split (t ∷ ts) zero at dom there own =
+    let same : t ≡ at = cc in
+    (list_of ts dom, ap (λ (b : Bool). cond b (t ∷ list_of ts dom) (list_of ts dom)) (ap (λ (z : RunTask). z.dom.0 == dom.0) same ∙ own) ∙ ap (λ (z : RunTask). z ∷ list_of ts dom) same)
+gate-split (t ∷ ts) (suc n) at dom there own =
+    let rest = gate-split ts n at dom there own in (rest.0, by (t.dom.0 == dom.0) rest.0 rest.1)
+  where
+    by : (b : Bool) (tail : List RunTask) → list_of ts dom ≡ list_of (take n ts) dom ++ at ∷ tail → cond b (t ∷ list_of ts dom) (list_of ts dom) ≡ cond b (t ∷ list_of (take n ts) dom) (list_of (take n ts) dom) ++ at ∷ tail
+    by true tail e = ap (λ (l : List RunTask). t ∷ l) e
+    by false tail e = e

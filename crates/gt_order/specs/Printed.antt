@@ -1,0 +1,117 @@
+-- The texts that a run of a script may write: those of `explore`, and those that tell of failed allocations and of gates.
+use Rattle.std.specs.Prelude.{◌≡◌, ◌≢◌, ◌⊎◌, ◌++◌, ℕ, Bool, All, List, [], ◌∷◌, Option, None}
+use Rattle.gt_types.specs.Names.{domain_of}
+use Rattle.gt_types.specs.declared.config.DomainConfig.{DomainConfig}
+use Rattle.gt_order.specs.Prelude.{DomId, Handle, IsWithinLimits, Legal, N26, NoFacts, Request, denial_of}
+use Rattle.gt_order.specs.RunNames.{Answer, Do, IsAmong, ListOutcome, Named, RunAction, RunTask, SaysRequest}
+use Rattle.gt_order.specs.RunNames.{ScriptCall, Served, ThreadJob, WritesAll}
+use Rattle.gt_calls.specs.declared.request.Request.TheVariants as requests
+use Rattle.gt_core.specs.declared.trace.Answer.TheVariants as answers
+use Rattle.gt_script_lines.specs.declared.calls.ScriptCall.TheVariants as calls
+use Rattle.gt_script.specs.Contents.{type_names}
+use Rattle.gt_script.specs.RunContents.{RunContents}
+use Rattle.gt_script.specs.RunScripts.{list_of}
+use Rattle.gt_host.specs.Playing.{setting_of_script}
+use Rattle.gt_host.specs.Printing.{answer_line}
+use Rattle.gt_host.specs.Rights.{may_by}
+use Rattle.gt_host.specs.declared.rights.ScriptPolicy.{ScriptPolicy as ScriptRights}
+use Rattle.gt_run.specs.Printing.{texts_in}
+use Rattle.gt_run.specs.Runs.{AreOf}
+use Rattle.gt_run.specs.Serving.{IsAwait, gate_line}
+use Rattle.gt_explore_replay.specs.Orders.{DeedHappens, FlagsAreRaised, GivesMappingsBack, Happening, MayGive, Prints}
+use Rattle.gt_explore_replay.specs.Orders.{doer, events_in, own_happenings, trace_in}
+use Rattle.gt_order.specs.Explored.{IsStarved}
+use Rattle.gt_order.specs.Texts.{IsOrderly}
+
+-- the answer of a call that got no memory
+abbrev pub no_memory : Answer
+no_memory = answers.Denied (denial_of N26 NoFacts)
+
+-- a call that allocates, and takes no step before it has the memory: a map, or a call with one access and no pin
+abbrev pub IsAllocating : Request → Type 0
+IsAllocating (requests.Map dom gref flags) = Unit {0}
+IsAllocating (requests.Load handle off len) = Unit {0}
+IsAllocating (requests.Store handle off bytes) = Unit {0}
+IsAllocating (requests.Peek frame off len) = Unit {0}
+IsAllocating (requests.Poke frame off bytes) = Unit {0}
+IsAllocating request = ⊥
+
+-- the call of a line got no memory: it prints N26, nothing happens, and the rest follows with the same labels and handles
+abbrev pub GetsNoMemory : List (List ℕ) → DomId → List Named → List Handle → ℕ → RunAction
+    → (List Named → List Handle → List Happening → List ℕ → Type 0) → List Happening → List ℕ → Type 0
+GetsNoMemory types dom named held line (Do call) Next hs text =
+    (request : Request) × SaysRequest named dom call request × IsAllocating request
+    × Prints (answer_line types line dom no_memory) (Next named held hs) text
+GetsNoMemory types dom named held line action Next hs text = ⊥
+
+-- a domain at the end of its list unmaps all its mappings
+abbrev pub Leaves : DomId → List Handle → List Happening → Type 0
+Leaves dom held hs = (order : List Handle) × GivesMappingsBack dom order held hs
+
+-- the gate answered false at this line: the domain prints the gate's line, serves no line more, and leaves
+abbrev pub StopsAtGate : DomId → List Handle → RunTask → List Happening → List ℕ → Type 0
+StopsAtGate dom held t hs text = IsAwait t.deed × Leaves dom held hs × (text ≡ gate_line t.line dom)
+
+-- a domain serves its list, line by line, and then leaves; a call may get no memory, and a gate may stop the list; this
+-- is what it prints
+abbrev pub PrintsList : List (List ℕ) → DomId → List Named → List Handle → List RunTask → List Happening → List ℕ → Type 0
+PrintsList types dom named held [] hs text = Leaves dom held hs × (text ≡ [])
+PrintsList types dom named held (t ∷ ts) hs text =
+    DeedHappens types dom named held t.line t.deed
+    (λ names holds more rest. PrintsList types dom names holds ts more rest) hs text
+    ⊎ (GetsNoMemory types dom named held t.line t.deed
+    (λ names holds more rest. PrintsList types dom names holds ts more rest) hs text
+    ⊎ StopsAtGate dom held t hs text)
+
+-- each of the domains serves its list so, and prints its part of the text, in their order
+abbrev pub AllPrint : RunContents → List Happening → List DomainConfig → List ℕ → Type 0
+AllPrint c hs [] text = text ≡ []
+AllPrint c hs (d ∷ ds) text =
+    (part : List ℕ) × Prints part (AllPrint c hs ds) text
+    × PrintsList (type_names c.head) d.id [] [] (list_of c.tasks d.id) (own_happenings d.id hs) part
+
+-- one order of a script's run, and its text: what the core did is a legal trace, each domain serves its list, no other
+-- domain does anything, and no flag is passed that was not raised before
+pub record IsRunOf (c : RunContents) (hs : List Happening) (text : List ℕ) : Type 0 where
+  pub legal : Legal (setting_of_script c.head) (events_in hs) (trace_in hs)
+  pub print : AllPrint c hs c.head.domains text
+  pub known : All (λ x. domain_of c.head.domains (doer x) ≢ None) hs
+  pub flags : FlagsAreRaised hs
+
+-- a run of the script may print this text
+abbrev pub MayPrint : RunContents → List ℕ → Type 0
+MayPrint c text = (hs : List Happening) × IsRunOf c hs text
+
+-- the call is a copy
+abbrev pub IsCopy : ScriptCall → Type 0
+IsCopy (calls.Copy c) = Unit {0}
+IsCopy call = ⊥
+
+-- no copy of the list got no memory at its access
+abbrev pub CopiesGetMemory : {P : Type 0} → Served P → Type 0
+CopiesGetMemory s =
+    (task : RunTask) (call : ScriptCall) (o : ListOutcome) → IsAmong task s.duty.part.tasks.now → task.deed ≡ Do call
+    → IsAmong o s.outcomes → o.line ≡ task.line → IsCopy call → IsStarved o → ⊥
+
+-- what a run of a script writes is a text that a run of it may print, if no copy got no memory at its access, and the
+-- policy allows each domain to unmap the mappings with which it leaves
+abbrev pub RunsArePrinted : Type 0
+RunsArePrinted =
+    (c : RunContents) (logged : Bool) (duties : List (ThreadJob ScriptRights)) (old new : Option (List ℕ))
+    → (of : AreOf c logged duties) → IsWithinLimits of.monitor.config
+    → (wrote : WritesAll may_by duties old new) → All (IsOrderly may_by of.monitor) wrote.0
+    → All CopiesGetMemory wrote.0 → MayPrint c (texts_in wrote.0)
+
+-- the text contains this part
+abbrev pub HasPart : List ℕ → List ℕ → Type 0
+HasPart part text = (before : List ℕ) × (rest : List ℕ) × (text ≡ before ++ (part ++ rest))
+
+-- the text has no line of a call that got no memory, and no line of a gate
+pub record TellsOfNoStop (types : List (List ℕ)) (text : List ℕ) : Type 0 where
+  pub memory : (line : ℕ) (dom : DomId) → HasPart (answer_line types line dom no_memory) text → ⊥
+  pub gates : (line : ℕ) (dom : DomId) → HasPart (gate_line line dom) text → ⊥
+
+-- a text that a run may print is one that `explore` lists, if it has neither a line with N26 nor the line of a gate
+abbrev pub PrintedTextsAreGiven : Type 0
+PrintedTextsAreGiven =
+    (c : RunContents) (text : List ℕ) → MayPrint c text → TellsOfNoStop (type_names c.head) text → MayGive c text
