@@ -1,0 +1,15 @@
+-- Texts that were read whole.
+use Rattle.std.proofs.Common.{◌≡◌, ℕ, ◌≤◌, List, length, take, Option, None, Some, IfSome, refl, sym, subst, ◌∙◌}
+use Rattle.gt_checks.proofs.Advised.{whole_read}
+
+-- at most 1,048,576 bytes that are the first 1,048,577 of a text are the text
+pub whole_text : (known : Option (List ℕ)) (bytes : List ℕ) → IfSome known (λ all. bytes ≡ take 1048577 all) → length bytes ≤ 1048576 → IfSome known (λ all. bytes ≡ all)
+whole_text None bytes read short = tt
+whole_text (Some all) bytes read short = whole_read all bytes read short
+
+-- what was read of a text whose bytes are known are these bytes
+pub known_read : (known left : Option (List ℕ)) (bytes : List ℕ) → IfSome known (λ all. left ≡ Some all) → IfSome left (λ all. bytes ≡ all) → IfSome known (λ all. bytes ≡ all)
+known_read None left bytes opened read = tt
+known_read (Some all) left bytes opened read =
+    let same : IfSome (Some all) (λ b. bytes ≡ b) = subst (λ (o : Option (List ℕ)). IfSome o (λ b. bytes ≡ b)) opened read in
+    same
