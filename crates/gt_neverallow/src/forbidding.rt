@@ -99,5 +99,7 @@ fn breaks_some(never: &Neverallow, statement: &Statement, members: &[Member], pe
 pub(crate) fn breaks(never: &Neverallow, statement: &Statement, members: &[Member]) -> bool
     ensures { result ≡ breaks_with members.now never.now statement.now }
 {
-    Perms::EVERY.iter().any(|perm| breaks_some(never, statement, members, perm.name()))
+    Perms::EVERY
+        .iter()
+        .any(|perm| breaks_some(never, statement, members, perm.name()))
 }

@@ -130,10 +130,7 @@ fn set_from<'a>(
 }
 
 // Parses the set after `~`.
-fn set<'a>(
-    lexer: &mut Lexer<'a>,
-    alloc: Global,
-) -> Result<Items<SetElement<'a>>, ParseError<'a>>
+fn set<'a>(lexer: &mut Lexer<'a>, alloc: Global) -> Result<Items<SetElement<'a>>, ParseError<'a>>
     ensures value { Reads result lexer.new (set_of false lexer.old) }
     ensures shorter { length lexer.new ≤ length lexer.old }
 {
@@ -155,12 +152,7 @@ fn types<'a>(
     match token {
         Token::Star => Ok(TypeChoice::Every),
         Token::Tilde => Ok(TypeChoice::But(set(lexer, alloc)?)),
-        first => Ok(TypeChoice::Of(set_from(
-            lexer,
-            alloc,
-            is_target,
-            (first, line),
-        )?)),
+        first => Ok(TypeChoice::Of(set_from(lexer, alloc, is_target, (first, line))?)),
     }
 }
 
@@ -213,10 +205,7 @@ fn classes_in_braces<'a>(
 }
 
 #[tactic(auto, unfolding(gt_policy::specs::Grammar::classes_of))]
-fn classes<'a>(
-    lexer: &mut Lexer<'a>,
-    alloc: Global,
-) -> Result<Items<TextPiece<'a>>, ParseError<'a>>
+fn classes<'a>(lexer: &mut Lexer<'a>, alloc: Global) -> Result<Items<TextPiece<'a>>, ParseError<'a>>
     ensures value { Reads result lexer.new (classes_of lexer.old) }
     ensures shorter { length lexer.new ≤ length lexer.old }
 {

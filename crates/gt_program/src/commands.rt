@@ -5,9 +5,7 @@ ghost use Rattle.gt_program.specs.Obeying.{failed_work, known_input, Does, Perfo
 ghost use Rattle.gt_program.specs.declared.outcome.Outcome.TheVariants.{No};
 
 use crate::checking::{CheckKind, perform_check};
-use crate::explained::{
-    entries_explained, explore_explained, list_with_reasons, why_explained,
-};
+use crate::explained::{entries_explained, explore_explained, list_with_reasons, why_explained};
 use crate::failure::Failure;
 use crate::obeying::report;
 use crate::outcome::{Outcome, outcome_of};

@@ -29,7 +29,11 @@ fn never_words(alloc: Global, kind: &PolicyFaultKind) -> Result<String, AllocErr
 }
 
 /// Returns the reason for which `neverallow` statements were refused, with their place.
-pub(crate) fn never_reason(alloc: Global, never: &str, fault: &PolicyFault) -> Result<Vec<u8>, AllocError> {
+pub(crate) fn never_reason(
+    alloc: Global,
+    never: &str,
+    fault: &PolicyFault,
+) -> Result<Vec<u8>, AllocError> {
     let mut said = Vec::new(alloc);
     if let PolicyFaultKind::Memory = fault.kind {
         return Ok(said);

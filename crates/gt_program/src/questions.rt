@@ -71,7 +71,11 @@ fn heading(alloc: Global, words: &AskedWords) -> Result<Vec<u8>, AllocError>
 }
 
 // Writes the line before an answer.
-fn write_heading<W: Write>(alloc: Global, words: &AskedWords, out: &mut W) -> Result<(), ListingFault>
+fn write_heading<W: Write>(
+    alloc: Global,
+    words: &AskedWords,
+    out: &mut W,
+) -> Result<(), ListingFault>
     ensures whole { OnOk result (Appends (W.contents out.old) (W.contents out.new)
         (heading words.now.source.now words.now.target.now words.now.perm.now)) }
     ensures beginning { AppendsBeginning (W.contents out.old) (W.contents out.new)
