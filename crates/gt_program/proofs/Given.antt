@@ -1,5 +1,5 @@
 -- Texts that were read whole.
-use Rattle.std.proofs.Common.{◌≡◌, ℕ, ◌≤◌, List, length, take, Option, None, Some, IfSome, refl, sym, subst, ◌∙◌}
+use Rattle.std.proofs.Common.{◌≡◌, ℕ, ◌≤◌, List, length, take, Option, None, Some, IfOk, IfSome, Result, Ok, Err, subst}
 use Rattle.gt_checks.proofs.Advised.{whole_read}
 
 -- at most 1,048,576 bytes that are the first 1,048,577 of a text are the text
@@ -13,3 +13,7 @@ known_read None left bytes opened read = tt
 known_read (Some all) left bytes opened read =
     let same : IfSome (Some all) (λ b. bytes ≡ b) = subst (λ (o : Option (List ℕ)). IfSome o (λ b. bytes ≡ b)) opened read in
     same
+
+pub read_so : {B E : Type 0} (items : B → List ℕ) (known left : Option (List ℕ)) (r : Result B E) → IfSome known (λ all. left ≡ Some all) → IfOk r (λ b. IfSome left (λ all. items b ≡ all)) → IfOk r (λ b. IfSome known (λ all. items b ≡ all))
+read_so items known left (Ok b) opened read = known_read known left (items b) opened read
+read_so items known left (Err e) opened read = tt

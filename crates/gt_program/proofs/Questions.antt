@@ -1,7 +1,9 @@
 -- Questions that are answered one after the other.
-use Rattle.std.proofs.Common.{◌≡◌, ℕ, List, [], ◌∷◌, Option, refl, sym, subst, ◌∙◌}
+use Rattle.std.proofs.Common.{◌≡◌, ℕ, List, [], ◌∷◌, Option, refl, sym, subst, ◌∙◌, inl}
+use Rattle.std.specs.Str.Lines.{lines}
+use Rattle.gt_script_lines.specs.Words.{words}
 use Rattle.gt_text.specs.Laws.{keeps_same}
-use Rattle.gt_program.specs.Obeying.{AnswersLine, AnswersLines, worse}
+use Rattle.gt_program.specs.Obeying.{AnswersLine, AnswersLines, AnswersWords, Asks, OrNothing, worse}
 use Rattle.gt_program.specs.declared.outcome.Outcome.{Outcome}
 use Rattle.gt_program.specs.declared.outcome.Outcome.TheVariants.{No, Unknown, Yes}
 
@@ -42,3 +44,28 @@ pub goes_last : (file : List ℕ) (known : Option (List ℕ)) (all rest : List (
 goes_last file known all rest old now so_far goes none =
     let ended : AnswersLines file known rest now now Yes = subst (λ (l : List (List ℕ)). AnswersLines file known l now now Yes) (sym none) (keeps_same now, refl) in
     subst (λ (o : Outcome). AnswersLines file known all old now o) (worse_yes so_far) (goes now Yes ended)
+
+-- ---- the parts of a question, a line and a text
+
+-- the question was asked with these words
+pub asks_same : (file : List ℕ) (known : Option (List ℕ)) (s t p s' t' p' : List ℕ) (old new : Option (List ℕ)) (outcome : Outcome) → s ≡ s' → t ≡ t' → p ≡ p' → Asks file known s t p old new outcome
+    → OrNothing (Asks file known s' t' p') old new outcome
+asks_same file known s t p s' t' p' old new outcome es et ep asks =
+    let one = subst (λ (x : List ℕ). Asks file known x t p old new outcome) es asks in
+    let two = subst (λ (x : List ℕ). Asks file known s' x p old new outcome) et one in
+    inl (subst (λ (x : List ℕ). Asks file known s' t' x old new outcome) ep two)
+
+-- the words of a line were answered
+pub answers_line : (file : List ℕ) (known : Option (List ℕ)) (ws : List (List ℕ)) (line : List ℕ) (old new : Option (List ℕ)) (outcome : Outcome) → ws ≡ words line → OrNothing (AnswersWords file known ws) old new outcome
+    → AnswersLine file known line old new outcome
+answers_line file known ws line old new outcome same answers = subst (λ (l : List (List ℕ)). OrNothing (AnswersWords file known l) old new outcome) same answers
+
+-- the lines of a text were answered
+pub answers_lines : (file : List ℕ) (known : Option (List ℕ)) (ls : List (List ℕ)) (text : List ℕ) (old new : Option (List ℕ)) (outcome : Outcome) → ls ≡ lines text → AnswersLines file known ls old new outcome
+    → OrNothing (AnswersLines file known (lines text)) old new outcome
+answers_lines file known ls text old new outcome same answers = inl (subst (λ (l : List (List ℕ)). AnswersLines file known l old new outcome) same answers)
+
+-- the bytes are a text, and its lines were answered
+pub answers_bytes : (file : List ℕ) (known : Option (List ℕ)) (text bytes : List ℕ) (old new : Option (List ℕ)) (outcome : Outcome) → text ≡ bytes → OrNothing (AnswersLines file known (lines text)) old new outcome
+    → OrNothing (AnswersLines file known (lines bytes)) old new outcome
+answers_bytes file known text bytes old new outcome same answers = subst (λ (b : List ℕ). OrNothing (AnswersLines file known (lines b)) old new outcome) same answers
