@@ -16,7 +16,7 @@
 # All C is compiled with -Wall -Wextra -Wpedantic -Werror by each of gcc and clang that there is. smoke, memory, blk,
 # xen_front, threads and 200 of the lists run under AddressSanitizer and UBSan too, blk, xen_front and threads under
 # ThreadSanitizer, where the compiler has them. The sanitizers see the C side: the library is compiled by its own compiler.
-# LIBRARY=DIR takes the library from DIR, where tools/library.sh left it, and PLAY=FILE the built program gthost.
+# LIBRARY=DIR takes the library from DIR, where `./gthost library` left it, and PROGRAM=FILE the built program gthost.
 set -euo pipefail
 cd "$(dirname "$0")/.."
 lists="${1:-10000}"
@@ -127,7 +127,7 @@ if command -v rustc >/dev/null; then
   "$work/readme"
 fi
 
-play="${PLAY:-}"
+play="${PROGRAM:-}"
 if [ -z "$play" ]; then
   ./gthost --version >/dev/null # builds it, where that is not done yet
   ./gthost play examples/first.gt >/dev/null

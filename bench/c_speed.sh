@@ -2,11 +2,11 @@
 # Times the loads of `bench_live`, maps and unmaps on a running monitor, from C threads through the library
 # (bench/c/speed.c), beside `bench_live` itself. Prints millions of operations a second (a map or an unmap is one), how
 # many times longer a round takes from C, and below the table the instructions of a round on one thread, as valgrind
-# counts them.
+# counts them, also of a grant and a revocation by an owner.
 #
 # `bench/c_speed.sh [RUNS]` makes so many runs of each by turns (11), and takes from their time that of no rounds;
 # `PRIORITY='chrt -f 1' bench/c_speed.sh` runs them before other work; `bench/c_speed.sh 0` counts instructions only.
-# LIBRARY=DIR takes the library from DIR, where tools/library.sh left it, and PROGRAM=FILE the built program bench_live.
+# LIBRARY=DIR takes the library from DIR, where `./gthost library` left it, and PROGRAM=FILE the built program bench_live.
 # PRIORITY is left out where there are as many threads as processors.
 set -euo pipefail
 # shellcheck source=bench/common.sh
@@ -55,14 +55,23 @@ compare() {
     }'
 }
 
+# counted PROGRAM LOAD ROUNDS AUDIT
 counted() {
   valgrind --tool=cachegrind --cache-sim=no --cachegrind-out-file="$work/cachegrind" --log-file="$work/log" \
-    "$work/$1" apart 1 "$2" "$3" >/dev/null
+    "$work/$1" "$2" 1 "$3" "$4" >/dev/null
   sed -n 's/.*I *refs: *//p' "$work/log" | tr -d ,
 }
 
 instructions() {
-  echo "$((($(counted "$1" 11000 "$2") - $(counted "$1" 1000 "$2")) / 10000))"
+  echo "$((($(counted "$1" "$2" 11000 "$3") - $(counted "$1" "$2" 1000 "$3")) / 10000))"
+}
+
+# One line about the instructions of a load, and how calls are recorded.
+count() {
+  local c rattle
+  c="$(instructions c "$1" "$2")"
+  rattle="$(instructions rattle "$1" "$2")"
+  echo "$1, $2: $c instructions a round from C, $rattle from Rattle, $((c - rattle)) more"
 }
 
 if [ "$runs" -gt 0 ]; then
@@ -75,8 +84,5 @@ if [ "$runs" -gt 0 ]; then
     done
   done
 fi
-for audit in off ahead on; do
-  c="$(instructions c "$audit")"
-  rattle="$(instructions rattle "$audit")"
-  echo "$audit: $c instructions a round from C, $rattle from Rattle, $(awk -v c="$c" -v r="$rattle" 'BEGIN { printf "%.2f", c / r }') times as many"
-done
+for audit in off ahead on; do count apart "$audit"; done
+count grants off

@@ -83,8 +83,18 @@ static inline struct gthost_fault gthost_start(const struct gthost_settings *set
     return gthost_start_at(settings, count, first_gen, run, policy, policy_len, out, out_count);
 }
 
-/* Returns the label of the type of this name in a policy's text. No pointer may be null. */
-struct gthost_type gthost_type_of(const uint8_t *policy, size_t policy_len, const uint8_t *name, size_t name_len);
+/* Returns the label of the type of this name in a policy's text. gthost_type_of tests for null pointers. */
+struct gthost_type gthost_type_of_at(const uint8_t *policy, size_t policy_len, const uint8_t *name, size_t name_len);
+
+static inline struct gthost_type gthost_type_of(const uint8_t *policy, size_t policy_len, const uint8_t *name,
+                                                size_t name_len)
+{
+    if (!policy || !name) {
+        const struct gthost_type null_pointer = {{GTHOST_FAULT_NULL_POINTER, 0, 0}, 0};
+        return null_pointer;
+    }
+    return gthost_type_of_at(policy, policy_len, name, name_len);
+}
 
 /* Returns what a kind of fault means, in words. */
 struct gthost_text gthost_fault_text(uint32_t kind);

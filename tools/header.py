@@ -70,7 +70,7 @@ def spelled(name):
 def structs(text):
     found = {}
     for name, body in re.findall(r"#\[repr\(C\)\]\s*(?:#\[[^\]]*\]\s*)*pub struct (\w+) \{(.*?)\n\}", text, re.S):
-        fields = re.findall(r"^\s*(?:pub )?(?!ghost)(\w+): ([^,{]+),$", body, re.M)
+        fields = re.findall(r"^\s*(?:pub(?:\(\w+\))? )?(?!ghost)(\w+): ([^,{]+),$", body, re.M)
         found[name] = [(field, kind.strip()) for field, kind in fields]
     return found
 
@@ -172,7 +172,7 @@ def exports(text):
 
 
 def rust():
-    text = "\n".join((TOP / "contrib" / "rust" / "src" / name).read_text(encoding="utf-8") for name in ("raw.rs", "lib.rs"))
+    text = "\n".join((TOP / "contrib" / "rust" / "src" / name).read_text(encoding="utf-8") for name in ("raw.rs", "types.rs"))
     text = re.sub(r"//.*", "", text).replace("super::", "")
     found = re.findall(r"^    pub fn (gthost_\w+)\((.*?)\) -> (\w+);", text, re.S | re.M)
     return structs(text), dict(declarations(found, OF_RUST))

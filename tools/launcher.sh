@@ -261,7 +261,7 @@ for kind in brief fails_once; do
   second=$!
   wait "$first" || one=$?
   wait "$second" || two=$?
-  has 'the second of two' err 'another run builds the program; waiting'
+  has 'the second of two' err 'another run builds; waiting'
   has 'the second of two' err '^gthost: built: '
   [ "$two" -eq 0 ] || wrong "the second of two: status $two"
   case "$kind:$one" in brief:0) builds 'two at once' 1 ;; fails_once:1) builds 'the second after a failure' 2 ;; *) wrong "the first of two: status $one" ;; esac
@@ -294,6 +294,21 @@ else
   echo "not tried: a disk without room (no leave to mount one)"
 fi
 
+anew
+
+# The library: how far it is on standard error, and what rt prints in a log alone.
+cat >"$checkout/tools/library.sh" <<'LIBRARY'
+#!/bin/sh
+echo "error: a line of rt"
+if [ "$STUB" = fails ]; then exit 1; fi
+mkdir -p "$1" && : >"$1/libgthost.a"
+LIBRARY
+chmod 755 "$checkout/tools/library.sh"
+try 'a library' 0 library "$work/library"; lines 'a library' 2
+has 'a library' err 'proving and building the library: 0 of [0-9]+ crates, about [0-9]+ min on idle processors; log: .*/build-[0-9]+\.log'
+has 'a library' err 'built: .*/library/libgthost.a'; [ -e "$work/library/libgthost.a" ] || wrong 'a library: it is not there'
+STUB=fails; try 'no library' 1 library "$work/library"; has 'no library' err 'the library was not built; log: '
+try 'a library of no folder' 2 library; has 'a library of no folder' err 'usage: ./gthost library DIR'
 anew
 
 # Installing.

@@ -317,6 +317,51 @@ static void copies(void)
     HOLDS(gthost_finish(&domain[0]).value == 0);
 }
 
+/* A guest of 16 TiB, and entries of frames that it doesn't have. A frame is only a number: the program keeps it. */
+static void large(void)
+{
+    struct gthost_settings two[] = {{1, 0, GTHOST_MAX_FRAMES, 1, 2}, {2, 1, 1, 1, 1}};
+    const uint64_t last = GTHOST_MAX_FRAMES - 1ull, beyond[] = {GTHOST_MAX_FRAMES, 1ull << 32, UINT64_MAX};
+    struct gthost_copy copy = {{1, 1, 0}, {0, 2, 0}, 64, GTHOST_COPY_SOURCE_GREF};
+    struct gthost_domain domain[2] = {{0}};
+    struct gthost_begun_copy begun;
+    struct gthost_handle name;
+    struct gthost_fault fault;
+    struct gthost_answer answer;
+    HOLDS(starts(two, 2, POLICY, domain, 2, &fault));
+    answer = gthost_grant_page(&domain[0], 1, 2, last, 0);
+    WANT(GTHOST_OK, 0, GTHOST_NOTHING);
+    answer = gthost_map(&domain[1], 1, 1, GTHOST_MAP_WRITABLE);
+    WANT(GTHOST_OK, 0, GTHOST_HANDLE);
+    name = gthost_handle_of(answer);
+    HOLDS(gthost_mapping(&domain[1], name).mapping.frame == last);
+    begun = gthost_copy_begin(&domain[1], copy);
+    answer = begun.answer;
+    WANT(GTHOST_OK, 0, GTHOST_NOTHING);
+    HOLDS(begun.places.from.frame == last && begun.places.to.frame == 0);
+    answer = gthost_copy_end(&domain[1]);
+    for (uint32_t i = 0; i < COUNT(beyond); i++) {
+        answer = gthost_grant_page(&domain[0], 2 + i, 2, beyond[i], 0);
+        WANT(GTHOST_OK, 0, GTHOST_NOTHING);
+        answer = gthost_map(&domain[1], 1, 2 + i, GTHOST_MAP_READ_ONLY);
+        WANT(GTHOST_N16, -9, GTHOST_ENTRY);
+        copy.source.ptr = 2 + i;
+        answer = gthost_copy_begin(&domain[1], copy).answer;
+        WANT(GTHOST_N16, -9, GTHOST_ENTRY);
+    }
+    copy.source.ptr = 1;
+    copy.dest.ptr = 1;
+    answer = gthost_copy_begin(&domain[1], copy).answer;
+    WANT(GTHOST_N16, -9, answer.kind);
+    answer = gthost_grant_page(&domain[1], 1, 1, UINT32_MAX, 0); /* of version 1: a number of 32 bits */
+    WANT(GTHOST_OK, 0, GTHOST_NOTHING);
+    answer = gthost_grant_page(&domain[1], 2, 1, 1ull << 32, 0);
+    WANT(GTHOST_N21, -1, GTHOST_NOTHING);
+    HOLDS(gthost_finish(&domain[1]).rule == GTHOST_OK && gthost_finish(&domain[0]).more == 0);
+    two[1].frames = 0;
+    HOLDS(!starts(two, 2, POLICY, domain, 2, &fault) && fault.kind == GTHOST_FAULT_FRAMES && fault.dom == 2);
+}
+
 static bool is_nothing(struct gthost_answer a)
 {
     return !a.status && !a.kind && !a.dom && !a.gref && !a.source && !a.target && !a.detail && !a.word && !a.value &&
@@ -343,6 +388,10 @@ static void nothing_is_told(void)
     const struct gthost_places places = gthost_copy_begin(NULL, copy).places;
     HOLDS(!places.from.frame && !places.from.owner && !places.from.off && !places.len);
     HOLDS(!places.to.frame && !places.to.owner && !places.to.off);
+    const uint8_t text[] = "type a_t;";
+    const struct gthost_type types[] = {gthost_type_of(NULL, 9, text, 3), gthost_type_of(text, 9, NULL, 3)};
+    HOLDS(types[0].fault.kind == GTHOST_FAULT_NULL_POINTER && !types[0].fault.line && !types[0].fault.dom && !types[0].label);
+    HOLDS(types[1].fault.kind == GTHOST_FAULT_NULL_POINTER && !types[1].fault.line && !types[1].fault.dom && !types[1].label);
 }
 
 /* Each call of a null pointer. */
@@ -383,6 +432,7 @@ int main(void)
     nulls();
     shares();
     copies();
+    large();
     printf(failures ? "FAILED\n" : "smoke ok\n");
     return failures != 0;
 }

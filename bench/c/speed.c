@@ -1,6 +1,7 @@
 /*
- * speed LOAD THREADS ROUNDS AUDIT: the loads of `bench_live`, through the library. LOAD is apart or adjacent, AUDIT is
- * on, ahead or off. Each thread maps an entry of the owner's and unmaps it, ROUNDS times. Prints how many were done.
+ * speed LOAD THREADS ROUNDS AUDIT: the loads of `bench_live`, through the library. LOAD is apart, adjacent or grants,
+ * AUDIT is on, ahead or off. Each thread maps an entry of the owner's and unmaps it, ROUNDS times. Under grants the
+ * owner grants an entry and revokes it, in one thread. Prints how many rounds were done.
  */
 #include "gthost.h"
 
@@ -17,6 +18,7 @@ struct worker {
     uint32_t gref;
     unsigned long rounds, done;
     const char *audit;
+    bool grants;
 };
 
 static const char POLICY[] = "type a_t; allow a_t a_t:grant { map_read map_write unmap copy };";
@@ -30,11 +32,19 @@ static void record_calls(struct worker *worker)
     }
 }
 
-static void *work(void *arg)
+static unsigned long grant(struct worker *worker)
 {
-    struct worker *worker = arg;
     unsigned long done = 0;
-    record_calls(worker);
+    for (unsigned long round = 0; round < worker->rounds; round++) {
+        gthost_grant_page(&worker->domain, worker->gref, FIRST_MAPPER, 5, false);
+        done += gthost_revoke(&worker->domain, worker->gref).rule == GTHOST_OK;
+    }
+    return done;
+}
+
+static unsigned long map(struct worker *worker)
+{
+    unsigned long done = 0;
     while (done < worker->rounds) {
         const struct gthost_answer mapped = gthost_map(&worker->domain, OWNER, worker->gref, GTHOST_MAP_READ_ONLY);
         if (mapped.rule == GTHOST_OK) {
@@ -42,8 +52,22 @@ static void *work(void *arg)
             done += gthost_unmap(&worker->domain, name).rule == GTHOST_OK;
         }
     }
-    worker->done = done;
+    return done;
+}
+
+static void *work(void *arg)
+{
+    struct worker *worker = arg;
+    record_calls(worker);
+    worker->done = worker->grants ? grant(worker) : map(worker);
     return NULL;
+}
+
+/* The handle moves. */
+static void employ(struct worker *worker, struct gthost_domain *domain)
+{
+    memcpy(&worker->domain, domain, sizeof *domain);
+    memset(domain, 0, sizeof *domain);
 }
 
 int main(int argc, char **argv)
@@ -55,8 +79,9 @@ int main(int argc, char **argv)
     pthread_t threads[MOST];
     unsigned long done = 0;
     size_t count = argc == 5 ? strtoul(argv[2], NULL, 10) : 0;
-    if (count == 0 || count > MOST) {
-        fprintf(stderr, "speed apart|adjacent THREADS ROUNDS on|ahead|off\n");
+    const bool grants = count > 0 && strcmp(argv[1], "grants") == 0;
+    if (count == 0 || count > (grants ? 1 : MOST)) {
+        fprintf(stderr, "speed apart|adjacent|grants THREADS ROUNDS on|ahead|off\n");
         return 2;
     }
     memset(domains, 0, sizeof domains);
@@ -73,9 +98,11 @@ int main(int argc, char **argv)
         workers[i].gref = FIRST + (uint32_t)i * (strcmp(argv[1], "apart") == 0 ? APART : 1);
         workers[i].rounds = strtoul(argv[3], NULL, 10);
         workers[i].audit = argv[4];
-        gthost_grant_page(&domains[OWNER - 1], workers[i].gref, mapper, 5, false);
-        memcpy(&workers[i].domain, &domains[mapper - 1], sizeof domains[0]); /* the handle moves */
-        memset(&domains[mapper - 1], 0, sizeof domains[0]);
+        workers[i].grants = grants;
+        if (!grants) {
+            gthost_grant_page(&domains[OWNER - 1], workers[i].gref, mapper, 5, false);
+        }
+        employ(&workers[i], &domains[grants ? OWNER - 1 : mapper - 1]);
     }
     for (size_t i = 0; i < count; i++) {
         if (pthread_create(&threads[i], NULL, work, &workers[i])) {

@@ -127,7 +127,7 @@ extern "C" {
         settings: *const super::Settings, count: usize, first_gen: u32, run: u32, policy: *const u8,
         policy_len: usize, out: *mut Domain, out_count: usize,
     ) -> Fault;
-    pub fn gthost_type_of(policy: *const u8, policy_len: usize, name: *const u8, name_len: usize) -> Type;
+    pub fn gthost_type_of_at(policy: *const u8, policy_len: usize, name: *const u8, name_len: usize) -> Type;
     pub fn gthost_fault_text(kind: u32) -> Text;
     pub fn gthost_rule_text(rule: u32) -> RuleLine;
     pub fn gthost_version() -> u32;

@@ -76,6 +76,7 @@ impl<P: Allows + Drop> Drop for AttachedDomain<P> {
 impl<P: Allows + Drop> AttachedDomain<P> {
     ghost use Rattle.std.specs.Prelude.{◌≡◌, ◌≤◌, IsSome, None, OnOk, OnErr, is_some};
     ghost use Rattle.gt_audit.specs.Telling.{HasNone, Tells};
+    ghost use Rattle.gt_audit.specs.declared.pieces.TheConstants.{MOST_RESERVED};
     ghost use Rattle.gt_audit.specs.declared.record.Hypercall.TheVariants as Hypercall;
     ghost use Rattle.gt_calls.specs.declared.held.HeldPin.{HeldPin as Mapping};
     ghost use Rattle.gt_calls.specs.declared.request.Request.TheVariants as Request;
@@ -309,10 +310,12 @@ impl<P: Allows + Drop> AttachedDomain<P> {
     /// Makes room for `records` more records, which then need no allocation.
     ///
     /// # Errors
-    /// `Memory`. All records stay.
+    /// `Memory`, also for more than 2^24 records. The domain is unchanged.
     pub fn reserve_records(&mut self, records: usize) -> Result<(), Memory>
         requires idle { self.old.copying ≡ None }
         ensures stays { StaysIdle self.old self.new }
+        ensures bound { OnOk result (records ≤ MOST_RESERVED) }
+        ensures refused { OnErr result (self.new.domain ≡ self.old.domain) }
         ensures room { OnOk result (records ≤ self.new.domain.trail.room) }
         ensures kept { self.new.domain ≡ record self.old.domain {
           trail =

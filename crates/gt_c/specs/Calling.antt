@@ -7,6 +7,7 @@ use Rattle.gt_c.specs.Prelude.{MapAnswered, mapping_reply, subject_of, told_of, 
 use Rattle.gt_c.specs.Prelude.{EndsAccess}
 use Rattle.gt_c.specs.Prelude.{Seated, StaysIdle, EncodedAnswer, AttachedOutcome, CDomain}
 use Rattle.gt_attached.specs.declared.answer.AttachedOutcome.TheVariants as outcomes
+use Rattle.gt_audit.specs.declared.pieces.TheConstants.{MOST_RESERVED}
 use Rattle.gt_live.specs.Following.{Follows}
 use Rattle.gt_live.specs.declared.domain.following.Followed.{Followed}
 
@@ -120,11 +121,14 @@ abbrev pub outcome_reserved : Result (Unit {0}) Memory → AttachedOutcome
 outcome_reserved (Ok done) = outcomes.Done
 outcome_reserved (Err refused) = outcomes.NoMemory
 
--- there is room for this many records if the answer is Ok, and nothing else changed
+-- there is room for this many records, at most 2^24, if the answer is Ok, and nothing else changed; otherwise nothing
+-- changed at all
 pub record Reserves (records : ℕ) (answer : EncodedAnswer) (d e : CDomain) : Type 0 where
   pub result : Result (Unit {0}) Memory
   pub encodes : answer ≡ encoded (outcome_reserved result)
   pub stays : StaysIdle d.guest e.guest
+  pub bound : OnOk result (records ≤ MOST_RESERVED)
+  pub refused : OnErr result (e.guest.domain ≡ d.guest.domain)
   pub room : OnOk result (records ≤ e.guest.domain.trail.room)
   pub kept : e.guest.domain ≡ record d.guest.domain {
     trail =

@@ -11,9 +11,9 @@ fault_bytes n =
     if n == 4 then codes "unknown name" else
     if n == 5 then codes "name declared twice" else
     if n == 6 then codes "no such permission" else
-    if n == 7 then codes "outside the part of the language that is read" else
+    if n == 7 then codes "outside the supported language" else
     if n == 8 then codes "limit of the policy" else
-    if n == 9 then codes "the policy is no UTF-8" else
+    if n == 9 then codes "the policy is not UTF-8" else
     if n == 10 then codes "no domain" else
     if n == 11 then codes "one domain too many" else
     if n == 12 then codes "number out of range" else

@@ -142,7 +142,7 @@ pub struct TypeReport {
 
 /// Returns the label of the type of this name in a policy's text, or the fault and 0.
 #[unsafe(no_mangle)]
-pub extern "C" fn gthost_type_of(alloc: Global, policy: &[u8], name: &[u8]) -> TypeReport
+pub extern "C" fn gthost_type_of_at(alloc: Global, policy: &[u8], name: &[u8]) -> TypeReport
     ensures { TellsType policy.now name.now result }
 {
     match type_of(alloc, policy, name) {

@@ -18,7 +18,7 @@ use Rattle.gt_entry.specs.declared.entry.Entry.{Entry}
 use Rattle.gt_entry.specs.declared.entry.Entry.TheVariants.{Invalid, Page, Sub, Via}
 use Rattle.gt_entry.specs.Entries.{frame_of}
 use Rattle.gt_entry.specs.Permits.{is_of_frame, permits}
-use Rattle.gt_words.specs.Conditions.{SeatOf}
+use Rattle.gt_words.specs.Conditions.{Board, SeatOf}
 use Rattle.gt_word_history.specs.Rule.{Layout}
 use Rattle.gt_word_history.specs.History.{Moment}
 use Rattle.gt_word_history.specs.declared.view.View.{View}
@@ -35,7 +35,8 @@ use Rattle.gt_calls.specs.Asking.{asked, begun_of}
 use Rattle.gt_calls.specs.Opening.{opens}
 use Rattle.gt_calls.specs.Path.{Continuation, after_beginning, by_mapping, ended, makes, path_of, steps_of}
 use Rattle.gt_calls.specs.Rules.{CallerKnowledge, begun}
-use Rattle.gt_live.specs.Accesses.{Accessed, AnsweredAtAccess, ComesTo, IsAccess, IsOfAccess, IsUnmade, frame_named, onward}
+use Rattle.gt_live.specs.Accesses.{Accessed, AnsweredAtAccess, ComesTo, HasCause, IsAccess, IsOfAccess, IsUnmade}
+use Rattle.gt_live.specs.Accesses.{frame_named, onward}
 use Rattle.gt_live.specs.Domains.{IsRefused, AllowRelation, denial_in}
 use Rattle.gt_live.specs.Ending.{IsAccessing, IsWordless}
 use Rattle.gt_live.specs.Mappings.{IsMappingOf, ReachesItsFrame}
@@ -128,10 +129,10 @@ refused-called k c caller request denial v is = record {
   carried = wordless-found k v [] denial.facts is.wordless;
 }
 
-pub refused-first : {R : Type 0} (k : Layout) (c : CallerKnowledge) (caller : DomId) (request : Request)
+pub refused-first : {R : Type 0} (b : Board) (c : CallerKnowledge) (caller : DomId) (request : Request)
     (tells : Step → R → View → View → Type 0) (denial : Denial) (v : View) → IsRefused c caller request denial
-    → AnsweredAtAccess k (path_of c caller request) tells (Err denial) v v
-refused-first k c caller request tells denial v is = inl (refused-called k c caller request denial v is)
+    → AnsweredAtAccess b (path_of c caller request) tells (Err denial) v v
+refused-first b c caller request tells denial v is = inl (refused-called b.layout c caller request denial v is)
 
 -- a call with an access that is refused at its beginning, by the verdict there
 pub refused-begun : (k : Layout) (c : CallerKnowledge) (caller : DomId) (request : Request) (verdict : CallResult)
@@ -142,12 +143,12 @@ refused-begun k c caller request verdict denial v is e said =
     (refuses c caller request verdict denial (refused-once c caller request verdict is e) e said)
 
 -- the same of a call with an access, by the verdict at its beginning
-pub refused-access : {R : Type 0} (k : Layout) (c : CallerKnowledge) (caller : DomId) (request : Request)
+pub refused-access : {R : Type 0} (b : Board) (c : CallerKnowledge) (caller : DomId) (request : Request)
     (tells : Step → R → View → View → Type 0) (verdict : CallResult) (denial : Denial) (v : View) → IsAccessing (asked request)
     → begun_of c caller request ≡ Some verdict → denial ≡ denial_in verdict
-    → AnsweredAtAccess k (path_of c caller request) tells (Err denial) v v
-refused-access k c caller request tells verdict denial v is e said =
-    refused-first k c caller request tells denial v
+    → AnsweredAtAccess b (path_of c caller request) tells (Err denial) v v
+refused-access b c caller request tells verdict denial v is e said =
+    refused-first b c caller request tells denial v
     (refuses c caller request verdict denial (refused-once c caller request verdict is e) e said)
 
 -- a call of one access
@@ -157,10 +158,11 @@ whole k way access does v w is e did =
     let ends : Called k (onward way (Nothing ∷ [])) Granted w w = record { steps = []; view = refl; walked = tt; moments = tt; answered = ap (λ (w : Continuation). w (Nothing ∷ [])) e; carried = tt } in
     record { at = v; after = w; comes = comes; did = did; ends = ends; only = only-access k way access v v w w comes ends }
 
-pub one-access : {R : Type 0} (k : Layout) (way : Continuation) (access : Step) (tells : Step → R → View → View → Type 0) (result : Result R Denial) (v w : View) → IsAccess access → way ≡ makes access (ended Granted)
-    → IfOk result (λ (r : R). tells access r v w) → OnErr result (w ≡ v) → IfErr result IsOfAccess → AnsweredAtAccess k way tells result v w
-one-access k way access tells (Ok r) v w is e ok same err = (access, whole k way access (tells access r) v w is e ok)
-one-access k way access tells (Err denial) v w is e ok same err = inr (access, whole k way access IsUnmade v w is e same, err)
+pub one-access : {R : Type 0} (b : Board) (way : Continuation) (access : Step) (tells : Step → R → View → View → Type 0) (result : Result R Denial) (v w : View) → IsAccess access → way ≡ makes access (ended Granted)
+    → IfOk result (λ (r : R). tells access r v w) → OnErr result (w ≡ v) → IfErr result IsOfAccess → IfErr result (HasCause b access)
+    → AnsweredAtAccess b way tells result v w
+one-access b way access tells (Ok r) v w is e ok same err cause = (access, whole b.layout way access (tells access r) v w is e ok)
+one-access b way access tells (Err denial) v w is e ok same err cause = inr (access, whole b.layout way access IsUnmade v w is e same, err, cause)
 
 -- the way of a call through a mapping
 pub mapped-way : (k : CallerKnowledge) (caller : DomId) (request : Request) (handle : Handle) (p : HeldPin) (step : HeldPin → Step) → begun_of k caller request ≡ None → k.mapping handle ≡ Some p

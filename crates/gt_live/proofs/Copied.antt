@@ -16,7 +16,7 @@ use Rattle.gt_types.specs.declared.Use.TheVariants.{Copy as ForCopy}
 use Rattle.gt_types.specs.declared.denial.Denial.{Denial}
 use Rattle.gt_types.specs.Names.{copy as copying, domain_of, resolved}
 use Rattle.gt_entry.specs.Permits.{permits}
-use Rattle.gt_words.specs.Conditions.{KeepsPins, SeatOf}
+use Rattle.gt_words.specs.Conditions.{Board, KeepsPins, SeatOf}
 use Rattle.gt_word_history.specs.Rule.{Layout}
 use Rattle.gt_word_history.specs.Views.{IsAmong}
 use Rattle.gt_word_history.specs.declared.view.View.{View}
@@ -46,7 +46,8 @@ use Rattle.gt_calls.specs.Rules.{CallerKnowledge, begun, copy_begun, denied, fir
 use Rattle.gt_types.specs.Copies.{is_dest_granted, is_source_granted}
 use Rattle.gt_calls.specs.Rules.{label_of, refused_when, rights_to_copy, via_judged}
 use Rattle.gt_calls.specs.Standing.{pins_by_call}
-use Rattle.gt_live.specs.Accesses.{Accessed, AnsweredAtAccess, CopiesBetween, IsCopiedBy, IsOfAccess, IsUnmade, frame_named, onward}
+use Rattle.gt_live.specs.Accesses.{Accessed, AnsweredAtAccess, CopiesBetween, IsCopiedBy, IsIfOneMissing, IsOfAccess, IsUnmade}
+use Rattle.gt_live.specs.Accesses.{frame_named, onward}
 use Rattle.gt_live.specs.Driving.{IsSame}
 use Rattle.gt_live.specs.Underway.{AreOfRun, AtAccess, GivesBack, HasTaken}
 use Rattle.gt_live.specs.Walks.{Called, all_shown}
@@ -156,13 +157,13 @@ pub whole-copy : (c : CallerKnowledge) (k : Layout) (call : Call) (from to : Spo
 whole-copy c k call from to len v mid w a g = (copy-whole c k call from to len IsUnmade v mid mid w a refl g, (g.back v a.taken).pins)
 
 -- a copy that came to its access and gave its pins back
-pub made-whole : (c : CallerKnowledge) (k : Layout) (call : Call) (from to : Spot) (len : ℕ) (v at mid w : View) (way : Continuation) (writer : DomId) (result : Result Copying Denial) → AtAccess c k call from to len v at → GivesBack k (pins_by_call call) mid w → way ≡ path c call.caller call.request
-    → IfOk result (λ (r : Copying). CopiesBetween k from to len writer r at mid) → OnErr result (mid ≡ at) → IfErr result IsOfAccess → AnsweredAtAccess k way (IsCopiedBy k writer) result v w
-made-whole c k call from to len v at mid w way writer result a g same ok kept err = subst (λ (y : Continuation). AnsweredAtAccess k y (IsCopiedBy k writer) result v w) (sym same) (by result ok kept err)
+pub made-whole : (c : CallerKnowledge) (b : Board) (call : Call) (from to : Spot) (len : ℕ) (v at mid w : View) (way : Continuation) (writer : DomId) (result : Result Copying Denial) → AtAccess c b.layout call from to len v at → GivesBack b.layout (pins_by_call call) mid w → way ≡ path c call.caller call.request
+    → IfOk result (λ (r : Copying). CopiesBetween b.layout from to len writer r at mid) → OnErr result (mid ≡ at) → IfErr result IsOfAccess → IfErr result (IsIfOneMissing b from.frame to.frame) → AnsweredAtAccess b way (IsCopiedBy b.layout writer) result v w
+made-whole c b call from to len v at mid w way writer result a g same ok kept err cause = subst (λ (y : Continuation). AnsweredAtAccess b y (IsCopiedBy b.layout writer) result v w) (sym same) (by result ok kept err cause)
   where
-    by : (r : Result Copying Denial) → IfOk r (λ (x : Copying). CopiesBetween k from to len writer x at mid) → OnErr r (mid ≡ at) → IfErr r IsOfAccess → AnsweredAtAccess k (path c call.caller call.request) (IsCopiedBy k writer) r v w
-    by (Ok r) o n e = (CopyBytes from to len, copy-whole c k call from to len (IsCopiedBy k writer (CopyBytes from to len) r) v at mid w a o g)
-    by (Err denial) o n e = inr (CopyBytes from to len, copy-whole c k call from to len IsUnmade v at mid w a n g, e)
+    by : (r : Result Copying Denial) → IfOk r (λ (x : Copying). CopiesBetween b.layout from to len writer x at mid) → OnErr r (mid ≡ at) → IfErr r IsOfAccess → IfErr r (IsIfOneMissing b from.frame to.frame) → AnsweredAtAccess b (path c call.caller call.request) (IsCopiedBy b.layout writer) r v w
+    by (Ok r) o n e x = (CopyBytes from to len, copy-whole c b.layout call from to len (IsCopiedBy b.layout writer (CopyBytes from to len) r) v at mid w a o g)
+    by (Err denial) o n e x = inr (CopyBytes from to len, copy-whole c b.layout call from to len IsUnmade v at mid w a n g, e, x)
 
 -- the pins that a copy took are there after its access
 pub taken-still : (k : Layout) (taken : List HeldPin) (v at mid : View) → HasTaken k taken v at → IsSame at mid → HasTaken k taken v mid

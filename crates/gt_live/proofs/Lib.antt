@@ -34,3 +34,4 @@ pub mod Closing
 mod OneFrame
 pub mod Following
 pub mod Marks
+pub mod Flagged

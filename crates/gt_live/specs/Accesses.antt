@@ -6,7 +6,8 @@ use Rattle.gt_live.specs.Prelude.{Nothing, Step, ReadBytes, WriteBytes, CopyByte
 use Rattle.gt_live.specs.Prelude.{position_in, Spot}
 use Rattle.gt_frames.specs.declared.writ.Writ.{Writ}
 use Rattle.gt_word_history.specs.declared.view.FrameStep.TheVariants as frames
-use Rattle.gt_words.specs.Frames.{AccessesFrame, CopiesFrames}
+use Rattle.gt_words.specs.Conditions.{Board}
+use Rattle.gt_words.specs.Frames.{AccessesFrame, CopiesFrames, KeepsFrame}
 use Rattle.gt_live.specs.Walks.{AreMoments, Called, IsWalk, view_after, all_shown}
 pub use Rattle.gt_calls.specs.Standing.{IsAccess}
 
@@ -50,19 +51,35 @@ IsUnmade v w = w ≡ v
 abbrev pub IsOfAccess : Denial → Type 0
 IsOfAccess denial = (denial ≡ denial_of N26 NoFacts) ⊎ (denial ≡ denial_of N16 NoFacts)
 
--- the result of a call with an access. Ok: its whole path was made, and the value is that of the access as it was made.
--- A refusal: it is the path's own; or the access could not be made, and the call still continued to its end, which
--- releases its pins
-abbrev pub AnsweredAtAccess : {R : Type 0} → Layout → Continuation → (Step → R → View → View → Type 0)
-    → Result R Denial → View → View
-    → Type 0
-AnsweredAtAccess k way makes (Ok r) v w = (access : Step) × Accessed k way access (makes access r) v w
-AnsweredAtAccess k way makes (Err denial) v w =
-    Called k way (Refused denial) v w ⊎ ((access : Step) × Accessed k way access IsUnmade v w × IsOfAccess denial)
-
 -- the name of the frame with this number of this owner
 abbrev pub frame_named : DomId → ℕ → FrameName
 frame_named owner number = record { owner = owner; number = number }
+
+-- N16 comes only if the table does not keep the frame
+abbrev pub IsIfMissing : Board → FrameName → Denial → Type 0
+IsIfMissing b name denial = denial ≡ denial_of N16 NoFacts → KeepsFrame b name → ⊥
+
+-- N16 comes only if the table does not keep both frames
+abbrev pub IsIfOneMissing : Board → FrameName → FrameName → Denial → Type 0
+IsIfOneMissing b from to denial = denial ≡ denial_of N16 NoFacts → KeepsFrame b from → KeepsFrame b to → ⊥
+
+-- the refusal of this access has its cause
+abbrev pub HasCause : Board → Step → Denial → Type 0
+HasCause b (ReadBytes dom frame off len) denial = IsIfMissing b (frame_named dom frame) denial
+HasCause b (WriteBytes dom frame off len) denial = IsIfMissing b (frame_named dom frame) denial
+HasCause b (CopyBytes from to len) denial = IsIfOneMissing b from.frame to.frame denial
+HasCause b step denial = Unit {0}
+
+-- the result of a call with an access. Ok: its whole path was made, and the value is that of the access as it was made.
+-- A refusal: it is the path's own; or the access could not be made, which has its cause, and the call still continued
+-- to its end, which releases its pins
+abbrev pub AnsweredAtAccess : {R : Type 0} → Board → Continuation → (Step → R → View → View → Type 0)
+    → Result R Denial → View → View
+    → Type 0
+AnsweredAtAccess b way makes (Ok r) v w = (access : Step) × Accessed b.layout way access (makes access r) v w
+AnsweredAtAccess b way makes (Err denial) v w =
+    Called b.layout way (Refused denial) v w
+    ⊎ ((access : Step) × Accessed b.layout way access IsUnmade v w × IsOfAccess denial × HasCause b access denial)
 
 -- the seat read this many bytes of the frame, as one step of the history: the receipt has the bytes of that step
 abbrev pub ReadsFrame : Layout → FrameName → ℕ → ℕ → Reading → View → View → Type 0

@@ -55,7 +55,7 @@ Answered may m d request verdict e =
 abbrev pub Accesses : {P R : Type 0} → (P → AllowRelation) → Monitor P → Domain → Request
     → (Step → R → View → View → Type 0) → Result R Denial → Domain → Type 0
 Accesses may m d request makes result e =
-    AnsweredAtAccess m.words.layout (path_of (known_on may m d) d.seat.dom request) makes result d.seat.view e.seat.view
+    AnsweredAtAccess m.words (path_of (known_on may m d) d.seat.dom request) makes result d.seat.view e.seat.view
 
 -- the domain has the same mappings and pins as before
 abbrev pub KeepsPinned : Domain → Domain → Type 0

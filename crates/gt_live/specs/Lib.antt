@@ -20,3 +20,4 @@ pub mod Prelude
 pub mod Questions
 pub mod Unmarked
 pub mod Following
+pub mod Flags

@@ -13,7 +13,7 @@ use Rattle.gt_words.specs.Answers.{Pins}
 use Rattle.gt_types.specs.declared.denial.Facts.TheVariants as facts
 use Rattle.gt_word_history.specs.declared.view.EntryStep.TheVariants.{Pinned, Unpinned, Changed}
 use Rattle.gt_word_history.specs.declared.view.HeaderStep.TheVariants as header
-use Rattle.gt_word_history.specs.declared.view.SeatStep.TheVariants.{Frame, Header}
+use Rattle.gt_word_history.specs.declared.view.SeatStep.TheVariants.{Flag, Frame, Header}
 
 -- the observation of a call at a step of its seat
 abbrev pub seen_in_step : SeatStep → Observation
@@ -28,6 +28,7 @@ seen_in_step (Entry t r (ChangeMissed c e y n)) = Missed n
 seen_in_step (Header t (header.Looked n)) = Word n
 seen_in_step (Header t (header.Stored n)) = Nothing
 seen_in_step (Frame t f m) = Nothing
+seen_in_step (Flag f m) = Nothing
 
 -- the same for a step with its moment
 abbrev pub shown_by : Moment → Observation

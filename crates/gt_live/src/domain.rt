@@ -17,6 +17,7 @@ ghost use Rattle.gt_audit.specs.Telling.{Tells};
 mod bytes;
 mod closing;
 mod copies;
+mod flags;
 mod following;
 mod mappings;
 mod owner_calls;
@@ -218,8 +219,9 @@ fn tell_refusal(trail: &mut Trail, dom: DomId, call: Hypercall, denial: Denial)
 }
 
 impl Domain {
-    ghost use Rattle.std.specs.Prelude.{◌≡◌, ◌≤◌, List, OnOk, IfOk, IfSome, None, Some};
+    ghost use Rattle.std.specs.Prelude.{◌≡◌, ◌≤◌, List, OnErr, OnOk, IfOk, IfSome, None, Some};
     ghost use Rattle.gt_audit.specs.Telling.{ArePartsOf, HasNone, Tells};
+    ghost use Rattle.gt_audit.specs.declared.pieces.TheConstants.{MOST_RESERVED};
     ghost use Rattle.gt_live.specs.Domains.{subject_of, HasLeft, BelongsTo};
     ghost use Rattle.gt_live.specs.Domains.{Released, StaysOfRun};
     ghost use Rattle.gt_live.specs.Owning.{IsRowOf};
@@ -276,11 +278,13 @@ impl Domain {
         self.trail.keep_at_most(records);
     }
 
-    /// Makes room for `records` more records, which then need no allocation. All records stay, also after a refusal.
+    /// Makes room for `records` more records, which then need no allocation.
     ///
     /// # Errors
-    /// `Memory`.
+    /// `Memory`, also for more than `gt_audit::MOST_RESERVED` records. The domain is unchanged.
     pub fn reserve_records(&mut self, records: usize) -> Result<(), Memory>
+        ensures bound { OnOk result (records ≤ MOST_RESERVED) }
+        ensures refused { OnErr result (self.new ≡ self.old) }
         ensures room { OnOk result (records ≤ self.new.trail.room) }
         ensures grows { self.old.trail.room ≤ self.new.trail.room }
         ensures kept { self.new ≡ record self.old { trail = record self.old.trail { room = self.new.trail.room } } }

@@ -123,7 +123,31 @@ impl<P: Allows + Drop> Monitor<P> {
         ensures mine { IfOk result (λ r. All (λ d. BelongsTo P.may r.0 d) r.1.items) }
         ensures err { IfErr result (IsStartFault config) }
     {
-        let (words, seats) = match Words::new(alloc, &config) {
+        Monitor::with_flags(alloc, config, rights, 0)
+    }
+
+    /// Makes the monitor of a run, and its domains in order, with this number of flags, none of which is raised.
+    ///
+    /// # Errors
+    /// The first fault of the configuration, or `Memory` if it has none and allocation fails.
+    pub fn with_flags(
+        alloc: Global,
+        config: Config,
+        rights: P,
+        flags: u32,
+    ) -> Result<(Monitor<P>, Vec<Domain>), StartFault>
+        ensures ok { OnOk result (IsWithinLimits config) }
+        ensures run { IfOk result (λ r. (r.0.config ≡ config) × (r.0.rights ≡ rights)) }
+        ensures frames { IfOk result (λ r. r.0.words.frames ≡ frames_kept config) }
+        ensures flags { IfOk result (λ r. r.0.words.flags ≡ flags) }
+        ensures count { IfOk result (λ r. length r.1.items ≡ length config.domains.items) }
+        ensures domains { IfOk result (λ r.
+            (i : ℕ) → i < length config.domains.items
+            → HoldsAt (λ d. IsNewDomain r.0.words config (P.may rights) i d) r.1.items i) }
+        ensures mine { IfOk result (λ r. All (λ d. BelongsTo P.may r.0 d) r.1.items) }
+        ensures err { IfErr result (IsStartFault config) }
+    {
+        let (words, seats) = match Words::with_flags(alloc, &config, flags) {
             Ok(made) => made,
             Err(fault) => return Err(fault),
         };

@@ -9,7 +9,7 @@ use Rattle.gt_types.specs.declared.config.Config.{Config}
 use Rattle.gt_frames.specs.Bytes.{written}
 use Rattle.gt_frames.specs.Frames.{bytes_at, patch_of, patches}
 use Rattle.gt_frames.specs.declared.writ.WriteRecord.{WriteRecord}
-use Rattle.gt_shared_table.specs.Bytes.{SaysBytes, frame_made, journal_after, journal_by, journal_made}
+use Rattle.gt_shared_table.specs.Bytes.{IsTrueStep, frame_made, journal_after, journal_by, journal_made}
 use Rattle.gt_words.specs.Frames.{AccessesFrame}
 use Rattle.gt_word_history.specs.History.{StepHistory, Layout, Moment}
 use Rattle.gt_word_history.specs.Rule.{layout_of, position_in}
@@ -18,7 +18,7 @@ use Rattle.gt_word_history.specs.Views.{with_step}
 use Rattle.gt_word_history.specs.declared.view.FrameStep.{FrameStep}
 use Rattle.gt_word_history.specs.declared.view.FrameStep.TheVariants as frames
 use Rattle.gt_word_history.specs.declared.view.SeatStep.{SeatStep}
-use Rattle.gt_word_history.specs.declared.view.SeatStep.TheVariants.{Entry, Frame, Header}
+use Rattle.gt_word_history.specs.declared.view.SeatStep.TheVariants.{Entry, Flag, Frame, Header}
 use Rattle.gt_word_history.specs.declared.view.View.{View}
 use Rattle.gt_calls.specs.declared.action.Observation.{Observation}
 use Rattle.gt_calls.specs.declared.action.Observation.TheVariants.{Nothing}
@@ -168,6 +168,7 @@ writes-by-words k g h i d step x seen answer quiet the agree t f l =
     same (Entry u r m) a = refl
     same (Header u m) a = refl
     same (Frame u q m) a = absurd (not-frame k i step u q m quiet a)
+    same (Flag g m) a = refl
 
 -- after an item that is no step
 pub writes-by-none : (k : Layout) (g : Items) (h : StepHistory) (item : Item) → ((given : List ℕ) (contents : ℕ → ℕ → List ℕ) → written_by item.happened given contents ≡ None) → WritesAgree k g h → WritesAgree k (item ∷ g) h
@@ -233,6 +234,6 @@ module _ (c : Config) (k : Layout) (is : k ≡ layout_of c) (limits : IsWithinLi
   writes-by-access g h i d given step x seen answer passed run the writes agree = absurd writes
 
   -- the bytes that a read had
-  pub read-bytes : (g : Items) (h : StepHistory) (dom : DomId) (frame off : ℕ) (bytes : List ℕ) → position_in k.ids dom < k.domains → SaysBytes k h (Frame (position_in k.ids dom) frame (frames.Read off bytes)) → WritesAgree k g h
+  pub read-bytes : (g : Items) (h : StepHistory) (dom : DomId) (frame off : ℕ) (bytes : List ℕ) → position_in k.ids dom < k.domains → IsTrueStep k h (Frame (position_in k.ids dom) frame (frames.Read off bytes)) → WritesAgree k g h
       → bytes ≡ slice_range (contents_at g dom.0 frame) off (off + length bytes)
   read-bytes g h dom frame off bytes l says agree = says ∙ ap (λ (ys : List ℕ). slice_range ys off (off + length bytes)) (sym (contents-are g h dom frame l agree))

@@ -1,6 +1,6 @@
 -- What the items make of a domain by its own next item: a call begins, goes on, or ends.
 use Rattle.std.proofs.Common.{◌≡◌, ◌≢◌, ℕ, ◌<◌, Bool, true, false, cond, ◌==◌, List, [], ◌∷◌, ◌++◌, Option, Some, None}
-use Rattle.std.proofs.Common.{sym, refl, ap, ◌∙◌, subst, eq-eqb, append_assoc}
+use Rattle.std.proofs.Common.{sym, refl, ap, ◌∙◌, subst, append_assoc}
 use Rattle.std.proofs.lemmas.List.{map-append}
 use Rattle.std.proofs.lemmas.Option.{none-some}
 use Rattle.gt_types.specs.Config.{IsWithinLimits}
@@ -60,6 +60,7 @@ use Rattle.gt_core.specs.declared.trace.Answer.TheVariants.{Mapped}
 use Rattle.gt_core.specs.declared.trace.ItemEvent.TheVariants.{Stepped}
 use Rattle.gt_core.specs.declared.trace.Item.{Item}
 use Rattle.gt_live.specs.Domains.{AllowRelation, IsDomainOf, knowledge}
+use Rattle.gt_live.specs.Flags.{FlagStepped}
 use Rattle.gt_live.specs.Ending.{IsMap}
 use Rattle.gt_live.specs.Mappings.{AddsMapping as KeepsOneMore, KeepsMappings}
 use Rattle.gt_live.specs.Walks.{all_shown, shown_by, seen_in_step}
@@ -70,14 +71,15 @@ use Rattle.gt_order.proofs.NextAccess.{AccessesSo}
 use Rattle.gt_order.proofs.NextItem.{GoesSo, same-way}
 use Rattle.gt_order.proofs.Making.{header-is}
 use Rattle.gt_order.proofs.DomainsAtRest.{rest-known}
-use Rattle.gt_order.proofs.Stages.{SeatNow}
+use Rattle.gt_order.proofs.Stages.{SeatNow, order_now}
 use Rattle.gt_order.proofs.Stages.Stage.{Going, Resting}
 use Rattle.gt_order.proofs.Stepping.{state-there}
 use Rattle.gt_order.specs.Agreeing.{Agree, dom_at}
-use Rattle.gt_order.specs.Ordering.{item_of, item_of_beginning, items_by, items_by_outcome, items_of_call}
-use Rattle.gt_order.specs.Ordering.{items_of_calls, items_of_steps, step_in, way_of}
-use Rattle.gt_order.specs.Runs.{CallMade, IsAtRest, IsCall, LeavesMappings, domain_after}
-use Rattle.gt_order.specs.Runs.CallOutcome.{Told, Kept, Starved}
+use Rattle.gt_order.specs.Ordering.{RunOrder, item_of, item_of_beginning, items_by_outcome, items_of_call, items_of_steps}
+use Rattle.gt_order.specs.Ordering.{of_core, order_of_deeds, step_in, way_of}
+use Rattle.gt_order.specs.Ordering.Occurrence.{OfCore}
+use Rattle.gt_order.specs.Runs.{CallMade, Deed, FlagMade, IsAtRest, IsCall, LeavesMappings, domain_after}
+use Rattle.gt_order.specs.Runs.Deed.{Call, OnFlag}
 
 -- what answers a call at its beginning
 
@@ -179,18 +181,14 @@ module _ (b : Board) (c : Config) (may : AllowRelation) (limits : IsWithinLimits
   abbrev d : DomId
   d = dom_at k i
 
-  own-items : (item : Item) (g : Items) → item.actor ≡ d → items_by d (item ∷ g) ≡ item ∷ items_by d g
-  own-items item g e = ap (λ (z : Bool). cond z (item ∷ items_by d g) (items_by d g)) (eq-eqb item.actor.0 d.0 (ap (λ (z : DomId). z.0) e))
-
   -- two states of a domain that differ in its records alone
   pub known-alike : (D E : Domain) → IsAtRest D E → knowledge c may E ≡ knowledge c may D
   known-alike D E r = λ j. knowledge_of c.domains.items c.first_gen may (r.own j).items (own_table (r.seat j).view) (r.mappings j)
 
   -- the step goes on
-  pub going-on : (g : Items) (ms : List CallMade) (m : CallMade) (xs : List Moment) (x : Moment) (v w : View) (call : IsCall b c may m) (seat : SeatNow c may g d first (Going ms m xs))
+  pub going-on : (g : Items) (ms : List Deed) (m : CallMade) (xs : List Moment) (x : Moment) (v w : View) (call : IsCall b c may m) (seat : SeatNow c may g d first (Going ms m xs))
       → (r : GoesSo c may k g i seat.call.0 (all_shown xs) (way_of c may m) x v w None) → SeatNow c may (stepped d r.step (seen_in_step x.1) None ∷ g) d first (Going ms m (x ∷ xs))
   going-on g ms m xs x v w call seat r = record {
-    items = own-items item g refl ∙ (λ j. same j ∷ seat.items j);
     maps = mappings-same m.old.mappings _ _ _ _ (sym keeps.mappings) (sym keeps.answered) seat.maps;
     known = keeps.known ∙ seat.known;
     call = (then, open-then, seat.call.2, map-append (λ (p : Step × Observation). p.1) cl.steps ((r.step, seen_in_step x.1) ∷ []) ∙ ap (λ (z : List Observation). z ++ shown_by x ∷ []) seat.call.3, seat.call.4);
@@ -212,9 +210,6 @@ module _ (b : Board) (c : Config) (may : AllowRelation) (limits : IsWithinLimits
       keeps = let o = stands-open s (item ∷ g) d then r.reached named open-then in
           leaves-known s g d r.step (seen_in_step x.1) (leaves-of (known_at s g d) d cl.request (pins_at r.here.phase) (values cl) r.step (seen_in_step x.1) r.quiet r.here.here.rests
           (λ waits. last-leaves cl.steps (r.step, seen_in_step x.1) (clean-steps s (item ∷ g) d then o.0 o.1 waits)))
-
-      same : item ≡ item_of d (way_of c may m) (all_shown xs) x None
-      same = λ j. record { actor = d; happened = Stepped (step_in (sym r.next j)) (shown_by x); answer = None }
 
   -- what a domain knows after its call's last step
 
@@ -238,23 +233,32 @@ module _ (b : Board) (c : Config) (may : AllowRelation) (limits : IsWithinLimits
       by None f = absurd (none-some answer f)
       by (Some y) f = refl
 
-  -- its items with those of the call
+  -- its order with one item more
 
-  one-call : (ms : List CallMade) (m : CallMade) (xs : List Moment) (x : Moment) (a : Option Answer) (rest : List Item)
-      → item_of d (way_of c may m) (all_shown xs) x a ∷ (items_of_steps d (way_of c may m) None xs ++ item_of_beginning d m.request None ∷ rest) ≡ items_of_call d (way_of c may m) m.request a (x ∷ xs) ++ rest
-  one-call ms m xs x a rest = ap (λ (z : List Item). item_of d (way_of c may m) (all_shown xs) x a ∷ z) (sym (append_assoc (items_of_steps d (way_of c may m) None xs) (item_of_beginning d m.request None ∷ []) rest))
+  one-call : (m : CallMade) (xs : List Moment) (x : Moment) (a : Option Answer) (rest : RunOrder)
+      → OfCore (item_of d (way_of c may m) (all_shown xs) x a) ∷ (of_core (items_of_steps d (way_of c may m) None xs) ++ OfCore (item_of_beginning d m.request None) ∷ rest) ≡ of_core (items_of_call d (way_of c may m) m.request a (x ∷ xs)) ++ rest
+  one-call m xs x a rest = let before = items_of_steps d (way_of c may m) None xs in let begins = item_of_beginning d m.request None in
+      ap (λ (z : RunOrder). OfCore (item_of d (way_of c may m) (all_shown xs) x a) ∷ z)
+      (sym (ap (λ (z : RunOrder). z ++ rest) (map-append (λ (i : Item). OfCore i) before (begins ∷ [])) ∙ append_assoc (of_core before) (OfCore begins ∷ []) rest))
 
   item-same : (m : CallMade) (xs : List Moment) (x : Moment) (step : Step) (a : Option Answer) → way_of c may m (all_shown xs) ≡ Some (Makes step) → stepped d step (seen_in_step x.1) a ≡ item_of d (way_of c may m) (all_shown xs) x a
   item-same m xs x step a e = λ j. record { actor = d; happened = Stepped (step_in (sym e j)) (shown_by x); answer = a }
 
+  pub grows-on : (ms : List Deed) (m : CallMade) (xs : List Moment) (x : Moment) (step : Step) → way_of c may m (all_shown xs) ≡ Some (Makes step)
+      → OfCore (stepped d step (seen_in_step x.1) None) ∷ order_now c may d (Going ms m xs) ≡ order_now c may d (Going ms m (x ∷ xs))
+  grows-on ms m xs x step e = ap (λ (z : Item). OfCore z ∷ order_now c may d (Going ms m xs)) (item-same m xs x step None e)
+
+  pub grows-last : (ms : List Deed) (m : CallMade) (xs : List Moment) (x : Moment) (step : Step) (a : Option Answer) → way_of c may m (all_shown xs) ≡ Some (Makes step) → items_by_outcome d (way_of c may m) m.request m.outcome m.steps ≡ items_of_call d (way_of c may m) m.request a (x ∷ xs)
+      → OfCore (stepped d step (seen_in_step x.1) a) ∷ order_now c may d (Going ms m xs) ≡ order_now c may d (Resting (Call m ∷ ms))
+  grows-last ms m xs x step a e out = ap (λ (z : Item). OfCore z ∷ order_now c may d (Going ms m xs)) (item-same m xs x step a e)
+      ∙ (one-call m xs x a (order_of_deeds c may d ms) ∙ ap (λ (z : List Item). of_core z ++ order_of_deeds c may d ms) (sym out))
+
   -- the step ends the call
 
-  pub ends-told : (g : Items) (ms : List CallMade) (m : CallMade) (xs : List Moment) (x : Moment) (v w : View) (verdict : CallResult) (call : IsCall b c may m) (seat : SeatNow c may g d first (Going ms m xs))
-      → (r : GoesSo c may k g i seat.call.0 (all_shown xs) (way_of c may m) x v w (Some (answer_of verdict))) → items_by_outcome d (way_of c may m) m.request m.outcome m.steps ≡ items_of_call d (way_of c may m) m.request (Some (answer_of verdict)) (x ∷ xs) → LeavesMappings (asked m.request) verdict m.old.mappings m.new.mappings
-      → v.position ≡ i → w.position ≡ i → m.new.seat.view ≡ w → m.new.seat.view.steps ≡ part_of i ((i, x.1) ∷ x.0) → SeatNow c may (stepped d r.step (seen_in_step x.1) (Some (answer_of verdict)) ∷ g) d first (Resting (m ∷ ms))
-  ends-told g ms m xs x v w verdict call seat r out leaves at-v at-w view steps = record {
-    items = own-items item g refl ∙ ((λ j. item-same m xs x r.step (Some (answer_of verdict)) r.next j ∷ seat.items j) ∙ (one-call ms m xs x (Some (answer_of verdict)) (items_of_calls c may d ms)
-        ∙ ap (λ (z : List Item). z ++ items_of_calls c may d ms) (sym out)));
+  pub ends-told : (g : Items) (ms : List Deed) (m : CallMade) (xs : List Moment) (x : Moment) (v w : View) (verdict : CallResult) (call : IsCall b c may m) (seat : SeatNow c may g d first (Going ms m xs))
+      → (r : GoesSo c may k g i seat.call.0 (all_shown xs) (way_of c may m) x v w (Some (answer_of verdict))) → LeavesMappings (asked m.request) verdict m.old.mappings m.new.mappings
+      → v.position ≡ i → w.position ≡ i → m.new.seat.view ≡ w → m.new.seat.view.steps ≡ part_of i ((i, x.1) ∷ x.0) → SeatNow c may (stepped d r.step (seen_in_step x.1) (Some (answer_of verdict)) ∷ g) d first (Resting (Call m ∷ ms))
+  ends-told g ms m xs x v w verdict call seat r leaves at-v at-w view steps = record {
     maps = maps;
     known = ends-known g m x v w item call r.reached r.agree r.stands at-v at-w view steps maps;
     call = closed g item (answer_of verdict) refl refl;
@@ -273,13 +277,10 @@ module _ (b : Board) (c : Config) (may : AllowRelation) (limits : IsWithinLimits
   pub core-adds : (old new : HandleMap HeldPin) (handle : Handle) (p : HeldPin) → KeepsOneMore old new handle p → Adds old new handle p
   core-adds old new handle p a = record { serial = a.serial; fresh = a.inserted.fresh; given = a.inserted.given; updates = a.inserted.updates; count = a.inserted.count }
 
-  pub ends-kept : (g : Items) (ms : List CallMade) (m : CallMade) (xs : List Moment) (x : Moment) (v w : View) (handle : Handle) (p : HeldPin) (call : IsCall b c may m) (seat : SeatNow c may g d first (Going ms m xs))
-      → (r : GoesSo c may k g i seat.call.0 (all_shown xs) (way_of c may m) x v w (Some (Mapped handle))) → path (known_at s g d) d seat.call.0.request (values seat.call.0 ++ seen_by s g d r.step ∷ []) ≡ Some (Done (KeptPin p)) → m.steps ≡ x ∷ xs → m.outcome ≡ Kept handle p
-      → KeepsOneMore m.old.mappings m.new.mappings handle p
-      → v.position ≡ i → w.position ≡ i → m.new.seat.view ≡ w → m.new.seat.view.steps ≡ part_of i ((i, x.1) ∷ x.0) → SeatNow c may (stepped d r.step (seen_in_step x.1) (Some (Mapped handle)) ∷ g) d first (Resting (m ∷ ms))
-  ends-kept g ms m xs x v w handle p call seat r last made out adds at-v at-w view steps = record {
-    items = own-items item g refl ∙ ((λ j. item-same m xs x r.step (Some (Mapped handle)) r.next j ∷ seat.items j) ∙ (one-call ms m xs x (Some (Mapped handle)) (items_of_calls c may d ms)
-        ∙ (λ j. items_by_outcome d (way_of c may m) m.request (sym out j) (sym made j) ++ items_of_calls c may d ms)));
+  pub ends-kept : (g : Items) (ms : List Deed) (m : CallMade) (xs : List Moment) (x : Moment) (v w : View) (handle : Handle) (p : HeldPin) (call : IsCall b c may m) (seat : SeatNow c may g d first (Going ms m xs))
+      → (r : GoesSo c may k g i seat.call.0 (all_shown xs) (way_of c may m) x v w (Some (Mapped handle))) → path (known_at s g d) d seat.call.0.request (values seat.call.0 ++ seen_by s g d r.step ∷ []) ≡ Some (Done (KeptPin p)) → KeepsOneMore m.old.mappings m.new.mappings handle p
+      → v.position ≡ i → w.position ≡ i → m.new.seat.view ≡ w → m.new.seat.view.steps ≡ part_of i ((i, x.1) ∷ x.0) → SeatNow c may (stepped d r.step (seen_in_step x.1) (Some (Mapped handle)) ∷ g) d first (Resting (Call m ∷ ms))
+  ends-kept g ms m xs x v w handle p call seat r last adds at-v at-w view steps = record {
     maps = maps;
     known = ends-known g m x v w item call r.reached r.agree r.stands at-v at-w view steps maps;
     call = closed g item (Mapped handle) refl refl;
@@ -300,10 +301,9 @@ module _ (b : Board) (c : Config) (may : AllowRelation) (limits : IsWithinLimits
   began-keeps : (g : Items) (request : Request) (a : Option Answer) → one_if_mapped a ≡ 0 → KeepsOwn s g d (item_of_beginning d request a)
   began-keeps g request a e = keeps-own s g d (item_of_beginning d request a) (λ r. refl) refl e (maps-quiet g d _ (record { changes = λ z. refl; pins = λ before ps. refl; unpins = λ ps. refl }))
 
-  pub begins : (g : Items) (ms : List CallMade) (m : CallMade) → IsAtRest (domain_after first ms) m.old → SeatNow c may g d first (Resting ms) → SeatNow c may (item_of_beginning d m.request None ∷ g) d first (Going ms m [])
+  pub begins : (g : Items) (ms : List Deed) (m : CallMade) → IsAtRest (domain_after first ms) m.old → SeatNow c may g d first (Resting ms) → SeatNow c may (item_of_beginning d m.request None ∷ g) d first (Going ms m [])
   begins g ms m rest seat =
       let keeps = began-keeps g m.request None refl in record {
-        items = own-items (item_of_beginning d m.request None) g refl ∙ ap (λ (z : List Item). item_of_beginning d m.request None ∷ z) seat.items;
         maps = subst (λ (z : HandleMap HeldPin). MappingsAgree z (mappings_at (item_of_beginning d m.request None ∷ g) d.0) (maps_answered_at (item_of_beginning d m.request None ∷ g) d.0)) (sym rest.mappings)
             (mappings-same _ _ _ _ _ (sym keeps.mappings) (sym keeps.answered) seat.maps);
         known = keeps.known ∙ (seat.known ∙ sym (known-alike (domain_after first ms) m.old rest));
@@ -321,40 +321,48 @@ module _ (b : Board) (c : Config) (may : AllowRelation) (limits : IsWithinLimits
       (table ∙ (ap (λ (z : CallerKnowledge). z.header) known ∙ ap (λ (z : View). own_table z) (sym view))) maps
 
   -- it was refused for want of memory, and is no item
-  pub starves : (g : Items) (h : StepHistory) (ms : List CallMade) (m : CallMade) → CanBeReached s g → Agree s k g h → IsCall b c may m → IsAtRest (domain_after first ms) m.old → m.outcome ≡ Starved → m.new.seat.view ≡ m.old.seat.view → KeepsMappings m.old.mappings m.new.mappings
-      → (domain_after first ms).seat.view.position ≡ i → (domain_after first ms).seat.view.first ≡ k.first → (domain_after first ms).seat.view.steps ≡ part_of i h → SeatNow c may g d first (Resting ms) → SeatNow c may g d first (Resting (m ∷ ms))
-  starves g h ms m reached agree call rest out view keeps at first-is steps seat =
+  pub starves : (g : Items) (h : StepHistory) (ms : List Deed) (m : CallMade) → CanBeReached s g → Agree s k g h → IsCall b c may m → IsAtRest (domain_after first ms) m.old → m.new.seat.view ≡ m.old.seat.view → KeepsMappings m.old.mappings m.new.mappings
+      → (domain_after first ms).seat.view.position ≡ i → (domain_after first ms).seat.view.first ≡ k.first → (domain_after first ms).seat.view.steps ≡ part_of i h → SeatNow c may g d first (Resting ms) → SeatNow c may g d first (Resting (Call m ∷ ms))
+  starves g h ms m reached agree call rest view keeps at first-is steps seat =
       let D = domain_after first ms in
       let maps = handles-kept m.old.mappings m.new.mappings _ _ keeps (subst (λ (z : HandleMap HeldPin). MappingsAgree z (mappings_at g d.0) (maps_answered_at g d.0)) (sym rest.mappings) seat.maps) in record {
-        items = seat.items ∙ (λ j. items_by_outcome d (way_of c may m) m.request (sym out j) m.steps ++ items_of_calls c may d ms);
         maps = maps;
         known = stays-known g g h D m.new reached agree call.afterwards (view ∙ ap (λ (z : SeatOf). z.view) rest.seat) at first-is steps seat.known refl maps;
         call = seat.call;
       }
 
   -- it was answered at its beginning
-  pub answers : (g : Items) (h : StepHistory) (ms : List CallMade) (m : CallMade) (verdict : CallResult) → CanBeReached s (item_of_beginning d m.request (Some (answer_of verdict)) ∷ g) → Agree s k (item_of_beginning d m.request (Some (answer_of verdict)) ∷ g) h
-      → IsCall b c may m → IsAtRest (domain_after first ms) m.old → m.outcome ≡ Told verdict → m.steps ≡ [] → m.new.seat.view ≡ m.old.seat.view → KeepsMappings m.old.mappings m.new.mappings
+  pub answers : (g : Items) (h : StepHistory) (ms : List Deed) (m : CallMade) (verdict : CallResult) → CanBeReached s (item_of_beginning d m.request (Some (answer_of verdict)) ∷ g) → Agree s k (item_of_beginning d m.request (Some (answer_of verdict)) ∷ g) h
+      → IsCall b c may m → IsAtRest (domain_after first ms) m.old → m.new.seat.view ≡ m.old.seat.view → KeepsMappings m.old.mappings m.new.mappings
       → (domain_after first ms).seat.view.position ≡ i → (domain_after first ms).seat.view.first ≡ k.first → (domain_after first ms).seat.view.steps ≡ part_of i h → SeatNow c may g d first (Resting ms)
-      → SeatNow c may (item_of_beginning d m.request (Some (answer_of verdict)) ∷ g) d first (Resting (m ∷ ms))
-  answers g h ms m verdict reached agree call rest out none view keeps at first-is steps seat =
+      → SeatNow c may (item_of_beginning d m.request (Some (answer_of verdict)) ∷ g) d first (Resting (Call m ∷ ms))
+  answers g h ms m verdict reached agree call rest view keeps at first-is steps seat =
       let D = domain_after first ms in let item = item_of_beginning d m.request (Some (answer_of verdict)) in
       let own = began-keeps g m.request (Some (answer_of verdict)) (plain-unmapped verdict) in
       let maps = handles-kept m.old.mappings m.new.mappings _ _ keeps (subst (λ (z : HandleMap HeldPin). MappingsAgree z (mappings_at (item ∷ g) d.0) (maps_answered_at (item ∷ g) d.0)) (sym rest.mappings)
       (mappings-same _ _ _ _ _ (sym own.mappings) (sym own.answered) seat.maps)) in record {
-        items = own-items item g refl ∙ (ap (λ (z : List Item). item ∷ z) seat.items ∙ (λ j. items_by_outcome d (way_of c may m) m.request (sym out j) (sym none j) ++ items_of_calls c may d ms));
         maps = maps;
         known = stays-known g (item ∷ g) h D m.new reached agree call.afterwards (view ∙ ap (λ (z : SeatOf). z.view) rest.seat) at first-is steps seat.known (kept-table s item g d refl) maps;
         call = closed g item (answer_of verdict) refl refl;
       }
 
+  -- a step on a flag leaves all that the domain knows, and is no item
+  pub after-flag : (g : Items) (ms : List Deed) (x : FlagMade) → FlagStepped k x.flag x.step x.old x.new → IsAtRest (domain_after first ms) x.old → SeatNow c may g d first (Resting ms) → SeatNow c may g d first (Resting (OnFlag x ∷ ms))
+  after-flag g ms x stepped rest seat =
+      let maps : x.new.mappings ≡ (domain_after first ms).mappings = stepped.kept.mappings ∙ rest.mappings in
+      let knows : knowledge c may x.new ≡ knowledge c may x.old =
+      λ j. knowledge_of c.domains.items c.first_gen may (stepped.kept.own j).items (header_of (stepped.step.keeps.header j)) (stepped.kept.mappings j) in record {
+        maps = subst (λ (z : HandleMap HeldPin). MappingsAgree z (mappings_at g d.0) (maps_answered_at g d.0)) (sym maps) seat.maps;
+        known = seat.known ∙ sym (knows ∙ known-alike (domain_after first ms) x.old rest);
+        call = seat.call;
+      }
+
   -- an access
 
   -- the call goes on after it
-  pub going-on-accessed : (g : Items) (ms : List CallMade) (m : CallMade) (xs : List Moment) (x : Moment) (v w : View) (seat : SeatNow c may g d first (Going ms m xs))
+  pub going-on-accessed : (g : Items) (ms : List Deed) (m : CallMade) (xs : List Moment) (x : Moment) (v w : View) (seat : SeatNow c may g d first (Going ms m xs))
       → (r : AccessesSo c may k g i (all_shown xs) (way_of c may m) x v w None) → SeatNow c may (stepped d r.step (seen_in_step x.1) None ∷ g) d first (Going ms m (x ∷ xs))
   going-on-accessed g ms m xs x v w seat r = record {
-    items = own-items item g refl ∙ (λ j. item-same m xs x r.step None r.next j ∷ seat.items j);
     maps = mappings-same m.old.mappings _ _ _ _ (sym r.keeps.mappings) (sym r.keeps.answered) seat.maps;
     known = r.keeps.known ∙ seat.known;
     call = (then, open-then, seat.call.2, map-append (λ (p : Step × Observation). p.1) cl.steps ((r.step, seen_in_step x.1) ∷ []) ∙ ap (λ (z : List Observation). z ++ shown_by x ∷ []) seat.call.3, seat.call.4);
@@ -373,13 +381,11 @@ module _ (b : Board) (c : Config) (may : AllowRelation) (limits : IsWithinLimits
       open-then = open_call-own item g ∙ ap (underway_after item) seat.call.1
 
   -- it ends the call
-  pub ends-accessed : (g : Items) (ms : List CallMade) (m : CallMade) (xs : List Moment) (x : Moment) (v w : View) (answer : Answer) (call : IsCall b c may m) (seat : SeatNow c may g d first (Going ms m xs))
-      → (r : AccessesSo c may k g i (all_shown xs) (way_of c may m) x v w (Some answer)) → items_by_outcome d (way_of c may m) m.request m.outcome m.steps ≡ items_of_call d (way_of c may m) m.request (Some answer) (x ∷ xs)
+  pub ends-accessed : (g : Items) (ms : List Deed) (m : CallMade) (xs : List Moment) (x : Moment) (v w : View) (answer : Answer) (call : IsCall b c may m) (seat : SeatNow c may g d first (Going ms m xs))
+      → (r : AccessesSo c may k g i (all_shown xs) (way_of c may m) x v w (Some answer))
       → KeepsMappings m.old.mappings m.new.mappings → v.position ≡ i → w.position ≡ i → m.new.seat.view ≡ w → m.new.seat.view.steps ≡ part_of i ((i, x.1) ∷ x.0)
-      → SeatNow c may (stepped d r.step (seen_in_step x.1) (Some answer) ∷ g) d first (Resting (m ∷ ms))
-  ends-accessed g ms m xs x v w answer call seat r out keeps at-v at-w view steps = record {
-    items = own-items item g refl ∙ ((λ j. item-same m xs x r.step (Some answer) r.next j ∷ seat.items j) ∙ (one-call ms m xs x (Some answer) (items_of_calls c may d ms)
-        ∙ ap (λ (z : List Item). z ++ items_of_calls c may d ms) (sym out)));
+      → SeatNow c may (stepped d r.step (seen_in_step x.1) (Some answer) ∷ g) d first (Resting (Call m ∷ ms))
+  ends-accessed g ms m xs x v w answer call seat r keeps at-v at-w view steps = record {
     maps = maps;
     known = ends-known g m x v w item call r.reached r.agree r.stands at-v at-w view steps maps;
     call = closed g item answer refl refl;

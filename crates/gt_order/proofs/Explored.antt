@@ -1,9 +1,9 @@
 -- What a run of a script without flags writes is a text that the script may give.
 use Rattle.std.proofs.Common.{◌≡◌, ◌≢◌, ◌<◌, ℕ, zero, suc, Bool, List, [], ◌∷◌, All, get_or, length, map, None, refl, sym, ap}
-use Rattle.std.proofs.Common.{◌∙◌, subst, arith}
+use Rattle.std.proofs.Common.{◌∙◌, subst, arith, inl, inr}
 use Rattle.std.specs.Prelude.{is_some}
 use Rattle.std.proofs.lemmas.List.{get_or-map, length-map}
-use Rattle.std.proofs.lemmas.List.Elements.{All-get_or, All-weaker}
+use Rattle.std.proofs.lemmas.List.Elements.{All-get_or, All-head, All-tail, All-weaker}
 use Rattle.gt_types.specs.Config.{IsWithinLimits}
 use Rattle.gt_types.specs.Names.{domain_of}
 use Rattle.gt_types.specs.declared.DomId.{DomId}
@@ -16,6 +16,8 @@ use Rattle.gt_host.specs.Rights.{may_by}
 use Rattle.gt_host.specs.declared.rights.ScriptPolicy.{ScriptPolicy as ScriptRights}
 use Rattle.gt_script.specs.Contents.{type_names}
 use Rattle.gt_script.specs.Lists.{RunTask}
+use Rattle.gt_script.specs.Stuck.{IsBelow}
+use Rattle.gt_word_history.specs.Views.{IsAmong}
 use Rattle.gt_script.specs.RunContents.{RunContents}
 use Rattle.gt_script.specs.RunScripts.{list_of}
 use Rattle.gt_explore_replay.specs.Orders.{AllFollow, FollowsList, Happening, IsOrderOf, doer, events_in, own_happenings, trace_in}
@@ -24,10 +26,10 @@ use Rattle.gt_run.specs.Printing.{AreDuties, AreServed, Served, ShowOneState, du
 use Rattle.gt_run.specs.Runs.{AreOf, IsOver}
 use Rattle.gt_run.specs.declared.lists.DomainPart.{DomainPart}
 use Rattle.gt_run.specs.declared.lists.ThreadJob.{ThreadJob}
-use Rattle.gt_order.proofs.Happenings.{events-are, happenings, items-known, no-flags, own-are, trace-is}
-use Rattle.gt_order.proofs.Listed.{FollowsAll, follows-all}
-use Rattle.gt_order.specs.Explored.{AreCallLines, HasNoneLost, RunsAreExplored}
-use Rattle.gt_order.specs.Ordering.{events_of, items_by}
+use Rattle.gt_order.proofs.Happenings.{events-are, happenings, order-known, order-raised, own-are, trace-is}
+use Rattle.gt_order.proofs.Listed.{AreFlagsOf, FollowsAll, follows-all}
+use Rattle.gt_order.specs.Explored.{EndsAtNoGate, HasNoneLost, RunsAreExplored}
+use Rattle.gt_order.specs.Ordering.{events_of, items_in, own_in}
 use Rattle.gt_order.specs.Texts.{IsOrderly}
 
 -- each domain follows its list
@@ -40,8 +42,13 @@ all-follow c hs (d ∷ ds) [] same each = absurd (omega (arith, same))
 all-follow c hs (d ∷ ds) (s ∷ all) same each =
     (s.text, (texts_in all, refl, all-follow c hs ds all (omega (arith, same)) (λ i e t inside. each (suc i) e t (omega (arith, inside)))), each 0 d s (omega arith))
 
-module _ (c : RunContents) (logged : Bool) (x : Served ScriptRights) (xs : List (Served ScriptRights)) (of : AreOf c logged (duties_in (x ∷ xs))) (limits : IsWithinLimits of.monitor.config) (alone : AreCallLines c.tasks)
-    (are : AreServed may_by (x ∷ xs)) (one : ShowOneState (x ∷ xs)) (orderly : All (IsOrderly may_by of.monitor) (x ∷ xs)) (whole : All HasNoneLost (x ∷ xs)) where
+all-among : {A : Type 0} (Is : A → Type 0) (xs : List A) → All Is xs → (x : A) → IsAmong x xs → Is x
+all-among Is [] all x is = absurd is
+all-among Is (y ∷ ys) all x (inl e) = subst Is (sym e) (All-head Is y ys all)
+all-among Is (y ∷ ys) all x (inr is) = all-among Is ys (All-tail Is y ys all) x is
+
+module _ (c : RunContents) (logged : Bool) (x : Served ScriptRights) (xs : List (Served ScriptRights)) (of : AreOf c logged (duties_in (x ∷ xs))) (limits : IsWithinLimits of.monitor.config)
+    (are : AreServed may_by (x ∷ xs)) (one : ShowOneState (x ∷ xs)) (orderly : All (IsOrderly may_by of.monitor) (x ∷ xs)) (passes : All EndsAtNoGate (x ∷ xs)) (whole : All HasNoneLost (x ∷ xs)) where
   abbrev m : Monitor ScriptRights
   m = of.monitor
 
@@ -96,48 +103,51 @@ module _ (c : RunContents) (logged : Bool) (x : Served ScriptRights) (xs : List 
       others (y ∷ ys) zero l = refl
       others (y ∷ ys) (suc n) l = others ys n (omega (arith, l))
 
-  order : FollowsAll may_by m x xs on ids are one orderly
-  order = follows-all may_by m x xs on ids are one orderly limits
+  all : FollowsAll may_by m x xs on ids are one orderly
+  all = follows-all may_by m x xs on ids are one orderly limits
+
+  numbered : AreFlagsOf m c.tasks
+  numbered task is = all-among (λ (t : RunTask). IsBelow m.words.flags t.deed) c.tasks of.flags task is
 
   pub explored : (hs : List Happening) × IsOrderOf c hs (texts_in (x ∷ xs))
   explored = (
-    happenings order.items,
+    happenings all.order,
     record {
       legal = legal;
-      follow = all-follow c (happenings order.items) c.head.domains (x ∷ xs) (sym same-many) each;
-      known = subst (λ (s : Setting). All (λ y. domain_of s.domains (doer y) ≢ None) (happenings order.items)) setting-is (items-known (setting_of m.config (may_by m.rights)) order.items order.legal);
-      flags = no-flags order.items;
+      follow = all-follow c (happenings all.order) c.head.domains (x ∷ xs) (sym same-many) each;
+      known = subst (λ (ds : List DomainConfig). All (λ y. domain_of ds (doer y) ≢ None) (happenings all.order)) of.domains (order-known m.config (may_by m.rights) all.order all.flags all.legal);
+      flags = order-raised m.config all.order all.flags;
     },
   )
     where
-      legal : Legal (setting_of_script c.head) (events_in (happenings order.items)) (trace_in (happenings order.items))
-      legal = subst (λ (s : Setting). Legal s (events_in (happenings order.items)) (trace_in (happenings order.items))) setting-is
-          (subst (λ es. Legal (setting_of m.config (may_by m.rights)) es (trace_in (happenings order.items))) (sym (events-are order.items))
-          (subst (λ ts. Legal (setting_of m.config (may_by m.rights)) (events_of order.items) ts) (sym (trace-is order.items)) order.legal))
+      legal : Legal (setting_of_script c.head) (events_in (happenings all.order)) (trace_in (happenings all.order))
+      legal = subst (λ (s : Setting). Legal s (events_in (happenings all.order)) (trace_in (happenings all.order))) setting-is
+          (subst (λ es. Legal (setting_of m.config (may_by m.rights)) es (trace_in (happenings all.order))) (sym (events-are all.order))
+          (subst (λ ts. Legal (setting_of m.config (may_by m.rights)) (events_of (items_in all.order)) ts) (sym (trace-is all.order)) all.legal))
 
       each : (i : ℕ) (d : DomainConfig) (s : Served ScriptRights) → i < length c.head.domains
-          → FollowsList (type_names c.head) (get_or c.head.domains i d).id [] [] (list_of c.tasks (get_or c.head.domains i d).id) (own_happenings (get_or c.head.domains i d).id (happenings order.items)) (get_or (x ∷ xs) i s).text
+          → FollowsList (type_names c.head) (get_or c.head.domains i d).id [] [] (list_of c.tasks (get_or c.head.domains i d).id) (own_happenings (get_or c.head.domains i d).id (happenings all.order)) (get_or (x ∷ xs) i s).text
       each i d s inside =
           let l : i < length (x ∷ xs) = omega (arith, inside, same-many) in
           let within : i < length m.config.domains.items = let e = ap length of.domains in omega (arith, inside, e) in
           let over = over-at i l in
-          let mine = order.follow i within (subst AreCallLines (sym over.0) alone) (All-get_or HasNoneLost (x ∷ xs) i x l whole) in
-          let typed = subst (λ (ts : List (List ℕ)). FollowsList ts (lists i).duty.part.dom [] [] (list_of (lists i).duty.part.tasks.now (lists i).duty.part.dom) (happenings (items_by (lists i).duty.part.dom order.items)) (lists i).text) over.1 mine in
-          let tasked = subst (λ (ts : List RunTask). FollowsList (type_names c.head) (lists i).duty.part.dom [] [] (list_of ts (lists i).duty.part.dom) (happenings (items_by (lists i).duty.part.dom order.items)) (lists i).text) over.0 typed in
-          let named = subst (λ (n : DomId). FollowsList (type_names c.head) n [] [] (list_of c.tasks n) (happenings (items_by n order.items)) (lists i).text) (dom-at i d l) tasked in
-          subst (λ (hs : List Happening). FollowsList (type_names c.head) (get_or c.head.domains i d).id [] [] (list_of c.tasks (get_or c.head.domains i d).id) hs (get_or (x ∷ xs) i s).text) (sym (own-are (get_or c.head.domains i d).id order.items))
-          (subst (λ (q : Served ScriptRights). FollowsList (type_names c.head) (get_or c.head.domains i d).id [] [] (list_of c.tasks (get_or c.head.domains i d).id) (happenings (items_by (get_or c.head.domains i d).id order.items)) q.text) (same-list x s i l) named)
+          let mine = all.follow i within (subst (AreFlagsOf m) (sym over.0) numbered) (All-get_or EndsAtNoGate (x ∷ xs) i x l passes) (All-get_or HasNoneLost (x ∷ xs) i x l whole) in
+          let typed = subst (λ (ts : List (List ℕ)). FollowsList ts (lists i).duty.part.dom [] [] (list_of (lists i).duty.part.tasks.now (lists i).duty.part.dom) (happenings (own_in (lists i).duty.part.dom all.order)) (lists i).text) over.1 mine in
+          let tasked = subst (λ (ts : List RunTask). FollowsList (type_names c.head) (lists i).duty.part.dom [] [] (list_of ts (lists i).duty.part.dom) (happenings (own_in (lists i).duty.part.dom all.order)) (lists i).text) over.0 typed in
+          let named = subst (λ (n : DomId). FollowsList (type_names c.head) n [] [] (list_of c.tasks n) (happenings (own_in n all.order)) (lists i).text) (dom-at i d l) tasked in
+          subst (λ (hs : List Happening). FollowsList (type_names c.head) (get_or c.head.domains i d).id [] [] (list_of c.tasks (get_or c.head.domains i d).id) hs (get_or (x ∷ xs) i s).text) (sym (own-are (get_or c.head.domains i d).id all.order))
+          (subst (λ (q : Served ScriptRights). FollowsList (type_names c.head) (get_or c.head.domains i d).id [] [] (list_of c.tasks (get_or c.head.domains i d).id) (happenings (own_in (get_or c.head.domains i d).id all.order)) q.text) (same-list x s i l) named)
 
 pub runs-explored : RunsAreExplored
-runs-explored c logged duties old new of limits alone wrote orderly whole = by wrote.0 wrote.1 wrote.2 wrote.3 of limits orderly whole
+runs-explored c logged duties old new of limits wrote orderly passes whole = by wrote.0 wrote.1 wrote.2 wrote.3 of limits orderly passes whole
   where
-    by : (all : List (Served ScriptRights)) → duties_in all ≡ duties → AreServed may_by all → ShowOneState all → (of : AreOf c logged duties) → IsWithinLimits of.monitor.config → All (IsOrderly may_by of.monitor) all → All HasNoneLost all
+    by : (all : List (Served ScriptRights)) → duties_in all ≡ duties → AreServed may_by all → ShowOneState all → (of : AreOf c logged duties) → IsWithinLimits of.monitor.config → All (IsOrderly may_by of.monitor) all → All EndsAtNoGate all → All HasNoneLost all
         → (hs : List Happening) × IsOrderOf c hs (texts_in all)
-    by [] same are one of limits orderly whole = absurd (none (ap (map (λ (d : ThreadJob ScriptRights). d.part)) same ∙ of.duties_are.0))
+    by [] same are one of limits orderly passes whole = absurd (none (ap (map (λ (d : ThreadJob ScriptRights). d.part)) same ∙ of.duties_are.0))
       where
         none : [] ≡ of.parts → ⊥
         none e = let some = limits.some in let l = ap length (ap (map (λ (p : DomainPart). p.dom)) e ∙ of.of_script.0) in let k = length-map c.head.domains (λ (d : DomainConfig). d.id) in let j = ap length of.domains in omega (arith, some, l, k, j)
-    by (x ∷ xs) same are one of limits orderly whole =
+    by (x ∷ xs) same are one of limits orderly passes whole =
         let here : AreOf c logged (duties_in (x ∷ xs)) = record {
           parts = of.parts;
           of_script = of.of_script;
@@ -145,6 +155,7 @@ runs-explored c logged duties old new of limits alone wrote orderly whole = by w
           domains = of.domains;
           generation = of.generation;
           rights = of.rights;
+          flags = of.flags;
           duties_are = subst (AreDuties of.monitor logged of.parts) (sym same) of.duties_are;
         } in
-        explored c logged x xs here limits alone are one orderly whole
+        explored c logged x xs here limits are one orderly passes whole

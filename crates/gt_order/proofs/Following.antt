@@ -1,4 +1,4 @@
--- The calls of a list are those with which its domain follows the list in an order of the script.
+-- The deeds of a list are those with which its domain follows the list in an order of the script.
 use Rattle.std.proofs.Common.{◌≡◌, ℕ, List, [], ◌∷◌, ◌++◌, Some, None, Result, Ok, Err, append_assoc, refl, sym, ap}
 use Rattle.std.proofs.Common.{◌∙◌, subst}
 use Rattle.gt_types.specs.declared.DomId.{DomId}
@@ -11,7 +11,6 @@ use Rattle.gt_calls.specs.declared.action.CallResult.TheVariants.{Granted}
 use Rattle.gt_calls.specs.declared.held.HeldPin.{HeldPin}
 use Rattle.gt_calls.specs.declared.request.Request.{Request}
 use Rattle.gt_calls.specs.declared.request.Request.TheVariants as requests
-use Rattle.gt_core.specs.History.{History as Items}
 use Rattle.gt_core.specs.declared.trace.Answer.{Answer}
 use Rattle.gt_core.specs.declared.trace.Answer.TheVariants as answers
 use Rattle.gt_host.specs.Printing.{answer_line}
@@ -28,12 +27,14 @@ use Rattle.gt_live.specs.Mappings.{KeepsMappings}
 use Rattle.gt_live.specs.declared.domain.Domain.{Domain}
 use Rattle.gt_live.specs.declared.monitor.Monitor.{Monitor}
 use Rattle.gt_run.specs.Asking.{AnswersCall, HasBytes, IsReadAnswer, frames_answer, plain_answer, size_answer, version_answer}
-use Rattle.gt_order.proofs.Happenings.{call-happens, happenings, happenings-both}
+use Rattle.gt_order.proofs.Happenings.{call-happens, happening_of, happenings, happenings-both}
 use Rattle.gt_order.proofs.Held.{Keeps, keeps-less, keeps-more, keeps-same}
 use Rattle.gt_order.specs.Explored.{IsNotLost}
 use Rattle.gt_order.specs.Leaving.{AreUnmaps}
-use Rattle.gt_order.specs.Ordering.{items_by_outcome, items_of_call, items_of_calls, way_of}
-use Rattle.gt_order.specs.Runs.{AreCalls, CallMade, CallOutcome, IsAnswered, domain_after}
+use Rattle.gt_order.specs.Ordering.{RunOrder, items_by_outcome, items_of_call, of_core, order_of_deeds, way_of}
+use Rattle.gt_order.specs.Ordering.Occurrence.{OfFlag}
+use Rattle.gt_order.specs.Runs.{AreDeeds, CallMade, CallOutcome, Deed, FlagMade, IsAnswered, domain_after}
+use Rattle.gt_order.specs.Runs.Deed.{Call, OnFlag}
 use Rattle.gt_order.specs.Runs.CallOutcome.{Told, Kept, Starved, Read, Wrote}
 use Rattle.gt_order.specs.Texts.{OutcomeGivesAnswer}
 
@@ -104,27 +105,27 @@ module _ (c : Config) (may : AllowRelation) (types : List (List ℕ)) (dom : Dom
   same-items m Wrote answer gives whole = ap (λ (a : Answer). items_of_call dom (way_of c may m) m.request (Some a) m.steps) (sym gives)
   same-items m Starved answer gives whole = absurd (whole gives.0 gives.1 gives.2)
 
-  -- whatever follows these calls follows the lines of the list that made them
-  abbrev pub Follows : List Named → List Handle → List RunTask → List CallMade → List ℕ → Type 0
+  -- whatever follows these deeds follows the lines of the list that did them
+  abbrev pub Follows : List Named → List Handle → List RunTask → List Deed → List ℕ → Type 0
   Follows named held done made printed =
       (rest : List RunTask) (more : List Happening) (text : List ℕ) → FollowsList types dom named held rest more text
-      → FollowsList types dom [] [] (done ++ rest) (happenings (items_of_calls c may dom made) ++ more) (printed ++ text)
+      → FollowsList types dom [] [] (done ++ rest) (happenings (order_of_deeds c may dom made) ++ more) (printed ++ text)
 
   pub follows-none : Follows [] [] [] [] []
   follows-none rest more text f = f
 
-  pub follows-more : (named : List Named) (held : List Handle) (done : List RunTask) (made : List CallMade) (printed : List ℕ) (task : RunTask) (call : ScriptCall) (m : CallMade) (answer : Answer)
+  pub follows-more : (named : List Named) (held : List Handle) (done : List RunTask) (made : List Deed) (printed : List ℕ) (task : RunTask) (call : ScriptCall) (m : CallMade) (answer : Answer)
       → Follows named held done made printed → task.deed ≡ Do call → SaysRequest named dom call m.request → OutcomeGivesAnswer m.outcome answer → IsNotLost answer
-      → Follows (with_name named dom (label_given call) (handle_given answer)) (held_after held (given_up m.request) answer) (done ++ task ∷ []) (m ∷ made) (printed ++ answer_line types task.line dom answer)
+      → Follows (with_name named dom (label_given call) (handle_given answer)) (held_after held (given_up m.request) answer) (done ++ task ∷ []) (Call m ∷ made) (printed ++ answer_line types task.line dom answer)
   follows-more named held done made printed task call m answer before is says gives whole rest more text f =
-      subst (λ (ts : List RunTask). FollowsList types dom [] [] ts (happenings (mine ++ items_of_calls c may dom made) ++ more) ((printed ++ line) ++ text)) (sym (append_assoc done (task ∷ []) rest))
+      subst (λ (ts : List RunTask). FollowsList types dom [] [] ts (happenings (mine ++ order_of_deeds c may dom made) ++ more) ((printed ++ line) ++ text)) (sym (append_assoc done (task ∷ []) rest))
       (subst (λ (hs : List Happening). FollowsList types dom [] [] (done ++ task ∷ rest) hs ((printed ++ line) ++ text))
-      (sym (ap (λ (hs : List Happening). hs ++ more) (happenings-both mine (items_of_calls c may dom made)) ∙ append_assoc (happenings (items_of_calls c may dom made)) (happenings mine) more))
-      (subst (λ (t : List ℕ). FollowsList types dom [] [] (done ++ task ∷ rest) (happenings (items_of_calls c may dom made) ++ (happenings mine ++ more)) t) (sym (append_assoc printed line text))
+      (sym (ap (λ (hs : List Happening). hs ++ more) (happenings-both mine (order_of_deeds c may dom made)) ∙ append_assoc (happenings (order_of_deeds c may dom made)) (happenings mine) more))
+      (subst (λ (t : List ℕ). FollowsList types dom [] [] (done ++ task ∷ rest) (happenings (order_of_deeds c may dom made) ++ (happenings mine ++ more)) t) (sym (append_assoc printed line text))
       (before (task ∷ rest) (happenings mine ++ more) (line ++ text) deed)))
     where
-      mine : Items
-      mine = items_by_outcome dom (way_of c may m) m.request m.outcome m.steps
+      mine : RunOrder
+      mine = of_core (items_by_outcome dom (way_of c may m) m.request m.outcome m.steps)
 
       line : List ℕ
       line = answer_line types task.line dom answer
@@ -136,21 +137,32 @@ module _ (c : Config) (may : AllowRelation) (types : List (List ℕ)) (dom : Dom
       After a hs = Prints (answer_line types task.line dom a) (NextOf (with_name named dom (label_given call) (handle_given a)) (held_after held (given_up m.request) a) hs) (line ++ text)
 
       happens : CallHappens dom m.request After (happenings mine ++ more)
-      happens = subst (λ g. CallHappens dom m.request After (happenings g ++ more)) (sym (same-items m m.outcome answer gives whole)) (call-happens dom (way_of c may m) m.request answer m.steps After more (text, refl, f))
+      happens = subst (λ g. CallHappens dom m.request After (happenings (of_core g) ++ more)) (sym (same-items m m.outcome answer gives whole)) (call-happens dom (way_of c may m) m.request answer m.steps After more (text, refl, f))
 
       deed : DeedHappens types dom named held task.line task.deed NextOf (happenings mine ++ more) (line ++ text)
       deed = subst (λ (x : RunAction). DeedHappens types dom named held task.line x NextOf (happenings mine ++ more) (line ++ text)) (sym is) (m.request, says, happens)
 
+  -- a line that raises or awaits a flag
+  pub follows-flag : (named : List Named) (held : List Handle) (done : List RunTask) (made : List Deed) (printed : List ℕ) (task : RunTask) (x : FlagMade) → Follows named held done made printed
+      → ((Next : List Named → List Handle → List Happening → List ℕ → Type 0) (more : List Happening) (text : List ℕ) → Next named held more text → DeedHappens types dom named held task.line task.deed Next (happening_of (OfFlag dom x.flag x.step) ∷ more) text)
+      → Follows named held (done ++ task ∷ []) (OnFlag x ∷ made) printed
+  follows-flag named held done made printed task x before happens rest more text f =
+      let mine = happening_of (OfFlag dom x.flag x.step) in
+      subst (λ (ts : List RunTask). FollowsList types dom [] [] ts ((happenings (order_of_deeds c may dom made) ++ mine ∷ []) ++ more) (printed ++ text)) (sym (append_assoc done (task ∷ []) rest))
+      (subst (λ (hs : List Happening). FollowsList types dom [] [] (done ++ task ∷ rest) hs (printed ++ text)) (sym (append_assoc (happenings (order_of_deeds c may dom made)) (mine ∷ []) more))
+      (before (task ∷ rest) (mine ∷ more) text (happens (λ names holds hs left. FollowsList types dom names holds rest hs left) more text f)))
+
   -- the unmaps with which a domain leaves
-  pub record GivesBack (held : List Handle) (us : List CallMade) (after : Domain) : Type 0 where
+  pub record GivesBack (held : List Handle) (us : List Deed) (after : Domain) : Type 0 where
     pub order : List Handle
     pub held' : List Handle
     pub keeps : Keeps after.mappings held'
-    pub back : (last : List Handle) (more : List Happening) → GivesMappingsBack dom last held' more → GivesMappingsBack dom (order ++ last) held (happenings (items_of_calls c may dom us) ++ more)
+    pub back : (last : List Handle) (more : List Happening) → GivesMappingsBack dom last held' more → GivesMappingsBack dom (order ++ last) held (happenings (order_of_deeds c may dom us) ++ more)
 
-  pub gives-back : (b : Board) (d : Domain) (us : List CallMade) (held : List Handle) → AreCalls b c may d us → AreUnmaps us → Keeps d.mappings held → GivesBack held us (domain_after d us)
+  pub gives-back : (b : Board) (d : Domain) (us : List Deed) (held : List Handle) → AreDeeds b c may d us → AreUnmaps us → Keeps d.mappings held → GivesBack held us (domain_after d us)
   gives-back b d [] held calls unmaps k = record { order = []; held' = held; keeps = k; back = λ last more g. g }
-  gives-back b d (u ∷ us) held calls unmaps k =
+  gives-back b d (OnFlag x ∷ us) held calls unmaps k = absurd unmaps
+  gives-back b d (Call u ∷ us) held calls unmaps k =
       let was = gives-back b d us held calls.2 unmaps.1 k in
       let old : Keeps u.old.mappings was.held' = subst (λ (x : HandleMap HeldPin). Keeps x was.held') (sym calls.1.mappings) was.keeps in
       let answered : IsAnswered b c may (requests.Unmap unmaps.0.0) (Told Granted) u.steps u.old u.new = subst (λ (r : Request). IsAnswered b c may r (Told Granted) u.steps u.old u.new) unmaps.0.1
@@ -162,22 +174,23 @@ module _ (c : Config) (may : AllowRelation) (types : List (List ℕ)) (dom : Dom
         held' = handles_without unmaps.0.0 was.held';
         keeps = less.keeps;
         back = λ last more g.
-            let one : GivesMappingsBack dom (unmaps.0.0 ∷ last) was.held' (happenings mine ++ more) = (
+            let one : GivesMappingsBack dom (unmaps.0.0 ∷ last) was.held' (happenings (of_core mine) ++ more) = (
               less.before,
               less.after,
               less.whole,
-              subst (λ g. CallHappens dom (requests.Unmap unmaps.0.0) (λ answer more. (answer ≡ answers.Done) × GivesMappingsBack dom last (less.before ++ less.after) more) (happenings g ++ more)) (sym same)
+              subst (λ g. CallHappens dom (requests.Unmap unmaps.0.0) (λ answer more. (answer ≡ answers.Done) × GivesMappingsBack dom last (less.before ++ less.after) more) (happenings (of_core g) ++ more)) (sym same)
                   (call-happens dom (way_of c may u) (requests.Unmap unmaps.0.0) answers.Done u.steps (λ answer more. (answer ≡ answers.Done) × GivesMappingsBack dom last (less.before ++ less.after) more) more (refl, subst (λ (l : List Handle). GivesMappingsBack dom last l more) less.left g)),
             ) in
-            subst (λ (l : List Handle). GivesMappingsBack dom l held (happenings (mine ++ items_of_calls c may dom us) ++ more)) (sym (append_assoc was.order (unmaps.0.0 ∷ []) last))
+            subst (λ (l : List Handle). GivesMappingsBack dom l held (happenings (of_core mine ++ order_of_deeds c may dom us) ++ more)) (sym (append_assoc was.order (unmaps.0.0 ∷ []) last))
             (subst (GivesMappingsBack dom (was.order ++ unmaps.0.0 ∷ last) held)
-            (sym (ap (λ (hs : List Happening). hs ++ more) (happenings-both mine (items_of_calls c may dom us)) ∙ append_assoc (happenings (items_of_calls c may dom us)) (happenings mine) more))
-            (was.back (unmaps.0.0 ∷ last) (happenings mine ++ more) one));
+            (sym (ap (λ (hs : List Happening). hs ++ more) (happenings-both (of_core mine) (order_of_deeds c may dom us)) ∙ append_assoc (happenings (order_of_deeds c may dom us)) (happenings (of_core mine)) more))
+            (was.back (unmaps.0.0 ∷ last) (happenings (of_core mine) ++ more) one));
       }
 
-  -- the calls of a list, and the unmaps behind them
-  pub calls-both : (us ms : List CallMade) → items_of_calls c may dom (us ++ ms) ≡ items_of_calls c may dom us ++ items_of_calls c may dom ms
-  calls-both [] ms = refl
-  calls-both (u ∷ us) ms =
-      ap (λ l. items_by_outcome dom (way_of c may u) u.request u.outcome u.steps ++ l) (calls-both us ms)
-      ∙ sym (append_assoc (items_by_outcome dom (way_of c may u) u.request u.outcome u.steps) (items_of_calls c may dom us) (items_of_calls c may dom ms))
+  -- the deeds of a list, and the unmaps behind them
+  pub deeds-both : (us ms : List Deed) → order_of_deeds c may dom (us ++ ms) ≡ order_of_deeds c may dom us ++ order_of_deeds c may dom ms
+  deeds-both [] ms = refl
+  deeds-both (Call u ∷ us) ms =
+      let mine = of_core (items_by_outcome dom (way_of c may u) u.request u.outcome u.steps) in
+      ap (λ l. mine ++ l) (deeds-both us ms) ∙ sym (append_assoc mine (order_of_deeds c may dom us) (order_of_deeds c may dom ms))
+  deeds-both (OnFlag x ∷ us) ms = ap (λ l. OfFlag dom x.flag x.step ∷ l) (deeds-both us ms)

@@ -1,32 +1,44 @@
--- The items of a run as the happenings of an order of its script.
-use Rattle.std.proofs.Common.{◌≡◌, ◌≢◌, ◌==◌, ℕ, zero, suc, Bool, true, false, cond, List, [], ◌∷◌, ◌++◌, All, Option}
-use Rattle.std.proofs.Common.{Some, None, append_assoc, refl, sym, ap, ◌∙◌, subst}
+-- An order of a run as the happenings of an order of its script.
+use Rattle.std.proofs.Common.{◌≡◌, ◌≢◌, ◌==◌, ◌<◌, ◌⊎◌, inl, inr, ⊎_elim, ℕ, zero, suc, Bool, true, false, cond, List, []}
+use Rattle.std.proofs.Common.{◌∷◌, ◌++◌, length, All, Option, Some, None, append_assoc, refl, sym, ap, ◌∙◌, subst, arith}
 use Rattle.std.specs.Prelude.{slice_get}
 use Rattle.std.proofs.lemmas.List.{append-nil, map-append}
 use Rattle.std.proofs.lemmas.List.Elements.{All-cons, All-nil}
 use Rattle.gt_types.specs.Names.{domain_of}
 use Rattle.gt_types.specs.declared.DomId.{DomId}
+use Rattle.gt_types.specs.declared.config.Config.{Config}
 use Rattle.gt_calls.specs.Path.{Continuation}
 use Rattle.gt_calls.specs.declared.request.Request.{Request}
+use Rattle.gt_core.specs.Acting.{setting_of}
 use Rattle.gt_core.specs.History.{History as Items, Setting}
 use Rattle.gt_core.specs.Legal.{LegalAfter, actor_of}
 use Rattle.gt_core.specs.declared.trace.Answer.{Answer}
 use Rattle.gt_core.specs.declared.trace.Element.{Element}
 use Rattle.gt_core.specs.declared.trace.Element.TheVariants.{Item as Did, Busy, Idle, NoDomain}
 use Rattle.gt_core.specs.declared.trace.Event.TheVariants.{Begin, Tick}
+use Rattle.gt_core.specs.declared.trace.Item.{Item}
 use Rattle.gt_core.specs.declared.trace.ItemEvent.{ItemEvent}
 use Rattle.gt_core.specs.declared.trace.ItemEvent.TheVariants.{Began, Stepped}
 use Rattle.gt_host.specs.Runs.{AnswerNothing, answer_in}
-use Rattle.gt_explore_replay.specs.Orders.{CallHappens, FlagsAreRaised, Happening, did, doer, events_in, own_happenings, passed}
-use Rattle.gt_explore_replay.specs.Orders.{raised, ticks_of, trace_in}
+use Rattle.gt_explore_replay.specs.Orders.{CallHappens, FlagsAreRaised, Happening, IsRaisedBefore, did, doer, events_in}
+use Rattle.gt_explore_replay.specs.Orders.{own_happenings, passed, raised, ticks_of, trace_in}
+use Rattle.gt_live.specs.Domains.{AllowRelation}
 use Rattle.gt_word_history.specs.History.{Moment}
-use Rattle.gt_order.specs.Ordering.{event_in, events_of, item_of, item_of_beginning, items_by, items_of_call, items_of_steps}
+use Rattle.gt_word_history.specs.declared.view.FlagStep.TheVariants.{Passed, Raised}
+use Rattle.gt_order.specs.Ordering.{AreOnRaisedFlags, IsRaisedIn, Occurrence, RunOrder, actor_in, event_in, events_of}
+use Rattle.gt_order.specs.Ordering.{item_of, item_of_beginning, items_in, items_of_call, items_of_steps, of_core, own_in}
 use Rattle.gt_order.specs.Ordering.{trace_of}
+use Rattle.gt_order.specs.Ordering.Occurrence.{OfCore, OfFlag}
 
--- what happened, in the order of these items
-abbrev pub happenings : Items → List Happening
+abbrev pub happening_of : Occurrence → Happening
+happening_of (OfCore i) = did (event_in i.actor i.happened) (Did i)
+happening_of (OfFlag d flag Raised) = raised d flag
+happening_of (OfFlag d flag Passed) = passed d flag
+
+-- what happened in this order, the first first
+abbrev pub happenings : RunOrder → List Happening
 happenings [] = []
-happenings (i ∷ g) = happenings g ++ did (event_in i.actor i.happened) (Did i) ∷ []
+happenings (x ∷ o) = happenings o ++ happening_of x ∷ []
 
 events-both : (xs ys : List Happening) → events_in (xs ++ ys) ≡ events_in xs ++ events_in ys
 events-both [] ys = refl
@@ -40,13 +52,17 @@ trace-both (did e x ∷ xs) ys = ap (λ l. x ∷ l) (trace-both xs ys)
 trace-both (raised d flag ∷ xs) ys = trace-both xs ys
 trace-both (passed d flag ∷ xs) ys = trace-both xs ys
 
-pub events-are : (g : Items) → events_in (happenings g) ≡ events_of g
+pub events-are : (o : RunOrder) → events_in (happenings o) ≡ events_of (items_in o)
 events-are [] = refl
-events-are (i ∷ g) = events-both (happenings g) (did (event_in i.actor i.happened) (Did i) ∷ []) ∙ ap (λ l. l ++ event_in i.actor i.happened ∷ []) (events-are g)
+events-are (OfCore i ∷ o) = events-both (happenings o) (did (event_in i.actor i.happened) (Did i) ∷ []) ∙ ap (λ l. l ++ event_in i.actor i.happened ∷ []) (events-are o)
+events-are (OfFlag d flag Raised ∷ o) = events-both (happenings o) (raised d flag ∷ []) ∙ (append-nil (events_in (happenings o)) ∙ events-are o)
+events-are (OfFlag d flag Passed ∷ o) = events-both (happenings o) (passed d flag ∷ []) ∙ (append-nil (events_in (happenings o)) ∙ events-are o)
 
-pub trace-is : (g : Items) → trace_in (happenings g) ≡ trace_of g
+pub trace-is : (o : RunOrder) → trace_in (happenings o) ≡ trace_of (items_in o)
 trace-is [] = refl
-trace-is (i ∷ g) = trace-both (happenings g) (did (event_in i.actor i.happened) (Did i) ∷ []) ∙ ap (λ l. l ++ Did i ∷ []) (trace-is g)
+trace-is (OfCore i ∷ o) = trace-both (happenings o) (did (event_in i.actor i.happened) (Did i) ∷ []) ∙ ap (λ l. l ++ Did i ∷ []) (trace-is o)
+trace-is (OfFlag d flag Raised ∷ o) = trace-both (happenings o) (raised d flag ∷ []) ∙ (append-nil (trace_in (happenings o)) ∙ trace-is o)
+trace-is (OfFlag d flag Passed ∷ o) = trace-both (happenings o) (passed d flag ∷ []) ∙ (append-nil (trace_in (happenings o)) ∙ trace-is o)
 
 -- those of one domain
 
@@ -58,31 +74,33 @@ own-both : (d : DomId) (xs ys : List Happening) → own_happenings d (xs ++ ys) 
 own-both d [] ys = refl
 own-both d (x ∷ xs) ys = both-if ((doer x).0 == d.0) x (own_happenings d xs) (own_happenings d ys) (own_happenings d (xs ++ ys)) (own-both d xs ys)
 
-actor-is : (a : DomId) (e : ItemEvent) → actor_of (event_in a e) ≡ a
-actor-is a (Began request) = refl
-actor-is a (Stepped step seen) = refl
-
-pub own-are : (d : DomId) (g : Items) → own_happenings d (happenings g) ≡ happenings (items_by d g)
-own-are d [] = refl
-own-are d (i ∷ g) =
-    own-both d (happenings g) (x ∷ []) ∙ (ap (λ (a : DomId). own_happenings d (happenings g) ++ cond (a.0 == d.0) (x ∷ []) []) (actor-is i.actor i.happened) ∙ by (own-are d g) (i.actor.0 == d.0))
+doer-is : (x : Occurrence) → doer (happening_of x) ≡ actor_in x
+doer-is (OfCore i) = by i.happened
   where
-    x : Happening
-    x = did (event_in i.actor i.happened) (Did i)
+    by : (e : ItemEvent) → actor_of (event_in i.actor e) ≡ i.actor
+    by (Began request) = refl
+    by (Stepped step seen) = refl
+doer-is (OfFlag d flag Raised) = refl
+doer-is (OfFlag d flag Passed) = refl
 
-    by : own_happenings d (happenings g) ≡ happenings (items_by d g) → (b : Bool) → own_happenings d (happenings g) ++ cond b (x ∷ []) [] ≡ happenings (cond b (i ∷ items_by d g) (items_by d g))
-    by rest true = ap (λ l. l ++ x ∷ []) rest
-    by rest false = append-nil (own_happenings d (happenings g)) ∙ rest
+pub own-are : (d : DomId) (o : RunOrder) → own_happenings d (happenings o) ≡ happenings (own_in d o)
+own-are d [] = refl
+own-are d (x ∷ o) =
+    own-both d (happenings o) (happening_of x ∷ []) ∙ (ap (λ (a : DomId). own_happenings d (happenings o) ++ cond (a.0 == d.0) (happening_of x ∷ []) []) (doer-is x) ∙ by (own-are d o) ((actor_in x).0 == d.0))
+  where
+    by : own_happenings d (happenings o) ≡ happenings (own_in d o) → (b : Bool) → own_happenings d (happenings o) ++ cond b (happening_of x ∷ []) [] ≡ happenings (cond b (x ∷ own_in d o) (own_in d o))
+    by rest true = ap (λ l. l ++ happening_of x ∷ []) rest
+    by rest false = append-nil (own_happenings d (happenings o)) ∙ rest
 
-pub happenings-both : (xs ys : Items) → happenings (xs ++ ys) ≡ happenings ys ++ happenings xs
+pub happenings-both : (xs ys : RunOrder) → happenings (xs ++ ys) ≡ happenings ys ++ happenings xs
 happenings-both [] ys = sym (append-nil (happenings ys))
-happenings-both (i ∷ xs) ys =
-    ap (λ l. l ++ did (event_in i.actor i.happened) (Did i) ∷ []) (happenings-both xs ys)
-    ∙ append_assoc (happenings ys) (happenings xs) (did (event_in i.actor i.happened) (Did i) ∷ [])
+happenings-both (x ∷ xs) ys =
+    ap (λ l. l ++ happening_of x ∷ []) (happenings-both xs ys)
+    ∙ append_assoc (happenings ys) (happenings xs) (happening_of x ∷ [])
 
 -- a call
 
-steps-tick : (d : DomId) (way : Continuation) (answer : Option Answer) (xs : List Moment) → happenings (items_of_steps d way answer xs) ≡ ticks_of d (trace_of (items_of_steps d way answer xs))
+steps-tick : (d : DomId) (way : Continuation) (answer : Option Answer) (xs : List Moment) → happenings (of_core (items_of_steps d way answer xs)) ≡ ticks_of d (trace_of (items_of_steps d way answer xs))
 steps-tick d way answer [] = refl
 steps-tick d way answer (x ∷ xs) =
     let rest = trace_of (items_of_steps d way None xs) in let last : Element = Did (item_of d way _ x answer) in
@@ -98,7 +116,7 @@ steps-quiet d way (x ∷ xs) = quiet-push (trace_of (items_of_steps d way None x
 
 -- the items of an answered call are a call that happens
 pub call-happens : (d : DomId) (way : Continuation) (request : Request) (answer : Answer) (steps : List Moment) (After : Answer → List Happening → Type 0) (more : List Happening) → After answer more
-    → CallHappens d request After (happenings (items_of_call d way request (Some answer) steps) ++ more)
+    → CallHappens d request After (happenings (of_core (items_of_call d way request (Some answer) steps)) ++ more)
 call-happens d way request answer [] After more then =
     let first : Element = Did (item_of_beginning d request (Some answer)) in
     (first, [], answer, more, refl, record { before = []; last = first; order = refl; quiet = tt; answers = refl }, then)
@@ -108,47 +126,102 @@ call-happens d way request answer (x ∷ xs) After more then =
       trace_of steps,
       answer,
       more,
-      ap (λ l. l ++ more) (happenings-both steps (begins ∷ []) ∙ ap (λ l. did (Begin d request) (Did begins) ∷ l) (steps-tick d way (Some answer) (x ∷ xs))),
+      ap (λ l. l ++ more)
+          (ap happenings (map-append (λ (i : Item). OfCore i) steps (begins ∷ []))
+          ∙ (happenings-both (of_core steps) (OfCore begins ∷ []) ∙ ap (λ l. did (Begin d request) (Did begins) ∷ l) (steps-tick d way (Some answer) (x ∷ xs)))),
       record { before = Did begins ∷ rest; last = Did (item_of d way _ x (Some answer)); order = refl; quiet = (refl, steps-quiet d way xs); answers = refl },
       then,
     )
 
--- all are items
+-- all are of domains of the run
 
-abbrev IsItem : Happening → Type 0
-IsItem (did e (Did i)) = Unit {0}
-IsItem x = ⊥
+-- the happening is an item, or a step on a flag by a domain of the run
+abbrev IsOfRun : Setting → Happening → Type 0
+IsOfRun s (did e (Did i)) = Unit {0}
+IsOfRun s (did e x) = ⊥
+IsOfRun s (raised d flag) = domain_of s.domains d ≢ None
+IsOfRun s (passed d flag) = domain_of s.domains d ≢ None
 
-abbrev AreItems : List Happening → Type 0
-AreItems [] = Unit {0}
-AreItems (x ∷ xs) = IsItem x × AreItems xs
+abbrev AreOfRun : Setting → List Happening → Type 0
+AreOfRun s [] = Unit {0}
+AreOfRun s (x ∷ xs) = IsOfRun s x × AreOfRun s xs
 
-items-both : (xs ys : List Happening) → AreItems xs → AreItems ys → AreItems (xs ++ ys)
-items-both [] ys a b = b
-items-both (x ∷ xs) ys a b = (a.0, items-both xs ys a.1 b)
+of-run-both : (s : Setting) (xs ys : List Happening) → AreOfRun s xs → AreOfRun s ys → AreOfRun s (xs ++ ys)
+of-run-both s [] ys a b = b
+of-run-both s (x ∷ xs) ys a b = (a.0, of-run-both s xs ys a.1 b)
 
-are-items : (g : Items) → AreItems (happenings g)
-are-items [] = tt
-are-items (i ∷ g) = items-both (happenings g) (did (event_in i.actor i.happened) (Did i) ∷ []) (are-items g) (tt, tt)
+are-of-run : (c : Config) (may : AllowRelation) (o : RunOrder) → AreOnRaisedFlags c o → AreOfRun (setting_of c may) (happenings o)
+are-of-run c may [] flags = tt
+are-of-run c may (OfCore i ∷ o) flags = of-run-both (setting_of c may) (happenings o) (did (event_in i.actor i.happened) (Did i) ∷ []) (are-of-run c may o flags) (tt, tt)
+are-of-run c may (OfFlag d flag Raised ∷ o) flags = of-run-both (setting_of c may) (happenings o) (raised d flag ∷ []) (are-of-run c may o flags.2) (flags.0, tt)
+are-of-run c may (OfFlag d flag Passed ∷ o) flags = of-run-both (setting_of c may) (happenings o) (passed d flag ∷ []) (are-of-run c may o flags.2) (flags.0, tt)
 
-all-known : (s : Setting) (h : Items) (hs : List Happening) → AreItems hs → LegalAfter s h (events_in hs) (trace_in hs) → All (λ x. domain_of s.domains (doer x) ≢ None) hs
+all-known : (s : Setting) (h : Items) (hs : List Happening) → AreOfRun s hs → LegalAfter s h (events_in hs) (trace_in hs) → All (λ x. domain_of s.domains (doer x) ≢ None) hs
 all-known s h [] are legal = All-nil (λ (x : Happening). domain_of s.domains (doer x) ≢ None)
 all-known s h (did e (Did i) ∷ hs) are legal = All-cons (λ (x : Happening). domain_of s.domains (doer x) ≢ None) (did e (Did i)) hs legal.0.0 (all-known s (i ∷ h) hs are.1 legal.1)
 all-known s h (did e Busy ∷ hs) are legal = absurd are.0
 all-known s h (did e Idle ∷ hs) are legal = absurd are.0
 all-known s h (did e NoDomain ∷ hs) are legal = absurd are.0
-all-known s h (raised d flag ∷ hs) are legal = absurd are.0
-all-known s h (passed d flag ∷ hs) are legal = absurd are.0
+all-known s h (raised d flag ∷ hs) are legal = All-cons (λ (x : Happening). domain_of s.domains (doer x) ≢ None) (raised d flag) hs are.0 (all-known s h hs are.1 legal)
+all-known s h (passed d flag ∷ hs) are legal = All-cons (λ (x : Happening). domain_of s.domains (doer x) ≢ None) (passed d flag) hs are.0 (all-known s h hs are.1 legal)
 
-pub items-known : (s : Setting) (g : Items) → LegalAfter s [] (events_of g) (trace_of g) → All (λ x. domain_of s.domains (doer x) ≢ None) (happenings g)
-items-known s g legal =
-    let there : LegalAfter s [] (events_in (happenings g)) (trace_in (happenings g)) = subst (λ es. LegalAfter s [] es (trace_in (happenings g))) (sym (events-are g)) (subst (λ xs. LegalAfter s [] (events_of g) xs) (sym (trace-is g)) legal) in
-    all-known s [] (happenings g) (are-items g) there
+pub order-known : (c : Config) (may : AllowRelation) (o : RunOrder) → AreOnRaisedFlags c o → LegalAfter (setting_of c may) [] (events_of (items_in o)) (trace_of (items_in o))
+    → All (λ x. domain_of c.domains.items (doer x) ≢ None) (happenings o)
+order-known c may o flags legal =
+    let s = setting_of c may in
+    let there : LegalAfter s [] (events_in (happenings o)) (trace_in (happenings o)) = subst (λ es. LegalAfter s [] es (trace_in (happenings o))) (sym (events-are o)) (subst (λ xs. LegalAfter s [] (events_of (items_in o)) xs) (sym (trace-is o)) legal) in
+    all-known s [] (happenings o) (are-of-run c may o flags) there
 
-none-passes : (hs : List Happening) (at : ℕ) (d : DomId) (flag : ℕ) → AreItems hs → slice_get hs at ≡ Some (passed d flag) → ⊥
-none-passes [] at d flag are e = cc
-none-passes (x ∷ hs) zero d flag are e = let same : x ≡ passed d flag = cc in subst IsItem same are.0
-none-passes (x ∷ hs) (suc at) d flag are e = none-passes hs at d flag are.1 e
+-- flags
 
-pub no-flags : (g : Items) → FlagsAreRaised (happenings g)
-no-flags g = λ at d flag e. absurd (none-passes (happenings g) at d flag (are-items g) e)
+-- an index of a list with one more at its end is one of the list, or the last
+last-or-before : {A : Type 0} (xs : List A) (y z : A) (at : ℕ) → slice_get (xs ++ y ∷ []) at ≡ Some z → ((at < length xs) × (slice_get xs at ≡ Some z)) ⊎ ((at ≡ length xs) × (y ≡ z))
+last-or-before [] y z zero e = inr (refl, cc)
+last-or-before [] y z (suc at) e = cc
+last-or-before (x ∷ xs) y z zero e = inl (omega arith, e)
+last-or-before (x ∷ xs) y z (suc at) e = ⊎_elim (λ (p : (at < length xs) × (slice_get xs at ≡ Some z)). inl (let l = p.0 in omega (arith, l), p.1)) (λ (p : (at ≡ length xs) × (y ≡ z)). inr (ap (λ (n : ℕ). suc n) p.0, p.1)) (last-or-before xs y z at e)
+
+still-there : {A : Type 0} (xs ys : List A) (z : A) (at : ℕ) → slice_get xs at ≡ Some z → slice_get (xs ++ ys) at ≡ Some z
+still-there [] ys z at e = cc
+still-there (x ∷ xs) ys z zero e = e
+still-there (x ∷ xs) ys z (suc at) e = still-there xs ys z at e
+
+at-end : {A : Type 0} (xs : List A) (y : A) → slice_get (xs ++ y ∷ []) (length xs) ≡ Some y
+at-end [] y = refl
+at-end (x ∷ xs) y = at-end xs y
+
+longer : {A : Type 0} (xs : List A) (y : A) → length xs < length (xs ++ y ∷ [])
+longer [] y = omega arith
+longer (x ∷ xs) y = let l = longer xs y in omega (arith, l)
+
+-- a flag that was raised is raised before a later index too
+later : (xs : List Happening) (y : Happening) (flag : ℕ) → IsRaisedBefore (length xs) flag xs → IsRaisedBefore (length (xs ++ y ∷ [])) flag (xs ++ y ∷ [])
+later xs y flag r = (r.0, r.1, (let l = r.2 in let m = longer xs y in omega (arith, l, m)), still-there xs (y ∷ []) (raised r.1 flag) r.0 r.3)
+
+-- a flag that a domain raised in an order is raised before its end
+raised-at : (o : RunOrder) (flag : ℕ) → IsRaisedIn flag o → IsRaisedBefore (length (happenings o)) flag (happenings o)
+raised-at [] flag is = absurd is
+raised-at (OfCore i ∷ o) flag is = later (happenings o) (happening_of (OfCore i)) flag (raised-at o flag is)
+raised-at (OfFlag d f Raised ∷ o) flag (inl here) = (length (happenings o), d, longer (happenings o) (raised d f), at-end (happenings o) (raised d f) ∙ ap (λ (n : ℕ). Some (raised d n)) here)
+raised-at (OfFlag d f Raised ∷ o) flag (inr before) = later (happenings o) (raised d f) flag (raised-at o flag before)
+raised-at (OfFlag d f Passed ∷ o) flag is = later (happenings o) (passed d f) flag (raised-at o flag is)
+
+module _ (c : Config) where
+  without-last : (x : Occurrence) (o : RunOrder) → AreOnRaisedFlags c (x ∷ o) → AreOnRaisedFlags c o
+  without-last (OfCore i) o flags = flags
+  without-last (OfFlag d flag m) o flags = flags.2
+
+  passed-is : (x : Occurrence) (o : RunOrder) (d : DomId) (flag : ℕ) → happening_of x ≡ passed d flag → AreOnRaisedFlags c (x ∷ o) → IsRaisedIn flag o
+  passed-is (OfCore i) o d flag e flags = absurd (cc)
+  passed-is (OfFlag a f Raised) o d flag e flags = absurd (cc)
+  passed-is (OfFlag a f Passed) o d flag e flags = let same : f ≡ flag = cc in subst (λ (n : ℕ). IsRaisedIn n o) same flags.1
+
+  -- a flag is passed only after a domain raised it
+  pub order-raised : (o : RunOrder) → AreOnRaisedFlags c o → FlagsAreRaised (happenings o)
+  order-raised [] flags at d flag e = cc
+  order-raised (x ∷ o) flags at d flag e =
+      ⊎_elim (λ (p : (at < length (happenings o)) × (slice_get (happenings o) at ≡ Some (passed d flag))). let r = order-raised o (without-last x o flags) at d flag p.1 in
+      (r.0, r.1, r.2, still-there (happenings o) (happening_of x ∷ []) (raised r.1 flag) r.0 r.3))
+      (λ (p : (at ≡ length (happenings o)) × (happening_of x ≡ passed d flag)). let r = raised-at o flag (passed-is x o d flag p.1 flags) in
+      (r.0, r.1, (let l = r.2 in let m = p.0 in omega (arith, l, m)), still-there (happenings o) (happening_of x ∷ []) (raised r.1 flag) r.0 r.3))
+      (last-or-before (happenings o) (happening_of x) (passed d flag) at e)

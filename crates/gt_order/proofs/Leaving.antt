@@ -31,7 +31,8 @@ use Rattle.gt_live.proofs.OneStep.{one-step}
 use Rattle.gt_live.specs.Domains.{AllowRelation, IsDomainOf, Released, knowledge}
 use Rattle.gt_live.specs.declared.domain.Domain.{Domain}
 use Rattle.gt_order.specs.Leaving.{AreUnmaps, LeavingIsUnmapping, MayUnmapAll}
-use Rattle.gt_order.specs.Runs.{AreCalls, CallMade, domain_after}
+use Rattle.gt_order.specs.Runs.{AreDeeds, CallMade, Deed, domain_after}
+use Rattle.gt_order.specs.Runs.Deed.{Call}
 use Rattle.gt_order.specs.Runs.CallOutcome.{Told}
 
 allowed-none : (may : TypeId → TypeId → Perms → Bool) (ts : List Triple) → IsAllowed may ts → denied may ts ≡ None
@@ -52,17 +53,17 @@ with_rest d w rest = record d { seat = record d.seat { view = w }; mappings = re
 
 module _ (b : Board) (c : Config) (may : AllowRelation) (d : Domain) (mine : IsDomainOf b c may d) (may-unmap : MayUnmapAll c may d) where
   record Unmapped (w : View) (rest : HandleMap HeldPin) : Type 0 where
-    calls : List CallMade
-    made : AreCalls b c may d calls
-    unmaps : AreUnmaps calls
-    now : domain_after d calls ≡ with_rest d w rest
+    deeds : List Deed
+    made : AreDeeds b c may d deeds
+    unmaps : AreUnmaps deeds
+    now : domain_after d deeds ≡ with_rest d w rest
     of-run : IsDomainOf b c may (with_rest d w rest)
     fewer : (h : Handle) (m : HeldPin) → value_of rest h ≡ Some m → value_of d.mappings h ≡ Some m
 
   unmaps-each : (hs : List Handle) (rest : HandleMap HeldPin) (w : View) → Released b.layout hs d.mappings d.seat.view rest w → Unmapped w rest
   unmaps-each [] rest w r =
       let same : d ≡ with_rest d w rest = λ j. with_rest d (sym r.1 j) (sym r.0 j) in record {
-        calls = [];
+        deeds = [];
         made = tt;
         unmaps = tt;
         now = same;
@@ -86,7 +87,7 @@ module _ (b : Board) (c : Config) (may : AllowRelation) (d : Domain) (mine : IsD
       let called = one-step b.layout (path_of (knowledge c may old) d.seat.dom (requests.Unmap h)) (Unpin m (ByMapping h)) u w way step in
       let of-run : IsDomainOf b c may new = unmapped b c may old new h m was.of-run (still_seat b old.seat new.seat was.of-run.seat seat) refl refl removes.taken step in
       let call : CallMade = record { request = requests.Unmap h; outcome = Told Granted; steps = called.steps; old = old; new = new } in record {
-        calls = call ∷ was.calls;
+        deeds = Call call ∷ was.deeds;
         made = (
           record { before = was.of-run; afterwards = of-run; seat = seat; fits = (tt, tt); answered = (tt, (called, refl), (m, removes)) },
           record { seat = ap (λ (z : Domain). z.seat) (sym was.now); own = ap (λ (z : Domain). z.own) (sym was.now); mappings = ap (λ (z : Domain). z.mappings) (sym was.now) },
@@ -105,4 +106,4 @@ module _ (b : Board) (c : Config) (may : AllowRelation) (d : Domain) (mine : IsD
 pub leaving : LeavingIsUnmapping
 leaving b c may d l mine left may-unmap =
     let u = unmaps-each b c may d mine may-unmap left.handles left.rest l.seat.view left.released in
-    (u.calls, u.made, u.unmaps, ap (λ (z : Domain). z.seat.view) u.now, λ h. ap (λ (z : Domain). value_of z.mappings h) u.now ∙ left.all_given h)
+    (u.deeds, u.made, u.unmaps, ap (λ (z : Domain). z.seat.view) u.now, λ h. ap (λ (z : Domain). value_of z.mappings h) u.now ∙ left.all_given h)

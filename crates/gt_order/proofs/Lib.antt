@@ -1,6 +1,7 @@
 pub mod Accesses
 pub mod Accessing
 pub mod AgreementKept
+pub mod Answering
 pub mod Bytes
 pub mod Called
 pub mod Counting
@@ -8,6 +9,7 @@ pub mod DomainsAtRest
 pub mod Ending
 pub mod Ends
 pub mod Explored
+pub mod FlagSteps
 pub mod Following
 pub mod Happenings
 pub mod Held
@@ -16,6 +18,7 @@ pub mod Listed
 pub mod Making
 pub mod NextAccess
 pub mod NextItem
+pub mod NextStage
 pub mod Order
 pub mod Places
 pub mod Seeing

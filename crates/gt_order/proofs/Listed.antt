@@ -1,106 +1,66 @@
--- The calls of a list are calls of a run, and the run of all lists has a legal order.
-use Rattle.std.proofs.Common.{Bor, ◌≡◌, inl, inr, ◌<◌, ◌==◌, nat_lt, ℕ, zero, suc, Bool, true, false, List, []}
-use Rattle.std.proofs.Common.{◌∷◌, ◌++◌, All, None, Some, append_assoc, cond, get_or, length, map, Result, Ok, Err, refl, sym, ap, ◌∙◌, subst, arith}
+-- The deeds of a list are deeds of a run, and the run of all lists has a legal order.
+use Rattle.std.proofs.Common.{◌≡◌, inl, inr, ◌<◌, ◌==◌, nat_lt, ℕ, zero, suc, Bool, true, false, List, []}
+use Rattle.std.proofs.Common.{◌∷◌, ◌++◌, All, None, Some, append_assoc, cond, get_or, length, map, refl, sym, ap, ◌∙◌, subst, arith}
 use Rattle.std.proofs.Math.Seq.{take-length}
 use Rattle.std.proofs.lemmas.Grind.{flat_map-append}
 use Rattle.std.proofs.lemmas.List.{append-nil, get_or-map, length-map}
 use Rattle.std.proofs.lemmas.List.Elements.{All-get_or, All-head}
-use Rattle.std.specs.Prelude.{slice_get, take}
+use Rattle.std.specs.Prelude.{MatchBool, slice_get, take}
 use Rattle.std.proofs.lemmas.Bool.Decides.{nat_tests}
 use mathlib.Core.Option.{some}
 use lib.ListN.{get_elem?}
 use Rattle.atomic_table.specs.Table.{State}
 use Rattle.gt_types.specs.declared.DomId.{DomId}
-use Rattle.gt_types.specs.declared.Size.{Size}
 use Rattle.gt_types.specs.declared.config.Config.{Config}
 use Rattle.gt_types.specs.declared.config.DomainConfig.{DomainConfig}
-use Rattle.gt_types.specs.declared.denial.Denial.{Denial}
-use Rattle.gt_word_history.specs.History.{Layout, Moment}
+use Rattle.gt_word_history.specs.History.{Layout}
 use Rattle.gt_words.specs.Conditions.{Board, SeatOf}
 use Rattle.gt_words.specs.Laws.{length-ids, own_position}
 use Rattle.gt_word_history.specs.Rule.{Shows, id_at}
 use Rattle.gt_word_history.specs.Views.{IsAmong}
+use Rattle.gt_word_history.specs.declared.view.FlagStep.{FlagStep}
+use Rattle.gt_word_history.specs.declared.view.FlagStep.TheVariants.{Passed, Raised}
 use Rattle.gt_word_history.specs.declared.view.View.{View}
-use Rattle.gt_handles.specs.Handles.{value_of}
+use Rattle.gt_handles.specs.Handles.{HandleMap, value_of}
+use Rattle.gt_calls.specs.declared.held.HeldPin.{HeldPin}
 use Rattle.gt_handles.specs.declared.handles.Handle.{Handle}
-use Rattle.gt_calls.specs.declared.action.CallResult.{CallResult}
-use Rattle.gt_calls.specs.Asking.{asked, bytes_given_by}
 use Rattle.gt_calls.specs.declared.request.Request.{Request}
-use Rattle.gt_calls.specs.declared.request.Request.TheVariants as requests
-use Rattle.gt_core.specs.Acting.{answer_of, setting_of}
-use Rattle.gt_core.specs.History.{History as Items}
+use Rattle.gt_core.specs.Acting.{setting_of}
 use Rattle.gt_core.specs.Legal.{Legal}
-use Rattle.gt_core.specs.declared.trace.Answer.{Answer}
-use Rattle.gt_core.specs.declared.trace.Bytes.{Bytes}
-use Rattle.gt_core.specs.declared.trace.Answer.TheVariants as answers
-use Rattle.gt_frames.specs.Receipts.{Copying, Reading, Writing}
-use Rattle.gt_types.specs.declared.copies.CopyArgs.{CopyArgs}
-use Rattle.gt_calls.specs.declared.action.CallResult.TheVariants.{Refused}
-use Rattle.gt_live.specs.Accesses.{IsCopiedBy, IsOfAccess, IsReadBy, IsWrittenBy}
-use Rattle.gt_live.specs.Domains.{Accesses, AllowRelation, Answered, HasLeft, BelongsTo, KeepsPinned, verdict_of}
-use Rattle.gt_live.specs.Domains.{verdict_of_frames, verdict_of_size, verdict_of_version}
-use Rattle.gt_live.specs.Ending.{IsOfMapping}
+use Rattle.gt_live.specs.Domains.{AllowRelation, HasLeft, BelongsTo}
 use Rattle.gt_live.specs.Starting.{IsNewDomain}
 use Rattle.gt_live.specs.declared.domain.Domain.{Domain}
 use Rattle.gt_live.specs.declared.monitor.Monitor.{Monitor}
-use Rattle.gt_order.proofs.Called.{map-made, plain-made, unmap-made}
-use Rattle.gt_order.proofs.Following.{Follows, answered-keeps, calls-both, follows-more, follows-none, gives-back}
-use Rattle.gt_order.proofs.Happenings.{happenings, happenings-both}
+use Rattle.gt_order.proofs.Following.{Follows, answered-keeps, deeds-both, follows-flag, follows-more, follows-none, gives-back}
+use Rattle.gt_order.proofs.Happenings.{happening_of, happenings, happenings-both}
 use Rattle.gt_order.proofs.Held.{Keeps, keeps-new, keeps-none}
 use Rattle.gt_order.proofs.Leaving.{leaving}
 use Rattle.gt_order.proofs.Order.{runs-have-legal-orders}
-use Rattle.gt_order.proofs.Accessing.{copies-made, lost-made, reads-made, writes-made}
-use Rattle.gt_order.specs.Calling.{IsLoading, IsOutcomeOf, IsSingle, IsStoring, StaysOf, WasMade}
-use Rattle.gt_order.specs.Explored.{AreCallLines, HasNoneLost, IsCallLine, IsNotLost}
+use Rattle.gt_order.specs.Explored.{EndsAtNoGate, HasNoneLost, IsNotLost}
 use Rattle.gt_order.specs.Leaving.{AreUnmaps}
-use Rattle.gt_order.specs.Ordering.{IsLegalOrder, events_of, items_by, items_of_calls, trace_of}
-use Rattle.gt_order.specs.Runs.{AreCalls, CallMade, FitsTypes, IsAtRest, IsMonitorRun, IsSeatRun, KeepsNoPin}
-use Rattle.gt_order.specs.Runs.{CallOutcome, SeatRun, domain_after}
-use Rattle.gt_order.specs.Runs.CallOutcome.{Told, Kept, Starved, Read, Wrote}
+use Rattle.gt_order.specs.Ordering.{AreOnRaisedFlags, IsLegalOrder, RunOrder, events_of, items_in, order_of_deeds, own_in, trace_of}
+use Rattle.gt_order.specs.Ordering.Occurrence.{OfFlag}
+use Rattle.gt_order.specs.Runs.{AreDeeds, CallMade, Deed, FitsTypes, FlagMade, IsAtRest, IsMonitorRun, IsSeatRun}
+use Rattle.gt_order.specs.Runs.{SeatRun, domain_after}
+use Rattle.gt_order.specs.Runs.Deed.{Call, OnFlag}
 use Rattle.gt_script_lines.specs.declared.calls.ScriptCall.{ScriptCall}
-use Rattle.gt_script_lines.specs.declared.calls.ScriptCall.TheVariants as calls
 use Rattle.gt_host.specs.Printing.{answer_line}
-use Rattle.gt_host.specs.Runs.{SaysRequest, Named, request_of}
+use Rattle.gt_host.specs.Runs.{SaysRequest, Named}
 use Rattle.gt_script.specs.RunScripts.{list_of}
-use Rattle.gt_explore_replay.specs.Orders.{FollowsList, Happening, given_up, held_after}
+use Rattle.gt_explore_replay.specs.Orders.{DeedHappens, FollowsList, Happening, given_up, held_after, passed, raised}
 use Rattle.gt_script.specs.Lists.{RunAction, RunTask}
+use Rattle.gt_script.specs.Stuck.{IsBelow}
 use Rattle.gt_script.specs.declared.tasks.RunActionBy.TheVariants.{Await, Do, Tell}
-use Rattle.gt_run.specs.Asking.{AnswersCall, Asks, HasBytes, IsReadAnswer, frames_answer, mapped_answer, plain_answer}
-use Rattle.gt_run.specs.Asking.{size_answer}
-use Rattle.gt_run.specs.Asking.{version_answer}
+use Rattle.gt_run.specs.Asking.{Asks, MakesFlagStep, RaisesFlag}
 use Rattle.gt_run.specs.Printing.{AreServed, HasViewIn, Served, ShowOneState, WasServed, duties_in}
-use Rattle.gt_run.specs.Serving.{DoesDeed, DoesWhere, EndsList, IsAwait, ListLeadsTo, MakesCall, ListOutcome, ListProgress}
+use Rattle.gt_run.specs.Serving.{DoesDeed, DoesWhere, EndsList, ListLeadsTo, MakesCall, ListOutcome, ListProgress}
 use Rattle.gt_run.specs.Serving.{answer_lines, list_start}
 use Rattle.gt_run.specs.declared.lists.ThreadJob.{ThreadJob}
-use Rattle.gt_order.specs.Texts.{AreCallsOf, AreCallsOfList, AreMadeWhole, AreOfALegalOrder, FitsDuty, HasList}
+use Rattle.gt_order.specs.Texts.{AreDeedsOf, IsFlagStepOf, AreDeedsOfList, AreMadeWhole, AreOfALegalOrder, FitsDuty, HasList}
 use Rattle.gt_types.specs.Config.{IsWithinLimits}
-use Rattle.gt_order.specs.Texts.{AreOfOneOrder, IsMadeWhole, IsOrderly, IsViewOf, OutcomeGivesAnswer, RunsWriteALegalOrder}
+use Rattle.gt_order.specs.Texts.{AreOfOneOrder, IsMadeWhole, IsOrderly, IsViewOf, RunsWriteALegalOrder}
 use Rattle.gt_order.specs.Texts.{TextsAreOfALegalOrder}
-
--- a copy with this answer did not reach its access without making it
-abbrev NotLost : Request → Answer → Type 0
-NotLost (requests.Copy args) answer = (denial : Denial) → answer ≡ answers.Denied denial → IsOfAccess denial → ⊥
-NotLost request answer = Unit {0}
-
-whole-request : (named : List Named) (dom : DomId) (bytes : Bor (List ℕ)) (call : ScriptCall) (answer : Answer) → IsMadeWhole call answer → NotLost (request_of named dom bytes call) answer
-unfolding request_of
-whole-request named dom bytes (calls.Grant gref entry) answer q = tt
-whole-request named dom bytes (calls.GrantBytes gref hex) answer q = tt
-whole-request named dom bytes (calls.Revoke gref) answer q = tt
-whole-request named dom bytes (calls.Withdraw gref) answer q = tt
-whole-request named dom bytes (calls.Demote gref) answer q = tt
-whole-request named dom bytes (calls.Promote gref) answer q = tt
-whole-request named dom bytes (calls.Map label to gref flags) answer q = tt
-whole-request named dom bytes (calls.Unmap label) answer q = tt
-whole-request named dom bytes (calls.Load label off len) answer q = tt
-whole-request named dom bytes (calls.Store label off hex) answer q = tt
-whole-request named dom bytes (calls.Peek frame off len) answer q = tt
-whole-request named dom bytes (calls.Poke frame off hex) answer q = tt
-whole-request named dom bytes (calls.Copy c) answer q = q
-whole-request named dom bytes (calls.SetVersion version) answer q = tt
-whole-request named dom bytes (calls.SetupTable frames) answer q = tt
-whole-request named dom bytes (calls.QuerySize to) answer q = tt
-whole-request named dom bytes (calls.GetVersion to) answer q = tt
+use Rattle.gt_order.proofs.Answering.{NotLost, is-made, whole-request}
 
 module _ {A : Type 0} where
   in-left : (x : A) (xs ys : List A) → IsAmong x xs → IsAmong x (xs ++ ys)
@@ -112,119 +72,28 @@ module _ {A : Type 0} where
   in-last x [] = inl refl
   in-last x (z ∷ zs) = inr (in-last x zs)
 
--- what is printed is what the call answered
+-- the flags of these lines are the run's
+abbrev pub AreFlagsOf : {P : Type 0} → Monitor P → List RunTask → Type 0
+AreFlagsOf m tasks = (task : RunTask) → IsAmong task tasks → IsBelow m.words.flags task.deed
 
-plain-same : (r : Result (Unit {0}) Denial) → plain_answer r ≡ answer_of (verdict_of r)
-plain-same (Ok done) = refl
-plain-same (Err denial) = refl
-
-plain-pin : (r : Result (Unit {0}) Denial) → KeepsNoPin (verdict_of r)
-plain-pin (Ok done) = tt
-plain-pin (Err denial) = tt
-
-frames-same : (r : Result ℕ Denial) → frames_answer r ≡ answer_of (verdict_of_frames r)
-frames-same (Ok frames) = refl
-frames-same (Err denial) = refl
-
-frames-pin : (r : Result ℕ Denial) → KeepsNoPin (verdict_of_frames r)
-frames-pin (Ok frames) = tt
-frames-pin (Err denial) = tt
-
-size-same : (r : Result Size Denial) → size_answer r ≡ answer_of (verdict_of_size r)
-size-same (Ok size) = refl
-size-same (Err denial) = refl
-
-size-pin : (r : Result Size Denial) → KeepsNoPin (verdict_of_size r)
-size-pin (Ok size) = tt
-size-pin (Err denial) = tt
-
-version-same : (r : Result ℕ Denial) → version_answer r ≡ answer_of (verdict_of_version r)
-version-same (Ok version) = refl
-version-same (Err denial) = refl
-
-version-pin : (r : Result ℕ Denial) → KeepsNoPin (verdict_of_version r)
-version-pin (Ok version) = tt
-version-pin (Err denial) = tt
-
-map-same : (r : Result Handle Denial) (outcome : CallOutcome) → IsOutcomeOf r outcome → OutcomeGivesAnswer outcome (mapped_answer r)
-map-same (Ok handle) (Kept given p) e = ap (λ (h : Handle). answers.Mapped h) (sym e)
-map-same (Ok handle) (Told verdict) e = absurd e
-map-same (Ok handle) Starved e = absurd e
-map-same (Ok handle) (Read bytes) e = absurd e
-map-same (Ok handle) Wrote e = absurd e
-map-same (Err denial) (Kept given p) e = absurd e
-map-same (Err denial) (Told verdict) e = sym (ap answer_of e)
-map-same (Err denial) Starved e = (denial, refl, inl e)
-map-same (Err denial) (Read bytes) e = absurd e
-map-same (Err denial) Wrote e = absurd e
+not-below : (i n : ℕ) → nat_lt i n ≡ false → i < n → ⊥
+not-below i n e l = grind (arith, nat_tests)
 
 module _ {P : Type 0} (may : P → AllowRelation) (m : Monitor P) where
-  -- a call that was answered so is one of a run
-  abbrev IsMade : Request → Answer → Domain → Domain → Type 0
-  IsMade request answer d e = (outcome : CallOutcome) × (steps : List Moment) × OutcomeGivesAnswer outcome answer × WasMade may m request outcome steps d e
-
-  module _ (d e : Domain) (stays : StaysOf may m d e) where
-    plain : (request : Request) (verdict : CallResult) (told answer : Answer) → (IsOfMapping (asked request) → ⊥) → FitsTypes request → KeepsNoPin verdict → told ≡ answer_of verdict → answer ≡ told → Answered may m d request verdict e → KeepsPinned d e → IsMade request answer d e
-    plain request verdict told answer other fits none same is answered kept =
-        let z = plain-made may m d e request verdict stays other fits none answered kept in (Told verdict, z.0, is ∙ same, z.1)
-
-    -- a store or a poke: it wrote, a rule refused it, or its access could not be made
-    storing : (request : Request) → IsStoring request → IsSingle request → (IsOfMapping (asked request) → ⊥) → FitsTypes request → (answer : Answer) (r : Result Writing Denial) → answer ≡ plain_answer r
-        → Accesses may m d request (IsWrittenBy m.words.layout d.seat.dom (bytes_given_by request)) r e → KeepsPinned d e → IsMade request answer d e
-    storing request is one other fits answer (Ok w) told accessed kept = let z = writes-made may m d e request w stays is accessed kept in (Wrote, z.0, told, z.1)
-    storing request is one other fits answer (Err denial) told (inl called) kept = plain request (Refused denial) (answers.Denied denial) answer other fits tt refl told called kept
-    storing request is one other fits answer (Err denial) told (inr lost) kept = (Starved, [], (denial, told, lost.2), lost-made may m d e request lost.0 stays one lost.1 kept)
-
-    bytes-in : (ys : List ℕ) (answer : Answer) → HasBytes ys answer → (b : Bytes) × (answer ≡ answers.Bytes b) × (b.bytes.items ≡ ys)
-    bytes-in ys (answers.Bytes b) h = (b, refl, h)
-    bytes-in ys answer h = absurd h
-
-    -- a load or a peek
-    loading : (request : Request) → IsLoading request → IsSingle request → (IsOfMapping (asked request) → ⊥) → FitsTypes request → (answer : Answer) (r : Result Reading Denial) → IsReadAnswer r answer
-        → Accesses may m d request (IsReadBy m.words.layout) r e → KeepsPinned d e → IsMade request answer d e
-    loading request is one other fits answer (Ok r) told accessed kept =
-        let b = bytes-in r.bytes answer told in let z = reads-made may m d e request r b.0 stays is b.2 accessed kept in (Read b.0, z.0, b.1, z.1)
-    loading request is one other fits answer (Err denial) told (inl called) kept = plain request (Refused denial) (answers.Denied denial) answer other fits tt refl told called kept
-    loading request is one other fits answer (Err denial) told (inr lost) kept = (Starved, [], (denial, told, lost.2), lost-made may m d e request lost.0 stays one lost.1 kept)
-
-    -- a copy
-    copying : (args : CopyArgs) (answer : Answer) → NotLost (requests.Copy args) answer → FitsTypes (requests.Copy args) → (r : Result Copying Denial) → answer ≡ plain_answer r
-        → Accesses may m d (requests.Copy args) (IsCopiedBy m.words.layout d.seat.dom) r e → KeepsPinned d e → IsMade (requests.Copy args) answer d e
-    copying args answer whole fits (Ok r) told accessed kept = let z = copies-made may m d e args r stays fits accessed kept in (Wrote, z.0, told, z.1)
-    copying args answer whole fits (Err denial) told (inl called) kept = plain (requests.Copy args) (Refused denial) (answers.Denied denial) answer (λ q. q) fits tt refl told called kept
-    copying args answer whole fits (Err denial) told (inr lost) kept = absurd (whole denial told lost.2)
-
-    is-made : (request : Request) (answer : Answer) → NotLost request answer → FitsTypes request → AnswersCall may m d request answer e → IsMade request answer d e
-    is-made (requests.Map dom gref flags) answer quiet fits x = let z = map-made may m d e dom gref flags x.0 stays x.2 in
-        (z.0, z.2.0, subst (OutcomeGivesAnswer z.0) (sym x.1) (map-same x.0 z.0 z.1), z.2.1)
-    is-made (requests.Unmap handle) answer quiet fits x = let z = unmap-made may m d e handle x.0 stays x.2 x.3 x.4 in (Told (verdict_of x.0), z.0, x.1 ∙ plain-same x.0, z.1)
-    is-made (requests.SetVersion version) answer quiet fits x = plain (requests.SetVersion version) (verdict_of x.0) (plain_answer x.0) answer (λ q. q) fits (plain-pin x.0) (plain-same x.0) x.1 x.2.0 x.2.1
-    is-made (requests.SetupTable frames) answer quiet fits x = plain (requests.SetupTable frames) (verdict_of_frames x.0) (frames_answer x.0) answer (λ q. q) fits (frames-pin x.0) (frames-same x.0) x.1 x.2.0 x.2.1
-    is-made (requests.QuerySize dom) answer quiet fits x = plain (requests.QuerySize dom) (verdict_of_size x.0) (size_answer x.0) answer (λ q. q) fits (size-pin x.0) (size-same x.0) x.1 x.2.0 x.2.1
-    is-made (requests.GetVersion dom) answer quiet fits x = plain (requests.GetVersion dom) (verdict_of_version x.0) (version_answer x.0) answer (λ q. q) fits (version-pin x.0) (version-same x.0) x.1 x.2.0 x.2.1
-    is-made (requests.Load handle off len) answer quiet fits x = loading (requests.Load handle off len) tt tt (λ q. q) fits answer x.0 x.1 x.2.0 x.2.1
-    is-made (requests.Peek frame off len) answer quiet fits x = loading (requests.Peek frame off len) tt tt (λ q. q) fits answer x.0 x.1 x.2.0 x.2.1
-    is-made (requests.Store handle off bytes) answer quiet fits x = storing (requests.Store handle off bytes) tt tt (λ q. q) fits answer x.0 x.1 x.2.0 x.2.1
-    is-made (requests.Poke frame off bytes) answer quiet fits x = storing (requests.Poke frame off bytes) tt tt (λ q. q) fits answer x.0 x.1 x.2.0 x.2.1
-    is-made (requests.Copy args) answer quiet fits x = copying args answer quiet fits x.0 x.1 x.2 x.3
-    is-made (requests.Grant gref entry) answer quiet fits x = plain (requests.Grant gref entry) (verdict_of x.0) (plain_answer x.0) answer (λ q. q) fits (plain-pin x.0) (plain-same x.0) x.1 x.2.0 x.2.1
-    is-made (requests.GrantBytes gref bytes) answer quiet fits x = plain (requests.GrantBytes gref bytes) (verdict_of x.0) (plain_answer x.0) answer (λ q. q) fits (plain-pin x.0) (plain-same x.0) x.1 x.2.0 x.2.1
-    is-made (requests.Revoke gref) answer quiet fits x = plain (requests.Revoke gref) (verdict_of x.0) (plain_answer x.0) answer (λ q. q) fits (plain-pin x.0) (plain-same x.0) x.1 x.2.0 x.2.1
-    is-made (requests.Withdraw gref) answer quiet fits x = plain (requests.Withdraw gref) (verdict_of x.0) (plain_answer x.0) answer (λ q. q) fits (plain-pin x.0) (plain-same x.0) x.1 x.2.0 x.2.1
-    is-made (requests.Demote gref) answer quiet fits x = plain (requests.Demote gref) (verdict_of x.0) (plain_answer x.0) answer (λ q. q) fits (plain-pin x.0) (plain-same x.0) x.1 x.2.0 x.2.1
-    is-made (requests.Promote gref) answer quiet fits x = plain (requests.Promote gref) (verdict_of x.0) (plain_answer x.0) answer (λ q. q) fits (plain-pin x.0) (plain-same x.0) x.1 x.2.0 x.2.1
-
   -- a list, as far as it has come
   module _ (duty : ThreadJob P) (over : duty.monitor.now ≡ m) (fitting : FitsDuty duty) (final : List ListOutcome) (whole : AreMadeWhole duty final) (first : Domain) where
     -- the outcomes so far stay among those at the end
     abbrev AreFinal : ListProgress → Type 0
     AreFinal p = (o : ListOutcome) → IsAmong o p.outcomes → IsAmong o final
 
+    same-outcomes : (p q : ListProgress) → q ≡ record p { domain = q.domain } → AreFinal q → AreFinal p
+    same-outcomes p q same all = λ o is. all o (subst (IsAmong o) (ap (λ (r : ListProgress). r.outcomes) (sym same)) is)
+
     deed-grows : (line : ℕ) (deed : RunAction) (p q : ListProgress) → DoesDeed may duty line deed p q → AreFinal q → AreFinal p
     unfolding DoesDeed
     deed-grows line (Do call) p q does all = λ o is. all o (subst (IsAmong o) (sym does.outcomes) (in-left o p.outcomes _ is))
-    deed-grows line (Tell flag) p q does all = subst AreFinal does all
-    deed-grows line (Await flag) p q does all = subst AreFinal does all
+    deed-grows line (Tell flag) p q does all = same-outcomes p q does.0 all
+    deed-grows line (Await flag) p q does all = same-outcomes p q does.0 all
 
     line-grows : (task : RunTask) (b : Bool) (p q : ListProgress) → DoesWhere b may duty task p q → AreFinal q → AreFinal p
     line-grows task true p q does all = deed-grows task.line task.deed p q does all
@@ -234,15 +103,15 @@ module _ {P : Type 0} (may : P → AllowRelation) (m : Monitor P) where
     grows [] p q leads all = subst AreFinal leads all
     grows (task ∷ tasks) p q leads all = line-grows task (task.dom.0 == duty.part.dom.0) p leads.0 leads.1 (grows tasks leads.0 q leads.2 all)
 
-    -- the list has only calls, and none of its answers was lost
+    -- the flags of the list are the run's, and none of its answers was lost
     abbrev IsFollowed : Type 0
-    IsFollowed = AreCallLines duty.part.tasks.now × ((o : ListOutcome) → IsAmong o final → IsNotLost o.answer)
+    IsFollowed = AreFlagsOf m duty.part.tasks.now × ((o : ListOutcome) → IsAmong o final → IsNotLost o.answer)
 
     record Come (done : List RunTask) (p : ListProgress) : Type 0 where
-      made : List CallMade
-      calls_are : AreCalls m.words m.config (may m.rights) first made
+      made : List Deed
+      deeds_are : AreDeeds m.words m.config (may m.rights) first made
       now : domain_after first made ≡ p.domain
-      lines : AreCallsOf may duty made p.outcomes
+      lines : AreDeedsOf may duty made p.outcomes
       mine : BelongsTo may m p.domain
       held : List Handle
       keeps : Keeps p.domain.mappings held
@@ -254,7 +123,7 @@ module _ {P : Type 0} (may : P → AllowRelation) (m : Monitor P) where
         let says = x.says in
         let asks : Asks may m p.domain x.request x.answer q.domain = subst (λ (y : Monitor P). Asks may y p.domain x.request x.answer q.domain) over x.asks in
         let not-lost : NotLost x.request x.answer = subst (λ (z : Request). NotLost z x.answer) (sym says.2) (whole-request p.named duty.part.dom says.0 call x.answer made-whole) in
-        let z = is-made p.domain q.domain (record { before = come.mine; afterwards = asks.2.0; seat = asks.2.1 }) x.request x.answer not-lost (fits p.named x.request says) asks.1 in
+        let z = is-made may m p.domain q.domain (record { before = come.mine; afterwards = asks.2.0; seat = asks.2.1 }) x.request x.answer not-lost (fits p.named x.request says) asks.1 in
         let m' : CallMade = record { request = x.request; outcome = z.0; steps = z.1; old = p.domain; new = q.domain } in
         let o : ListOutcome = record { line = task.line; answer = x.answer; told = x.told; lost = x.lost } in
         let types = duty.part.types.now in let dom = duty.part.dom in
@@ -263,8 +132,8 @@ module _ {P : Type 0} (may : P → AllowRelation) (m : Monitor P) where
         ∙ ap (λ (l : List ℕ). answer_lines types dom p.outcomes ++ l) (append-nil (answer_line types task.line dom x.answer))) in
         let later : List Handle = held_after come.held (given_up x.request) x.answer in
         record {
-          made = m' ∷ come.made;
-          calls_are = (z.3, subst (λ (y : Domain). IsAtRest y p.domain) (sym come.now) (record { seat = refl; own = refl; mappings = refl }), come.calls_are);
+          made = Call m' ∷ come.made;
+          deeds_are = (z.3, subst (λ (y : Domain). IsAtRest y p.domain) (sym come.now) (record { seat = refl; own = refl; mappings = refl }), come.deeds_are);
           now = refl;
           lines = (p.outcomes, o, x.outcomes, record { call = call; before = p; afterwards = q; made = x; request = refl; old = refl; new = refl; answer = refl; answered = z.2 }, come.lines);
           mine = asks.2.0;
@@ -272,15 +141,39 @@ module _ {P : Type 0} (may : P → AllowRelation) (m : Monitor P) where
           keeps = answered-keeps may m p.domain q.domain come.held come.keeps x.request x.answer asks.1;
           follows = λ followed.
               let f = follows-more m.config (may m.rights) types dom p.named come.held done come.made (answer_lines types dom p.outcomes) task call m' x.answer (come.follows followed) deed says z.2 (none-lost followed) in
-              subst (Follows m.config (may m.rights) types dom q.named later (done ++ task ∷ []) (m' ∷ come.made)) (sym printed)
-              (subst (λ (named : List Named). Follows m.config (may m.rights) types dom named later (done ++ task ∷ []) (m' ∷ come.made) (answer_lines types dom p.outcomes ++ answer_line types task.line dom x.answer)) (sym x.named) f);
+              subst (Follows m.config (may m.rights) types dom q.named later (done ++ task ∷ []) (Call m' ∷ come.made)) (sym printed)
+              (subst (λ (named : List Named). Follows m.config (may m.rights) types dom named later (done ++ task ∷ []) (Call m' ∷ come.made) (answer_lines types dom p.outcomes ++ answer_line types task.line dom x.answer)) (sym x.named) f);
         }
 
-    -- a flag, which the list doesn't have if it is followed
-    one-flag : (task : RunTask) (done : List RunTask) (p q : ListProgress) → (IsFollowed → ⊥) → q ≡ p → Come done p → Come (done ++ task ∷ []) q
-    one-flag task done p q none same come = subst (Come (done ++ task ∷ [])) (sym same) (record {
+    -- a line that made a step on a flag
+    one-flag : (task : RunTask) → IsAmong task duty.part.tasks.now → (flag : ℕ) (step : FlagStep) → IsFlagStepOf task.deed flag step → (done : List RunTask) (p q : ListProgress) → q ≡ record p { domain = q.domain } → MakesFlagStep may duty.monitor.now flag step p.domain q.domain
+        → ((types : List (List ℕ)) (dom : DomId) (named : List Named) (held : List Handle) (Next : List Named → List Handle → List Happening → List ℕ → Type 0) (more : List Happening) (text : List ℕ) → Next named held more text
+        → DeedHappens types dom named held task.line task.deed Next (happening_of (OfFlag dom flag step) ∷ more) text)
+        → Come done p → Come (done ++ task ∷ []) q
+    one-flag task is-in flag step asks done p q same makes happens come =
+        let made : MakesFlagStep may m flag step p.domain q.domain = subst (λ (y : Monitor P). MakesFlagStep may y flag step p.domain q.domain) over makes in
+        let x : FlagMade = record { flag = flag; step = step; old = p.domain; new = q.domain } in
+        let types = duty.part.types.now in let dom = duty.part.dom in
+        let outcomes : p.outcomes ≡ q.outcomes = ap (λ (r : ListProgress). r.outcomes) (sym same) in
+        record {
+          made = OnFlag x ∷ come.made;
+          deeds_are = (made.0, subst (λ (y : Domain). IsAtRest y p.domain) (sym come.now) (record { seat = refl; own = refl; mappings = refl }), come.deeds_are);
+          now = refl;
+          lines = ((task, is-in, asks), subst (AreDeedsOf may duty come.made) outcomes come.lines);
+          mine = made.1.0;
+          held = come.held;
+          keeps = subst (λ (y : HandleMap HeldPin). Keeps y come.held) (sym made.0.kept.mappings) come.keeps;
+          follows = λ followed.
+              subst (λ (os : List ListOutcome). Follows m.config (may m.rights) types dom q.named come.held (done ++ task ∷ []) (OnFlag x ∷ come.made) (answer_lines types dom os)) outcomes
+              (subst (λ (named : List Named). Follows m.config (may m.rights) types dom named come.held (done ++ task ∷ []) (OnFlag x ∷ come.made) (answer_lines types dom p.outcomes)) (ap (λ (r : ListProgress). r.named) (sym same))
+              (follows-flag m.config (may m.rights) types dom p.named come.held done come.made (answer_lines types dom p.outcomes) task x (come.follows followed) (happens types dom p.named come.held)));
+        }
+
+    -- a flag that the run doesn't have, so that the list is not followed
+    no-flag : (task : RunTask) (done : List RunTask) (p q : ListProgress) → (IsFollowed → ⊥) → q ≡ record p { domain = q.domain } → q.domain ≡ p.domain → Come done p → Come (done ++ task ∷ []) q
+    no-flag task done p q none same still come = subst (Come (done ++ task ∷ [])) (sym (same ∙ ap (λ (d : Domain). record p { domain = d }) still)) (record {
       made = come.made;
-      calls_are = come.calls_are;
+      deeds_are = come.deeds_are;
       now = come.now;
       lines = come.lines;
       mine = come.mine;
@@ -289,14 +182,23 @@ module _ {P : Type 0} (may : P → AllowRelation) (m : Monitor P) where
       follows = λ followed. absurd (none followed);
     })
 
+    -- a line that raises a flag, if the run has it
+    raising : (task : RunTask) → IsAmong task duty.part.tasks.now → (flag : ℕ) → task.deed ≡ Tell flag → (done : List RunTask) (p q : ListProgress) → q ≡ record p { domain = q.domain } → RaisesFlag may duty.monitor.now flag p.domain q.domain → Come done p → Come (done ++ task ∷ []) q
+    raising task is-in flag is done p q same raises come = by (nat_lt flag duty.monitor.now.words.flags) refl raises
+      where
+        by : (b : Bool) → nat_lt flag duty.monitor.now.words.flags ≡ b → MatchBool b (MakesFlagStep may duty.monitor.now flag Raised p.domain q.domain) (q.domain ≡ p.domain) → Come (done ++ task ∷ []) q
+        by true has makes = one-flag task is-in flag Raised (subst (λ (a : RunAction). IsFlagStepOf a flag Raised) (sym is) refl) done p q same makes (λ types dom named held Next more text f. subst (λ (a : RunAction). DeedHappens types dom named held task.line a Next (raised dom flag ∷ more) text) (sym is) (more, refl, f)) come
+        by false has still = no-flag task done p q (λ followed. not-below flag m.words.flags (ap (λ (y : Monitor P). nat_lt flag y.words.flags) (sym over) ∙ has) (subst (IsBelow m.words.flags) is (followed.0 task is-in))) same still come
+
     one-deed : (task : RunTask) → IsAmong task duty.part.tasks.now → (task.dom.0 == duty.part.dom.0) ≡ true → (deed : RunAction) → task.deed ≡ deed → (done : List RunTask) (p q : ListProgress) → DoesDeed may duty task.line deed p q → AreFinal q → Come done p → Come (done ++ task ∷ []) q
     unfolding DoesDeed
     one-deed task is-in own (Do call) is done p q does all come =
         let o : ListOutcome = record { line = task.line; answer = does.answer; told = does.told; lost = does.lost } in
         let there = all o (subst (IsAmong o) (sym does.outcomes) (in-last o p.outcomes)) in
         one-call task call done p q is (fitting task call is-in own is) does (whole task call o is-in is there refl) (λ followed. followed.1 o there) come
-    one-deed task is-in own (Tell flag) is done p q does all come = one-flag task done p q (λ followed. subst IsCallLine is (followed.0 task is-in)) does come
-    one-deed task is-in own (Await flag) is done p q does all come = one-flag task done p q (λ followed. subst IsCallLine is (followed.0 task is-in)) does come
+    one-deed task is-in own (Tell flag) is done p q does all come = raising task is-in flag is done p q does.0 does.1 come
+    one-deed task is-in own (Await flag) is done p q does all come =
+        one-flag task is-in flag Passed (subst (λ (a : RunAction). IsFlagStepOf a flag Passed) (sym is) refl) done p q does.0 does.1 (λ types dom named held Next more text f. subst (λ (a : RunAction). DeedHappens types dom named held task.line a Next (passed dom flag ∷ more) text) (sym is) (more, refl, f)) come
 
     one-line : (task : RunTask) → IsAmong task duty.part.tasks.now → (b : Bool) → (task.dom.0 == duty.part.dom.0) ≡ b → (done : List RunTask) (p q : ListProgress) → DoesWhere b may duty task p q → AreFinal q → Come done p → Come (done ++ cond b (task ∷ []) []) q
     one-line task is-in true own done p q does all come = one-deed task is-in own task.deed refl done p q does all come
@@ -320,33 +222,35 @@ module _ {P : Type 0} (may : P → AllowRelation) (m : Monitor P) where
   take-in (suc n) (y ∷ ys) x (inr is) = inr (take-in n ys x is)
 
   -- unmaps behind the calls of a list
-  module _ (first d : Domain) (ms : List CallMade) (now : domain_after first ms ≡ d) where
-    after-on : (us : List CallMade) → domain_after first (us ++ ms) ≡ domain_after d us
+  module _ (first d : Domain) (ms : List Deed) (now : domain_after first ms ≡ d) where
+    after-on : (us : List Deed) → domain_after first (us ++ ms) ≡ domain_after d us
     after-on [] = now
-    after-on (u ∷ us) = refl
+    after-on (Call u ∷ us) = refl
+    after-on (OnFlag x ∷ us) = refl
 
-    calls-on : (us : List CallMade) → AreCalls m.words m.config (may m.rights) first ms → AreCalls m.words m.config (may m.rights) d us → AreCalls m.words m.config (may m.rights) first (us ++ ms)
-    calls-on [] made x = made
-    calls-on (u ∷ us) made x = (x.0, subst (λ (y : Domain). IsAtRest y u.old) (sym (after-on us)) x.1, calls-on us made x.2)
+    deeds-on : (us : List Deed) → AreDeeds m.words m.config (may m.rights) first ms → AreDeeds m.words m.config (may m.rights) d us → AreDeeds m.words m.config (may m.rights) first (us ++ ms)
+    deeds-on [] made x = made
+    deeds-on (Call u ∷ us) made x = (x.0, subst (λ (y : Domain). IsAtRest y u.old) (sym (after-on us)) x.1, deeds-on us made x.2)
+    deeds-on (OnFlag f ∷ us) made x = (x.0, subst (λ (y : Domain). IsAtRest y f.old) (sym (after-on us)) x.1, deeds-on us made x.2)
 
   -- the domain left after its list
   abbrev IsGone : (d : Domain) (v : View) → IsViewOf m.words m.config (may m.rights) d v → Type 0
   IsGone d v (inl e) = ⊥
   IsGone d v (inr g) = Unit {0}
 
-  -- what these calls did follows the list
-  abbrev DidFollow : Served P → List CallMade → Type 0
-  DidFollow s made = AreCallLines s.duty.part.tasks.now → HasNoneLost s
-      → FollowsList s.duty.part.types.now s.duty.part.dom [] [] (list_of s.duty.part.tasks.now s.duty.part.dom) (happenings (items_of_calls m.config (may m.rights) s.duty.part.dom made)) s.text
+  -- what these deeds did follows the list
+  abbrev DidFollow : Served P → List Deed → Type 0
+  DidFollow s made = AreFlagsOf m s.duty.part.tasks.now → EndsAtNoGate s → HasNoneLost s
+      → FollowsList s.duty.part.types.now s.duty.part.dom [] [] (list_of s.duty.part.tasks.now s.duty.part.dom) (happenings (order_of_deeds m.config (may m.rights) s.duty.part.dom made)) s.text
 
   -- a list that was served, up to its last view
   record Finished (i : ℕ) (s : Served P) (v : View) (gone : Type 0) : Type 0 where
     first : Domain
     starts : IsNewDomain m.words m.config (may m.rights) i first
-    made : List CallMade
-    calls_are : AreCalls m.words m.config (may m.rights) first made
+    made : List Deed
+    deeds_are : AreDeeds m.words m.config (may m.rights) first made
     view : (domain_after first made).seat.view ≡ v
-    of_list : AreCallsOfList may s made
+    of_list : AreDeedsOfList may s made
     follows : gone → DidFollow s made
 
   -- a domain of this number is at that position
@@ -358,21 +262,13 @@ module _ {P : Type 0} (may : P → AllowRelation) (m : Monitor P) where
       let there = own_position m.config k k.ids i d.seat.dom (sym m.same_run) m.limits.distinct (ap (λ (l : Layout). l.ids) m.same_run) (omega arith) (sym own) in
       sym fresh.seat.position ∙ (here ∙ sym there)
 
-  among-at : {A : Type 0} (xs : List A) (n : ℕ) (x : A) → slice_get xs n ≡ Some x → IsAmong x xs
-  among-at [] n x e = cc
-  among-at (y ∷ ys) zero x e = inl (cc e)
-  among-at (y ∷ ys) (suc n) x e = inr (among-at ys n x e)
-
-  never-awaits : (deed : RunAction) → IsCallLine deed → IsAwait deed → ⊥
-  unfolding IsAwait
-  never-awaits (Do call) a b = b
-  never-awaits (Tell flag) a b = a
-  never-awaits (Await flag) a b = a
-
-  -- a list of calls is served to its last line
-  all-lines : (dom : DomId) (tasks : List RunTask) (number : ℕ) (last : List ℕ) → AreCallLines tasks → EndsList dom tasks number last → (take number tasks ≡ tasks) × (last ≡ [])
-  all-lines dom tasks number last calls (inl e) = (ap (λ (n : ℕ). take n tasks) e.0 ∙ take-length tasks, e.1)
-  all-lines dom tasks number last calls (inr stops) = absurd (never-awaits stops.at.deed (calls stops.at (among-at tasks number stops.at stops.stands)) stops.awaits)
+  -- a list that was not stopped by its gate is served to its last line
+  all-lines : (s : Served P) (w : WasServed may s) → EndsAtNoGate s → (take w.number s.duty.part.tasks.now ≡ s.duty.part.tasks.now) × (w.last ≡ [])
+  all-lines s w passes = by w.ends
+    where
+      by : EndsList s.duty.part.dom s.duty.part.tasks.now w.number w.last → (take w.number s.duty.part.tasks.now ≡ s.duty.part.tasks.now) × (w.last ≡ [])
+      by (inl e) = (ap (λ (n : ℕ). take n s.duty.part.tasks.now) e.0 ∙ take-length s.duty.part.tasks.now, e.1)
+      by (inr stops) = absurd (passes (answer_lines s.duty.part.types.now s.duty.part.dom s.outcomes) stops.at.line (w.prints ∙ ap (λ (l : List ℕ). answer_lines s.duty.part.types.now s.duty.part.dom s.outcomes ++ l) stops.last_is))
 
   module _ (i : ℕ) (s : Served P) (inside : i < length m.config.domains.items) (l : HasList may m i s) where
     fresh : IsNewDomain m.words m.config (may m.rights) l.served.first.position l.served.domain
@@ -385,7 +281,7 @@ module _ {P : Type 0} (may : P → AllowRelation) (m : Monitor P) where
     come = comes s.duty l.monitor l.fits s.outcomes l.whole l.served.domain (take l.served.number s.duty.part.tasks.now) (λ t is. take-in l.served.number s.duty.part.tasks.now t is) [] (list_start l.served.domain) l.served.left l.served.leads (λ o is. subst (IsAmong o) l.served.came is)
         (record {
           made = [];
-          calls_are = tt;
+          deeds_are = tt;
           now = refl;
           lines = refl;
           mine = fresh.domain;
@@ -394,23 +290,23 @@ module _ {P : Type 0} (may : P → AllowRelation) (m : Monitor P) where
           follows = λ followed. follows-none m.config (may m.rights) s.duty.part.types.now s.duty.part.dom;
         })
 
-    lines : AreCallsOf may s.duty come.made s.outcomes
-    lines = subst (AreCallsOf may s.duty come.made) l.served.came come.lines
+    lines : AreDeedsOf may s.duty come.made s.outcomes
+    lines = subst (AreDeedsOf may s.duty come.made) l.served.came come.lines
 
     -- the calls and the unmaps behind them follow the list
-    followed : (us : List CallMade) → AreCalls m.words m.config (may m.rights) l.served.left.domain us → AreUnmaps us → ((h : Handle) → value_of (domain_after l.served.left.domain us).mappings h ≡ None) → DidFollow s (us ++ come.made)
-    followed us calls unmaps none alone whole =
+    followed : (us : List Deed) → AreDeeds m.words m.config (may m.rights) l.served.left.domain us → AreUnmaps us → ((h : Handle) → value_of (domain_after l.served.left.domain us).mappings h ≡ None) → DidFollow s (us ++ come.made)
+    followed us calls unmaps none numbered passes whole =
         let types = s.duty.part.types.now in let dom = s.duty.part.dom in let tasks = s.duty.part.tasks.now in
         let behind = gives-back m.config (may m.rights) types dom m.words l.served.left.domain us come.held calls unmaps come.keeps in
         let empty : behind.held' ≡ [] = keeps-none (domain_after l.served.left.domain us).mappings behind.held' none behind.keeps in
-        let left = items_of_calls m.config (may m.rights) dom us in let listed = items_of_calls m.config (may m.rights) dom come.made in
-        let f = come.follows (alone, whole) [] (happenings left ++ []) [] (behind.order ++ [], behind.back [] [] (empty, refl), refl) in
-        let ends = all-lines dom tasks l.served.number l.served.last alone l.served.ends in
+        let left = order_of_deeds m.config (may m.rights) dom us in let listed = order_of_deeds m.config (may m.rights) dom come.made in
+        let f = come.follows (numbered, whole) [] (happenings left ++ []) [] (behind.order ++ [], behind.back [] [] (empty, refl), refl) in
+        let ends = all-lines s l.served passes in
         let e1 : list_of (take l.served.number tasks) dom ++ [] ≡ list_of tasks dom = append-nil (list_of (take l.served.number tasks) dom) ∙ ap (λ (ts : List RunTask). list_of ts dom) ends.0 in
-        let e2 : happenings listed ++ (happenings left ++ []) ≡ happenings (items_of_calls m.config (may m.rights) dom (us ++ come.made)) =
-        ap (λ (hs : List Happening). happenings listed ++ hs) (append-nil (happenings left)) ∙ (sym (happenings-both left listed) ∙ ap happenings (sym (calls-both m.config (may m.rights) types dom us come.made))) in
+        let e2 : happenings listed ++ (happenings left ++ []) ≡ happenings (order_of_deeds m.config (may m.rights) dom (us ++ come.made)) =
+        ap (λ (hs : List Happening). happenings listed ++ hs) (append-nil (happenings left)) ∙ (sym (happenings-both left listed) ∙ ap happenings (sym (deeds-both m.config (may m.rights) types dom us come.made))) in
         let e3 : answer_lines types dom l.served.left.outcomes ++ [] ≡ s.text = sym (l.served.prints ∙ (λ j. answer_lines types dom (sym l.served.came j) ++ ends.1 j)) in
-        subst (λ (ts : List RunTask). FollowsList types dom [] [] ts (happenings (items_of_calls m.config (may m.rights) dom (us ++ come.made))) s.text) e1
+        subst (λ (ts : List RunTask). FollowsList types dom [] [] ts (happenings (order_of_deeds m.config (may m.rights) dom (us ++ come.made))) s.text) e1
         (subst (λ (hs : List Happening). FollowsList types dom [] [] (list_of (take l.served.number tasks) dom ++ []) hs s.text) e2
         (subst (λ (text : List ℕ). FollowsList types dom [] [] (list_of (take l.served.number tasks) dom ++ []) (happenings listed ++ (happenings left ++ [])) text) e3 f))
 
@@ -419,7 +315,7 @@ module _ {P : Type 0} (may : P → AllowRelation) (m : Monitor P) where
       first = l.served.domain;
       starts = starts;
       made = come.made;
-      calls_are = come.calls_are;
+      deeds_are = come.deeds_are;
       view = ap (λ (d : Domain). d.seat.view) come.now ∙ sym e;
       of_list = record { leaving = []; listed = come.made; all = refl; unmaps = tt; lines = lines };
       follows = λ gone. absurd gone;
@@ -428,7 +324,7 @@ module _ {P : Type 0} (may : P → AllowRelation) (m : Monitor P) where
       first = l.served.domain;
       starts = starts;
       made = u.0 ++ come.made;
-      calls_are = calls-on l.served.domain l.served.left.domain come.made come.now u.0 come.calls_are u.1;
+      deeds_are = deeds-on l.served.domain l.served.left.domain come.made come.now u.0 come.deeds_are u.1;
       view = ap (λ (d : Domain). d.seat.view) (after-on l.served.domain l.served.left.domain come.made come.now u.0) ∙ (u.3 ∙ sym g.3);
       of_list = record { leaving = u.0; listed = come.made; all = refl; unmaps = u.2; lines = lines };
       follows = λ gone. followed u.0 u.1 u.2 u.4;
@@ -436,9 +332,6 @@ module _ {P : Type 0} (may : P → AllowRelation) (m : Monitor P) where
 
   below : (i n : ℕ) → nat_lt i n ≡ true → i < n
   below i n e = grind (arith, nat_tests)
-
-  not-below : (i n : ℕ) → nat_lt i n ≡ false → i < n → ⊥
-  not-below i n e l = grind (arith, nat_tests)
 
   -- all lists
   module _ (lists : ℕ → Served P) (s : State (Unit {0}) View) (ends : ℕ → View)
@@ -450,7 +343,7 @@ module _ {P : Type 0} (may : P → AllowRelation) (m : Monitor P) where
     done i inside = let l = each i inside in finished i (lists i) inside l.0 (ends i) l.1
 
     abbrev run-of : (i : ℕ) → i < length m.config.domains.items → SeatRun
-    run-of i inside = record { first = (done i inside).first; calls = (done i inside).made }
+    run-of i inside = record { first = (done i inside).first; deeds = (done i inside).made }
 
     -- beyond the domains any run will do
     abbrev pick : (i : ℕ) (b : Bool) → nat_lt i (length m.config.domains.items) ≡ b → SeatRun
@@ -461,16 +354,16 @@ module _ {P : Type 0} (may : P → AllowRelation) (m : Monitor P) where
     seats i = pick i (nat_lt i (length m.config.domains.items)) refl
 
     runs-so : (i : ℕ) → i < length m.config.domains.items → (b : Bool) (e : nat_lt i (length m.config.domains.items) ≡ b)
-        → IsSeatRun m.words m.config (may m.rights) i (pick i b e) s.views × AreCallsOfList may (lists i) (pick i b e).calls
-        × ((inside : i < length m.config.domains.items) × (Gone i inside → DidFollow (lists i) (pick i b e).calls))
+        → IsSeatRun m.words m.config (may m.rights) i (pick i b e) s.views × AreDeedsOfList may (lists i) (pick i b e).deeds
+        × ((inside : i < length m.config.domains.items) × (Gone i inside → DidFollow (lists i) (pick i b e).deeds))
     runs-so i inside true e = let l : i < length m.config.domains.items = below i (length m.config.domains.items) e in let f = done i l in
-        (record { starts = f.starts; calls = f.calls_are; now = (each i l).2 ∙ ap (λ (v : View). some v) (sym f.view) }, f.of_list, (l, f.follows))
+        (record { starts = f.starts; deeds = f.deeds_are; now = (each i l).2 ∙ ap (λ (v : View). some v) (sym f.view) }, f.of_list, (l, f.follows))
     runs-so i inside false e = absurd (not-below i (length m.config.domains.items) e inside)
 
     -- the order of a run, with what each list's calls are
     text-order : IsWithinLimits m.config → (shown : Shows m.words.layout s)
-        → (g : Items) × IsLegalOrder m.config (may m.rights) m.words.layout shown.history seats g × ((i : ℕ) → i < length m.config.domains.items → AreCallsOfList may (lists i) (seats i).calls
-        × ((inside : i < length m.config.domains.items) × (Gone i inside → DidFollow (lists i) (seats i).calls)))
+        → (o : RunOrder) × IsLegalOrder m.config (may m.rights) m.words.layout shown.history seats o × ((i : ℕ) → i < length m.config.domains.items → AreDeedsOfList may (lists i) (seats i).deeds
+        × ((inside : i < length m.config.domains.items) × (Gone i inside → DidFollow (lists i) (seats i).deeds)))
     text-order limits shown =
         let run : IsMonitorRun m.words m.config (may m.rights) s seats =
         record { limits = limits; layout = m.same_run; shown = shown; each = λ i inside. (runs-so i inside (nat_lt i (length m.config.domains.items)) refl).0 } in
@@ -478,7 +371,7 @@ module _ {P : Type 0} (may : P → AllowRelation) (m : Monitor P) where
         (order.0, order.1, λ i inside. let r = runs-so i inside (nat_lt i (length m.config.domains.items)) refl in (r.1, r.2))
 
     text-legal : IsWithinLimits m.config → (shown : Shows m.words.layout s) → AreOfALegalOrder may m shown.history lists
-    text-legal limits shown = let o = text-order limits shown in record { items = o.0; seats = seats; legal = o.1; each = λ i inside. (o.2 i inside).0 }
+    text-legal limits shown = let o = text-order limits shown in record { order = o.0; seats = seats; legal = o.1; each = λ i inside. (o.2 i inside).0 }
 
 pub texts-legal : {P : Type 0} (may : P → AllowRelation) (m : Monitor P) → TextsAreOfALegalOrder may m
 texts-legal may m lists s ends limits each shown = text-legal may m lists s ends each limits shown
@@ -488,9 +381,10 @@ found [] i x d e = cc
 found (y ∷ ys) zero x d e = cc
 found (y ∷ ys) (suc i) x d e = found ys i x d e
 
-stays-at : (b : Board) (c : Config) (may : AllowRelation) (i : ℕ) (first : Domain) (ms : List CallMade) → first.seat.view.position ≡ i → AreCalls b c may first ms → (domain_after first ms).seat.view.position ≡ i
+stays-at : (b : Board) (c : Config) (may : AllowRelation) (i : ℕ) (first : Domain) (ms : List Deed) → first.seat.view.position ≡ i → AreDeeds b c may first ms → (domain_after first ms).seat.view.position ≡ i
 stays-at b c may i first [] at calls = at
-stays-at b c may i first (u ∷ us) at calls = calls.0.seat.position ∙ (ap (λ (z : SeatOf). z.view.position) calls.1.seat ∙ stays-at b c may i first us at calls.2)
+stays-at b c may i first (Call u ∷ us) at calls = calls.0.seat.position ∙ (ap (λ (z : SeatOf). z.view.position) calls.1.seat ∙ stays-at b c may i first us at calls.2)
+stays-at b c may i first (OnFlag x ∷ us) at calls = calls.0.kept.seat.position ∙ (ap (λ (z : SeatOf). z.view.position) calls.1.seat ∙ stays-at b c may i first us at calls.2)
 
 -- what a run wrote is the text of a legal order
 module _ {P : Type 0} (may : P → AllowRelation) (m : Monitor P) (x : Served P) (xs : List (Served P)) (on : All (λ (d : ThreadJob P). d.monitor.now ≡ m) (duties_in (x ∷ xs)))
@@ -528,7 +422,7 @@ module _ {P : Type 0} (may : P → AllowRelation) (m : Monitor P) (x : Served P)
   view-at : (i : ℕ) (l : i < length m.config.domains.items) → get_elem? one.0.views i ≡ some (lists i).departed.seat.view
   view-at i l =
       let f = finished may m i (lists i) l (list-at i l) (lists i).departed.seat.view (left-at i l) in
-      let here : (lists i).departed.seat.view.position ≡ i = ap (λ (v : View). v.position) (sym f.view) ∙ stays-at m.words m.config (may m.rights) i f.first f.made f.starts.seat.position f.calls_are in
+      let here : (lists i).departed.seat.view.position ≡ i = ap (λ (v : View). v.position) (sym f.view) ∙ stays-at m.words m.config (may m.rights) i f.first f.made f.starts.seat.position f.deeds_are in
       subst (λ (p : ℕ). get_elem? one.0.views p ≡ some (lists i).departed.seat.view) here (All-get_or (HasViewIn one.0) (x ∷ xs) i x (within i l) one.2)
 
   shows : Shows m.words.layout one.0
@@ -540,25 +434,27 @@ module _ {P : Type 0} (may : P → AllowRelation) (m : Monitor P) (x : Served P)
 
   -- the order of a run, in which what each domain did follows its list
   pub record FollowsAll : Type 0 where
-    pub items : Items
-    pub legal : Legal (setting_of m.config (may m.rights)) (events_of items) (trace_of items)
-    pub follow : (i : ℕ) → i < length m.config.domains.items → AreCallLines (lists i).duty.part.tasks.now → HasNoneLost (lists i)
-        → FollowsList (lists i).duty.part.types.now (lists i).duty.part.dom [] [] (list_of (lists i).duty.part.tasks.now (lists i).duty.part.dom) (happenings (items_by (lists i).duty.part.dom items)) (lists i).text
+    pub order : RunOrder
+    pub legal : Legal (setting_of m.config (may m.rights)) (events_of (items_in order)) (trace_of (items_in order))
+    pub flags : AreOnRaisedFlags m.config order
+    pub follow : (i : ℕ) → i < length m.config.domains.items → AreFlagsOf m (lists i).duty.part.tasks.now → EndsAtNoGate (lists i) → HasNoneLost (lists i)
+        → FollowsList (lists i).duty.part.types.now (lists i).duty.part.dom [] [] (list_of (lists i).duty.part.tasks.now (lists i).duty.part.dom) (happenings (own_in (lists i).duty.part.dom order)) (lists i).text
 
   pub follows-all : IsWithinLimits m.config → FollowsAll
   unfolding left-at
   follows-all limits =
       let o = text-order may m lists one.0 (λ i. (lists i).departed.seat.view) (λ i l. (list-at i l, left-at i l, view-at i l)) limits shows in record {
-        items = o.0;
+        order = o.0;
         legal = o.1.legal;
-        follow = λ i l alone whole.
+        flags = o.1.flags;
+        follow = λ i l numbered passes whole.
             let dom : (lists i).duty.part.dom ≡ id_at m.words.layout.ids i = (list-at i l).dom in
             let seats-at = seats may m lists one.0 (λ i. (lists i).departed.seat.view) (λ i l. (list-at i l, left-at i l, view-at i l)) i in
             let inside : i < m.words.layout.domains = subst (λ (n : ℕ). i < n) (sym (ap (λ (k : Layout). k.domains) m.same_run)) l in
-            let mine : items_by (lists i).duty.part.dom o.0 ≡ items_of_calls m.config (may m.rights) (lists i).duty.part.dom seats-at.calls =
-            subst (λ (d : DomId). items_by d o.0 ≡ items_of_calls m.config (may m.rights) d seats-at.calls) (sym dom) (o.1.calls i inside) in
-            subst (λ (g : Items). FollowsList (lists i).duty.part.types.now (lists i).duty.part.dom [] [] (list_of (lists i).duty.part.tasks.now (lists i).duty.part.dom) (happenings g) (lists i).text) (sym mine)
-            ((o.2 i l).1.1 tt alone whole);
+            let mine : own_in (lists i).duty.part.dom o.0 ≡ order_of_deeds m.config (may m.rights) (lists i).duty.part.dom seats-at.deeds =
+            subst (λ (d : DomId). own_in d o.0 ≡ order_of_deeds m.config (may m.rights) d seats-at.deeds) (sym dom) (o.1.deeds i inside) in
+            subst (λ (g : RunOrder). FollowsList (lists i).duty.part.types.now (lists i).duty.part.dom [] [] (list_of (lists i).duty.part.tasks.now (lists i).duty.part.dom) (happenings g) (lists i).text) (sym mine)
+            ((o.2 i l).1.1 tt numbered passes whole);
       }
 
 pub runs-legal : {P : Type 0} (may : P → AllowRelation) (m : Monitor P) → RunsWriteALegalOrder may m

@@ -47,7 +47,7 @@ use Rattle.gt_order.proofs.Stages.Stage.{Going}
 use Rattle.gt_order.proofs.Stepping.{AreBounded, IsBounded, StandsHere, leg-all, stands-here, step-kept, within}
 use Rattle.gt_order.specs.Agreeing.{Agree, IsThe, IsWithin, dom_at}
 use Rattle.gt_order.specs.Ordering.{way_of}
-use Rattle.gt_order.specs.Runs.{CallMade, IsCall}
+use Rattle.gt_order.specs.Runs.{CallMade, Deed, IsCall}
 
 -- a way that goes on with a step was not answered at its beginning
 pub unanswered : (o : Option CallResult) (goes : Continuation) (vs : List Observation) (step : Step) → after_beginning o goes vs ≡ Some (Makes step) → o ≡ None
@@ -78,7 +78,7 @@ pub record GoesSo (c : Config) (may : AllowRelation) (k : Layout) (g : Items) (i
   pub stood : StoodWith (Unit {0}) k x.0 v
   pub stands : StoodWith (Unit {0}) k ((v.position, x.1) ∷ x.0) w
 
-module _ (b : Board) (c : Config) (may : AllowRelation) (limits : IsWithinLimits c) (is : b.layout ≡ layout_of c) (g : Items) (i : ℕ) (inside : i < b.layout.domains) (m : CallMade) (ms : List CallMade) (first : Domain)
+module _ (b : Board) (c : Config) (may : AllowRelation) (limits : IsWithinLimits c) (is : b.layout ≡ layout_of c) (g : Items) (i : ℕ) (inside : i < b.layout.domains) (m : CallMade) (ms : List Deed) (first : Domain)
     (xs : List Moment) (x : Moment) (call : IsCall b c may m) (at : m.old.seat.view.position ≡ i) (named : domain_of c.domains.items (dom_at b.layout i) ≢ None) (reached : CanBeReached (setting_of c may) g)
     (agree : Agree (setting_of c may) b.layout g x.0) (seat : SeatNow c may g (dom_at b.layout i) first (Going ms m xs))
     (bounded : AreBounded b.layout g) (walk : MakesStep b.layout (way_of c may m (all_shown xs)) (shown_by x) (view_after xs m.old.seat.view) (view_after (x ∷ xs) m.old.seat.view)) where

@@ -1,195 +1,54 @@
 -- Each run of the monitor has a legal order: by its history, from the newest step back.
-use Rattle.std.proofs.Common.{◌≡◌, ◌≢◌, ℕ, zero, suc, ◌<◌, ◌≤◌, Bool, cond, ◌==◌, List, [], ◌∷◌, ◌++◌}
-use Rattle.std.proofs.Common.{length, Option, Some, None, sym, refl, ap, ◌∙◌, subst, arith, ◌⊎◌, inl, inr, eq-eqb}
-use Rattle.std.proofs.Common.{ne_eqb}
+use Rattle.std.proofs.Common.{◌≡◌, ◌≢◌, ℕ, zero, suc, ◌<◌, ◌≤◌, Bool, cond, List, [], ◌∷◌}
+use Rattle.std.proofs.Common.{length, Some, sym, refl, ap, ◌∙◌, subst, arith, ◌⊎◌, inl, inr, eq-eqb}
 use Rattle.std.proofs.lemmas.Bool.{cases_eq, cases_lt}
-use Rattle.std.proofs.Common.{⊎_elim, ◌+◌}
-use Rattle.std.specs.Prelude.{IsSome, slice_range}
 use Rattle.gt_types.specs.Config.{IsWithinLimits}
-use Rattle.gt_types.specs.Names.{domain_of}
-use Rattle.gt_types.specs.declared.DomId.{DomId}
 use Rattle.gt_types.specs.declared.config.Config.{Config}
-use Rattle.gt_types.specs.declared.config.DomainConfig.{DomainConfig}
 use Rattle.gt_word_history.proofs.Order.{part_else, part_here, up_else}
-use Rattle.gt_words.specs.Conditions.{Board, HasDomain, SeatOf}
+use Rattle.gt_words.specs.Conditions.{Board, SeatOf}
 use Rattle.gt_word_history.specs.History.{StepHistory, Layout, Moment, part_of, up_to}
-use Rattle.gt_words.specs.Laws.{domain_of_run, seat_at}
 use Rattle.gt_word_history.specs.Rule.{layout_of, position_in}
 use Rattle.gt_word_history.specs.Steps.{StoodWith}
 use Rattle.gt_word_history.specs.Views.{with_step}
 use Rattle.gt_word_history.specs.declared.view.FrameStep.TheVariants as frames
-use Rattle.gt_word_history.specs.declared.view.SeatStep.TheVariants.{Frame}
+use Rattle.gt_word_history.specs.declared.view.SeatStep.TheVariants.{Flag, Frame}
 use Rattle.gt_word_history.specs.declared.view.SeatStep.{SeatStep}
 use Rattle.gt_word_history.specs.declared.view.View.{View}
-use Rattle.gt_calls.specs.Asking.{SpellsItsEntry, asked, begun_of, bytes_given_by}
-use Rattle.gt_calls.specs.Path.{Continuation, path, steps_of}
-use Rattle.gt_calls.specs.Rules.{CallerKnowledge}
-use Rattle.gt_calls.specs.declared.action.Action.{Action}
-use Rattle.gt_calls.specs.declared.action.Action.TheVariants.{Step as Makes, Done}
+use Rattle.gt_calls.specs.Asking.{bytes_given_by}
+use Rattle.gt_calls.specs.declared.action.Action.TheVariants.{Step as Makes}
 use Rattle.gt_calls.specs.declared.action.CallResult.{CallResult}
-use Rattle.gt_calls.specs.declared.action.CallResult.TheVariants.{Granted, Given, Mapped as KeptPin, Refused}
-use Rattle.gt_calls.specs.declared.request.Request.{Request}
-use Rattle.gt_calls.specs.declared.action.Observation.{Observation}
+use Rattle.gt_calls.specs.declared.action.CallResult.TheVariants.{Mapped as KeptPin}
 use Rattle.gt_calls.specs.declared.action.Step.{Step}
-use Rattle.gt_calls.specs.declared.action.Step.TheVariants.{Copy as CopyBytes, Read as ReadBytes, Write as WriteBytes}
-use Rattle.gt_core.proofs.GoingOn.{calls-can-begin}
-use Rattle.gt_live.specs.Mappings.{KeepsMappings}
-use Rattle.gt_core.proofs.Steps.Observers.{stepped}
-use Rattle.gt_core.specs.GoingOn.{AnsweredSo, CanBeReached, MayBeGiven, TellsAccess, begin_answer, beginning}
-use Rattle.gt_core.specs.History.{History as Items, Setting, contents_at, known_at, one_if_mapped, seen_by, table_at}
-use Rattle.gt_core.specs.History.{values}
-use Rattle.gt_core.specs.Legal.{IsRight}
-use Rattle.gt_core.specs.Acting.{answer_of, setting_of}
-use Rattle.gt_core.specs.declared.trace.Answer.{Answer}
-use Rattle.gt_core.specs.declared.trace.Answer.TheVariants.{Bytes as BytesAnswer, Done as AnswerDone, Mapped}
+use Rattle.gt_calls.specs.declared.action.Step.TheVariants.{Read as ReadBytes}
+use Rattle.gt_core.specs.GoingOn.{CanBeReached}
+use Rattle.gt_core.specs.History.{History as Items}
+use Rattle.gt_core.specs.Legal.{Legal}
+use Rattle.gt_core.specs.Acting.{setting_of}
 use Rattle.gt_live.proofs.Walking.{after-position}
-use Rattle.gt_live.specs.Domains.{AllowRelation, knowledge}
+use Rattle.gt_live.specs.Domains.{AllowRelation}
 use Rattle.gt_live.specs.Starting.{IsNewDomain}
-use Rattle.gt_live.specs.Walks.{IsWalk, MakesStep, view_after, all_shown, shown_by, seen_in_step}
+use Rattle.gt_live.specs.Walks.{IsWalk, view_after, all_shown}
 use Rattle.gt_live.specs.declared.domain.Domain.{Domain}
-use Rattle.gt_order.proofs.Accesses.{AccessedAs, accessed-as, read-as, read-bytes, writes-by-none, writes-by-words}
-use Rattle.gt_order.proofs.Bytes.{said}
-use Rattle.gt_order.proofs.Called.{leaves}
-use Rattle.gt_order.proofs.Ending.{RefusesOnly, answered-at-once, answers, asked-refuses, begins, core-adds, ends-kept}
-use Rattle.gt_order.proofs.Ending.{ends-accessed, ends-told, going-on, going-on-accessed, keeps-at-once, known-alike}
-use Rattle.gt_order.proofs.Ending.{no-pin-at-once, starves}
-use Rattle.gt_order.proofs.NextAccess.{accesses-so}
-use Rattle.gt_order.proofs.NextItem.{goes-so, on-way, unanswered}
-use Rattle.gt_order.proofs.Making.{made-as, one-moment}
-use Rattle.gt_order.proofs.DomainsAtRest.{can-be-answered, keeps-agreement}
-use Rattle.gt_order.proofs.Stages.{Fits, IsGoing, Ordered, SeatNow, Stage, one-more}
+use Rattle.gt_order.proofs.Accesses.{AccessedAs, read-as}
+use Rattle.gt_order.proofs.Stages.{Fits, Ordered, Stage}
 use Rattle.gt_order.proofs.Stages.Stage.{Going, Resting}
 use Rattle.gt_order.proofs.Start.{ordered-first}
-use Rattle.gt_order.proofs.Stepping.{bounded-quiet, bounded-step}
 use Rattle.gt_order.proofs.Walks.{as-walk}
-use Rattle.gt_order.specs.Agreeing.{IsThe, WritesAgree, dom_at}
+use Rattle.gt_order.specs.Agreeing.{WritesAgree}
 use Rattle.gt_order.specs.Laws.{RunsHaveLegalOrders}
-use Rattle.gt_order.specs.Ordering.{AreStepsOf, IsLegalOrder, IsNewest, item_of_beginning, items_by_outcome}
-use Rattle.gt_order.specs.Ordering.{items_of_call, way_of}
-use Rattle.gt_order.specs.Runs.{AreCalls, CallMade, CallOutcome, IsAnswered, IsAtRest, IsCall, IsCallWalk, KeepsNoPin}
-use Rattle.gt_order.specs.Runs.{LeavesMappings, MakesAccess, MakesTurn, TookSteps, domain_after}
+use Rattle.gt_order.specs.Ordering.{IsLegalOrder, RunOrder, events_of}
+use Rattle.gt_order.specs.Ordering.{trace_of}
+use Rattle.gt_order.specs.Ordering.{way_of}
+use Rattle.gt_order.specs.Runs.{AreDeeds, CallMade, CallOutcome, Deed, FlagMade, IsAnswered, IsAtRest, IsCall, IsCallWalk}
+use Rattle.gt_order.specs.Runs.{TookSteps, domain_after}
+use Rattle.gt_order.specs.Runs.Deed.{Call, OnFlag}
 use Rattle.gt_order.specs.Runs.CallOutcome.{Told, Kept, Starved, Read, Wrote}
-
--- a stage in the place of another
-abbrev put : ℕ → Stage → (ℕ → Stage) → ℕ → Stage
-put i y f j = cond (i == j) y (f j)
-
-put-here : (i : ℕ) (y : Stage) (f : ℕ → Stage) → put i y f i ≡ y
-put-here i y f = ap (λ (b : Bool). cond b y (f i)) (eq-eqb i i refl)
-
-put-else : (i : ℕ) (y : Stage) (f : ℕ → Stage) (j : ℕ) → i ≢ j → put i y f j ≡ f j
-put-else i y f j n = ap (λ (b : Bool). cond b y (f j)) (ne_eqb i j n)
-
--- how a call is answered that ends so without a pin
-answered-so : (g : Items) (d : DomId) (v : CallResult) → KeepsNoPin v → AnsweredSo g d (Done v) (Some (answer_of v))
-answered-so g d Granted n = refl
-answered-so g d (Given value) n = refl
-answered-so g d (Refused denial) n = refl
-answered-so g d (KeptPin p) n = absurd n
-
--- the last part of a step and of what was before it
-module _ {A : Type 0} where
-  head-same : (x y : A) (xs ys : List A) → x ∷ xs ≡ y ∷ ys → x ≡ y
-  head-same x y xs ys e = cc
-
-  tail-same : (x y : A) (xs ys : List A) → x ∷ xs ≡ y ∷ ys → xs ≡ ys
-  tail-same x y xs ys e = cc
-
-  no-head : (x : A) (xs : List A) → x ∷ xs ≡ [] → ⊥
-  no-head x xs e = cc
-
--- a step is the newest one
-then-more : (k : Layout) (d : DomId) (i : ℕ) (step : Step) (seen : Observation) (x : SeatStep) (rest : StepHistory → Type 0) (h : StepHistory) → d ≡ dom_at k i → IsThe k i step x → seen ≡ seen_in_step x → rest h → IsNewest k d step seen rest ((i, x) ∷ h)
-then-more k d i step seen x rest h own the shows r = (own, the, shows, r)
-
--- an access of a call, which comes next on its path
-abbrev IsNextAccess : Layout → ℕ → List ℕ → Continuation → List Moment → Moment → View → View → Type 0
-IsNextAccess k i given way xs x v w = (z : Step) × (way (all_shown xs) ≡ Some (Makes z)) × AccessedAs k i given z v w x × MakesAccess k given z v w
-
--- the newest step of a call was made on the words, or is its access
-turn-of : (k : Layout) (i : ℕ) (given : List ℕ) (way : Continuation) (xs : List Moment) (x : Moment) (u : View) → MakesTurn k given (way (all_shown xs)) (shown_by x) (view_after xs u) (view_after (x ∷ xs) u)
-    → MakesStep k (way (all_shown xs)) (shown_by x) (view_after xs u) (view_after (x ∷ xs) u) ⊎ IsNextAccess k i given way xs x (view_after xs u) (view_after (x ∷ xs) u)
-turn-of k i given way xs x u turn = by (way (all_shown xs)) refl turn
-  where
-    v : View
-    v = view_after xs u
-
-    w : View
-    w = view_after (x ∷ xs) u
-
-    by : (o : Option Action) → way (all_shown xs) ≡ o → MakesTurn k given o (shown_by x) v w → MakesStep k (way (all_shown xs)) (shown_by x) v w ⊎ IsNextAccess k i given way xs x v w
-    by (Some (Makes z)) e (inl m) = inl (subst (λ (q : Option Action). MakesStep k q (shown_by x) v w) (sym e) m)
-    by (Some (Makes z)) e (inr m) =
-        let y = accessed-as k i given z v w m.1 in let same : x ≡ y.0 = one-moment x y.0 v y.1.view in
-        inr (z, e, subst (AccessedAs k i given z v w) (sym same) y.1, m.1)
-    by (Some (Done r)) e m = absurd m
-    by None e m = absurd m
-
--- it was taken after the steps of its moment
-stood-of : (k : Layout) (i : ℕ) (given : List ℕ) (way : Continuation) (xs : List Moment) (x : Moment) (u : View) → (view_after xs u).position ≡ i → MakesTurn k given (way (all_shown xs)) (shown_by x) (view_after xs u) (view_after (x ∷ xs) u)
-    → (z : Step) × (way (all_shown xs) ≡ Some (Makes z)) × StoodWith (Unit {0}) k x.0 (view_after xs u)
-stood-of k i given way xs x u at turn = ⊎_elim (words (way (all_shown xs)) refl) (λ (q : IsNextAccess k i given way xs x v w). (q.0, q.1, q.2.stood)) (turn-of k i given way xs x u turn)
-  where
-    v : View
-    v = view_after xs u
-
-    w : View
-    w = view_after (x ∷ xs) u
-
-    words : (o : Option Action) → way (all_shown xs) ≡ o → MakesStep k (way (all_shown xs)) (shown_by x) v w → (z : Step) × (way (all_shown xs) ≡ Some (Makes z)) × StoodWith (Unit {0}) k x.0 v
-    words (Some (Makes z)) e m =
-        let y = made-as k i v w at z (shown_by x) (subst (λ (q : Option Action). MakesStep k q (shown_by x) v w) e m) in
-        let same : x ≡ y.0 = one-moment x y.0 v y.1.view in
-        (z, e, subst (λ (q : Moment). StoodWith (Unit {0}) k q.0 v) (sym same) y.1.stood)
-    words (Some (Done r)) e m = absurd (subst (λ (q : Option Action). MakesStep k q (shown_by x) v w) e m)
-    words None e m = absurd (subst (λ (q : Option Action). MakesStep k q (shown_by x) v w) e m)
-
--- a write or a copy answers no bytes
-tells-done : (g : Items) (k : Layout) (given : List ℕ) (z : Step) (v w : View) → MakesAccess k given z v w → TellsAccess g z AnswerDone
-tells-done g k given (WriteBytes dom frame off len) v w m = refl
-tells-done g k given (CopyBytes from to len) v w m = refl
-tells-done g k given z v w m = absurd m
-
--- the newest of these steps is this access
-abbrev LastIs : Layout → ℕ → List ℕ → Step → View → List Moment → Type 0
-LastIs k i given z u [] = ⊥
-LastIs k i given z u (y ∷ ys) = AccessedAs k i given z (view_after ys u) (view_after (y ∷ ys) u) y
-
-abbrev LastNext : Continuation → Step → List Moment → Type 0
-LastNext way z [] = ⊥
-LastNext way z (y ∷ ys) = way (all_shown ys) ≡ Some (Makes z)
+use Rattle.gt_order.proofs.NextStage.{begin-call, end-call, go-on, head-same, named, no-head, placed, put, put-else, put-here}
+use Rattle.gt_order.proofs.NextStage.{LastIs, LastNext, quiet-call, same-view, step-on-flag, stood-of, tail-same}
 
 module _ (b : Board) (c : Config) (may : AllowRelation) (limits : IsWithinLimits c) (is : b.layout ≡ layout_of c) (firsts : ℕ → Domain) (new : (i : ℕ) → i < b.layout.domains → IsNewDomain b c may i (firsts i)) where
   abbrev k : Layout
   k = b.layout
-
-  abbrev s : Setting
-  s = setting_of c may
-
-  -- the seat of each domain stays at its place
-
-  abbrev IsPlaced : ℕ → Domain → Type 0
-  IsPlaced i D = (D.seat.view.position ≡ i) × (D.seat.view.first ≡ k.first)
-
-  placed : (i : ℕ) → i < k.domains → (ms : List CallMade) → AreCalls b c may (firsts i) ms → IsPlaced i (domain_after (firsts i) ms)
-  placed i l [] calls = ((new i l).seat.position, (new i l).seat.first)
-  placed i l (m ∷ ms) calls =
-      let p = placed i l ms calls.2 in
-      (calls.0.seat.position ∙ (ap (λ (z : SeatOf). z.view.position) calls.1.seat ∙ p.0), calls.0.seat.first ∙ (ap (λ (z : SeatOf). z.view.first) calls.1.seat ∙ p.1))
-
-  named : (i : ℕ) → i < k.domains → domain_of c.domains.items (dom_at k i) ≢ None
-  named i l =
-      let n = new i l in let D = firsts i in
-      let dom : dom_at k i ≡ D.seat.dom = ap (dom_at k) (sym n.seat.position) ∙ n.domain.seat.named in
-      let at : D.seat.view.position ≡ position_in k.ids D.seat.dom = seat_at c b D.seat limits.distinct is n.domain.seat in
-      let inside : D.seat.view.position < length k.ids = n.domain.seat.inside in
-      let has : HasDomain k D.seat.dom = subst (λ (z : ℕ). z < length k.ids) at inside in
-      let there : IsSome (domain_of c.domains.items D.seat.dom) = (domain_of_run c D.seat.dom).1 (subst (λ (z : Layout). HasDomain z D.seat.dom) is has) in
-      λ e. some-there (domain_of c.domains.items D.seat.dom) there (ap (domain_of c.domains.items) (sym dom) ∙ e)
-    where
-      some-there : (o : Option DomainConfig) → IsSome o → o ≡ None → ⊥
-      some-there None a e = cc
-      some-there (Some x) a e = cc
 
   abbrev FitAll : StepHistory → (ℕ → Stage) → Type 0
   FitAll h stages = (i : ℕ) → i < k.domains → Fits b c may h i (firsts i) (stages i)
@@ -209,7 +68,7 @@ module _ (b : Board) (c : Config) (may : AllowRelation) (limits : IsWithinLimits
       (tail-same _ _ _ _ all, ap (λ (q : ℕ × SeatStep). q.1) (head-same _ _ _ _ all))
 
   -- the call goes back by one step
-  back : (h : StepHistory) (p : ℕ × SeatStep) (i : ℕ) (ms : List CallMade) (m : CallMade) (xs : List Moment) (x : Moment) → p.0 ≡ i → AreCalls b c may (firsts i) ms → IsAtRest (domain_after (firsts i) ms) m.old → IsCall b c may m → m.old.seat.view.position ≡ i
+  back : (h : StepHistory) (p : ℕ × SeatStep) (i : ℕ) (ms : List Deed) (m : CallMade) (xs : List Moment) (x : Moment) → p.0 ≡ i → AreDeeds b c may (firsts i) ms → IsAtRest (domain_after (firsts i) ms) m.old → IsCall b c may m → m.old.seat.view.position ≡ i
       → (z : Step) × (way_of c may m (all_shown xs) ≡ Some (Makes z)) × StoodWith (Unit {0}) k x.0 (view_after xs m.old.seat.view) → IsCallWalk k (bytes_given_by m.request) (way_of c may m) m.old.seat.view xs
       → (view_after (x ∷ xs) m.old.seat.view).steps ≡ part_of i (p ∷ h) → (view_after (x ∷ xs) m.old.seat.view).past ≡ up_to i (p ∷ h)
       → ((x.0 ≡ h) × (x.1 ≡ p.1)) × Fits b c may h i (firsts i) (Going ms m xs)
@@ -220,275 +79,45 @@ module _ (b : Board) (c : Config) (may : AllowRelation) (limits : IsWithinLimits
       let before : v.steps ≡ part_of i h = tail-same _ _ _ _ (steps ∙ top) in let stood = newest.2 in (
         same,
         record {
-          is = record { calls = calls; rests = rest; call = call; walked = walk; step = newest.0; next = newest.1 };
+          is = record { deeds = calls; rests = rest; call = call; walked = walk; step = newest.0; next = newest.1 };
           steps = before;
           past = (stood.1.led_here.parts v.position v stood.2).1 ∙ (λ j. up_to (at-v j) (same.0 j));
         },
       )
 
-  -- a call that made no step kept its view
-
-  took-none : (request : Request) (verdict : CallResult) (steps : List Moment) (D E : Domain) → TookSteps b c may request verdict steps D E → steps ≡ [] → E.seat.view ≡ D.seat.view
-  took-none request verdict steps D E t none = t.0.view ∙ ap (λ (xs : List Moment). view_after xs D.seat.view) (t.1 ∙ none)
-
-  same-view : (request : Request) (o : CallOutcome) (steps : List Moment) (D E : Domain) → IsAnswered b c may request o steps D E → steps ≡ [] → E.seat.view ≡ D.seat.view
-  same-view request (Told verdict) steps D E a none = took-none request verdict steps D E a.1 none
-  same-view request (Kept handle p) steps D E a none = took-none request (KeptPin p) steps D E a.1 none
-  same-view request Starved steps D E a none = a.1
-  same-view request (Read bytes) steps D E a none = absurd (no-head _ _ (sym a.0.step ∙ none))
-  same-view request Wrote steps D E a none = absurd (no-head _ _ (sym a.0.all ∙ none))
-
-  -- the beginning of a call that is to make a step
-
-  begin-call : (h : StepHistory) (i : ℕ) (l : i < k.domains) (m : CallMade) (ms : List CallMade) (stages : ℕ → Stage) → stages i ≡ Going ms m [] → IsGoing b c may (firsts i) ms m [] → Ordered b c may h firsts (put i (Resting ms) stages) → Ordered b c may h firsts stages
-  begin-call h i l m ms stages e going o =
-      let d = dom_at k i in let call = going.call in let rest = going.rests in let at = placed i l ms going.calls in
-      let seat = subst (SeatNow c may o.g d (firsts i)) (put-here i (Resting ms) stages) (o.each i l) in
-      let known : known_at s o.g d ≡ knowledge c may m.old = seat.known ∙ sym (known-alike b c may limits is i l (firsts i) (named i l) (domain_after (firsts i) ms) m.old rest) in
-      let own : m.old.seat.dom ≡ d = sym call.before.seat.named ∙ ap (dom_at k) (ap (λ (z : SeatOf). z.view.position) rest.seat ∙ at.0) in
-      let none : begun_of (knowledge c may m.old) m.old.seat.dom m.request ≡ None = unanswered (begun_of (knowledge c may m.old) m.old.seat.dom m.request) (steps_of (knowledge c may m.old) m.old.seat.dom (asked m.request)) [] going.step going.next in
-      let here : begun_of (known_at s o.g d) d m.request ≡ None = (λ j. begun_of (known j) (sym own j) m.request) ∙ none in
-      let spelled : SpellsItsEntry (table_at s o.g d) m.request = subst (λ (z : CallerKnowledge). SpellsItsEntry z.header m.request) (sym known) (said (knowledge c may m.old) m.old.seat.dom m.request call.fits.1 none) in
-      let begun = calls-can-begin s o.g d m.request o.reached (named i l) seat.call call.fits.0 spelled in
-      let item = item_of_beginning d m.request None in
-      let right : IsRight s o.g item = subst (λ (z : Option CallResult). IsRight s o.g (beginning d m.request (begin_answer z))) here begun.0 in
-      let reached : CanBeReached s (item ∷ o.g) = subst (λ (z : Option CallResult). CanBeReached s (beginning d m.request (begin_answer z) ∷ o.g)) here begun.1 in
-      one-more b c may limits is h h firsts (put i (Resting ms) stages) stages i item o l refl (named i l) right reached
-      (keeps-agreement s k o.g h item (record { changes = λ z. refl; pins = λ before ps. refl; unpins = λ ps. refl }) refl (λ z half. refl) o.agree) o.steps (writes-by-none k o.g h item (λ given contents. refl) o.writes) (bounded-quiet k o.g item (record { changes = λ z. refl; pins = λ before ps. refl; unpins = λ ps. refl }) o.bounded)
-      (λ j n. sym (put-else i (Resting ms) stages j n))
-      (subst (SeatNow c may (item ∷ o.g) d (firsts i)) (sym e) (begins b c may limits is i l (firsts i) (named i l) o.g ms m rest seat))
-
-  -- a call without a step, after those before it
-
-  quiet-call : (h : StepHistory) (i : ℕ) (l : i < k.domains) (m : CallMade) (ms : List CallMade) (stages : ℕ → Stage) → stages i ≡ Resting (m ∷ ms) → m.steps ≡ [] → AreCalls b c may (firsts i) (m ∷ ms)
-      → (domain_after (firsts i) ms).seat.view.steps ≡ part_of i h → Ordered b c may h firsts (put i (Resting ms) stages) → Ordered b c may h firsts stages
-  quiet-call h i l m ms stages e none calls steps o = by m.outcome refl calls.0.answered
-    where
-      d : DomId
-      d = dom_at k i
-
-      call : IsCall b c may m
-      call = calls.0
-
-      rest : IsAtRest (domain_after (firsts i) ms) m.old
-      rest = calls.1
-
-      at : IsPlaced i (domain_after (firsts i) ms)
-      at = placed i l ms calls.2
-
-      seat : SeatNow c may o.g d (firsts i) (Resting ms)
-      seat = subst (SeatNow c may o.g d (firsts i)) (put-here i (Resting ms) stages) (o.each i l)
-
-      view : m.new.seat.view ≡ m.old.seat.view
-      view = same-view m.request m.outcome m.steps m.old m.new call.answered none
-
-      known : known_at s o.g d ≡ knowledge c may m.old
-      known = seat.known ∙ sym (known-alike b c may limits is i l (firsts i) (named i l) (domain_after (firsts i) ms) m.old rest)
-
-      own : m.old.seat.dom ≡ d
-      own = sym call.before.seat.named ∙ ap (dom_at k) (ap (λ (z : SeatOf). z.view.position) rest.seat ∙ at.0)
-
-      -- what answers it at once
-      at-once : (v : CallResult) → TookSteps b c may m.request v m.steps m.old m.new → begun_of (knowledge c may m.old) m.old.seat.dom m.request ≡ Some v
-      at-once v t = answered-at-once (knowledge c may m.old) m.old.seat.dom m.request v (said (knowledge c may m.old) m.old.seat.dom m.request call.fits.1) (ap (λ (xs : List Moment). way_of c may m (all_shown xs)) (sym (t.1 ∙ none)) ∙ t.0.answered)
-
-      same : (j : ℕ) → i ≢ j → stages j ≡ put i (Resting ms) stages j
-      same j n = sym (put-else i (Resting ms) stages j n)
-
-      by : (out : CallOutcome) → m.outcome ≡ out → IsAnswered b c may m.request out m.steps m.old m.new → Ordered b c may h firsts stages
-      by Starved out a = record {
-        g = o.g;
-        reached = o.reached;
-        agree = o.agree;
-        legal = o.legal;
-        steps = o.steps;
-        writes = o.writes;
-        bounded = o.bounded;
-        each = λ j lj. elim (cases_eq i j) [
-          | inl f ↦ subst (λ (z : ℕ). SeatNow c may o.g (dom_at k z) (firsts z) (stages z)) f (subst (SeatNow c may o.g d (firsts i)) (sym e)
-              (starves b c may limits is i l (firsts i) (named i l) o.g h ms m o.reached o.agree call rest out a.1 a.2 at.0 at.1 steps seat))
-          | inr n ↦ subst (SeatNow c may o.g (dom_at k j) (firsts j)) (sym (same j n)) (o.each j lj)
-        ];
-      }
-      by (Read bytes) out a = absurd (no-head _ _ (sym a.0.step ∙ none))
-      by Wrote out a = absurd (no-head _ _ (sym a.0.all ∙ none))
-      by (Kept handle p) out a = absurd (no-pin-at-once (asked m.request) p a.0 (subst (RefusesOnly (asked m.request)) (at-once (KeptPin p) a.1) (asked-refuses (knowledge c may m.old) m.old.seat.dom m.request)))
-      by (Told verdict) out a =
-          let op = at-once verdict a.1 in
-          let here : begun_of (known_at s o.g d) d m.request ≡ Some verdict = (λ j. begun_of (known j) (sym own j) m.request) ∙ op in
-          let answered = can-be-answered s o.g d m.request verdict o.reached (named i l) seat.call here in
-          let item = item_of_beginning d m.request (Some (answer_of verdict)) in
-          let agree = keeps-agreement s k o.g h item (record { changes = λ z. refl; pins = λ before ps. refl; unpins = λ ps. refl }) refl (λ z half. refl) o.agree in
-          let keeps = keeps-at-once (asked m.request) verdict m.old.mappings m.new.mappings (subst (RefusesOnly (asked m.request)) op (asked-refuses (knowledge c may m.old) m.old.seat.dom m.request)) a.2 in
-          one-more b c may limits is h h firsts (put i (Resting ms) stages) stages i item o l refl (named i l) answered.0 answered.1 agree o.steps (writes-by-none k o.g h item (λ given contents. refl) o.writes) (bounded-quiet k o.g item (record { changes = λ z. refl; pins = λ before ps. refl; unpins = λ ps. refl }) o.bounded) same
-          (subst (SeatNow c may (item ∷ o.g) d (firsts i)) (sym e) (answers b c may limits is i l (firsts i) (named i l) o.g h ms m verdict answered.1 agree call rest out none view keeps at.0 at.1 steps seat))
-
-  -- a step of a call that goes on
-
-  go-on : (i : ℕ) (l : i < k.domains) (ms : List CallMade) (m : CallMade) (xs : List Moment) (x : Moment) (stages : ℕ → Stage) → stages i ≡ Going ms m (x ∷ xs) → IsGoing b c may (firsts i) ms m (x ∷ xs) → Ordered b c may x.0 firsts (put i (Going ms m xs) stages)
-      → Ordered b c may ((i, x.1) ∷ x.0) firsts stages
-  go-on i l ms m xs x stages e going o =
-      let d = dom_at k i in let call = going.call in let at = placed i l ms going.calls in
-      let at-old : m.old.seat.view.position ≡ i = ap (λ (z : SeatOf). z.view.position) going.rests.seat ∙ at.0 in
-      let seat = subst (SeatNow c may o.g d (firsts i)) (put-here i (Going ms m xs) stages) (o.each i l) in
-      ⊎_elim (words d call at-old seat) (access d call at-old seat) (turn-of k i (bytes_given_by m.request) (way_of c may m) xs x m.old.seat.view going.walked.0)
-    where
-      v : View
-      v = view_after xs m.old.seat.view
-
-      w : View
-      w = view_after (x ∷ xs) m.old.seat.view
-
-      words : (d : DomId) → IsCall b c may m → m.old.seat.view.position ≡ i → SeatNow c may o.g (dom_at k i) (firsts i) (Going ms m xs) → MakesStep k (way_of c may m (all_shown xs)) (shown_by x) v w → Ordered b c may ((i, x.1) ∷ x.0) firsts stages
-      words _ call at-old seat walk =
-          let d = dom_at k i in let r = goes-so b c may limits is o.g i l m ms (firsts i) xs x call at-old (named i l) o.reached o.agree seat o.bounded walk (Makes going.step) None going.next refl in
-          one-more b c may limits is x.0 ((i, x.1) ∷ x.0) firsts (put i (Going ms m xs) stages) stages i (stepped d r.step (seen_in_step x.1) None) o l refl (named i l) r.right r.reached r.agree (then-more k d i r.step (seen_in_step x.1) x.1 (AreStepsOf k o.g) x.0 refl r.the refl o.steps)
-          (writes-by-words k o.g x.0 i d r.step x.1 (seen_in_step x.1) None r.quiet r.the o.writes) (bounded-step k o.g d r.step (seen_in_step x.1) None r.inner o.bounded)
-          (λ j n. sym (put-else i (Going ms m xs) stages j n))
-          (subst (SeatNow c may (stepped d r.step (seen_in_step x.1) None ∷ o.g) d (firsts i)) (sym e) (going-on b c may limits is i l (firsts i) (named i l) o.g ms m xs x v w call seat r))
-
-      access : (d : DomId) → IsCall b c may m → m.old.seat.view.position ≡ i → SeatNow c may o.g (dom_at k i) (firsts i) (Going ms m xs) → IsNextAccess k i (bytes_given_by m.request) (way_of c may m) xs x v w → Ordered b c may ((i, x.1) ∷ x.0) firsts stages
-      access _ call at-old seat q =
-          let d = dom_at k i in let r = accesses-so b c may limits is o.g i l m ms (firsts i) xs x call at-old (named i l) o.reached o.agree o.writes seat o.bounded v w q.0 q.1 q.2 (Makes going.step) None going.next refl refl in
-          one-more b c may limits is x.0 ((i, x.1) ∷ x.0) firsts (put i (Going ms m xs) stages) stages i (stepped d r.step (seen_in_step x.1) None) o l refl (named i l) r.right r.reached r.agree (then-more k d i r.step (seen_in_step x.1) x.1 (AreStepsOf k o.g) x.0 refl r.the refl o.steps)
-          r.writes r.bounded
-          (λ j n. sym (put-else i (Going ms m xs) stages j n))
-          (subst (SeatNow c may (stepped d r.step (seen_in_step x.1) None ∷ o.g) d (firsts i)) (sym e) (going-on-accessed b c may limits is i l (firsts i) (named i l) o.g ms m xs x v w seat r))
-
-  -- the last step of a call
-
-  end-call : (i : ℕ) (l : i < k.domains) (ms : List CallMade) (m : CallMade) (xs : List Moment) (x : Moment) (stages : ℕ → Stage) → stages i ≡ Resting (m ∷ ms) → m.steps ≡ x ∷ xs → AreCalls b c may (firsts i) (m ∷ ms) → m.new.seat.view.steps ≡ part_of i ((i, x.1) ∷ x.0)
-      → Ordered b c may x.0 firsts (put i (Going ms m xs) stages) → Ordered b c may ((i, x.1) ∷ x.0) firsts stages
-  end-call i l ms m xs x stages e made calls steps o = by m.outcome refl calls.0.answered
-    where
-      d : DomId
-      d = dom_at k i
-
-      call : IsCall b c may m
-      call = calls.0
-
-      at-old : m.old.seat.view.position ≡ i
-      at-old = ap (λ (z : SeatOf). z.view.position) calls.1.seat ∙ (placed i l ms calls.2).0
-
-      v : View
-      v = view_after xs m.old.seat.view
-
-      w : View
-      w = view_after (x ∷ xs) m.old.seat.view
-
-      at-v : v.position ≡ i
-      at-v = after-position xs m.old.seat.view ∙ at-old
-
-      at-w : w.position ≡ i
-      at-w = after-position (x ∷ xs) m.old.seat.view ∙ at-old
-
-      seat : SeatNow c may o.g d (firsts i) (Going ms m xs)
-      seat = subst (SeatNow c may o.g d (firsts i)) (put-here i (Going ms m xs) stages) (o.each i l)
-
-      same : (j : ℕ) → i ≢ j → stages j ≡ put i (Going ms m xs) stages j
-      same j n = sym (put-else i (Going ms m xs) stages j n)
-
-      walk-of : (verdict : CallResult) → (t : TookSteps b c may m.request verdict m.steps m.old m.new) → IsWalk k (way_of c may m) m.old.seat.view (x ∷ xs)
-      walk-of verdict t = subst (IsWalk k (way_of c may m) m.old.seat.view) (t.1 ∙ made) t.0.walked
-
-      done-of : (verdict : CallResult) → (t : TookSteps b c may m.request verdict m.steps m.old m.new) → way_of c may m (all_shown (x ∷ xs)) ≡ Some (Done verdict)
-      done-of verdict t = ap (λ (z : List Moment). way_of c may m (all_shown z)) (sym (t.1 ∙ made)) ∙ t.0.answered
-
-      view-of : (verdict : CallResult) → (t : TookSteps b c may m.request verdict m.steps m.old m.new) → m.new.seat.view ≡ w
-      view-of verdict t = t.0.view ∙ ap (λ (z : List Moment). view_after z m.old.seat.view) (t.1 ∙ made)
-
-      -- its last step is on words
-      told : (verdict : CallResult) → KeepsNoPin verdict → MakesStep k (way_of c may m (all_shown xs)) (shown_by x) v w → way_of c may m (all_shown (x ∷ xs)) ≡ Some (Done verdict)
-          → items_by_outcome d (way_of c may m) m.request m.outcome m.steps ≡ items_of_call d (way_of c may m) m.request (Some (answer_of verdict)) (x ∷ xs) → LeavesMappings (asked m.request) verdict m.old.mappings m.new.mappings → m.new.seat.view ≡ w
-          → Ordered b c may ((i, x.1) ∷ x.0) firsts stages
-      told verdict plain step then items leave view =
-          let r = goes-so b c may limits is o.g i l m ms (firsts i) xs x call at-old (named i l) o.reached o.agree seat o.bounded step (Done verdict) (Some (answer_of verdict)) then (answered-so o.g d verdict plain) in
-          one-more b c may limits is x.0 ((i, x.1) ∷ x.0) firsts (put i (Going ms m xs) stages) stages i (stepped d r.step (seen_in_step x.1) (Some (answer_of verdict))) o l refl (named i l) r.right r.reached r.agree (then-more k d i r.step (seen_in_step x.1) x.1 (AreStepsOf k o.g) x.0 refl r.the refl o.steps)
-          (writes-by-words k o.g x.0 i d r.step x.1 (seen_in_step x.1) (Some (answer_of verdict)) r.quiet r.the o.writes) (bounded-step k o.g d r.step (seen_in_step x.1) (Some (answer_of verdict)) r.inner o.bounded) same
-          (subst (SeatNow c may (stepped d r.step (seen_in_step x.1) (Some (answer_of verdict)) ∷ o.g) d (firsts i)) (sym e)
-          (ends-told b c may limits is i l (firsts i) (named i l) o.g ms m xs x v w verdict call seat r items leave at-v at-w view steps))
-
-      -- its last step is its access
-      ends : (answer : Answer) (z : Step) → way_of c may m (all_shown xs) ≡ Some (Makes z) → AccessedAs k i (bytes_given_by m.request) z v w x → way_of c may m (all_shown (x ∷ xs)) ≡ Some (Done Granted) → TellsAccess o.g z answer → one_if_mapped (Some answer) ≡ 0
-          → items_by_outcome d (way_of c may m) m.request m.outcome m.steps ≡ items_of_call d (way_of c may m) m.request (Some answer) (x ∷ xs) → KeepsMappings m.old.mappings m.new.mappings → m.new.seat.view ≡ w
-          → Ordered b c may ((i, x.1) ∷ x.0) firsts stages
-      ends answer z next so then tells plain items keeps view =
-          let r = accesses-so b c may limits is o.g i l m ms (firsts i) xs x call at-old (named i l) o.reached o.agree o.writes seat o.bounded v w z next so (Done Granted) (Some answer) then (answer, refl, tells) plain in
-          one-more b c may limits is x.0 ((i, x.1) ∷ x.0) firsts (put i (Going ms m xs) stages) stages i (stepped d r.step (seen_in_step x.1) (Some answer)) o l refl (named i l) r.right r.reached r.agree (then-more k d i r.step (seen_in_step x.1) x.1 (AreStepsOf k o.g) x.0 refl r.the refl o.steps)
-          r.writes r.bounded same
-          (subst (SeatNow c may (stepped d r.step (seen_in_step x.1) (Some answer) ∷ o.g) d (firsts i)) (sym e)
-          (ends-accessed b c may limits is i l (firsts i) (named i l) o.g ms m xs x v w answer call seat r items keeps at-v at-w view steps))
-
-      by : (out : CallOutcome) → m.outcome ≡ out → IsAnswered b c may m.request out m.steps m.old m.new → Ordered b c may ((i, x.1) ∷ x.0) firsts stages
-      by Starved out a = absurd (no-head x xs (sym made ∙ a.0))
-      by (Read bytes) out a =
-          let t = a.0 in let given = bytes_given_by m.request in let z : Step = ReadBytes t.dom t.frame t.off t.len in
-          let last : Moment = (t.made.past, Frame (position_in k.ids t.dom) t.frame (frames.Read t.off bytes.bytes.items)) in
-          let all : last ∷ [] ≡ x ∷ xs = sym t.step ∙ made in
-          let so : AccessedAs k i given z v w x = subst (LastIs k i given z m.old.seat.view) all (read-as k i given t.dom t.frame t.off t.len bytes.bytes.items m.old.seat.view m.new.seat.view (view_after (last ∷ []) m.old.seat.view) t.made refl t.length_is) in
-          let next : way_of c may m (all_shown xs) ≡ Some (Makes z) = subst (LastNext (way_of c may m) z) all t.next in
-          let then : way_of c may m (all_shown (x ∷ xs)) ≡ Some (Done Granted) = ap (λ (q : List Moment). way_of c may m (all_shown q)) (sym all) ∙ t.done in
-          let agree : WritesAgree k o.g t.made.past = subst (WritesAgree k o.g) (ap (λ (q : Moment). q.0) (sym (head-same _ _ _ _ all))) o.writes in
-          let had = read-bytes c k is limits o.g t.made.past t.dom t.frame t.off bytes.bytes.items t.made.inside t.made.access.says agree in
-          let tells : TellsAccess o.g z (BytesAnswer bytes) = (bytes, refl, had ∙ ap (λ (n : ℕ). slice_range (contents_at o.g t.dom.0 t.frame) t.off (t.off + n)) t.length_is) in
-          ends (BytesAnswer bytes) z next so then tells refl (λ j. items_by_outcome d (way_of c may m) m.request (out j) (made j)) a.1
-          (t.made.view ∙ ap (λ (q : List Moment). view_after q m.old.seat.view) all)
-      by Wrote out a =
-          let t = a.0 in let given = bytes_given_by m.request in
-          let walk : IsCallWalk k given (way_of c may m) m.old.seat.view (x ∷ xs) = subst (IsCallWalk k given (way_of c may m) m.old.seat.view) made t.walked in
-          let then : way_of c may m (all_shown (x ∷ xs)) ≡ Some (Done Granted) = ap (λ (q : List Moment). way_of c may m (all_shown q)) (sym made) ∙ t.done in
-          let view : m.new.seat.view ≡ w = t.view ∙ ap (λ (q : List Moment). view_after q m.old.seat.view) made in
-          let items : items_by_outcome d (way_of c may m) m.request m.outcome m.steps ≡ items_by_outcome d (way_of c may m) m.request Wrote (x ∷ xs) = λ j. items_by_outcome d (way_of c may m) m.request (out j) (made j) in
-          ⊎_elim (λ (step : MakesStep k (way_of c may m (all_shown xs)) (shown_by x) v w).
-          told Granted tt step then items (leaves (asked m.request) Granted m.old.mappings m.new.mappings t.other a.1) view)
-          (λ (q : IsNextAccess k i given (way_of c may m) xs x v w).
-          ends AnswerDone q.0 q.1 q.2 then (tells-done o.g k given q.0 v w q.3) refl items a.1 view)
-          (turn-of k i given (way_of c may m) xs x m.old.seat.view walk.0)
-      by (Told verdict) out a =
-          let t = a.1 in told verdict a.0 (walk-of verdict t).0 (done-of verdict t) (λ j. items_by_outcome d (way_of c may m) m.request (out j) (made j)) a.2 (view-of verdict t)
-      by (Kept handle p) out a =
-          let t = a.1 in
-          let given : MayBeGiven o.g d handle p = record { old = m.old.mappings; new = m.new.mappings; agrees = seat.maps; adds = core-adds b c may limits is i l (firsts i) (named i l) m.old.mappings m.new.mappings handle p a.2 } in
-          let r = goes-so b c may limits is o.g i l m ms (firsts i) xs x call at-old (named i l) o.reached o.agree seat o.bounded (walk-of (KeptPin p) t).0 (Done (KeptPin p)) (Some (Mapped handle)) (done-of (KeptPin p) t) (handle, refl, given) in
-          let last : path (known_at s o.g d) d seat.call.0.request (values seat.call.0 ++ seen_by s o.g d r.step ∷ []) ≡ Some (Done (KeptPin p)) =
-          on-way b c may limits is o.g i l m ms (firsts i) xs x call at-old (named i l) o.reached o.agree seat o.bounded (walk-of (KeptPin p) t).0 r.step r.next (values seat.call.0 ++ seen_by s o.g d r.step ∷ [])
-          ∙ ((λ j. way_of c may m (seat.call.3 j ++ r.sees j ∷ [])) ∙ done-of (KeptPin p) t) in
-          one-more b c may limits is x.0 ((i, x.1) ∷ x.0) firsts (put i (Going ms m xs) stages) stages i (stepped d r.step (seen_in_step x.1) (Some (Mapped handle))) o l refl (named i l) r.right r.reached r.agree (then-more k d i r.step (seen_in_step x.1) x.1 (AreStepsOf k o.g) x.0 refl r.the refl o.steps)
-          (writes-by-words k o.g x.0 i d r.step x.1 (seen_in_step x.1) (Some (Mapped handle)) r.quiet r.the o.writes) (bounded-step k o.g d r.step (seen_in_step x.1) (Some (Mapped handle)) r.inner o.bounded) same
-          (subst (SeatNow c may (stepped d r.step (seen_in_step x.1) (Some (Mapped handle)) ∷ o.g) d (firsts i)) (sym e)
-          (ends-kept b c may limits is i l (firsts i) (named i l) o.g ms m xs x v w handle p call seat r last made out a.2 at-v at-w (view-of (KeptPin p) t) steps))
-
   -- back over the calls without a step
 
   strip : (h : StepHistory) (i : ℕ) (l : i < k.domains) (orig : ℕ → Stage)
-      → ((ms : List CallMade) (m : CallMade) (xs : List Moment) (x : Moment) (stages : ℕ → Stage) → stages i ≡ Resting (m ∷ ms) → m.steps ≡ x ∷ xs → FitAll h stages → Ordered b c may h firsts stages)
+      → ((ms : List Deed) (m : CallMade) (xs : List Moment) (x : Moment) (stages : ℕ → Stage) → stages i ≡ Resting (Call m ∷ ms) → m.steps ≡ x ∷ xs → FitAll h stages → Ordered b c may h firsts stages)
+      → ((ms : List Deed) (x : FlagMade) (stages : ℕ → Stage) → stages i ≡ Resting (OnFlag x ∷ ms) → FitAll h stages → Ordered b c may h firsts stages)
       → ((stages : ℕ → Stage) → stages i ≡ Resting [] → ((j : ℕ) → i ≢ j → stages j ≡ orig j) → FitAll h stages → Ordered b c may h firsts stages)
-      → (ms : List CallMade) (stages : ℕ → Stage) → stages i ≡ Resting ms → ((j : ℕ) → i ≢ j → stages j ≡ orig j) → FitAll h stages → Ordered b c may h firsts stages
-  strip h i l orig on-step on-empty [] stages e same fits = on-empty stages e same fits
-  strip h i l orig on-step on-empty (m ∷ ms) stages e same fits =
-      by m.steps refl (λ more. strip h i l orig on-step on-empty ms (put i (Resting ms) stages) (put-here i (Resting ms) stages) (λ j n. put-else i (Resting ms) stages j n ∙ same j n) more)
+      → (ms : List Deed) (stages : ℕ → Stage) → stages i ≡ Resting ms → ((j : ℕ) → i ≢ j → stages j ≡ orig j) → FitAll h stages → Ordered b c may h firsts stages
+  strip h i l orig on-step on-flag on-empty [] stages e same fits = on-empty stages e same fits
+  strip h i l orig on-step on-flag on-empty (OnFlag x ∷ ms) stages e same fits = on-flag ms x stages e fits
+  strip h i l orig on-step on-flag on-empty (Call m ∷ ms) stages e same fits =
+      by m.steps refl (λ more. strip h i l orig on-step on-flag on-empty ms (put i (Resting ms) stages) (put-here i (Resting ms) stages) (λ j n. put-else i (Resting ms) stages j n ∙ same j n) more)
     where
-      fit : Fits b c may h i (firsts i) (Resting (m ∷ ms))
+      fit : Fits b c may h i (firsts i) (Resting (Call m ∷ ms))
       fit = subst (Fits b c may h i (firsts i)) e (fits i l)
 
       by : (z : List Moment) → m.steps ≡ z → (FitAll h (put i (Resting ms) stages) → Ordered b c may h firsts (put i (Resting ms) stages)) → Ordered b c may h firsts stages
       by [] none rec =
-          let view : (domain_after (firsts i) ms).seat.view ≡ m.new.seat.view = sym (same-view m.request m.outcome m.steps m.old m.new fit.is.0.answered none ∙ ap (λ (q : SeatOf). q.view) fit.is.1.seat) in
+          let view : (domain_after (firsts i) ms).seat.view ≡ m.new.seat.view = sym (same-view b c may limits is firsts new m.request m.outcome m.steps m.old m.new fit.is.0.answered none ∙ ap (λ (q : SeatOf). q.view) fit.is.1.seat) in
           let steps : (domain_after (firsts i) ms).seat.view.steps ≡ part_of i h = ap (λ (q : View). q.steps) view ∙ fit.steps in
-          quiet-call h i l m ms stages e none fit.is steps
+          quiet-call b c may limits is firsts new h i l m ms stages e none fit.is steps
           (rec (refit h h stages i (Resting ms) fits (λ j n. (refl, refl)) (record { is = fit.is.2; steps = steps; past = ap (λ (q : View). q.past) view ∙ fit.past })))
       by (x ∷ xs) made rec = on-step ms m xs x stages e made fits
 
   -- before the first step
 
   flush : (n : ℕ) → n ≤ k.domains → (stages : ℕ → Stage) → ((j : ℕ) → n ≤ j → j < k.domains → stages j ≡ Resting []) → FitAll [] stages → Ordered b c may [] firsts stages
-  flush zero le stages rest fits = ordered-first b c may limits is firsts stages new named (λ j l. rest j (omega arith) l)
+  flush zero le stages rest fits = ordered-first b c may limits is firsts stages new (named b c may limits is firsts new) (λ j l. rest j (omega arith) l)
   flush (suc n) le stages rest fits = by (λ st r f. flush n (omega arith) st r f) (stages n) refl
     where
       l : n < k.domains
       l = omega arith
 
-      no-steps : (ms : List CallMade) (m : CallMade) (xs : List Moment) (x : Moment) (st : ℕ → Stage) → st n ≡ Resting (m ∷ ms) → m.steps ≡ x ∷ xs → FitAll [] st → Ordered b c may [] firsts st
+      no-steps : (ms : List Deed) (m : CallMade) (xs : List Moment) (x : Moment) (st : ℕ → Stage) → st n ≡ Resting (Call m ∷ ms) → m.steps ≡ x ∷ xs → FitAll [] st → Ordered b c may [] firsts st
       no-steps ms m xs x st e made f =
           let fit = subst (Fits b c may [] n (firsts n)) e (f n l) in
           absurd (some-steps m.outcome fit.is.0.answered)
@@ -503,18 +132,23 @@ module _ (b : Board) (c : Config) (may : AllowRelation) (limits : IsWithinLimits
           some-steps (Told verdict) a = view-then verdict a.1 ((subst (Fits b c may [] n (firsts n)) e (f n l)).steps)
           some-steps (Kept handle p) a = view-then (KeptPin p) a.1 ((subst (Fits b c may [] n (firsts n)) e (f n l)).steps)
 
+      no-flags : (ms : List Deed) (x : FlagMade) (st : ℕ → Stage) → st n ≡ Resting (OnFlag x ∷ ms) → FitAll [] st → Ordered b c may [] firsts st
+      no-flags ms x st e f =
+          let fit = subst (Fits b c may [] n (firsts n)) e (f n l) in
+          absurd (no-head _ _ (ap (λ (q : View). q.steps) (sym fit.is.0.step.view) ∙ fit.steps))
+
       on : ((st : ℕ → Stage) → ((j : ℕ) → n ≤ j → j < k.domains → st j ≡ Resting []) → FitAll [] st → Ordered b c may [] firsts st)
           → (st : ℕ → Stage) → st n ≡ Resting [] → ((j : ℕ) → n ≢ j → st j ≡ stages j) → FitAll [] st → Ordered b c may [] firsts st
       on rec st e same f = rec st (λ j a lj. elim (cases_eq n j) [ inl z ↦ subst (λ (q : ℕ). st q ≡ Resting []) z e | inr z ↦ same j z ∙ rest j (omega arith) lj ]) f
 
       by : ((st : ℕ → Stage) → ((j : ℕ) → n ≤ j → j < k.domains → st j ≡ Resting []) → FitAll [] st → Ordered b c may [] firsts st) → (st : Stage) → stages n ≡ st → Ordered b c may [] firsts stages
-      by rec (Resting ms) e = strip [] n l stages no-steps (on rec) ms stages e (λ j z. refl) fits
+      by rec (Resting ms) e = strip [] n l stages no-steps no-flags (on rec) ms stages e (λ j z. refl) fits
       by rec (Going ms m []) e =
           let fit = subst (Fits b c may [] n (firsts n)) e (fits n l) in
           let seat : (domain_after (firsts n) ms).seat.view ≡ m.old.seat.view = sym (ap (λ (q : SeatOf). q.view) fit.is.rests.seat) in
-          begin-call [] n l m ms stages e fit.is
-          (strip [] n l stages no-steps (on rec) ms (put n (Resting ms) stages) (put-here n (Resting ms) stages) (λ j z. put-else n (Resting ms) stages j z)
-          (refit [] [] stages n (Resting ms) fits (λ j z. (refl, refl)) (record { is = fit.is.calls; steps = ap (λ (q : View). q.steps) seat ∙ fit.steps; past = ap (λ (q : View). q.past) seat ∙ fit.past })))
+          begin-call b c may limits is firsts new [] n l m ms stages e fit.is
+          (strip [] n l stages no-steps no-flags (on rec) ms (put n (Resting ms) stages) (put-here n (Resting ms) stages) (λ j z. put-else n (Resting ms) stages j z)
+          (refit [] [] stages n (Resting ms) fits (λ j z. (refl, refl)) (record { is = fit.is.deeds; steps = ap (λ (q : View). q.steps) seat ∙ fit.steps; past = ap (λ (q : View). q.past) seat ∙ fit.past })))
       by rec (Going ms m (x ∷ xs)) e = absurd (no-head x.1 _ (subst (Fits b c may [] n (firsts n)) e (fits n l)).steps)
 
   -- the history from its newest step back
@@ -541,14 +175,14 @@ module _ (b : Board) (c : Config) (may : AllowRelation) (limits : IsWithinLimits
       to-here : (x : Moment) (st : ℕ → Stage) → x.0 ≡ h → x.1 ≡ p.1 → Ordered b c may ((i, x.1) ∷ x.0) firsts st → Ordered b c may (p ∷ h) firsts st
       to-here x st a e o = subst (λ (q : StepHistory). Ordered b c may q firsts st) (λ j. (i, e j) ∷ a j) o
 
-      module-step : (i < k.domains) → ((st : ℕ → Stage) → FitAll h st → Ordered b c may h firsts st) → (ms : List CallMade) (m : CallMade) (xs : List Moment) (x : Moment) (st : ℕ → Stage) → st i ≡ Resting (m ∷ ms) → m.steps ≡ x ∷ xs → FitAll (p ∷ h) st → Ordered b c may (p ∷ h) firsts st
+      module-step : (i < k.domains) → ((st : ℕ → Stage) → FitAll h st → Ordered b c may h firsts st) → (ms : List Deed) (m : CallMade) (xs : List Moment) (x : Moment) (st : ℕ → Stage) → st i ≡ Resting (Call m ∷ ms) → m.steps ≡ x ∷ xs → FitAll (p ∷ h) st → Ordered b c may (p ∷ h) firsts st
       module-step l rec ms m xs x st e made f = go m.outcome fit.is.0.answered
         where
-          fit : Fits b c may (p ∷ h) i (firsts i) (Resting (m ∷ ms))
+          fit : Fits b c may (p ∷ h) i (firsts i) (Resting (Call m ∷ ms))
           fit = subst (Fits b c may (p ∷ h) i (firsts i)) e (f i l)
 
           at-old : m.old.seat.view.position ≡ i
-          at-old = ap (λ (z : SeatOf). z.view.position) fit.is.1.seat ∙ (placed i l ms fit.is.2).0
+          at-old = ap (λ (z : SeatOf). z.view.position) fit.is.1.seat ∙ (placed b c may limits is firsts new i l ms fit.is.2).0
 
           goes : (z : Step) × (way_of c may m (all_shown xs) ≡ Some (Makes z)) × StoodWith (Unit {0}) k x.0 (view_after xs m.old.seat.view) → IsCallWalk k (bytes_given_by m.request) (way_of c may m) m.old.seat.view xs → m.new.seat.view ≡ view_after (x ∷ xs) m.old.seat.view
               → Ordered b c may (p ∷ h) firsts st
@@ -556,7 +190,7 @@ module _ (b : Board) (c : Config) (may : AllowRelation) (limits : IsWithinLimits
               let bk = back h p i ms m xs x refl fit.is.2 fit.is.1 fit.is.0 at-old newest walk
               (ap (λ (q : View). q.steps) (sym view) ∙ fit.steps) (ap (λ (q : View). q.past) (sym view) ∙ fit.past) in
               let o = rec (put i (Going ms m xs) st) (refit h (p ∷ h) st i (Going ms m xs) f others bk.1) in
-              to-here x st bk.0.0 bk.0.1 (end-call i l ms m xs x st e made fit.is
+              to-here x st bk.0.0 bk.0.1 (end-call b c may limits is firsts new i l ms m xs x st e made fit.is
               (fit.steps ∙ (λ j. part_of i ((i, sym bk.0.1 j) ∷ sym bk.0.0 j)))
               (subst (λ (q : StepHistory). Ordered b c may q firsts (put i (Going ms m xs) st)) (sym bk.0.0) o))
 
@@ -582,6 +216,20 @@ module _ (b : Board) (c : Config) (may : AllowRelation) (limits : IsWithinLimits
           go (Told verdict) a = took verdict a.1
           go (Kept handle q) a = took (KeptPin q) a.1
 
+      flag-step : (i < k.domains) → ((st : ℕ → Stage) → FitAll h st → Ordered b c may h firsts st) → (ms : List Deed) (x : FlagMade) (st : ℕ → Stage) → st i ≡ Resting (OnFlag x ∷ ms) → FitAll (p ∷ h) st → Ordered b c may (p ∷ h) firsts st
+      flag-step l rec ms x st e f =
+          let fit = subst (Fits b c may (p ∷ h) i (firsts i)) e (f i l) in
+          let made = fit.is.0.step in let v = x.old.seat.view in
+          let at-v : v.position ≡ i = ap (λ (z : SeatOf). z.view.position) fit.is.1.seat ∙ (placed b c may limits is firsts new i l ms fit.is.2).0 in
+          let moment : Moment = (made.past, Flag x.flag x.step) in
+          let same = at-moment h moment i p v at-v refl (ap (λ (q : View). q.past) (sym made.view) ∙ fit.past) in
+          let before : v.steps ≡ part_of i h = tail-same _ _ _ _ (ap (λ (q : View). q.steps) (sym made.view) ∙ (fit.steps ∙ top)) in
+          let stood = made.access.stood in
+          let past : v.past ≡ up_to i h = (stood.1.led_here.parts v.position v stood.2).1 ∙ (λ j. up_to (at-v j) (same.0 j)) in
+          let seat : (domain_after (firsts i) ms).seat.view ≡ v = sym (ap (λ (q : SeatOf). q.view) fit.is.1.seat) in
+          let o = rec (put i (Resting ms) st) (refit h (p ∷ h) st i (Resting ms) f others (record { is = fit.is.2; steps = ap (λ (q : View). q.steps) seat ∙ before; past = ap (λ (q : View). q.past) seat ∙ past })) in
+          to-here moment st same.0 same.1 (step-on-flag b c may limits is firsts new made.past i l ms x st e fit.is made.access.says (subst (λ (q : StepHistory). Ordered b c may q firsts (put i (Resting ms) st)) (sym same.0) o))
+
       on : (i < k.domains) → (orig : ℕ → Stage) → (st : ℕ → Stage) → st i ≡ Resting [] → ((j : ℕ) → i ≢ j → st j ≡ orig j) → FitAll (p ∷ h) st → Ordered b c may (p ∷ h) firsts st
       on l orig st e same f = let fit = subst (Fits b c may (p ∷ h) i (firsts i)) e (f i l) in
           absurd (no-head p.1 (part_of i h) (sym top ∙ (sym fit.steps ∙ (new i l).seat.steps)))
@@ -591,20 +239,20 @@ module _ (b : Board) (c : Config) (may : AllowRelation) (limits : IsWithinLimits
       at rec (inl l) = by (stages i) refl
         where
           by : (st : Stage) → stages i ≡ st → Ordered b c may (p ∷ h) firsts stages
-          by (Resting ms) e = strip (p ∷ h) i l stages (module-step l rec) (on l stages) ms stages e (λ j z. refl) fits
+          by (Resting ms) e = strip (p ∷ h) i l stages (module-step l rec) (flag-step l rec) (on l stages) ms stages e (λ j z. refl) fits
           by (Going ms m []) e =
               let fit = subst (Fits b c may (p ∷ h) i (firsts i)) e (fits i l) in
               let seat : (domain_after (firsts i) ms).seat.view ≡ m.old.seat.view = sym (ap (λ (q : SeatOf). q.view) fit.is.rests.seat) in
-              begin-call (p ∷ h) i l m ms stages e fit.is
-              (strip (p ∷ h) i l stages (module-step l rec) (on l stages) ms (put i (Resting ms) stages) (put-here i (Resting ms) stages) (λ j z. put-else i (Resting ms) stages j z)
-              (refit (p ∷ h) (p ∷ h) stages i (Resting ms) fits (λ j z. (refl, refl)) (record { is = fit.is.calls; steps = ap (λ (q : View). q.steps) seat ∙ fit.steps; past = ap (λ (q : View). q.past) seat ∙ fit.past })))
+              begin-call b c may limits is firsts new (p ∷ h) i l m ms stages e fit.is
+              (strip (p ∷ h) i l stages (module-step l rec) (flag-step l rec) (on l stages) ms (put i (Resting ms) stages) (put-here i (Resting ms) stages) (λ j z. put-else i (Resting ms) stages j z)
+              (refit (p ∷ h) (p ∷ h) stages i (Resting ms) fits (λ j z. (refl, refl)) (record { is = fit.is.deeds; steps = ap (λ (q : View). q.steps) seat ∙ fit.steps; past = ap (λ (q : View). q.past) seat ∙ fit.past })))
           by (Going ms m (x ∷ xs)) e =
               let fit = subst (Fits b c may (p ∷ h) i (firsts i)) e (fits i l) in
-              let at-old : m.old.seat.view.position ≡ i = ap (λ (z : SeatOf). z.view.position) fit.is.rests.seat ∙ (placed i l ms fit.is.calls).0 in
+              let at-old : m.old.seat.view.position ≡ i = ap (λ (z : SeatOf). z.view.position) fit.is.rests.seat ∙ (placed b c may limits is firsts new i l ms fit.is.deeds).0 in
               let newest = stood-of k i (bytes_given_by m.request) (way_of c may m) xs x m.old.seat.view (after-position xs m.old.seat.view ∙ at-old) fit.is.walked.0 in
-              let bk = back h p i ms m xs x refl fit.is.calls fit.is.rests fit.is.call at-old newest fit.is.walked.1 fit.steps fit.past in
+              let bk = back h p i ms m xs x refl fit.is.deeds fit.is.rests fit.is.call at-old newest fit.is.walked.1 fit.steps fit.past in
               let o = rec (put i (Going ms m xs) stages) (refit h (p ∷ h) stages i (Going ms m xs) fits others bk.1) in
-              to-here x stages bk.0.0 bk.0.1 (go-on i l ms m xs x stages e fit.is (subst (λ (q : StepHistory). Ordered b c may q firsts (put i (Going ms m xs) stages)) (sym bk.0.0) o))
+              to-here x stages bk.0.0 bk.0.1 (go-on b c may limits is firsts new i l ms m xs x stages e fit.is (subst (λ (q : StepHistory). Ordered b c may q firsts (put i (Going ms m xs) stages)) (sym bk.0.0) o))
 
 -- each run of the monitor has a legal order
 pub runs-have-legal-orders : RunsHaveLegalOrders
@@ -620,12 +268,22 @@ runs-have-legal-orders b c may s seats run = by ordered
     firsts i = (seats i).first
 
     stages : ℕ → Stage
-    stages i = Resting (seats i).calls
+    stages i = Resting (seats i).deeds
 
     ordered : Ordered b c may run.shown.history firsts stages
     ordered = build b c may run.limits run.layout firsts (λ i l. (run.each i (inside i l)).starts) run.shown.history stages
-        (λ i l. let e = run.each i (inside i l) in let p = run.shown.now.led_here.parts i _ e.now in record { is = e.calls; steps = p.0; past = p.1 })
+        (λ i l. let e = run.each i (inside i l) in let p = run.shown.now.led_here.parts i _ e.now in record { is = e.deeds; steps = p.0; past = p.1 })
         (λ j le. run.shown.now.led_here.no_other j (let n = run.shown.now.dealt.1 in omega arith))
 
-    by : Ordered b c may run.shown.history firsts stages → (g : Items) × IsLegalOrder c may k run.shown.history seats g
-    by o = (o.g, record { reached = o.reached; legal = o.legal; steps = o.steps; writes = o.writes; calls = λ i l. (o.each i l).items })
+    by : Ordered b c may run.shown.history firsts stages → (o : RunOrder) × IsLegalOrder c may k run.shown.history seats o
+    by o = (
+      o.order,
+      record {
+        reached = subst (CanBeReached (setting_of c may)) (sym o.items) o.reached;
+        legal = subst (λ (g : Items). Legal (setting_of c may) (events_of g) (trace_of g)) (sym o.items) o.legal;
+        steps = o.steps;
+        writes = subst (λ (g : Items). WritesAgree k g run.shown.history) (sym o.items) o.writes;
+        flags = o.flags;
+        deeds = o.own;
+      },
+    )

@@ -18,7 +18,7 @@ use Rattle.gt_word_history.specs.declared.view.EntryRecord.{EntryRecord}
 use Rattle.gt_word_history.specs.declared.view.EntryStep.{EntryStep}
 use Rattle.gt_word_history.specs.declared.view.EntryStep.TheVariants.{Changed}
 use Rattle.gt_word_history.specs.declared.view.SeatStep.{SeatStep}
-use Rattle.gt_word_history.specs.declared.view.SeatStep.TheVariants.{Entry, Frame, Header}
+use Rattle.gt_word_history.specs.declared.view.SeatStep.TheVariants.{Entry, Flag, Frame, Header}
 use Rattle.gt_order.specs.Agreeing.{dom_at, last_at}
 
 -- domains and positions
@@ -91,6 +91,7 @@ abbrev pub ChangesNothing : SeatStep → Type 0
 ChangesNothing (Entry t r m) = IsNoChange m
 ChangesNothing (Header t m) = Unit {0}
 ChangesNothing (Frame t f m) = Unit {0}
+ChangesNothing (Flag f m) = Unit {0}
 
 record-plain : (first : ℕ) (m : EntryStep) (ms : List EntryStep) → IsNoChange m → last_record first (m ∷ ms) ≡ last_record first ms
 record-plain first (Changed c e n x) ms q = absurd q
@@ -104,6 +105,7 @@ record-after first t r (Entry d q m) xs c = by ((d == t) && (q == r))
     by false = refl
 record-after first t r (Header d m) xs c = refl
 record-after first t r (Frame d f m) xs c = refl
+record-after first t r (Flag f m) xs c = refl
 
 -- a step that changes nothing leaves each record
 pub record-kept : (k : Layout) (i : ℕ) (x : SeatStep) (h : StepHistory) (t r : ℕ) → ChangesNothing x → last_at k t r ((i, x) ∷ h) ≡ last_at k t r h

@@ -32,7 +32,7 @@ use Rattle.gt_live.specs.Domains.{AllowRelation}
 use Rattle.gt_live.specs.Starting.{IsNewDomain}
 use Rattle.gt_live.specs.declared.domain.Domain.{Domain}
 use Rattle.gt_order.proofs.DomainsAtRest.{rest-known}
-use Rattle.gt_order.proofs.Stages.{Ordered, SeatNow, Stage}
+use Rattle.gt_order.proofs.Stages.{Ordered, SeatNow, Stage, order_now}
 use Rattle.gt_order.proofs.Stages.Stage.{Resting}
 use Rattle.gt_order.proofs.Stepping.{AreBounded, IsBounded, state-there}
 use Rattle.gt_order.specs.Agreeing.{Agree, WritesAgree, dom_at}
@@ -127,12 +127,16 @@ module _ (b : Board) (c : Config) (may : AllowRelation) (limits : IsWithinLimits
       → Ordered b c may [] firsts stages
   ordered-first firsts stages new named rest = record {
     g = [];
+    order = [];
+    items = refl;
     reached = reached;
     agree = agree-first;
     legal = tt;
     steps = refl;
     writes = none-written;
+    flags = tt;
     bounded = none-bounded;
+    own = λ i l. ap (order_now c may (dom_at k i)) (sym (rest i l));
     each = λ i l. subst (SeatNow c may [] (dom_at k i) (firsts i)) (sym (rest i l)) (first-seat i l);
   }
     where
@@ -146,7 +150,6 @@ module _ (b : Board) (c : Config) (may : AllowRelation) (limits : IsWithinLimits
           let none = n.seat.steps in
           let head : header_word (table_at s [] (dom_at k i)) ≡ own_header (firsts i).seat.view =
           agree-first.headers i l ∙ (initial-header k i ∙ own (firsts i) n.seat.position n.seat.headers none) in record {
-            items = refl;
             maps = maps;
             known = rest-known b c may k [] [] i (firsts i) agree-first l n.domain n.seat.position n.seat.first none t.0 t.3 t.2
                 (sym (table-fits _ (reached.1.domains.tables (dom_at k i))).1 ∙ ap header_of head) maps;

@@ -7,7 +7,7 @@ use Rattle.gt_order.specs.Prelude.{Underway}
 use Rattle.gt_order.specs.Prelude.{known_at, open_call, seen_by, values, IsRight, setting_of, Answer, Stepped, Item}
 use Rattle.gt_order.specs.Prelude.{AllowRelation, seen_in_step}
 use Rattle.gt_order.specs.Agreeing.{Agree, IsThe, IsWithin, StoresChange, dom_at}
-use Rattle.gt_order.specs.Ordering.{IsLegalOrder}
+use Rattle.gt_order.specs.Ordering.{IsLegalOrder, RunOrder}
 use Rattle.gt_order.specs.Runs.{IsMonitorRun, SeatRun}
 
 -- if items and history agree, and the words' step records the word that is there, the core's step sees what that step
@@ -35,4 +35,4 @@ StepsKeepAgreement =
 abbrev pub RunsHaveLegalOrders : Type 0
 RunsHaveLegalOrders =
     (b : Board) (c : Config) (may : AllowRelation) (s : State (Unit {0}) View) (seats : ℕ → SeatRun)
-    (run : IsMonitorRun b c may s seats) → (g : Items) × IsLegalOrder c may b.layout run.shown.history seats g
+    (run : IsMonitorRun b c may s seats) → (o : RunOrder) × IsLegalOrder c may b.layout run.shown.history seats o

@@ -1,14 +1,15 @@
--- The items of a run: the steps of its history in their order, with the beginnings of its calls in between.
-use Rattle.std.specs.Prelude.{◌≡◌, ℕ, ◌<◌, ◌==◌, if◌then◌else◌, List, [], ◌∷◌, ◌++◌, Option, Some, None}
+-- The order of a run: the steps of its history in their order, with the beginnings of its calls between them.
+use Rattle.std.specs.Prelude.{◌≡◌, ◌≢◌, ◌⊎◌, ℕ, ◌<◌, ◌==◌, if◌then◌else◌, List, [], ◌∷◌, ◌++◌, map, Option, Some, None}
 use Rattle.gt_order.specs.Prelude.{DomId, Config, StepHistory, Layout, Moment, Continuation, path_of, Action, Makes}
 use Rattle.gt_order.specs.Prelude.{Observation}
 use Rattle.gt_order.specs.Prelude.{Step, LookHeader, Request, CanBeReached, Items, Legal}
 use Rattle.gt_order.specs.Prelude.{answer_of}
 use Rattle.gt_order.specs.Prelude.{setting_of, Answer, AnswerDone, BytesAnswer, MappedAnswer, Element, Did, Event, Begin, Tick}
 use Rattle.gt_order.specs.Prelude.{ItemEvent, Began, Stepped, Item, AllowRelation, knowledge, all_shown, shown_by}
-use Rattle.gt_order.specs.Prelude.{seen_in_step}
+use Rattle.gt_order.specs.Prelude.{Flag, FlagStep, Passed, Raised, domain_of, seen_in_step}
 use Rattle.gt_order.specs.Agreeing.{IsThe, WritesAgree, dom_at}
-use Rattle.gt_order.specs.Runs.{CallMade, CallOutcome, SeatRun}
+use Rattle.gt_order.specs.Runs.{CallMade, CallOutcome, Deed, SeatRun}
+use Rattle.gt_order.specs.Runs.Deed.{Call, OnFlag}
 use Rattle.gt_order.specs.Runs.CallOutcome.{Told, Kept, Starved, Read, Wrote}
 
 -- the step is the newest one of the history, by its seat's domain, and it saw what that step shows
@@ -17,15 +18,55 @@ IsNewest k d step seen rest [] = ⊥
 IsNewest k d step seen rest (p ∷ h) =
     (d ≡ dom_at k p.0) × IsThe k p.0 step p.1 × (seen ≡ seen_in_step p.1) × rest h
 
--- the steps among the items are those of the history, one by one in the same order, each by its seat's domain, and each
--- saw what the history's step shows
+-- the step on the flag is the newest one of the history, by its seat's domain
+abbrev pub IsNewestOnFlag : Layout → DomId → ℕ → FlagStep → (StepHistory → Type 0) → StepHistory → Type 0
+IsNewestOnFlag k d flag m rest [] = ⊥
+IsNewestOnFlag k d flag m rest (p ∷ h) = (d ≡ dom_at k p.0) × (p.1 ≡ Flag flag m) × rest h
+
+-- what happens in a run: an item of the core, or a step of a domain on a flag
+pub data Occurrence : Type 0 where
+  OfCore : Item → Occurrence
+  OfFlag : DomId → ℕ → FlagStep → Occurrence
+
+-- what happens in a run, in its order, the last first
+abbrev pub RunOrder : Type 0
+RunOrder = List Occurrence
+
+-- the items in an order
+abbrev pub items_in : RunOrder → Items
+items_in [] = []
+items_in (OfCore i ∷ o) = i ∷ items_in o
+items_in (OfFlag d flag m ∷ o) = items_in o
+
+-- the steps in an order are those of the history, one by one in the same order, each by its seat's domain, and each
+-- step of the core saw what the history's step shows
 abbrev pub ThenSteps : Layout → DomId → ItemEvent → (StepHistory → Type 0) → StepHistory → Type 0
 ThenSteps k d (Began request) rest h = rest h
 ThenSteps k d (Stepped step seen) rest h = IsNewest k d step seen rest h
 
-abbrev pub AreStepsOf : Layout → Items → StepHistory → Type 0
+abbrev pub AreStepsOf : Layout → RunOrder → StepHistory → Type 0
 AreStepsOf k [] h = h ≡ []
-AreStepsOf k (i ∷ g) h = ThenSteps k i.actor i.happened (AreStepsOf k g) h
+AreStepsOf k (OfCore i ∷ o) h = ThenSteps k i.actor i.happened (AreStepsOf k o) h
+AreStepsOf k (OfFlag d flag m ∷ o) h = IsNewestOnFlag k d flag m (AreStepsOf k o) h
+
+-- a domain raised this flag in the order
+abbrev pub IsRaisedIn : ℕ → RunOrder → Type 0
+IsRaisedIn flag [] = ⊥
+IsRaisedIn flag (OfCore i ∷ o) = IsRaisedIn flag o
+IsRaisedIn flag (OfFlag d f Raised ∷ o) = (f ≡ flag) ⊎ IsRaisedIn flag o
+IsRaisedIn flag (OfFlag d f Passed ∷ o) = IsRaisedIn flag o
+
+-- a flag that is passed after this order was raised in it
+abbrev pub WasRaised : ℕ → FlagStep → RunOrder → Type 0
+WasRaised flag Raised o = Unit {0}
+WasRaised flag Passed o = IsRaisedIn flag o
+
+-- each step on a flag is by a domain of the run, and each flag that a domain passes was raised before
+abbrev pub AreOnRaisedFlags : Config → RunOrder → Type 0
+AreOnRaisedFlags c [] = Unit {0}
+AreOnRaisedFlags c (OfCore i ∷ o) = AreOnRaisedFlags c o
+AreOnRaisedFlags c (OfFlag d flag m ∷ o) =
+    (domain_of c.domains.items d ≢ None) × WasRaised flag m o × AreOnRaisedFlags c o
 
 -- the step that comes next; on the path of a call there is one if the call made one
 abbrev pub step_in : Option Action → Step
@@ -72,16 +113,26 @@ items_by_outcome d way request outcome steps = items_of_call d way request (answ
 abbrev pub way_of : Config → AllowRelation → CallMade → Continuation
 way_of c may m = path_of (knowledge c may m.old) m.old.seat.dom m.request
 
--- the items of the calls of the domain d, the last one first
-abbrev pub items_of_calls : Config → AllowRelation → DomId → List CallMade → List Item
-items_of_calls c may d [] = []
-items_of_calls c may d (m ∷ ms) =
-    items_by_outcome d (way_of c may m) m.request m.outcome m.steps ++ items_of_calls c may d ms
+-- these items, with no step on a flag between them
+abbrev pub of_core : List Item → RunOrder
+of_core items = map (λ i. OfCore i) items
 
--- the items of one domain
-abbrev pub items_by : DomId → Items → List Item
-items_by d [] = []
-items_by d (i ∷ g) = if i.actor.0 == d.0 then i ∷ items_by d g else items_by d g
+-- what the deeds of the domain d are in an order, the last one first: the items of its calls, and its steps on flags
+abbrev pub order_of_deeds : Config → AllowRelation → DomId → List Deed → RunOrder
+order_of_deeds c may d [] = []
+order_of_deeds c may d (Call m ∷ ms) =
+    of_core (items_by_outcome d (way_of c may m) m.request m.outcome m.steps) ++ order_of_deeds c may d ms
+order_of_deeds c may d (OnFlag x ∷ ms) = OfFlag d x.flag x.step ∷ order_of_deeds c may d ms
+
+-- the domain of what happens
+abbrev pub actor_in : Occurrence → DomId
+actor_in (OfCore i) = i.actor
+actor_in (OfFlag d flag m) = d
+
+-- what one domain does in an order
+abbrev pub own_in : DomId → RunOrder → RunOrder
+own_in d [] = []
+own_in d (x ∷ o) = if (actor_in x).0 == d.0 then x ∷ own_in d o else own_in d o
 
 -- the event of an item
 abbrev pub event_in : DomId → ItemEvent → Event
@@ -97,13 +148,14 @@ abbrev pub trace_of : Items → List Element
 trace_of [] = []
 trace_of (i ∷ g) = trace_of g ++ Did i ∷ []
 
--- the items are a legal order of the run's calls: a core represents them, their trace is legal for their events, their
--- steps are those of the history in its order and wrote the same bytes, and those of each domain are the items of its
--- calls
+-- a legal order of the run's deeds: a core represents its items, their trace is legal for their events, its steps are
+-- those of the history in their order and wrote the same bytes, each flag is raised before it is passed, and what each
+-- domain does are its deeds
 pub record IsLegalOrder (c : Config) (may : AllowRelation) (k : Layout) (h : StepHistory) (seats : ℕ → SeatRun)
-    (g : Items) : Type 0 where
-  pub reached : CanBeReached (setting_of c may) g
-  pub legal : Legal (setting_of c may) (events_of g) (trace_of g)
-  pub steps : AreStepsOf k g h
-  pub writes : WritesAgree k g h
-  pub calls : (i : ℕ) → i < k.domains → items_by (dom_at k i) g ≡ items_of_calls c may (dom_at k i) (seats i).calls
+    (o : RunOrder) : Type 0 where
+  pub reached : CanBeReached (setting_of c may) (items_in o)
+  pub legal : Legal (setting_of c may) (events_of (items_in o)) (trace_of (items_in o))
+  pub steps : AreStepsOf k o h
+  pub writes : WritesAgree k (items_in o) h
+  pub flags : AreOnRaisedFlags c o
+  pub deeds : (i : ℕ) → i < k.domains → own_in (dom_at k i) o ≡ order_of_deeds c may (dom_at k i) (seats i).deeds

@@ -43,6 +43,7 @@ pub use Rattle.gt_live.specs.Domains.{Accesses, AllowRelation, Answered, IsDomai
 pub use Rattle.gt_live.specs.Domains.{MapAnswered}
 pub use Rattle.gt_live.specs.Domains.{knowledge, known_on, verdict_of}
 pub use Rattle.gt_live.specs.Ending.{IsMap, IsOfMapping}
+pub use Rattle.gt_live.specs.Flags.{FlagStepped}
 pub use Rattle.gt_live.specs.Mappings.{AddsMapping, KeepsMappings, Removes}
 pub use Rattle.gt_live.specs.Starting.{IsNewDomain}
 pub use Rattle.gt_live.specs.Walks.{Called, Made, all_shown, shown_by, seen_in_step, view_after}
@@ -71,8 +72,10 @@ pub use Rattle.gt_word_history.specs.declared.view.EntryRecord.{EntryRecord}
 pub use Rattle.gt_word_history.specs.declared.view.EntryStep.TheVariants.{ChangeMissed, Changed, Looked, PinMissed}
 pub use Rattle.gt_word_history.specs.declared.view.EntryStep.TheVariants.{Pinned}
 pub use Rattle.gt_word_history.specs.declared.view.EntryStep.TheVariants.{ReadBody, StoredBody, Unpinned}
+pub use Rattle.gt_word_history.specs.declared.view.FlagStep.{FlagStep}
+pub use Rattle.gt_word_history.specs.declared.view.FlagStep.TheVariants.{Passed, Raised}
 pub use Rattle.gt_word_history.specs.declared.view.SeatStep.{SeatStep}
-pub use Rattle.gt_word_history.specs.declared.view.SeatStep.TheVariants.{Entry, Frame, Header}
+pub use Rattle.gt_word_history.specs.declared.view.SeatStep.TheVariants.{Entry, Flag, Frame, Header}
 pub use Rattle.gt_word_history.specs.declared.view.View.{View}
 pub use lib.ListN.{get_elem?}
 pub use mathlib.Core.Option.{some}

@@ -2,7 +2,6 @@
 pub use Rattle.atomic_table.specs.Table.{State}
 pub use Rattle.gt_calls.specs.declared.request.Request.{Request}
 pub use Rattle.gt_core.specs.Acting.{answer_of}
-pub use Rattle.gt_core.specs.History.{History as Items}
 pub use Rattle.gt_core.specs.declared.trace.Answer.{Answer}
 pub use Rattle.gt_host.specs.Runs.{SaysRequest, Named}
 pub use Rattle.gt_script_lines.specs.declared.calls.ScriptCall.{ScriptCall}
@@ -12,20 +11,23 @@ pub use Rattle.gt_live.specs.declared.domain.Domain.{Domain}
 pub use Rattle.gt_live.specs.declared.domain.Departed.{Departed}
 pub use Rattle.gt_live.specs.declared.monitor.Monitor.{Monitor}
 pub use Rattle.gt_order.specs.Leaving.{AreUnmaps, MayUnmapAll}
-pub use Rattle.gt_order.specs.Ordering.{IsLegalOrder}
-pub use Rattle.gt_order.specs.Runs.{CallMade, FitsTypes, CallOutcome, SeatRun}
+pub use Rattle.gt_order.specs.Ordering.{IsLegalOrder, RunOrder}
+pub use Rattle.gt_order.specs.Runs.{CallMade, CallOutcome, Deed, FitsTypes, FlagMade, SeatRun}
+pub use Rattle.gt_order.specs.Runs.Deed.{Call, OnFlag}
 pub use Rattle.gt_order.specs.Runs.CallOutcome.{Kept, Read, Starved, Told, Wrote}
 pub use Rattle.gt_run.specs.Printing.{Served, WasServed, WritesAll}
 pub use Rattle.gt_run.specs.Serving.{MakesCall, ListOutcome, ListProgress}
 pub use Rattle.gt_run.specs.declared.lists.ThreadJob.{ThreadJob}
-pub use Rattle.gt_script.specs.declared.tasks.RunActionBy.TheVariants.{Do}
-pub use Rattle.gt_script.specs.Lists.{RunTask}
+pub use Rattle.gt_script.specs.declared.tasks.RunActionBy.TheVariants.{Await, Do, Tell}
+pub use Rattle.gt_script.specs.Lists.{RunAction, RunTask}
 pub use Rattle.gt_types.specs.declared.config.Config.{Config}
 pub use Rattle.gt_types.specs.declared.denial.Denial.{Denial}
 pub use Rattle.gt_words.specs.Conditions.{Board}
 pub use Rattle.gt_word_history.specs.History.{StepHistory}
 pub use Rattle.gt_word_history.specs.Rule.{Shows, id_at}
 pub use Rattle.gt_word_history.specs.Views.{IsAmong}
+pub use Rattle.gt_word_history.specs.declared.view.FlagStep.{FlagStep}
+pub use Rattle.gt_word_history.specs.declared.view.FlagStep.TheVariants.{Passed, Raised}
 pub use Rattle.gt_word_history.specs.declared.view.View.{View}
 pub use lib.ListN.{get_elem?}
 pub use mathlib.Core.Option.{some}

@@ -7,7 +7,7 @@ use Rattle.gt_order.specs.Prelude.{HeldPin, OpenRequest, Request, AllowRelation,
 use Rattle.gt_order.specs.Prelude.{KeepsMappings, Removes, IsNewDomain, Called, Domain}
 use Rattle.gt_order.specs.Prelude.{AccessesFrame, Action, Bytes, CopiesFrames, CopyBytes, DomId, Frame, Layout, Made}
 use Rattle.gt_order.specs.Prelude.{Observation, ReadBytes, Writ, all_shown, bytes_given_by, position_in, shown_by}
-use Rattle.gt_order.specs.Prelude.{IsOfMapping, view_after}
+use Rattle.gt_order.specs.Prelude.{FlagStep, FlagStepped, IsOfMapping, view_after}
 use Rattle.std.specs.Prelude.{◌⊎◌}
 use Rattle.gt_word_history.specs.declared.view.FrameStep.TheVariants as frames
 use Rattle.gt_calls.specs.declared.request.OpenRequest.TheVariants as asks
@@ -127,38 +127,54 @@ pub record IsCall (b : Board) (c : Config) (may : AllowRelation) (m : CallMade) 
   pub fits : FitsTypes m.request
   pub answered : IsAnswered b c may m.request m.outcome m.steps m.old m.new
 
--- between two calls the domain changed only its records
+-- a finished step of a domain on a flag: what it did to which flag, and the domain before and after it
+pub record FlagMade : Type 0 where
+  pub flag : ℕ
+  pub step : FlagStep
+  pub old : Domain
+  pub new : Domain
+
+-- what a domain does: a call, or a step on a flag
+pub data Deed : Type 0 where
+  Call : CallMade → Deed
+  OnFlag : FlagMade → Deed
+
+-- between two deeds the domain changed only its records
 pub record IsAtRest (d e : Domain) : Type 0 where
   pub seat : e.seat ≡ d.seat
   pub own : e.own ≡ d.own
   pub mappings : e.mappings ≡ d.mappings
 
--- what a domain did: the domain as it came with the monitor, and its calls, the last one first
+-- what a domain did: the domain as it came with the monitor, and its deeds, the last one first
 pub record SeatRun : Type 0 where
   pub first : Domain
-  pub calls : List CallMade
+  pub deeds : List Deed
 
--- the domain after these calls
-abbrev pub domain_after : Domain → List CallMade → Domain
+-- the domain after these deeds
+abbrev pub domain_after : Domain → List Deed → Domain
 domain_after first [] = first
-domain_after first (m ∷ ms) = m.new
+domain_after first (Call m ∷ ms) = m.new
+domain_after first (OnFlag x ∷ ms) = x.new
 
--- these calls were made one after another, the last one first
-abbrev pub AreCalls : Board → Config → AllowRelation → Domain → List CallMade → Type 0
-AreCalls b c may first [] = Unit {0}
-AreCalls b c may first (m ∷ ms) =
-    IsCall b c may m × IsAtRest (domain_after first ms) m.old × AreCalls b c may first ms
+-- these deeds were done one after another, the last one first
+abbrev pub AreDeeds : Board → Config → AllowRelation → Domain → List Deed → Type 0
+AreDeeds b c may first [] = Unit {0}
+AreDeeds b c may first (Call m ∷ ms) =
+    IsCall b c may m × IsAtRest (domain_after first ms) m.old × AreDeeds b c may first ms
+AreDeeds b c may first (OnFlag x ∷ ms) =
+    FlagStepped b.layout x.flag x.step x.old x.new × IsAtRest (domain_after first ms) x.old
+    × AreDeeds b c may first ms
 
--- the domain at the position i started as a new domain and made these calls; its view in this state is the one after
+-- the domain at the position i started as a new domain and did these deeds; its view in this state is the one after
 -- them
 pub record IsSeatRun (b : Board) (c : Config) (may : AllowRelation) (i : ℕ) (r : SeatRun) (views : List View)
     : Type 0 where
   pub starts : IsNewDomain b c may i r.first
-  pub calls : AreCalls b c may r.first r.calls
-  pub now : get_elem? views i ≡ some (domain_after r.first r.calls).seat.view
+  pub deeds : AreDeeds b c may r.first r.deeds
+  pub now : get_elem? views i ≡ some (domain_after r.first r.deeds).seat.view
 
--- a run of the monitor whose domains are all between two calls: words and views show a state, and each domain came with
--- the monitor, made its calls one after another, and has the view that it has in that state
+-- a run of the monitor whose domains are all between two deeds: words and views show a state, and each domain came with
+-- the monitor, did its deeds one after another, and has the view that it has in that state
 pub record IsMonitorRun (b : Board) (c : Config) (may : AllowRelation) (s : State (Unit {0}) View) (seats : ℕ → SeatRun)
     : Type 0 where
   pub limits : IsWithinLimits c

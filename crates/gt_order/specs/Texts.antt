@@ -4,8 +4,9 @@ use Rattle.std.specs.Prelude.{slice_get}
 use Rattle.gt_order.specs.RunNames.{some, get_elem?, State, Config, Denial, Board, StepHistory, Shows, id_at}
 use Rattle.gt_order.specs.Prelude.{IsWithinLimits}
 use Rattle.gt_order.specs.RunNames.{IsAmong}
-use Rattle.gt_order.specs.RunNames.{View, Request, Items, answer_of, Answer, IsOfAccess, AllowRelation, HasLeft}
+use Rattle.gt_order.specs.RunNames.{View, Request, answer_of, Answer, IsOfAccess, AllowRelation, HasLeft}
 use Rattle.gt_order.specs.RunNames.{Domain, Departed, Monitor, AreUnmaps, MayUnmapAll, IsLegalOrder, CallMade}
+use Rattle.gt_order.specs.RunNames.{Await, Call, Deed, FlagMade, FlagStep, OnFlag, Passed, Raised, RunAction, RunOrder, Tell}
 use Rattle.gt_order.specs.RunNames.{FitsTypes, CallOutcome, SeatRun, Told, Kept, Starved, Read, Wrote, ScriptCall}
 use Rattle.gt_order.specs.RunNames.{SaysRequest, Named, Do, RunTask, ThreadJob, Served, WasServed, WritesAll, MakesCall}
 use Rattle.gt_order.specs.RunNames.{ListOutcome, ListProgress}
@@ -52,12 +53,24 @@ pub record IsCallOf {P : Type 0} (may : P → AllowRelation) (duty : ThreadJob P
   pub answer : o.answer ≡ made.answer
   pub answered : OutcomeGivesAnswer m.outcome o.answer
 
--- these calls, the last one first, are those that the lines of the job's list made, with their outcomes in order
-abbrev pub AreCallsOf : {P : Type 0} → (P → AllowRelation) → ThreadJob P → List CallMade → List ListOutcome → Type 0
-AreCallsOf may duty [] outcomes = outcomes ≡ []
-AreCallsOf may duty (m ∷ ms) outcomes =
+-- the action raises the flag, or awaits it, by this step
+abbrev pub IsFlagStepOf : RunAction → ℕ → FlagStep → Type 0
+IsFlagStepOf (Tell f) flag Raised = f ≡ flag
+IsFlagStepOf (Await f) flag Passed = f ≡ flag
+IsFlagStepOf action flag m = ⊥
+
+-- the step on a flag is that of a line of the job's list
+abbrev pub IsOfFlagLine : {P : Type 0} → ThreadJob P → FlagMade → Type 0
+IsOfFlagLine duty x = (task : RunTask) × IsAmong task duty.part.tasks.now × IsFlagStepOf task.deed x.flag x.step
+
+-- these deeds, the last one first, are those of the lines of the job's list: calls with these outcomes, in order, and
+-- steps on flags
+abbrev pub AreDeedsOf : {P : Type 0} → (P → AllowRelation) → ThreadJob P → List Deed → List ListOutcome → Type 0
+AreDeedsOf may duty [] outcomes = outcomes ≡ []
+AreDeedsOf may duty (Call m ∷ ms) outcomes =
     (before : List ListOutcome) × (o : ListOutcome) × (outcomes ≡ before ++ o ∷ []) × IsCallOf may duty m o
-    × AreCallsOf may duty ms before
+    × AreDeedsOf may duty ms before
+AreDeedsOf may duty (OnFlag x ∷ ms) outcomes = IsOfFlagLine duty x × AreDeedsOf may duty ms outcomes
 
 -- the list of the domain at the position i was served, and no copy of it reached its access without making it
 pub record HasList {P : Type 0} (may : P → AllowRelation) (m : Monitor P) (i : ℕ) (s : Served P) : Type 0 where
@@ -73,23 +86,23 @@ abbrev pub IsViewOf : Board → Config → AllowRelation → Domain → View →
 IsViewOf b c may d v =
     (v ≡ d.seat.view) ⊎ ((l : Departed) × HasLeft b.layout d l × MayUnmapAll c may d × (v ≡ l.seat.view))
 
--- each of a domain's calls is a call of its list, or an unmap with which it left
-pub record AreCallsOfList {P : Type 0} (may : P → AllowRelation) (s : Served P) (made : List CallMade) : Type 0 where
-  pub leaving : List CallMade
-  pub listed : List CallMade
+-- each of a domain's deeds is one of its list, or an unmap with which it left
+pub record AreDeedsOfList {P : Type 0} (may : P → AllowRelation) (s : Served P) (made : List Deed) : Type 0 where
+  pub leaving : List Deed
+  pub listed : List Deed
   pub all : made ≡ leaving ++ listed
   pub unmaps : AreUnmaps leaving
-  pub lines : AreCallsOf may s.duty listed s.outcomes
+  pub lines : AreDeedsOf may s.duty listed s.outcomes
 
--- the text of the lists is that of a legal order: one list of items is legal for the run, has the steps of the history
--- in their order, and has for each domain the calls of its list, with the answers that its lines print
+-- the text of the lists is that of a legal order: one order is legal for the run, has the steps of the history in their
+-- order, and has for each domain the deeds of its list, with the answers that its lines print
 pub record AreOfALegalOrder {P : Type 0} (may : P → AllowRelation) (m : Monitor P) (h : StepHistory)
     (lists : ℕ → Served P)
     : Type 0 where
-  pub items : Items
+  pub order : RunOrder
   pub seats : ℕ → SeatRun
-  pub legal : IsLegalOrder m.config (may m.rights) m.words.layout h seats items
-  pub each : (i : ℕ) → i < length m.config.domains.items → AreCallsOfList may (lists i) (seats i).calls
+  pub legal : IsLegalOrder m.config (may m.rights) m.words.layout h seats order
+  pub each : (i : ℕ) → i < length m.config.domains.items → AreDeedsOfList may (lists i) (seats i).deeds
 
 -- if the configuration is within the limits of the core, each domain's list was served, no copy reached its access
 -- without making it, and words and views show a state in which each domain has the view with which its list ended or it

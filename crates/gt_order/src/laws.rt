@@ -34,7 +34,7 @@ pub fn calls_of_domains_are_made<P: Allows>(monitor: &Monitor<P>)
 {}
 
 /// A law: each run of the monitor whose calls are all finished is one legal interleaving of the core's events, in which
-/// each call has the answer that its domain gave, bytes and all.
+/// each call has the answer that its domain gave, bytes and all, and a flag is raised before it is passed.
 pub fn every_run_has_a_legal_order()
     ensures { RunsHaveLegalOrders }
 {}
@@ -57,9 +57,9 @@ pub fn every_run_writes_a_legal_order<P: Allows>(monitor: &Monitor<P>)
     ensures { RunsWriteALegalOrder P.may monitor.now }
 {}
 
-/// A law: what a run of a script without flags writes, but for its audit lines, is a text that the script may give, so
-/// one that `explore` lists, bytes and all. No allocation failed during its calls, and the policy allows each domain to
-/// unmap the mappings with which it leaves.
-pub fn every_run_without_flags_is_explored()
+/// A law: what a run writes, but for its audit lines, is a text that the script may give, so one that `explore` lists,
+/// bytes and all, if no list was stopped by its gate, no allocation failed during the calls, and the policy allows each
+/// domain to unmap the mappings with which it leaves.
+pub fn every_run_is_explored()
     ensures { RunsAreExplored }
 {}

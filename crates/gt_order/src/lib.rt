@@ -1,25 +1,26 @@
 //! Each run of the monitor is one legal interleaving of the core's events.
 //!
 //! Nothing here runs: the crate has definitions and laws. Each law is a function that does nothing, whose contract is
-//! the law. A run is the one order of all steps of all seats (`gt_words`), with the calls that each domain made, as
-//! their contracts describe them (`gt_live`).
+//! the law. A run is the one order of all steps of all seats (`gt_words`), with the calls and the steps on flags that
+//! each domain made, as their contracts describe them (`gt_live`).
 //!
-//! For each run whose calls are finished, there is a list of the core's items that is legal (`gt_core`). Its steps are
-//! those of the run in their order, accesses to bytes too, and each call has the answer that its domain gave
-//! ([`every_run_has_a_legal_order`]). The contracts of a domain's calls make them calls of a run
-//! ([`calls_of_domains_are_made`]). The lists of `gt_run` print the answers of such a list of items
+//! For each run whose calls are finished, there is an order of the core's items, which is legal (`gt_core`), and of
+//! steps on flags between them. Its steps are those of the run in their order, accesses to bytes too, and each call has
+//! the answer that its domain gave ([`every_run_has_a_legal_order`]). The contracts of a domain's calls make them calls
+//! of a run ([`calls_of_domains_are_made`]). The lists of `gt_run` print the answers of such an order
 //! ([`every_text_is_of_a_legal_order`]), and so does each text that `run` writes at Ok
-//! ([`every_run_writes_a_legal_order`]). If the script has no flags, `explore` lists that text
-//! ([`every_run_without_flags_is_explored`]).
+//! ([`every_run_writes_a_legal_order`]). If no list was stopped by its gate and no allocation failed, `explore` lists
+//! that text ([`every_run_is_explored`]).
 //!
 //! It uses `gt_run`, `gt_explore_replay`, `gt_host`, `gt_script`, `gt_script_lines`, `gt_live`, `gt_core`, `gt_words`,
-//! `gt_word_history`, `gt_calls`, `gt_frames`, `gt_handles`, `gt_entry`, `gt_types` and the kit's `atomic_table`.
+//! `gt_shared_table`, `gt_word_history`, `gt_calls`, `gt_frames`, `gt_handles`, `gt_entry`, `gt_types` and the kit's
+//! `atomic_table`.
 #![tactic(auto)]
 
 mod laws;
 
 pub use laws::{
     calls_of_domains_are_made, core_sees_the_words, every_run_has_a_legal_order,
-    every_run_without_flags_is_explored, every_run_writes_a_legal_order,
-    every_text_is_of_a_legal_order, leaving_is_unmapping, steps_keep_agreement,
+    every_run_is_explored, every_run_writes_a_legal_order, every_text_is_of_a_legal_order,
+    leaving_is_unmapping, steps_keep_agreement,
 };

@@ -2,7 +2,7 @@
 use Rattle.std.proofs.Common.{◌≡◌, ◌++◌, ◌==◌, ℕ, ◌+◌, ◌<◌, Bool, true, false, List, [], ◌∷◌, take, length}
 use Rattle.std.proofs.Common.{get_or, Option, None, Some, Result, Ok, Err, IfOk, IsTrue, refl, sym, subst, ap, ◌∙◌}
 use Rattle.std.proofs.Common.{add-one, inl, inr}
-use Rattle.std.specs.Prelude.{IsOk, is_some}
+use Rattle.std.specs.Prelude.{IsOk, MatchBool, is_some, nat_lt}
 use Rattle.std.specs.Option.{option_map}
 use Rattle.gt_host.specs.Naming.{AreNamed}
 use Rattle.std.proofs.Math.Seq.{take-suc}
@@ -13,14 +13,18 @@ use Rattle.gt_types.specs.declared.DomId.{DomId}
 use Rattle.gt_host.specs.declared.labels.Labels.{Labels}
 use Rattle.gt_script_lines.specs.declared.calls.ScriptCall.{ScriptCall}
 use Rattle.gt_live.specs.Domains.{AllowRelation}
+use Rattle.gt_live.specs.Flags.{FlagStepped}
 use Rattle.gt_live.specs.declared.domain.Domain.{Domain}
+use Rattle.gt_word_history.specs.Rule.{Layout}
+use Rattle.gt_word_history.specs.declared.view.FlagStep.{FlagStep}
+use Rattle.gt_word_history.specs.declared.view.FlagStep.TheVariants.{Passed, Raised}
 use Rattle.gt_script.specs.Lists.{RunAction, RunTask}
 use Rattle.gt_script.specs.declared.tasks.RunActionBy.TheVariants.{Do, Tell, Await}
-use Rattle.gt_run.specs.Serving.{Calls, DoesDeed, DoesWhere, HasCome, IsAwait, IsReady, TellsOutcomes}
+use Rattle.gt_run.specs.Serving.{Calls, DoesDeed, DoesWhere, HasCome, IsAwait, IsKeptAt, IsReady, TellsOutcomes}
 use Rattle.gt_run.specs.Serving.{ListLeadsTo}
 use Rattle.gt_run.specs.Serving.{ListProgress, Serves, ServesSome, StartsTold, answer_lines, list_start, counted}
 use Rattle.gt_run.specs.Serving.{gate_line}
-use Rattle.gt_run.specs.Asking.{Stand}
+use Rattle.gt_run.specs.Asking.{MakesFlagStep, RaisesFlag, Stand}
 use Rattle.gt_run.specs.declared.lists.ThreadJob.{ThreadJob}
 use Rattle.gt_run.specs.declared.telling.TrailLogger.{TrailLogger}
 
@@ -60,21 +64,46 @@ pub other_more : {P : Type 0} (may : P → AllowRelation) (duty : ThreadJob P) (
 other_more may duty d whole i l text e labels t within is other come =
     quiet_more may duty d whole i l text e labels t within is (λ q. subst (λ (b : Bool). DoesWhere b may duty l q q) (sym other) refl) come
 
+-- a step on a flag keeps the place in the list
+flag_kept : {P : Type 0} (k : Layout) (duty : ThreadJob P) (flag : ℕ) (m : FlagStep) (q : ListProgress) (d e : Domain) (labels : Labels) (t : Option TrailLogger) → FlagStepped k flag m d e → IsKeptAt duty q d labels t
+    → IsKeptAt duty (record q { domain = e }) e labels t
+flag_kept k duty flag m q d e labels t stepped kept = record {
+  domain = refl;
+  own = stepped.kept.seat.dom ∙ kept.own;
+  names = kept.names;
+  asked = kept.asked;
+  told = subst (λ (x : Telling). TellsOutcomes x t q.outcomes) (sym stepped.kept.trail) kept.told;
+}
+
+flag_more : {P : Type 0} (may : P → AllowRelation) (k : Layout) (duty : ThreadJob P) (d : Domain) (i : ℕ) (l : RunTask) (text : List ℕ) (e f : Domain) (labels : Labels) (t : Option TrailLogger) (flag : ℕ) (m : FlagStep)
+    → i < length duty.part.tasks.now → l ≡ get_or duty.part.tasks.now i l → FlagStepped k flag m e f
+    → ((q : ListProgress) → q.domain ≡ e → DoesWhere (l.dom.0 == duty.part.dom.0) may duty l q (record q { domain = f }))
+    → HasCome may duty d true i text e labels t → HasCome may duty d true (i + 1) text f labels t
+flag_more may k duty d i l text e f labels t flag m within is stepped does (q, leads, kept, prints) =
+    (record q { domain = f }, leads_more may duty (list_start d) duty.part.tasks.now i l q (record q { domain = f }) within is leads (does q kept.domain), flag_kept k duty flag m q e f labels t stepped kept, prints)
+
 -- a line that tells a flag
-pub tell_more : {P : Type 0} (may : P → AllowRelation) (duty : ThreadJob P) (d : Domain) (whole : Bool) (i : ℕ) (l : RunTask) (text : List ℕ) (e : Domain) (labels : Labels) (t : Option TrailLogger) (flag : ℕ)
-    → i < length duty.part.tasks.now → l ≡ get_or duty.part.tasks.now i l → (l.dom.0 == duty.part.dom.0) ≡ true → l.deed ≡ Tell flag
-    → HasCome may duty d whole i text e labels t → HasCome may duty d whole (i + 1) text e labels t
+pub tell_more : {P : Type 0} (may : P → AllowRelation) (duty : ThreadJob P) (d : Domain) (whole : Bool) (i : ℕ) (l : RunTask) (text : List ℕ) (e f : Domain) (labels : Labels) (t : Option TrailLogger) (flag : ℕ)
+    → i < length duty.part.tasks.now → l ≡ get_or duty.part.tasks.now i l → (l.dom.0 == duty.part.dom.0) ≡ true → l.deed ≡ Tell flag → RaisesFlag may duty.monitor.now flag e f
+    → HasCome may duty d whole i text e labels t → HasCome may duty d whole (i + 1) text f labels t
 unfolding DoesDeed
-tell_more may duty d whole i l text e labels t flag within is own tells come =
-    quiet_more may duty d whole i l text e labels t within is (λ q. own_does may duty l (Tell flag) q q own tells refl) come
+tell_more may duty d false i l text e f labels t flag within is own tells raises come = come
+tell_more {P} may duty d true i l text e f labels t flag within is own tells raises come = by (nat_lt flag duty.monitor.now.words.flags) refl raises
+  where
+    by : (b : Bool) → nat_lt flag duty.monitor.now.words.flags ≡ b → MatchBool b (MakesFlagStep may duty.monitor.now flag Raised e f) (f ≡ e) → HasCome may duty d true (i + 1) text f labels t
+    by true has step = flag_more may duty.monitor.now.words.layout duty d i l text e f labels t flag Raised within is step.0
+        (λ q at. own_does may duty l (Tell flag) q (record q { domain = f }) own tells (refl, subst (λ (x : Domain). RaisesFlag may duty.monitor.now flag x f) (sym at) raises)) come
+    by false has same = subst (λ (x : Domain). HasCome may duty d true (i + 1) text x labels t) (sym same)
+        (quiet_more may duty d true i l text e labels t within is (λ q. own_does may duty l (Tell flag) q q own tells (refl, subst (λ (b : Bool). MatchBool b (MakesFlagStep may duty.monitor.now flag Raised q.domain q.domain) (q.domain ≡ q.domain)) (sym has) refl)) come)
 
 -- a line that awaits a flag
-pub await_more : {P : Type 0} (may : P → AllowRelation) (duty : ThreadJob P) (d : Domain) (whole : Bool) (i : ℕ) (l : RunTask) (text : List ℕ) (e : Domain) (labels : Labels) (t : Option TrailLogger) (flag : ℕ)
-    → i < length duty.part.tasks.now → l ≡ get_or duty.part.tasks.now i l → (l.dom.0 == duty.part.dom.0) ≡ true → l.deed ≡ Await flag
-    → HasCome may duty d whole i text e labels t → HasCome may duty d whole (i + 1) text e labels t
+pub await_more : {P : Type 0} (may : P → AllowRelation) (duty : ThreadJob P) (d : Domain) (whole : Bool) (i : ℕ) (l : RunTask) (text : List ℕ) (e f : Domain) (labels : Labels) (t : Option TrailLogger) (flag : ℕ)
+    → i < length duty.part.tasks.now → l ≡ get_or duty.part.tasks.now i l → (l.dom.0 == duty.part.dom.0) ≡ true → l.deed ≡ Await flag → MakesFlagStep may duty.monitor.now flag Passed e f
+    → HasCome may duty d whole i text e labels t → HasCome may duty d whole (i + 1) text f labels t
 unfolding DoesDeed
-await_more may duty d whole i l text e labels t flag within is own awaits come =
-    quiet_more may duty d whole i l text e labels t within is (λ q. own_does may duty l (Await flag) q q own awaits refl) come
+await_more may duty d false i l text e f labels t flag within is own awaits step come = come
+await_more may duty d true i l text e f labels t flag within is own awaits step come = flag_more may duty.monitor.now.words.layout duty d i l text e f labels t flag Passed within is step.0
+    (λ q at. own_does may duty l (Await flag) q (record q { domain = f }) own awaits (refl, subst (λ (x : Domain). MakesFlagStep may duty.monitor.now flag Passed x f) (sym at) step)) come
 
 -- a text that breaks off
 breaks_off : {P : Type 0} (may : P → AllowRelation) (duty : ThreadJob P) (d : Domain) (whole : Bool) (i : ℕ) (old new : List ℕ) (e : Domain) (labels : Labels) (t : Option TrailLogger)

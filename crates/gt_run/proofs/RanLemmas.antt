@@ -17,6 +17,7 @@ use Rattle.gt_script.specs.Script.{Wrong}
 use Rattle.gt_script.specs.declared.faults.ScriptError.{ScriptError}
 use Rattle.gt_script.specs.declared.faults.ScriptError.TheVariants as errors
 use Rattle.gt_script.specs.Lists.{RunTask}
+use Rattle.gt_script.specs.Stuck.{AreNumbered}
 use Rattle.gt_text.specs.Laws.{keeps_same, of_any_input}
 use Rattle.gt_text.specs.Streams.{OfInput}
 use Rattle.gt_text.specs.declared.fault.ReadFault.{ReadFault}
@@ -40,30 +41,31 @@ parts_more domains i d tasks names parts p within is same over (doms, all) = (
 )
 
 -- the duties are those of the script
-are_of : (c : RunContents) (logged : Bool) (config : Config) (rights : ScriptRights) (parts : List DomainPart) → AreListsOf c parts → config.domains.items ≡ c.head.domains
-    → config.first_gen ≡ first_gen c.head → may_by rights ≡ may_in c.head → (ds : List (ThreadJob ScriptRights)) → AreUnder config rights logged parts ds → AreOf c logged ds
-are_of c logged config rights parts are domains generation may ds (m, of_config, of_rights, duties) = record {
+are_of : (c : RunContents) (logged : Bool) (config : Config) (rights : ScriptRights) (flags : ℕ) (parts : List DomainPart) → AreListsOf c parts → config.domains.items ≡ c.head.domains
+    → config.first_gen ≡ first_gen c.head → may_by rights ≡ may_in c.head → AreNumbered flags c.tasks → (ds : List (ThreadJob ScriptRights)) → AreUnder config rights flags logged parts ds → AreOf c logged ds
+are_of c logged config rights flags parts are domains generation may numbered ds (m, of_config, of_rights, of_flags, duties) = record {
   parts = parts;
   of_script = are;
   monitor = m;
   domains = ap (λ (x : Config). x.domains.items) of_config ∙ domains;
   generation = ap (λ (x : Config). x.first_gen) of_config ∙ generation;
   rights = ap may_by of_rights ∙ may;
+  flags = subst (λ (n : ℕ). AreNumbered n c.tasks) (sym of_flags) numbered;
   duties_are = duties;
 }
 
 -- the parts over what the script's head and tasks are kept as, under its rights, wrote
-pub wrote_script : (c : RunContents) (logged : Bool) (config : Config) (rights : ScriptRights) (parts shown : List DomainPart) (r : Result (Unit {0}) RunFault) (old new : Option (List ℕ))
+pub wrote_script : (c : RunContents) (logged : Bool) (config : Config) (rights : ScriptRights) (flags : ℕ) (parts shown : List DomainPart) (r : Result (Unit {0}) RunFault) (old new : Option (List ℕ))
     (domains : List DomainConfig) (tasks : List RunTask) (names : List (List ℕ))
     → AreParts domains tasks names parts → (domains ≡ c.head.domains) → (tasks ≡ c.tasks) → (names ≡ type_names c.head) → shown ≡ parts
-    → config.domains.items ≡ c.head.domains → config.first_gen ≡ first_gen c.head → may_by rights ≡ may_in c.head
-    → Wrote may_by (AreUnder config rights logged shown) old new r → WroteScript c logged old new r
-wrote_script c logged config rights parts shown r old new domains tasks names are d t n is of_domains generation may wrote =
+    → config.domains.items ≡ c.head.domains → config.first_gen ≡ first_gen c.head → may_by rights ≡ may_in c.head → AreNumbered flags c.tasks
+    → Wrote may_by (AreUnder config rights flags logged shown) old new r → WroteScript c logged old new r
+wrote_script c logged config rights flags parts shown r old new domains tasks names are d t n is of_domains generation may numbered wrote =
     let named = subst (λ l. AreParts domains tasks l parts) n are in
     let tasked = subst (λ l. AreParts domains l (type_names c.head) parts) t named in
     let all = subst (λ l. AreParts l c.tasks (type_names c.head) parts) d tasked in
-    wrote_as may_by (AreUnder config rights logged shown) (AreOf c logged) r old new
-    (are_of c logged config rights shown (subst (λ l. AreListsOf c l) (sym is) all) of_domains generation may) wrote
+    wrote_as may_by (AreUnder config rights flags logged shown) (AreOf c logged) r old new
+    (are_of c logged config rights flags shown (subst (λ l. AreListsOf c l) (sym is) all) of_domains generation may numbered) wrote
 
 -- no memory, and nothing was written
 pub wrote_nothing : (c : RunContents) (logged : Bool) (fault : RunFault) (old : Option (List ℕ)) → fault ≡ run_out_of_memory → WroteScript c logged old old (Err fault)

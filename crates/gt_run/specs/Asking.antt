@@ -1,11 +1,14 @@
 -- The requests of a running domain, and their answers.
-use Rattle.std.specs.Prelude.{◌≡◌, ℕ, List, Result, Ok, Err, OnOk, OnErr}
+use Rattle.std.specs.Prelude.{◌≡◌, ℕ, List, MatchBool, Result, Ok, Err, OnOk, OnErr, nat_lt}
 use Rattle.gt_run.specs.Prelude.{Size, Denial, Copying, Reading, Writing, Handle, Tells, HeldPin}
 use Rattle.gt_run.specs.Prelude.{Request, Answer, Domain, Monitor, IsCopiedBy, IsReadBy, IsWrittenBy}
 use Rattle.gt_run.specs.Prelude.{Accesses, Answered, KeepsPinned, MapAnswered, AllowRelation, mapping_reply}
 use Rattle.gt_run.specs.Prelude.{subject_of, told_copy, told_of, verdict_of, verdict_of_frames, verdict_of_size}
 use Rattle.gt_run.specs.Prelude.{verdict_of_version, Removes}
 use Rattle.gt_live.specs.Domains.{AccessesQuietly, AnswersQuietly, AnswersTold, StaysIn}
+use Rattle.gt_live.specs.Flags.{FlagStepped}
+use Rattle.gt_word_history.specs.declared.view.FlagStep.{FlagStep}
+use Rattle.gt_word_history.specs.declared.view.FlagStep.TheVariants.{Raised}
 use Rattle.gt_audit.specs.declared.record.Hypercall.TheVariants as hypercalls
 use Rattle.gt_calls.specs.declared.request.Request.TheVariants as requests
 use Rattle.gt_core.specs.declared.trace.Answer.TheVariants as answers
@@ -18,6 +21,14 @@ pub record Stand (P : Type 0) : Type 0 where
 -- the same domain on the same monitor, whatever it did in between
 abbrev pub IsSameStand : {P : Type 0} → Stand P → Stand P → Type 0
 IsSameStand s t = (t.monitor ≡ s.monitor) × (t.domain.seat.dom ≡ s.domain.seat.dom)
+
+-- the domain made this step on the flag, and nothing else, and still belongs to the monitor
+abbrev pub MakesFlagStep : {P : Type 0} → (P → AllowRelation) → Monitor P → ℕ → FlagStep → Domain → Domain → Type 0
+MakesFlagStep may m flag kind d e = FlagStepped m.words.layout flag kind d e × StaysIn may m d e
+
+-- a flag that the run has is raised by one step of the domain; any other flag leaves all
+abbrev pub RaisesFlag : {P : Type 0} → (P → AllowRelation) → Monitor P → ℕ → Domain → Domain → Type 0
+RaisesFlag may m flag d e = MatchBool (nat_lt flag m.words.flags) (MakesFlagStep may m flag Raised d e) (e ≡ d)
 
 -- the answer of a call that gives no value
 abbrev pub plain_answer : {R : Type 0} → Result R Denial → Answer

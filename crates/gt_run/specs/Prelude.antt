@@ -36,5 +36,6 @@ pub use Rattle.gt_text.specs.Printing.{type_text}
 pub use Rattle.gt_types.specs.declared.DomId.{DomId}
 pub use Rattle.gt_types.specs.declared.Size.{Size}
 pub use Rattle.gt_types.specs.declared.denial.Denial.{Denial}
+pub use Rattle.gt_word_history.specs.declared.view.FlagStep.TheVariants.{Passed}
 pub use Rattle.gt_words.specs.Conditions.{IsSameSeat}
 pub use Rattle.std.specs.List.{AllZip, flat_map, sum_by}

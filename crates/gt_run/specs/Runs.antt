@@ -9,6 +9,7 @@ use Rattle.gt_script.specs.Contents.{first_gen, type_names}
 use Rattle.gt_script.specs.RunContents.{RunContents}
 use Rattle.gt_script.specs.Script.{Wrong, in_script, in_policy}
 use Rattle.gt_script.specs.Lists.{RunTask}
+use Rattle.gt_script.specs.Stuck.{AreNumbered}
 use Rattle.gt_host.specs.Rights.{may_by, may_in}
 use Rattle.gt_host.specs.declared.fault.PlayFault.TheVariants.{Memory, Read, Write, Script, Policy}
 use Rattle.gt_host.specs.declared.rights.ScriptPolicy.{ScriptPolicy as ScriptRights}
@@ -55,10 +56,11 @@ Wrote may Are old new (Err (Play Read)) = ⊥
 Wrote may Are old new (Err (Play (Script fault))) = ⊥
 Wrote may Are old new (Err (Play (Policy fault))) = ⊥
 
--- the jobs of these parts, over one monitor of this configuration and these rights
-abbrev pub AreUnder : {P : Type 0} → Config → P → Bool → List DomainPart → List (ThreadJob P) → Type 0
-AreUnder {P} config rights logged parts duties =
-    (m : Monitor P) × (m.config ≡ config) × (m.rights ≡ rights) × AreDuties m logged parts duties
+-- the jobs of these parts, over one monitor of this configuration, these rights and this number of flags
+abbrev pub AreUnder : {P : Type 0} → Config → P → ℕ → Bool → List DomainPart → List (ThreadJob P) → Type 0
+AreUnder {P} config rights flags logged parts duties =
+    (m : Monitor P) × (m.config ≡ config) × (m.rights ≡ rights) × (m.words.flags ≡ flags)
+    × AreDuties m logged parts duties
 
 -- the part has these tasks and these names of types
 abbrev pub IsOver : List RunTask → List (List ℕ) → DomainPart → Type 0
@@ -72,8 +74,8 @@ AreParts domains tasks names parts = (map (λ p. p.dom) parts ≡ map (λ d. d.i
 abbrev pub AreListsOf : RunContents → List DomainPart → Type 0
 AreListsOf c parts = AreParts c.head.domains c.tasks (type_names c.head) parts
 
--- the jobs of a script's parts, over one monitor that has the script's domains and its first generation, and allows
--- what the script allows
+-- the jobs of a script's parts, over one monitor that has the script's domains, its first generation and its flags, and
+-- allows what the script allows
 pub record AreOf (c : RunContents) (logged : Bool) (duties : List (ThreadJob ScriptRights)) : Type 0 where
   pub parts : List DomainPart
   pub of_script : AreListsOf c parts
@@ -81,6 +83,7 @@ pub record AreOf (c : RunContents) (logged : Bool) (duties : List (ThreadJob Scr
   pub domains : monitor.config.domains.items ≡ c.head.domains
   pub generation : monitor.config.first_gen ≡ first_gen c.head
   pub rights : may_by monitor.rights ≡ may_in c.head
+  pub flags : AreNumbered monitor.words.flags c.tasks
   pub duties_are : AreDuties monitor logged parts duties
 
 -- the script's lists wrote their whole text

@@ -5,8 +5,8 @@ use Rattle.gt_run.specs.Prelude.{AllZip, flat_map, sum_by, DomId, type_text, lin
 use Rattle.gt_run.specs.Prelude.{Request, Answer, hypercall_of_request, encoded_record, AreNamed, answer_line, call_text, Named}
 use Rattle.gt_run.specs.Prelude.{handle_given, label_given, with_name, SaysRequest, Labels, ScriptCall, AllowRelation}
 use Rattle.gt_run.specs.Prelude.{subject_of, HasLeft, IsNewDomain, Departed, Domain, Monitor, RunAction, Do, Tell, Await, RunTask, ThreadJob, DomainPart}
-use Rattle.gt_run.specs.Prelude.{TrailLogger}
-use Rattle.gt_run.specs.Asking.{Asks, Stand}
+use Rattle.gt_run.specs.Prelude.{Passed, TrailLogger}
+use Rattle.gt_run.specs.Asking.{Asks, MakesFlagStep, RaisesFlag, Stand}
 
 -- calls
 
@@ -57,11 +57,13 @@ pub record MakesCall {P : Type 0} (may : P → AllowRelation) (duty : ThreadJob 
   pub named : q.named ≡ with_name p.named duty.part.dom (label_given call) (handle_given answer)
   pub outcomes : q.outcomes ≡ p.outcomes ++ record { line = line; answer = answer; told = told; lost = lost } ∷ []
 
--- the effect of a line's action: a call is made; a flag raised or awaited changes nothing
+-- the effect of a line's action: a call is made, or a flag is raised or passed by a step of the domain
 unfoldable pub DoesDeed : {P : Type 0} → (P → AllowRelation) → ThreadJob P → ℕ → RunAction → ListProgress → ListProgress → Type 0
 DoesDeed may duty line (Do call) p q = MakesCall may duty line call p q
-DoesDeed may duty line (Tell flag) p q = q ≡ p
-DoesDeed may duty line (Await flag) p q = q ≡ p
+DoesDeed may duty line (Tell flag) p q =
+    (q ≡ record p { domain = q.domain }) × RaisesFlag may duty.monitor.now flag p.domain q.domain
+DoesDeed may duty line (Await flag) p q =
+    (q ≡ record p { domain = q.domain }) × MakesFlagStep may duty.monitor.now flag Passed p.domain q.domain
 
 -- the effect of a line that is the domain's, or is not: another's changes nothing
 abbrev pub DoesWhere : {P : Type 0} → Bool → (P → AllowRelation) → ThreadJob P → RunTask → ListProgress → ListProgress → Type 0

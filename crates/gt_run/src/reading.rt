@@ -3,6 +3,7 @@ ghost use Rattle.std.specs.Prelude.{◌≡◌, ℕ, List, take, is_some, IfOk};
 ghost use Rattle.gt_script.specs.Contents.{contents_told};
 ghost use Rattle.gt_script.specs.RunContents.{run_told};
 ghost use Rattle.gt_script.specs.RunScripts.{CanConfigure, RunTells};
+ghost use Rattle.gt_script.specs.Stuck.{AreNumbered};
 ghost use Rattle.gt_text.specs.Streams.{ConsumesAtMost, OfInput};
 ghost use Rattle.gt_text.specs.declared.streams.TheConstants.{READ_LIMIT};
 ghost use Rattle.gt_run.specs.Runs.{AreParts, Ran, WroteScript};
@@ -16,7 +17,7 @@ use gt_host::{PlayFault, ScriptPolicy};
 use gt_script::{RunScript, RunTask, parse_run};
 use gt_script_lines::Text;
 use gt_text::read_text;
-use gt_types::{Config, DomainConfig};
+use gt_types::{Config, DomainConfig, Memory};
 use std::alloc::{AllocError, Global};
 use std::io::{Read, Write};
 use std::sync::Wait;
@@ -48,7 +49,8 @@ fn run_script<'a, R: Threads + Wait + Sync, G: Gate + Sync, W: Write>(
     gate: &G,
     writer: &mut W,
 ) -> Result<(), RunFault>
-    requires { CanConfigure (contents_told script.now.head) }
+    requires configured { CanConfigure (contents_told script.now.head) }
+    requires numbered { AreNumbered script.now.flags script.now.tasks }
     ensures { WroteScript (run_told script.entry.now) (is_some log.entry)
         (W.contents writer.old) (W.contents writer.new) result }
 {
@@ -66,7 +68,10 @@ fn run_script<'a, R: Threads + Wait + Sync, G: Gate + Sync, W: Write>(
         gate,
         log,
     };
-    run_lists(&context, config, rights, parts.as_slice(), writer)
+    let Ok(flags) = u32::try_from(script.flags()) else {
+        return Err(RunFault::from(Memory));
+    };
+    run_lists(&context, config, rights, flags, parts.as_slice(), writer)
 }
 
 // Parses and runs the script in these bytes, which are those read up to the limit.

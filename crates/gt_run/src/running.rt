@@ -78,7 +78,9 @@ fn copied(answer: Result<Copied, Denial>) -> Answer
 impl<'m, P: Allows> RunningDomain<'m, P> {
     ghost use Rattle.gt_words.specs.Conditions.{IsSeatOf};
     ghost use Rattle.gt_live.specs.Domains.{BelongsTo, HasLeft};
-    ghost use Rattle.gt_run.specs.Asking.{Asks};
+    ghost use Rattle.std.specs.Prelude.{MatchBool};
+    ghost use Rattle.gt_word_history.specs.declared.view.FlagStep.TheVariants.{Passed};
+    ghost use Rattle.gt_run.specs.Asking.{Asks, IsSameStand, MakesFlagStep, RaisesFlag};
 
     /// Pairs a domain with its monitor.
     pub fn new(monitor: &'m Monitor<P>, domain: Domain) -> Self
@@ -102,6 +104,25 @@ impl<'m, P: Allows> RunningDomain<'m, P> {
     {
         let RunningDomain { monitor, domain } = self;
         domain.finish(monitor)
+    }
+
+    /// Raises a flag, if the run has it.
+    pub fn raise_flag(&mut self, flag: usize)
+        ensures same { IsSameStand self.old self.new }
+        ensures raised { RaisesFlag P.may self.old.monitor flag self.old.domain self.new.domain }
+    {
+        if self.monitor.has_flag(flag) {
+            self.domain.raise_flag(self.monitor, flag);
+        }
+    }
+
+    /// Passes a flag if it is raised. Otherwise returns false and makes no step.
+    pub fn pass_flag(&mut self, flag: usize) -> bool
+        ensures same { IsSameStand self.old self.new }
+        ensures passed { MatchBool result (MakesFlagStep P.may self.old.monitor flag Passed self.old.domain self.new.domain)
+            (self.new.domain ≡ self.old.domain) }
+    {
+        self.monitor.has_flag(flag) && self.domain.pass_flag(self.monitor, flag)
     }
 
     /// Makes the call that is requested, and returns its answer.

@@ -1,6 +1,7 @@
 //! One domain's list, from its first line to its last.
-ghost use Rattle.std.specs.Prelude.{◌≡◌, ◌++◌, [], false, IfOk, IsOk, IsTrue};
-ghost use Rattle.gt_run.specs.Asking.{IsSameStand};
+ghost use Rattle.std.specs.Prelude.{◌≡◌, ◌++◌, [], false, IfOk, IsOk, IsTrue, MatchBool};
+ghost use Rattle.gt_word_history.specs.declared.view.FlagStep.TheVariants.{Passed};
+ghost use Rattle.gt_run.specs.Asking.{IsSameStand, MakesFlagStep};
 ghost use Rattle.gt_run.specs.Printing.{IsOutputOf};
 ghost use Rattle.gt_run.specs.Serving.{gate_line, Calls, IsReady, Makes, Serves, StartsTold};
 
@@ -115,6 +116,30 @@ fn has_appended(text: &mut Vec<u8>, whole: bool, line: Result<Vec<u8>, AllocErro
     }
 }
 
+// Waits at the gate until the flag is raised, and passes it. Returns false, and makes no step, if the gate does not let
+// the domain continue.
+fn has_passed<R: Wait, P: Allows, G: Gate>(
+    rt: &R,
+    domain: &mut RunningDomain<'_, P>,
+    gate: &G,
+    flag: usize,
+) -> bool
+    ensures same { IsSameStand domain.old domain.new }
+    ensures passed { MatchBool result
+        (MakesFlagStep P.may domain.old.monitor flag Passed domain.old.domain domain.new.domain)
+        (domain.new.domain ≡ domain.old.domain) }
+{
+    'looks: for _look in rt.forever() {
+        if !gate.pass(flag) {
+            return false;
+        }
+        if domain.pass_flag(flag) {
+            return true;
+        }
+    }
+    unreachable!()
+}
+
 // Serves the lines of a domain, and returns whether all were written. It continues if a line cannot be allocated, since
 // other domains may wait for a flag of this one. Nothing is written after that line.
 fn serve<'a, R: Wait, P: Allows, G: Gate>(
@@ -144,9 +169,12 @@ fn serve<'a, R: Wait, P: Allows, G: Gate>(
                     let printed = call_line(rt, alloc, domain, &mut labels, teller, &duty, at);
                     whole = has_appended(text, whole, printed);
                 }
-                RunAction::Tell(flag) => gate.tell(*flag),
+                RunAction::Tell(flag) => {
+                    domain.raise_flag(*flag);
+                    gate.tell(*flag);
+                }
                 RunAction::Await(flag) => {
-                    if !gate.pass(*flag) {
+                    if !has_passed(rt, domain, gate, *flag) {
                         return has_appended(text, whole, gate_line(alloc, task.line, dom));
                     }
                 }

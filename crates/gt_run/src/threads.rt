@@ -366,8 +366,8 @@ pub fn run_each<'a, R: Threads + Wait + Sync, P: Allows + Sync, G: Gate + Sync, 
     outcome
 }
 
-/// Runs the parts over a new monitor with this configuration and these rights, each domain in its own thread, and
-/// writes what they print: the lines of each domain, in the order of the parts, and then their audit lines.
+/// Runs the parts over a new monitor with this configuration, these rights and this number of flags, each domain in its
+/// own thread, and writes what they print: the lines of each domain, in the order of the parts, and then their audit lines.
 ///
 /// # Errors
 /// A thread that could not be started, and then no list ran and nothing was written; or an allocation or a write that
@@ -376,6 +376,7 @@ pub fn run_lists<'a, R: Threads + Wait + Sync, P: Allows + Drop + Sync, G: Gate 
     context: &RunContext<'_, R, G>,
     config: Config,
     rights: P,
+    flags: u32,
     parts: &[DomainPart<'_, 'a>],
     writer: &mut W,
 ) -> Result<(), RunFault>
@@ -383,10 +384,10 @@ pub fn run_lists<'a, R: Threads + Wait + Sync, P: Allows + Drop + Sync, G: Gate 
     requires some { 1 ≤ length config.domains.items }
     requires generation { config.first_gen ≤ LAST_GENERATION }
     requires each { map (λ p. p.dom) parts.now ≡ map (λ d. d.id) config.domains.items }
-    ensures { Wrote P.may (AreUnder config rights (is_some context.now.log) parts.now)
+    ensures { Wrote P.may (AreUnder config rights flags (is_some context.now.log) parts.now)
         (W.contents writer.old) (W.contents writer.new) result }
 {
-    match Monitor::new(context.alloc, config, rights) {
+    match Monitor::with_flags(context.alloc, config, rights, flags) {
         Ok((monitor, domains)) => {
             let domains = all_running(context.alloc, &monitor, domains)?;
             run_each(context, &monitor, domains, parts, writer)

@@ -13,15 +13,19 @@ use Rattle.gt_frames.specs.Frames.{FrameState}
 use Rattle.gt_frames.specs.declared.writ.WriteRecord.{WriteRecord}
 use Rattle.gt_word_history.proofs.Order.{apart_test}
 use Rattle.gt_word_history.proofs.Order.{within}
+use Rattle.gt_word_history.specs.Flags.{Raises}
 use Rattle.gt_word_history.specs.History.{Layout, StepHistory, header_place}
 use Rattle.gt_word_history.specs.Views.{IsAmong}
+use Rattle.gt_word_history.specs.declared.view.FlagStep.TheVariants.{Passed, Raised}
 use Rattle.gt_word_history.specs.declared.view.FrameStep.{FrameStep}
 use Rattle.gt_word_history.specs.declared.view.SeatStep.{SeatStep}
-use Rattle.gt_word_history.specs.declared.view.SeatStep.TheVariants.{Entry, Frame, Header}
+use Rattle.gt_word_history.specs.declared.view.SeatStep.TheVariants.{Entry, Flag, Frame, Header}
 use Rattle.gt_shared_table.specs.declared.rule.FrameHolder.{FrameHolder}
-use Rattle.gt_shared_table.specs.Bytes.{IsOnWords, SaysBytes, journal_after, journal_by, journal_made}
-use Rattle.gt_shared_table.specs.Rule.{AreOnce, Cell, FrameAt, Has, IsNamed, FramesAreKept, Places, lock_place, made}
+use Rattle.gt_shared_table.specs.Bytes.{IsOnWords, IsTrueStep, journal_after, journal_by, journal_made}
+use Rattle.gt_shared_table.specs.Rule.{AreOnce, Cell, FlagsAreKept, FrameAt, Has, IsNamed, FramesAreKept, Places}
+use Rattle.gt_shared_table.specs.Rule.{flag_place, lock_place, made}
 use Rattle.gt_shared_table.specs.Telling.{AreLeft}
+use Rattle.gt_shared_table.proofs.OneStep.{word_again}
 
 pub has_of : (p : ℕ × FrameState) (ps : List (ℕ × FrameState)) → IsAmong p ps → Has p.0 ps
 has_of p [] is = absurd is
@@ -57,11 +61,23 @@ on_words : (x : SeatStep) → IsOnWords x → (t f : ℕ) (rs : List WriteRecord
 on_words (Entry d q m) is t f rs = refl
 on_words (Header d m) is t f rs = refl
 on_words (Frame d q m) is t f rs = absurd is
+on_words (Flag g m) is t f rs = absurd is
 
-no_bytes : (k : Layout) (h : StepHistory) (x : SeatStep) → IsOnWords x → SaysBytes k h x
+no_bytes : (k : Layout) (h : StepHistory) (x : SeatStep) → IsOnWords x → IsTrueStep k h x
 no_bytes k h (Entry d q m) is = tt
 no_bytes k h (Header d m) is = tt
 no_bytes k h (Frame d q m) is = absurd is
+no_bytes k h (Flag g m) is = absurd is
+
+no_flag : (x : SeatStep) → IsOnWords x → (f : ℕ) → Raises f x → ⊥
+no_flag (Entry d q m) is f r = r
+no_flag (Header d m) is f r = r
+no_flag (Frame d q m) is f r = is
+no_flag (Flag g m) is f r = is
+
+-- no lock is a flag's word
+no_flag_there : (b : Places) (q : ℕ) (n : FrameAt) (f : ℕ) → IsNamed b q n → flag_place b f ≢ lock_place b q
+no_flag_there b q n f named e = let t : ℕ = header_place b.layout.domains in let l : ℕ = length b.names in let lt : q < l = within b.names q n named in let j : t + 8 * l + f ≡ t + 8 * q = e in omega arith
 
 one_lock : (b : Places) (a q : ℕ) → lock_place b a ≡ lock_place b q → a ≡ q
 one_lock b a q e = let t : ℕ = header_place b.layout.domains in let f : t + 8 * a ≡ t + 8 * q = e in omega arith
@@ -76,17 +92,18 @@ module _ (b : Places) (h : StepHistory) (s : State Cell FrameHolder) (kept : Fra
   one_name : (q a : ℕ) (n c : FrameAt) → IsNamed b q n → IsNamed b a c → a ≡ q → n ≡ c
   one_name q a n c named nm e = some-injective n c (sym named ∙ (ap (get_elem? b.names) (sym e) ∙ nm))
 
-  -- a step on words
-  module _ (x : SeatStep) (is : IsOnWords x) (w : FrameHolder) (same : w.held ≡ v.held) (i n : ℕ) (before : i < header_place b.layout.domains) where
+  -- a step that leaves all frames, on a word that is no lock
+  module _ (x : SeatStep) (unwritten : (t f : ℕ) (rs : List WriteRecord) → journal_after t f x rs ≡ rs) (says : IsTrueStep b.layout h x) (w : FrameHolder) (same : w.held ≡ v.held) (i n : ℕ)
+      (no_lock : (q : ℕ) → q < length b.names → lock_place b q ≢ i) (flags : FlagsAreKept b ((id, x) ∷ h) (set s.words i n)) where
     abbrev next : StepHistory
     next = (id, x) ∷ h
 
     same_made : (c : FrameAt) → made b next c ≡ made b h c
-    same_made c = ap (λ (rs : List WriteRecord). record (made b h c) { journal = rs }) (on_words x is c.0 c.1 (journal_made c.0 c.1 h))
+    same_made c = ap (λ (rs : List WriteRecord). record (made b h c) { journal = rs }) (unwritten c.0 c.1 (journal_made c.0 c.1 h))
 
-    pub words_keep : (carried : List (ℕ × Cell)) → FramesAreKept b next (stepped s i n id carried w keeps)
-    words_keep carried = record {
-      truth = (no_bytes b.layout h x is, kept.truth);
+    pub others_keep : (carried : List (ℕ × Cell)) → FramesAreKept b next (stepped s i n id carried w keeps)
+    others_keep carried = record {
+      truth = (says, kept.truth);
       apart = kept.apart;
       home = λ q c y named found. kept.home q c y named found ∙ ap Some (sym (same_made c));
       values = λ j u p c found. each_view s id w (λ _ u. IsAmong p u.held → IsNamed b p.0 c → p.1 ≡ made b next c)
@@ -99,9 +116,39 @@ module _ (b : Places) (h : StepHistory) (s : State Cell FrameHolder) (kept : Fra
           (λ i u ne f hi. each_view s id w (λ j z. Has q z.held → i ≡ j) (λ hj. kept.one i id u v q f at hi (subst (Has q) same hj)) (λ j z ne' f' hj. kept.one i j u z q f f' hi hj) j z fj hj)
           i u fi hi;
       once = λ j u found. each_view s id w (λ _ u. AreOnce u.held) (subst AreOnce (sym same) (kept.once id v at)) (λ j u ne f. kept.once j u f) j u found;
-      free = λ q lt is_free. kept.free q lt (sym (get_or-set_other s.words i (lock_place b q) n 0 (λ e. let t : ℕ = header_place b.layout.domains in let f : t + 8 * q ≡ i = e in let g : i < t = before in omega arith)) ∙ is_free);
+      free = λ q lt is_free. kept.free q lt (sym (get_or-set_other s.words i (lock_place b q) n 0 (no_lock q lt)) ∙ is_free);
       wide = λ q lt. let l = length-set s.words i n in let f = kept.wide q lt in omega arith;
+      flags = flags;
     }
+
+  -- a word that is no flag's may change
+  flags_stay : (x : SeatStep) (i n : ℕ) → ((f : ℕ) → flag_place b f ≢ i) → FlagsAreKept b ((id, x) ∷ h) (set s.words i n)
+  flags_stay x i n else f is = inr (kept.flags f (λ none. is (get_or-set_other s.words i (flag_place b f) n 0 (else f) ∙ none)))
+
+  -- a step on words
+  pub words_keep : (x : SeatStep) → IsOnWords x → (w : FrameHolder) → w.held ≡ v.held → (i n : ℕ) → i < header_place b.layout.domains → (carried : List (ℕ × Cell)) → FramesAreKept b ((id, x) ∷ h) (stepped s i n id carried w keeps)
+  words_keep x is w same i n before = others_keep x (on_words x is) (no_bytes b.layout h x is) w same i n
+      (λ q lt e. let t : ℕ = header_place b.layout.domains in let f : t + 8 * q ≡ i = e in let g : i < t = before in omega arith)
+      (flags_stay x i n (λ f e. let t : ℕ = header_place b.layout.domains in let l : ℕ = length b.names in let j : t + 8 * l + f ≡ i = e in let g : i < t = before in omega arith))
+
+  -- a step on a flag
+  module _ (f : ℕ) where
+    no_lock_there : (q : ℕ) → q < length b.names → lock_place b q ≢ flag_place b f
+    no_lock_there q lt e = let t : ℕ = header_place b.layout.domains in let l : ℕ = length b.names in let j : t + 8 * q ≡ t + 8 * l + f = e in let g : q < l = lt in omega arith
+
+    other_flag : (g : ℕ) → (f ≡ g → ⊥) → flag_place b g ≢ flag_place b f
+    other_flag g ne e = let t : ℕ = header_place b.layout.domains + 8 * length b.names in let j : t + g ≡ t + f = e in ne (omega arith)
+
+    flags_raised : FlagsAreKept b ((id, Flag f Raised) ∷ h) (set s.words (flag_place b f) 1)
+    flags_raised g is = dite (ℕ_discrete f g) (λ (e : f ≡ g). inl e)
+        (λ ne. inr (kept.flags g (λ none. is (get_or-set_other s.words (flag_place b f) (flag_place b g) 1 0 (other_flag g ne) ∙ none))))
+
+    pub raise_keeps : (w : FrameHolder) → w.held ≡ v.held → (carried : List (ℕ × Cell)) → FramesAreKept b ((id, Flag f Raised) ∷ h) (stepped s (flag_place b f) 1 id carried w keeps)
+    raise_keeps w same = others_keep (Flag f Raised) (λ t q rs. refl) tt w same (flag_place b f) 1 no_lock_there flags_raised
+
+    pub pass_keeps : (n : ℕ) → get_or s.words (flag_place b f) 0 ≡ n → n ≢ 0 → (w : FrameHolder) → w.held ≡ v.held → (carried : List (ℕ × Cell)) → FramesAreKept b ((id, Flag f Passed) ∷ h) (stepped s (flag_place b f) n id carried w keeps)
+    pass_keeps n is raised w same = others_keep (Flag f Passed) (λ t q rs. refl) (kept.flags f (λ none. raised (sym is ∙ none))) w same (flag_place b f) n no_lock_there
+        (λ g there. inr (kept.flags g (λ none. there (ap (λ (ws : List ℕ). get_or ws (flag_place b g) 0) (ap (set s.words (flag_place b f)) (sym is) ∙ word_again s.words (flag_place b f)) ∙ none))))
 
   -- a frame is taken
   module _ (q : ℕ) (n : FrameAt) (named : IsNamed b q n) (y : Cell) (there : get_elem? s.homes q ≡ some (some y)) (lt : q < length b.names) (w : FrameHolder) (more : w.held ≡ (q, made b h n) ∷ v.held) where
@@ -151,11 +198,12 @@ module _ (b : Places) (h : StepHistory) (s : State Cell FrameHolder) (kept : Fra
           let o : 1 ≡ 0 = sym r ∙ z in omega arith))
           (λ (ne : a ≢ q). let r = kept.free a lta (sym (get_or-set_other s.words (lock_place b q) (lock_place b a) 1 0 (λ e. ne (one_lock b a q e))) ∙ is_free) in (r.0, set_else s.homes q a none ne ∙ r.1));
       wide = λ a lta. let l = length-set s.words (lock_place b q) 1 in let f = kept.wide a lta in omega arith;
+      flags = λ f is. kept.flags f (λ none. is (get_or-set_other s.words (lock_place b q) (flag_place b f) 1 0 (no_flag_there b q n f named) ∙ none));
     }
 
   -- a frame is given back, and an access is one more step
   module _ (q : ℕ) (n : FrameAt) (named : IsNamed b q n) (x : FrameState) (hs : List (ℕ × FrameState)) (has : AreLeft q x v.held hs) (m : FrameStep) (y : FrameState) (is : y ≡ record x { journal = journal_by m x.journal })
-      (says : SaysBytes b.layout h (Frame n.0 n.1 m)) (w : FrameHolder) (left : w.held ≡ hs) where
+      (says : IsTrueStep b.layout h (Frame n.0 n.1 m)) (w : FrameHolder) (left : w.held ≡ hs) where
     abbrev then : StepHistory
     then = (id, Frame n.0 n.1 m) ∷ h
 
@@ -218,6 +266,7 @@ module _ (b : Places) (h : StepHistory) (s : State Cell FrameHolder) (kept : Fra
           (λ (e : a ≡ q). (Some y, subst (λ (z : ℕ). get_elem? back z ≡ some (some (Some y))) (sym e) (set_here s.homes q (some (Some y)) (within s.homes q none (kept.out id v q at mine)))))
           (λ (ne : a ≢ q). let r = kept.free a lta (sym (get_or-set_other s.words (lock_place b q) (lock_place b a) 0 0 (λ e. ne (one_lock b a q e))) ∙ is_free) in (r.0, set_else s.homes q a (some (Some y)) ne ∙ r.1));
       wide = λ a lta. let l = length-set s.words (lock_place b q) 0 in let f = kept.wide a lta in omega arith;
+      flags = λ f is. inr (kept.flags f (λ none. is (get_or-set_other s.words (lock_place b q) (flag_place b f) 0 0 (no_flag_there b q n f named) ∙ none)));
     }
 
   -- a frame is given back as it was taken, and nothing is told
@@ -270,4 +319,5 @@ module _ (b : Places) (h : StepHistory) (s : State Cell FrameHolder) (kept : Fra
           (λ (e : a ≡ q). (Some x, subst (λ (z : ℕ). get_elem? kept_back z ≡ some (some (Some x))) (sym e) (set_here s.homes q (some (Some x)) (within s.homes q none (kept.out id v q at kept_mine)))))
           (λ (ne : a ≢ q). let r = kept.free a lta (sym (get_or-set_other s.words (lock_place b q) (lock_place b a) 0 0 (λ e. ne (one_lock b a q e))) ∙ is_free) in (r.0, set_else s.homes q a (some (Some x)) ne ∙ r.1));
       wide = λ a lta. let l = length-set s.words (lock_place b q) 0 in let f = kept.wide a lta in omega arith;
+      flags = λ f is. kept.flags f (λ none. is (get_or-set_other s.words (lock_place b q) (flag_place b f) 0 0 (no_flag_there b q n f named) ∙ none));
     }

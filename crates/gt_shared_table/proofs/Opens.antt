@@ -30,7 +30,7 @@ no_frames o zero v e = ap (λ (z : FrameHolder). z.held) (sym (some-injective (n
 no_frames o (suc j) v e = absurd (some-ne-none v (sym e))
 
 pub opens_all : FramesOpen
-opens_all b ws xs o words nothing_yet apart frames many wide = record {
+opens_all b ws xs o words nothing_yet apart frames many wide zeros = record {
   words = record {
     shown = record { history = words.shown.history; now = other_homes b.layout words.shown.history _ (map hidden (map some xs)) words.shown.now; stood = words.shown.stood };
     taken = words.taken;
@@ -45,5 +45,6 @@ opens_all b ws xs o words nothing_yet apart frames many wide = record {
     once = λ j v found. subst AreOnce (sym (no_frames o j v found)) tt;
     free = λ q lt is. some_there xs q (many q lt);
     wide = wide;
+    flags = λ f is. absurd (is (zeros f));
   });
 }

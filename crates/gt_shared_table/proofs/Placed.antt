@@ -1,6 +1,6 @@
 -- Each frame of a run has its slot, and begins as zeros.
 use Rattle.std.proofs.Common.{◌≡◌, ℕ, zero, suc, ◌+◌, ◌-◌, ◌*◌, ◌<◌, ◌≤◌, List, [], ◌∷◌, ◌++◌, map, length, get_or, sym, refl}
-use Rattle.std.proofs.Common.{ap, ◌∙◌, subst, arith, All}
+use Rattle.std.proofs.Common.{ap, ◌∙◌, arith, All}
 use Rattle.std.specs.Prelude.{Some}
 use mathlib.Core.Option.{some, some-injective, some-ne-none}
 use lib.ListN.{get_elem?}

@@ -53,6 +53,7 @@ views_keep b h s vs kept same = record {
       (same j w at);
   free = kept.free;
   wide = kept.wide;
+  flags = kept.flags;
 }
 
 more : (us : List View) (c : View) → length us ≤ length (us ++ c ∷ [])

@@ -1,6 +1,6 @@
--- The steps on the whole table: those on words as they were, a lock, and an access.
+-- The steps on the whole table: those on words as they were, a lock, an access, and a step on a flag.
 use Rattle.std.proofs.Common.{◌≡◌, ℕ, zero, suc, ◌+◌, ◌*◌, ◌<◌, ◌≤◌, Bool, true, false, ◌==◌, List, [], ◌∷◌, map, take}
-use Rattle.std.proofs.Common.{set, length, sym, refl, ap, ◌∙◌, subst, arith}
+use Rattle.std.proofs.Common.{◌≢◌, eq-eqb, set, length, sym, refl, ap, ◌∙◌, subst, arith}
 use Rattle.std.proofs.lemmas.Bool.Decides.{nat_tests}
 use Rattle.std.specs.Prelude.{IsTrue, slice_index, Some, MatchBool}
 use mathlib.Core.Option.{Option as Maybe, some, none, some-injective, some-ne-none}
@@ -19,21 +19,24 @@ use Rattle.gt_word_history.specs.History.{StepHistory, header_place}
 use Rattle.gt_word_history.specs.Joining.{TableHolds, tells_own, whole, whole_views}
 use Rattle.gt_word_history.specs.Rule.{Shows, Stands}
 use Rattle.gt_word_history.specs.Views.{with_step}
+use Rattle.gt_word_history.specs.declared.view.FlagStep.TheVariants.{Passed, Raised}
 use Rattle.gt_word_history.specs.declared.view.FrameStep.{FrameStep}
 use Rattle.gt_word_history.specs.declared.view.FrameStep.TheVariants.{Read, Wrote, Copied}
 use Rattle.gt_word_history.specs.declared.view.Outlook.{Outlook}
 use Rattle.gt_word_history.specs.declared.view.SeatStep.{SeatStep}
-use Rattle.gt_word_history.specs.declared.view.SeatStep.TheVariants.{Frame}
+use Rattle.gt_word_history.specs.declared.view.SeatStep.TheVariants.{Flag, Frame}
 use Rattle.gt_word_history.specs.declared.view.View.{View}
 use Rattle.gt_shared_table.specs.declared.rule.FrameHolder.{FrameHolder}
-use Rattle.gt_shared_table.specs.Bytes.{IsOnWords, SaysBytes, journal_by}
+use Rattle.gt_shared_table.specs.Bytes.{IsAside, IsOnWords, IsTrueStep, journal_by}
 use Rattle.gt_shared_table.specs.Rule.{Cell, FrameAt, HoldsAll, IsNamed, FramesAreKept, Places, hidden, inner, lock_place, made}
-use Rattle.gt_shared_table.specs.Rule.{own_of}
-use Rattle.gt_shared_table.specs.Telling.{Accesses, IsByHeld, TookAt, AreLeft, holder_after, holding, outlook_after}
-use Rattle.gt_shared_table.specs.Laws.{FramesAreFreed, FramesAreLocked, FramesAreReturned, WordsAreStepped}
+use Rattle.gt_shared_table.specs.Rule.{flag_place, own_of}
+use Rattle.gt_shared_table.specs.Telling.{Accesses, AddsStep, IsByHeld, TookAt, AreLeft, holder_after, holding, outlook_after}
+use Rattle.gt_shared_table.specs.Laws.{FlagsArePassed, FlagsAreRaised, FramesAreFreed, FramesAreLocked, FramesAreReturned}
+use Rattle.gt_shared_table.specs.Laws.{WordsAreStepped}
 use Rattle.gt_shared_table.proofs.OneStep.{access_stands, history_goes_on, holds_access, own_place, seen_there}
 use Rattle.gt_shared_table.proofs.OneStep.{word_again}
-use Rattle.gt_shared_table.proofs.Keeping.{gives_keep, returns_keep, takes_keep, was_mine, words_keep}
+use Rattle.gt_shared_table.proofs.Keeping.{gives_keep, pass_keeps, raise_keeps, returns_keep, takes_keep, was_mine}
+use Rattle.gt_shared_table.proofs.Keeping.{words_keep}
 
 hidden_set : (hs : List (Maybe Cell)) (q : ℕ) (m : Maybe Cell) → map hidden (set hs q m) ≡ map hidden hs
 hidden_set [] q m = refl
@@ -99,6 +102,59 @@ module _ (b : Places) (s : State Cell FrameHolder) (holds : HoldsAll b s) (id : 
         (one_history b.layout (whole (inner b after)) (whole (inner b s)) words_after.shown holds.words.shown (λ i. whole_views (same_inner i).views))
         (takes_keep b h s holds.frames id v at q n named (Some x) there lt (holding q x v) refl carried)
 
+  -- a step that leaves the words of entries and headers
+  module _ (x : SeatStep) (aside : IsAside x) (here : v.own.gone ≡ false) where
+    abbrev pub with_aside : State (Unit {0}) Outlook
+    with_aside = record { words = take n_words s.words; homes = map hidden s.homes; views = set (map own_of s.views) id (outlook_after h x v.own) }
+
+    went : TableHolds b.layout with_aside
+    went = holds_access b.layout (inner b s) holds.words id v.own own_at here x aside
+
+    pub aside_all : (z : State Cell FrameHolder) → inner b z ≡ with_aside → FramesAreKept b ((id, x) ∷ h) z → HoldsAll b z
+    unfolding went
+    aside_all z inner_is kept = let words_then : TableHolds b.layout (inner b z) = subst (TableHolds b.layout) (sym inner_is) went in
+        all_by b z words_then ((id, x) ∷ h)
+        (one_history b.layout (whole (inner b z)) (whole with_aside) words_then.shown went.shown (λ i. whole_views (inner_is i).views) ∙ history_goes_on b.layout (inner b s) holds.words id v.own own_at here x aside)
+        kept
+
+    place_is : v.own.own.position ≡ id
+    place_is = own_place b.layout (inner b s) holds.words id v.own own_at here x aside
+
+    seen_here : get_elem? (whole_views (map own_of s.views)) id ≡ some v.own.own
+    seen_here = seen_there b.layout (inner b s) holds.words id v.own own_at here x aside
+
+    pub accesses : IsTrueStep b.layout h x → Accesses b.layout v.own.own h x
+    accesses says = let next : View = with_step h x v.own.own in
+        let z : State (Unit {0}) View = stepped (whole (inner b s)) 0 (slice_index (take n_words s.words) 0) id [] next keeps in record {
+          stood = (whole (inner b s), holds.words.shown.now, subst (λ (i : ℕ). get_elem? (whole_views (map own_of s.views)) i ≡ some v.own.own) (sym place_is) seen_here);
+          still_stands = (
+            z,
+            subst (λ (i : ℕ). Stands b.layout ((i, x) ∷ h) z) (sym place_is) (access_stands b.layout (inner b s) holds.words id v.own own_at here x aside),
+            subst (λ (i : ℕ). get_elem? z.views i ≡ some next) (sym place_is) (set_here (whole_views (map own_of s.views)) id next (within (whole_views (map own_of s.views)) id v.own.own seen_here)),
+          );
+          stood_before = holds.words.shown.stood;
+          says = says;
+          truth = holds.frames.truth;
+        }
+
+    -- a step on a flag
+    module _ (f n : ℕ) (carried : List (ℕ × Cell)) where
+      abbrev stepper : FrameHolder
+      stepper = record { own = outlook_after h x v.own; held = v.held }
+
+      abbrev pub flagged : State Cell FrameHolder
+      flagged = stepped s (flag_place b f) n id carried stepper keeps
+
+      inner_flagged : inner b flagged ≡ with_aside
+      inner_flagged = λ i. record {
+        words = take-set-le n_words s.words (flag_place b f) n (let l : n_words ≤ n_words + 8 * length b.names + f = omega arith in l) i;
+        homes = map hidden s.homes;
+        views = map-set own_of s.views id stepper i;
+      }
+
+      pub flagged_all : FramesAreKept b ((id, x) ∷ h) flagged → HoldsAll b flagged
+      flagged_all kept = aside_all flagged inner_flagged kept
+
   -- an access
   module _ (q : ℕ) (n : FrameAt) (named : IsNamed b q n) (x : FrameState) (hs : List (ℕ × FrameState)) (has : AreLeft q x v.held hs) (m : FrameStep) (y : FrameState) (is : y ≡ record x { journal = journal_by m x.journal })
       (by_held : IsByHeld b v.held x m) (here : v.own.gone ≡ false) (carried : List (ℕ × Cell)) where
@@ -108,7 +164,7 @@ module _ (b : Places) (s : State Cell FrameHolder) (holds : HoldsAll b s) (id : 
     x_is : x ≡ made b h n
     x_is = holds.frames.values id v (q, x) n at (was_mine q x v.held hs has) named
 
-    says_by : (m : FrameStep) → IsByHeld b v.held x m → SaysBytes b.layout h (Frame n.0 n.1 m)
+    says_by : (m : FrameStep) → IsByHeld b v.held x m → IsTrueStep b.layout h (Frame n.0 n.1 m)
     says_by (Read off bs) e = e ∙ ap (λ (z : FrameState). bytes_at z off (length bs)) x_is
     says_by (Wrote r) e = subst (λ (z : FrameState). IsTrue (is_rightful z.owner z.number r)) x_is e
     says_by (Copied d f off r) e = (
@@ -125,47 +181,18 @@ module _ (b : Places) (s : State Cell FrameHolder) (holds : HoldsAll b s) (id : 
     abbrev pub freed : State Cell FrameHolder
     freed = stepped s (lock_place b q) 0 id ((q, Some y) ∷ carried) w gives
 
-    abbrev with_access : State (Unit {0}) Outlook
-    with_access = record { words = take n_words s.words; homes = map hidden s.homes; views = set (map own_of s.views) id (outlook_after h a_step v.own) }
-
-    inner_is : inner b freed ≡ with_access
+    inner_is : inner b freed ≡ with_aside a_step tt here
     inner_is = λ i. record {
       words = take-set-le n_words s.words (lock_place b q) 0 (let l : n_words ≤ n_words + 8 * q = omega arith in l) i;
       homes = hidden_set s.homes q (some (Some y)) i;
       views = map-set own_of s.views id w i;
     }
 
-    went : TableHolds b.layout with_access
-    went = holds_access b.layout (inner b s) holds.words id v.own own_at here n.0 n.1 m
-
-    words_freed : TableHolds b.layout (inner b freed)
-    words_freed = subst (TableHolds b.layout) (sym inner_is) went
-
     pub frees_all : HoldsAll b freed
-    unfolding went
-    frees_all = all_by b freed words_freed ((id, a_step) ∷ h)
-        (one_history b.layout (whole (inner b freed)) (whole with_access) words_freed.shown went.shown (λ i. whole_views (inner_is i).views) ∙ history_goes_on b.layout (inner b s) holds.words id v.own own_at here n.0 n.1 m)
-        (gives_keep b h s holds.frames id v at q n named x hs has m y is (says_by m by_held) w w_held carried)
+    frees_all = aside_all a_step tt here freed inner_is (gives_keep b h s holds.frames id v at q n named x hs has m y is (says_by m by_held) w w_held carried)
 
-    place_is : v.own.own.position ≡ id
-    place_is = own_place b.layout (inner b s) holds.words id v.own own_at here n.0 n.1 m
-
-    seen_here : get_elem? (whole_views (map own_of s.views)) id ≡ some v.own.own
-    seen_here = seen_there b.layout (inner b s) holds.words id v.own own_at here n.0 n.1 m
-
-    pub accesses : Accesses b.layout v.own.own h a_step
-    accesses = let next : View = with_step h a_step v.own.own in
-        let z : State (Unit {0}) View = stepped (whole (inner b s)) 0 (slice_index (take n_words s.words) 0) id [] next keeps in record {
-          stood = (whole (inner b s), holds.words.shown.now, subst (λ (i : ℕ). get_elem? (whole_views (map own_of s.views)) i ≡ some v.own.own) (sym place_is) seen_here);
-          still_stands = (
-            z,
-            subst (λ (i : ℕ). Stands b.layout ((i, a_step) ∷ h) z) (sym place_is) (access_stands b.layout (inner b s) holds.words id v.own own_at here n.0 n.1 m),
-            subst (λ (i : ℕ). get_elem? z.views i ≡ some next) (sym place_is) (set_here (whole_views (map own_of s.views)) id next (within (whole_views (map own_of s.views)) id v.own.own seen_here)),
-          );
-          stood_before = holds.words.shown.stood;
-          says = says_by m by_held;
-          truth = holds.frames.truth;
-        }
+    pub accesses_frame : Accesses b.layout v.own.own h a_step
+    accesses_frame = accesses a_step tt here (says_by m by_held)
 
   -- a frame is given back as it was taken
   module _ (q : ℕ) (n : FrameAt) (named : IsNamed b q n) (x : FrameState) (hs : List (ℕ × FrameState)) (has : AreLeft q x v.held hs) (carried : List (ℕ × Cell)) where
@@ -256,7 +283,7 @@ frees b slots id me q n named x hs has y c out m is by_held here s holds many at
   tt,
   subst (λ (z : List (ℕ × Cell)). HoldsAll b (stepped s (lock_place b q) 0 id z (holder_after holds.words.shown.history (Frame n.0 n.1 m) hs me.0) gives)) (sym out)
       (frees_all b s holds id me.0 at q n named x hs has m y is by_held here c),
-  (holds.words.shown.history, refl, accesses b s holds id me.0 at q n named x hs has m y is by_held here c, λ x' q' among a nm. holds.frames.values id me.0 (q', x') a at among nm),
+  (holds.words.shown.history, refl, accesses_frame b s holds id me.0 at q n named x hs has m y is by_held here c, λ x' q' among a nm. holds.frames.values id me.0 (q', x') a at among nm),
 )
 
 pub steps : WordsAreStepped
@@ -286,3 +313,28 @@ returns b slots id me q n named x hs has c out s holds many at bound = (
   subst (λ (z : List (ℕ × Cell)). HoldsAll b (stepped s (lock_place b q) 0 id z (record me.0 { held = hs }) gives)) (sym out) (returns_all b s holds id me.0 at q n named x hs has c),
   refl,
 )
+
+pub raises : FlagsAreRaised
+raises b slots id me f here s holds many at bound = let x : SeatStep = Flag f Raised in (
+  record { own = outlook_after holds.words.shown.history x me.0.own; held = me.0.held },
+  keeps,
+  tt,
+  flagged_all b s holds id me.0 at x tt here f 1 me.1 (raise_keeps b holds.words.shown.history s holds.frames id me.0 at f _ refl me.1),
+  (holds.words.shown.history, refl, accesses b s holds id me.0 at x tt here tt),
+)
+
+looks_by : (b : Places) (s : State Cell FrameHolder) (holds : HoldsAll b s) (id : ℕ) (me : Me Cell FrameHolder) → get_elem? s.views id ≡ some me.0 → (f : ℕ) → me.0.own.gone ≡ false → (word : ℕ) → slice_index s.words (flag_place b f) ≡ word → (t : Bool) → (word == 0) ≡ t
+    → (w : FrameHolder) × (a : Act Cell) × Valid s.homes me.1 a × HoldsAll b (stepped s (flag_place b f) word id me.1 w a)
+    × MatchBool t (IsMe (w, carried_after me.1 a) me) (AddsStep b.layout (Flag f Passed) me (w, carried_after me.1 a))
+looks_by b s holds id me at f here word is true e = (me.0, keeps, tt, nothing_found b s holds id me.0 at (flag_place b f) word is me.1, refl)
+looks_by b s holds id me at f here word is false e =
+    let x : SeatStep = Flag f Passed in let h = holds.words.shown.history in let some_word : word ≢ 0 = (λ z. let n : (word == 0) ≡ true = eq-eqb word 0 z in cc) in (
+      record { own = outlook_after h x me.0.own; held = me.0.held },
+      keeps,
+      tt,
+      flagged_all b s holds id me.0 at x tt here f word me.1 (pass_keeps b h s holds.frames id me.0 at f word is some_word _ refl me.1),
+      (h, refl, accesses b s holds id me.0 at x tt here (holds.frames.flags f (λ none. some_word (sym is ∙ none)))),
+    )
+
+pub passes : FlagsArePassed
+passes b slots id me f here s holds many at bound = looks_by b s holds id me at f here (slice_index s.words (flag_place b f)) refl (slice_index s.words (flag_place b f) == 0) refl

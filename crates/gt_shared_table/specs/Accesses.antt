@@ -6,9 +6,10 @@ use Rattle.gt_types.specs.declared.Range.{Range}
 use Rattle.gt_word_history.specs.History.{Layout, StepHistory}
 use Rattle.gt_word_history.specs.Rule.{id_at}
 use Rattle.gt_word_history.specs.Views.{with_step}
+use Rattle.gt_word_history.specs.declared.view.FlagStep.{FlagStep}
 use Rattle.gt_word_history.specs.declared.view.FrameStep.{FrameStep}
 use Rattle.gt_word_history.specs.declared.view.FrameStep.TheVariants.{Copied}
-use Rattle.gt_word_history.specs.declared.view.SeatStep.TheVariants.{Frame}
+use Rattle.gt_word_history.specs.declared.view.SeatStep.TheVariants.{Flag, Frame}
 use Rattle.gt_word_history.specs.declared.view.View.{View}
 use Rattle.gt_shared_table.specs.Rule.{FrameAt}
 use Rattle.gt_shared_table.specs.Telling.{Accesses}
@@ -17,6 +18,11 @@ use Rattle.gt_shared_table.specs.Telling.{Accesses}
 -- w: v with that step, and nothing else
 abbrev pub TakesAccess : Layout → FrameAt → FrameStep → View → View → Type 0
 TakesAccess k n m v w = (past : StepHistory) × (w ≡ with_step past (Frame n.0 n.1 m) v) × Accesses k v past (Frame n.0 n.1 m)
+
+-- the seat made this step on the flag right after the history past; its view is then w: v with that step, and nothing
+-- else
+abbrev pub TakesFlagStep : Layout → ℕ → FlagStep → View → View → Type 0
+TakesFlagStep k flag m v w = (past : StepHistory) × (w ≡ with_step past (Flag flag m) v) × Accesses k v past (Flag flag m)
 
 -- the seat copied a range of the first frame to the second, starting at an offset, as one step: the bytes are those
 -- that the source then had

@@ -1,5 +1,5 @@
 -- Consequences of the rules, for callers.
-use Rattle.std.specs.Prelude.{◌≡◌, ℕ, ◌<◌, List, [], ◌∷◌, ◌==◌, false, length, take, slice_set, Some}
+use Rattle.std.specs.Prelude.{◌≡◌, ℕ, ◌<◌, List, [], ◌∷◌, ◌==◌, false, length, take, slice_index, slice_set, Some}
 use mathlib.Core.Option.{some}
 use prog.Atomic.{either}
 use lib.ListN.{get_elem?}
@@ -7,30 +7,32 @@ use Rattle.atomic_table.specs.Table.{State, Me, Allows, opening, Step as TableSt
 use Rattle.gt_word_history.specs.History.{Layout, StepHistory, header_place}
 use Rattle.gt_word_history.specs.Joining.{TableHolds, tells_own}
 use Rattle.gt_word_history.specs.Steps.{StepKind}
+use Rattle.gt_word_history.specs.declared.view.FlagStep.TheVariants.{Raised}
 use Rattle.gt_word_history.specs.declared.view.FrameStep.{FrameStep}
 use Rattle.gt_word_history.specs.declared.view.Outlook.{Outlook}
-use Rattle.gt_word_history.specs.declared.view.SeatStep.TheVariants.{Frame}
+use Rattle.gt_word_history.specs.declared.view.SeatStep.TheVariants.{Flag, Frame}
 use Rattle.gt_word_history.specs.declared.view.SeatStep.{SeatStep}
 use Rattle.gt_frames.specs.Frames.{FrameState}
 use Rattle.gt_types.specs.declared.config.Config.{Config}
 use Rattle.gt_shared_table.specs.declared.rule.FrameHolder.{FrameHolder}
-use Rattle.gt_shared_table.specs.Bytes.{IsOnWords, SaysBytes, journal_by}
+use Rattle.gt_shared_table.specs.Bytes.{IsAside, IsOnWords, IsTrueStep, journal_by}
 use Rattle.gt_shared_table.specs.Rule.{Cell, FrameAt, HoldsAll, IsNamed, FramesAreKept, Places}
-use Rattle.gt_shared_table.specs.Rule.{lock_place, made, newcomer, places_of}
-use Rattle.gt_shared_table.specs.Telling.{AreLeft, Frees, IsByHeld, Locks, outlook_after}
+use Rattle.gt_shared_table.specs.Rule.{flag_place, lock_place, made, newcomer, places_of}
+use Rattle.gt_shared_table.specs.Telling.{AddsStep, AreLeft, Frees, IsByHeld, Locks, LooksAtFlag, outlook_after}
 
--- a seat may access any frame next; words and views then show a state, and the access is the new end of the history
+-- a seat may access any frame next, and raise or pass a flag; words and views then show a state, and the step is the
+-- new end of the history
 abbrev pub AccessesGoOn : Type 0
 AccessesGoOn =
     (k : Layout) (z : State (Unit {0}) Outlook) (holds : TableHolds k z) (id : ℕ) (o : Outlook)
     → get_elem? z.views id ≡ some o
-    → o.gone ≡ false → (t f : ℕ) (m : FrameStep)
+    → o.gone ≡ false → (x : SeatStep) → IsAside x
     → (after : TableHolds k (record {
       words = z.words;
       homes = z.homes;
-      views = slice_set z.views id (outlook_after holds.shown.history (Frame t f m) o);
+      views = slice_set z.views id (outlook_after holds.shown.history x o);
     }))
-    × (after.shown.history ≡ (id, Frame t f m) ∷ holds.shown.history)
+    × (after.shown.history ≡ (id, x) ∷ holds.shown.history)
 
 abbrev pub FramesStay : Type 0
 FramesStay =
@@ -50,7 +52,7 @@ FramesComeBack =
     (b : Places) (h : StepHistory) (s : State Cell FrameHolder) (kept : FramesAreKept b h s) (id : ℕ) (v : FrameHolder)
     → get_elem? s.views id ≡ some v → (q : ℕ) (n : FrameAt) → IsNamed b q n → (x : FrameState)
     (hs : List (ℕ × FrameState)) → AreLeft q x v.held hs → (m : FrameStep) (y : FrameState)
-    → y ≡ record x { journal = journal_by m x.journal } → SaysBytes b.layout h (Frame n.0 n.1 m) → (w : FrameHolder)
+    → y ≡ record x { journal = journal_by m x.journal } → IsTrueStep b.layout h (Frame n.0 n.1 m) → (w : FrameHolder)
     → w.held ≡ hs → (c : List (ℕ × Cell))
     → FramesAreKept b ((id, Frame n.0 n.1 m) ∷ h) (stepped s (lock_place b q) 0 id ((q, Some y) ∷ c) w gives)
 
@@ -79,8 +81,8 @@ WordsAreStepped =
     → Allows (HoldsAll b) slots id me at f
     (λ n m. tells_own d st (me.0.own, []) n (m.0.own, []) × (m.0.held ≡ me.0.held) × (m.1 ≡ me.1))
 
--- the rule holds at the start, if the rule of the words does, no frame has two slots, and each slot has its frame of
--- zeros
+-- the rule holds at the start, if the rule of the words does, no frame has two slots, each slot has its frame of zeros,
+-- and no flag is raised
 abbrev pub FramesOpen : Type 0
 FramesOpen =
     (b : Places) (ws : List ℕ) (xs : List Cell) (o : Outlook)
@@ -88,7 +90,20 @@ FramesOpen =
     → ((i j : ℕ) (n : FrameAt) → IsNamed b i n → IsNamed b j n → i ≡ j)
     → ((q : ℕ) (n : FrameAt) → IsNamed b q n → get_elem? xs q ≡ some (Some (made b [] n)))
     → ((q : ℕ) → q < length b.names → q < length xs) → ((q : ℕ) → q < length b.names → lock_place b q < length ws)
+    → ((f : ℕ) → slice_index ws (flag_place b f) ≡ 0)
     → HoldsAll b (opening ws xs (newcomer o))
+
+-- a seat may raise a flag at any time
+abbrev pub FlagsAreRaised : Type 0
+FlagsAreRaised =
+    (b : Places) (slots id : ℕ) (me : Me Cell FrameHolder) (f : ℕ) → me.0.own.gone ≡ false
+    → Allows (HoldsAll b) slots id me (flag_place b f) (λ _. 1) (λ _ m. AddsStep b.layout (Flag f Raised) me m)
+
+-- a seat may look at a flag at any time: it passes the flag if the word is not 0
+abbrev pub FlagsArePassed : Type 0
+FlagsArePassed =
+    (b : Places) (slots id : ℕ) (me : Me Cell FrameHolder) (f : ℕ) → me.0.own.gone ≡ false
+    → Allows (HoldsAll b) slots id me (flag_place b f) (λ w. w) (λ w m. LooksAtFlag b.layout f me w m)
 
 -- the frame that the seat carries first may be freed unchanged, and no view gains a step
 abbrev pub FramesAreReturned : Type 0

@@ -1,11 +1,12 @@
 -- The rule of a table with the words of all entries, and with a lock and a slot for each frame.
-use Rattle.std.specs.Prelude.{◌≡◌, ℕ, ◌+◌, ◌*◌, ◌<◌, ◌⊎◌, List, [], ◌∷◌, ◌++◌, length, map}
+use Rattle.std.specs.Prelude.{◌≡◌, ◌≢◌, ℕ, ◌+◌, ◌*◌, ◌<◌, ◌⊎◌, List, [], ◌∷◌, ◌++◌, length, map}
 use Rattle.std.specs.Prelude.{take, slice_index, Option, Some}
 use mathlib.Core.Option.{Option as Maybe, some, none}
 use lib.ListN.{get_elem?}
 use Rattle.atomic_table.specs.Table.{State}
 use Rattle.gt_frames.specs.Frames.{FrameState}
 use Rattle.gt_word_history.specs.declared.view.Outlook.{Outlook}
+use Rattle.gt_word_history.specs.Flags.{IsRaised}
 use Rattle.gt_word_history.specs.History.{Layout, StepHistory, header_place}
 use Rattle.gt_word_history.specs.Joining.{TableHolds}
 use Rattle.gt_word_history.specs.Rule.{layout_of}
@@ -16,7 +17,7 @@ use Rattle.gt_word_history.specs.Views.{IsAmong}
 use Rattle.gt_shared_table.specs.declared.rule.FrameHolder.{FrameHolder}
 use Rattle.gt_shared_table.specs.declared.rule.FrameSlot.{FrameSlot}
 use Rattle.atomic_table.specs.Seated.{TableId}
-use Rattle.gt_shared_table.specs.Bytes.{AreTrueBytes, frame_made}
+use Rattle.gt_shared_table.specs.Bytes.{AreTrueSteps, frame_made}
 
 -- a frame: the position of its owner's domain, and its number there
 abbrev pub FrameAt : Type 0
@@ -33,6 +34,10 @@ pub record Places : Type 0 where
 -- the index of a slot's lock among the words: after the words of all entries, eight words apart
 abbrev pub lock_place : Places → ℕ → ℕ
 lock_place b q = header_place b.layout.domains + 8 * q
+
+-- the index of a flag's word: after the locks of all slots
+abbrev pub flag_place : Places → ℕ → ℕ
+flag_place b f = header_place b.layout.domains + 8 * length b.names + f
 
 abbrev pub Cell : Type 0
 Cell = Option FrameState
@@ -62,9 +67,14 @@ IsSlotOf b z s = (s.lock ≡ lock_place b s.index) × (s.lock < z.words) × IsNa
 abbrev pub made : Places → StepHistory → FrameAt → FrameState
 made b h n = frame_made b.layout n.0 n.1 h
 
--- a frame in its slot is what the history makes; a frame that is out is held by one seat, with the contents that it had
+-- a flag whose word is not 0 was raised
+abbrev pub FlagsAreKept : Places → StepHistory → List ℕ → Type 0
+FlagsAreKept b h words = (f : ℕ) → slice_index words (flag_place b f) ≢ 0 → IsRaised f h
+
+-- a frame in its slot is what the history makes; a frame that is out is held by one seat, with the contents that it
+-- had; a flag is raised only by a step
 pub record FramesAreKept (b : Places) (h : StepHistory) (s : State Cell FrameHolder) : Type 0 where
-  pub truth : AreTrueBytes b.layout h
+  pub truth : AreTrueSteps b.layout h
   pub apart : (i j : ℕ) (n : FrameAt) → IsNamed b i n → IsNamed b j n → i ≡ j
   pub home : (q : ℕ) (n : FrameAt) (y : Cell) → IsNamed b q n → get_elem? s.homes q ≡ some (some y)
       → y ≡ Some (made b h n)
@@ -78,6 +88,7 @@ pub record FramesAreKept (b : Places) (h : StepHistory) (s : State Cell FrameHol
   pub free : (q : ℕ) → q < length b.names → slice_index s.words (lock_place b q) ≡ 0
       → (y : Cell) × (get_elem? s.homes q ≡ some (some y))
   pub wide : (q : ℕ) → q < length b.names → lock_place b q < length s.words
+  pub flags : FlagsAreKept b h s.words
 
 -- the slots as the rule of the words sees them: it ignores what they hold
 abbrev pub hidden : Maybe Cell → Maybe (Unit {0})

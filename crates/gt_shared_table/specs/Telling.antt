@@ -9,14 +9,15 @@ use Rattle.gt_word_history.specs.History.{Layout, StepHistory}
 use Rattle.gt_word_history.specs.Rule.{HasStood, id_at}
 use Rattle.gt_word_history.specs.Steps.{StoodWith}
 use Rattle.gt_word_history.specs.Views.{IsAmong, with_step}
+use Rattle.gt_word_history.specs.declared.view.FlagStep.TheVariants.{Passed}
 use Rattle.gt_word_history.specs.declared.view.FrameStep.{FrameStep}
 use Rattle.gt_word_history.specs.declared.view.FrameStep.TheVariants.{Read, Wrote, Copied}
 use Rattle.gt_word_history.specs.declared.view.SeatStep.{SeatStep}
-use Rattle.gt_word_history.specs.declared.view.SeatStep.TheVariants.{Frame}
+use Rattle.gt_word_history.specs.declared.view.SeatStep.TheVariants.{Flag, Frame}
 use Rattle.gt_word_history.specs.declared.view.Outlook.{Outlook}
 use Rattle.gt_word_history.specs.declared.view.View.{View}
 use Rattle.gt_shared_table.specs.declared.rule.FrameHolder.{FrameHolder}
-use Rattle.gt_shared_table.specs.Bytes.{AreTrueBytes, SaysBytes, frame_made}
+use Rattle.gt_shared_table.specs.Bytes.{AreTrueSteps, IsTrueStep, frame_made}
 use Rattle.gt_shared_table.specs.Rule.{Cell, FrameAt, IsNamed, Places, name_of}
 use Rattle.gt_shared_table.specs.declared.rule.FrameSlot.{FrameSlot}
 use Rattle.gt_frames.specs.declared.writ.Writ.{Writ}
@@ -64,13 +65,13 @@ AreLeft q x held hs =
     ⊎ ((p : ℕ × FrameState) × (ps : List (ℕ × FrameState)) × (held ≡ p ∷ (q, x) ∷ ps) × (hs ≡ p ∷ ps))
 
 -- the step was taken after the history past. Words and views showed a state before each step of that history, before
--- this step and after it, and each access, this one too, has the bytes that the steps before it make
+-- this step and after it, and each step, this one too, is true to the steps before it
 pub record Accesses (k : Layout) (v : View) (past : StepHistory) (x : SeatStep) : Type 0 where
   pub stood : StoodWith (Unit {0}) k past v
   pub still_stands : StoodWith (Unit {0}) k ((v.position, x) ∷ past) (with_step past x v)
   pub stood_before : HasStood (Unit {0}) k past
-  pub says : SaysBytes k past x
-  pub truth : AreTrueBytes k past
+  pub says : IsTrueStep k past x
+  pub truth : AreTrueSteps k past
 
 -- a frame was freed by this access, and these are left
 abbrev pub Frees : Places → FrameAt → FrameStep → List (ℕ × FrameState) → Me Cell FrameHolder → Me Cell FrameHolder → Type 0
@@ -99,6 +100,16 @@ IsByHeld b held x (Wrote r) = IsTrue (is_rightful x.owner x.number r)
 IsByHeld b held x (Copied d f off r) =
     (p : ℕ × FrameState) × IsAmong p held × IsNamed b p.0 (d, f) × (r.bytes ≡ bytes_at p.1 off (length r.bytes))
     × IsTrue (is_rightful x.owner x.number r)
+
+-- the seat made this step, and nothing else, right after the history past
+abbrev pub AddsStep : Layout → SeatStep → Me Cell FrameHolder → Me Cell FrameHolder → Type 0
+AddsStep k x me me' =
+    (past : StepHistory) × (me' ≡ (record { own = outlook_after past x me.0.own; held = me.0.held }, me.1))
+    × Accesses k me.0.own.own past x
+
+-- the seat looked at the flag, whose word was n: it passed the flag, or did nothing since the flag was not raised
+abbrev pub LooksAtFlag : Layout → ℕ → Me Cell FrameHolder → ℕ → Me Cell FrameHolder → Type 0
+LooksAtFlag k flag me n me' = MatchBool (n == 0) (me' ≡ me) (AddsStep k (Flag flag Passed) me me')
 
 -- a seat of this table
 abbrev pub IsOf : TableId → Seat Cell FrameHolder → Type 0

@@ -1,5 +1,5 @@
 -- What the steps on words promise in a table that has frames too.
-use Rattle.std.specs.Prelude.{◌≡◌, ℕ, ◌*◌, ◌+◌, ◌<◌, ◌≤◌, List, [], ◌∷◌, map, length, slice_index, All, false}
+use Rattle.std.specs.Prelude.{◌≡◌, ℕ, ◌+◌, ◌^◌, ◌<◌, ◌≤◌, List, [], ◌∷◌, map, length, slice_index, All, false}
 use mathlib.Core.Option.{none}
 use Rattle.atomic_table.specs.Seated.{TableId}
 use Rattle.atomic_table.specs.Table.{Me, Step as TableStep}
@@ -7,13 +7,12 @@ use Rattle.gt_types.specs.declared.config.Config.{Config}
 use Rattle.gt_types.specs.declared.config.DomainConfig.{DomainConfig}
 use Rattle.gt_types.specs.declared.limits.TheConstants.{LAST_GENERATION, LAST_VERSION, MAX_DOMAINS, MAX_FRAMES}
 use Rattle.gt_types.specs.declared.limits.TheConstants.{MAX_TABLE_FRAMES}
-use Rattle.gt_word_history.specs.History.{header_place}
 use Rattle.gt_word_history.specs.Joining.{tells_own}
 use Rattle.gt_word_history.specs.Places.{Board}
 use Rattle.gt_word_history.specs.Steps.{StepKind}
 use Rattle.gt_shared_table.specs.declared.rule.FrameHolder.{FrameHolder}
 use Rattle.gt_shared_table.specs.declared.table.FrameIndex.{FrameIndex}
-use Rattle.gt_shared_table.specs.Rule.{Cell, FrameAt, Places, places_of}
+use Rattle.gt_shared_table.specs.Rule.{Cell, FrameAt, Places, flag_place}
 
 -- the step as one of a table of words alone
 abbrev pub on_words : TableStep Cell → TableStep (Unit {0})
@@ -50,10 +49,11 @@ abbrev pub first_slots : ℕ → List DomainConfig → List ℕ
 first_slots at [] = []
 first_slots at (d ∷ ds) = at ∷ first_slots (at + d.frames) ds
 
--- the table has the words and locks of this run, and a slot for each of its frames
-abbrev pub HasRoom : TableId → Places → Type 0
-HasRoom z b =
-    (z.words ≡ header_place b.layout.domains + 8 * length b.names) × (b.layout.domains ≤ MAX_DOMAINS)
+-- the table has the words and locks of this run, and then this number of flags
+abbrev pub HasRoom : TableId → Places → ℕ → Type 0
+HasRoom z b flags =
+    (flag_place b 0 ≤ z.words) × (z.words ≡ flag_place b 0 + flags) × (flags < 2 ^ 32)
+    × (b.layout.domains ≤ MAX_DOMAINS)
 
 -- the table has this frame
 abbrev pub HasFrame : Board → FrameIndex → Type 0

@@ -1,10 +1,10 @@
 //! Laws: what the rule of the table allows. A law does nothing; its contract is the theorem.
 ghost use Rattle.gt_shared_table.specs.Laws.{AccessesGoOn, FramesAreTaken, FramesComeBack, FramesStay};
 ghost use Rattle.gt_shared_table.specs.Laws.{FramesAreFreed, FramesAreLocked, FramesAreReturned, FramesHaveOneSlot};
-ghost use Rattle.gt_shared_table.specs.Laws.{FramesOpen, WordsAreStepped};
+ghost use Rattle.gt_shared_table.specs.Laws.{FlagsArePassed, FlagsAreRaised, FramesOpen, WordsAreStepped};
 ghost use Rattle.gt_shared_table.specs.Seats.{SeatsAreDealt, SeatsAreTakenIn};
 
-/// A law: an access to a frame may be the next step of the history.
+/// A law: an access to a frame, or a step on a flag, may be the next step of the history.
 pub fn every_access_is_a_step()
     ensures { AccessesGoOn }
 {}
@@ -16,12 +16,14 @@ pub fn every_frame_is_kept()
     ensures back { FramesComeBack }
 {}
 
-/// A law: the steps that a table with words and frames allows.
+/// A law: the steps that a table with words, frames and flags allows.
 pub fn every_step_is_allowed()
     ensures words { WordsAreStepped }
     ensures locks { FramesAreLocked }
     ensures frees { FramesAreFreed }
     ensures returned { FramesAreReturned }
+    ensures raises { FlagsAreRaised }
+    ensures passes { FlagsArePassed }
 {}
 
 /// A law: the rule of the table holds at the start.

@@ -1,11 +1,12 @@
-//! The table that all domains of a run share: the words of their entries and headers, and their frames.
+//! The table that all domains of a run share: the words of their entries and headers, their frames, and flags.
 //!
 //! The table is an `atomic_table` with the rule `HoldsAll` (`specs/Rule.antt`). Between any two steps words and views
 //! show a state of the core, each frame in its slot is what the history makes of it, and one seat holds each frame that
 //! is out. The table and its seats are private here, so a crate above steps only by the calls of [`SharedTable`].
 //!
 //! Seven calls step on words: three loads, two stores, an exchange and a subtraction. Three access frames, each under
-//! its lock, which is a word of the table: [`read_frame`](SharedTable::read_frame), `write_frame` and `copy_frames`.
+//! its lock, which is a word of the table: [`read_frame`](SharedTable::read_frame), `write_frame` and `copy_frames`. Two
+//! step on a flag: `raise_flag` and `pass_flag`.
 //! Each call gives the seat's view exactly one more step. Views and steps cost nothing at run time. Only
 //! `SharedTable::new` allocates for itself, and only accesses may wait.
 //!
@@ -13,6 +14,7 @@
 #![tactic(auto)]
 
 mod accesses;
+mod flags;
 mod frames;
 mod laws;
 mod locks;

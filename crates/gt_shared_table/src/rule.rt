@@ -6,11 +6,13 @@ ghost use Rattle.gt_word_history.specs.Joining.{outlook_of};
 ghost use Rattle.gt_word_history.specs.Places.{first_view};
 ghost use Rattle.gt_word_history.specs.Rule.{layout_of};
 ghost use Rattle.gt_word_history.specs.Steps.{StepKind, looking};
+ghost use Rattle.gt_word_history.specs.declared.view.FlagStep.TheVariants.{Raised};
 ghost use Rattle.gt_word_history.specs.declared.view.FrameStep.{FrameStep};
 ghost use Rattle.gt_word_history.specs.declared.view.FrameStep.TheVariants as access;
+ghost use Rattle.gt_word_history.specs.declared.view.SeatStep.TheVariants.{Flag};
 ghost use Rattle.gt_shared_table.specs.Rule.{FrameAt, HoldsAll, Places, newcomer, places_of};
 ghost use Rattle.gt_shared_table.specs.Seats.{dealer, dealt_by, gone_holder, learns_all_of, taker};
-ghost use Rattle.gt_shared_table.specs.Telling.{Frees, Locks, Returns, no_places};
+ghost use Rattle.gt_shared_table.specs.Telling.{AddsStep, Frees, Locks, LooksAtFlag as looks_at_flag, Returns, no_places};
 ghost use Rattle.gt_shared_table.specs.Words.{tells_word, tells_word_stored};
 
 use atomic_table::{Join, Play, Seat, Shared, Split, TableRule};
@@ -101,6 +103,19 @@ impl OfAccess for Brand {
     ghost left = { [] };
 }
 
+/// The flag of a step. Each call picks one.
+pub(crate) trait OfFlag {
+    ghost layout: { Layout };
+
+    ghost flag: { ℕ };
+}
+
+impl OfFlag for Brand {
+    ghost layout = { no_places.layout };
+
+    ghost flag = { 0 };
+}
+
 /// A step on a word.
 pub(crate) struct Tells<J> {
     kind: PhantomData<J>,
@@ -144,6 +159,24 @@ pub(crate) struct ReturnsTo<J> {
 
 impl<J: OfAccess> Play<Option<Frame>, FrameHolder> for ReturnsTo<J> {
     ghost then = { λ _ m _ m'. Returns J.left m m' };
+}
+
+/// The store that raises a flag.
+pub(crate) struct RaisesFlag<J> {
+    flag: PhantomData<J>,
+}
+
+impl<J: OfFlag> Play<Option<Frame>, FrameHolder> for RaisesFlag<J> {
+    ghost then = { λ _ m _ m'. AddsStep J.layout (Flag J.flag Raised) m m' };
+}
+
+/// A load of a flag's word.
+pub(crate) struct LooksAtFlag<J> {
+    flag: PhantomData<J>,
+}
+
+impl<J: OfFlag> Play<Option<Frame>, FrameHolder> for LooksAtFlag<J> {
+    ghost then = { λ _ m n m'. looks_at_flag J.layout J.flag m n m' };
 }
 
 /// The deal of the next seat by the first one.

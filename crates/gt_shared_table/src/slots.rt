@@ -1,7 +1,7 @@
 //! The slots of the frames, in the order of their domains.
 ghost use Rattle.std.specs.Prelude.{◌≡◌, ◌≤◌, ◌<◌, length, map, slice_index, IfOk, Some};
-ghost use Rattle.gt_shared_table.specs.Rule.{IsSlotOf, name_of, places_of};
-ghost use Rattle.gt_shared_table.specs.Words.{HasRoom, HasTable, first_slots, frames_kept, named_at};
+ghost use Rattle.gt_shared_table.specs.Rule.{IsSlotOf, flag_place, name_of, places_of};
+ghost use Rattle.gt_shared_table.specs.Words.{HasTable, first_slots, frames_kept, named_at};
 
 use crate::rule::{Cells, FrameSlot};
 use crate::table::FrameIndex;
@@ -15,7 +15,7 @@ pub(crate) const LOCK_WORDS: usize = 8;
 
 // Returns the slot of a frame.
 pub(crate) fn slot_at(cells: &Cells, firsts: &[usize], frame: FrameIndex) -> FrameSlot
-    requires table { HasTable cells.now.key × HasRoom cells.now.table_id (places_of cells.now.key) }
+    requires table { HasTable cells.now.key × (flag_place (places_of cells.now.key) 0 ≤ cells.now.table_id.words) }
     requires firsts { firsts.now ≡ first_slots 0 cells.now.key.domains.items }
     requires inside { (frame.position < length cells.now.key.domains.items)
         × (frame.number < slice_index (frames_kept cells.now.key) frame.position) }

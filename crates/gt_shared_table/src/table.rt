@@ -5,7 +5,7 @@ ghost use Rattle.gt_word_history.specs.Places.{Board, IsInside, SeatAt};
 ghost use Rattle.gt_word_history.specs.Rule.{header_place, layout_of, place};
 ghost use Rattle.gt_word_history.specs.Steps.{exchanging, half_index, looking, looking_at_header, reading, storing};
 ghost use Rattle.gt_word_history.specs.Steps.{storing_header, unpinning};
-ghost use Rattle.gt_shared_table.specs.Rule.{places_of};
+ghost use Rattle.gt_shared_table.specs.Rule.{flag_place, places_of};
 ghost use Rattle.gt_shared_table.specs.Words.{HasRoom, HasTable, IsAlone, first_slots, frames_kept};
 
 use crate::raw::{
@@ -21,7 +21,7 @@ use gt_word_history::{EntryAt, Purpose};
 use std::alloc::Global;
 use std::marker::{Brand, Model};
 
-/// The words of all entries and headers of a run, and its frames.
+/// The words of all entries and headers of a run, its frames, and flags.
 #[derive(Drop)]
 pub struct SharedTable {
     pub(crate) table: Table<Option<Frame>, FrameHolder, Config, SharedRule, Global>,
@@ -29,6 +29,10 @@ pub struct SharedTable {
     pub(crate) firsts: Vec<usize>,
     /// The number of frames of each domain.
     pub(crate) frames: Vec<u64>,
+    /// The index of the first flag's word.
+    pub(crate) first_flag: usize,
+    /// The number of flags.
+    pub(crate) flags: u32,
 }
 
 impl Model for SharedTable {
@@ -38,9 +42,11 @@ impl Model for SharedTable {
       table = w.table.shared.table_id;
       layout = layout_of w.table.shared.key;
       frames = frames_kept w.table.shared.key;
+      flags = w.flags;
     } };
 
-    ghost invariant = { λ w. HasRoom w.table.shared.table_id (places_of w.table.shared.key)
+    ghost invariant = { λ w. HasRoom w.table.shared.table_id (places_of w.table.shared.key) w.flags
+        × (w.first_flag ≡ flag_place (places_of w.table.shared.key) 0)
         × HasTable w.table.shared.key × (w.firsts.items ≡ first_slots 0 w.table.shared.key.domains.items)
         × (w.frames.items ≡ frames_kept w.table.shared.key) };
 }

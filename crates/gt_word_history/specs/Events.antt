@@ -9,7 +9,7 @@ use Rattle.gt_word_history.specs.declared.view.EntryStep.TheVariants.{StoredBody
 use Rattle.gt_word_history.specs.declared.view.HeaderStep.{HeaderStep}
 use Rattle.gt_word_history.specs.declared.view.HeaderStep.TheVariants as header
 use Rattle.gt_word_history.specs.declared.view.SeatStep.{SeatStep}
-use Rattle.gt_word_history.specs.declared.view.SeatStep.TheVariants.{Entry, Frame, Header}
+use Rattle.gt_word_history.specs.declared.view.SeatStep.TheVariants.{Entry, Flag, Frame, Header}
 use Rattle.gt_word_history.specs.declared.view.View.{View}
 use Rattle.gt_word_history.specs.Views.{LivePin, without_pin}
 use Rattle.gt_word_history.specs.History.{EntryState, StepHistory, Moment, PinsLast, SaysWord, entry_made, header_made}
@@ -45,12 +45,14 @@ abbrev pub event_on_entry : ℕ → SeatStep → ℕ → ℕ → EntryState → 
 event_on_entry i (Entry d q m) t r x = cond ((d == t) && (q == r)) (entry_after i m x) x
 event_on_entry i (Header d m) t r x = x
 event_on_entry i (Frame d q m) t r x = x
+event_on_entry i (Flag f m) t r x = x
 
 -- the header of the domain t after a step: only a step on it changes it
 abbrev pub event_on_header : SeatStep → ℕ → ℕ → ℕ
 event_on_header (Header d m) t w = cond (d == t) (header_after m w) w
 event_on_header (Entry d q m) t w = w
 event_on_header (Frame d q m) t w = w
+event_on_header (Flag f m) t w = w
 
 -- the step x of the domain i takes each entry and header that the steps before it make to what the event of the core
 -- gives

@@ -7,7 +7,7 @@ use Rattle.gt_word_history.specs.Prelude.{ReadBody, Pinned, PinMissed, Unpinned,
 use Rattle.gt_word_history.specs.Prelude.{HeaderStep}
 use Rattle.gt_word_history.specs.Prelude.{SeatStep, View, EntryRecord, Invalid, DOMAIN_WORDS, ENTRY_WORDS}
 use Rattle.gt_word_history.specs.declared.view.HeaderStep.TheVariants as header
-use Rattle.gt_word_history.specs.declared.view.SeatStep.TheVariants.{Entry, Frame, Header}
+use Rattle.gt_word_history.specs.declared.view.SeatStep.TheVariants.{Entry, Flag, Frame, Header}
 use Rattle.gt_word_history.specs.Views.{LivePin, entry_steps, header_steps, last_record, live_pins, stored_body}
 use Rattle.gt_word_history.specs.Views.{stored_header}
 
@@ -68,6 +68,7 @@ abbrev pub word_place_of : SeatStep → ℕ
 word_place_of (Entry t r m) = place t r (word_on m)
 word_place_of (Header t m) = header_place t
 word_place_of (Frame t f m) = 0
+word_place_of (Flag f m) = 0
 
 -- the number that a step on an entry leaves, by the number found: a pin adds one, a release takes one away, a store and
 -- a taken exchange set it, and any other step leaves it (C11 atomics)
@@ -87,6 +88,7 @@ left_by (Entry t r m) n = left_on_entry m n
 left_by (Header t (header.Looked w)) n = n
 left_by (Header t (header.Stored w)) n = w
 left_by (Frame t f m) n = n
+left_by (Flag f m) n = n
 
 -- the word at an index that a history makes
 abbrev pub word_after : Layout → StepHistory → ℕ → ℕ
@@ -110,6 +112,7 @@ SaysWord (Entry t r m) n = SaysFound m n
 SaysWord (Header t (header.Looked w)) n = w ≡ n
 SaysWord (Header t (header.Stored w)) n = Unit {0}
 SaysWord (Frame t f m) n = Unit {0}
+SaysWord (Flag f m) n = Unit {0}
 
 -- a step of the domain i on an entry of the domain t stores or changes only if i is t
 abbrev pub IsByOwner : ℕ → ℕ → EntryStep → Type 0
@@ -127,6 +130,7 @@ abbrev pub IsOwners : ℕ → SeatStep → Type 0
 IsOwners i (Entry t r m) = IsByOwner i t m
 IsOwners i (Header t m) = HeaderByOwner i t m
 IsOwners i (Frame t f m) = Unit {0}
+IsOwners i (Flag f m) = Unit {0}
 
 -- the owner's steps on the entry, from those of each seat
 abbrev pub owner_steps : ℕ → List (List EntryStep) → List EntryStep
@@ -172,6 +176,7 @@ abbrev pub PinsLast : Layout → StepHistory → SeatStep → Type 0
 PinsLast k h (Entry t r m) = IsOfRecord (entry_made k t r h).current m
 PinsLast k h (Header t m) = Unit {0}
 PinsLast k h (Frame t f m) = Unit {0}
+PinsLast k h (Flag f m) = Unit {0}
 
 -- each step of the history found the word that the steps before it make, stored or changed only what its seat owns, and
 -- took a pin only of the last record

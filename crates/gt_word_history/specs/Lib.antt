@@ -1,5 +1,6 @@
 pub mod Controls
 pub mod Views
+pub mod Flags
 pub mod History
 pub mod Rule
 pub mod Events

@@ -6,12 +6,13 @@ use Rattle.gt_word_history.specs.declared.rule.EntryAt.{EntryAt}
 use Rattle.gt_word_history.specs.declared.view.Outlook.{Outlook}
 use Rattle.gt_word_history.specs.Rule.{Layout}
 
--- what clauses see of the table: its identity, the run that it serves, and the number of frames that it has of each
--- domain
+-- what clauses see of the table: its identity, the run that it serves, the number of frames that it has of each domain,
+-- and the number of flags
 pub record Board : Type 0 where
   pub table : TableId
   pub layout : Layout
   pub frames : List ℕ
+  pub flags : ℕ
 
 -- what clauses see of a seat of the table: its table and its view
 pub record SeatAt : Type 0 where

@@ -7,7 +7,7 @@ use Rattle.gt_word_history.specs.Prelude.{SeatStep}
 use Rattle.gt_word_history.specs.Prelude.{View, KindSub, entry_of, control_of, header_of, kind_of, TableHeader}
 use Rattle.gt_entry.specs.declared.entry.Entry.TheVariants as entries
 use Rattle.gt_word_history.specs.declared.view.HeaderStep.TheVariants as header
-use Rattle.gt_word_history.specs.declared.view.SeatStep.TheVariants.{Entry, Frame, Header}
+use Rattle.gt_word_history.specs.declared.view.SeatStep.TheVariants.{Entry, Flag, Frame, Header}
 use Rattle.gt_word_history.specs.Controls.{generation_of}
 
 -- a is in the list
@@ -21,6 +21,7 @@ entry_steps t r [] = []
 entry_steps t r (Entry d q m ∷ xs) = cond ((d == t) && (q == r)) (m ∷ entry_steps t r xs) (entry_steps t r xs)
 entry_steps t r (Header d m ∷ xs) = entry_steps t r xs
 entry_steps t r (Frame d q m ∷ xs) = entry_steps t r xs
+entry_steps t r (Flag f m ∷ xs) = entry_steps t r xs
 
 -- the steps of a view on the entry r of the domain t
 abbrev pub steps_on : ℕ → ℕ → View → List EntryStep
@@ -32,6 +33,7 @@ header_steps t [] = []
 header_steps t (Header d m ∷ xs) = cond (d == t) (m ∷ header_steps t xs) (header_steps t xs)
 header_steps t (Entry d q m ∷ xs) = header_steps t xs
 header_steps t (Frame d q m ∷ xs) = header_steps t xs
+header_steps t (Flag f m ∷ xs) = header_steps t xs
 
 -- the steps of a view on the header of the domain t
 abbrev pub steps_on_header : ℕ → View → List HeaderStep

@@ -17,4 +17,6 @@ mod view;
 
 pub use encoding::{first_header, idle_word};
 pub use rule::{DOMAIN_ROWS, DOMAIN_WORDS, ENTRY_WORDS, EntryAt};
-pub use view::{EntryRecord, EntryStep, FrameStep, HeaderStep, Outlook, Purpose, SeatStep, View};
+pub use view::{
+    EntryRecord, EntryStep, FlagStep, FrameStep, HeaderStep, Outlook, Purpose, SeatStep, View,
+};

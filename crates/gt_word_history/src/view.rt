@@ -75,11 +75,22 @@ pub enum FrameStep {
     Copied(u64, u64, u16, WriteRecord),
 }
 
-/// A step on an entry, a header or a frame: the position of its domain, then the reference or the frame's number.
+/// A step on a flag, on which domains wait for one another.
+#[derive(Clone, Copy)]
+pub enum FlagStep {
+    /// A store that raises the flag.
+    Raised,
+    /// A load that found the flag raised.
+    Passed,
+}
+
+/// A step on an entry, a header or a frame: the position of its domain, then the reference or the frame's number. Or a
+/// step on the flag of this number, which is no domain's.
 pub enum SeatStep {
     Entry(u64, u64, EntryStep),
     Header(u64, HeaderStep),
     Frame(u64, u64, FrameStep),
+    Flag(u64, FlagStep),
 }
 
 /// The purpose of an exchange of a control word.

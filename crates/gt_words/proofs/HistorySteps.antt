@@ -29,7 +29,7 @@ use Rattle.gt_word_history.specs.declared.view.EntryStep.{EntryStep}
 use Rattle.gt_word_history.specs.declared.view.HeaderStep.{HeaderStep}
 use Rattle.gt_word_history.specs.declared.view.HeaderStep.TheVariants as header
 use Rattle.gt_word_history.specs.declared.view.SeatStep.{SeatStep}
-use Rattle.gt_word_history.specs.declared.view.SeatStep.TheVariants.{Entry, Frame, Header}
+use Rattle.gt_word_history.specs.declared.view.SeatStep.TheVariants.{Entry, Flag, Frame, Header}
 use Rattle.gt_word_history.specs.declared.view.View.{View}
 use Rattle.gt_word_history.specs.declared.rule.TheConstants.{DOMAIN_WORDS}
 
@@ -100,6 +100,7 @@ module _ (k : Layout) (i : ℕ) (h : StepHistory) (inside : i < k.domains) where
   entries (Entry d q m) may t r = on_entry d q m may t r
   entries (Header d m) may t r = ap (entry_by k.first t) (same_parts t r i (Header d m) h (λ l. refl) 0 k.domains)
   entries (Frame d q m) may t r = ap (entry_by k.first t) (same_parts t r i (Frame d q m) h (λ l. refl) 0 k.domains)
+  entries (Flag f m) may t r = ap (entry_by k.first t) (same_parts t r i (Flag f m) h (λ l. refl) 0 k.domains)
 
   headers : (x : SeatStep) → IsOwners i x → (t : ℕ) → header_made k t ((i, x) ∷ h) ≡ event_on_header x t (header_made k t h)
   headers (Entry d q m) may t = by (i == t)
@@ -110,6 +111,11 @@ module _ (k : Layout) (i : ℕ) (h : StepHistory) (inside : i < k.domains) where
   headers (Frame d q m) may t = by (i == t)
     where
       by : (b : Bool) → stored_header (get_or k.headers t 0) (header_steps t (cond b (Frame d q m ∷ part_of t h) (part_of t h))) ≡ header_made k t h
+      by true = refl
+      by false = refl
+  headers (Flag f m) may t = by (i == t)
+    where
+      by : (b : Bool) → stored_header (get_or k.headers t 0) (header_steps t (cond b (Flag f m ∷ part_of t h) (part_of t h))) ≡ header_made k t h
       by true = refl
       by false = refl
   headers (Header d (header.Looked n)) may t = by (i == t) (d == t)

@@ -27,7 +27,7 @@ use Rattle.gt_word_history.specs.declared.view.EntryRecord.{EntryRecord}
 use Rattle.gt_word_history.specs.declared.view.EntryStep.{EntryStep}
 use Rattle.gt_word_history.specs.declared.view.EntryStep.TheVariants.{Changed}
 use Rattle.gt_word_history.specs.declared.view.SeatStep.{SeatStep}
-use Rattle.gt_word_history.specs.declared.view.SeatStep.TheVariants.{Entry as OnEntry, Frame as OnFrame}
+use Rattle.gt_word_history.specs.declared.view.SeatStep.TheVariants.{Entry as OnEntry, Flag as OnFlag, Frame as OnFrame}
 use Rattle.gt_word_history.specs.declared.view.SeatStep.TheVariants.{Header as OnHeader}
 use Rattle.gt_word_history.specs.declared.view.View.{View}
 
@@ -50,6 +50,7 @@ still_exchanged e t r (OnEntry d q m ∷ later) steps is = by ((d == t) && (q ==
   by false there = there
 still_exchanged e t r (OnHeader d m ∷ later) steps is = still_exchanged e t r later steps is
 still_exchanged e t r (OnFrame d q m ∷ later) steps is = still_exchanged e t r later steps is
+still_exchanged e t r (OnFlag f m ∷ later) steps is = still_exchanged e t r later steps is
 
 module _ (k : Layout) (r word : ℕ) (c : EntryChange) (v w : View) (z : Changes k r c word v w) (none : HasNoPins v.position r z.steps.past) (vn : v.position < k.domains) (rn : r < TABLE_ENTRIES) where
   abbrev all : List (List EntryStep)

@@ -20,7 +20,7 @@ use Rattle.gt_words.specs.Sight.{SawRecord}
 use Rattle.gt_word_history.specs.Views.{earlier_records, entry_steps, last_record, seen, steps_on}
 use Rattle.gt_word_history.specs.declared.view.EntryStep.{EntryStep}
 use Rattle.gt_word_history.specs.declared.view.SeatStep.{SeatStep}
-use Rattle.gt_word_history.specs.declared.view.SeatStep.TheVariants.{Entry, Frame, Header}
+use Rattle.gt_word_history.specs.declared.view.SeatStep.TheVariants.{Entry, Flag, Frame, Header}
 use Rattle.gt_word_history.specs.declared.view.View.{View}
 
 module _ (k : Layout) (t r : ℕ) where
@@ -74,6 +74,7 @@ module _ (k : Layout) (t r : ℕ) where
   one_step : {S : Type 0} (i j : ℕ) (x : SeatStep) (h : StepHistory) (z : State S View) → t < k.domains → r < TABLE_ENTRIES → Stands k h z → SaysWord x (word_after k h (word_place_of x)) → Lawful ((j, x) ∷ h) → Saw i h → Saw i ((j, x) ∷ h)
   one_step i j (Header d m) h z tn rn st says lawful saw = elsewhere i j (Header d m) h saw (λ l. refl)
   one_step i j (Frame d q m) h z tn rn st says lawful saw = elsewhere i j (Frame d q m) h saw (λ l. refl)
+  one_step i j (Flag f m) h z tn rn st says lawful saw = elsewhere i j (Flag f m) h saw (λ l. refl)
   one_step i j (Entry d q m) h z tn rn st says lawful saw = dite (ℕ_discrete d t)
       (λ e. dite (ℕ_discrete q r) (λ f. same e f) (λ n. else (λ _ g. n g)))
       (λ n. else (λ g _. n g))

@@ -5,4 +5,5 @@ pub mod Conditions
 pub mod Laws
 pub mod Prelude
 pub mod Frameless
+pub mod Flags
 pub mod Frames

@@ -5,7 +5,8 @@
 //! what, with each pin counted. So if a revocation returns Ok, no domain had a pin of its entry at that moment.
 //!
 //! Each access to a frame is one step too, under the lock of the frame: [`read_frame`](Words::read_frame), `write_frame`
-//! and `copy_frames`. Only these calls may wait. Of the calls on words only those that start a run allocate.
+//! and `copy_frames`. Only these calls may wait. Raising a flag and passing it is a step too. Of the calls on words only
+//! those that start a run allocate.
 //!
 //! The contract of each call names the state in which its step was made, and what the step changed. All steps of all
 //! domains have one order. Views and steps cost nothing at run time.
@@ -15,6 +16,7 @@
 #![tactic(auto)]
 
 mod calls;
+mod flags;
 mod frames;
 mod gathering;
 mod laws;
@@ -24,7 +26,7 @@ mod words;
 pub use frames::AccessFault;
 pub use gt_shared_table::Gathered;
 pub use gt_word_history::{
-    EntryRecord, EntryStep, FrameStep, HeaderStep, Outlook, Purpose, SeatStep, View,
+    EntryRecord, EntryStep, FlagStep, FrameStep, HeaderStep, Outlook, Purpose, SeatStep, View,
 };
 pub use laws::{
     every_allowed_step_says_what_is_there, every_domain_has_its_position,

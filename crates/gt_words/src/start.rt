@@ -1,12 +1,16 @@
-//! The seats of a run at its start, and its configuration without frames.
+//! The words and the seats of a run at its start.
 ghost use Rattle.std.specs.Prelude.{◌≡◌, ℕ, ◌<◌, length, IfOk, HoldsAt};
 ghost use Rattle.gt_types.specs.Config.{IsWithinLimits};
 ghost use Rattle.gt_words.specs.Answers.{IsNewSeat};
 ghost use Rattle.gt_words.specs.Frameless.{IsFrameless};
+ghost use Rattle.gt_words.specs.Frames.{KeepsFrame};
+ghost use Rattle.gt_shared_table.specs.Words.{HasTable, frames_kept};
+ghost use Rattle.gt_types.specs.declared.places.FrameName.{FrameName};
 ghost use Rattle.gt_word_history.specs.Places.{IsNewPlace};
 ghost use Rattle.gt_word_history.specs.Rule.{layout_of};
 
-use crate::words::{DomainPosition, Seat};
+use crate::words::{DomainPosition, Seat, Words};
+use gt_roster::Positions;
 use gt_shared_table::{SharedTable, TableSeat};
 use gt_types::{Config, DomainConfig, Memory};
 use gt_word_history::first_header;
@@ -33,8 +37,8 @@ fn new_seat(words: &SharedTable, config: &Config, place: TableSeat, at: usize) -
     }
 }
 
-/// Makes the seats of all domains, in order, from the first one.
-pub(crate) fn deal_seats(
+// Makes the seats of all domains, in order, from the first one.
+fn deal_seats(
     alloc: Global,
     words: &SharedTable,
     config: &Config,
@@ -56,8 +60,8 @@ pub(crate) fn deal_seats(
     Ok(seats)
 }
 
-/// Copies a configuration, with no frames.
-pub(crate) fn without_frames(alloc: Global, config: &Config) -> Result<Config, Memory>
+// Copies a configuration, with no frames.
+fn without_frames(alloc: Global, config: &Config) -> Result<Config, Memory>
     ensures { IfOk result (λ c. IsFrameless config.now c) }
 {
     let mut domains = Vec::new(alloc);
@@ -71,4 +75,44 @@ pub(crate) fn without_frames(alloc: Global, config: &Config) -> Result<Config, M
         domains,
         first_gen: config.first_gen,
     })
+}
+
+/// Makes the words and the seats of a configuration within the limits, with the frames of another one that is the same
+/// but for their numbers.
+pub(crate) fn make_words(
+    alloc: Global,
+    config: &Config,
+    framed: &Config,
+    flags: u32,
+) -> Result<(Words, Vec<Seat>), Memory>
+    requires limits { IsWithinLimits config.now }
+    requires table { HasTable framed.now }
+    requires same { layout_of framed.now ≡ layout_of config.now }
+    ensures words { IfOk result (λ r. r.0.layout ≡ layout_of config.now) }
+    ensures frames { IfOk result (λ r. r.0.frames ≡ frames_kept framed.now) }
+    ensures flags { IfOk result (λ r. r.0.flags ≡ flags) }
+    ensures count { IfOk result (λ r. length r.1.items ≡ length config.now.domains.items) }
+    ensures seats { IfOk result (λ r. (i : ℕ) → i < length config.now.domains.items
+        → HoldsAt (IsNewSeat r.0 i) r.1.items i) }
+{
+    let (words, first) = SharedTable::new(alloc, framed, flags)?;
+    let ids = Positions::new(alloc, config)?;
+    let seats = deal_seats(alloc, &words, config, first)?;
+    Ok((Words { words, ids }, seats))
+}
+
+/// The same without frames.
+pub(crate) fn make_without_frames(
+    alloc: Global,
+    config: &Config,
+) -> Result<(Words, Vec<Seat>), Memory>
+    requires { IsWithinLimits config.now }
+    ensures words { IfOk result (λ r. r.0.layout ≡ layout_of config.now) }
+    ensures frames { IfOk result (λ r. (name : FrameName) → KeepsFrame r.0 name → ⊥) }
+    ensures count { IfOk result (λ r. length r.1.items ≡ length config.now.domains.items) }
+    ensures seats { IfOk result (λ r. (i : ℕ) → i < length config.now.domains.items
+        → HoldsAt (IsNewSeat r.0 i) r.1.items i) }
+{
+    let frameless = without_frames(alloc, config)?;
+    make_words(alloc, config, &frameless, 0)
 }

@@ -9,7 +9,7 @@ ghost use Rattle.gt_word_history.specs.Views.{own_header, own_table, last_of};
 ghost use Rattle.gt_word_history.specs.Rule.{layout_of, position_in, IsKeptHeader};
 ghost use Rattle.gt_words.specs.Conditions.{Board, SeatOf, IsOfRun, IsSeatOf, IsSameSeat, HasDomain};
 ghost use Rattle.gt_words.specs.Answers.{IsNewSeat, IsStartFault};
-ghost use Rattle.gt_shared_table.specs.Words.{HasTable, frames_kept};
+ghost use Rattle.gt_shared_table.specs.Words.{frames_kept};
 ghost use Rattle.gt_types.specs.declared.places.FrameName.{FrameName};
 ghost use Rattle.gt_words.specs.Frames.{KeepsFrame};
 ghost use Rattle.gt_words.specs.Conditions.{IsEntryOf, position_at, with_version, with_frames, IsWordOf, Holds};
@@ -19,7 +19,7 @@ ghost use Rattle.gt_words.specs.Answers.{UnpinsPin, Pins, MissesPin, Changes, Mi
 ghost use Rattle.gt_words.specs.Answers.{Demotes, Publishes};
 
 use crate::calls;
-use crate::start::{deal_seats, without_frames};
+use crate::start::{make_without_frames, make_words};
 use gt_entry::{BodyWord, Control, Entry, EntryChange, Header};
 use gt_roster::Positions;
 use gt_shared_table::{SharedTable, TableSeat};
@@ -123,7 +123,6 @@ impl Words {
     ///
     /// # Errors
     /// The first fault of the configuration, or `Memory` if it has none and allocation fails.
-    #[tactic(auto, using(crate::proofs::WithoutFrames::whole_table))]
     pub fn new(alloc: Global, config: &Config) -> Result<(Words, Vec<Seat>), StartFault>
         ensures ok { OnOk result (IsWithinLimits config.now) }
         ensures words { IfOk result (λ r. r.0.layout ≡ layout_of config.now) }
@@ -133,10 +132,32 @@ impl Words {
             → HoldsAt (IsNewSeat r.0 i) r.1.items i) }
         ensures err { IfErr result (IsStartFault config.now) }
     {
+        Words::with_flags(alloc, config, 0)
+    }
+
+    /// Makes the words of a run as [`new`](Words::new) does, with this number of flags, none of which is raised.
+    ///
+    /// # Errors
+    /// The first fault of the configuration, or `Memory` if it has none and allocation fails.
+    #[tactic(auto, using(crate::proofs::WithoutFrames::whole_table))]
+    pub fn with_flags(
+        alloc: Global,
+        config: &Config,
+        flags: u32,
+    ) -> Result<(Words, Vec<Seat>), StartFault>
+        ensures ok { OnOk result (IsWithinLimits config.now) }
+        ensures words { IfOk result (λ r. r.0.layout ≡ layout_of config.now) }
+        ensures frames { IfOk result (λ r. r.0.frames ≡ frames_kept config.now) }
+        ensures flags { IfOk result (λ r. r.0.flags ≡ flags) }
+        ensures count { IfOk result (λ r. length r.1.items ≡ length config.now.domains.items) }
+        ensures seats { IfOk result (λ r. (i : ℕ) → i < length config.now.domains.items
+            → HoldsAt (IsNewSeat r.0 i) r.1.items i) }
+        ensures err { IfErr result (IsStartFault config.now) }
+    {
         if let Err(fault) = config.check() {
             return Err(StartFault::Config(fault));
         }
-        match make_words(alloc, config, config) {
+        match make_words(alloc, config, config, flags) {
             Ok(made) => Ok(made),
             Err(Memory) => Err(StartFault::Memory),
         }
@@ -448,35 +469,4 @@ impl Words {
         };
         calls::promote(&self.words, &mut seat.place, at, word)
     }
-}
-
-// Makes the words and the seats of a configuration within the limits, with the frames of another one that is the same
-// but for their numbers.
-fn make_words(alloc: Global, config: &Config, framed: &Config) -> Result<(Words, Vec<Seat>), Memory>
-    requires limits { IsWithinLimits config.now }
-    requires table { HasTable framed.now }
-    requires same { layout_of framed.now ≡ layout_of config.now }
-    ensures words { IfOk result (λ r. r.0.layout ≡ layout_of config.now) }
-    ensures frames { IfOk result (λ r. r.0.frames ≡ frames_kept framed.now) }
-    ensures count { IfOk result (λ r. length r.1.items ≡ length config.now.domains.items) }
-    ensures seats { IfOk result (λ r. (i : ℕ) → i < length config.now.domains.items
-        → HoldsAt (IsNewSeat r.0 i) r.1.items i) }
-{
-    let (words, first) = SharedTable::new(alloc, framed)?;
-    let ids = Positions::new(alloc, config)?;
-    let seats = deal_seats(alloc, &words, config, first)?;
-    Ok((Words { words, ids }, seats))
-}
-
-// The same without frames.
-fn make_without_frames(alloc: Global, config: &Config) -> Result<(Words, Vec<Seat>), Memory>
-    requires { IsWithinLimits config.now }
-    ensures words { IfOk result (λ r. r.0.layout ≡ layout_of config.now) }
-    ensures frames { IfOk result (λ r. (name : FrameName) → KeepsFrame r.0 name → ⊥) }
-    ensures count { IfOk result (λ r. length r.1.items ≡ length config.now.domains.items) }
-    ensures seats { IfOk result (λ r. (i : ℕ) → i < length config.now.domains.items
-        → HoldsAt (IsNewSeat r.0 i) r.1.items i) }
-{
-    let frameless = without_frames(alloc, config)?;
-    make_words(alloc, config, &frameless)
 }

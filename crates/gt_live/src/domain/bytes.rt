@@ -5,7 +5,8 @@ ghost use Rattle.gt_types.specs.declared.Use.TheVariants as uses;
 ghost use Rattle.gt_words.specs.Conditions.{IsSameSeat, IsSeatOf};
 ghost use Rattle.gt_access.specs.Routes.{MayAccessBy, ReachesBy};
 ghost use Rattle.gt_calls.specs.declared.request.Request.TheVariants as requests;
-ghost use Rattle.gt_live.specs.Accesses.{Fills, IsOfAccess, IsReadBy, IsWrittenBy, ReadsFrame, WritesFrame};
+ghost use Rattle.gt_live.specs.Accesses.{Fills, IsIfMissing, IsOfAccess, IsReadBy, IsWrittenBy, ReadsFrame};
+ghost use Rattle.gt_live.specs.Accesses.{WritesFrame};
 ghost use Rattle.gt_live.specs.Domains.{AccessesQuietly, BelongsTo, StaysIn, not_made};
 ghost use Rattle.gt_live.specs.Driving.{IsSame};
 
@@ -62,6 +63,7 @@ fn fill_through<R: Wait, P: Allows>(
     ensures read { IfOk result (λ r. ReadsFrame monitor.now.words.layout name off (length out.old) r
         seat.old.view seat.new.view) }
     ensures refused { IfErr result IsOfAccess }
+    ensures cause { IfErr result (IsIfMissing monitor.now.words name) }
     ensures unmade { OnErr result (seat.new.view ≡ seat.old.view) }
     ensures same { IsSame seat.old.view seat.new.view }
     ensures filled { Fills result out.old out.new }
@@ -91,6 +93,7 @@ fn read_through<R: Wait, P: Allows>(
     ensures seat { IsSameSeat seat.old seat.new }
     ensures read { IfOk result (λ r. ReadsFrame monitor.now.words.layout name off len r seat.old.view seat.new.view) }
     ensures refused { IfErr result IsOfAccess }
+    ensures cause { IfErr result (IsIfMissing monitor.now.words name) }
     ensures unmade { OnErr result (seat.new.view ≡ seat.old.view) }
     ensures same { IsSame seat.old.view seat.new.view }
 {
@@ -123,6 +126,7 @@ fn write_through<'a, R: Wait, P: Allows>(
     ensures written { IfOk result (λ r. WritesFrame monitor.now.words.layout name off bytes.entry.now seat.old.dom r
         seat.old.view seat.new.view) }
     ensures refused { IfErr result IsOfAccess }
+    ensures cause { IfErr result (IsIfMissing monitor.now.words name) }
     ensures unmade { OnErr result (seat.new.view ≡ seat.old.view) }
     ensures same { IsSame seat.old.view seat.new.view }
 {
@@ -137,7 +141,7 @@ impl Domain {
     /// Reads `len` bytes through a mapping, starting at the offset `off`. Waits for the frame's lock.
     ///
     /// # Errors
-    /// N3 or N6; or N26 or N16 at the access. Nothing changes.
+    /// N3 or N6; or at the access N26, or N16 if the run does not keep the frame. Nothing changes.
     pub fn load<R: Wait, P: Allows>(
         &mut self,
         rt: &R,

@@ -10,7 +10,7 @@ ghost use Rattle.gt_calls.specs.declared.action.CallResult.TheVariants.{Refused}
 ghost use Rattle.gt_calls.specs.declared.request.Request.TheVariants as requests;
 ghost use Rattle.gt_calls.specs.Holding.{last_first, no_pins};
 ghost use Rattle.gt_calls.specs.Rules.{copy_begun};
-ghost use Rattle.gt_live.specs.Accesses.{CopiesBetween, IsCopiedBy, IsOfAccess};
+ghost use Rattle.gt_live.specs.Accesses.{CopiesBetween, IsCopiedBy, IsIfOneMissing, IsOfAccess};
 ghost use Rattle.gt_live.specs.Driving.{IsSame};
 ghost use Rattle.gt_live.specs.Domains.{Accesses, Answered, BelongsTo, IsUnsettled, KeepsPinned, known_on};
 ghost use Rattle.gt_live.specs.Domains.{told_copy};
@@ -57,6 +57,7 @@ fn copy_through<R: Wait, P: Allows>(
     ensures copied { IfOk result (λ r. CopiesBetween monitor.now.words.layout from to len seat.old.dom r
         seat.old.view seat.new.view) }
     ensures refused { IfErr result IsOfAccess }
+    ensures cause { IfErr result (IsIfOneMissing monitor.now.words from.frame to.frame) }
     ensures unmade { OnErr result (seat.new.view ≡ seat.old.view) }
     ensures same { IsSame seat.old.view seat.new.view }
 {

@@ -11,6 +11,8 @@ returns c =
       result = c.reserve_records.result;
       encodes = c.of.ensures ∙ ap encoded c.reserved.ensures;
       stays = c.reserve_records.ensures.stays;
+      bound = c.reserve_records.ensures.bound;
+      refused = c.reserve_records.ensures.refused;
       room = c.reserve_records.ensures.room;
       kept = c.reserve_records.ensures.kept;
     })

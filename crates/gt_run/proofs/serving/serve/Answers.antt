@@ -1,20 +1,24 @@
-use Rattle.std.proofs.Common.{rules, ◌<◌, ◌∙◌, length, refl, sym, arith}
+use Rattle.std.proofs.Common.{rules, ◌<◌, ◌∙◌, length, refl, subst, sym, arith}
 use Rattle.std.proofs.lemmas.Bool.{eq-eqb, ne_eqb}
+use Rattle.gt_live.specs.declared.domain.Domain.{Domain}
+use Rattle.gt_live.specs.declared.monitor.Monitor.{Monitor}
+use Rattle.gt_word_history.specs.declared.view.FlagStep.TheVariants.{Passed}
+use Rattle.gt_run.specs.Asking.{MakesFlagStep, RaisesFlag}
+use Rattle.gt_run.specs.Serving.{HasCome}
 use Rattle.gt_run.proofs.ListLemmas.{await_more, come_none, do_more, gate_stops, list_ends, other_more, tell_more}
 use Rattle.gt_run.proofs.serving.serve.Goals as goal
 use Rattle.gt_run.proofs.serving.serve.Goals.{then-task-dom+in-Do, then-task-dom+in-Tell}
-use Rattle.gt_run.proofs.serving.serve.Goals.{then-task-dom+in-Await+else-not-pass, else-task-dom}
+use Rattle.gt_run.proofs.serving.serve.Goals.{then-task-dom+in-Await+else-not-has_passed, else-task-dom}
 
 pub tasks-init : goal.tasks-init
 tasks-init g c = (c.requires.monitor, refl, come_none g.P.Allows.may _ _ _ _ _ c.requires.text c.requires.told c.new-labels.ensures)
 
-pub returns-then-not-pass-clause-same : goal.returns-then-not-pass-clause-same
-returns-then-not-pass-clause-same g c = (c.tasks.invariant.0 ∙ sym c.requires.monitor, c.tasks.invariant.1)
-
-pub returns-then-not-pass-clause-served : goal.returns-then-not-pass-clause-served
-returns-then-not-pass-clause-served g c =
+pub returns-then-not-has_passed-clause-served : goal.returns-then-not-has_passed-clause-served
+returns-then-not-has_passed-clause-served g c =
     let within : c.tasks.task-index < length c.args.duty.part.tasks.now = search rules in
-    gate_stops g.P.Allows.may (λ v. v.items) c.args.duty _ _ _ _ _ _ _ _ _ _ _ _ within c.task-item.is (eq-eqb _ _ c.if-task-dom.true) c.in-Await.is c.gate_line.ensures c.tasks.invariant.2
+    let same = c.if-not-has_passed.ensures.passed in
+    gate_stops g.P.Allows.may (λ v. v.items) c.args.duty _ _ _ _ _ _ _ _ _ _ _ _ within c.task-item.is (eq-eqb _ _ c.if-task-dom.true) c.in-Await.is c.gate_line.ensures
+    (subst (λ (d : Domain). HasCome g.P.Allows.may c.args.duty c.args.domain.now.domain c.tasks.whole c.tasks.task-index c.tasks.text.items d c.tasks.labels c.tasks.teller) (sym same) c.tasks.invariant.2)
     c.has_appended.ensures.appended c.has_appended.ensures.kept
 
 pub tasks-preserved : goal.tasks-preserved
@@ -28,14 +32,16 @@ tasks-preserved g c =
             w.call_line-printed.ensures.calls c.tasks.invariant.2 w.has_appended-whole.ensures.appended w.has_appended-whole.ensures.kept,
       )
       | then-task-dom+in-Tell w ↦ rw (w.whole-is, w.text-is, w.domain-is, w.labels-is, w.teller-is) (
-        c.tasks.invariant.0,
-        c.tasks.invariant.1,
-        tell_more g.P.Allows.may c.args.duty _ _ _ _ _ _ _ _ w.in-Tell.flag within c.task-item.is (eq-eqb _ _ w.if-task-dom.true) w.in-Tell.is c.tasks.invariant.2,
+        w.raise_flag.ensures.same.0 ∙ c.tasks.invariant.0,
+        w.raise_flag.ensures.same.1 ∙ c.tasks.invariant.1,
+        tell_more g.P.Allows.may c.args.duty _ _ _ _ _ _ _ _ _ w.in-Tell.flag within c.task-item.is (eq-eqb _ _ w.if-task-dom.true) w.in-Tell.is
+            (subst (λ (m : Monitor g.row.P.Denot). RaisesFlag g.P.Allows.may m w.in-Tell.flag c.tasks.domain.domain w.raise_flag.new.self.domain) c.tasks.invariant.0 w.raise_flag.ensures.raised) c.tasks.invariant.2,
       )
-      | then-task-dom+in-Await+else-not-pass w ↦ rw (w.whole-is, w.text-is, w.domain-is, w.labels-is, w.teller-is) (
-        c.tasks.invariant.0,
-        c.tasks.invariant.1,
-        await_more g.P.Allows.may c.args.duty _ _ _ _ _ _ _ _ w.in-Await.flag within c.task-item.is (eq-eqb _ _ w.if-task-dom.true) w.in-Await.is c.tasks.invariant.2,
+      | then-task-dom+in-Await+else-not-has_passed w ↦ rw (w.whole-is, w.text-is, w.domain-is, w.labels-is, w.teller-is) (
+        w.has_passed.ensures.same.0 ∙ c.tasks.invariant.0,
+        w.has_passed.ensures.same.1 ∙ c.tasks.invariant.1,
+        await_more g.P.Allows.may c.args.duty _ _ _ _ _ _ _ _ _ w.in-Await.flag within c.task-item.is (eq-eqb _ _ w.if-task-dom.true) w.in-Await.is
+            (subst (λ (m : Monitor g.row.P.Denot). MakesFlagStep g.P.Allows.may m w.in-Await.flag Passed c.tasks.domain.domain w.has_passed.new.domain.domain) c.tasks.invariant.0 w.if-not-has_passed.ensures.passed) c.tasks.invariant.2,
       )
       | else-task-dom w ↦ rw (w.whole-is, w.text-is, w.domain-is, w.labels-is, w.teller-is) (
         c.tasks.invariant.0,

@@ -1,4 +1,4 @@
-use Rattle.gt_shared_table.proofs.Steps.{frees, locks, returns as gives_back, steps}
+use Rattle.gt_shared_table.proofs.Steps.{frees, locks, passes, raises, returns as gives_back, steps}
 use Rattle.gt_shared_table.proofs.laws.every_step_is_allowed.Goals as goal
 
 pub returns-clause-words : goal.returns-clause-words
@@ -12,3 +12,9 @@ returns-clause-frees c = frees
 
 pub returns-clause-returned : goal.returns-clause-returned
 returns-clause-returned c = gives_back
+
+pub returns-clause-raises : goal.returns-clause-raises
+returns-clause-raises c = raises
+
+pub returns-clause-passes : goal.returns-clause-passes
+returns-clause-passes c = passes

@@ -1,4 +1,4 @@
-use Rattle.std.proofs.Common.{◌≡◌, ◌≤◌, ◌*◌, ◌++◌, drop, length}
+use Rattle.std.proofs.Common.{◌≡◌, ◌≤◌, ◌*◌, ◌++◌, drop}
 use Rattle.gt_shared_table.specs.Words.{first_slots}
 use Rattle.gt_shared_table.proofs.slots.first_slots.Given as goal
 

@@ -1,7 +1,6 @@
-use Rattle.std.proofs.Common.{◌≡◌, ◌++◌, map, List}
+use Rattle.std.proofs.Common.{◌≡◌, ◌++◌, map}
 use Rattle.std.specs.Prelude.{Some}
 use Rattle.gt_frames.specs.Frames.{FrameState}
-use Rattle.gt_shared_table.specs.Rule.{Cell}
 use Rattle.gt_shared_table.proofs.slots.in_slots.Given as goal
 
 abbrev pub invariant-frames : goal.invariant-frames

@@ -1,4 +1,4 @@
-use Rattle.std.proofs.Common.{◌≡◌, ℕ, ◌+◌, ◌*◌, ◌<◌, List, length, map, get_or, ap, ◌∙◌, sym, subst, arith}
+use Rattle.std.proofs.Common.{◌≡◌, ℕ, ◌+◌, ◌<◌, List, length, map, get_or, ap, ◌∙◌, sym, arith}
 use mathlib.Core.Option.{some}
 use lib.ListN.{get_elem?}
 use Rattle.gt_types.specs.declared.config.DomainConfig.{DomainConfig}
@@ -44,7 +44,7 @@ overflow_add-result c = let ds = c.args.cells.now.key.domains.items in let b = b
 pub returns-clause-slot : goal.returns-clause-slot
 returns-clause-slot c = let ds = c.args.cells.now.key.domains.items in let b = below ds c.args.firsts.now c.args.frame.position c.args.frame.number c.requires.firsts c.requires.inside.0 c.requires.inside.1 in
     let l = len ds c.args.firsts.now c.args.frame.position c.args.frame.number c.requires.firsts c.requires.inside.0 c.requires.inside.1 in
-    let room = c.requires.table.1.0 in (
+    let room = c.requires.table.1 in (
       omega arith,
       omega arith,
       named ds c.args.firsts.now c.args.frame.position c.args.frame.number c.requires.firsts c.requires.inside.0 c.requires.inside.1,

@@ -1,5 +1,5 @@
 use Rattle.std.proofs.Common.{◌≡◌, ◌∙◌, sym, ap, subst, refl, Some}
-use Rattle.std.specs.Prelude.{IfOk, ℕ, option_copied}
+use Rattle.std.specs.Prelude.{IfOk, ℕ, option_copied, IfErr}
 use Rattle.gt_frames.specs.Receipts.{Reading}
 use Rattle.gt_types.specs.declared.Dir.TheVariants as dirs
 use Rattle.gt_entry.specs.Entries.{frame_of}
@@ -8,7 +8,7 @@ use Rattle.gt_calls.specs.declared.held.HeldPin.{HeldPin}
 use Rattle.gt_calls.specs.declared.request.Request.TheVariants as requests
 use Rattle.gt_handles.specs.Handles.{value_of}
 use Rattle.gt_calls.specs.Rules.{load_begun}
-use Rattle.gt_live.specs.Accesses.{IsReadBy, ReadsFrame, frame_named}
+use Rattle.gt_live.specs.Accesses.{frame_named, IsIfMissing, IsReadBy, ReadsFrame}
 use Rattle.gt_live.specs.Domains.{knowledge}
 use Rattle.gt_live.proofs.Accessing.{mapped-way, none-left, one-access, refused-access, reaches-mapped}
 use Rattle.gt_live.proofs.DomainKept.{reseated}
@@ -35,7 +35,8 @@ returns-clause-answers g c =
     let judged : c.judge_load.result ≡ load_begun (value_of d.mappings) c.args.handle c.args.off c.args.len =
     c.judge_load.ensures ∙ ap (λ (n : ℕ). load_begun (value_of d.mappings) c.args.handle c.args.off n) c.from.ensures in
     let way = mapped-way k d.seat.dom (requests.Load c.args.handle c.args.off c.args.len) c.args.handle held (λ (p : HeldPin). steps.Read p.dom (frame_of p.entry) c.args.off c.args.len) (sym judged ∙ none-left c.judge_load.result c.in_default.not-Some) there refl in (
-      one-access m.words.layout _ (steps.Read held.dom (frame_of held.entry) c.args.off c.args.len) (IsReadBy m.words.layout) c.read_through.result d.seat.view c.read_through.new.seat.view tt way (subst (λ (n : ℕ). IfOk c.read_through.result (λ (r : Reading). ReadsFrame m.words.layout (frame_named held.dom n) c.args.off c.args.len r d.seat.view c.read_through.new.seat.view)) c.frame.ensures c.read_through.ensures.read) c.read_through.ensures.unmade c.read_through.ensures.refused,
+      one-access m.words _ (steps.Read held.dom (frame_of held.entry) c.args.off c.args.len) (IsReadBy m.words.layout) c.read_through.result d.seat.view c.read_through.new.seat.view tt way (subst (λ (n : ℕ). IfOk c.read_through.result (λ (r : Reading). ReadsFrame m.words.layout (frame_named held.dom n) c.args.off c.args.len r d.seat.view c.read_through.new.seat.view)) c.frame.ensures c.read_through.ensures.read) c.read_through.ensures.unmade c.read_through.ensures.refused
+          (subst (λ (n : ℕ). IfErr c.read_through.result (IsIfMissing m.words (frame_named held.dom n))) c.frame.ensures c.read_through.ensures.cause),
       (record { slots = refl; given = refl }, c.read_through.ensures.same.pins),
       refl,
     )
@@ -45,7 +46,7 @@ returns-in-Some-clause-answers g c =
     let m = c.args.monitor.now in let d = c.args.self.now in
     let judged : c.judge_load.result ≡ load_begun (value_of d.mappings) c.args.handle c.args.off c.args.len =
     c.judge_load.ensures ∙ ap (λ (n : ℕ). load_begun (value_of d.mappings) c.args.handle c.args.off n) c.from.ensures in (
-      refused-access m.words.layout (knowledge m.config (g.P.Allows.may m.rights) d) d.seat.dom (requests.Load c.args.handle c.args.off c.args.len) (IsReadBy m.words.layout)
+      refused-access m.words (knowledge m.config (g.P.Allows.may m.rights) d) d.seat.dom (requests.Load c.args.handle c.args.off c.args.len) (IsReadBy m.words.layout)
           c.in-Some.verdict c.refusal_of.result d.seat.view tt (sym judged ∙ c.in-Some.is) c.refusal_of.ensures,
       (record { slots = refl; given = refl }, λ t r. refl),
       refl,

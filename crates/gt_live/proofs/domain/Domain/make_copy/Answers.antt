@@ -6,12 +6,12 @@ use Rattle.gt_calls.specs.declared.request.Request.TheVariants as requests
 use Rattle.gt_calls.specs.Path.{path_of, place_of}
 use Rattle.gt_handles.specs.Handles.{HandleMap}
 use Rattle.gt_live.specs.Domains.{knowledge}
-use Rattle.std.specs.Prelude.{IfOk}
+use Rattle.std.specs.Prelude.{IfErr, IfOk}
 use Rattle.gt_calls.specs.declared.call.Phase.TheVariants.{Accessing}
 use Rattle.gt_live.specs.Copies.{copy_call}
 use Rattle.gt_frames.specs.Receipts.{Copying}
 use Rattle.gt_calls.specs.Holding.{last_first}
-use Rattle.gt_live.specs.Accesses.{CopiesBetween, IsCopiedBy}
+use Rattle.gt_live.specs.Accesses.{CopiesBetween, IsCopiedBy, IsIfOneMissing}
 use Rattle.gt_live.proofs.Accessing.{refused-access}
 use Rattle.gt_live.proofs.Copied.{access-dest, access-dest-range, access-may, access-source, access-source-range}
 use Rattle.gt_live.proofs.Copied.{made-whole, taken-still}
@@ -76,7 +76,7 @@ give_back-requires g c =
 pub returns-in-Some-clause-answered : goal.returns-in-Some-clause-answered
 returns-in-Some-clause-answered g c =
     let m = c.args.monitor.now in let d = c.args.self.now in
-    refused-access m.words.layout (knowledge m.config (g.P.Allows.may m.rights) d) d.seat.dom
+    refused-access m.words (knowledge m.config (g.P.Allows.may m.rights) d) d.seat.dom
     (requests.Copy c.args.copy.now) (IsCopiedBy m.words.layout d.seat.dom) c.in-Some.verdict c.refusal_of.result d.seat.view tt
     (sym c.judge_copy.ensures ∙ c.in-Some.is) c.refusal_of.ensures
 
@@ -121,7 +121,7 @@ returns-clause-answered g c =
     c.place_of-from.ensures ∙ ap (λ (x : DomId). place_of x copy.source pins.source) (c.dom-caller.ensures ∙ me) in
     let to_is : c.place_of-to.result ≡ place_of d.seat.dom copy.dest pins.dest =
     c.place_of-to.ensures ∙ ap (λ (x : DomId). place_of x copy.dest pins.dest) (c.dom-caller.ensures ∙ me) in
-    made-whole c0 k (copy_call d.seat.dom copy (Accessing copy pins.source pins.dest))
+    made-whole c0 m.words (copy_call d.seat.dom copy (Accessing copy pins.source pins.dest))
     (place_of d.seat.dom copy.source pins.source) (place_of d.seat.dom copy.dest pins.dest) copy.len d.seat.view
     f.seat.view t.new.seat.view e.seat.view (path_of c0 d.seat.dom (requests.Copy copy)) d.seat.dom t.result
     c.in-Ok.ensures.stops c.give_back.ensures.gives refl
@@ -134,6 +134,8 @@ returns-clause-answered g c =
     (λ (r : Copying). CopiesBetween k c.place_of-from.result c.place_of-to.result copy.len x r f.seat.view t.new.seat.view)) me
     t.ensures.copied)))
     t.ensures.unmade t.ensures.refused
+    (subst (λ (q : Spot). IfErr t.result (IsIfOneMissing m.words (place_of d.seat.dom copy.source pins.source).frame q.frame)) to_is
+    (subst (λ (p : Spot). IfErr t.result (IsIfOneMissing m.words p.frame c.place_of-to.result.frame)) from_is t.ensures.cause))
 
 pub returns-clause-kept : goal.returns-clause-kept
 returns-clause-kept g c =

@@ -5,7 +5,7 @@ use Rattle.gt_shared_table.proofs.SeatsKept.{dealt}
 use Rattle.gt_shared_table.proofs.table.SharedTable.deal.Goals as goal
 
 pub split_seat-requires : goal.split_seat-requires
-split_seat-requires c = let room = c.self.invariant.0 in let limits = c.self.invariant.1 in let some = limits.some in let alone = c.first.invariant in (
+split_seat-requires c = let room = c.self.invariant.0.3 in let limits = c.self.invariant.2 in let some = limits.some in let alone = c.first.invariant in (
   ap (λ (s : SeatAt). s.table) c.first.view_is ∙ (c.requires.table ∙ sym (ap (λ (b : Board). b.table) c.self.view_is)),
   omega arith,
   dealt (places_of c.self.inside.table.shared.key) _ _ alone.3 alone.2 (ap (λ (s : SeatAt). s.view.position) c.first.view_is ∙ c.requires.first)

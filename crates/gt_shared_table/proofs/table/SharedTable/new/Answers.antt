@@ -1,9 +1,9 @@
-use Rattle.std.proofs.Common.{◌≡◌, ℕ, ◌+◌, ◌*◌, ◌<◌, ◌≤◌, List, [], length, map, take, get_or, slice_index_or, ap, ◌∙◌, sym, subst, refl, arith}
+use Rattle.std.proofs.Common.{◌≡◌, ⊎_elim, ℕ, ◌+◌, ◌*◌, ◌^◌, ◌<◌, ◌≤◌, List, [], length, map, take, get_or, slice_index_or, ap, ◌∙◌, sym, subst, arith}
 use Rattle.std.proofs.Common.{length-take}
-use Rattle.std.proofs.lemmas.List.{length-map}
+use Rattle.std.proofs.lemmas.Bool.{cases_lt}
+use Rattle.std.proofs.lemmas.List.{get_or_past, length-map}
 use Rattle.std.specs.List.{flat_map}
 use Rattle.std.specs.Prelude.{Some}
-use mathlib.Core.Option.{some}
 use lib.ListN.{get_elem?}
 use Rattle.atomic_table.specs.Seated.{TableId}
 use Rattle.atomic_table.specs.Table.{opening}
@@ -18,8 +18,7 @@ use Rattle.gt_word_history.specs.Places.{first_view}
 use Rattle.gt_word_history.specs.Rule.{IsHeader, Shows, layout_of}
 use Rattle.gt_word_history.proofs.Joining.{opens_same, opens_so}
 use Rattle.gt_word_history.proofs.Opens.{headers_ok, opens, opens_empty}
-use Rattle.gt_word_history.proofs.Order.{within}
-use Rattle.gt_shared_table.specs.Rule.{Cell, HoldsAll, newcomer, places_of}
+use Rattle.gt_shared_table.specs.Rule.{Cell, HoldsAll, flag_place, newcomer, places_of}
 use Rattle.gt_shared_table.specs.Words.{HasRoom, HasTable, first_slots, frames_kept}
 use Rattle.gt_shared_table.proofs.Names.{one_slot}
 use Rattle.gt_shared_table.proofs.Opens.{opens_all}
@@ -43,8 +42,9 @@ slots_are c fs xs zeros slots =
 few_slots : (c : Config) → HasTable c → frames_of (frame_counts c.domains.items) ≤ 4096
 few_slots c is = let f = few_frames c.domains.items is.frames in let n = is.few in omega arith
 
-module _ (c : Config) (is : HasTable c) (ws : List ℕ) (fs : List FrameState) (xs : List Cell)
-    (many : length ws ≡ length c.domains.items * 65544 + 8 * length xs)
+module _ (c : Config) (is : HasTable c) (ws : List ℕ) (fs : List FrameState) (xs : List Cell) (flags : ℕ)
+    (many : length ws ≡ length c.domains.items * 65544 + 8 * length xs + flags)
+    (rest : (i : ℕ) → length c.domains.items * 65544 ≤ i → i < length ws → get_or ws i 0 ≡ 0)
     (words : (i : ℕ) → i < length c.domains.items * 65544 → get_or ws i 0 ≡ initial (layout_of c) i)
     (zeros : fs ≡ flat_map zero_frames (frame_counts c.domains.items)) (slots : xs ≡ cells fs) where
   abbrev own : List ℕ
@@ -77,14 +77,19 @@ module _ (c : Config) (is : HasTable c) (ws : List ℕ) (fs : List FrameState) (
   pub all_slots : length xs ≡ length (places_of c).names
   all_slots = slots_are c fs xs zeros slots ∙ sym (names_len 0 c.domains.items)
 
+  unraised : (f : ℕ) → get_or ws (flag_place (places_of c) f) 0 ≡ 0
+  unraised f = ⊎_elim (λ (l : flag_place (places_of c) f < length ws). rest (flag_place (places_of c) f) (let t : ℕ = length c.domains.items * 65544 in let j : t ≤ t + 8 * length (places_of c).names + f = omega arith in j) l)
+      (λ (l : length ws ≤ flag_place (places_of c) f). get_or_past ws (flag_place (places_of c) f) 0 l) (cases_lt (flag_place (places_of c) f) (length ws))
+
   pub begins : HoldsAll (places_of c) (opening ws xs (newcomer (outlook_of (first_view (layout_of c)))))
   begins = opens_all (places_of c) ws xs (outlook_of (first_view (layout_of c))) holds nothing_yet (one_slot c)
       (λ q n named. ap (λ (l : List Cell). get_elem? l q) (slots ∙ ap cells zeros) ∙ zeros_at (layout_of c).ids 0 c.domains.items (λ j d e. ap (λ (i : ℕ). slice_index_or (layout_of c).ids i (record { 0 = 0 })) (let z : 0 + j ≡ j = omega arith in z) ∙ id_here c.domains.items j d e) q n named)
-      (λ q l. omega (arith, all_slots)) (λ q l. omega (arith, all_slots))
+      (λ q l. omega (arith, all_slots)) (λ q l. omega (arith, all_slots, many)) unraised
 
-has_room : (z : TableId) (key c : Config) → key ≡ c → z.words ≡ header_place (length c.domains.items) + 8 * length (places_of c).names → HasTable c → (firsts counts : List ℕ) → firsts ≡ first_slots 0 c.domains.items → counts ≡ frames_kept c
-    → HasRoom z (places_of key) × HasTable key × (firsts ≡ first_slots 0 key.domains.items) × (counts ≡ frames_kept key)
-has_room z key c same words is firsts counts first kept = subst (λ (k : Config). HasRoom z (places_of k) × HasTable k × (firsts ≡ first_slots 0 k.domains.items) × (counts ≡ frames_kept k)) (sym same) ((words, is.few), is, first, kept)
+has_room : (z : TableId) (key c : Config) → key ≡ c → (flags at : ℕ) → flag_place (places_of c) 0 ≤ z.words → z.words ≡ flag_place (places_of c) 0 + flags → flags < 2 ^ 32 → at ≡ flag_place (places_of c) 0 → HasTable c → (firsts counts : List ℕ) → firsts ≡ first_slots 0 c.domains.items → counts ≡ frames_kept c
+    → HasRoom z (places_of key) flags × (at ≡ flag_place (places_of key) 0) × HasTable key × (firsts ≡ first_slots 0 key.domains.items) × (counts ≡ frames_kept key)
+has_room z key c same flags at long words small first_at is firsts counts first kept =
+    subst (λ (k : Config). HasRoom z (places_of k) flags × (at ≡ flag_place (places_of k) 0) × HasTable k × (firsts ≡ first_slots 0 k.domains.items) × (counts ≡ frames_kept k)) (sym same) ((long, words, small, is.few), first_at, is, first, kept)
 
 pub first_words-requires-clause-frames : goal.first_words-requires-clause-frames
 first_words-requires-clause-frames c = let n = slots_are c.args.config.now c.in_ok-frames_of_zeros.field-0.items c.in_ok-slots.slots.items (c.in_ok-frames_of_zeros.ensures ∙ ap (λ l. flat_map zero_frames l) (c.deref.ensures.value ∙ c.in_ok-counts.ensures)) c.in_ok-slots.ensures in
@@ -92,17 +97,23 @@ first_words-requires-clause-frames c = let n = slots_are c.args.config.now c.in_
 
 pub new-requires : goal.new-requires
 new-requires c = let many = c.in_ok-words.ensures.many in let len = c.len.ensures in
-    begins c.args.config.now c.requires c.deref-2.result.now c.in_ok-frames_of_zeros.field-0.items c.in_ok-slots.slots.items
-    (ap length c.deref-2.ensures.value ∙ (let e : length c.in_ok-words.words.items ≡ length c.args.config.now.domains.items * 65544 + 8 * length c.in_ok-slots.slots.items = omega arith in e))
+    begins c.args.config.now c.requires c.deref-2.result.now c.in_ok-frames_of_zeros.field-0.items c.in_ok-slots.slots.items c.args.flags
+    (ap length c.deref-2.ensures.value ∙ (let e : length c.in_ok-words.words.items ≡ length c.args.config.now.domains.items * 65544 + 8 * length c.in_ok-slots.slots.items + c.args.flags = omega arith in e))
+    (subst (λ (ws : List ℕ). (i : ℕ) → length c.args.config.now.domains.items * 65544 ≤ i → i < length ws → get_or ws i 0 ≡ 0) (sym c.deref-2.ensures.value) c.in_ok-words.ensures.zeros)
     (λ i l. ap (λ xs. get_or xs i 0) c.deref-2.ensures.value ∙ c.in_ok-words.ensures.words i l)
     (c.in_ok-frames_of_zeros.ensures ∙ ap (λ l. flat_map zero_frames l) (c.deref.ensures.value ∙ c.in_ok-counts.ensures)) c.in_ok-slots.ensures
 
 pub invariant_of-result : goal.invariant_of-result
 invariant_of-result c = let ok = c.in-Ok.ensures.ok in let many = c.in_ok-words.ensures.many in let len = c.len.ensures in let config = c.args.config.now in
-    let all = all_slots config c.requires c.deref-2.result.now c.in_ok-frames_of_zeros.field-0.items c.in_ok-slots.slots.items
-    (ap length c.deref-2.ensures.value ∙ (let e : length c.in_ok-words.words.items ≡ length config.domains.items * 65544 + 8 * length c.in_ok-slots.slots.items = omega arith in e))
+    let all = all_slots config c.requires c.deref-2.result.now c.in_ok-frames_of_zeros.field-0.items c.in_ok-slots.slots.items c.args.flags
+    (ap length c.deref-2.ensures.value ∙ (let e : length c.in_ok-words.words.items ≡ length config.domains.items * 65544 + 8 * length c.in_ok-slots.slots.items + c.args.flags = omega arith in e))
+    (subst (λ (ws : List ℕ). (i : ℕ) → length config.domains.items * 65544 ≤ i → i < length ws → get_or ws i 0 ≡ 0) (sym c.deref-2.ensures.value) c.in_ok-words.ensures.zeros)
     (λ i l. ap (λ xs. get_or xs i 0) c.deref-2.ensures.value ∙ c.in_ok-words.ensures.words i l)
     (c.in_ok-frames_of_zeros.ensures ∙ ap (λ l. flat_map zero_frames l) (c.deref.ensures.value ∙ c.in_ok-counts.ensures)) c.in_ok-slots.ensures in
     let at_words = ap length c.deref-2.ensures.value in
-    has_room c.in-Ok.table.shared.table_id c.in-Ok.table.shared.key config ok.5 (let e : c.in-Ok.table.shared.table_id.words ≡ header_place (length config.domains.items) + 8 * length (places_of config).names = (let w = ok.0 in omega arith) in e)
+    has_room c.in-Ok.table.shared.table_id c.in-Ok.table.shared.key config ok.5 c.args.flags (c.len-2.result * 65544 + c.len-3.result * 8)
+    (let e : header_place (length config.domains.items) + 8 * length (places_of config).names + 0 ≤ c.in-Ok.table.shared.table_id.words = (let w = ok.0 in omega arith) in e)
+    (let e : c.in-Ok.table.shared.table_id.words ≡ header_place (length config.domains.items) + 8 * length (places_of config).names + 0 + c.args.flags = (let w = ok.0 in omega arith) in e)
+    (let small = c.ranges.flags in omega arith)
+    (let domains = c.len-2.ensures in let slots = c.len-3.ensures in let e : c.len-2.result * 65544 + c.len-3.result * 8 ≡ header_place (length config.domains.items) + 8 * length (places_of config).names + 0 = omega arith in e)
     c.requires c.in_ok-firsts.firsts.items c.in_ok-frames.frames.items c.in_ok-firsts.ensures c.in_ok-frames.ensures

@@ -7,7 +7,7 @@ use Rattle.gt_shared_table.proofs.SeatsKept.{taken_in}
 use Rattle.gt_shared_table.proofs.table.SharedTable.take_in.Goals as goal
 
 pub join_seat-requires : goal.join_seat-requires
-join_seat-requires c = let room = c.self.invariant.0 in let limits = c.self.invariant.1 in let some = limits.some in let all = c.all.invariant in let alone = c.other.invariant in
+join_seat-requires c = let room = c.self.invariant.0.3 in let limits = c.self.invariant.2 in let some = limits.some in let all = c.all.invariant in let alone = c.other.invariant in
     let table = sym (ap (λ (b : Board). b.table) c.self.view_is) in (
       ap (λ (g : GatheredOf). g.table) c.all.view_is ∙ (c.requires.0 ∙ table),
       ap (λ (s : SeatAt). s.table) c.other.view_is ∙ (c.requires.1 ∙ table),

@@ -1,7 +1,7 @@
 use Rattle.std.proofs.Common.{◌≡◌, ℕ, subst}
 use Rattle.std.specs.Prelude.{IfOk}
 use Rattle.gt_words.proofs.WithoutFrames.{has_table, keeps_none, same_layout}
-use Rattle.gt_words.proofs.words.make_without_frames.Goals as goal
+use Rattle.gt_words.proofs.start.make_without_frames.Goals as goal
 
 pub make_words-requires-clause-table : goal.make_words-requires-clause-table
 make_words-requires-clause-table c = has_table c.args.config.now c.in_ok-frameless.frameless c.requires c.in_ok-frameless.ensures

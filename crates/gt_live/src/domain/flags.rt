@@ -1,0 +1,43 @@
+//! The steps of a domain on flags, on which domains wait for one another. They are not calls of the core.
+ghost use Rattle.std.specs.Prelude.{◌≡◌, ◌<◌, ◌↔◌, IsTrue, MatchBool};
+ghost use Rattle.gt_word_history.specs.declared.view.FlagStep.TheVariants.{Passed, Raised};
+ghost use Rattle.gt_live.specs.Domains.{BelongsTo, StaysIn};
+ghost use Rattle.gt_live.specs.Flags.{FlagStepped};
+
+use super::Domain;
+use crate::monitor::Monitor;
+use gt_types::Allows;
+
+impl<P> Monitor<P> {
+    /// Returns whether the run has the flag.
+    #[inline]
+    pub fn has_flag(&self, flag: usize) -> bool
+        ensures { IsTrue result ↔ (flag < self.now.words.flags) }
+    {
+        self.words.has_flag(flag)
+    }
+}
+
+impl Domain {
+    /// Raises a flag. This is one step of the history, after all earlier steps of the domain.
+    pub fn raise_flag<P: Allows>(&mut self, monitor: &Monitor<P>, flag: usize)
+        requires mine { BelongsTo P.may monitor.now self.old }
+        requires inside { flag < monitor.now.words.flags }
+        ensures stays { StaysIn P.may monitor.now self.old self.new }
+        ensures raised { FlagStepped monitor.now.words.layout flag Raised self.old self.new }
+    {
+        monitor.words.raise_flag(&mut self.seat, flag);
+    }
+
+    /// Passes a flag if it is raised. This is one step of the history, and an earlier one raised the flag. Otherwise
+    /// returns false and makes no step.
+    pub fn pass_flag<P: Allows>(&mut self, monitor: &Monitor<P>, flag: usize) -> bool
+        requires mine { BelongsTo P.may monitor.now self.old }
+        requires inside { flag < monitor.now.words.flags }
+        ensures stays { StaysIn P.may monitor.now self.old self.new }
+        ensures passed { MatchBool result (FlagStepped monitor.now.words.layout flag Passed self.old self.new)
+            (self.new ≡ self.old) }
+    {
+        monitor.words.pass_flag(&mut self.seat, flag)
+    }
+}

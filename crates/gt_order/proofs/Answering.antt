@@ -1,0 +1,165 @@
+-- A call of a list that was answered is a call of a run.
+use Rattle.std.proofs.Common.{Bor, ◌≡◌, inl, inr, ℕ, List, []}
+use Rattle.std.proofs.Common.{Result, Ok, Err, refl, sym, ap, ◌∙◌, subst}
+use Rattle.gt_types.specs.declared.DomId.{DomId}
+use Rattle.gt_types.specs.declared.Size.{Size}
+use Rattle.gt_types.specs.declared.denial.Denial.{Denial}
+use Rattle.gt_word_history.specs.History.{Moment}
+use Rattle.gt_handles.specs.declared.handles.Handle.{Handle}
+use Rattle.gt_calls.specs.declared.action.CallResult.{CallResult}
+use Rattle.gt_calls.specs.Asking.{asked, bytes_given_by}
+use Rattle.gt_calls.specs.declared.request.Request.{Request}
+use Rattle.gt_calls.specs.declared.request.Request.TheVariants as requests
+use Rattle.gt_core.specs.Acting.{answer_of}
+use Rattle.gt_core.specs.declared.trace.Answer.{Answer}
+use Rattle.gt_core.specs.declared.trace.Bytes.{Bytes}
+use Rattle.gt_core.specs.declared.trace.Answer.TheVariants as answers
+use Rattle.gt_frames.specs.Receipts.{Copying, Reading, Writing}
+use Rattle.gt_types.specs.declared.copies.CopyArgs.{CopyArgs}
+use Rattle.gt_calls.specs.declared.action.CallResult.TheVariants.{Refused}
+use Rattle.gt_live.specs.Accesses.{IsCopiedBy, IsOfAccess, IsReadBy, IsWrittenBy}
+use Rattle.gt_live.specs.Domains.{Accesses, AllowRelation, Answered, KeepsPinned, verdict_of}
+use Rattle.gt_live.specs.Domains.{verdict_of_frames, verdict_of_size, verdict_of_version}
+use Rattle.gt_live.specs.Ending.{IsOfMapping}
+use Rattle.gt_live.specs.declared.domain.Domain.{Domain}
+use Rattle.gt_live.specs.declared.monitor.Monitor.{Monitor}
+use Rattle.gt_order.proofs.Called.{map-made, plain-made, unmap-made}
+use Rattle.gt_order.proofs.Accessing.{copies-made, lost-made, reads-made, writes-made}
+use Rattle.gt_order.specs.Calling.{IsLoading, IsOutcomeOf, IsSingle, IsStoring, StaysOf, WasMade}
+use Rattle.gt_order.specs.Runs.{FitsTypes, KeepsNoPin}
+use Rattle.gt_order.specs.Runs.{CallOutcome}
+use Rattle.gt_order.specs.Runs.CallOutcome.{Told, Kept, Starved, Read, Wrote}
+use Rattle.gt_script_lines.specs.declared.calls.ScriptCall.{ScriptCall}
+use Rattle.gt_script_lines.specs.declared.calls.ScriptCall.TheVariants as calls
+use Rattle.gt_host.specs.Runs.{Named, request_of}
+use Rattle.gt_run.specs.Asking.{AnswersCall, HasBytes, IsReadAnswer, frames_answer}
+use Rattle.gt_run.specs.Asking.{mapped_answer, plain_answer, size_answer}
+use Rattle.gt_run.specs.Asking.{version_answer}
+use Rattle.gt_order.specs.Texts.{IsMadeWhole, OutcomeGivesAnswer}
+
+-- a copy with this answer did not reach its access without making it
+abbrev pub NotLost : Request → Answer → Type 0
+NotLost (requests.Copy args) answer = (denial : Denial) → answer ≡ answers.Denied denial → IsOfAccess denial → ⊥
+NotLost request answer = Unit {0}
+
+pub whole-request : (named : List Named) (dom : DomId) (bytes : Bor (List ℕ)) (call : ScriptCall) (answer : Answer) → IsMadeWhole call answer → NotLost (request_of named dom bytes call) answer
+unfolding request_of
+whole-request named dom bytes (calls.Grant gref entry) answer q = tt
+whole-request named dom bytes (calls.GrantBytes gref hex) answer q = tt
+whole-request named dom bytes (calls.Revoke gref) answer q = tt
+whole-request named dom bytes (calls.Withdraw gref) answer q = tt
+whole-request named dom bytes (calls.Demote gref) answer q = tt
+whole-request named dom bytes (calls.Promote gref) answer q = tt
+whole-request named dom bytes (calls.Map label to gref flags) answer q = tt
+whole-request named dom bytes (calls.Unmap label) answer q = tt
+whole-request named dom bytes (calls.Load label off len) answer q = tt
+whole-request named dom bytes (calls.Store label off hex) answer q = tt
+whole-request named dom bytes (calls.Peek frame off len) answer q = tt
+whole-request named dom bytes (calls.Poke frame off hex) answer q = tt
+whole-request named dom bytes (calls.Copy c) answer q = q
+whole-request named dom bytes (calls.SetVersion version) answer q = tt
+whole-request named dom bytes (calls.SetupTable frames) answer q = tt
+whole-request named dom bytes (calls.QuerySize to) answer q = tt
+whole-request named dom bytes (calls.GetVersion to) answer q = tt
+
+-- what is printed is what the call answered
+
+plain-same : (r : Result (Unit {0}) Denial) → plain_answer r ≡ answer_of (verdict_of r)
+plain-same (Ok done) = refl
+plain-same (Err denial) = refl
+
+plain-pin : (r : Result (Unit {0}) Denial) → KeepsNoPin (verdict_of r)
+plain-pin (Ok done) = tt
+plain-pin (Err denial) = tt
+
+frames-same : (r : Result ℕ Denial) → frames_answer r ≡ answer_of (verdict_of_frames r)
+frames-same (Ok frames) = refl
+frames-same (Err denial) = refl
+
+frames-pin : (r : Result ℕ Denial) → KeepsNoPin (verdict_of_frames r)
+frames-pin (Ok frames) = tt
+frames-pin (Err denial) = tt
+
+size-same : (r : Result Size Denial) → size_answer r ≡ answer_of (verdict_of_size r)
+size-same (Ok size) = refl
+size-same (Err denial) = refl
+
+size-pin : (r : Result Size Denial) → KeepsNoPin (verdict_of_size r)
+size-pin (Ok size) = tt
+size-pin (Err denial) = tt
+
+version-same : (r : Result ℕ Denial) → version_answer r ≡ answer_of (verdict_of_version r)
+version-same (Ok version) = refl
+version-same (Err denial) = refl
+
+version-pin : (r : Result ℕ Denial) → KeepsNoPin (verdict_of_version r)
+version-pin (Ok version) = tt
+version-pin (Err denial) = tt
+
+map-same : (r : Result Handle Denial) (outcome : CallOutcome) → IsOutcomeOf r outcome → OutcomeGivesAnswer outcome (mapped_answer r)
+map-same (Ok handle) (Kept given p) e = ap (λ (h : Handle). answers.Mapped h) (sym e)
+map-same (Ok handle) (Told verdict) e = absurd e
+map-same (Ok handle) Starved e = absurd e
+map-same (Ok handle) (Read bytes) e = absurd e
+map-same (Ok handle) Wrote e = absurd e
+map-same (Err denial) (Kept given p) e = absurd e
+map-same (Err denial) (Told verdict) e = sym (ap answer_of e)
+map-same (Err denial) Starved e = (denial, refl, inl e)
+map-same (Err denial) (Read bytes) e = absurd e
+map-same (Err denial) Wrote e = absurd e
+
+module _ {P : Type 0} (may : P → AllowRelation) (m : Monitor P) where
+  -- a call that was answered so is one of a run
+  abbrev pub IsMade : Request → Answer → Domain → Domain → Type 0
+  IsMade request answer d e = (outcome : CallOutcome) × (steps : List Moment) × OutcomeGivesAnswer outcome answer × WasMade may m request outcome steps d e
+
+  module _ (d e : Domain) (stays : StaysOf may m d e) where
+    plain : (request : Request) (verdict : CallResult) (told answer : Answer) → (IsOfMapping (asked request) → ⊥) → FitsTypes request → KeepsNoPin verdict → told ≡ answer_of verdict → answer ≡ told → Answered may m d request verdict e → KeepsPinned d e → IsMade request answer d e
+    plain request verdict told answer other fits none same is answered kept =
+        let z = plain-made may m d e request verdict stays other fits none answered kept in (Told verdict, z.0, is ∙ same, z.1)
+
+    -- a store or a poke: it wrote, a rule refused it, or its access could not be made
+    storing : (request : Request) → IsStoring request → IsSingle request → (IsOfMapping (asked request) → ⊥) → FitsTypes request → (answer : Answer) (r : Result Writing Denial) → answer ≡ plain_answer r
+        → Accesses may m d request (IsWrittenBy m.words.layout d.seat.dom (bytes_given_by request)) r e → KeepsPinned d e → IsMade request answer d e
+    storing request is one other fits answer (Ok w) told accessed kept = let z = writes-made may m d e request w stays is accessed kept in (Wrote, z.0, told, z.1)
+    storing request is one other fits answer (Err denial) told (inl called) kept = plain request (Refused denial) (answers.Denied denial) answer other fits tt refl told called kept
+    storing request is one other fits answer (Err denial) told (inr lost) kept = (Starved, [], (denial, told, lost.2), lost-made may m d e request lost.0 stays one lost.1 kept)
+
+    bytes-in : (ys : List ℕ) (answer : Answer) → HasBytes ys answer → (b : Bytes) × (answer ≡ answers.Bytes b) × (b.bytes.items ≡ ys)
+    bytes-in ys (answers.Bytes b) h = (b, refl, h)
+    bytes-in ys answer h = absurd h
+
+    -- a load or a peek
+    loading : (request : Request) → IsLoading request → IsSingle request → (IsOfMapping (asked request) → ⊥) → FitsTypes request → (answer : Answer) (r : Result Reading Denial) → IsReadAnswer r answer
+        → Accesses may m d request (IsReadBy m.words.layout) r e → KeepsPinned d e → IsMade request answer d e
+    loading request is one other fits answer (Ok r) told accessed kept =
+        let b = bytes-in r.bytes answer told in let z = reads-made may m d e request r b.0 stays is b.2 accessed kept in (Read b.0, z.0, b.1, z.1)
+    loading request is one other fits answer (Err denial) told (inl called) kept = plain request (Refused denial) (answers.Denied denial) answer other fits tt refl told called kept
+    loading request is one other fits answer (Err denial) told (inr lost) kept = (Starved, [], (denial, told, lost.2), lost-made may m d e request lost.0 stays one lost.1 kept)
+
+    -- a copy
+    copying : (args : CopyArgs) (answer : Answer) → NotLost (requests.Copy args) answer → FitsTypes (requests.Copy args) → (r : Result Copying Denial) → answer ≡ plain_answer r
+        → Accesses may m d (requests.Copy args) (IsCopiedBy m.words.layout d.seat.dom) r e → KeepsPinned d e → IsMade (requests.Copy args) answer d e
+    copying args answer whole fits (Ok r) told accessed kept = let z = copies-made may m d e args r stays fits accessed kept in (Wrote, z.0, told, z.1)
+    copying args answer whole fits (Err denial) told (inl called) kept = plain (requests.Copy args) (Refused denial) (answers.Denied denial) answer (λ q. q) fits tt refl told called kept
+    copying args answer whole fits (Err denial) told (inr lost) kept = absurd (whole denial told lost.2)
+
+    pub is-made : (request : Request) (answer : Answer) → NotLost request answer → FitsTypes request → AnswersCall may m d request answer e → IsMade request answer d e
+    is-made (requests.Map dom gref flags) answer quiet fits x = let z = map-made may m d e dom gref flags x.0 stays x.2 in
+        (z.0, z.2.0, subst (OutcomeGivesAnswer z.0) (sym x.1) (map-same x.0 z.0 z.1), z.2.1)
+    is-made (requests.Unmap handle) answer quiet fits x = let z = unmap-made may m d e handle x.0 stays x.2 x.3 x.4 in (Told (verdict_of x.0), z.0, x.1 ∙ plain-same x.0, z.1)
+    is-made (requests.SetVersion version) answer quiet fits x = plain (requests.SetVersion version) (verdict_of x.0) (plain_answer x.0) answer (λ q. q) fits (plain-pin x.0) (plain-same x.0) x.1 x.2.0 x.2.1
+    is-made (requests.SetupTable frames) answer quiet fits x = plain (requests.SetupTable frames) (verdict_of_frames x.0) (frames_answer x.0) answer (λ q. q) fits (frames-pin x.0) (frames-same x.0) x.1 x.2.0 x.2.1
+    is-made (requests.QuerySize dom) answer quiet fits x = plain (requests.QuerySize dom) (verdict_of_size x.0) (size_answer x.0) answer (λ q. q) fits (size-pin x.0) (size-same x.0) x.1 x.2.0 x.2.1
+    is-made (requests.GetVersion dom) answer quiet fits x = plain (requests.GetVersion dom) (verdict_of_version x.0) (version_answer x.0) answer (λ q. q) fits (version-pin x.0) (version-same x.0) x.1 x.2.0 x.2.1
+    is-made (requests.Load handle off len) answer quiet fits x = loading (requests.Load handle off len) tt tt (λ q. q) fits answer x.0 x.1 x.2.0 x.2.1
+    is-made (requests.Peek frame off len) answer quiet fits x = loading (requests.Peek frame off len) tt tt (λ q. q) fits answer x.0 x.1 x.2.0 x.2.1
+    is-made (requests.Store handle off bytes) answer quiet fits x = storing (requests.Store handle off bytes) tt tt (λ q. q) fits answer x.0 x.1 x.2.0 x.2.1
+    is-made (requests.Poke frame off bytes) answer quiet fits x = storing (requests.Poke frame off bytes) tt tt (λ q. q) fits answer x.0 x.1 x.2.0 x.2.1
+    is-made (requests.Copy args) answer quiet fits x = copying args answer quiet fits x.0 x.1 x.2 x.3
+    is-made (requests.Grant gref entry) answer quiet fits x = plain (requests.Grant gref entry) (verdict_of x.0) (plain_answer x.0) answer (λ q. q) fits (plain-pin x.0) (plain-same x.0) x.1 x.2.0 x.2.1
+    is-made (requests.GrantBytes gref bytes) answer quiet fits x = plain (requests.GrantBytes gref bytes) (verdict_of x.0) (plain_answer x.0) answer (λ q. q) fits (plain-pin x.0) (plain-same x.0) x.1 x.2.0 x.2.1
+    is-made (requests.Revoke gref) answer quiet fits x = plain (requests.Revoke gref) (verdict_of x.0) (plain_answer x.0) answer (λ q. q) fits (plain-pin x.0) (plain-same x.0) x.1 x.2.0 x.2.1
+    is-made (requests.Withdraw gref) answer quiet fits x = plain (requests.Withdraw gref) (verdict_of x.0) (plain_answer x.0) answer (λ q. q) fits (plain-pin x.0) (plain-same x.0) x.1 x.2.0 x.2.1
+    is-made (requests.Demote gref) answer quiet fits x = plain (requests.Demote gref) (verdict_of x.0) (plain_answer x.0) answer (λ q. q) fits (plain-pin x.0) (plain-same x.0) x.1 x.2.0 x.2.1
+    is-made (requests.Promote gref) answer quiet fits x = plain (requests.Promote gref) (verdict_of x.0) (plain_answer x.0) answer (λ q. q) fits (plain-pin x.0) (plain-same x.0) x.1 x.2.0 x.2.1

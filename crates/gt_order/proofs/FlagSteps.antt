@@ -1,0 +1,66 @@
+-- A step on a flag leaves words, bytes and records, and a flag that the history raised is raised in the order.
+use Rattle.std.proofs.Common.{ℕ, [], ◌∷◌, inl, inr, refl, sym, ap, ◌∙◌, subst}
+use Rattle.gt_word_history.specs.Flags.{IsRaised, Raises}
+use Rattle.gt_word_history.specs.History.{Layout, StepHistory, half_index}
+use Rattle.gt_word_history.specs.Rule.{header_place, place}
+use Rattle.gt_word_history.specs.declared.view.EntryRecord.{EntryRecord}
+use Rattle.gt_word_history.specs.declared.view.FlagStep.{FlagStep}
+use Rattle.gt_word_history.specs.declared.view.FlagStep.TheVariants.{Passed, Raised}
+use Rattle.gt_word_history.specs.declared.view.SeatStep.{SeatStep}
+use Rattle.gt_word_history.specs.declared.view.SeatStep.TheVariants.{Entry, Flag, Frame, Header}
+use Rattle.gt_calls.specs.declared.action.Step.{Step}
+use Rattle.gt_calls.specs.declared.action.Step.TheVariants.{Copy as CopyBytes, Exchange, LookBody, LookControl, LookHeader}
+use Rattle.gt_calls.specs.declared.action.Step.TheVariants.{Pin, Read as ReadBytes, StoreBody, StoreHeader, Unpin}
+use Rattle.gt_calls.specs.declared.action.Step.TheVariants.{Write as WriteBytes}
+use Rattle.gt_core.specs.History.{History as Items, Setting}
+use Rattle.gt_core.specs.declared.trace.ItemEvent.{ItemEvent}
+use Rattle.gt_core.specs.declared.trace.ItemEvent.TheVariants.{Began, Stepped}
+use Rattle.gt_order.proofs.Places.{record-kept, word-kept}
+use Rattle.gt_order.specs.Agreeing.{Agree, IsThe}
+use Rattle.gt_order.specs.Ordering.{AreStepsOf, IsRaisedIn, RunOrder, ThenSteps}
+use Rattle.gt_order.specs.Ordering.Occurrence.{OfCore, OfFlag}
+
+pub agree-on-flag : (s : Setting) (k : Layout) (g : Items) (h : StepHistory) (i flag : ℕ) (m : FlagStep) → Agree s k g h → Agree s k g ((i, Flag flag m) ∷ h)
+agree-on-flag s k g h i flag m agree = let x : SeatStep = Flag flag m in record {
+  words = λ t r l lt. agree.words t r l lt ∙ sym (word-kept k i x h (place t r 0) (λ n. refl));
+  bodies = λ t r half l lt. agree.bodies t r half l lt ∙ sym (word-kept k i x h (place t r (half_index half)) (λ n. refl));
+  headers = λ t l. agree.headers t l ∙ sym (word-kept k i x h (header_place t) (λ n. refl));
+  entries = λ t r l lt. agree.entries t r l lt ∙ ap (λ (z : EntryRecord). z.entry) (sym (record-kept k i x h t r tt));
+  generations = λ t r l lt. agree.generations t r l lt ∙ ap (λ (z : EntryRecord). z.generation) (sym (record-kept k i x h t r tt));
+}
+
+-- a step of a call is none on a flag
+not-flag : (k : Layout) (i : ℕ) (step : Step) (flag : ℕ) (m : FlagStep) → IsThe k i step (Flag flag m) → ⊥
+not-flag k i (LookHeader dom) flag m the = the
+not-flag k i (LookControl dom gref) flag m the = the
+not-flag k i (LookBody dom gref half) flag m the = the
+not-flag k i (Pin p) flag m the = the
+not-flag k i (Unpin p holder) flag m the = the
+not-flag k i (StoreBody gref half word) flag m the = the
+not-flag k i (StoreHeader version frames) flag m the = the
+not-flag k i (Exchange gref looked change) flag m the = the
+not-flag k i (ReadBytes dom frame off len) flag m the = the
+not-flag k i (WriteBytes dom frame off len) flag m the = the
+not-flag k i (CopyBytes from to len) flag m the = the
+
+raises-none : (k : Layout) (i : ℕ) (step : Step) (x : SeatStep) (flag : ℕ) → IsThe k i step x → Raises flag x → ⊥
+raises-none k i step (Entry t r m) flag the raises = raises
+raises-none k i step (Header t m) flag the raises = raises
+raises-none k i step (Frame t f m) flag the raises = raises
+raises-none k i step (Flag f m) flag the raises = not-flag k i step f m the
+
+-- a flag that the history raised is raised in the order of its steps
+pub raised-in : (k : Layout) (o : RunOrder) (h : StepHistory) (flag : ℕ) → AreStepsOf k o h → IsRaised flag h → IsRaisedIn flag o
+raised-in k [] h flag steps raised = subst (IsRaised flag) steps raised
+raised-in k (OfCore i ∷ o) h flag steps raised = by (raised-in k o) i.happened h steps raised
+  where
+    by : ((h' : StepHistory) (f : ℕ) → AreStepsOf k o h' → IsRaised f h' → IsRaisedIn f o) → (e : ItemEvent) (h' : StepHistory) → ThenSteps k i.actor e (AreStepsOf k o) h' → IsRaised flag h' → IsRaisedIn flag o
+    by rec (Began request) h' then is = rec h' flag then is
+    by rec (Stepped step seen) [] then is = absurd then
+    by rec (Stepped step seen) (p ∷ h') then (inl here) = absurd (raises-none k p.0 step p.1 flag then.1 here)
+    by rec (Stepped step seen) (p ∷ h') then (inr before) = rec h' flag then.3 before
+raised-in k (OfFlag d f m ∷ o) [] flag steps raised = absurd steps
+raised-in k (OfFlag d f Raised ∷ o) (p ∷ h) flag steps (inl here) = inl (subst (Raises flag) steps.1 here)
+raised-in k (OfFlag d f Raised ∷ o) (p ∷ h) flag steps (inr before) = inr (raised-in k o h flag steps.2 before)
+raised-in k (OfFlag d f Passed ∷ o) (p ∷ h) flag steps (inl here) = absurd (subst (Raises flag) steps.1 here)
+raised-in k (OfFlag d f Passed ∷ o) (p ∷ h) flag steps (inr before) = raised-in k o h flag steps.2 before
