@@ -41,7 +41,7 @@ use Rattle.gt_program.specs.Obeying.{AnswersVerdict, IsSearched, Searches, Seeks
 use Rattle.gt_explore_verdict.specs.declared.judging.Verdict.{Verdict}
 use Rattle.gt_explore_verdict.specs.declared.judging.Verdict.TheVariants.{Holds, Fails, Undecided}
 use Rattle.gt_explore.specs.declared.exploring.ExploreOptions.{ExploreOptions as Searched}
-use Rattle.gt_program.specs.Obeying.{AnswersLines, ChecksAll, ChecksAs, ChecksNever, Deed, IsGiven, OrNothing, SeeksText}
+use Rattle.gt_program.specs.Obeying.{AnswersLines, ChecksAll, ChecksAs, ChecksNever, Deed, IsGiven, OrNothing, SeeksText, kind_of}
 use Rattle.gt_program.specs.Obeying.{WithFile}
 use Rattle.gt_program.specs.declared.checking.CheckKind.{CheckKind}
 use Rattle.std.specs.Str.Lines.{lines}
@@ -120,9 +120,16 @@ unread_run format audited known old = of_any_input known (λ (input : List ℕ).
 pub files_named : (P : Doing) (file : List ℕ → Option (List ℕ)) (given names : List (Option (List ℕ))) (old new : Option (List ℕ)) (outcome : Outcome) → given ≡ names → ChecksFiles P file given old new outcome → ChecksFiles P file names old new outcome
 files_named P file given names old new outcome is checked = subst (λ (l : List (Option (List ℕ))). ChecksFiles P file l old new outcome) is checked
 
--- all files were checked so
-pub checked_so : (P Q : Doing) (file : List ℕ → Option (List ℕ)) (input name : Option (List ℕ)) (more : List (Option (List ℕ))) (old new : Option (List ℕ)) (outcome : Outcome) → P ≡ Q → ChecksAll P file input name more old new outcome → ChecksAll Q file input name more old new outcome
-checked_so P Q file input name more old new outcome is checked = subst (λ (R : Doing). ChecksAll R file input name more old new outcome) is checked
+-- all files were checked as what was asked for
+pub checked_kind : (script : Bool) (kind : CheckKind) (file : List ℕ → Option (List ℕ)) (input name : Option (List ℕ)) (more : List (Option (List ℕ))) (old new : Option (List ℕ)) (outcome : Outcome) → kind ≡ kind_of script
+    → ChecksAll (Checks kind) file input name more old new outcome → ChecksAll (ChecksAs script) file input name more old new outcome
+checked_kind true kind file input name more old new outcome is checked = subst (λ (k : CheckKind). ChecksAll (Checks k) file input name more old new outcome) is checked
+checked_kind false kind file input name more old new outcome is checked = subst (λ (k : CheckKind). ChecksAll (Checks k) file input name more old new outcome) is checked
+
+-- all files were checked against these statements
+pub checked_never : (text bytes : List ℕ) (file : List ℕ → Option (List ℕ)) (input name : Option (List ℕ)) (more : List (Option (List ℕ))) (old new : Option (List ℕ)) (outcome : Outcome) → text ≡ bytes
+    → ChecksAll (ChecksNever text) file input name more old new outcome → OrNothing (ChecksAll (ChecksNever bytes) file input name more) old new outcome
+checked_never text bytes file input name more old new outcome is checked = inl (subst (λ (t : List ℕ). ChecksAll (ChecksNever t) file input name more old new outcome) is checked)
 
 -- the text was checked as what was asked for
 pub for_kind : (known old new : Option (List ℕ)) (kind other : CheckKind) (r : Ending) → kind ≡ other → OfInput known (λ input. Checks other input old new r) → OfInput known (λ input. Checks kind input old new r)

@@ -1,5 +1,5 @@
 -- Questions that are answered one after the other.
-use Rattle.std.proofs.Common.{◌≡◌, ℕ, List, [], ◌∷◌, Option, refl, sym, subst, ◌∙◌, inl}
+use Rattle.std.proofs.Common.{◌≡◌, ℕ, List, [], ◌∷◌, Option, map, refl, sym, subst, ◌∙◌, inl}
 use Rattle.std.specs.Str.Lines.{lines}
 use Rattle.gt_script_lines.specs.Words.{words}
 use Rattle.gt_text.specs.Laws.{keeps_same}
@@ -69,3 +69,12 @@ answers_lines file known ls text old new outcome same answers = inl (subst (λ (
 pub answers_bytes : (file : List ℕ) (known : Option (List ℕ)) (text bytes : List ℕ) (old new : Option (List ℕ)) (outcome : Outcome) → text ≡ bytes → OrNothing (AnswersLines file known (lines text)) old new outcome
     → OrNothing (AnswersLines file known (lines bytes)) old new outcome
 answers_bytes file known text bytes old new outcome same answers = subst (λ (b : List ℕ). OrNothing (AnswersLines file known (lines b)) old new outcome) same answers
+
+-- a line without words was skipped
+pub none_asked : (X : Type 0) (f : X → List ℕ) (file : List ℕ) (known : Option (List ℕ)) (ws : List X) (old : Option (List ℕ)) → ws ≡ [] → OrNothing (AnswersWords file known (map f ws)) old old Yes
+none_asked X f file known ws old none = subst (λ (l : List X). OrNothing (AnswersWords file known (map f l)) old old Yes) (sym none) (inl (keeps_same old, refl))
+
+-- the three words of a line were asked
+pub three_asked : (X : Type 0) (f : X → List ℕ) (file : List ℕ) (known : Option (List ℕ)) (ws : List X) (s t p : X) (old new : Option (List ℕ)) (outcome : Outcome) → ws ≡ s ∷ t ∷ p ∷ []
+    → OrNothing (Asks file known (f s) (f t) (f p)) old new outcome → OrNothing (AnswersWords file known (map f ws)) old new outcome
+three_asked X f file known ws s t p old new outcome same asks = subst (λ (l : List X). OrNothing (AnswersWords file known (map f l)) old new outcome) (sym same) asks

@@ -140,6 +140,11 @@ ChecksNever given input old new (Ok outcome) = Answers (CheckedNever given input
 ChecksNever given input old new (Err (failures.Breach fault)) = CheckedNever given input old new (Err fault)
 ChecksNever given input old new (Err failure) = ⊥
 
+-- what `check` checks, with `--script` or without
+abbrev pub kind_of : Bool → CheckKind
+kind_of false = checks.Policy
+kind_of true = checks.Script
+
 -- what a text is checked as, or against
 abbrev pub Checks : CheckKind → Doing
 Checks checks.Policy = ChecksAs false
