@@ -26,7 +26,17 @@ fn whole(bytes: Vec<u8>) -> Result<Vec<u8>, ReadFault>
     Ok(bytes)
 }
 
-/// Reads a whole text, of at most 1,048,576 bytes.
+// Reads a whole text.
+fn read_up_to_limit<R: Read>(alloc: Global, reader: &mut R) -> Result<Vec<u8>, ReadFault>
+    ensures { IfOk result (λ bytes. IfSome (R.remaining reader.old) (λ all. bytes.items ≡ all)) }
+{
+    match read_text(alloc, reader) {
+        Ok(bytes) => whole(bytes),
+        Err(fault) => Err(fault),
+    }
+}
+
+/// Reads a whole text, of at most 1,048,576 bytes, and adds the reason of a fault.
 pub(crate) fn read_whole<R: Read>(
     alloc: Global,
     reader: &mut R,
@@ -35,20 +45,11 @@ pub(crate) fn read_whole<R: Read>(
     ensures { IfOk result (λ bytes. IfSome (R.remaining reader.old) (λ all. bytes.items ≡ all)) }
 {
     let mut input = CopyingReader::new(alloc, reader);
-    let bytes = match read_text(alloc, &mut input) {
-        Ok(bytes) => bytes,
-        Err(fault) => {
-            reasons.add_given(&input.kept, false);
-            return Err(fault);
-        }
-    };
-    match whole(bytes) {
-        Ok(bytes) => Ok(bytes),
-        Err(fault) => {
-            reasons.add_given(&input.kept, true);
-            Err(fault)
-        }
+    let ending = read_up_to_limit(alloc, &mut input);
+    if let Err(fault) = &ending {
+        reasons.add_given(&input.kept, *fault);
     }
+    ending
 }
 
 // Reads the whole text of the named file.

@@ -4,6 +4,7 @@ use crate::reasons::read_words;
 use gt_policy::{PolicyFault, PolicyFaultKind};
 use gt_policy_list::ListingFault;
 use gt_reasons::{push_read_reason, push_utf8_reason};
+use gt_text::ReadFault;
 use std::alloc::{AllocError, Global};
 
 // Returns what is wrong with `neverallow` statements.
@@ -70,20 +71,20 @@ pub(crate) fn question_reason(alloc: Global, number: usize) -> Result<Vec<u8>, A
     Ok(said)
 }
 
-/// Returns the reason for which a text to compare with was not read.
+/// Returns the reason for which a text to compare with was not read: a read that failed, or too many bytes.
 pub(crate) fn given_reason(
     alloc: Global,
     file: &str,
     input: &KeptInput,
-    is_long: bool,
+    fault: ReadFault,
 ) -> Result<Vec<u8>, AllocError> {
     let mut said = Vec::new(alloc);
-    if is_long {
-        push_read_reason(&mut said, file, b"more than 1048576 bytes")?;
-        return Ok(said);
-    }
-    if !input.fault().is_empty() {
-        push_read_reason(&mut said, file, read_words(input.fault()))?;
+    match fault {
+        ReadFault::Memory => {}
+        ReadFault::Read if input.fault().is_empty() => {
+            push_read_reason(&mut said, file, b"more than 1048576 bytes")?;
+        }
+        ReadFault::Read => push_read_reason(&mut said, file, read_words(input.fault()))?,
     }
     Ok(said)
 }

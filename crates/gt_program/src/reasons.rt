@@ -14,6 +14,7 @@ use gt_reasons::{
     push_script_reason, push_type_reason, push_utf8_reason,
 };
 use gt_run::RunFault;
+use gt_text::ReadFault;
 use std::alloc::{AllocError, Global};
 use std::io;
 
@@ -360,9 +361,9 @@ impl<'a> Reasons<'a> {
     }
 
     /// Adds the reason for which a text to compare with was not read: the fault of a read, or that it is too long.
-    pub(crate) fn add_given(&mut self, input: &KeptInput, is_long: bool) {
+    pub(crate) fn add_given(&mut self, input: &KeptInput, fault: ReadFault) {
         if let Some(file) = self.file {
-            let said = given_reason(self.alloc, file, input, is_long);
+            let said = given_reason(self.alloc, file, input, fault);
             self.add(said);
         }
     }
