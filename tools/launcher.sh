@@ -128,6 +128,7 @@ done
 
 # Each command line that the gate tries and that is wrong is answered as the gate has it. So is a FILE that is missing.
 export TEXT="$work/text"
+pushd "$checkout/crates/cases_program/data" >/dev/null
 while read -r _ words; do
   : >"$TEXT"
   LINE="\$ gthost${words:+ $words}" awk '$0 == ENVIRON["LINE"] { f = 1; next } f && /^status / { print $2; exit } f { print > ENVIRON["TEXT"] }' \
@@ -141,6 +142,8 @@ while read -r _ words; do
     [ ! -s "$work/out" ] || wrong "$words: a text on the standard output"
   fi
 done < <(grep '^gthost' "$top/crates/cases_program/args")
+popd >/dev/null
+try 'a missing file of statements' 2 check --never="$work/missing" "$script"; has 'a missing file of statements' err ': no such file$'
 try 'a folder to check' 2 check "$work"; has 'a folder to check' err ': is a directory$'; lines 'a folder to check' 1
 try 'a folder as FILE' 1 play -v "$work"; has 'a folder as FILE' err 'Is a directory \(os error 21\)'; lines 'a folder as FILE' 2
 try 'a file below a file' 1 play -v "$script/x"; has 'a file below a file' err 'Not a directory \(os error 20\)'

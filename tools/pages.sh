@@ -110,6 +110,14 @@ all_flags() { flags "$1" | cut -d $'\x1f' -f 1 | sed -e 's/^/--/' -e 's/^--verbo
 values_of() { if [ "$1" = find ]; then rules; else values "$2"; fi; }
 values() { printf '%s' "$1" | sed -n 's/^ <\(.*|.*\)>$/\1/p' | tr '|' ' '; }
 
+# Whether the value of an option is the name of a file.
+is_file() { [ "$1" = " <NEVER>" ] || [ "$1" = " <TEXT>" ]; }
+
+# How each shell completes the value of an option.
+bash_values() { if is_file "$2"; then printf -- '-f'; else printf -- '-W "%s"' "$(values_of "$1" "$2")"; fi; }
+zsh_values() { if is_file "$2"; then printf 'file:_files'; else printf 'value:(%s)' "$(values_of "$1" "$2")"; fi; }
+fish_values() { if is_file "$2"; then printf -- ' -r -F'; else printf -- " -x -a '%s'" "$(values_of "$1" "$2")"; fi; }
+
 bash_completion() {
   local command flag value what
   cat <<'END'
@@ -136,7 +144,7 @@ END
   for command in $(commands); do
     flags "$command" | while IFS=$'\x1f' read -r flag value what; do
       [ -n "$value" ] || continue
-      printf '    "%s --%s") mapfile -t COMPREPLY < <(compgen -W "%s" -- "$word"); return ;;\n' "$command" "$flag" "$(values_of "$flag" "$value")"
+      printf '    "%s --%s") mapfile -t COMPREPLY < <(compgen %s -- "$word"); return ;;\n' "$command" "$flag" "$(bash_values "$flag" "$value")"
     done
   done
   printf '  esac\n  case "${COMP_WORDS[1]}" in\n'
@@ -186,7 +194,7 @@ zsh_completion() {
     printf '    %s) _arguments' "$command"
     flags "$command" | while IFS=$'\x1f' read -r flag value what; do
       if [ -n "$value" ]; then
-        printf " '--%s=[%s]:value:(%s)'" "$flag" "$(zsh_text "$what")" "$(values_of "$flag" "$value")"
+        printf " '--%s=[%s]:%s'" "$flag" "$(zsh_text "$what")" "$(zsh_values "$flag" "$value")"
       else
         if [ "$flag" = verbose ]; then printf " '-v[%s]'" "$(zsh_text "$what")"; fi
         printf " '--%s[%s]'" "$flag" "$(zsh_text "$what")"
@@ -205,7 +213,7 @@ zsh_completion() {
 fish_text() { printf '%s' "$1" | sed -e 's/\\/\\\\/g' -e "s/'/\\\\'/g"; }
 
 fish_completion() {
-  local command what flag value quote="'"
+  local command what flag value
   printf '# Completion of gthost for fish. Made by tools/pages.sh from the texts of --help.\n'
   stored --help | section Commands | while read -r command what; do
     printf "complete -c gthost -n __fish_use_subcommand -f -a %s -d '%s'\n" "$command" "$(fish_text "$what")"
@@ -216,7 +224,7 @@ fish_completion() {
     flags "$command" | while IFS=$'\x1f' read -r flag value what; do
       printf "complete -c gthost -n '__fish_seen_subcommand_from %s'%s -l %s%s -d '%s'\n" "$command" \
         "$([ "$flag" != verbose ] || echo ' -s v')" "$flag" \
-        "${value:+ -x -a $quote$(values_of "$flag" "$value")$quote}" "$(fish_text "$what")"
+        "${value:+$(fish_values "$flag" "$value")}" "$(fish_text "$what")"
     done
   done
   printf "complete -c gthost -n '__fish_seen_subcommand_from rules' -f -a '%s'\n" "$(rules)"

@@ -5,8 +5,8 @@
 # usage: awk -f tools/words.awk -- crates/cases_program/stdout WORD..
 #
 # Exit status 0: a command. Its name, `file` or `input`, the place of its FILE among the words, the FILE, and its options
-# follow, a line each, and then `=PLACE` for each further FILE. 3: a text for the standard output. 4: a text for the standard error; the program's exit status is
-# then 2.
+# follow, a line each, then `=PLACE` for each further FILE, and `+PLACE` for the file of --never or --has, or `+PLACE@N` if
+# its name comes after N letters of that word. 3: a text for the standard output. 4: a text for the standard error; the program's exit status is then 2.
 
 # Reads the text of each command line that is stored.
 function read_stored(file,    line, key) {
@@ -251,6 +251,7 @@ function walk_command(words, n, i,    word, marked, next_word, name, attached, h
       waiting = name
       has_value = !(name in takes) || has_attached
       value = has_attached ? attached : "true"
+      if (has_attached) place[name] = i "@" (length(name) + 3)
       if (has_value) settle(0)
       continue
     }
@@ -260,7 +261,7 @@ function walk_command(words, n, i,    word, marked, next_word, name, attached, h
       refuse("unexpected argument '" substr(word, 1, 2) "' found" \
         (word_count ? "\n\n  tip: to pass '" substr(word, 1, 2) "' as a value, use '-- " substr(word, 1, 2) "'" : ""), plain)
     }
-    if (!marked && waiting != "" && !has_value) { value = word; has_value = 1; continue }
+    if (!marked && waiting != "" && !has_value) { place[waiting] = i; value = word; has_value = 1; continue }
     if (next_word > word_count) {
       settle(1)
       refuse("unexpected argument '" word "' found", plain)
@@ -301,8 +302,10 @@ function check_values(command) {
   } else if (command == "explore") {
     if (("witness" in given) && given["witness"] != "all" && !is_number(given["witness"], 0)) refuse_option("witness", "a number or all")
     if (("states" in given) && !is_number(given["states"], 0)) refuse_option("states", "a number")
-    if (("find" in given) + ("never" in given) + ("always" in given) + ("witness" in given) > 1)
-      refuse("only one of --find, --never, --always and --witness can be given", plain)
+    if (("find" in given) + ("never" in given) + ("always" in given) + ("has" in given) + ("witness" in given) > 1)
+      refuse("only one of --find, --never, --always, --has and --witness can be given", plain)
+  } else if (command == "check" && ("script" in given) && ("never" in given)) {
+    refuse("only one of --script and --never can be given", plain)
   }
   if (command == "why" && !("PERMISSION" in given)) {
     if (!("SOURCE" in given) || ("TARGET" in given))
@@ -355,5 +358,7 @@ BEGIN {
   print given["FILE"]
   for (i = 1; i <= option_count; i++) if (options[i] in given) print options[i]
   for (i = 2; i <= 8; i++) if (("FILE " i) in given) print "=" place["FILE " i]
+  if (words[at] == "check" && ("never" in given)) print "+" place["never"]
+  if (words[at] == "explore" && ("has" in given)) print "+" place["has"]
   exit 0
 }

@@ -20,9 +20,11 @@ _gthost() {
     "explore --find") mapfile -t COMPREPLY < <(compgen -W "N1 N2 N3 N4 N5 N6 N7 N8 N9 N10 N11 N12 N13 N14 N15 N16 N17 N18 N19 N20 N21 N22 N23 N24 N25 N26" -- "$word"); return ;;
     "explore --never") mapfile -t COMPREPLY < <(compgen -W "" -- "$word"); return ;;
     "explore --always") mapfile -t COMPREPLY < <(compgen -W "" -- "$word"); return ;;
+    "explore --has") mapfile -t COMPREPLY < <(compgen -f -- "$word"); return ;;
     "explore --witness") mapfile -t COMPREPLY < <(compgen -W "N all" -- "$word"); return ;;
     "explore --states") mapfile -t COMPREPLY < <(compgen -W "" -- "$word"); return ;;
     "policy --format") mapfile -t COMPREPLY < <(compgen -W "text json" -- "$word"); return ;;
+    "check --never") mapfile -t COMPREPLY < <(compgen -f -- "$word"); return ;;
     "check --format") mapfile -t COMPREPLY < <(compgen -W "text json" -- "$word"); return ;;
     "entries --version") mapfile -t COMPREPLY < <(compgen -W "1 2" -- "$word"); return ;;
     "entries --script") mapfile -t COMPREPLY < <(compgen -W "" -- "$word"); return ;;
@@ -31,10 +33,10 @@ _gthost() {
   case "${COMP_WORDS[1]}" in
     play) words="--audit --verbose -v --format --help" ;;
     run) words="--audit --verbose -v --format --help" ;;
-    explore) words="--verbose -v --find --never --always --witness --states --help" ;;
+    explore) words="--verbose -v --find --never --always --has --witness --states --help" ;;
     policy) words="--verbose -v --format --help" ;;
     rules) words="--verbose -v --help" ;;
-    check) words="--script --verbose -v --format --help" ;;
+    check) words="--script --verbose -v --never --format --help" ;;
     why) words="--verbose -v --help" ;;
     entries) words="--hex --all --verbose -v --version --script --format --help" ;;
     build | tour | install | library) words="" ;;

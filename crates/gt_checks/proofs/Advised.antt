@@ -83,7 +83,7 @@ from_text bytes old new (Err faults.Read) utf8 c = absurd c
 from_text bytes old new (Err (faults.Utf8 line)) utf8 c = absurd c
 from_text bytes old new (Err (faults.Policy shown)) utf8 c = absurd c
 
-whole_read : (all bytes : List ℕ) → bytes ≡ take 1048577 all → length bytes ≤ 1048576 → bytes ≡ all
+pub whole_read : (all bytes : List ℕ) → bytes ≡ take 1048577 all → length bytes ≤ 1048576 → bytes ≡ all
 whole_read all bytes read short =
     let few : length (take 1048577 all) ≤ 1048576 = subst (λ (l : List ℕ). length l ≤ 1048576) read short in
     read ∙ take_whole 1048576 all few

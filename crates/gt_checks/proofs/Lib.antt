@@ -1,2 +1,3 @@
 pub mod Advised
+pub mod Broken
 pub mod Scripted

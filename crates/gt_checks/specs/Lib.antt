@@ -1,3 +1,4 @@
+pub mod Breaking
 pub mod Checking
 pub mod Explaining
 pub mod Faults

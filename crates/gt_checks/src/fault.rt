@@ -1,4 +1,5 @@
-//! The error of `why`.
+//! The errors of `why` and of a check against `neverallow` statements.
+use gt_policy::PolicyFault;
 use gt_policy_list::ListingFault;
 use std::error::Error;
 use std::fmt;
@@ -33,3 +34,28 @@ impl fmt::Display for WhyFault {
 }
 
 impl Error for WhyFault {}
+
+/// The error of a check against `neverallow` statements. It prints as one line, without a line feed.
+#[derive(Debug, Drop)]
+pub enum BreachFault {
+    /// The text is not a policy or was not read, the breaches were not written, or an allocation failed.
+    Policy(ListingFault),
+    /// The first fault of the `neverallow` statements, or a failed allocation. Nothing was written.
+    Statements(PolicyFault),
+}
+
+impl fmt::Display for BreachFault {
+    ghost use Rattle.std.specs.Prelude.{Some};
+    ghost use Rattle.gt_checks.specs.Faults.{breach_fault_text};
+
+    ghost output = { λ fault. Some (breach_fault_text fault) };
+
+    fn fmt<W: fmt::Write>(&self, f: &mut fmt::Formatter<W>) -> fmt::Result {
+        match self {
+            BreachFault::Policy(fault) => write!(f, "{fault}"),
+            BreachFault::Statements(fault) => write!(f, "{fault}"),
+        }
+    }
+}
+
+impl Error for BreachFault {}

@@ -54,13 +54,13 @@ abbrev pub usage_of : Mode → Usage
 usage_of Play = runner_usage
 usage_of Run = runner_usage
 usage_of Explore = record common_usage {
-  options = codes "find" ∷ codes "never" ∷ codes "always" ∷ codes "witness" ∷ codes "states" ∷ [];
+  options = codes "find" ∷ codes "never" ∷ codes "always" ∷ codes "has" ∷ codes "witness" ∷ codes "states" ∷ [];
 }
 usage_of Policy = record common_usage { options = one (codes "format") }
 usage_of Rules = common_usage
 usage_of Check = record file_usage {
   flags = codes "script" ∷ codes "verbose" ∷ [];
-  options = one (codes "format");
+  options = codes "never" ∷ codes "format" ∷ [];
   words = codes "file" ∷ more_files;
 }
 usage_of Why = record common_usage {
@@ -110,17 +110,21 @@ pub data Sought : Type 0 where
   one_script : ℕ → Sought
   all_scripts : Sought
 
--- To play a script, to run one, to explore one, to list a policy, to list the rules, to check a policy or a script, to
--- explain why a policy allows something, to answer the questions of the standard input about a policy, or to print the entries of a dump, with the options and the FILE, none for
--- standard input, and the further FILEs of a check; help; the version; or nothing that the program does. Only `play`, `run` and `policy` need to be asked
--- for the reasons of a fault: the others take `--verbose` and give the reasons also without it.
+-- To play a script, to run one, to explore one, to find the text of a file among its texts, to list a policy, to list
+-- the rules, to check a policy or a script, to check a policy against the neverallow statements of a file, to explain
+-- why a policy allows something, to answer the questions of the standard input about a policy, or to print the entries
+-- of a dump, with the options and the FILE, none for standard input, and the further FILEs of a check; help; the
+-- version; or nothing that the program does. Only `play`, `run` and `policy` need to be asked for the reasons of a
+-- fault: the others take `--verbose` and give the reasons also without it.
 pub data Request : Type 0 where
   to_play : Bool → Bool → Format → Option Text → Request
   to_run : Bool → Bool → Format → Option Text → Request
   to_explore : Sought → ℕ → Option Text → Request
+  to_find_text : Text → ℕ → Option Text → Request
   to_list : Bool → Format → Option Text → Request
   to_tell_rules : Option Text → Request
   to_check : Bool → Format → Option Text → List (Option Text) → Request
+  to_check_never : Text → Format → Option Text → List (Option Text) → Request
   to_explain : Option Text → Option Text → Option Text → Option Text → Request
   to_explain_each : Text → Request
   to_tell_entries : ℕ → Bool → Bool → Option ℕ → Format → Option Text → Request
@@ -195,19 +199,30 @@ explore_by (Some claim) None states file = to_explore claim states file
 explore_by None (Some scripts) states file = to_explore scripts states file
 explore_by (Some claim) (Some scripts) states file = nothing
 
-abbrev pub explore_with : Option (Option Sought) → Option (Option Sought) → Option ℕ → Option Text → Request
-explore_with None witness states file = nothing
-explore_with (Some claim) None states file = nothing
-explore_with (Some claim) (Some witness) None file = nothing
-explore_with (Some claim) (Some witness) (Some states) file = explore_by claim witness states file
+-- the same, or whether the text of a file is one of the texts, not both
+abbrev pub explore_for : Option Sought → Option Sought → Option Text → ℕ → Option Text → Request
+explore_for claim witness None states file = explore_by claim witness states file
+explore_for None None (Some given) states file = to_find_text given states file
+explore_for (Some claim) witness (Some given) states file = nothing
+explore_for None (Some scripts) (Some given) states file = nothing
+
+abbrev pub explore_with : Option (Option Sought) → Option (Option Sought) → Option Text → Option ℕ → Option Text
+    → Request
+explore_with None witness given states file = nothing
+explore_with (Some claim) None given states file = nothing
+explore_with (Some claim) (Some witness) given None file = nothing
+explore_with (Some claim) (Some witness) given (Some states) file = explore_for claim witness given states file
 
 abbrev pub list_with : Option Format → Bool → Option Text → Request
 list_with None verbose file = nothing
 list_with (Some format) verbose file = to_list verbose format file
 
-abbrev pub check_with : Option Format → Bool → Option Text → List (Option Text) → Request
-check_with None script file more = nothing
-check_with (Some format) script file more = to_check script format file more
+-- a check against the neverallow statements of a file is not one of a script
+abbrev pub check_with : Option Format → Bool → Option Text → Option Text → List (Option Text) → Request
+check_with None script never file more = nothing
+check_with (Some format) script None file more = to_check script format file more
+check_with (Some format) false (Some never) file more = to_check_never never format file more
+check_with (Some format) true (Some never) file more = nothing
 
 -- `SOURCE TARGET PERMISSION [FILE]`; or one word, which is then the FILE
 abbrev pub why_with : Option Text → Option Text → Option Text → Option Text → Request
@@ -233,13 +248,13 @@ read Play value = play_with (format_of (value (codes "format"))) (is_true (value
 read Run value = run_with (format_of (value (codes "format"))) (is_true (value (codes "audit")))
     (is_true (value (codes "verbose"))) (value (codes "file"))
 read Explore value = explore_with (claim_of (value (codes "find")) (value (codes "never")) (value (codes "always")))
-    (witness_of (value (codes "witness")))
+    (witness_of (value (codes "witness"))) (value (codes "has"))
     (states_of (value (codes "states"))) (value (codes "file"))
 read Policy value = list_with (format_of (value (codes "format"))) (is_true (value (codes "verbose")))
     (value (codes "file"))
 read Rules value = to_tell_rules (value (codes "file"))
 read Check value = check_with (format_of (value (codes "format"))) (is_true (value (codes "script")))
-    (value (codes "file")) (map value more_files)
+    (value (codes "never")) (value (codes "file")) (map value more_files)
 read Why value = why_with (value (codes "source")) (value (codes "target")) (value (codes "permission"))
     (value (codes "file"))
 read Entries value = entries_with (version_of (value (codes "version"))) (script_of (value (codes "script")))
@@ -299,10 +314,13 @@ asked_by_plan (plans.Play audit verbose format file) = to_play audit verbose for
 asked_by_plan (plans.Run audit verbose format file) = to_run audit verbose format (option_map (λ f. f.now) file)
 asked_by_plan (plans.Explore asked states file) =
     to_explore (sought_told asked) states (option_map (λ f. f.now) file)
+asked_by_plan (plans.ExploreHas given states file) = to_find_text given.now states (option_map (λ f. f.now) file)
 asked_by_plan (plans.Policy verbose format file) = to_list verbose format (option_map (λ f. f.now) file)
 asked_by_plan (plans.Rules rule) = to_tell_rules (option_map (λ f. f.now) rule)
 asked_by_plan (plans.Check script format file more) =
     to_check script format (option_map (λ f. f.now) file) (names_of more)
+asked_by_plan (plans.CheckNever never format file more) =
+    to_check_never never.now format (option_map (λ f. f.now) file) (names_of more)
 asked_by_plan (plans.Why source target permission file) = to_explain (option_map (λ f. f.now) source)
     (option_map (λ f. f.now) target) (option_map (λ f. f.now) permission) (option_map (λ f. f.now) file)
 asked_by_plan (plans.WhyEach file) = to_explain_each file.now

@@ -80,6 +80,7 @@ Options:
       --find <EXPR>      Print only the outputs that satisfy EXPR
       --never <EXPR>     Claim that no output satisfies EXPR
       --always <EXPR>    Claim that each output satisfies EXPR
+      --has <TEXT>       Print the number of the output in the file TEXT
       --witness <N|all>  Print a script for `play` that gives output N, or each
       --states <N>       Stop after N states [default: 100000]
   -h, --help             Print help
@@ -87,8 +88,9 @@ Options:
 EXPR is terms joined by `&`: WORD (an answer has it), LINE=ANSWER (the answer to
 this line of the script begins so), ID:ANSWER (an answer of this domain does).
 
-Exit status: 0 if the claim holds, or all outputs were found; 1 if it does not
-hold; 2 if it is not decided. A claim that fails prints a script for `play`.
+Exit status: 0 if the claim holds, TEXT is an output, or all were found; 1 if it
+does not hold, or TEXT is none of them; 2 if it is not decided. A claim that
+fails prints a script for `play`.
 ";
 
 pub(crate) const POLICY: &str =
@@ -127,6 +129,7 @@ Arguments:
 Options:
       --script              Check a script, with its policy block
   -v, --verbose             Explain faults on stderr [always on]
+      --never <NEVER>       Report what breaks a neverallow statement of NEVER
       --format <text|json>  Print text, or a JSON object a line [default: text]
   -h, --help                Print help
 ";

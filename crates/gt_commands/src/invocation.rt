@@ -100,6 +100,12 @@ pub enum Invocation<'a> {
         states: usize,
         file: Option<&'a str>,
     },
+    /// Whether the text of the file `given` is one of those of the script.
+    ExploreHas {
+        given: &'a str,
+        states: usize,
+        file: Option<&'a str>,
+    },
     /// `verbose`: print the reason of a fault.
     Policy {
         verbose: bool,
@@ -113,6 +119,13 @@ pub enum Invocation<'a> {
     /// `script`: the text is a script, not a policy. `more`: further FILEs.
     Check {
         script: bool,
+        format: Format,
+        file: Option<&'a str>,
+        more: MoreFiles<'a>,
+    },
+    /// Check policies against the `neverallow` statements of the file `never`.
+    CheckNever {
+        never: &'a str,
         format: Format,
         file: Option<&'a str>,
         more: MoreFiles<'a>,

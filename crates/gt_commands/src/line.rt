@@ -105,14 +105,15 @@ fn explore_of_script<'a>(alloc: Global) -> Result<Command<'a>, AllocError>
 
 // Makes `explore` with its claims.
 fn explore_of_claims<'a>(alloc: Global) -> Result<Command<'a>, AllocError>
-    ensures { IfOk result (λ c. (app_of c ≡ with_rule (with_rule (with_rule (with_rule (with_rule
+    ensures { IfOk result (λ c. (app_of c ≡ with_rule (with_rule (with_rule (with_rule (with_rule (with_rule
         (new_app (codes "explore")) (word_rule file_usage (codes "file"))) (flag_rule (codes "verbose")))
         (free_option (codes "find"))) (free_option (codes "never"))) (free_option (codes "always")))
-        × ((fields_of c).has_globals ≡ false)) }
+        (free_option (codes "has"))) × ((fields_of c).has_globals ≡ false)) }
 {
     explore_of_script(alloc)?
         .arg(free_option(alloc, "never", "EXPR"))?
-        .arg(free_option(alloc, "always", "EXPR"))
+        .arg(free_option(alloc, "always", "EXPR"))?
+        .arg(free_option(alloc, "has", "TEXT"))
 }
 
 fn explore_command<'a>(alloc: Global) -> Result<Command<'a>, AllocError>
@@ -177,13 +178,27 @@ fn check_of_files<'a>(alloc: Global) -> Result<Command<'a>, AllocError>
     with_files(alloc, command, "file5", "file6", "file7")
 }
 
-fn check_command<'a>(alloc: Global) -> Result<Command<'a>, AllocError>
-    ensures { IfOk result (λ c. (app_of c ≡ mode_app modes.Check) × ((fields_of c).has_globals ≡ false)) }
+// Makes `check` with its FILEs and its flags.
+fn check_with_flags<'a>(alloc: Global) -> Result<Command<'a>, AllocError>
+    ensures { IfOk result (λ c. (app_of c ≡ with_rule (with_rule (with_rule (with_rule (with_rule (with_rule (with_rule
+        (with_rule (with_rule (with_rule (new_app (codes "check")) (word_rule file_usage (codes "file")))
+        (word_rule file_usage (codes "file2"))) (word_rule file_usage (codes "file3")))
+        (word_rule file_usage (codes "file4"))) (word_rule file_usage (codes "file5")))
+        (word_rule file_usage (codes "file6"))) (word_rule file_usage (codes "file7")))
+        (word_rule file_usage (codes "file8"))) (flag_rule (codes "script"))) (flag_rule (codes "verbose")))
+        × ((fields_of c).has_globals ≡ false)) }
 {
     check_of_files(alloc)?
         .arg(free_word(alloc, "file8", "FILE"))?
         .arg(flag(alloc, "script"))?
-        .arg(flag(alloc, "verbose"))?
+        .arg(flag(alloc, "verbose"))
+}
+
+fn check_command<'a>(alloc: Global) -> Result<Command<'a>, AllocError>
+    ensures { IfOk result (λ c. (app_of c ≡ mode_app modes.Check) × ((fields_of c).has_globals ≡ false)) }
+{
+    check_with_flags(alloc)?
+        .arg(free_option(alloc, "never", "NEVER"))?
         .arg(format_option(alloc))
 }
 

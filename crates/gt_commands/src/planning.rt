@@ -7,7 +7,7 @@ ghost use Rattle.gt_commands.specs.Files.{names_of};
 ghost use Rattle.gt_commands.specs.Usage.{is_true};
 ghost use Rattle.gt_commands.specs.Commands.{request_in_words, asked_by_some, asked_named, check_with, entries_with};
 ghost use Rattle.gt_commands.specs.Commands.{sought_told};
-ghost use Rattle.gt_commands.specs.Commands.{explore_by, explore_with, IsInvocationOf, IsPlanOf, gthost_app, list_with};
+ghost use Rattle.gt_commands.specs.Commands.{explore_by, explore_for, explore_with, IsInvocationOf, IsPlanOf, gthost_app, list_with};
 ghost use Rattle.gt_commands.specs.Commands.{mode_of, more_files, play_with, read, run_with, why_with};
 
 use crate::invocation::{Exploration, Format, Invocation, Mode, MoreFiles};
@@ -119,17 +119,44 @@ fn explore_by<'a>(
     })
 }
 
+// Plans the same, or the question whether a given text is one of the texts, but not both.
+fn explore_for<'a>(
+    claim: Option<Exploration<'a>>,
+    witness: Option<Exploration<'a>>,
+    given: Option<&'a str>,
+    states: usize,
+    file: Option<&'a str>,
+) -> Option<Invocation<'a>>
+    ensures { asked_by_some result ≡ explore_for (option_map sought_told claim.entry)
+        (option_map sought_told witness.entry) (option_map (λ v. v.now) given.entry) states
+        (option_map (λ v. v.now) file.entry) }
+{
+    match (claim, witness, given) {
+        (claim, witness, None) => explore_by(claim, witness, states, file),
+        (None, None, Some(given)) => Some(Invocation::ExploreHas {
+            given,
+            states,
+            file,
+        }),
+        _ => None,
+    }
+}
+
 fn explore_with<'a>(
     claim: Option<Option<Exploration<'a>>>,
     witness: Option<Option<Exploration<'a>>>,
+    given: Option<&'a str>,
     states: Option<usize>,
     file: Option<&'a str>,
 ) -> Option<Invocation<'a>>
     ensures { asked_by_some result ≡ explore_with (option_map (option_map sought_told) claim.entry)
-        (option_map (option_map sought_told) witness.entry) states (option_map (λ v. v.now) file.entry) }
+        (option_map (option_map sought_told) witness.entry) (option_map (λ v. v.now) given.entry) states
+        (option_map (λ v. v.now) file.entry) }
 {
     match (claim, witness, states) {
-        (Some(claim), Some(witness), Some(states)) => explore_by(claim, witness, states, file),
+        (Some(claim), Some(witness), Some(states)) => {
+            explore_for(claim, witness, given, states, file)
+        }
         _ => None,
     }
 }
@@ -154,20 +181,27 @@ fn list_with<'a>(
 fn check_with<'a>(
     format: Option<Format>,
     script: bool,
+    never: Option<&'a str>,
     file: Option<&'a str>,
     more: MoreFiles<'a>,
 ) -> Option<Invocation<'a>>
-    ensures { asked_by_some result ≡ check_with format script (option_map (λ v. v.now) file.entry)
-        (names_of more.entry) }
+    ensures { asked_by_some result ≡ check_with format script (option_map (λ v. v.now) never.entry)
+        (option_map (λ v. v.now) file.entry) (names_of more.entry) }
 {
-    match format {
-        Some(format) => Some(Invocation::Check {
+    match (format, never, script) {
+        (Some(format), None, script) => Some(Invocation::Check {
             script,
             format,
             file,
             more,
         }),
-        None => None,
+        (Some(format), Some(never), false) => Some(Invocation::CheckNever {
+            never,
+            format,
+            file,
+            more,
+        }),
+        _ => None,
     }
 }
 
@@ -258,12 +292,19 @@ fn read<'a>(mode: Mode, matches: &ArgMatches<'a>) -> Option<Invocation<'a>>
                 value_of(matches, "always"),
             ),
             witness_of(value_of(matches, "witness")),
+            value_of(matches, "has"),
             states_of(value_of(matches, "states")),
             file,
         ),
         Mode::Policy => list_with(format, is_set(matches, "verbose"), file),
         Mode::Rules => Some(Invocation::Rules { rule: file }),
-        Mode::Check => check_with(format, is_set(matches, "script"), file, more_files(matches)),
+        Mode::Check => check_with(
+            format,
+            is_set(matches, "script"),
+            value_of(matches, "never"),
+            file,
+            more_files(matches),
+        ),
         Mode::Why => why_with(
             value_of(matches, "source"),
             value_of(matches, "target"),
@@ -334,9 +375,11 @@ fn refused_value<'a>(name: &str, matches: &ArgMatches<'a>) -> (&'static str, Opt
         ("--states takes a number", states)
     } else if name == "explore" {
         (
-            "only one of --find, --never, --always and --witness can be given",
+            "only one of --find, --never, --always, --has and --witness can be given",
             None,
         )
+    } else if name == "check" && is_set(matches, "script") && value_of(matches, "never").is_some() {
+        ("only one of --script and --never can be given", None)
     } else if name == "why" {
         (
             "why takes SOURCE, TARGET and PERMISSION, or one FILE and questions on standard input",

@@ -36,7 +36,7 @@ use Rattle.gt_policy_check.specs.Why.{types_asked}
 use Rattle.gt_policy_check.proofs.GrantLemmas.{any_and, any_asked, any_never, any_same, by_names, gives_named}
 
 -- all types are asked for
-filter_all : (ss : List Statement) (ts : List (List ℕ)) → filter (is_meant ss None) ts ≡ ts
+pub filter_all : (ss : List Statement) (ts : List (List ℕ)) → filter (is_meant ss None) ts ≡ ts
 filter_all ss [] = refl
 filter_all ss (t ∷ ts) = ap (λ (l : List (List ℕ)). t ∷ l) (filter_all ss ts)
 
@@ -135,7 +135,7 @@ tells_all a b c d e nothing repeated q n r m = (
 
 -- ---- statements that repeat another
 
-and_assoc : (a b c : Bool) → (a && (b && c)) ≡ ((a && b) && c)
+pub and_assoc : (a b c : Bool) → (a && (b && c)) ≡ ((a && b) && c)
 and_assoc true b c = refl
 and_assoc false b c = refl
 

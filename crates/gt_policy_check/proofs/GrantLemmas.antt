@@ -93,7 +93,7 @@ takes xs t (With m) = refl
 takes xs t (Without m) = stands xs t m.name
 takes xs t Itself = refl
 
-held : (xs : List LinedStatement) (t : List ℕ) (items : List SetElement) → elements_hold (names_in_lines xs t) items ≡ text.set_holds (statements_in xs) items t
+pub held : (xs : List LinedStatement) (t : List ℕ) (items : List SetElement) → elements_hold (names_in_lines xs t) items ≡ text.set_holds (statements_in xs) items t
 held xs t items =
     ap (λ (b : Bool). b && not (list_any (λ i. takes_out (names_in_lines xs t) i) items)) (any_same (λ i. puts_in (names_in_lines xs t) i) (λ i. text.names_with (statements_in xs) i t) (puts xs t) items)
     ∙ ap (λ (b : Bool). list_any (λ i. text.names_with (statements_in xs) i t) items && not b) (any_same (λ i. takes_out (names_in_lines xs t) i) (λ i. text.names_without (statements_in xs) i t) (takes xs t) items)

@@ -14,7 +14,7 @@ use std::alloc::{AllocError, Global};
 /// The kind of a finding.
 #[derive(Clone, Copy, PartialEq, Eq)]
 pub enum FindingKind {
-    /// The first fault of the text, which is not a policy.
+    /// The first fault of the text, which is not a policy; or a statement that breaks a neverallow statement.
     Fault,
     /// A class that Xen's FLASK policy does not have.
     OtherClass,

@@ -26,14 +26,14 @@ pub(crate) fn is_among(words: &[TextPiece], word: &[u8]) -> bool
 }
 
 /// Returns whether class `grant` is among the classes.
-pub(crate) fn has_grant(classes: &[TextPiece]) -> bool
+pub fn has_grant(classes: &[TextPiece]) -> bool
     ensures { result ≡ has_grant classes.now }
 {
     is_among(classes, "grant".as_bytes())
 }
 
 /// Returns whether the word is among the permissions.
-pub(crate) fn lists(perms: &Permissions, word: &str) -> bool
+pub fn lists(perms: &Permissions, word: &str) -> bool
     ensures { result ≡ lists_word perms.now word.now }
 {
     match perms {
@@ -87,7 +87,7 @@ fn some_takes_out(names: &[TextPiece], items: &[SetElement]) -> bool
 }
 
 /// Returns whether a set holds a type with these names.
-pub(crate) fn holds(names: &[TextPiece], items: &[SetElement]) -> bool
+pub fn holds(names: &[TextPiece], items: &[SetElement]) -> bool
     ensures { result ≡ elements_hold names.now items.now }
 {
     some_puts_in(names, items) && !some_takes_out(names, items)
@@ -100,7 +100,7 @@ fn is_self(item: &SetElement) -> bool
 }
 
 /// Returns whether a set contains `self`.
-pub(crate) fn says_self(items: &[SetElement]) -> bool
+pub fn says_self(items: &[SetElement]) -> bool
     ensures { result ≡ list_any is_self items.now }
 {
     'items: for item in items {
@@ -111,8 +111,8 @@ pub(crate) fn says_self(items: &[SetElement]) -> bool
     false
 }
 
-// Returns whether the target set holds the target, or contains `self` and the two types are one.
-fn reaches(allowed: &Allowance, source: &Member, target: &Member) -> bool
+/// Returns whether the target set holds the target, or contains `self` and the two types are one.
+pub fn reaches(allowed: &Allowance, source: &Member, target: &Member) -> bool
     ensures { result ≡ reaches_by source.now target.now allowed.now }
 {
     holds(target.names.as_slice(), allowed.target.as_slice())
@@ -130,8 +130,8 @@ fn reaches_some(allowed: &Allowance, source: &Member, targets: &[Member]) -> boo
     false
 }
 
-// Returns whether the statement grants the permission to the source, on whatever target.
-fn gives_source(allowed: &Allowance, source: &Member, perm: &str) -> bool
+/// Returns whether the statement grants the permission to the source, on whatever target.
+pub fn gives_source(allowed: &Allowance, source: &Member, perm: &str) -> bool
     ensures { result ≡ gives_source perm.now source.now allowed.now }
 {
     has_grant(allowed.classes.as_slice())

@@ -16,7 +16,7 @@ pub struct Member<'a> {
 }
 
 /// Returns whether two pieces are the same text.
-pub(crate) fn is_same(one: &TextPiece, other: &TextPiece) -> bool
+pub fn is_same(one: &TextPiece, other: &TextPiece) -> bool
     ensures { result ≡ bytes_eq one.now other.now }
 {
     one.as_bytes() == other.as_bytes()
@@ -110,7 +110,7 @@ fn push_member<'a>(
 
 /// Returns the declared types with this name, their own or that of an attribute, in the order of their declarations;
 /// all for None.
-pub(crate) fn members_of<'a>(
+pub fn members_of<'a>(
     alloc: Global,
     statements: &[LinedStatement<'a>],
     asked: Option<&str>,

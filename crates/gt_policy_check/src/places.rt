@@ -105,6 +105,13 @@ pub(crate) fn line_tokens(
     Ok(LineTokens { span, tokens })
 }
 
+/// Returns the column at which a word first occurs on a line, counted from 1; that of the line's first token if it does
+/// not occur.
+pub fn column_on(alloc: Global, text: &str, line: u32, word: &str) -> Result<u32, AllocError> {
+    let tokens = line_tokens(alloc, text.as_bytes(), line)?;
+    Ok(column_of_word(text.as_bytes(), &tokens, word.as_bytes(), 0))
+}
+
 /// Returns the text up to an offset in one of its lines.
 pub(crate) fn front_of<'a>(bytes: &'a [u8], line: &LineTokens, place: usize) -> &'a [u8] {
     bytes_of(

@@ -10,7 +10,7 @@ use gt_policy::{Items, LinedStatement, Policy, PolicyFault, statements_of};
 use std::alloc::Global;
 
 /// Returns the statements of a policy text, each with its line, or the first fault of a text that is not a policy.
-pub(crate) fn read_policy<'a>(
+pub fn read_policy<'a>(
     alloc: Global,
     text: &'a str,
 ) -> Result<Items<LinedStatement<'a>>, PolicyFault>

@@ -1,2 +1,4 @@
+pub mod Given
 pub mod Obeyed
+pub mod Questions
 pub mod RelayLemmas

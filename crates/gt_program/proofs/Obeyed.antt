@@ -15,11 +15,12 @@ use Rattle.clap.specs.declared.error.kind.ErrorKind.TheVariants.{MissingRequired
 use Rattle.clap.specs.declared.error.kind.ErrorKind.TheVariants.{TooManyValues, UnknownArgument}
 use Rattle.gt_policy_check.specs.declared.asking.WhyQuestion.{WhyQuestion}
 use Rattle.gt_commands.specs.Commands.{Request, to_play, to_run, to_explore, to_list, to_tell_rules, to_check}
-use Rattle.gt_commands.specs.Commands.{to_explain, to_explain_each}
+use Rattle.gt_commands.specs.Commands.{to_check_never, to_explain, to_explain_each, to_find_text}
 use Rattle.gt_commands.specs.Commands.{to_tell_entries, for_help, for_version, nothing, asked_by_plan, refusals}
 use Rattle.gt_commands.specs.Commands.{request_in_words, request_by, asked_of, asked_of_none, mode_of, read, usage_of}
 use Rattle.gt_commands.specs.Commands.{Sought}
-use Rattle.gt_commands.specs.Commands.{play_with, run_with, list_with, explore_by, explore_with, check_with, why_with}
+use Rattle.gt_commands.specs.Commands.{play_with, run_with, list_with, explore_by, explore_for, explore_with, check_with}
+use Rattle.gt_commands.specs.Commands.{why_with}
 use Rattle.gt_commands.specs.Commands.{entries_with}
 use Rattle.gt_commands.specs.Leading.{command_first, is_verbose, leading_word}
 use Rattle.gt_commands.specs.Letters.{long_flag, long_word, with_long_flags}
@@ -40,6 +41,10 @@ use Rattle.gt_program.specs.Obeying.{AnswersVerdict, IsSearched, Searches, Seeks
 use Rattle.gt_explore_verdict.specs.declared.judging.Verdict.{Verdict}
 use Rattle.gt_explore_verdict.specs.declared.judging.Verdict.TheVariants.{Holds, Fails, Undecided}
 use Rattle.gt_explore.specs.declared.exploring.ExploreOptions.{ExploreOptions as Searched}
+use Rattle.gt_program.specs.Obeying.{AnswersLines, ChecksAll, ChecksAs, ChecksNever, Deed, IsGiven, OrNothing, SeeksText, kind_of}
+use Rattle.gt_program.specs.Obeying.{WithFile}
+use Rattle.gt_program.specs.declared.checking.CheckKind.{CheckKind}
+use Rattle.std.specs.Str.Lines.{lines}
 use Rattle.gt_program.specs.Obeying.{AnswersQuestion, Checks, Does, Doing, Ending, Explains, FitsKind, IsAsked}
 use Rattle.gt_program.specs.Obeying.{IsQuestion}
 use Rattle.gt_program.specs.Obeying.{Lists, Obeys, Performs, Plays, RunsDomains, AnswersDump, AnswersEntries, Works}
@@ -112,8 +117,40 @@ pub unread_run : (format : Format) (audited : Bool) (known old : Option (List �
 unread_run format audited known old = of_any_input known (λ (input : List ℕ). RunsDomains format audited input old old (Err failures.Memory)) (λ (input : List ℕ). keeps_same old)
 
 -- the files of these names were checked
-pub files_named : (script : Bool) (file : List ℕ → Option (List ℕ)) (given names : List (Option (List ℕ))) (old new : Option (List ℕ)) (outcome : Outcome) → given ≡ names → ChecksFiles script file given old new outcome → ChecksFiles script file names old new outcome
-files_named script file given names old new outcome is checked = subst (λ (l : List (Option (List ℕ))). ChecksFiles script file l old new outcome) is checked
+pub files_named : (P : Doing) (file : List ℕ → Option (List ℕ)) (given names : List (Option (List ℕ))) (old new : Option (List ℕ)) (outcome : Outcome) → given ≡ names → ChecksFiles P file given old new outcome → ChecksFiles P file names old new outcome
+files_named P file given names old new outcome is checked = subst (λ (l : List (Option (List ℕ))). ChecksFiles P file l old new outcome) is checked
+
+-- all files were checked as what was asked for
+pub checked_kind : (script : Bool) (kind : CheckKind) (file : List ℕ → Option (List ℕ)) (input name : Option (List ℕ)) (more : List (Option (List ℕ))) (old new : Option (List ℕ)) (outcome : Outcome) → kind ≡ kind_of script
+    → ChecksAll (Checks kind) file input name more old new outcome → ChecksAll (ChecksAs script) file input name more old new outcome
+checked_kind true kind file input name more old new outcome is checked = subst (λ (k : CheckKind). ChecksAll (Checks k) file input name more old new outcome) is checked
+checked_kind false kind file input name more old new outcome is checked = subst (λ (k : CheckKind). ChecksAll (Checks k) file input name more old new outcome) is checked
+
+-- all files were checked against these statements
+pub checked_never : (text bytes : List ℕ) (file : List ℕ → Option (List ℕ)) (input name : Option (List ℕ)) (more : List (Option (List ℕ))) (old new : Option (List ℕ)) (outcome : Outcome) → text ≡ bytes
+    → ChecksAll (ChecksNever text) file input name more old new outcome → OrNothing (ChecksAll (ChecksNever bytes) file input name more) old new outcome
+checked_never text bytes file input name more old new outcome is checked = inl (subst (λ (t : List ℕ). ChecksAll (ChecksNever t) file input name more old new outcome) is checked)
+
+-- the text was checked as what was asked for
+pub for_kind : (known old new : Option (List ℕ)) (kind other : CheckKind) (r : Ending) → kind ≡ other → OfInput known (λ input. Checks other input old new r) → OfInput known (λ input. Checks kind input old new r)
+for_kind known old new kind other r is does = subst (λ (k : CheckKind). OfInput known (λ input. Checks k input old new r)) (sym is) does
+
+-- something was done with a further text
+pub with_text : (known : Option (List ℕ)) (D : List ℕ → Deed) (bytes : List ℕ) (old new : Option (List ℕ)) (outcome : Outcome) → IfSome known (λ all. bytes ≡ all) → OrNothing (D bytes) old new outcome → WithFile known D old new outcome
+with_text None D bytes old new outcome is done = tt
+with_text (Some all) D bytes old new outcome is done = subst (λ (b : List ℕ). OrNothing (D b) old new outcome) is done
+
+-- a text was sought among those of a script
+seeks_given : (asked : Searched) (text : List ℕ) (states : ℕ) (input : List ℕ) (old new : Option (List ℕ)) (r : Ending) → IsGiven text asked.request → asked.states ≡ states
+    → Does (Searches asked) input old new r → Does (SeeksText text states) input old new r
+seeks_given asked text states input old new r given same (inl does) = inl (asked, given, same, does)
+seeks_given asked text states input old new r given same (inr unopened) = inr unopened
+
+pub found_so : (asked : Searched) (text : List ℕ) (states : ℕ) (known old new : Option (List ℕ)) (outcome : Outcome) → IsGiven text asked.request → asked.states ≡ states
+    → Works (Searches asked) Unknown known old new outcome → Works (SeeksText text states) Unknown known old new outcome
+found_so asked text states None old new outcome given same works = tt
+found_so asked text states (Some bytes) old new outcome given same (r, is, inl does) = (r, is, inl (seeks_given asked text states bytes old new r given same does))
+found_so asked text states (Some bytes) old new outcome given same (r, is, inr none) = (r, is, inr none)
 
 -- what was asked for was done
 pub done : (request : Request) (file : List ℕ → Option (List ℕ)) (input old new : Option (List ℕ)) (p : Invocation) (outcome : Outcome) → asked_by_plan p ≡ request
@@ -132,9 +169,11 @@ abbrev pub FailedFor : Request → Outcome → Type 0
 FailedFor (to_play audited verbose format name) failed = failed ≡ No
 FailedFor (to_run audited verbose format name) failed = failed ≡ No
 FailedFor (to_explore sought states name) failed = failed ≡ Unknown
+FailedFor (to_find_text given states name) failed = failed ≡ Unknown
 FailedFor (to_list verbose format name) failed = failed ≡ No
 FailedFor (to_tell_rules name) failed = failed ≡ Unknown
 FailedFor (to_check script format name more) failed = failed ≡ Unknown
+FailedFor (to_check_never never format name more) failed = failed ≡ Unknown
 FailedFor (to_explain source target permission name) failed = failed ≡ Unknown
 FailedFor (to_explain_each name) failed = failed ≡ Unknown
 FailedFor (to_tell_entries version hex every script format name) failed = failed ≡ Unknown
@@ -152,26 +191,36 @@ hopeless failed outcome old new (inl unknown) is kept = (inl (is ∙ unknown), k
 hopeless failed outcome old new (inr none) is kept = (inr (is ∙ none), kept)
 
 -- no memory was there for the other files
-unread_files : (script : Bool) (file : List ℕ → Option (List ℕ)) (more : List (Option (List ℕ))) (here : Option (List ℕ)) → (other : Outcome) × ChecksFiles script file more here here other
-unread_files script file [] here = (Yes, (keeps_same here, refl))
-unread_files script file (None ∷ more) here = unread_files script file more here
-unread_files script file (Some name ∷ more) here =
-    let others = unread_files script file more here in
-    (Unknown, (here, Unknown, others.0, no_memory (Checks script) Unknown (file name) here here Unknown refl (keeps_same here), others.1, refl))
+unread_files : (P : Doing) (file : List ℕ → Option (List ℕ)) (more : List (Option (List ℕ))) (here : Option (List ℕ)) → (other : Outcome) × ChecksFiles P file more here here other
+unread_files P file [] here = (Yes, (keeps_same here, refl))
+unread_files P file (None ∷ more) here = unread_files P file more here
+unread_files P file (Some name ∷ more) here =
+    let others = unread_files P file more here in
+    (Unknown, (here, Unknown, others.0, no_memory P Unknown (file name) here here Unknown refl (keeps_same here), others.1, refl))
+
+-- nothing was done with a further text
+pub nothing_done : (known : Option (List ℕ)) (D : List ℕ → Deed) (old new : Option (List ℕ)) (outcome : Outcome) → outcome ≡ Unknown → Keeps old new → WithFile known D old new outcome
+nothing_done None D old new outcome is kept = tt
+nothing_done (Some bytes) D old new outcome is kept = inr (is, kept)
 
 out_of_memory : (request : Request) (failed : Outcome) (file : List ℕ → Option (List ℕ)) (input old new : Option (List ℕ)) (outcome : Outcome) → FailedFor request failed → outcome ≡ failed → Keeps old new
     → Obeys request file input old new outcome
 out_of_memory (to_play audited verbose format name) failed file input old new outcome for is kept = no_memory (Plays format audited) No (known_text file input name) old new outcome (is ∙ for) kept
 out_of_memory (to_run audited verbose format name) failed file input old new outcome for is kept = no_memory (RunsDomains format audited) No (known_text file input name) old new outcome (is ∙ for) kept
 out_of_memory (to_explore sought states name) failed file input old new outcome for is kept = no_memory (Seeks sought states) Unknown (known_text file input name) old new outcome (is ∙ for) kept
+out_of_memory (to_find_text given states name) failed file input old new outcome for is kept =
+    nothing_done (file given) (λ text. Works (SeeksText text states) Unknown (known_text file input name)) old new outcome (is ∙ for) kept
 out_of_memory (to_list verbose format name) failed file input old new outcome for is kept = no_memory (Lists format) No (known_text file input name) old new outcome (is ∙ for) kept
 out_of_memory (to_tell_rules name) failed file input old new outcome for is kept = inr (is ∙ for)
 out_of_memory (to_check script format name more) failed file input old new outcome for is kept =
-    let others = unread_files script file more new in
-    (new, Unknown, others.0, no_memory (Checks script) Unknown (known_text file input name) old new Unknown refl kept, others.1, is ∙ for)
+    let others = unread_files (ChecksAs script) file more new in
+    (new, Unknown, others.0, no_memory (ChecksAs script) Unknown (known_text file input name) old new Unknown refl kept, others.1, is ∙ for)
+out_of_memory (to_check_never never format name more) failed file input old new outcome for is kept =
+    nothing_done (file never) (λ given. ChecksAll (ChecksNever given) file input name more) old new outcome (is ∙ for) kept
 out_of_memory (to_explain source target permission name) failed file input old new outcome for is kept =
     no_memory (AnswersQuestion (shown_name name) source target permission) Unknown (known_text file input name) old new outcome (is ∙ for) kept
-out_of_memory (to_explain_each name) failed file input old new outcome for is kept = tt
+out_of_memory (to_explain_each name) failed file input old new outcome for is kept =
+    nothing_done input (λ asked. AnswersLines name (file name) (lines asked)) old new outcome (is ∙ for) kept
 out_of_memory (to_tell_entries version hex every script format name) failed file input old new outcome for is kept =
     no_memory (AnswersDump version hex every script format) Unknown (known_text file input name) old new outcome (is ∙ for) kept
 out_of_memory for_help failed file input old new outcome for is kept = helpless failed outcome old new for is kept
@@ -193,21 +242,26 @@ module _ (failed : Outcome) where
   failed_list None verbose file is = inr is
   failed_list (Some f) verbose file is = is
 
-  failed_explore_by : (claim scripts : Option Sought) (states : ℕ) (file : Option (List ℕ)) → failed ≡ Unknown → FailedFor (explore_by claim scripts states file) failed
-  failed_explore_by None None states file is = is
-  failed_explore_by (Some claim) None states file is = is
-  failed_explore_by None (Some scripts) states file is = is
-  failed_explore_by (Some claim) (Some scripts) states file is = inl is
+  failed_explore_for : (claim scripts : Option Sought) (given : Option (List ℕ)) (states : ℕ) (file : Option (List ℕ)) → failed ≡ Unknown → FailedFor (explore_for claim scripts given states file) failed
+  failed_explore_for None None None states file is = is
+  failed_explore_for (Some claim) None None states file is = is
+  failed_explore_for None (Some scripts) None states file is = is
+  failed_explore_for (Some claim) (Some scripts) None states file is = inl is
+  failed_explore_for None None (Some given) states file is = is
+  failed_explore_for (Some claim) scripts (Some given) states file is = inl is
+  failed_explore_for None (Some scripts) (Some given) states file is = inl is
 
-  failed_explore : (claim scripts : Option (Option Sought)) (states : Option ℕ) (file : Option (List ℕ)) → failed ≡ Unknown → FailedFor (explore_with claim scripts states file) failed
-  failed_explore None scripts states file is = inl is
-  failed_explore (Some claim) None states file is = inl is
-  failed_explore (Some claim) (Some scripts) None file is = inl is
-  failed_explore (Some claim) (Some scripts) (Some states) file is = failed_explore_by claim scripts states file is
+  failed_explore : (claim scripts : Option (Option Sought)) (given : Option (List ℕ)) (states : Option ℕ) (file : Option (List ℕ)) → failed ≡ Unknown → FailedFor (explore_with claim scripts given states file) failed
+  failed_explore None scripts given states file is = inl is
+  failed_explore (Some claim) None given states file is = inl is
+  failed_explore (Some claim) (Some scripts) given None file is = inl is
+  failed_explore (Some claim) (Some scripts) given (Some states) file is = failed_explore_for claim scripts given states file is
 
-  failed_check : (f : Option Format) (script : Bool) (file : Option (List ℕ)) (more : List (Option (List ℕ))) → failed ≡ Unknown → FailedFor (check_with f script file more) failed
-  failed_check None script file more is = inl is
-  failed_check (Some f) script file more is = is
+  failed_check : (f : Option Format) (script : Bool) (never file : Option (List ℕ)) (more : List (Option (List ℕ))) → failed ≡ Unknown → FailedFor (check_with f script never file more) failed
+  failed_check None script never file more is = inl is
+  failed_check (Some f) script None file more is = is
+  failed_check (Some f) false (Some never) file more is = is
+  failed_check (Some f) true (Some never) file more is = inl is
 
   failed_why : (source target permission file : Option (List ℕ)) → failed ≡ Unknown → FailedFor (why_with source target permission file) failed
   failed_why None target permission file is = inl is
@@ -226,10 +280,10 @@ module _ (failed : Outcome) where
   failed_read : (mode : Mode) (value : List ℕ → Option (List ℕ)) → failed ≡ failed_mode mode → FailedFor (read mode value) failed
   failed_read modes.Play value is = failed_play _ _ _ _ is
   failed_read modes.Run value is = failed_run _ _ _ _ is
-  failed_read modes.Explore value is = failed_explore _ _ _ _ is
+  failed_read modes.Explore value is = failed_explore _ _ _ _ _ is
   failed_read modes.Policy value is = failed_list _ _ _ is
   failed_read modes.Rules value is = is
-  failed_read modes.Check value is = failed_check _ _ _ _ is
+  failed_read modes.Check value is = failed_check _ _ _ _ _ is
   failed_read modes.Why value is = failed_why _ _ _ _ is
   failed_read modes.Entries value is = failed_entries _ _ _ _ _ _ is
 
@@ -339,15 +393,20 @@ refused (to_run audited verbose format name) file input old new error failed out
 refused (to_run audited verbose format name) file input old new error failed outcome for (inr none) fits = absurd none
 refused (to_explore sought states name) file input old new error failed outcome for (inl memory) fits = by_memory (to_explore sought states name) file input old new error failed outcome for memory fits
 refused (to_explore sought states name) file input old new error failed outcome for (inr none) fits = absurd none
+refused (to_find_text given states name) file input old new error failed outcome for (inl memory) fits = by_memory (to_find_text given states name) file input old new error failed outcome for memory fits
+refused (to_find_text given states name) file input old new error failed outcome for (inr none) fits = absurd none
 refused (to_list verbose format name) file input old new error failed outcome for (inl memory) fits = by_memory (to_list verbose format name) file input old new error failed outcome for memory fits
 refused (to_list verbose format name) file input old new error failed outcome for (inr none) fits = absurd none
 refused (to_tell_rules name) file input old new error failed outcome for (inl memory) fits = by_memory (to_tell_rules name) file input old new error failed outcome for memory fits
 refused (to_tell_rules name) file input old new error failed outcome for (inr none) fits = absurd none
 refused (to_check script format name more) file input old new error failed outcome for (inl memory) fits = by_memory (to_check script format name more) file input old new error failed outcome for memory fits
 refused (to_check script format name more) file input old new error failed outcome for (inr none) fits = absurd none
+refused (to_check_never never format name more) file input old new error failed outcome for (inl memory) fits = by_memory (to_check_never never format name more) file input old new error failed outcome for memory fits
+refused (to_check_never never format name more) file input old new error failed outcome for (inr none) fits = absurd none
 refused (to_explain source target permission name) file input old new error failed outcome for (inl memory) fits = by_memory (to_explain source target permission name) file input old new error failed outcome for memory fits
 refused (to_explain source target permission name) file input old new error failed outcome for (inr none) fits = absurd none
-refused (to_explain_each name) file input old new error failed outcome for has fits = tt
+refused (to_explain_each name) file input old new error failed outcome for (inl memory) fits = by_memory (to_explain_each name) file input old new error failed outcome for memory fits
+refused (to_explain_each name) file input old new error failed outcome for (inr none) fits = absurd none
 refused (to_tell_entries version hex every script format name) file input old new error failed outcome for (inl memory) fits = by_memory (to_tell_entries version hex every script format name) file input old new error failed outcome for memory fits
 refused (to_tell_entries version hex every script format name) file input old new error failed outcome for (inr none) fits = absurd none
 refused for_help file input old new error failed outcome for (inl memory) fits = by_memory for_help file input old new error failed outcome for memory fits

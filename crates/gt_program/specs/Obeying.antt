@@ -6,6 +6,9 @@ use Rattle.gt_program.specs.Prelude.{Keeps, option_map, ErrorKind, DisplayHelp, 
 use Rattle.gt_program.specs.Prelude.{perm_asked, source_asked, target_asked, WhyQuestion, Explained, why_fault_text, Request, to_play}
 use Rattle.gt_program.specs.Prelude.{to_explore, Explored, explore_fault_text, RunTells, Searched, ExploreRequest, Sought, all_texts, a_claim}
 use Rattle.gt_program.specs.Prelude.{one_script, all_scripts, Holds, Fails, Undecided, Verdict}
+use Rattle.gt_program.specs.Prelude.{to_check_never, to_find_text, breach_fault_text, type_of, lines, words, CheckKind}
+use Rattle.gt_program.specs.Prelude.{CheckedNever, Appends, AppendsBeginning}
+use Rattle.gt_program.specs.declared.checking.CheckKind.TheVariants as checks
 use Rattle.gt_explore.specs.declared.exploring.ExploreRequest.TheVariants as requests
 use Rattle.gt_program.specs.Prelude.{to_run, to_list, to_tell_rules, to_check, to_explain, to_explain_each}
 use Rattle.gt_program.specs.Prelude.{to_tell_entries, for_help}
@@ -24,6 +27,7 @@ failure_text (failures.Run fault) = codes "gthost: " ++ run_fault_text fault
 failure_text (failures.Explore fault) = codes "gthost: " ++ explore_fault_text fault
 failure_text (failures.List fault) = codes "gthost: " ++ listing_fault_text fault
 failure_text (failures.Why fault) = codes "gthost: " ++ why_fault_text fault
+failure_text (failures.Breach fault) = codes "gthost: " ++ breach_fault_text fault
 failure_text (failures.Dump fault) = codes "gthost: " ++ dump_fault_text fault
 failure_text (failures.File fault) = codes "gthost: " ++ read_word fault
 failure_text (failures.Help fault) = codes "gthost: write"
@@ -125,10 +129,27 @@ Lists format input old new (Err (failures.List fault)) = ListedAs format input o
 Lists format input old new (Err failure) = ⊥
 
 -- the answer is whether the text is a policy, or a script
-abbrev pub Checks : Bool → Doing
-Checks script input old new (Ok outcome) = Answers (CheckedAs script input old new) outcome
-Checks script input old new (Err (failures.List fault)) = CheckedAs script input old new (Err fault)
-Checks script input old new (Err failure) = ⊥
+abbrev pub ChecksAs : Bool → Doing
+ChecksAs script input old new (Ok outcome) = Answers (CheckedAs script input old new) outcome
+ChecksAs script input old new (Err (failures.List fault)) = CheckedAs script input old new (Err fault)
+ChecksAs script input old new (Err failure) = ⊥
+
+-- the answer is whether no statement of the policy breaks one of these neverallow statements
+abbrev pub ChecksNever : List ℕ → Doing
+ChecksNever given input old new (Ok outcome) = Answers (CheckedNever given input old new) outcome
+ChecksNever given input old new (Err (failures.Breach fault)) = CheckedNever given input old new (Err fault)
+ChecksNever given input old new (Err failure) = ⊥
+
+-- what `check` checks, with `--script` or without
+abbrev pub kind_of : Bool → CheckKind
+kind_of false = checks.Policy
+kind_of true = checks.Script
+
+-- what a text is checked as, or against
+abbrev pub Checks : CheckKind → Doing
+Checks checks.Policy = ChecksAs false
+Checks checks.Script = ChecksAs true
+Checks (checks.Never never) = ChecksNever never.text.now
 
 -- the answer is whether it is allowed
 abbrev pub Explains : List ℕ → WhyQuestion → Doing
@@ -147,7 +168,7 @@ abbrev pub Performs : Work → Doing
 Performs (works.Play audited format) = Plays format audited
 Performs (works.Explore asked) = Searches asked
 Performs (works.List format) = Lists format
-Performs (works.Check script file form) = Checks script
+Performs (works.Check kind file form) = Checks kind
 Performs (works.Why file question) = Explains file.now question
 Performs (works.Entries asked format) = AnswersEntries format asked
 
@@ -156,7 +177,7 @@ abbrev pub failed_work : Work → Outcome
 failed_work (works.Play audited format) = No
 failed_work (works.Explore asked) = Unknown
 failed_work (works.List format) = No
-failed_work (works.Check script file form) = Unknown
+failed_work (works.Check kind file form) = Unknown
 failed_work (works.Why file question) = Unknown
 failed_work (works.Entries asked format) = Unknown
 
@@ -261,17 +282,86 @@ OneAfterOther One Other old new outcome =
     (middle : Option (List ℕ)) × (one : Outcome) × (other : Outcome) × One old middle one × Other middle new other
     × (outcome ≡ worse one other)
 
--- the files of these names are checked one after the other
-abbrev pub ChecksFiles : Bool → (List ℕ → Option (List ℕ)) → List (Option (List ℕ)) → Deed
-ChecksFiles script file [] old new outcome = Keeps old new × (outcome ≡ Yes)
-ChecksFiles script file (None ∷ more) old new outcome = ChecksFiles script file more old new outcome
-ChecksFiles script file (Some name ∷ more) old new outcome =
-    OneAfterOther (Works (Checks script) Unknown (file name)) (ChecksFiles script file more) old new outcome
+-- this is done, or nothing, and then there is no answer
+abbrev pub OrNothing : Deed → Deed
+OrNothing D old new outcome = D old new outcome ⊎ ((outcome ≡ Unknown) × Keeps old new)
 
--- The outcome fits the request, and so does the output: a script was played, run or explored, a policy was listed, a
--- policy or a script was checked, or several, a question was answered, a dump was printed, or the rules were, which come to yes, or
--- to no answer if they were not written or none has the name. Or it is help, the version, or nothing, without an
--- answer, for words that ask for nothing. If an allocation fails it comes to what a failure of the command comes to.
+-- this is done with the bytes of a further text, if they are known; or nothing, if that text can't be read
+abbrev pub WithFile : Option (List ℕ) → (List ℕ → Deed) → Deed
+WithFile known D old new outcome = IfSome known (λ bytes. OrNothing (D bytes) old new outcome)
+
+-- the files of these names are checked one after the other
+abbrev pub ChecksFiles : Doing → (List ℕ → Option (List ℕ)) → List (Option (List ℕ)) → Deed
+ChecksFiles P file [] old new outcome = Keeps old new × (outcome ≡ Yes)
+ChecksFiles P file (None ∷ more) old new outcome = ChecksFiles P file more old new outcome
+ChecksFiles P file (Some name ∷ more) old new outcome =
+    OneAfterOther (Works P Unknown (file name)) (ChecksFiles P file more) old new outcome
+
+-- the named file is checked, or the standard input, and then the others
+abbrev pub ChecksAll : Doing → (List ℕ → Option (List ℕ)) → Option (List ℕ) → Option (List ℕ) → List (Option (List ℕ))
+    → Deed
+ChecksAll P file input name more =
+    OneAfterOther (Works P Unknown (known_text file input name)) (ChecksFiles P file more)
+
+-- the request is whether this text is one of those of a script
+abbrev pub IsGiven : List ℕ → ExploreRequest → Type 0
+IsGiven text requests.Texts = ⊥
+IsGiven text (requests.Decide claim expression) = ⊥
+IsGiven text (requests.Has given) = given.now ≡ text
+IsGiven text (requests.Witness number) = ⊥
+IsGiven text requests.Witnesses = ⊥
+
+-- a text is sought among those of a script, up to so many states
+abbrev pub SeeksText : List ℕ → ℕ → Doing
+SeeksText text states input old new r =
+    (asked : Searched) × IsGiven text asked.request × (asked.states ≡ states) × Searches asked input old new r
+
+-- the text of a file is sought among those of a script
+abbrev pub FindsText : List ℕ → ℕ → (List ℕ → Option (List ℕ)) → Option (List ℕ) → Option (List ℕ) → Deed
+FindsText given states file input name =
+    WithFile (file given) (λ text. Works (SeeksText text states) Unknown (known_text file input name))
+
+-- ---- questions, one on each line of the standard input
+
+-- the line before an answer
+abbrev pub heading : List ℕ → List ℕ → List ℕ → List ℕ
+heading source target permission =
+    codes "# " ++ source ++ codes " " ++ target ++ codes " " ++ permission ++ codes "\n"
+
+-- the line went out, and then the question was answered about the policy of a file; or a prefix of the line went out
+abbrev pub Asks : List ℕ → Option (List ℕ) → List ℕ → List ℕ → List ℕ → Deed
+Asks file known source target permission old new outcome =
+    ((middle : Option (List ℕ)) × Appends old middle (heading source target permission)
+    × Works (AnswersQuestion file (type_of (Some source)) (type_of (Some target)) (type_of (Some permission))) Unknown
+    known middle new outcome)
+    ⊎ (AppendsBeginning old new (heading source target permission) × (outcome ≡ Unknown))
+
+-- a line of three words is a question, one without words is skipped, and any other has no answer
+abbrev pub AnswersWords : List ℕ → Option (List ℕ) → List (List ℕ) → Deed
+AnswersWords file known [] old new outcome = Keeps old new × (outcome ≡ Yes)
+AnswersWords file known (source ∷ []) old new outcome = Keeps old new × (outcome ≡ Unknown)
+AnswersWords file known (source ∷ target ∷ []) old new outcome = Keeps old new × (outcome ≡ Unknown)
+AnswersWords file known (source ∷ target ∷ permission ∷ []) old new outcome =
+    Asks file known source target permission old new outcome
+AnswersWords file known (source ∷ target ∷ permission ∷ word ∷ more) old new outcome =
+    Keeps old new × (outcome ≡ Unknown)
+
+abbrev pub AnswersLine : List ℕ → Option (List ℕ) → List ℕ → Deed
+AnswersLine file known line = OrNothing (AnswersWords file known (words line))
+
+-- the questions of the lines are answered one after the other
+abbrev pub AnswersLines : List ℕ → Option (List ℕ) → List (List ℕ) → Deed
+AnswersLines file known [] old new outcome = Keeps old new × (outcome ≡ Yes)
+AnswersLines file known (line ∷ more) old new outcome =
+    OneAfterOther (AnswersLine file known line) (AnswersLines file known more) old new outcome
+
+-- ---- the command line
+
+-- The outcome fits the request, and so does the output: a script was played, run or explored, a text was sought among
+-- those of a script, a policy was listed, a policy or a script was checked, or several, a question was answered, or
+-- several, a dump was printed, or the rules were, which come to yes, or to no answer if they were not written or none
+-- has the name. Or it is help, the version, or nothing, without an answer, for words that ask for nothing. If an
+-- allocation fails it comes to what a failure of the command comes to.
 abbrev pub Obeys : Request → (List ℕ → Option (List ℕ)) → Option (List ℕ) → Option (List ℕ) → Option (List ℕ)
     → Outcome → Type 0
 Obeys (to_play audited verbose format name) file input old new outcome =
@@ -280,16 +370,20 @@ Obeys (to_run audited verbose format name) file input old new outcome =
     Works (RunsDomains format audited) No (known_text file input name) old new outcome
 Obeys (to_explore sought states name) file input old new outcome =
     Works (Seeks sought states) Unknown (known_text file input name) old new outcome
+Obeys (to_find_text given states name) file input old new outcome =
+    FindsText given states file input name old new outcome
 Obeys (to_list verbose format name) file input old new outcome =
     Works (Lists format) No (known_text file input name) old new outcome
 Obeys (to_tell_rules name) file input old new outcome = (outcome ≡ Yes) ⊎ (outcome ≡ Unknown)
 Obeys (to_check script format name more) file input old new outcome =
-    OneAfterOther (Works (Checks script) Unknown (known_text file input name)) (ChecksFiles script file more) old new
-    outcome
+    ChecksAll (ChecksAs script) file input name more old new outcome
+Obeys (to_check_never never format name more) file input old new outcome =
+    WithFile (file never) (λ given. ChecksAll (ChecksNever given) file input name more) old new outcome
 Obeys (to_explain source target permission name) file input old new outcome =
     Works (AnswersQuestion (shown_name name) source target permission) Unknown (known_text file input name) old new
     outcome
-Obeys (to_explain_each name) file input old new outcome = Unit {0}
+Obeys (to_explain_each name) file input old new outcome =
+    WithFile input (λ asked. AnswersLines name (file name) (lines asked)) old new outcome
 Obeys (to_tell_entries version hex every script format name) file input old new outcome =
     Works (AnswersDump version hex every script format) Unknown (known_text file input name) old new outcome
 Obeys for_help file input old new outcome = IsHelped outcome ⊎ ((outcome ≡ Unknown) × Keeps old new)

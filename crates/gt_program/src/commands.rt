@@ -4,9 +4,8 @@ ghost use Rattle.gt_text.specs.Streams.{OfInput};
 ghost use Rattle.gt_program.specs.Obeying.{failed_work, known_input, Does, Performs, RunsDomains, Works};
 ghost use Rattle.gt_program.specs.declared.outcome.Outcome.TheVariants.{No};
 
-use crate::explained::{
-    check_explained, entries_explained, explore_explained, list_with_reasons, why_explained,
-};
+use crate::checking::{CheckKind, perform_check};
+use crate::explained::{entries_explained, explore_explained, list_with_reasons, why_explained};
 use crate::failure::Failure;
 use crate::obeying::report;
 use crate::outcome::{Outcome, outcome_of};
@@ -41,9 +40,10 @@ pub enum Work<'w> {
     List {
         format: Format,
     },
-    /// Report what is wrong or useless in the policy, or in the script. The lines begin with the name.
+    /// Report what is wrong or useless in the policy, or in the script, or which statements break `neverallow` statements.
+    /// The lines begin with the name.
     Check {
-        script: bool,
+        kind: CheckKind<'w>,
         file: &'w str,
         form: ReportForm,
     },
@@ -99,12 +99,9 @@ fn perform<R: Read, W: Write>(
             Ok(()) => Ok(Outcome::Yes),
             Err(fault) => Err(Failure::List(fault)),
         },
-        Work::Check { script, file, form } => match check_explained(
-            alloc, script, file, form, reader, out, reasons,
-        ) {
-            Ok(clean) => Ok(Outcome::of_answer(clean)),
-            Err(fault) => Err(Failure::List(fault)),
-        },
+        Work::Check { kind, file, form } => {
+            perform_check(alloc, kind, file, form, reader, out, reasons)
+        }
         Work::Why { file, question } => match why_explained(
             alloc, file, &question, reader, out, reasons,
         ) {
@@ -216,6 +213,20 @@ fn run_on<R: Threads + Wait + Sync, T: TextSource, W: Write, E>(
             Err(Failure::File(read_fault(&error)))
         }
     }
+}
+
+/// Reports a failure that leaves a question without an answer.
+pub(crate) fn fail<R, T, E: Eprint>(
+    context: &Context<R, T, E>,
+    failure: Failure,
+    reasons: &mut Reasons,
+) -> Outcome
+    ensures { result ≡ Outcome.Unknown }
+{
+    if reasons.tell_line(context.err) {
+        return Outcome::Unknown;
+    }
+    report(context.err, Err(failure), Outcome::Unknown)
 }
 
 /// Executes this with the text of the named file, or of the standard input, and returns the outcome.

@@ -1,5 +1,6 @@
 //! Commands that explain their faults.
 ghost use Rattle.gt_text.specs.Streams.{OfInput};
+ghost use Rattle.gt_checks.specs.Breaking.{CheckedNever};
 ghost use Rattle.gt_checks.specs.Explaining.{Explained};
 ghost use Rattle.gt_explore.specs.Exploring.{Explored};
 ghost use Rattle.gt_script.specs.RunScripts.{RunTells};
@@ -8,7 +9,7 @@ ghost use Rattle.gt_program.specs.Formats.{CheckedAs, ListedAs, ToldAs};
 use crate::copying::CopyingReader;
 use crate::formats::{check_as, entries_as, list_as};
 use crate::reasons::Reasons;
-use gt_checks::{WhyFault, why};
+use gt_checks::{BreachFault, NeverText, WhyFault, check_never, why};
 use gt_commands::Format;
 use gt_entries::{DumpFault, DumpOptions};
 use gt_explore::{ExploreFault, ExploreOptions as Searched, explore};
@@ -76,6 +77,27 @@ pub(crate) fn check_explained<R: Read, W: Write>(
     let ending = check_as(alloc, script, file, form, &mut input, out);
     if let Err(fault) = &ending {
         reasons.add_listing(&input.kept, fault);
+    }
+    ending
+}
+
+/// Checks the policy of a reader against `neverallow` statements, and adds the reason of a fault.
+pub(crate) fn check_never_explained<R: Read, W: Write>(
+    alloc: Global,
+    never: NeverText,
+    file: &str,
+    form: ReportForm,
+    reader: &mut R,
+    out: &mut W,
+    reasons: &mut Reasons,
+) -> Result<bool, BreachFault>
+    ensures { OfInput (R.remaining reader.old) (λ input.
+        CheckedNever never.entry.text.now input (W.contents out.old) (W.contents out.new) result) }
+{
+    let mut input = CopyingReader::new(alloc, reader);
+    let ending = check_never(alloc, file, form, never, &mut input, out);
+    if let Err(fault) = &ending {
+        reasons.add_breach(&input.kept, never.file, fault);
     }
     ending
 }

@@ -1,5 +1,5 @@
 //! Failures of commands.
-use gt_checks::WhyFault;
+use gt_checks::{BreachFault, WhyFault};
 use gt_entries::DumpFault;
 use gt_explore::ExploreFault;
 use gt_host::PlayFault;
@@ -22,6 +22,8 @@ pub enum Failure {
     List(ListingFault),
     /// A question was not answered.
     Why(WhyFault),
+    /// A policy was not checked against `neverallow` statements.
+    Breach(BreachFault),
     /// A dump was not written to its end.
     Dump(DumpFault),
     /// The file can't be opened. Nothing was written.
@@ -45,6 +47,7 @@ impl fmt::Display for Failure {
             Failure::Explore(fault) => write!(f, "gthost: {fault}"),
             Failure::List(fault) => write!(f, "gthost: {fault}"),
             Failure::Why(fault) => write!(f, "gthost: {fault}"),
+            Failure::Breach(fault) => write!(f, "gthost: {fault}"),
             Failure::Dump(fault) => write!(f, "gthost: {fault}"),
             Failure::File(fault) => write!(f, "gthost: {fault}"),
             Failure::Help(fault) => write!(f, "gthost: {fault}"),

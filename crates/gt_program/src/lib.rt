@@ -12,11 +12,15 @@
 //! tested.
 #![tactic(auto)]
 
+mod checking;
 mod commands;
 mod copying;
 mod explained;
 mod failure;
+mod following;
 mod formats;
+mod given;
+mod given_reasons;
 mod obeying;
 mod outcome;
 mod questions;
@@ -27,6 +31,7 @@ mod system;
 mod texts;
 mod told;
 
+pub use checking::CheckKind;
 pub use commands::Work;
 pub use failure::Failure;
 pub use obeying::obey;

@@ -1,33 +1,24 @@
 //! The execution of a command line.
-ghost use Rattle.std.specs.Prelude.{◌≡◌, ◌↔◌, IfOk, drop, map, string_bytes};
+ghost use Rattle.std.specs.Prelude.{◌≡◌, IfOk, drop, map, string_bytes};
 ghost use Rattle.std.specs.Option.{option_map};
 ghost use Rattle.clap.specs.Words.{kind_of};
-ghost use Rattle.gt_commands.specs.Commands.{request_in_words, asked_by_plan};
+ghost use Rattle.gt_commands.specs.Commands.{request_in_words};
 ghost use Rattle.gt_commands.specs.Leading.{command_first, leading_word};
 ghost use Rattle.gt_commands.specs.Letters.{with_long_flags};
 ghost use Rattle.gt_program.specs.Obeying.{failed_mode, failed_word, first_word, outcome_of, shown_name, FitsKind};
-ghost use Rattle.gt_commands.specs.Commands.{sought_told};
-ghost use Rattle.gt_program.specs.Obeying.{known_input, Checks, ChecksFiles, IsHelped, IsRequestFor, Obeys, Works};
+ghost use Rattle.gt_program.specs.Obeying.{IsHelped, Obeys};
 
-use crate::commands::{Context, Work, run_asked, work_asked};
+use crate::commands::Context;
 use crate::failure::Failure;
-use crate::outcome::{Outcome, outcome_of, worse};
-use crate::questions::answer_each;
+use crate::following::follow;
+use crate::outcome::{Outcome, outcome_of};
 use crate::reasons::Reasons;
-use crate::rules::tell_rules;
 use crate::style::Style;
 use crate::texts::TextSource;
 use clap::Error;
 use clap::error::ErrorKind;
-use gt_commands::{
-    Exploration, Format, Invocation, Mode, command_first, leading_word, mode_of, plan,
-    with_long_flags,
-};
-use gt_entries::DumpOptions;
-use gt_explore::{ExploreOptions as Searched, ExploreRequest};
-use gt_policy_check::{ReportForm, WhyQuestion};
+use gt_commands::{Mode, command_first, leading_word, mode_of, plan, with_long_flags};
 use gt_text::WriteFault;
-use gt_types::DomId;
 use std::alloc::{AllocError, Global};
 use std::io::Write;
 use std::sync::Wait;
@@ -107,179 +98,6 @@ pub(crate) fn shown_name<'a>(name: Option<&'a str>) -> &'a str
     match name {
         Some(name) => name,
         None => "<stdin>",
-    }
-}
-
-// Returns the domain of this number.
-fn domain(number: Option<u16>) -> Option<DomId>
-    ensures { option_map (λ d. d.0) result ≡ number }
-{
-    match number {
-        Some(number) => Some(DomId(number)),
-        None => None,
-    }
-}
-
-// Returns the form in which findings are printed.
-fn form_of(format: Format, style: Style) -> ReportForm
-    ensures { (result ≡ ReportForm.Json) ↔ (format ≡ Format.Json) }
-{
-    match format {
-        Format::Json => ReportForm::Json,
-        Format::Text if style.is_colored => ReportForm::Colored,
-        Format::Text => ReportForm::Text,
-    }
-}
-
-// Checks the named file, or the standard input.
-fn check_one<'a, R, T: TextSource, W: Write, E: Eprint>(
-    context: &Context<R, T, E>,
-    script: bool,
-    format: Format,
-    file: Option<&'a str>,
-    out: &mut W,
-    reasons: &mut Reasons<'a>,
-) -> Outcome
-    ensures { Works (Checks script) Outcome.Unknown
-        (known_input (T.file context.now.texts.now) (T.input context.now.texts.now) file.entry)
-        (W.contents out.old) (W.contents out.new) result }
-{
-    let work = Work::Check {
-        script,
-        file: shown_name(file),
-        form: form_of(format, context.style),
-    };
-    reasons.begin(file);
-    work_asked(context, work, file, out, reasons)
-}
-
-// Checks the files of these names, one after the other.
-fn check_more<'a, R, T: TextSource, W: Write, E: Eprint>(
-    context: &Context<R, T, E>,
-    script: bool,
-    format: Format,
-    files: &[Option<&'a str>],
-    out: &mut W,
-    reasons: &mut Reasons<'a>,
-) -> Outcome
-    ensures { ChecksFiles script (T.file context.now.texts.now) (map (option_map (λ f. f.now)) files.now)
-        (W.contents out.old) (W.contents out.new) result }
-{
-    match files {
-        [] => Outcome::Yes,
-        [None, more @ ..] => check_more(context, script, format, more, out, reasons),
-        [Some(name), more @ ..] => {
-            let one = check_one(context, script, format, Some(*name), out, reasons);
-            let others = check_more(context, script, format, more, out, reasons);
-            worse(one, others)
-        }
-    }
-}
-
-// Returns the request for what is sought.
-fn request_of<'w>(asked: Exploration<'w>) -> ExploreRequest<'w>
-    ensures { IsRequestFor (sought_told asked.entry) result }
-{
-    match asked {
-        Exploration::Texts => ExploreRequest::Texts,
-        Exploration::Decide { claim, expression } => ExploreRequest::Decide { claim, expression },
-        Exploration::Witness(number) => ExploreRequest::Witness(number),
-        Exploration::Witnesses => ExploreRequest::Witnesses,
-    }
-}
-
-// Executes the plan.
-fn follow<'a, R: Threads + Wait + Sync, T: TextSource, W: Write, E: Eprint>(
-    context: &Context<R, T, E>,
-    invocation: Invocation<'a>,
-    out: &mut W,
-    reasons: &mut Reasons<'a>,
-) -> Outcome
-    ensures { Obeys (asked_by_plan invocation.entry) (T.file context.now.texts.now) (T.input context.now.texts.now)
-        (W.contents out.old) (W.contents out.new) result }
-{
-    match invocation {
-        Invocation::Play {
-            audit,
-            format,
-            file,
-            verbose: _,
-        } => work_asked(context, Work::Play { audit, format }, file, out, reasons),
-        Invocation::Run {
-            audit,
-            format,
-            file,
-            verbose: _,
-        } => run_asked(context, format, audit, file, out, reasons),
-        Invocation::Explore {
-            asked,
-            states,
-            file,
-        } => {
-            let request = request_of(asked);
-            let asked = Searched { request, states };
-            work_asked(context, Work::Explore { asked }, file, out, reasons)
-        }
-        Invocation::Policy {
-            format,
-            file,
-            verbose: _,
-        } => work_asked(context, Work::List { format }, file, out, reasons),
-        Invocation::Rules { rule } => {
-            tell_rules(context.alloc, out, context.err, rule, context.style.width)
-        }
-        Invocation::Check {
-            script,
-            format,
-            file,
-            more,
-        } => {
-            let one = check_one(context, script, format, file, out, reasons);
-            let others = check_more(
-                context,
-                script,
-                format,
-                more.names().as_slice(),
-                out,
-                reasons,
-            );
-            worse(one, others)
-        }
-        Invocation::Why {
-            source,
-            target,
-            permission: perm,
-            file,
-        } => {
-            let question = WhyQuestion {
-                source,
-                target,
-                perm,
-            };
-            let work = Work::Why {
-                file: shown_name(file),
-                question,
-            };
-            work_asked(context, work, file, out, reasons)
-        }
-        Invocation::WhyEach { file } => answer_each(context, file, out, reasons),
-        Invocation::Entries {
-            version,
-            hex,
-            all,
-            script: dom,
-            format,
-            file,
-        } => {
-            let script = domain(dom);
-            let asked = DumpOptions {
-                version,
-                hex,
-                all,
-                script,
-            };
-            work_asked(context, Work::Entries { asked, format }, file, out, reasons)
-        }
     }
 }
 

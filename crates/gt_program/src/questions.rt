@@ -1,69 +1,112 @@
 //! The questions of the standard input about a policy.
-use crate::commands::{Context, Work, work_asked};
+ghost use Rattle.std.specs.Prelude.{◌≡◌, ◌++◌, codes, map, IfOk, IfSome, OnOk, Some};
+ghost use Rattle.std.specs.Option.{option_map};
+ghost use Rattle.std.specs.Str.Lines.{lines as lines_in};
+ghost use Rattle.std.specs.Io.KnownBytes.{Appends};
+ghost use Rattle.gt_script_lines.specs.Words.{words as words_in};
+ghost use Rattle.gt_text.specs.Streams.{AppendsBeginning};
+ghost use Rattle.gt_commands.specs.Commands.{type_of};
+ghost use Rattle.gt_program.specs.Obeying.{AnswersLine, AnswersLines, AnswersQuestion, AnswersWords, Asks, OrNothing};
+ghost use Rattle.gt_program.specs.Obeying.{WithFile, Works, heading};
+ghost use Rattle.gt_program.specs.declared.outcome.Outcome.TheVariants.{Unknown};
+
+use crate::commands::{Context, Work, fail, work_asked};
 use crate::failure::Failure;
-use crate::obeying::report;
+use crate::given::read_whole;
 use crate::outcome::{Outcome, worse};
 use crate::reasons::Reasons;
 use crate::texts::TextSource;
 use gt_policy_check::WhyQuestion;
-use gt_text::{ReadFault, WriteFault, read_text, text_of};
+use gt_policy_list::ListingFault;
+use gt_script_lines::{line_words, text_lines};
+use gt_text::{ReadFault, push_text, text_of, write_text};
+use std::alloc::{AllocError, Global};
 use std::io::Write;
 
+// The three words of a question.
+#[derive(Clone, Copy)]
+struct AskedWords<'t> {
+    source: &'t str,
+    target: &'t str,
+    perm: &'t str,
+}
+
+// Returns the words as text, if they are UTF-8.
+fn asked_words<'t>(source: &'t [u8], target: &'t [u8], perm: &'t [u8]) -> Option<AskedWords<'t>>
+    ensures source { IfSome result (λ w. w.source.now ≡ source.entry.now) }
+    ensures target { IfSome result (λ w. w.target.now ≡ target.entry.now) }
+    ensures perm { IfSome result (λ w. w.perm.now ≡ perm.entry.now) }
+{
+    match (text_of(source), text_of(target), text_of(perm)) {
+        (Ok(source), Ok(target), Ok(perm)) => Some(AskedWords {
+            source,
+            target,
+            perm,
+        }),
+        _ => None,
+    }
+}
+
 // Returns the type or the permission of a name; `-` is any.
-fn named(name: &str) -> Option<&str> {
+fn named<'n>(name: &'n str) -> Option<&'n str>
+    ensures { option_map (λ v. v.now) result ≡ type_of (Some name.entry.now) }
+{
     if name == "-" { None } else { Some(name) }
 }
 
-// Returns the question of a line, if it has three words.
-fn question_of(line: &str) -> Option<WhyQuestion<'_>> {
-    let mut words = line.split_ascii_whitespace();
-    let source = words.next()?;
-    let target = words.next()?;
-    let perm = words.next()?;
-    if words.next().is_some() {
-        return None;
+// Makes the line that is printed before an answer.
+fn heading(alloc: Global, words: &AskedWords) -> Result<Vec<u8>, AllocError>
+    ensures { IfOk result (λ line. line.items
+        ≡ heading words.now.source.now words.now.target.now words.now.perm.now) }
+{
+    let mut line = Vec::new(alloc);
+    push_text(&mut line, "# ")?;
+    push_text(&mut line, words.source)?;
+    push_text(&mut line, " ")?;
+    push_text(&mut line, words.target)?;
+    push_text(&mut line, " ")?;
+    push_text(&mut line, words.perm)?;
+    push_text(&mut line, "\n")?;
+    Ok(line)
+}
+
+// Writes the line before an answer.
+fn write_heading<W: Write>(
+    alloc: Global,
+    words: &AskedWords,
+    out: &mut W,
+) -> Result<(), ListingFault>
+    ensures whole { OnOk result (Appends (W.contents out.old) (W.contents out.new)
+        (heading words.now.source.now words.now.target.now words.now.perm.now)) }
+    ensures beginning { AppendsBeginning (W.contents out.old) (W.contents out.new)
+        (heading words.now.source.now words.now.target.now words.now.perm.now) }
+{
+    let Ok(line) = heading(alloc, words) else {
+        return Err(ListingFault::Memory);
+    };
+    match write_text(out, line.as_slice()) {
+        Ok(()) => Ok(()),
+        Err(_) => Err(ListingFault::Write),
     }
-    Some(WhyQuestion {
-        source: named(source),
-        target: named(target),
-        perm: named(perm),
-    })
 }
 
-// Returns a line without its comment and the blanks around it.
-fn without_comment(line: &str) -> &str {
-    match line.split_once('#') {
-        Some((front, _)) => front.trim(),
-        None => line.trim(),
-    }
-}
-
-// Reports a line that is not a question.
-fn report_line<E: Eprint>(err: &E, line: &str) -> Outcome {
-    let _ = err.eprint("gthost: <stdin>: expected SOURCE TARGET PERMISSION, not '");
-    let _ = err.eprint(line);
-    let _ = err.eprintln("'");
-    Outcome::Unknown
-}
-
-// Prints a question and its answer.
-fn answer_line<'a, R, T: TextSource, W: Write, E: Eprint>(
+// Answers the question of these words, under the line before it.
+fn answer_asked<'a, R, T: TextSource, W: Write, E: Eprint>(
     context: &Context<R, T, E>,
     file: &'a str,
-    line: &str,
+    words: &AskedWords,
     out: &mut W,
     reasons: &mut Reasons<'a>,
-) -> Outcome {
-    let Some(question) = question_of(line) else {
-        return report_line(context.err, line);
+) -> Outcome
+    ensures { Works (AnswersQuestion file.entry.now (type_of (Some words.now.source.now))
+        (type_of (Some words.now.target.now)) (type_of (Some words.now.perm.now))) Unknown
+        (T.file context.now.texts.now file.entry.now) (W.contents out.old) (W.contents out.new) result }
+{
+    let question = WhyQuestion {
+        source: named(words.source),
+        target: named(words.target),
+        perm: named(words.perm),
     };
-    if writeln!(out, "# {line}").is_err() {
-        return report(
-            context.err,
-            Err(Failure::Help(WriteFault)),
-            Outcome::Unknown,
-        );
-    }
     reasons.begin(Some(file));
     work_asked(
         context,
@@ -74,31 +117,170 @@ fn answer_line<'a, R, T: TextSource, W: Write, E: Eprint>(
     )
 }
 
+// Prints the question of these words, and answers it.
+fn ask<'a, R, T: TextSource, W: Write, E: Eprint>(
+    context: &Context<R, T, E>,
+    file: &'a str,
+    words: &AskedWords,
+    out: &mut W,
+    reasons: &mut Reasons<'a>,
+) -> Outcome
+    ensures { Asks file.entry.now (T.file context.now.texts.now file.entry.now) words.now.source.now
+        words.now.target.now words.now.perm.now (W.contents out.old) (W.contents out.new) result }
+{
+    match write_heading(context.alloc, words, out) {
+        Ok(()) => answer_asked(context, file, words, out, reasons),
+        Err(fault) => fail(context, Failure::List(fault), reasons),
+    }
+}
+
+// Asks the question of these words, if they are UTF-8.
+fn ask_words<'a, R, T: TextSource, W: Write, E: Eprint>(
+    context: &Context<R, T, E>,
+    file: &'a str,
+    source: &[u8],
+    target: &[u8],
+    perm: &[u8],
+    out: &mut W,
+    reasons: &mut Reasons<'a>,
+) -> Outcome
+    ensures { OrNothing (Asks file.entry.now (T.file context.now.texts.now file.entry.now) source.now
+        target.now perm.now) (W.contents out.old) (W.contents out.new) result }
+{
+    match asked_words(source, target, perm) {
+        Some(words) => ask(context, file, &words, out, reasons),
+        None => fail(context, Failure::File(ReadFault::Read), reasons),
+    }
+}
+
+// Reports a line of this number that is not a question.
+fn refuse_line<R, T, E: Eprint>(
+    context: &Context<R, T, E>,
+    number: usize,
+    reasons: &mut Reasons,
+) -> Outcome
+    ensures { result ≡ Outcome.Unknown }
+{
+    reasons.add_no_question(number);
+    fail(context, Failure::File(ReadFault::Read), reasons)
+}
+
+// Answers the question of a line by its words.
+fn answer_words<'a, R, T: TextSource, W: Write, E: Eprint>(
+    context: &Context<R, T, E>,
+    file: &'a str,
+    number: usize,
+    words: &[&[u8]],
+    out: &mut W,
+    reasons: &mut Reasons<'a>,
+) -> Outcome
+    ensures { OrNothing (AnswersWords file.entry.now (T.file context.now.texts.now file.entry.now)
+        (map (λ w. w.now) words.now)) (W.contents out.old) (W.contents out.new) result }
+{
+    match words {
+        [] => Outcome::Yes,
+        [_] => refuse_line(context, number, reasons),
+        [_, _] => refuse_line(context, number, reasons),
+        [source, target, perm] => {
+            ask_words(context, file, *source, *target, *perm, out, reasons)
+        }
+        [_, _, _, _, ..] => refuse_line(context, number, reasons),
+    }
+}
+
+// Answers the question of a line.
+fn answer_line<'a, R, T: TextSource, W: Write, E: Eprint>(
+    context: &Context<R, T, E>,
+    file: &'a str,
+    number: usize,
+    line: &str,
+    out: &mut W,
+    reasons: &mut Reasons<'a>,
+) -> Outcome
+    ensures { AnswersLine file.entry.now (T.file context.now.texts.now file.entry.now) line.now
+        (W.contents out.old) (W.contents out.new) result }
+{
+    match line_words(context.alloc, line) {
+        Ok(words) => answer_words(context, file, number, words.as_slice(), out, reasons),
+        Err(_) => fail(context, Failure::Memory, reasons),
+    }
+}
+
+// Answers the questions of these lines, and returns the worst outcome.
+fn answer_lines<'a, R, T: TextSource, W: Write, E: Eprint>(
+    context: &Context<R, T, E>,
+    file: &'a str,
+    lines: &[&str],
+    out: &mut W,
+    reasons: &mut Reasons<'a>,
+) -> Outcome
+    ensures { AnswersLines file.entry.now (T.file context.now.texts.now file.entry.now)
+        (map (λ l. l.now) lines.now) (W.contents out.old) (W.contents out.new) result }
+{
+    let mut outcome = Outcome::Yes;
+    let mut number: usize = 0;
+    'lines: for line in lines {
+        number = number.saturating_add(1);
+        let one = answer_line(context, file, number, line, out, reasons);
+        outcome = worse(outcome, one);
+    }
+    outcome
+}
+
+// Answers the questions of a text.
+fn answer_text<'a, R, T: TextSource, W: Write, E: Eprint>(
+    context: &Context<R, T, E>,
+    file: &'a str,
+    text: &str,
+    out: &mut W,
+    reasons: &mut Reasons<'a>,
+) -> Outcome
+    ensures { OrNothing (AnswersLines file.entry.now (T.file context.now.texts.now file.entry.now)
+        (lines_in text.now)) (W.contents out.old) (W.contents out.new) result }
+{
+    match text_lines(context.alloc, text) {
+        Ok(lines) => answer_lines(context, file, lines.as_slice(), out, reasons),
+        Err(_) => fail(context, Failure::Memory, reasons),
+    }
+}
+
+// Answers the questions of these bytes.
+fn answer_bytes<'a, R, T: TextSource, W: Write, E: Eprint>(
+    context: &Context<R, T, E>,
+    file: &'a str,
+    bytes: &[u8],
+    out: &mut W,
+    reasons: &mut Reasons<'a>,
+) -> Outcome
+    ensures { OrNothing (AnswersLines file.entry.now (T.file context.now.texts.now file.entry.now)
+        (lines_in bytes.now)) (W.contents out.old) (W.contents out.new) result }
+{
+    match text_of(bytes) {
+        Ok(text) => answer_text(context, file, text, out, reasons),
+        Err(line) => {
+            let fault = ListingFault::Utf8 { line };
+            reasons.add_text(bytes, &fault);
+            fail(context, Failure::List(fault), reasons)
+        }
+    }
+}
+
 /// Answers each question of the standard input about the policy of the file, and returns the worst outcome. Blank lines
-/// and comments are skipped. Each answer comes after a line `# SOURCE TARGET PERMISSION`.
+/// and comments are skipped. Each answer comes after a line `# SOURCE TARGET PERMISSION`. A line that is no question is
+/// reported with its number.
 pub(crate) fn answer_each<'a, R, T: TextSource, W: Write, E: Eprint>(
     context: &Context<R, T, E>,
     file: &'a str,
     out: &mut W,
     reasons: &mut Reasons<'a>,
-) -> Outcome {
-    let input = match read_text(context.alloc, &mut context.texts.input()) {
-        Ok(input) => input,
-        Err(fault) => return report(context.err, Err(Failure::File(fault)), Outcome::Unknown),
-    };
-    let Ok(text) = text_of(input.as_slice()) else {
-        return report(
-            context.err,
-            Err(Failure::File(ReadFault::Read)),
-            Outcome::Unknown,
-        );
-    };
-    let mut outcome = Outcome::Yes;
-    for line in text.lines() {
-        let line = without_comment(line);
-        if !line.is_empty() {
-            outcome = worse(outcome, answer_line(context, file, line, out, reasons));
-        }
+) -> Outcome
+    ensures { WithFile (T.input context.now.texts.now) (λ asked. AnswersLines file.entry.now
+        (T.file context.now.texts.now file.entry.now) (lines_in asked))
+        (W.contents out.old) (W.contents out.new) result }
+{
+    reasons.begin(None);
+    match read_whole(context.alloc, &mut context.texts.input(), reasons) {
+        Ok(bytes) => answer_bytes(context, file, bytes.as_slice(), out, reasons),
+        Err(fault) => fail(context, Failure::File(fault), reasons),
     }
-    outcome
 }

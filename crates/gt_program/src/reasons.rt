@@ -1,7 +1,8 @@
 //! The reasons that are printed after the line of a fault, or as that line.
 use crate::copying::KeptInput;
+use crate::given_reasons::{given_reason, never_reason, question_reason, text_reason};
 use crate::obeying::shown_name;
-use gt_checks::WhyFault;
+use gt_checks::{BreachFault, WhyFault};
 use gt_commands::Invocation;
 use gt_entries::{DumpFault, DumpLook, DumpOptions, look_of};
 use gt_explore::{ExploreFault, TextsFault};
@@ -13,6 +14,7 @@ use gt_reasons::{
     push_script_reason, push_type_reason, push_utf8_reason,
 };
 use gt_run::RunFault;
+use gt_text::ReadFault;
 use std::alloc::{AllocError, Global};
 use std::io;
 
@@ -84,8 +86,8 @@ fn run_refusals(
     Ok(said)
 }
 
-// Returns why a file was not read, from the words of the system.
-fn read_words<'w>(said: &'w [u8]) -> &'w [u8] {
+/// Returns why a file was not read, from the words of the system.
+pub(crate) fn read_words<'w>(said: &'w [u8]) -> &'w [u8] {
     if said.starts_with(b"No such file") {
         b"no such file"
     } else if said.starts_with(b"Permission denied") {
@@ -251,7 +253,9 @@ impl<'a> Reasons<'a> {
             Invocation::Run { verbose, file, .. } => (false, named(*verbose, *file)),
             Invocation::Policy { verbose, file, .. } => (false, named(*verbose, *file)),
             Invocation::Explore { file, .. } => (true, named(true, *file)),
+            Invocation::ExploreHas { file, .. } => (true, named(true, *file)),
             Invocation::Check { file, .. } => (true, named(true, *file)),
+            Invocation::CheckNever { file, .. } => (true, named(true, *file)),
             Invocation::Why { file, .. } => (true, named(true, *file)),
             Invocation::Entries { file, .. } => (true, named(true, *file)),
             Invocation::WhyEach { file } => (true, Some(*file)),
@@ -323,6 +327,43 @@ impl<'a> Reasons<'a> {
     pub(crate) fn add_listing(&mut self, input: &KeptInput, fault: &ListingFault) {
         if let Some(file) = self.file {
             let said = listing_reason(self.alloc, file, self.is_line, input, fault);
+            self.add(said);
+        }
+    }
+
+    /// Adds the reason for which the policy that was read was not checked against the `neverallow` statements of this
+    /// file.
+    pub(crate) fn add_breach(&mut self, input: &KeptInput, never: &str, fault: &BreachFault) {
+        let Some(file) = self.file else {
+            return;
+        };
+        let said = match fault {
+            BreachFault::Policy(fault) => {
+                listing_reason(self.alloc, file, self.is_line, input, fault)
+            }
+            BreachFault::Statements(fault) => never_reason(self.alloc, never, fault),
+        };
+        self.add(said);
+    }
+
+    /// Adds the reason for which bytes are not a text.
+    pub(crate) fn add_text(&mut self, bytes: &[u8], fault: &ListingFault) {
+        if let Some(file) = self.file {
+            let said = text_reason(self.alloc, file, bytes, fault);
+            self.add(said);
+        }
+    }
+
+    /// Adds that a line of this number of the standard input is not a question.
+    pub(crate) fn add_no_question(&mut self, number: usize) {
+        let said = question_reason(self.alloc, number);
+        self.add(said);
+    }
+
+    /// Adds the reason for which a text to compare with was not read: the fault of a read, or that it is too long.
+    pub(crate) fn add_given(&mut self, input: &KeptInput, fault: ReadFault) {
+        if let Some(file) = self.file {
+            let said = given_reason(self.alloc, file, input, fault);
             self.add(said);
         }
     }

@@ -2,7 +2,6 @@ use Rattle.std.proofs.Common.{ℕ, List}
 use Rattle.gt_explore.specs.Exploring.{Explored}
 use Rattle.gt_script.specs.RunScripts.{RunTells}
 use Rattle.gt_checks.specs.Explaining.{Explained}
-use Rattle.gt_program.specs.Formats.{CheckedAs}
 use Rattle.gt_program.proofs.Obeyed.{answered_input, for_work, verdict_input}
 use Rattle.gt_program.proofs.commands.perform.Goals as goal
 
@@ -20,15 +19,13 @@ returns-in-Err-explore_explained g c = for_work _ _ _ _ _ _ c.in-Explore.is c.in
 pub returns-in-Ok-list_with_reasons : goal.returns-in-Ok-list_with_reasons
 returns-in-Ok-list_with_reasons g c = for_work _ _ _ _ _ _ c.in-List.is c.in-Ok-list_with_reasons.ensures
 
-pub returns-in-Ok-check_explained : goal.returns-in-Ok-check_explained
-returns-in-Ok-check_explained g c = for_work _ _ _ _ _ _ c.in-Check.is
-    (answered_input _ (λ (input : List ℕ). CheckedAs c.in-Check.script input (g.W.Write.contents c.args.out.now) (g.W.Write.contents c.check_explained.new.out)) _ _
-    c.of_answer.ensures c.in-Ok-check_explained.ensures)
+pub returns-in-Check : goal.returns-in-Check
+returns-in-Check g c = for_work _ _ _ _ _ _ c.in-Check.is c.perform_check.ensures
 
 pub returns-in-Ok-why_explained : goal.returns-in-Ok-why_explained
 returns-in-Ok-why_explained g c = for_work _ _ _ _ _ _ c.in-Why.is
     (answered_input _ (λ (input : List ℕ). Explained c.in-Why.file.now c.in-Why.question input (g.W.Write.contents c.args.out.now) (g.W.Write.contents c.why_explained.new.out)) _ _
-    c.of_answer-in-Ok-why_explained.ensures c.in-Ok-why_explained.ensures)
+    c.of_answer.ensures c.in-Ok-why_explained.ensures)
 
 pub returns-in-Err-why_explained : goal.returns-in-Err-why_explained
 returns-in-Err-why_explained g c = for_work _ _ _ _ _ _ c.in-Why.is c.in-Err-why_explained.ensures

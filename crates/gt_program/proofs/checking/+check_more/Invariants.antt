@@ -1,5 +1,5 @@
 use Rattle.std.proofs.Common.{length}
-use Rattle.gt_program.proofs.obeying.+check_more.Given as goal
+use Rattle.gt_program.proofs.checking.+check_more.Given as goal
 
 -- the files that are left
 abbrev pub decreases-check_more : goal.decreases-check_more

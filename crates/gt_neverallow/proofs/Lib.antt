@@ -1,0 +1,3 @@
+pub mod BreakingLemmas
+pub mod NamingLemmas
+pub mod ReadingLemmas

@@ -1,0 +1,3 @@
+pub mod Breaking
+pub mod Reading
+pub mod Naming

@@ -1,0 +1,67 @@
+-- What a text of neverallow statements is for a policy: statements that name only what the policy declares, or its first
+-- fault.
+use Rattle.std.specs.Prelude.{◌≡◌, ℕ, ◌<◌, ◌≤◌, Bool, true, false, not, List, [], ◌∷◌, ◌++◌, length, Option, Some, None}
+use Rattle.std.specs.Prelude.{Result, Ok, Err, find}
+use Rattle.std.specs.List.{flat_map, list_any}
+use Rattle.std.specs.Str.{bytes_eq}
+use Rattle.gt_types.specs.declared.limits.TheConstants.{LONGEST_TEXT}
+use Rattle.gt_policy.specs.Grammar.{at}
+use Rattle.gt_policy.specs.declared.fault.TokenFault.{TokenFault}
+use Rattle.gt_policy.specs.declared.fault.TokenFaultKind.TheVariants.{Limit, Unknown}
+use Rattle.gt_policy.specs.declared.lined.LinedStatement.{LinedStatement}
+use Rattle.gt_policy.specs.declared.statements.Mention.{Mention}
+use Rattle.gt_policy.specs.declared.statements.SetElement.{SetElement}
+use Rattle.gt_policy.specs.declared.statements.SetElement.TheVariants.{With, Without, Itself}
+use Rattle.gt_policy.specs.declared.statements.Statement.{Statement}
+use Rattle.gt_policy.specs.declared.statements.Statement.TheVariants.{DeclareType, DeclareAttribute, GiveAttributes}
+use Rattle.gt_policy.specs.declared.statements.Statement.TheVariants.{Allow}
+use Rattle.gt_policy_text.specs.Lexing.{lexemes_of}
+use Rattle.gt_neverallow.specs.Reading.{Follows}
+use Rattle.gt_neverallow.specs.declared.statement.Neverallow.{Neverallow}
+use Rattle.gt_neverallow.specs.declared.statement.TypeChoice.{TypeChoice}
+use Rattle.gt_neverallow.specs.declared.statement.TypeChoice.TheVariants.{But, Every, Of}
+
+-- the statement declares the name, as a type or an attribute (SELinux policy language)
+abbrev pub declares : List ℕ → Statement → Bool
+declares w (DeclareType v ms) = bytes_eq v w
+declares w (DeclareAttribute v) = bytes_eq v w
+declares w (GiveAttributes m ms) = false
+declares w (Allow a) = false
+
+-- some statement declares the name
+abbrev pub is_declared : List LinedStatement → List ℕ → Bool
+is_declared xs w = list_any (λ x. declares w x.statement) xs
+
+-- the name that an item has, after `-` too
+abbrev pub names_in : SetElement → List Mention
+names_in (With m) = m ∷ []
+names_in (Without m) = m ∷ []
+names_in Itself = []
+
+-- the names of a choice of types
+abbrev pub names_chosen : TypeChoice → List Mention
+names_chosen Every = []
+names_chosen (Of items) = flat_map names_in items
+names_chosen (But items) = flat_map names_in items
+
+-- the names of the sets of a statement, in the order of the text
+abbrev pub names_of : Neverallow → List Mention
+names_of n = names_chosen n.source ++ names_chosen n.target
+
+-- the first of these names that the policy does not declare
+abbrev pub undeclared : List LinedStatement → List Mention → Option Mention
+undeclared xs ms = find (λ m. not (is_declared xs m.name)) ms
+
+-- the statements, or the fault of their first name that the policy does not declare
+abbrev pub named_with : List Neverallow → Option Mention → Result (List Neverallow) TokenFault
+named_with ns None = Ok ns
+named_with ns (Some m) = Err (at m.line (Unknown m.name))
+
+-- What a text says for a policy of these statements: neverallow statements, or its first fault. An undeclared name is a
+-- fault only of a text without another fault. (SELinux policy language; faults and the limit own)
+pub data NeverSays (xs : List LinedStatement) : List ℕ → Result (List Neverallow) TokenFault → Type 0 where
+  too_long : (text : List ℕ) → LONGEST_TEXT < length text → NeverSays xs text (Err (at 1 Limit))
+  read : (text : List ℕ) (ns : List Neverallow) → length text ≤ LONGEST_TEXT → Follows [] (lexemes_of text) (Ok ns)
+      → NeverSays xs text (named_with ns (undeclared xs (flat_map names_of ns)))
+  faulty : (text : List ℕ) (f : TokenFault) → length text ≤ LONGEST_TEXT → Follows [] (lexemes_of text) (Err f)
+      → NeverSays xs text (Err f)

@@ -1,0 +1,114 @@
+-- A text of neverallow statements: its parsers, in the form of those of an allow statement.
+use Rattle.std.specs.Prelude.{◌≡◌, ℕ, ◌<◌, ◌≤◌, Bool, true, false, List, [], ◌∷◌, ◌++◌, codes, length, Option, Some, None}
+use Rattle.std.specs.Prelude.{Result, Ok, Err, if◌then◌else◌}
+use Rattle.std.specs.Str.{bytes_eq}
+use Rattle.gt_types.specs.Memory.{UnlessMemory}
+use Rattle.gt_policy.specs.Errors.{with_rest}
+use Rattle.gt_policy.specs.Grammar.{Lexemes, LexerState, ◌>>=◌, at, classes_of, colon, is_grant_alone, misfit, perms_of}
+use Rattle.gt_policy.specs.Grammar.{semicolon, set_of}
+use Rattle.gt_policy.specs.declared.fault.TokenFault.{TokenFault}
+use Rattle.gt_policy.specs.declared.fault.TokenFaultKind.{TokenFaultKind}
+use Rattle.gt_policy.specs.declared.fault.TokenFaultKind.TheVariants as kinds
+use Rattle.gt_policy.specs.declared.statements.SetElement.{SetElement}
+use Rattle.gt_policy_text.specs.declared.lexer.Token.{Token}
+use Rattle.gt_policy_text.specs.declared.lexer.Token.TheVariants.{AllowWord, AttributeWord, End, Name, Star, Tilde, TypeWord}
+use Rattle.gt_policy_text.specs.declared.lexer.Token.TheVariants.{TypeattributeWord}
+use Rattle.gt_neverallow.specs.declared.fault.ParseError.{ParseError}
+use Rattle.gt_neverallow.specs.declared.fault.ParseError.TheVariants.{Fault, Memory}
+use Rattle.gt_neverallow.specs.declared.fault.TokenKind.{TokenKind}
+use Rattle.gt_neverallow.specs.declared.fault.TokenKind.TheVariants as told
+use Rattle.gt_neverallow.specs.declared.statement.Neverallow.{Neverallow}
+use Rattle.gt_neverallow.specs.declared.statement.TypeChoice.{TypeChoice}
+use Rattle.gt_neverallow.specs.declared.statement.TypeChoice.TheVariants.{But, Every, Of}
+
+-- the kind of a fault of the text
+abbrev pub kind_told : TokenKind → TokenFaultKind
+kind_told told.Syntax = kinds.Syntax
+kind_told (told.Unknown w) = kinds.Unknown w
+kind_told (told.Permission w) = kinds.Permission w
+kind_told (told.Outside w) = kinds.Outside w
+kind_told told.Limit = kinds.Limit
+
+-- the fault of an error; none if an allocation failed
+abbrev pub fault_in : ParseError → Option TokenFault
+fault_in Memory = None
+fault_in (Fault line kind) = Some (at line (kind_told kind))
+
+-- The value and the tokens left are those of the grammar, unless an allocation failed.
+abbrev pub Reads : {X : Type 0} → Result X ParseError → Lexemes → LexerState X → Type 0
+Reads r rest said = UnlessMemory fault_in r (λ found. said ≡ with_rest (λ x. (x, rest)) found)
+
+-- A mark was read and the tokens left are those of the grammar, unless an allocation failed.
+abbrev pub ReadsNothing : Result (Unit {0}) ParseError → Lexemes → Result Lexemes TokenFault → Type 0
+ReadsNothing r rest said = UnlessMemory fault_in r (λ found. said ≡ with_rest (λ x. rest) found)
+
+-- a set as a choice of its types, or of all others
+abbrev pub as_choice : (List SetElement → TypeChoice) → LexerState (List SetElement) → LexerState TypeChoice
+as_choice choice (Ok r) = Ok (choice r.0, r.1)
+as_choice choice (Err f) = Err f
+
+-- "*" | "~" set | set, where a set after "~" has no `self` (SELinux policy language: neverallow; faults own)
+unfoldable pub types_of : Bool → Lexemes → LexerState TypeChoice
+types_of target [] = as_choice Of (set_of target [])
+types_of target ((Star, n) ∷ ls) = Ok (Every, ls)
+types_of target ((Tilde, n) ∷ ls) = as_choice But (set_of false ls)
+types_of target ((token, n) ∷ ls) = as_choice Of (set_of target ((token, n) ∷ ls))
+
+-- after the word `neverallow` on this line: set target ":" classes perms ";" (SELinux policy language; faults own)
+unfoldable pub never_statement : ℕ → Lexemes → LexerState Neverallow
+never_statement line ls = do
+  source ← types_of false ls
+  target ← types_of true source.1
+  rest ← colon target.1
+  classes ← classes_of rest
+  perms ← perms_of (is_grant_alone classes.0) classes.1
+  rest ← semicolon false perms.1
+  Ok (record { line = line; source = source.0; target = target.0; classes = classes.0; perms = perms.0 }, rest)
+
+-- the word `neverallow`
+abbrev pub begins_statement : Token → Bool
+begins_statement (Name w) = bytes_eq w (codes "neverallow")
+begins_statement _ = false
+
+-- the kind of fault for a token that begins no neverallow statement
+unfoldable pub misfit_statement : Token → TokenFaultKind
+misfit_statement TypeWord = kinds.Outside (codes "type")
+misfit_statement AttributeWord = kinds.Outside (codes "attribute")
+misfit_statement TypeattributeWord = kinds.Outside (codes "typeattribute")
+misfit_statement AllowWord = kinds.Outside (codes "allow")
+misfit_statement (Name w) = kinds.Outside w
+misfit_statement token = misfit false token
+
+-- a statement as the next one
+abbrev pub next_one : LexerState Neverallow → LexerState (Option Neverallow)
+next_one (Ok s) = Ok (Some s.0, s.1)
+next_one (Err f) = Err f
+
+-- the next statement, or none at the end of the text; no other statement may come (faults own)
+unfoldable pub next_statement : Lexemes → LexerState (Option Neverallow)
+next_statement [] = Err (at 0 kinds.Syntax)
+next_statement ((End, n) ∷ ls) = Ok (None, [])
+next_statement ((token, n) ∷ ls) = if begins_statement token then next_one (never_statement n ls)
+    else Err (at n (misfit_statement token))
+
+-- the next statement; at the end of the text none
+abbrev pub IsNext : Result (Option Neverallow) TokenFault → Lexemes → LexerState (Option Neverallow) → Type 0
+IsNext (Ok (Some x)) rest said = said ≡ Ok (Some x, rest)
+IsNext (Ok None) rest said = said ≡ Ok (None, [])
+IsNext (Err f) rest said = said ≡ Err f
+
+-- the same, unless an allocation failed
+abbrev pub ReadsNext : Result (Option Neverallow) ParseError → Lexemes → LexerState (Option Neverallow) → Type 0
+ReadsNext r rest said = UnlessMemory fault_in r (λ found. IsNext found rest said)
+
+-- after some statements, the tokens give these in all, or the first fault
+pub data Follows : List Neverallow → Lexemes → Result (List Neverallow) TokenFault → Type 0 where
+  ended : (read : List Neverallow) (ls rest : Lexemes) → next_statement ls ≡ Ok (None, rest) → Follows read ls (Ok read)
+  more : (read : List Neverallow) (x : Neverallow) (ls rest : Lexemes) (said : Result (List Neverallow) TokenFault)
+      → next_statement ls ≡ Ok (Some x, rest) → Follows (read ++ x ∷ []) rest said → Follows read ls said
+  wrong : (read : List Neverallow) (ls : Lexemes) (f : TokenFault) → next_statement ls ≡ Err f
+      → Follows read ls (Err f)
+
+-- the statements or the fault are those of the tokens, unless an allocation failed
+abbrev pub ReadsTo : Result (List Neverallow) ParseError → Lexemes → Type 0
+ReadsTo r ls = UnlessMemory fault_in r (λ found. Follows [] ls found)

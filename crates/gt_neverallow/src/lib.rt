@@ -1,0 +1,28 @@
+//! The `neverallow` statements of the SELinux policy language, and the allow statements of a policy that break them.
+//!
+//! A `neverallow` statement grants nothing: it says what no allow statement of the policy may grant. [`breaches`] reads
+//! a policy and a text of such statements, and returns each pair of an allow statement and a `neverallow` statement
+//! that forbids something that the first one grants. [`push_breaches`] prints them, in the layout of compilers or as
+//! JSON.
+//!
+//! It is proved that the pairs are exactly those for which some source, target and permission are granted by the one
+//! and forbidden by the other. They stand in the order of the policy. An error is the first fault of the policy or of
+//! the other text.
+//!
+//! It uses `gt_policy` and `gt_policy_text` (statements and tokens), `gt_policy_check` (types, what a statement grants,
+//! findings), `gt_types` (permissions) and `gt_text` (text).
+#![tactic(auto)]
+
+mod breaking;
+mod fault;
+mod forbidding;
+mod names;
+mod parser;
+mod printing;
+mod reading;
+mod statement;
+
+pub use breaking::{Breach, breaches};
+pub use fault::NeverFault;
+pub use printing::{BrokenTexts, push_breaches};
+pub use statement::{Neverallow, TypeChoice};

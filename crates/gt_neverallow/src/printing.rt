@@ -1,0 +1,74 @@
+//! Prints breaches: each as an error at the allow statement, with a note at the `neverallow` statement.
+use crate::breaking::Breach;
+use gt_policy_check::{Finding, FindingKind, ReportForm, column_on, push_json, push_report};
+use gt_text::push_text;
+use std::alloc::{AllocError, Global};
+
+/// The two texts, with the names with which lines begin.
+#[derive(Clone, Copy)]
+pub struct BrokenTexts<'t> {
+    pub file: &'t str,
+    pub policy: &'t str,
+    pub never_file: &'t str,
+    pub never: &'t str,
+}
+
+// Makes the error at the allow statement.
+fn error_of(alloc: Global, texts: &BrokenTexts, breach: &Breach) -> Result<Finding, AllocError> {
+    let mut message = Vec::new(alloc);
+    push_text(&mut message, "this statement allows ")?;
+    message.extend_from_slice(breach.example.as_slice())?;
+    push_text(&mut message, ", which a neverallow statement forbids")?;
+    Ok(Finding {
+        kind: FindingKind::Fault,
+        line: breach.allowed,
+        column: column_on(alloc, texts.policy, breach.allowed, "allow")?,
+        message,
+    })
+}
+
+// Makes the note at the `neverallow` statement.
+fn note_of(alloc: Global, texts: &BrokenTexts, breach: &Breach) -> Result<Finding, AllocError> {
+    let mut message = Vec::new(alloc);
+    push_text(&mut message, "this statement forbids it")?;
+    Ok(Finding {
+        kind: FindingKind::Note,
+        line: breach.forbidden,
+        column: column_on(alloc, texts.never, breach.forbidden, "neverallow")?,
+        message,
+    })
+}
+
+// Appends a finding about one of the texts.
+fn push_finding(
+    out: &mut Vec<u8>,
+    form: ReportForm,
+    file: &str,
+    text: &str,
+    finding: Finding,
+) -> Result<(), AllocError> {
+    let found = [finding];
+    match form {
+        ReportForm::Json => push_json(out, file, found.as_slice()),
+        ReportForm::Text | ReportForm::Colored => {
+            push_report(out, file, text, found.as_slice(), form)
+        }
+    }
+}
+
+/// Appends the breaches in this form. After an Err, part of them may have been appended.
+pub fn push_breaches(
+    alloc: Global,
+    out: &mut Vec<u8>,
+    form: ReportForm,
+    texts: &BrokenTexts,
+    found: &[Breach],
+) -> Result<(), AllocError> {
+    for breach in found {
+        let error = error_of(alloc, texts, breach)?;
+        push_finding(out, form, texts.file, texts.policy, error)?;
+        let note = note_of(alloc, texts, breach)?;
+        push_finding(out, form, texts.never_file, texts.never, note)?;
+    }
+    Ok(())
+}

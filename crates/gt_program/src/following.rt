@@ -1,0 +1,172 @@
+//! The execution of a plan.
+ghost use Rattle.std.specs.Prelude.{◌≡◌};
+ghost use Rattle.std.specs.Option.{option_map};
+ghost use Rattle.gt_commands.specs.Commands.{asked_by_plan, sought_told};
+ghost use Rattle.gt_program.specs.Obeying.{known_input, AnswersQuestion, IsRequestFor, Obeys, Seeks, Works, shown_name};
+
+use crate::checking::{check_files, check_never_files};
+use crate::commands::{Context, Work, run_asked, work_asked};
+use crate::given::find_text;
+use crate::obeying::shown_name;
+use crate::outcome::Outcome;
+use crate::questions::answer_each;
+use crate::reasons::Reasons;
+use crate::rules::tell_rules;
+use crate::texts::TextSource;
+use gt_commands::{Exploration, Invocation};
+use gt_entries::DumpOptions;
+use gt_explore::{ExploreOptions, ExploreRequest};
+use gt_policy_check::WhyQuestion;
+use gt_types::DomId;
+use std::io::Write;
+use std::sync::Wait;
+use std::thread::Threads;
+
+// Returns the domain of this number.
+fn domain(number: Option<u16>) -> Option<DomId>
+    ensures { option_map (λ d. d.0) result ≡ number }
+{
+    match number {
+        Some(number) => Some(DomId(number)),
+        None => None,
+    }
+}
+
+// Returns the request for what is sought.
+fn request_of<'w>(asked: Exploration<'w>) -> ExploreRequest<'w>
+    ensures { IsRequestFor (sought_told asked.entry) result }
+{
+    match asked {
+        Exploration::Texts => ExploreRequest::Texts,
+        Exploration::Decide { claim, expression } => ExploreRequest::Decide { claim, expression },
+        Exploration::Witness(number) => ExploreRequest::Witness(number),
+        Exploration::Witnesses => ExploreRequest::Witnesses,
+    }
+}
+
+// Explores a script.
+fn explore<'a, R, T: TextSource, W: Write, E: Eprint>(
+    context: &Context<R, T, E>,
+    asked: Exploration<'a>,
+    states: usize,
+    file: Option<&'a str>,
+    out: &mut W,
+    reasons: &mut Reasons<'a>,
+) -> Outcome
+    ensures { Works (Seeks (sought_told asked.entry) states) Outcome.Unknown
+        (known_input (T.file context.now.texts.now) (T.input context.now.texts.now) file.entry)
+        (W.contents out.old) (W.contents out.new) result }
+{
+    let request = request_of(asked);
+    let asked = ExploreOptions { request, states };
+    work_asked(context, Work::Explore { asked }, file, out, reasons)
+}
+
+// Answers a question.
+fn answer<'a, R, T: TextSource, W: Write, E: Eprint>(
+    context: &Context<R, T, E>,
+    question: WhyQuestion<'a>,
+    file: Option<&'a str>,
+    out: &mut W,
+    reasons: &mut Reasons<'a>,
+) -> Outcome
+    ensures { Works (AnswersQuestion (shown_name (option_map (λ f. f.now) file.entry))
+        (option_map (λ a. a.now) question.entry.source) (option_map (λ a. a.now) question.entry.target)
+        (option_map (λ a. a.now) question.entry.perm)) Outcome.Unknown
+        (known_input (T.file context.now.texts.now) (T.input context.now.texts.now) file.entry)
+        (W.contents out.old) (W.contents out.new) result }
+{
+    let file_name = shown_name(file);
+    let work = Work::Why {
+        file: file_name,
+        question,
+    };
+    work_asked(context, work, file, out, reasons)
+}
+
+/// Executes the plan.
+pub(crate) fn follow<'a, R: Threads + Wait + Sync, T: TextSource, W: Write, E: Eprint>(
+    context: &Context<R, T, E>,
+    invocation: Invocation<'a>,
+    out: &mut W,
+    reasons: &mut Reasons<'a>,
+) -> Outcome
+    ensures { Obeys (asked_by_plan invocation.entry) (T.file context.now.texts.now) (T.input context.now.texts.now)
+        (W.contents out.old) (W.contents out.new) result }
+{
+    match invocation {
+        Invocation::Play {
+            audit,
+            format,
+            file,
+            verbose: _,
+        } => work_asked(context, Work::Play { audit, format }, file, out, reasons),
+        Invocation::Run {
+            audit,
+            format,
+            file,
+            verbose: _,
+        } => run_asked(context, format, audit, file, out, reasons),
+        Invocation::Explore {
+            asked,
+            states,
+            file,
+        } => explore(context, asked, states, file, out, reasons),
+        Invocation::ExploreHas {
+            given,
+            states,
+            file,
+        } => find_text(context, given, states, file, out, reasons),
+        Invocation::Policy {
+            format,
+            file,
+            verbose: _,
+        } => work_asked(context, Work::List { format }, file, out, reasons),
+        Invocation::Rules { rule } => {
+            tell_rules(context.alloc, out, context.err, rule, context.style.width)
+        }
+        Invocation::Check {
+            script,
+            format,
+            file,
+            more,
+        } => check_files(context, script, format, file, &more, out, reasons),
+        Invocation::CheckNever {
+            never,
+            format,
+            file,
+            more,
+        } => check_never_files(context, never, format, file, &more, out, reasons),
+        Invocation::Why {
+            source,
+            target,
+            permission: perm,
+            file,
+        } => {
+            let question = WhyQuestion {
+                source,
+                target,
+                perm,
+            };
+            answer(context, question, file, out, reasons)
+        }
+        Invocation::WhyEach { file } => answer_each(context, file, out, reasons),
+        Invocation::Entries {
+            version,
+            hex,
+            all,
+            script: dom,
+            format,
+            file,
+        } => {
+            let script = domain(dom);
+            let asked = DumpOptions {
+                version,
+                hex,
+                all,
+                script,
+            };
+            work_asked(context, Work::Entries { asked, format }, file, out, reasons)
+        }
+    }
+}

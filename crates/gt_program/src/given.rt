@@ -1,0 +1,125 @@
+//! Texts of further files, which a command compares with its own.
+ghost use Rattle.std.specs.Prelude.{◌≡◌, ◌≤◌, length, IfOk, IfSome};
+ghost use Rattle.std.specs.Option.{option_map};
+ghost use Rattle.gt_program.specs.Obeying.{known_input, FindsText, SeeksText, Works};
+ghost use Rattle.gt_program.specs.declared.outcome.Outcome.TheVariants.{Unknown};
+
+use crate::commands::{Context, Work, fail, work_asked};
+use crate::copying::CopyingReader;
+use crate::failure::Failure;
+use crate::outcome::Outcome;
+use crate::reasons::Reasons;
+use crate::texts::{TextSource, read_fault};
+use gt_explore::{ExploreOptions, ExploreRequest};
+use gt_text::{ReadFault, read_text};
+use gt_types::LONGEST_TEXT;
+use std::alloc::Global;
+use std::io::{Read, Write};
+
+// Returns the bytes, unless they are more than a text may have.
+fn whole(bytes: Vec<u8>) -> Result<Vec<u8>, ReadFault>
+    ensures { IfOk result (λ all. (all ≡ bytes) × (length all.items ≤ LONGEST_TEXT)) }
+{
+    if bytes.len() > LONGEST_TEXT {
+        return Err(ReadFault::Read);
+    }
+    Ok(bytes)
+}
+
+// Reads a whole text.
+fn read_up_to_limit<R: Read>(alloc: Global, reader: &mut R) -> Result<Vec<u8>, ReadFault>
+    ensures { IfOk result (λ bytes. IfSome (R.remaining reader.old) (λ all. bytes.items ≡ all)) }
+{
+    match read_text(alloc, reader) {
+        Ok(bytes) => whole(bytes),
+        Err(fault) => Err(fault),
+    }
+}
+
+/// Reads a whole text, of at most 1,048,576 bytes, and adds the reason of a fault.
+pub(crate) fn read_whole<R: Read>(
+    alloc: Global,
+    reader: &mut R,
+    reasons: &mut Reasons,
+) -> Result<Vec<u8>, ReadFault>
+    ensures { IfOk result (λ bytes. IfSome (R.remaining reader.old) (λ all. bytes.items ≡ all)) }
+{
+    let mut input = CopyingReader::new(alloc, reader);
+    let ending = read_up_to_limit(alloc, &mut input);
+    if let Err(fault) = &ending {
+        reasons.add_given(&input.kept, *fault);
+    }
+    ending
+}
+
+// Reads the whole text of the named file.
+fn read_named<R, T: TextSource, E>(
+    context: &Context<R, T, E>,
+    name: &str,
+    reasons: &mut Reasons,
+) -> Result<Vec<u8>, ReadFault>
+    ensures { IfOk result (λ bytes. IfSome (T.file context.now.texts.now name.now) (λ all. bytes.items ≡ all)) }
+{
+    match context.texts.open(name) {
+        Ok(mut file) => read_whole(context.alloc, &mut file, reasons),
+        Err(error) => {
+            reasons.add_unread(&error);
+            Err(read_fault(&error))
+        }
+    }
+}
+
+/// Reads the whole text of the named file. A failure is reported, and then there is none.
+pub(crate) fn read_given<'a, R, T: TextSource, E: Eprint>(
+    context: &Context<R, T, E>,
+    name: &'a str,
+    reasons: &mut Reasons<'a>,
+) -> Option<Vec<u8>>
+    ensures { IfSome result (λ bytes. IfSome (T.file context.now.texts.now name.entry.now) (λ all. bytes.items ≡ all)) }
+{
+    reasons.begin(Some(name));
+    match read_named(context, name, reasons) {
+        Ok(bytes) => Some(bytes),
+        Err(fault) => {
+            fail(context, Failure::File(fault), reasons);
+            None
+        }
+    }
+}
+
+// Decides whether this text is one of those of the script in the named file, or in the standard input.
+fn find_bytes<'a, R, T: TextSource, W: Write, E: Eprint>(
+    context: &Context<R, T, E>,
+    text: &[u8],
+    states: usize,
+    file: Option<&'a str>,
+    out: &mut W,
+    reasons: &mut Reasons<'a>,
+) -> Outcome
+    ensures { Works (SeeksText text.now states) Unknown
+        (known_input (T.file context.now.texts.now) (T.input context.now.texts.now) file.entry)
+        (W.contents out.old) (W.contents out.new) result }
+{
+    let request = ExploreRequest::Has(text);
+    let asked = ExploreOptions { request, states };
+    reasons.begin(file);
+    work_asked(context, Work::Explore { asked }, file, out, reasons)
+}
+
+/// Decides whether the text of a file is one of those of a script.
+pub(crate) fn find_text<'a, R, T: TextSource, W: Write, E: Eprint>(
+    context: &Context<R, T, E>,
+    given: &'a str,
+    states: usize,
+    file: Option<&'a str>,
+    out: &mut W,
+    reasons: &mut Reasons<'a>,
+) -> Outcome
+    ensures { FindsText given.entry.now states (T.file context.now.texts.now) (T.input context.now.texts.now)
+        (option_map (λ f. f.now) file.entry) (W.contents out.old) (W.contents out.new) result }
+{
+    match read_given(context, given, reasons) {
+        Some(text) => find_bytes(context, text.as_slice(), states, file, out, reasons),
+        None => Outcome::Unknown,
+    }
+}
