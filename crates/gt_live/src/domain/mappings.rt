@@ -3,12 +3,11 @@ ghost use Rattle.gt_words.specs.Conditions.{IsSameSeat};
 ghost use Rattle.gt_live.specs.Walks.{Called};
 ghost use Rattle.gt_live.specs.Driving.{Leaves};
 ghost use Rattle.gt_audit.specs.Telling.{Tells};
-ghost use Rattle.gt_audit.specs.declared.record.Reply.{Reply};
 
 use super::{Domain, known_with, refusal_of, tell_done, tell_refusal};
 use crate::driving::{drive_map, pin_of};
 use crate::monitor::Monitor;
-use gt_audit::{Hypercall, Trail};
+use gt_audit::{Hypercall, Record, Reply, Trail};
 use gt_calls::{CallResult, Handle, HeldPin, judge_map, judge_unmap};
 use gt_types::{Allows, Denial, DomId, Facts, GrantRef, Rule};
 
@@ -46,8 +45,8 @@ fn tell_unmap(trail: &mut Trail, caller: DomId, subject: Option<(DomId, GrantRef
     tell_done(trail, caller, Hypercall::Unmap { subject });
 }
 
-#[cold]
-#[inline(never)]
+// Records a refused unmap, in its place: as a call it would cost each unmap room for the refusal.
+#[inline(always)]
 fn tell_unmap_refusal(
     trail: &mut Trail,
     caller: DomId,
@@ -57,7 +56,11 @@ fn tell_unmap_refusal(
     ensures { Tells trail.old
         (record { dom = caller; call = Hypercall.Unmap subject; reply = Reply.Denied denial }) trail.new }
 {
-    tell_refusal(trail, caller, Hypercall::Unmap { subject }, denial);
+    trail.push(Record {
+        dom: caller,
+        call: Hypercall::Unmap { subject },
+        reply: Reply::Denied(denial),
+    });
 }
 
 impl Domain {
