@@ -72,6 +72,8 @@ impl Piece {
         self.records.len() == PIECE
     }
 
+    // Inlined, since the kinds of the call and of its answer are known in most callers.
+    #[inline(always)]
     fn push(&mut self, told: Record)
         requires { length self.old < PIECE }
         ensures { self.new ≡ self.old ++ told ∷ [] }

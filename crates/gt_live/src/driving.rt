@@ -2,7 +2,7 @@
 ghost use Rattle.std.specs.Prelude.{◌≡◌, None, Some, [], ◌∷◌, MatchResult};
 ghost use Rattle.gt_calls.specs.Rules.{knows, map_begun};
 ghost use Rattle.gt_calls.specs.Path.{path};
-ghost use Rattle.gt_words.specs.Conditions.{IsSeatOf, IsSameSeat};
+ghost use Rattle.gt_words.specs.Conditions.{IsSeatOf, IsSameSeat, position_at};
 ghost use Rattle.gt_live.specs.Walks.{Made, Called, ReadsBody};
 ghost use Rattle.gt_live.specs.Driving.{CanMake, Knows, Leaves};
 ghost use Rattle.gt_live.specs.Legs.{CanWalkLeg, WalksLeg, next_by};
@@ -45,7 +45,7 @@ pub(crate) fn pin_of(held: HeldPin) -> Pin
     }
 }
 
-// These functions make the steps of a leg on the words, one each.
+// These functions look at a word, one each.
 #[inline(always)]
 pub(crate) fn look_at_header(words: &Words, seat: &mut Seat, dom: DomId) -> u64
     requires seat { IsSeatOf words.now seat.old }
@@ -66,14 +66,40 @@ pub(crate) fn look_at_control(words: &Words, seat: &mut Seat, dom: DomId, gref: 
     words.load_control(seat, dom, gref)
 }
 
+// These functions make the steps of a leg, whose domain has the position `at`, one each.
 #[inline(always)]
-fn look_at_half(words: &Words, seat: &mut Seat, dom: DomId, gref: GrantRef, half: BodyWord) -> u64
+fn leg_header(words: &Words, seat: &mut Seat, leg: &Leg, at: usize) -> u64
     requires seat { IsSeatOf words.now seat.old }
-    requires can { CanMake words.now.layout seat.old.view (Step.LookBody dom gref half) }
+    requires place { at ≡ position_at words.now leg.now.dom }
+    requires can { CanMake words.now.layout seat.old.view (Step.LookHeader leg.now.dom) }
     ensures seat { IsSameSeat seat.old seat.new }
-    ensures made { Made words.now.layout (Step.LookBody dom gref half) (Observation.Word result) seat.old.view seat.new.view }
+    ensures made { Made words.now.layout (Step.LookHeader leg.now.dom) (Observation.Word result)
+        seat.old.view seat.new.view }
 {
-    words.load_body(seat, dom, gref, half)
+    words.load_header_at(seat, leg.dom, at)
+}
+
+#[inline(always)]
+fn leg_control(words: &Words, seat: &mut Seat, leg: &Leg, at: usize) -> u64
+    requires seat { IsSeatOf words.now seat.old }
+    requires place { at ≡ position_at words.now leg.now.dom }
+    requires can { CanMake words.now.layout seat.old.view (Step.LookControl leg.now.dom leg.now.gref) }
+    ensures seat { IsSameSeat seat.old seat.new }
+    ensures made { Made words.now.layout (Step.LookControl leg.now.dom leg.now.gref) (Observation.Word result)
+        seat.old.view seat.new.view }
+{
+    words.load_control_at(seat, leg.dom, leg.gref, at)
+}
+
+#[inline(always)]
+fn look_at_half(words: &Words, seat: &mut Seat, leg: &Leg, half: BodyWord, at: usize) -> u64
+    requires seat { IsSeatOf words.now seat.old }
+    requires place { at ≡ position_at words.now leg.now.dom }
+    requires can { CanMake words.now.layout seat.old.view (Step.LookBody leg.now.dom leg.now.gref half) }
+    ensures seat { IsSameSeat seat.old seat.new }
+    ensures made { Made words.now.layout (Step.LookBody leg.now.dom leg.now.gref half) (Observation.Word result) seat.old.view seat.new.view }
+{
+    words.load_body_at(seat, leg.dom, leg.gref, half, at)
 }
 
 // The body words of a try. The second is 0 unless the entry is a sub-page.
@@ -85,16 +111,17 @@ struct BodyWords {
 
 // Reads the body words of the leg's entry, whose control word is `word`: the second only of a sub-page.
 #[inline(always)]
-fn look_at_body(words: &Words, seat: &mut Seat, leg: &Leg, word: u64) -> BodyWords
+fn look_at_body(words: &Words, seat: &mut Seat, leg: &Leg, word: u64, at: usize) -> BodyWords
     requires seat { IsSeatOf words.now seat.old }
+    requires place { at ≡ position_at words.now leg.now.dom }
     requires can { CanMake words.now.layout seat.old.view (Step.LookBody leg.now.dom leg.now.gref BodyWord.First) }
     ensures seat { IsSameSeat seat.old seat.new }
     ensures read { ReadsBody words.now.layout leg.now word result.first result.second seat.old.view seat.new.view }
 {
-    let first = look_at_half(words, seat, leg.dom, leg.gref, BodyWord::First);
+    let first = look_at_half(words, seat, leg, BodyWord::First, at);
     match Control::unpack(word).kind {
         EntryKind::Sub => {
-            let second = look_at_half(words, seat, leg.dom, leg.gref, BodyWord::Second);
+            let second = look_at_half(words, seat, leg, BodyWord::Second, at);
             BodyWords { first, second }
         }
         _ => BodyWords { first, second: 0 },
@@ -102,22 +129,19 @@ fn look_at_body(words: &Words, seat: &mut Seat, leg: &Leg, word: u64) -> BodyWor
 }
 
 #[inline(always)]
-fn take_pin(words: &Words, seat: &mut Seat, held: &HeldPin) -> Result<(), u64>
+fn take_pin(words: &Words, seat: &mut Seat, held: &HeldPin, at: usize) -> Result<(), u64>
     requires seat { IsSeatOf words.now seat.old }
+    requires place { at ≡ position_at words.now held.now.dom }
     requires can { CanMake words.now.layout seat.old.view (Step.Pin held.now) }
     ensures seat { IsSameSeat seat.old seat.new }
     ensures made { MatchResult result
         (λ _. Made words.now.layout (Step.Pin held.now) Observation.Taken seat.old.view seat.new.view)
         (λ n. Made words.now.layout (Step.Pin held.now) (Observation.Missed n) seat.old.view seat.new.view) }
 {
-    match words.pin(seat, held.dom, held.gref, held.word, held.dir) {
-        Ok(_) => Ok(()),
-        Err(found) => Err(found),
-    }
+    words.pin_at(seat, held.dom, held.gref, held.word, held.dir, at)
 }
 
-// Walks a leg to its pin, or to its refusal. Most calls of a run are maps and copies, so the steps are written out here
-// instead of asked of a machine.
+// Walks a leg to its pin, or to its refusal. Its steps are made at the position of its domain, which is found once.
 #[inline(always)]
 pub(crate) fn walk_leg(words: &Words, seat: &mut Seat, leg: &Leg) -> Result<HeldPin, Denial>
     requires seat { IsSeatOf words.now seat.old }
@@ -125,27 +149,41 @@ pub(crate) fn walk_leg(words: &Words, seat: &mut Seat, leg: &Leg) -> Result<Held
     ensures seat { IsSameSeat seat.old seat.new }
     ensures walked { WalksLeg words.now.layout leg.now seat.old.view (next_by result) seat.new.view }
 {
-    let header = look_at_header(words, seat, leg.dom);
+    let at = words.position(seat, leg.dom);
+    walk_leg_at(words, seat, leg, at)
+}
+
+// Walks a leg whose domain has the position `at`. Most calls of a run are maps and copies, so the steps are written out
+// here instead of asked of a machine.
+#[inline(always)]
+fn walk_leg_at(words: &Words, seat: &mut Seat, leg: &Leg, at: usize) -> Result<HeldPin, Denial>
+    requires seat { IsSeatOf words.now seat.old }
+    requires place { at ≡ position_at words.now leg.now.dom }
+    requires can { CanWalkLeg words.now.layout leg.now seat.old.view }
+    ensures seat { IsSameSeat seat.old seat.new }
+    ensures walked { WalksLeg words.now.layout leg.now seat.old.view (next_by result) seat.new.view }
+{
+    let header = leg_header(words, seat, leg, at);
     if !has_entry(leg, header) {
         return Err(header_refusal(leg.dom, header));
     }
     let mut more = MORE_TRIES;
     'tries: loop {
-        let word = look_at_control(words, seat, leg.dom, leg.gref);
+        let word = leg_control(words, seat, leg, at);
         if let Some(rule) = judge_control(leg, word) {
             return Err(entry_refusal(leg.dom, leg.gref, rule, word));
         }
-        let body = look_at_body(words, seat, leg, word);
+        let body = look_at_body(words, seat, leg, word, at);
         let held = pinned(leg, word, body.first, body.second);
         let found = match judge_words(leg, word, body.first, body.second) {
             Some(rule) => {
-                let found = look_at_control(words, seat, leg.dom, leg.gref);
+                let found = leg_control(words, seat, leg, at);
                 if found == word {
                     return Err(entry_refusal(leg.dom, leg.gref, rule, word));
                 }
                 found
             }
-            None => match take_pin(words, seat, &held) {
+            None => match take_pin(words, seat, &held, at) {
                 Ok(()) => return Ok(held),
                 Err(found) => found,
             },

@@ -15,6 +15,7 @@
 //! (receipts and writs), `gt_entry` (the words) and `gt_roster` (domains by their numbers).
 #![tactic(auto)]
 
+mod at_position;
 mod calls;
 mod flags;
 mod frames;

@@ -186,9 +186,10 @@ impl Words {
         }
     }
 
-    // Finds the position of a domain, by a search only if it is not the last one looked up.
+    /// Finds the position of a domain, by a search only if it is not the last one looked up. Steps that follow one
+    /// another on a domain are made at its position (`load_control_at` and the like).
     #[inline(always)]
-    pub(crate) fn position(&self, seat: &mut Seat, dom: DomId) -> usize
+    pub fn position(&self, seat: &mut Seat, dom: DomId) -> usize
         requires { IsSeatOf self.now seat.old }
         ensures position { result ≡ position_at self.now dom }
         ensures seat { seat.new ≡ seat.old }
@@ -210,7 +211,7 @@ impl Words {
         ensures look { LooksAtHeader self.now.layout (position_at self.now dom) result seat.old.view seat.new.view }
     {
         let at = self.position(seat, dom);
-        calls::load_header(&self.words, &mut seat.place, at)
+        self.load_header_at(seat, dom, at)
     }
 
     /// Stores the owner's header.
@@ -268,11 +269,8 @@ impl Words {
             seat.old.view seat.new.view }
         ensures own { dom ≡ seat.old.dom → IsWordOf (last_of gref.0 seat.new.view) result }
     {
-        let at = EntryAt {
-            position: self.position(seat, dom),
-            gref: gref.0 as usize,
-        };
-        calls::load_control(&self.words, &mut seat.place, at)
+        let at = self.position(seat, dom);
+        self.load_control_at(seat, dom, gref, at)
     }
 
     /// Loads a body word of an entry.
@@ -284,11 +282,8 @@ impl Words {
         ensures look { LooksAtBody self.now.layout (position_at self.now dom) gref.0 half result
             seat.old.view seat.new.view }
     {
-        let at = EntryAt {
-            position: self.position(seat, dom),
-            gref: gref.0 as usize,
-        };
-        calls::load_body(&self.words, &mut seat.place, at, half)
+        let at = self.position(seat, dom);
+        self.load_body_at(seat, dom, gref, half, at)
     }
 
     /// Takes a pin by one exchange from `looked`, the control word of the seat's last look. The seat has read the body
@@ -316,11 +311,8 @@ impl Words {
             seat.old.view seat.new.view) }
         ensures counted { CountsPins self.now.layout (position_at self.now dom) gref.0 dir }
     {
-        let at = EntryAt {
-            position: self.position(seat, dom),
-            gref: gref.0 as usize,
-        };
-        calls::pin(&self.words, &mut seat.place, at, looked, dir)?;
+        let at = self.position(seat, dom);
+        self.pin_at(seat, dom, gref, looked, dir, at)?;
         Ok(Pin {
             dom,
             gref,

@@ -2,17 +2,69 @@
 ghost use Rattle.gt_words.specs.Conditions.{IsSameSeat};
 ghost use Rattle.gt_live.specs.Walks.{Called};
 ghost use Rattle.gt_live.specs.Driving.{Leaves};
+ghost use Rattle.gt_audit.specs.Telling.{Tells};
 
-use super::{Domain, known_with, outcome_reply, refusal_of};
+use super::{Domain, known_with, refusal_of, tell_done, tell_refusal};
 use crate::driving::{drive_map, pin_of};
 use crate::monitor::Monitor;
-use gt_audit::{Hypercall, Record};
+use gt_audit::{Hypercall, Record, Reply, Trail};
 use gt_calls::{CallResult, Handle, HeldPin, judge_map, judge_unmap};
 use gt_types::{Allows, Denial, DomId, Facts, GrantRef, Rule};
 
+// Records a map that was Ok. The record of a refused one is made in another function, so that a map that is Ok makes
+// neither it nor room for it.
+#[inline(always)]
+fn tell_map(trail: &mut Trail, caller: DomId, dom: DomId, gref: GrantRef, flags: u32)
+    ensures { Tells trail.old (record { dom = caller; call = Hypercall.Map dom gref flags; reply = Reply.Done })
+        trail.new }
+{
+    tell_done(trail, caller, Hypercall::Map { dom, gref, flags });
+}
+
+#[cold]
+#[inline(never)]
+fn tell_map_refusal(
+    trail: &mut Trail,
+    caller: DomId,
+    dom: DomId,
+    gref: GrantRef,
+    flags: u32,
+    denial: Denial,
+)
+    ensures { Tells trail.old
+        (record { dom = caller; call = Hypercall.Map dom gref flags; reply = Reply.Denied denial }) trail.new }
+{
+    tell_refusal(trail, caller, Hypercall::Map { dom, gref, flags }, denial);
+}
+
+// Records an unmap that was Ok.
+#[inline(always)]
+fn tell_unmap(trail: &mut Trail, caller: DomId, subject: Option<(DomId, GrantRef)>)
+    ensures { Tells trail.old (record { dom = caller; call = Hypercall.Unmap subject; reply = Reply.Done }) trail.new }
+{
+    tell_done(trail, caller, Hypercall::Unmap { subject });
+}
+
+// Records a refused unmap, in its place: as a call it would cost each unmap room for the refusal.
+#[inline(always)]
+fn tell_unmap_refusal(
+    trail: &mut Trail,
+    caller: DomId,
+    subject: Option<(DomId, GrantRef)>,
+    denial: Denial,
+)
+    ensures { Tells trail.old
+        (record { dom = caller; call = Hypercall.Unmap subject; reply = Reply.Denied denial }) trail.new }
+{
+    trail.push(Record {
+        dom: caller,
+        call: Hypercall::Unmap { subject },
+        reply: Reply::Denied(denial),
+    });
+}
+
 impl Domain {
     ghost use Rattle.std.specs.Prelude.{◌≡◌, OnOk, OnErr, None, Some};
-    ghost use Rattle.gt_audit.specs.Telling.{Tells};
     ghost use Rattle.gt_live.specs.Domains.{mapping_reply, subject_of, told_of, Answered, BelongsTo};
     ghost use Rattle.gt_live.specs.Domains.{IsUnsettled, KeepsPinned, MapAnswered};
     ghost use Rattle.gt_live.specs.Maps.{pin_effect, pin_verdict};
@@ -25,6 +77,7 @@ impl Domain {
     ghost use Rattle.gt_calls.specs.declared.held.HeldPin.{HeldPin};
 
     // Drives a map to its end. Requires that it is not decided at its beginning.
+    #[inline(always)]
     fn drive_map<P: Allows>(
         &mut self,
         monitor: &Monitor<P>,
@@ -55,6 +108,7 @@ impl Domain {
     }
 
     // Maps an entry, without a record.
+    #[inline(always)]
     fn make_mapping<P: Allows>(
         &mut self,
         monitor: &Monitor<P>,
@@ -103,12 +157,17 @@ impl Domain {
             (record { dom = self.old.seat.dom; call = Hypercall.Map dom gref flags; reply = mapping_reply result })
             self.new.trail }
     {
-        let result = self.make_mapping(monitor, dom, gref, flags);
-        let call = Hypercall::Map { dom, gref, flags };
-        let dom = self.seat.dom();
-        let reply = outcome_reply(&result);
-        self.trail.push(Record { dom, call, reply });
-        result
+        let caller = self.seat.dom();
+        match self.make_mapping(monitor, dom, gref, flags) {
+            Ok(handle) => {
+                tell_map(&mut self.trail, caller, dom, gref, flags);
+                Ok(handle)
+            }
+            Err(denial) => {
+                tell_map_refusal(&mut self.trail, caller, dom, gref, flags, denial);
+                Err(denial)
+            }
+        }
     }
 
     // Returns the result of a map, if it is decided at its beginning.
@@ -134,6 +193,7 @@ impl Domain {
     }
 
     // Unmaps a mapping, without a record.
+    #[inline(always)]
     fn unmap_unrecorded<P: Allows>(
         &mut self,
         monitor: &Monitor<P>,
@@ -169,12 +229,17 @@ impl Domain {
         ensures told { Tells self.old.trail
             (told_of self.old (Hypercall.Unmap (subject_of self.old handle)) (verdict_of result)) self.new.trail }
     {
+        let caller = self.seat.dom();
         let subject = self.subject(handle);
-        let result = self.unmap_unrecorded(monitor, handle);
-        let call = Hypercall::Unmap { subject };
-        let dom = self.seat.dom();
-        let reply = outcome_reply(&result);
-        self.trail.push(Record { dom, call, reply });
-        result
+        match self.unmap_unrecorded(monitor, handle) {
+            Ok(()) => {
+                tell_unmap(&mut self.trail, caller, subject);
+                Ok(())
+            }
+            Err(denial) => {
+                tell_unmap_refusal(&mut self.trail, caller, subject, denial);
+                Err(denial)
+            }
+        }
     }
 }

@@ -2,7 +2,7 @@ use Rattle.gt_calls.specs.declared.leg.LegNext.TheVariants.{Going}
 use Rattle.gt_calls.specs.declared.leg.LegPhase.TheVariants.{Look}
 use Rattle.gt_words.specs.Conditions.{IsSeatOf, IsSameSeat}
 use Rattle.gt_live.specs.Legs.{WalksLeg}
-use Rattle.gt_live.proofs.driving.walk_leg.Given as goal
+use Rattle.gt_live.proofs.driving.walk_leg_at.Given as goal
 
 abbrev pub invariant-tries : goal.invariant-tries
 invariant-tries l = record {

@@ -1,0 +1,104 @@
+//! Steps on the words of a domain whose position is known. Several of them look the domain up only once.
+ghost use Rattle.std.specs.Prelude.{◌≡◌, MatchResult};
+ghost use Rattle.gt_word_history.specs.Views.{last_of};
+ghost use Rattle.gt_words.specs.Conditions.{CanPin, CountsPins, HasDomain, IsEntryOf, IsSameSeat, IsSeatOf, IsWordOf};
+ghost use Rattle.gt_words.specs.Conditions.{position_at};
+ghost use Rattle.gt_words.specs.Answers.{LooksAtBody, LooksAtControl, LooksAtHeader, MissesPin, Pins};
+
+use crate::calls;
+use crate::words::{Seat, Words};
+use gt_entry::BodyWord;
+use gt_types::{Dir, DomId, GrantRef};
+use gt_word_history::EntryAt;
+
+impl Words {
+    /// Loads the header word of a domain at its position `at`.
+    #[inline(always)]
+    pub fn load_header_at(&self, seat: &mut Seat, dom: DomId, at: usize) -> u64
+        requires seat { IsSeatOf self.now seat.old }
+        requires place { at ≡ position_at self.now dom }
+        requires domain { HasDomain self.now.layout dom }
+        ensures seat { IsSameSeat seat.old seat.new }
+        ensures fits { IsSeatOf self.now seat.new }
+        ensures look { LooksAtHeader self.now.layout (position_at self.now dom) result seat.old.view seat.new.view }
+    {
+        calls::load_header(&self.words, &mut seat.place, at)
+    }
+
+    /// Loads the control word of an entry of a domain at its position `at`.
+    #[inline(always)]
+    pub fn load_control_at(&self, seat: &mut Seat, dom: DomId, gref: GrantRef, at: usize) -> u64
+        requires seat { IsSeatOf self.now seat.old }
+        requires place { at ≡ position_at self.now dom }
+        requires entry { IsEntryOf self.now dom gref }
+        ensures seat { IsSameSeat seat.old seat.new }
+        ensures fits { IsSeatOf self.now seat.new }
+        ensures look { LooksAtControl self.now.layout (position_at self.now dom) gref.0 result
+            seat.old.view seat.new.view }
+        ensures own { dom ≡ seat.old.dom → IsWordOf (last_of gref.0 seat.new.view) result }
+    {
+        let entry = EntryAt {
+            position: at,
+            gref: gref.0 as usize,
+        };
+        calls::load_control(&self.words, &mut seat.place, entry)
+    }
+
+    /// Loads a body word of an entry of a domain at its position `at`.
+    #[inline(always)]
+    pub fn load_body_at(
+        &self,
+        seat: &mut Seat,
+        dom: DomId,
+        gref: GrantRef,
+        half: BodyWord,
+        at: usize,
+    ) -> u64
+        requires seat { IsSeatOf self.now seat.old }
+        requires place { at ≡ position_at self.now dom }
+        requires entry { IsEntryOf self.now dom gref }
+        ensures seat { IsSameSeat seat.old seat.new }
+        ensures fits { IsSeatOf self.now seat.new }
+        ensures look { LooksAtBody self.now.layout (position_at self.now dom) gref.0 half result
+            seat.old.view seat.new.view }
+    {
+        let entry = EntryAt {
+            position: at,
+            gref: gref.0 as usize,
+        };
+        calls::load_body(&self.words, &mut seat.place, entry, half)
+    }
+
+    /// Takes a pin like `pin`, of an entry of a domain at its position `at`.
+    ///
+    /// # Errors
+    /// The word found, if it is not `looked`. No pin was taken.
+    #[inline(always)]
+    pub fn pin_at(
+        &self,
+        seat: &mut Seat,
+        dom: DomId,
+        gref: GrantRef,
+        looked: u64,
+        dir: Dir,
+        at: usize,
+    ) -> Result<(), u64>
+        requires seat { IsSeatOf self.now seat.old }
+        requires place { at ≡ position_at self.now dom }
+        requires entry { IsEntryOf self.now dom gref }
+        requires can { CanPin self.now.layout (position_at self.now dom) gref.0 dir looked seat.old.view }
+        ensures seat { IsSameSeat seat.old seat.new }
+        ensures fits { IsSeatOf self.now seat.new }
+        ensures step { MatchResult result
+            (λ _. Pins self.now.layout (position_at self.now dom) gref.0 dir looked seat.old.view seat.new.view)
+            (λ n. MissesPin self.now.layout (position_at self.now dom) gref.0 dir looked n
+            seat.old.view seat.new.view) }
+        ensures counted { CountsPins self.now.layout (position_at self.now dom) gref.0 dir }
+    {
+        let entry = EntryAt {
+            position: at,
+            gref: gref.0 as usize,
+        };
+        calls::pin(&self.words, &mut seat.place, entry, looked, dir)
+    }
+}
