@@ -11,7 +11,7 @@ use Rattle.gt_run.specs.Printing.{texts_in}
 use Rattle.gt_run.specs.Runs.{AreOf}
 use Rattle.gt_run.specs.Serving.{gate_line}
 use Rattle.gt_explore_replay.specs.Orders.{MayGive}
-use Rattle.gt_order.specs.Texts.{IsOrderly}
+use Rattle.gt_order.specs.Texts.{MayLeave}
 
 -- the call got no memory
 abbrev pub IsStarved : ListOutcome → Type 0
@@ -31,5 +31,5 @@ abbrev pub RunsAreExplored : Type 0
 RunsAreExplored =
     (c : RunContents) (logged : Bool) (duties : List (ThreadJob ScriptRights)) (old new : Option (List ℕ))
     → (of : AreOf c logged duties) → (wrote : WritesAll may_by duties old new)
-    → All (IsOrderly may_by of.monitor) wrote.0 → All EndsAtNoGate wrote.0 → All HasNoneLost wrote.0
+    → All (MayLeave may_by of.monitor) wrote.0 → All EndsAtNoGate wrote.0 → All HasNoneLost wrote.0
     → MayGive c (texts_in wrote.0)

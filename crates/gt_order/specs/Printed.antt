@@ -22,7 +22,7 @@ use Rattle.gt_run.specs.Serving.{IsAwait, gate_line}
 use Rattle.gt_explore_replay.specs.Orders.{DeedHappens, FlagsAreRaised, GivesMappingsBack, Happening, MayGive, Prints}
 use Rattle.gt_explore_replay.specs.Orders.{doer, events_in, own_happenings, trace_in}
 use Rattle.gt_order.specs.Explored.{IsStarved}
-use Rattle.gt_order.specs.Texts.{IsOrderly}
+use Rattle.gt_order.specs.Texts.{MayLeave}
 
 -- the answer of a call that got no memory
 abbrev pub no_memory : Answer
@@ -102,7 +102,7 @@ abbrev pub RunsArePrinted : Type 0
 RunsArePrinted =
     (c : RunContents) (logged : Bool) (duties : List (ThreadJob ScriptRights)) (old new : Option (List ℕ))
     → (of : AreOf c logged duties) → (wrote : WritesAll may_by duties old new)
-    → All (IsOrderly may_by of.monitor) wrote.0 → All CopiesGetMemory wrote.0 → MayPrint c (texts_in wrote.0)
+    → All (MayLeave may_by of.monitor) wrote.0 → All CopiesGetMemory wrote.0 → MayPrint c (texts_in wrote.0)
 
 -- a text that `explore` lists is one that a run may print
 abbrev pub GivenTextsArePrinted : Type 0
