@@ -43,14 +43,14 @@ use Rattle.gt_order.specs.Printed.{Leaves, no_memory}
 use Rattle.gt_order.specs.Leaving.{AreUnmaps}
 use Rattle.gt_order.specs.Ordering.{AreOnRaisedFlags, IsLegalOrder, RunOrder, events_of, items_in, order_of_deeds, own_in, trace_of}
 use Rattle.gt_order.specs.Ordering.Occurrence.{OfFlag}
-use Rattle.gt_order.specs.Runs.{AreDeeds, CallMade, Deed, FitsTypes, FlagMade, IsAtRest, IsMonitorRun, IsSeatRun}
+use Rattle.gt_order.specs.Runs.{AreDeeds, CallMade, Deed, FlagMade, IsAtRest, IsMonitorRun, IsSeatRun}
 use Rattle.gt_order.specs.Runs.{SeatRun, domain_after}
 use Rattle.gt_order.specs.Runs.Deed.{Call, OnFlag}
 use Rattle.gt_script_lines.specs.declared.calls.ScriptCall.{ScriptCall}
 use Rattle.gt_host.specs.Printing.{answer_line}
-use Rattle.gt_host.specs.Runs.{SaysRequest, Named}
+use Rattle.gt_host.specs.Runs.{Named}
 use Rattle.gt_script.specs.RunScripts.{list_of}
-use Rattle.gt_explore_replay.specs.Orders.{DeedHappens, FollowsList, Happening, given_up, held_after, passed, raised}
+use Rattle.gt_explore_replay.specs.Orders.{DeedHappens, Happening, given_up, held_after, passed, raised}
 use Rattle.gt_script.specs.Lists.{RunAction, RunTask}
 use Rattle.gt_script.specs.Stuck.{IsBelow}
 use Rattle.gt_script.specs.declared.tasks.RunActionBy.TheVariants.{Await, Do, Tell}

@@ -1,6 +1,6 @@
 -- What a line asks fits its types.
 use Rattle.std.proofs.Common.{◌≡◌, ◌<◌, ◌^◌, ◌==◌, ◌%◌, ℕ, zero, suc, refl, Bool, true, false, List, [], ◌∷◌, length, drop, All}
-use Rattle.std.proofs.Common.{Option, Some, None, Ok, Err, Result, sym, arith, subst, Bor, codes}
+use Rattle.std.proofs.Common.{Ok, Err, Result, sym, arith, subst, Bor, codes}
 use Rattle.std.proofs.lemmas.List.Elements.{All-from_get_or}
 use Rattle.std.specs.Prelude.{if◌then◌else◌}
 use Rattle.std.specs.Result.{result_unwrap_or}

@@ -1,14 +1,14 @@
 -- The lists of a run, and the legal order whose answers they print, bytes too.
-use Rattle.std.specs.Prelude.{◌≡◌, ◌⊎◌, ℕ, ◌<◌, ◌==◌, true, All, List, [], ◌∷◌, ◌++◌, length, map, Option, Some}
+use Rattle.std.specs.Prelude.{◌≡◌, ◌⊎◌, ℕ, ◌<◌, All, List, [], ◌∷◌, ◌++◌, length, map, Option, Some}
 use Rattle.std.specs.Prelude.{slice_get}
 use Rattle.gt_order.specs.RunNames.{some, get_elem?, State, Config, Denial, Board, StepHistory, Shows, id_at}
 use Rattle.gt_order.specs.Prelude.{IsWithinLimits, N26, NoFacts, denial_of}
 use Rattle.gt_order.specs.RunNames.{IsAmong}
-use Rattle.gt_order.specs.RunNames.{View, Request, answer_of, Answer, AllowRelation, HasLeft}
+use Rattle.gt_order.specs.RunNames.{View, answer_of, Answer, AllowRelation, HasLeft}
 use Rattle.gt_order.specs.RunNames.{Domain, Departed, Monitor, AreUnmaps, MayUnmapAll, IsLegalOrder, CallMade}
 use Rattle.gt_order.specs.RunNames.{Await, Call, Deed, FlagMade, FlagStep, OnFlag, Passed, Raised, RunAction, RunOrder, Tell}
-use Rattle.gt_order.specs.RunNames.{FitsTypes, CallOutcome, SeatRun, Told, Kept, Starved, Read, Wrote, ScriptCall}
-use Rattle.gt_order.specs.RunNames.{SaysRequest, Named, Do, RunTask, ThreadJob, Served, WasServed, WritesAll, MakesCall}
+use Rattle.gt_order.specs.RunNames.{CallOutcome, SeatRun, Told, Kept, Starved, Read, Wrote, ScriptCall}
+use Rattle.gt_order.specs.RunNames.{Do, RunTask, ThreadJob, Served, WasServed, WritesAll, MakesCall}
 use Rattle.gt_order.specs.RunNames.{ListOutcome, ListProgress}
 use Rattle.gt_core.specs.declared.trace.Answer.TheVariants as answers
 use Rattle.gt_shared_table.specs.Words.{frames_kept}
