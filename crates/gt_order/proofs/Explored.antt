@@ -8,7 +8,6 @@ use Rattle.gt_types.specs.declared.denial.Rule.TheVariants.{N16, N26}
 use Rattle.std.specs.Prelude.{is_some}
 use Rattle.std.proofs.lemmas.List.{get_or-map, length-map}
 use Rattle.std.proofs.lemmas.List.Elements.{All-get_or, All-head, All-tail, All-weaker}
-use Rattle.gt_types.specs.Config.{IsWithinLimits}
 use Rattle.gt_types.specs.Names.{domain_of}
 use Rattle.gt_types.specs.declared.DomId.{DomId}
 use Rattle.gt_types.specs.declared.config.DomainConfig.{DomainConfig}
@@ -41,7 +40,7 @@ use Rattle.gt_order.proofs.Served.{Serves, follows-list, prints-list}
 use Rattle.gt_order.specs.Explored.{EndsAtNoGate, HasNoneLost, RunsAreExplored}
 use Rattle.gt_order.specs.Ordering.{events_of, items_in, own_in}
 use Rattle.gt_order.specs.Printed.{AllPrint, CopiesGetMemory, MayPrint, PrintsList, RunsArePrinted}
-use Rattle.gt_order.specs.Texts.{HasAllFrames, HasWholeCopies, IsMadeWhole, IsOrderly}
+use Rattle.gt_order.specs.Texts.{HasAllFrames, HasWholeCopies, IsMadeWhole, MayLeave}
 
 -- each domain follows its list
 all-follow : (c : RunContents) (hs : List Happening) (ds : List DomainConfig) (all : List (Served ScriptRights)) → length ds ≡ length all
@@ -78,8 +77,8 @@ all-among Is [] all x is = absurd is
 all-among Is (y ∷ ys) all x (inl e) = subst Is (sym e) (All-head Is y ys all)
 all-among Is (y ∷ ys) all x (inr is) = all-among Is ys (All-tail Is y ys all) x is
 
-module _ (c : RunContents) (logged : Bool) (x : Served ScriptRights) (xs : List (Served ScriptRights)) (of : AreOf c logged (duties_in (x ∷ xs))) (limits : IsWithinLimits of.monitor.config)
-    (are : AreServed may_by (x ∷ xs)) (one : ShowOneState (x ∷ xs)) (orderly : All (IsOrderly may_by of.monitor) (x ∷ xs)) (gets : All CopiesGetMemory (x ∷ xs)) where
+module _ (c : RunContents) (logged : Bool) (x : Served ScriptRights) (xs : List (Served ScriptRights)) (of : AreOf c logged (duties_in (x ∷ xs)))
+    (are : AreServed may_by (x ∷ xs)) (one : ShowOneState (x ∷ xs)) (leave : All (MayLeave may_by of.monitor) (x ∷ xs)) (gets : All CopiesGetMemory (x ∷ xs)) where
   abbrev m : Monitor ScriptRights
   m = of.monitor
 
@@ -141,8 +140,8 @@ module _ (c : RunContents) (logged : Bool) (x : Served ScriptRights) (xs : List 
       (All-get_or (λ (d : ThreadJob ScriptRights). d.monitor.now ≡ m) (duties_in (x ∷ xs)) i s.duty inside on) in
       copies-whole (get_or (x ∷ xs) i s) (subst (λ (n : Monitor ScriptRights). HasAllFrames n) (sym here) of.frames) (gets i s l)
 
-  all : FollowsAll may_by m x xs on ids are one orderly copies
-  all = follows-all may_by m x xs on ids are one orderly copies limits
+  all : FollowsAll may_by m x xs on ids are one leave copies
+  all = follows-all may_by m x xs on ids are one leave copies of.limits
 
   numbered : AreFlagsOf m c.tasks
   numbered task is = all-among (λ (t : RunTask). IsBelow m.words.flags t.deed) c.tasks of.flags task is
@@ -194,11 +193,11 @@ copies-get : (served : List (Served ScriptRights)) → All HasNoneLost served �
 copies-get served whole i s l task call o is-in does among line copy starved = whole i s l o among starved
 
 -- a run of a script has a domain
-none-run : (c : RunContents) (logged : Bool) (duties : List (ThreadJob ScriptRights)) (of : AreOf c logged duties) → IsWithinLimits of.monitor.config → [] ≡ duties → ⊥
-none-run c logged duties of limits same = none (ap (map (λ (d : ThreadJob ScriptRights). d.part)) same ∙ of.duties_are.0)
+none-run : (c : RunContents) (logged : Bool) (duties : List (ThreadJob ScriptRights)) (of : AreOf c logged duties) → [] ≡ duties → ⊥
+none-run c logged duties of same = none (ap (map (λ (d : ThreadJob ScriptRights). d.part)) same ∙ of.duties_are.0)
   where
     none : [] ≡ of.parts → ⊥
-    none e = let some = limits.some in let l = ap length (ap (map (λ (p : DomainPart). p.dom)) e ∙ of.of_script.0) in let k = length-map c.head.domains (λ (d : DomainConfig). d.id) in let j = ap length of.domains in omega (arith, some, l, k, j)
+    none e = let some = of.limits.some in let l = ap length (ap (map (λ (p : DomainPart). p.dom)) e ∙ of.of_script.0) in let k = length-map c.head.domains (λ (d : DomainConfig). d.id) in let j = ap length of.domains in omega (arith, some, l, k, j)
 
 abbrev of-lists : (c : RunContents) (logged : Bool) (duties : List (ThreadJob ScriptRights)) (served : List (Served ScriptRights)) → duties_in served ≡ duties → AreOf c logged duties → AreOf c logged (duties_in served)
 of-lists c logged duties served same of = record {
@@ -206,6 +205,7 @@ of-lists c logged duties served same of = record {
   of_script = of.of_script;
   monitor = of.monitor;
   domains = of.domains;
+  limits = of.limits;
   generation = of.generation;
   rights = of.rights;
   flags = of.flags;
@@ -214,15 +214,15 @@ of-lists c logged duties served same of = record {
 }
 
 pub runs-explored : RunsAreExplored
-runs-explored c logged duties old new of limits wrote orderly passes whole = by wrote.0 wrote.1 wrote.2 wrote.3 orderly passes whole
+runs-explored c logged duties old new of wrote leave passes whole = by wrote.0 wrote.1 wrote.2 wrote.3 leave passes whole
   where
-    by : (all : List (Served ScriptRights)) → duties_in all ≡ duties → AreServed may_by all → ShowOneState all → All (IsOrderly may_by of.monitor) all → All EndsAtNoGate all → All HasNoneLost all → MayGive c (texts_in all)
-    by [] same are one orderly passes whole = absurd (none-run c logged duties of limits same)
-    by (x ∷ xs) same are one orderly passes whole = explored c logged x xs (of-lists c logged duties (x ∷ xs) same of) limits are one orderly (copies-get (x ∷ xs) whole) passes whole
+    by : (all : List (Served ScriptRights)) → duties_in all ≡ duties → AreServed may_by all → ShowOneState all → All (MayLeave may_by of.monitor) all → All EndsAtNoGate all → All HasNoneLost all → MayGive c (texts_in all)
+    by [] same are one leave passes whole = absurd (none-run c logged duties of same)
+    by (x ∷ xs) same are one leave passes whole = explored c logged x xs (of-lists c logged duties (x ∷ xs) same of) are one leave (copies-get (x ∷ xs) whole) passes whole
 
 pub runs-printed : RunsArePrinted
-runs-printed c logged duties old new of limits wrote orderly gets = by wrote.0 wrote.1 wrote.2 wrote.3 orderly gets
+runs-printed c logged duties old new of wrote leave gets = by wrote.0 wrote.1 wrote.2 wrote.3 leave gets
   where
-    by : (all : List (Served ScriptRights)) → duties_in all ≡ duties → AreServed may_by all → ShowOneState all → All (IsOrderly may_by of.monitor) all → All CopiesGetMemory all → MayPrint c (texts_in all)
-    by [] same are one orderly gets = absurd (none-run c logged duties of limits same)
-    by (x ∷ xs) same are one orderly gets = printed c logged x xs (of-lists c logged duties (x ∷ xs) same of) limits are one orderly gets
+    by : (all : List (Served ScriptRights)) → duties_in all ≡ duties → AreServed may_by all → ShowOneState all → All (MayLeave may_by of.monitor) all → All CopiesGetMemory all → MayPrint c (texts_in all)
+    by [] same are one leave gets = absurd (none-run c logged duties of same)
+    by (x ∷ xs) same are one leave gets = printed c logged x xs (of-lists c logged duties (x ∷ xs) same of) are one leave gets

@@ -18,7 +18,7 @@ use Rattle.gt_host.specs.Runs.{SaysRequest, Named, handle_given, label_given, wi
 use Rattle.gt_script.specs.Lists.{RunAction, RunTask}
 use Rattle.gt_script.specs.declared.tasks.RunActionBy.TheVariants.{Do}
 use Rattle.gt_script_lines.specs.declared.calls.ScriptCall.{ScriptCall}
-use Rattle.gt_explore_replay.specs.Orders.{CallHappens, DeedHappens, FollowsList, GivesMappingsBack, Happening, Prints, given_up}
+use Rattle.gt_explore_replay.specs.Orders.{CallHappens, DeedHappens, GivesMappingsBack, Happening, Prints, given_up}
 use Rattle.gt_explore_replay.specs.Orders.{handles_without, held_after}
 use Rattle.gt_frames.specs.Receipts.{Reading}
 use Rattle.gt_words.specs.Conditions.{Board}

@@ -1,6 +1,6 @@
 -- An access that comes next in a call is to frames of the configuration, so a table with all of them is missing none.
 use Rattle.std.proofs.Common.{◌≡◌, ◌<◌, ◌==◌, ◌+◌, ℕ, zero, suc, Bool, true, false, cond, List, [], ◌∷◌, length, map, Option, Some, None}
-use Rattle.std.proofs.Common.{refl, sym, ap, ◌∙◌, subst, arith, inl, inr, nat_lt, not, get_or}
+use Rattle.std.proofs.Common.{refl, sym, ◌∙◌, subst, arith, nat_lt, not, get_or}
 use Rattle.std.specs.Prelude.{nat_le, unwrap_or}
 use Rattle.gt_words.specs.Laws.{length-ids}
 use Rattle.gt_words.specs.Prelude.{position_or_len}
@@ -12,7 +12,6 @@ use Rattle.gt_types.specs.declared.Dir.{Dir}
 use Rattle.gt_types.specs.declared.Dir.TheVariants.{Read, Write}
 use Rattle.gt_types.specs.declared.DomId.{DomId}
 use Rattle.gt_types.specs.declared.GrantRef.{GrantRef}
-use Rattle.gt_types.specs.declared.config.Config.{Config}
 use Rattle.gt_types.specs.declared.config.DomainConfig.{DomainConfig}
 use Rattle.gt_types.specs.declared.copies.CopyArgs.{CopyArgs}
 use Rattle.gt_types.specs.declared.copies.End.{End}
@@ -29,13 +28,13 @@ use Rattle.gt_entry.specs.declared.entry.Entry.TheVariants.{Invalid, Page, Sub, 
 use Rattle.gt_handles.specs.Handles.{value_of}
 use Rattle.gt_handles.specs.declared.handles.Handle.{Handle}
 use Rattle.gt_calls.proofs.Shown.{lets}
-use Rattle.gt_calls.specs.Asking.{asked, begun_of}
+use Rattle.gt_calls.specs.Asking.{begun_of}
 use Rattle.gt_calls.specs.Holding.{frame_by, frame_of, held_by, owner_by}
 use Rattle.gt_calls.specs.Opening.{OpensCopy, OpensOwn, opens}
 use Rattle.gt_calls.specs.Path.{AfterPin, AfterRefusal, Continuation, accesses, after_beginning, at_first_look, beyond}
 use Rattle.gt_calls.specs.Path.{by_mapping, copies, dest_pair, end_leg, ended, entry_refusal, exchanges, give_back, held_of}
 use Rattle.gt_calls.specs.Path.{last_step, leg, looks, makes, path_of, place_of, reaches, reads_body, refused_holding}
-use Rattle.gt_calls.specs.Path.{rule_of_try, second_leg, source_pair, steps_of, to_dest, tries, try_pin, unless_refused}
+use Rattle.gt_calls.specs.Path.{rule_of_try, second_leg, source_pair, to_dest, tries, try_pin, unless_refused}
 use Rattle.gt_calls.specs.Resting.{Lets}
 use Rattle.gt_calls.specs.Rules.{CallerKnowledge, begun, first_look, frame_count_of, frames_in, is_kind, via_judged}
 use Rattle.gt_calls.specs.declared.action.Action.TheVariants.{Step as Makes}
@@ -58,7 +57,6 @@ use Rattle.gt_calls.specs.declared.request.Request.TheVariants as requests
 use Rattle.gt_shared_table.specs.Words.{frames_kept}
 use Rattle.gt_word_history.specs.Rule.{Layout, layout_of, position_in}
 use Rattle.gt_word_history.specs.declared.view.View.{View}
-use Rattle.gt_words.specs.Conditions.{Board}
 use Rattle.gt_words.specs.Frames.{KeepsFrame}
 use Rattle.gt_live.specs.Accesses.{Accessed, HasCause, IsAccess, IsUnmade, frame_named}
 use Rattle.gt_live.specs.Domains.{AllowRelation, BelongsTo, known_on}

@@ -36,20 +36,21 @@ use Rattle.gt_order.proofs.Happenings.{happening_of, happenings, happenings-both
 use Rattle.gt_order.proofs.Held.{Keeps, keeps-new, keeps-none}
 use Rattle.gt_order.proofs.Leaving.{leaving}
 use Rattle.gt_order.proofs.Order.{runs-have-legal-orders}
+use Rattle.gt_order.proofs.Said.{said-fits}
 use Rattle.gt_order.proofs.Served.{Serves, gate-split}
 use Rattle.gt_order.specs.Explored.{IsStarved}
 use Rattle.gt_order.specs.Printed.{Leaves, no_memory}
 use Rattle.gt_order.specs.Leaving.{AreUnmaps}
 use Rattle.gt_order.specs.Ordering.{AreOnRaisedFlags, IsLegalOrder, RunOrder, events_of, items_in, order_of_deeds, own_in, trace_of}
 use Rattle.gt_order.specs.Ordering.Occurrence.{OfFlag}
-use Rattle.gt_order.specs.Runs.{AreDeeds, CallMade, Deed, FitsTypes, FlagMade, IsAtRest, IsMonitorRun, IsSeatRun}
+use Rattle.gt_order.specs.Runs.{AreDeeds, CallMade, Deed, FlagMade, IsAtRest, IsMonitorRun, IsSeatRun}
 use Rattle.gt_order.specs.Runs.{SeatRun, domain_after}
 use Rattle.gt_order.specs.Runs.Deed.{Call, OnFlag}
 use Rattle.gt_script_lines.specs.declared.calls.ScriptCall.{ScriptCall}
 use Rattle.gt_host.specs.Printing.{answer_line}
-use Rattle.gt_host.specs.Runs.{SaysRequest, Named}
+use Rattle.gt_host.specs.Runs.{Named}
 use Rattle.gt_script.specs.RunScripts.{list_of}
-use Rattle.gt_explore_replay.specs.Orders.{DeedHappens, FollowsList, Happening, given_up, held_after, passed, raised}
+use Rattle.gt_explore_replay.specs.Orders.{DeedHappens, Happening, given_up, held_after, passed, raised}
 use Rattle.gt_script.specs.Lists.{RunAction, RunTask}
 use Rattle.gt_script.specs.Stuck.{IsBelow}
 use Rattle.gt_script.specs.declared.tasks.RunActionBy.TheVariants.{Await, Do, Tell}
@@ -58,9 +59,9 @@ use Rattle.gt_run.specs.Printing.{AreServed, HasViewIn, Served, ShowOneState, Wa
 use Rattle.gt_run.specs.Serving.{DoesDeed, DoesWhere, EndsList, ListLeadsTo, MakesCall, ListOutcome, ListProgress}
 use Rattle.gt_run.specs.Serving.{answer_lines, gate_line, list_start}
 use Rattle.gt_run.specs.declared.lists.ThreadJob.{ThreadJob}
-use Rattle.gt_order.specs.Texts.{AreDeedsOf, IsFlagStepOf, AreDeedsOfList, AreMadeWhole, AreOfALegalOrder, FitsDuty, HasList}
+use Rattle.gt_order.specs.Texts.{AreDeedsOf, IsFlagStepOf, AreDeedsOfList, AreMadeWhole, AreOfALegalOrder, HasList}
 use Rattle.gt_types.specs.Config.{IsWithinLimits}
-use Rattle.gt_order.specs.Texts.{AreOfOneOrder, HasAllFrames, HasWholeCopies, IsMadeWhole, IsOrderly, IsViewOf, OutcomeGivesAnswer, RunsWriteALegalOrder}
+use Rattle.gt_order.specs.Texts.{AreOfOneOrder, HasAllFrames, HasWholeCopies, IsMadeWhole, IsViewOf, MayLeave, OutcomeGivesAnswer, RunsWriteALegalOrder}
 use Rattle.gt_order.specs.Texts.{TextsAreOfALegalOrder}
 use Rattle.gt_order.proofs.Answering.{NotLost, is-made, whole-request}
 
@@ -91,7 +92,7 @@ not-below i n e l = grind (arith, nat_tests)
 
 module _ {P : Type 0} (may : P → AllowRelation) (m : Monitor P) where
   -- a list, as far as it has come
-  module _ (duty : ThreadJob P) (over : duty.monitor.now ≡ m) (fitting : FitsDuty duty) (final : List ListOutcome) (whole : AreMadeWhole duty final) (first : Domain) (Stopped : Type 0) where
+  module _ (duty : ThreadJob P) (over : duty.monitor.now ≡ m) (final : List ListOutcome) (whole : AreMadeWhole duty final) (first : Domain) (Stopped : Type 0) where
     -- the outcomes so far stay among those at the end
     abbrev AreFinal : ListProgress → Type 0
     AreFinal p = (o : ListOutcome) → IsAmong o p.outcomes → IsAmong o final
@@ -127,13 +128,13 @@ module _ {P : Type 0} (may : P → AllowRelation) (m : Monitor P) where
       keeps : Keeps p.domain.mappings held
       follows : IsFollowed → Follows (HasStarved final) Stopped m.config (may m.rights) duty.part.types.now duty.part.dom p.named held done made (answer_lines duty.part.types.now duty.part.dom p.outcomes)
 
-    one-call : (task : RunTask) (call : ScriptCall) (done : List RunTask) (p q : ListProgress) → task.deed ≡ Do call → ((named : List Named) (request : Request) → SaysRequest named duty.part.dom call request → FitsTypes request)
+    one-call : (task : RunTask) (call : ScriptCall) (done : List RunTask) (p q : ListProgress) → task.deed ≡ Do call
         → (x : MakesCall may duty task.line call p q) → IsMadeWhole m call x.answer → (x.answer ≡ no_memory → HasStarved final) → Come done p → Come (done ++ task ∷ []) q
-    one-call task call done p q deed fits x made-whole starves come =
+    one-call task call done p q deed x made-whole starves come =
         let says = x.says in
         let asks : Asks may m p.domain x.request x.answer q.domain = subst (λ (y : Monitor P). Asks may y p.domain x.request x.answer q.domain) over x.asks in
         let not-lost : NotLost m x.request x.answer = subst (λ (z : Request). NotLost m z x.answer) (sym says.2) (whole-request m p.named duty.part.dom says.0 call x.answer made-whole) in
-        let z = is-made may m p.domain q.domain (record { before = come.mine; afterwards = asks.2.0; seat = asks.2.1 }) x.request x.answer not-lost (fits p.named x.request says) asks.1 in
+        let z = is-made may m p.domain q.domain (record { before = come.mine; afterwards = asks.2.0; seat = asks.2.1 }) x.request x.answer not-lost (said-fits call p.named duty.part.dom x.request x.fits says) asks.1 in
         let m' : CallMade = record { request = x.request; outcome = z.0; steps = z.1; old = p.domain; new = q.domain } in
         let o : ListOutcome = record { line = task.line; answer = x.answer; told = x.told; lost = x.lost } in
         let types = duty.part.types.now in let dom = duty.part.dom in
@@ -205,7 +206,7 @@ module _ {P : Type 0} (may : P → AllowRelation) (m : Monitor P) where
     one-deed task is-in own (Do call) is done p q does all come =
         let o : ListOutcome = record { line = task.line; answer = does.answer; told = does.told; lost = does.lost } in
         let there = all o (subst (IsAmong o) (sym does.outcomes) (in-last o p.outcomes)) in
-        one-call task call done p q is (fitting task call is-in own is) does (subst (λ (y : Monitor P). IsMadeWhole y call does.answer) over (whole task call o is-in is there refl)) (λ none. (o, there, none)) come
+        one-call task call done p q is does (subst (λ (y : Monitor P). IsMadeWhole y call does.answer) over (whole task call o is-in is there refl)) (λ none. (o, there, none)) come
     one-deed task is-in own (Tell flag) is done p q does all come = raising task is-in flag is done p q does.0 does.1 come
     one-deed task is-in own (Await flag) is done p q does all come =
         one-flag task is-in flag Passed (subst (λ (a : RunAction). IsFlagStepOf a flag Passed) (sym is) refl) done p q does.0 does.1 (λ types dom named held Next more text f. subst (λ (a : RunAction). DeedHappens types dom named held task.line a Next (passed dom flag ∷ more) text) (sym is) (more, refl, f)) come
@@ -279,8 +280,8 @@ module _ {P : Type 0} (may : P → AllowRelation) (m : Monitor P) where
     starts : IsNewDomain m.words m.config (may m.rights) i l.served.domain
     starts = subst (λ (p : ℕ). IsNewDomain m.words m.config (may m.rights) p l.served.domain) (stands-at i l.served.first.position l.served.domain inside fresh (l.served.first.own ∙ l.dom)) fresh
 
-    come : Come s.duty l.monitor l.fits s.outcomes l.whole l.served.domain (IsStopped s) (list_of (take l.served.number s.duty.part.tasks.now) s.duty.part.dom) l.served.left
-    come = comes s.duty l.monitor l.fits s.outcomes l.whole l.served.domain (IsStopped s) (take l.served.number s.duty.part.tasks.now) (λ t is. take-in l.served.number s.duty.part.tasks.now t is) [] (list_start l.served.domain) l.served.left l.served.leads (λ o is. subst (IsAmong o) l.served.came is)
+    come : Come s.duty l.monitor s.outcomes l.whole l.served.domain (IsStopped s) (list_of (take l.served.number s.duty.part.tasks.now) s.duty.part.dom) l.served.left
+    come = comes s.duty l.monitor s.outcomes l.whole l.served.domain (IsStopped s) (take l.served.number s.duty.part.tasks.now) (λ t is. take-in l.served.number s.duty.part.tasks.now t is) [] (list_start l.served.domain) l.served.left l.served.leads (λ o is. subst (IsAmong o) l.served.came is)
         (record {
           made = [];
           deeds_are = tt;
@@ -419,7 +420,7 @@ stays-at b c may i first (OnFlag x ∷ us) at calls = calls.0.kept.seat.position
 -- what a run wrote is the text of a legal order
 module _ {P : Type 0} (may : P → AllowRelation) (m : Monitor P) (x : Served P) (xs : List (Served P)) (on : All (λ (d : ThreadJob P). d.monitor.now ≡ m) (duties_in (x ∷ xs)))
     (ids : map (λ (d : ThreadJob P). d.part.dom) (duties_in (x ∷ xs)) ≡ map (λ (d : DomainConfig). d.id) m.config.domains.items) (are : AreServed may (x ∷ xs)) (one : ShowOneState (x ∷ xs))
-    (orderly : All (IsOrderly may m) (x ∷ xs)) (copies : All HasWholeCopies (x ∷ xs)) where
+    (leave : All (MayLeave may m) (x ∷ xs)) (copies : All HasWholeCopies (x ∷ xs)) where
   abbrev lists : ℕ → Served P
   lists i = get_or (x ∷ xs) i x
 
@@ -434,20 +435,18 @@ module _ {P : Type 0} (may : P → AllowRelation) (m : Monitor P) (x : Served P)
 
   list-at : (i : ℕ) → i < length m.config.domains.items → HasList may m i (lists i)
   list-at i l =
-      let o = All-get_or (IsOrderly may m) (x ∷ xs) i x (within i l) orderly in
       let inside : i < length (duties_in (x ∷ xs)) = omega (arith, many) in record {
         monitor = subst (λ (d : ThreadJob P). d.monitor.now ≡ m) (duty-at i l) (All-get_or (λ (d : ThreadJob P). d.monitor.now ≡ m) (duties_in (x ∷ xs)) i x.duty inside on);
         dom = ap (λ (d : ThreadJob P). d.part.dom) (sym (duty-at i l)) ∙ sym (get_or-map (λ (d : ThreadJob P). d.part.dom) (duties_in (x ∷ xs)) i x.duty (record { 0 = 0 }) inside)
             ∙ ap (λ (ys : List DomId). id_at ys i) (ids ∙ sym (ap (λ (k : Layout). k.ids) m.same_run));
         served = All-get_or (WasServed may) (x ∷ xs) i x (within i l) are;
-        fits = o.fits;
         whole = All-get_or HasWholeCopies (x ∷ xs) i x (within i l) copies;
       }
 
   left-at : (i : ℕ) (l : i < length m.config.domains.items) → IsViewOf m.words m.config (may m.rights) (list-at i l).served.left.domain (lists i).departed.seat.view
   left-at i l =
       let h = list-at i l in
-      inr ((lists i).departed, subst (λ (n : Monitor P). HasLeft n.words.layout h.served.left.domain (lists i).departed) h.monitor h.served.leaves, (All-get_or (IsOrderly may m) (x ∷ xs) i x (within i l) orderly).may_leave h.served, refl)
+      inr ((lists i).departed, subst (λ (n : Monitor P). HasLeft n.words.layout h.served.left.domain (lists i).departed) h.monitor h.served.leaves, All-get_or (MayLeave may m) (x ∷ xs) i x (within i l) leave h.served, refl)
 
   view-at : (i : ℕ) (l : i < length m.config.domains.items) → get_elem? one.0.views i ≡ some (lists i).departed.seat.view
   view-at i l =
@@ -488,13 +487,13 @@ module _ {P : Type 0} (may : P → AllowRelation) (m : Monitor P) (x : Served P)
       }
 
 pub runs-legal : {P : Type 0} (may : P → AllowRelation) (m : Monitor P) → RunsWriteALegalOrder may m
-runs-legal {P} may m duties old new limits of wrote orderly copies = by wrote.0 wrote.1 wrote.2 wrote.3 orderly copies
+runs-legal {P} may m duties old new limits of wrote leave copies = by wrote.0 wrote.1 wrote.2 wrote.3 leave copies
   where
-    by : (all : List (Served P)) → duties_in all ≡ duties → AreServed may all → ShowOneState all → All (IsOrderly may m) all → All HasWholeCopies all → AreOfOneOrder may m all
-    by [] same are one orderly copies =
+    by : (all : List (Served P)) → duties_in all ≡ duties → AreServed may all → ShowOneState all → All (MayLeave may m) all → All HasWholeCopies all → AreOfOneOrder may m all
+    by [] same are one leave copies =
         absurd (none (ap length (ap (map (λ (d : ThreadJob P). d.part.dom)) same ∙ of.1)))
       where
         none : 0 ≡ length (map (λ (d : DomainConfig). d.id) m.config.domains.items) → ⊥
         none e = let l = length-map m.config.domains.items (λ (d : DomainConfig). d.id) in let some = limits.some in omega (arith, e, l, some)
-    by (x ∷ xs) same are one orderly copies =
-        one-order may m x xs (subst (All (λ (d : ThreadJob P). d.monitor.now ≡ m)) (sym same) of.0) (ap (map (λ (d : ThreadJob P). d.part.dom)) same ∙ of.1) are one orderly copies limits
+    by (x ∷ xs) same are one leave copies =
+        one-order may m x xs (subst (All (λ (d : ThreadJob P). d.monitor.now ≡ m)) (sym same) of.0) (ap (map (λ (d : ThreadJob P). d.part.dom)) same ∙ of.1) are one leave copies limits

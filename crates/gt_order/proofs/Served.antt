@@ -1,6 +1,6 @@
 -- What a list's deeds and lines are: with the calls that got no memory and the gate that stopped it, and without.
-use Rattle.std.proofs.Common.{◌≡◌, ◌⊎◌, ◌++◌, ℕ, zero, suc, Bool, true, false, cond, List, [], ◌∷◌, Option, Some, None}
-use Rattle.std.proofs.Common.{append_assoc, refl, sym, ap, ◌∙◌, subst, inl, inr, ◌==◌}
+use Rattle.std.proofs.Common.{◌≡◌, ◌⊎◌, ◌++◌, ℕ, zero, suc, Bool, true, false, cond, List, [], ◌∷◌, Some}
+use Rattle.std.proofs.Common.{append_assoc, refl, sym, ap, ◌∙◌, inl, inr, ◌==◌}
 use Rattle.std.specs.Prelude.{slice_get, take}
 use Rattle.gt_types.specs.declared.DomId.{DomId}
 use Rattle.gt_types.specs.declared.config.DomainConfig.{DomainConfig}
@@ -14,8 +14,9 @@ use Rattle.gt_script.specs.RunScripts.{list_of}
 use Rattle.gt_script.specs.declared.tasks.RunActionBy.TheVariants.{Await, Do, Tell}
 use Rattle.gt_run.specs.Serving.{gate_line}
 use Rattle.gt_explore_replay.specs.Orders.{AllFollow, DeedHappens, FollowsList, Happening}
-use Rattle.gt_order.specs.Printed.{AllPrint, GetsNoMemory, HasPart, Leaves, PrintedTextsAreGiven, PrintsList, StopsAtGate}
-use Rattle.gt_order.specs.Printed.{TellsOfNoStop, no_memory}
+use Rattle.gt_order.specs.Printed.{AllPrint, GetsNoMemory, GivenTextsArePrinted, HasPart, Leaves, PrintedTextsAreGiven}
+use Rattle.gt_order.specs.Printed.{PrintsList, StopsAtGate}
+use Rattle.gt_order.specs.Printed.{IsUndisturbed, no_memory}
 
 -- what follows a line
 abbrev Next : Type 1
@@ -72,13 +73,13 @@ start-part : (part one rest text : List ℕ) → text ≡ one ++ rest → HasPar
 start-part part one rest text is (b, r, e) =
     (b, r ++ rest, is ∙ (ap (λ (l : List ℕ). l ++ rest) e ∙ (append_assoc b (part ++ r) rest ∙ ap (λ (l : List ℕ). b ++ l) (append_assoc part r rest))))
 
-end-tells : (types : List (List ℕ)) (rest text : List ℕ) → IsEndOf rest text → TellsOfNoStop types text → TellsOfNoStop types rest
+end-tells : (types : List (List ℕ)) (rest text : List ℕ) → IsEndOf rest text → IsUndisturbed types text → IsUndisturbed types rest
 end-tells types rest text end none = record {
   memory = λ line dom part. none.memory line dom (end-part (answer_line types line dom no_memory) rest text end part);
   gates = λ line dom part. none.gates line dom (end-part (gate_line line dom) rest text end part);
 }
 
-start-tells : (types : List (List ℕ)) (one rest text : List ℕ) → text ≡ one ++ rest → TellsOfNoStop types text → TellsOfNoStop types one
+start-tells : (types : List (List ℕ)) (one rest text : List ℕ) → text ≡ one ++ rest → IsUndisturbed types text → IsUndisturbed types one
 start-tells types one rest text is none = record {
   memory = λ line dom part. none.memory line dom (start-part (answer_line types line dom no_memory) one rest text is part);
   gates = λ line dom part. none.gates line dom (start-part (gate_line line dom) one rest text is part);
@@ -94,19 +95,34 @@ append-none [] = refl
 append-none (x ∷ xs) = ap (λ (l : List ℕ). x ∷ l) (append-none xs)
 
 module _ (types : List (List ℕ)) (dom : DomId) where
-  list-given : (ts : List RunTask) (named : List Named) (held : List Handle) (hs : List Happening) (text : List ℕ) → TellsOfNoStop types text → PrintsList types dom named held ts hs text → FollowsList types dom named held ts hs text
+  list-given : (ts : List RunTask) (named : List Named) (held : List Handle) (hs : List Happening) (text : List ℕ) → IsUndisturbed types text → PrintsList types dom named held ts hs text → FollowsList types dom named held ts hs text
   list-given [] named held hs text none s = (s.0.0, s.0.1, s.1)
   list-given (t ∷ ts) named held hs text none (inl d) = deed-map types dom named held t.line t.deed _ _ hs text (λ names holds more rest end s. list-given ts names holds more rest (end-tells types rest text end none) s) d
   list-given (t ∷ ts) named held hs text none (inr (inl d)) = absurd (none.memory t.line dom (lost-line types dom named held t.line t.deed _ hs text d))
   list-given (t ∷ ts) named held hs text none (inr (inr d)) = absurd (none.gates t.line dom ([], [], d.2 ∙ sym (append-none (gate_line t.line dom))))
 
-all-given : (c : RunContents) (hs : List Happening) (ds : List DomainConfig) (text : List ℕ) → TellsOfNoStop (type_names c.head) text → AllPrint c hs ds text → AllFollow c hs ds text
+all-given : (c : RunContents) (hs : List Happening) (ds : List DomainConfig) (text : List ℕ) → IsUndisturbed (type_names c.head) text → AllPrint c hs ds text → AllFollow c hs ds text
 all-given c hs [] text none all = all
 all-given c hs (d ∷ ds) text none (part, (rest, printed, then), list) =
     (part, (rest, printed, all-given c hs ds rest (end-tells (type_names c.head) rest text (part, printed) none) then), list-given (type_names c.head) d.id (list_of c.tasks d.id) [] [] _ part (start-tells (type_names c.head) part rest text printed none) list)
 
 pub printed-given : PrintedTextsAreGiven
 printed-given c text (hs, run) none = (hs, record { legal = run.legal; follow = all-given c hs c.head.domains text none run.print; known = run.known; flags = run.flags })
+
+-- and the other way
+
+module _ (types : List (List ℕ)) (dom : DomId) where
+  list-printed : (ts : List RunTask) (named : List Named) (held : List Handle) (hs : List Happening) (text : List ℕ) → FollowsList types dom named held ts hs text → PrintsList types dom named held ts hs text
+  list-printed [] named held hs text s = ((s.0, s.1), s.2)
+  list-printed (t ∷ ts) named held hs text d = inl (deed-map types dom named held t.line t.deed _ _ hs text (λ names holds more rest end s. list-printed ts names holds more rest s) d)
+
+all-printed : (c : RunContents) (hs : List Happening) (ds : List DomainConfig) (text : List ℕ) → AllFollow c hs ds text → AllPrint c hs ds text
+all-printed c hs [] text all = all
+all-printed c hs (d ∷ ds) text (part, (rest, printed, then), list) =
+    (part, (rest, printed, all-printed c hs ds rest then), list-printed (type_names c.head) d.id (list_of c.tasks d.id) [] [] _ part list)
+
+pub given-printed : GivenTextsArePrinted
+given-printed c text (hs, order) = (hs, record { legal = order.legal; print = all-printed c hs c.head.domains text order.follow; known = order.known; flags = order.flags })
 
 -- the lines of a domain before the one at which its list stopped, and that one
 pub gate-split : (tasks : List RunTask) (n : ℕ) (at : RunTask) (dom : DomId) → slice_get tasks n ≡ Some at → (at.dom.0 == dom.0) ≡ true → (tail : List RunTask) × (list_of tasks dom ≡ list_of (take n tasks) dom ++ at ∷ tail)

@@ -1,6 +1,6 @@
--- The text that a run writes is one that `explore` lists, if it tells of no failed allocation and no stopping gate.
+-- The text that a run writes is one that `explore` lists, if no call got no memory and no gate stopped a list.
 use Rattle.std.specs.Prelude.{◌≡◌, ◌++◌, ℕ, Bool, All, List, Option}
-use Rattle.gt_order.specs.Prelude.{IsWithinLimits, N26, NoFacts, denial_of}
+use Rattle.gt_order.specs.Prelude.{N26, NoFacts, denial_of}
 use Rattle.gt_order.specs.RunNames.{IsAmong, ThreadJob, Served, WritesAll}
 use Rattle.gt_order.specs.RunNames.{ListOutcome}
 use Rattle.gt_core.specs.declared.trace.Answer.TheVariants as answers
@@ -11,13 +11,13 @@ use Rattle.gt_run.specs.Printing.{texts_in}
 use Rattle.gt_run.specs.Runs.{AreOf}
 use Rattle.gt_run.specs.Serving.{gate_line}
 use Rattle.gt_explore_replay.specs.Orders.{MayGive}
-use Rattle.gt_order.specs.Texts.{IsOrderly}
+use Rattle.gt_order.specs.Texts.{MayLeave}
 
 -- the call got no memory
 abbrev pub IsStarved : ListOutcome → Type 0
 IsStarved o = o.answer ≡ answers.Denied (denial_of N26 NoFacts)
 
--- no call of the list is one
+-- each call of the list got its memory
 abbrev pub HasNoneLost : {P : Type 0} → Served P → Type 0
 HasNoneLost s = (o : ListOutcome) → IsAmong o s.outcomes → IsStarved o → ⊥
 
@@ -30,7 +30,6 @@ EndsAtNoGate s = (before : List ℕ) (line : ℕ) → s.text ≡ before ++ gate_
 abbrev pub RunsAreExplored : Type 0
 RunsAreExplored =
     (c : RunContents) (logged : Bool) (duties : List (ThreadJob ScriptRights)) (old new : Option (List ℕ))
-    → (of : AreOf c logged duties) → IsWithinLimits of.monitor.config
-    → (wrote : WritesAll may_by duties old new) → All (IsOrderly may_by of.monitor) wrote.0
-    → All EndsAtNoGate wrote.0 → All HasNoneLost wrote.0
+    → (of : AreOf c logged duties) → (wrote : WritesAll may_by duties old new)
+    → All (MayLeave may_by of.monitor) wrote.0 → All EndsAtNoGate wrote.0 → All HasNoneLost wrote.0
     → MayGive c (texts_in wrote.0)

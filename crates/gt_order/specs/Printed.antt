@@ -1,8 +1,9 @@
--- The texts that a run of a script may write: those of `explore`, and those that tell of failed allocations and of gates.
+-- The texts that a run of a script may print: those that `explore` lists, and those in which a call got no memory or a
+-- gate stopped a list.
 use Rattle.std.specs.Prelude.{◌≡◌, ◌≢◌, ◌⊎◌, ◌++◌, ℕ, Bool, All, List, [], ◌∷◌, Option, None}
 use Rattle.gt_types.specs.Names.{domain_of}
 use Rattle.gt_types.specs.declared.config.DomainConfig.{DomainConfig}
-use Rattle.gt_order.specs.Prelude.{DomId, Handle, IsWithinLimits, Legal, N26, NoFacts, Request, denial_of}
+use Rattle.gt_order.specs.Prelude.{DomId, Handle, Legal, N26, NoFacts, Request, denial_of}
 use Rattle.gt_order.specs.RunNames.{Answer, Do, IsAmong, ListOutcome, Named, RunAction, RunTask, SaysRequest}
 use Rattle.gt_order.specs.RunNames.{ScriptCall, Served, ThreadJob, WritesAll}
 use Rattle.gt_calls.specs.declared.request.Request.TheVariants as requests
@@ -21,13 +22,13 @@ use Rattle.gt_run.specs.Serving.{IsAwait, gate_line}
 use Rattle.gt_explore_replay.specs.Orders.{DeedHappens, FlagsAreRaised, GivesMappingsBack, Happening, MayGive, Prints}
 use Rattle.gt_explore_replay.specs.Orders.{doer, events_in, own_happenings, trace_in}
 use Rattle.gt_order.specs.Explored.{IsStarved}
-use Rattle.gt_order.specs.Texts.{IsOrderly}
+use Rattle.gt_order.specs.Texts.{MayLeave}
 
 -- the answer of a call that got no memory
 abbrev pub no_memory : Answer
 no_memory = answers.Denied (denial_of N26 NoFacts)
 
--- a call that allocates, and takes no step before it has the memory: a map, or a call with one access and no pin
+-- a call that makes no step before it has the memory that it needs: a map, or a call whose only step is an access
 abbrev pub IsAllocating : Request → Type 0
 IsAllocating (requests.Map dom gref flags) = Unit {0}
 IsAllocating (requests.Load handle off len) = Unit {0}
@@ -36,7 +37,8 @@ IsAllocating (requests.Peek frame off len) = Unit {0}
 IsAllocating (requests.Poke frame off bytes) = Unit {0}
 IsAllocating request = ⊥
 
--- the call of a line got no memory: it prints N26, nothing happens, and the rest follows with the same labels and handles
+-- the call of a line got no memory: it prints N26, no event happens, and the rest follows, with the same labels and
+-- handles
 abbrev pub GetsNoMemory : List (List ℕ) → DomId → List Named → List Handle → ℕ → RunAction
     → (List Named → List Handle → List Happening → List ℕ → Type 0) → List Happening → List ℕ → Type 0
 GetsNoMemory types dom named held line (Do call) Next hs text =
@@ -54,7 +56,8 @@ StopsAtGate dom held t hs text = IsAwait t.deed × Leaves dom held hs × (text �
 
 -- a domain serves its list, line by line, and then leaves; a call may get no memory, and a gate may stop the list; this
 -- is what it prints
-abbrev pub PrintsList : List (List ℕ) → DomId → List Named → List Handle → List RunTask → List Happening → List ℕ → Type 0
+abbrev pub PrintsList : List (List ℕ) → DomId → List Named → List Handle → List RunTask → List Happening → List ℕ
+    → Type 0
 PrintsList types dom named held [] hs text = Leaves dom held hs × (text ≡ [])
 PrintsList types dom named held (t ∷ ts) hs text =
     DeedHappens types dom named held t.line t.deed
@@ -98,20 +101,23 @@ CopiesGetMemory s =
 abbrev pub RunsArePrinted : Type 0
 RunsArePrinted =
     (c : RunContents) (logged : Bool) (duties : List (ThreadJob ScriptRights)) (old new : Option (List ℕ))
-    → (of : AreOf c logged duties) → IsWithinLimits of.monitor.config
-    → (wrote : WritesAll may_by duties old new) → All (IsOrderly may_by of.monitor) wrote.0
-    → All CopiesGetMemory wrote.0 → MayPrint c (texts_in wrote.0)
+    → (of : AreOf c logged duties) → (wrote : WritesAll may_by duties old new)
+    → All (MayLeave may_by of.monitor) wrote.0 → All CopiesGetMemory wrote.0 → MayPrint c (texts_in wrote.0)
 
--- the text contains this part
+-- a text that `explore` lists is one that a run may print
+abbrev pub GivenTextsArePrinted : Type 0
+GivenTextsArePrinted = (c : RunContents) (text : List ℕ) → MayGive c text → MayPrint c text
+
+-- this part is in the text
 abbrev pub HasPart : List ℕ → List ℕ → Type 0
 HasPart part text = (before : List ℕ) × (rest : List ℕ) × (text ≡ before ++ (part ++ rest))
 
--- the text has no line of a call that got no memory, and no line of a gate
-pub record TellsOfNoStop (types : List (List ℕ)) (text : List ℕ) : Type 0 where
+-- no line of a call that got no memory, and no line of a gate, is in the text
+pub record IsUndisturbed (types : List (List ℕ)) (text : List ℕ) : Type 0 where
   pub memory : (line : ℕ) (dom : DomId) → HasPart (answer_line types line dom no_memory) text → ⊥
   pub gates : (line : ℕ) (dom : DomId) → HasPart (gate_line line dom) text → ⊥
 
 -- a text that a run may print is one that `explore` lists, if it has neither a line with N26 nor the line of a gate
 abbrev pub PrintedTextsAreGiven : Type 0
 PrintedTextsAreGiven =
-    (c : RunContents) (text : List ℕ) → MayPrint c text → TellsOfNoStop (type_names c.head) text → MayGive c text
+    (c : RunContents) (text : List ℕ) → MayPrint c text → IsUndisturbed (type_names c.head) text → MayGive c text

@@ -5,7 +5,6 @@ pub use Rattle.gt_core.specs.Acting.{answer_of}
 pub use Rattle.gt_core.specs.declared.trace.Answer.{Answer}
 pub use Rattle.gt_host.specs.Runs.{SaysRequest, Named}
 pub use Rattle.gt_script_lines.specs.declared.calls.ScriptCall.{ScriptCall}
-pub use Rattle.gt_live.specs.Accesses.{IsOfAccess}
 pub use Rattle.gt_live.specs.Domains.{AllowRelation, HasLeft}
 pub use Rattle.gt_live.specs.declared.domain.Domain.{Domain}
 pub use Rattle.gt_live.specs.declared.domain.Departed.{Departed}

@@ -1,26 +1,19 @@
 -- The lists of a run, and the legal order whose answers they print, bytes too.
-use Rattle.std.specs.Prelude.{◌≡◌, ◌⊎◌, ℕ, ◌<◌, ◌==◌, true, All, List, [], ◌∷◌, ◌++◌, length, map, Option, Some}
+use Rattle.std.specs.Prelude.{◌≡◌, ◌⊎◌, ℕ, ◌<◌, All, List, [], ◌∷◌, ◌++◌, length, map, Option, Some}
 use Rattle.std.specs.Prelude.{slice_get}
 use Rattle.gt_order.specs.RunNames.{some, get_elem?, State, Config, Denial, Board, StepHistory, Shows, id_at}
 use Rattle.gt_order.specs.Prelude.{IsWithinLimits, N26, NoFacts, denial_of}
 use Rattle.gt_order.specs.RunNames.{IsAmong}
-use Rattle.gt_order.specs.RunNames.{View, Request, answer_of, Answer, AllowRelation, HasLeft}
+use Rattle.gt_order.specs.RunNames.{View, answer_of, Answer, AllowRelation, HasLeft}
 use Rattle.gt_order.specs.RunNames.{Domain, Departed, Monitor, AreUnmaps, MayUnmapAll, IsLegalOrder, CallMade}
 use Rattle.gt_order.specs.RunNames.{Await, Call, Deed, FlagMade, FlagStep, OnFlag, Passed, Raised, RunAction, RunOrder, Tell}
-use Rattle.gt_order.specs.RunNames.{FitsTypes, CallOutcome, SeatRun, Told, Kept, Starved, Read, Wrote, ScriptCall}
-use Rattle.gt_order.specs.RunNames.{SaysRequest, Named, Do, RunTask, ThreadJob, Served, WasServed, WritesAll, MakesCall}
+use Rattle.gt_order.specs.RunNames.{CallOutcome, SeatRun, Told, Kept, Starved, Read, Wrote, ScriptCall}
+use Rattle.gt_order.specs.RunNames.{Do, RunTask, ThreadJob, Served, WasServed, WritesAll, MakesCall}
 use Rattle.gt_order.specs.RunNames.{ListOutcome, ListProgress}
 use Rattle.gt_core.specs.declared.trace.Answer.TheVariants as answers
 use Rattle.gt_shared_table.specs.Words.{frames_kept}
 use Rattle.gt_types.specs.declared.denial.Rule.TheVariants.{N16}
 use Rattle.gt_script_lines.specs.declared.calls.ScriptCall.TheVariants as calls
-
--- the numbers of each request of the job's list are in the range of their types, whatever its labels name
-abbrev pub FitsDuty : {P : Type 0} → ThreadJob P → Type 0
-FitsDuty duty =
-    (task : RunTask) (call : ScriptCall) → IsAmong task duty.part.tasks.now → (task.dom.0 == duty.part.dom.0) ≡ true
-    → task.deed ≡ Do call → (named : List Named) (request : Request) → SaysRequest named duty.part.dom call request
-    → FitsTypes request
 
 -- the table of the monitor has all frames of its configuration
 abbrev pub HasAllFrames : {P : Type 0} → Monitor P → Type 0
@@ -88,7 +81,6 @@ pub record HasList {P : Type 0} (may : P → AllowRelation) (m : Monitor P) (i :
   pub monitor : s.duty.monitor.now ≡ m
   pub dom : s.duty.part.dom ≡ id_at m.words.layout.ids i
   pub served : WasServed may s
-  pub fits : FitsDuty s.duty
   pub whole : AreMadeWhole s.duty s.outcomes
 
 -- the view is the domain's at the end of its list; or the domain has left since, and the policy allows it to unmap each
@@ -129,11 +121,9 @@ TextsAreOfALegalOrder {P} may m =
 abbrev pub HasWholeCopies : {P : Type 0} → Served P → Type 0
 HasWholeCopies s = AreMadeWhole s.duty s.outcomes
 
--- the numbers of the list's requests are in the range of their types, and the policy allows its domain to unmap each
--- mapping with which it left
-pub record IsOrderly {P : Type 0} (may : P → AllowRelation) (m : Monitor P) (s : Served P) : Type 0 where
-  pub fits : FitsDuty s.duty
-  pub may_leave : (served : WasServed may s) → MayUnmapAll m.config (may m.rights) served.left.domain
+-- the policy allows the domain of the list to unmap each mapping with which it left
+abbrev pub MayLeave : {P : Type 0} → (P → AllowRelation) → Monitor P → Served P → Type 0
+MayLeave may m s = (served : WasServed may s) → MayUnmapAll m.config (may m.rights) served.left.domain
 
 -- the jobs are those of the monitor's domains, in their order
 abbrev pub AreOfDomains : {P : Type 0} → Monitor P → List (ThreadJob P) → Type 0
@@ -150,5 +140,5 @@ AreOfOneOrder {P} may m all =
 abbrev pub RunsWriteALegalOrder : {P : Type 0} → (P → AllowRelation) → Monitor P → Type 0
 RunsWriteALegalOrder {P} may m =
     (duties : List (ThreadJob P)) (old new : Option (List ℕ)) → IsWithinLimits m.config → AreOfDomains m duties
-    → (wrote : WritesAll may duties old new) → All (IsOrderly may m) wrote.0 → All HasWholeCopies wrote.0
+    → (wrote : WritesAll may duties old new) → All (MayLeave may m) wrote.0 → All HasWholeCopies wrote.0
     → AreOfOneOrder may m wrote.0

@@ -2,7 +2,7 @@
 ghost use Rattle.gt_order.specs.Calling.{CopiesAreMade, LostAccessesAreMade, MapsAreMade, PlainCallsAreMade};
 ghost use Rattle.gt_order.specs.Calling.{ReadsAreMade, UnmapsAreMade, WritesAreMade};
 ghost use Rattle.gt_order.specs.Explored.{RunsAreExplored};
-ghost use Rattle.gt_order.specs.Printed.{PrintedTextsAreGiven, RunsArePrinted};
+ghost use Rattle.gt_order.specs.Printed.{GivenTextsArePrinted, PrintedTextsAreGiven, RunsArePrinted};
 ghost use Rattle.gt_order.specs.Leaving.{LeavingIsUnmapping};
 ghost use Rattle.gt_order.specs.Laws.{CoreSeesTheWords, RunsHaveLegalOrders, StepsKeepAgreement};
 ghost use Rattle.gt_order.specs.Texts.{RunsWriteALegalOrder, TextsAreOfALegalOrder};
@@ -65,10 +65,10 @@ pub fn every_run_is_explored()
     ensures { RunsAreExplored }
 {}
 
-/// A law: what a run writes, but for its audit lines, is a text that a run of the script may print: of one legal order
-/// of its calls, with N26 for a call that got no memory and made no step, and with the line of a gate that stopped a
-/// list. Its premises: no copy was refused with N26, and the policy allows each domain to unmap the mappings with which
-/// it leaves.
+/// A law: what a run writes, but for its audit lines, is a text that a run of the script may print, bytes and all: that
+/// of one legal order of its calls, with N26 for a call that got no memory and made no step, and with the line of a gate
+/// that stopped a list. No copy may have answered N26, and the policy has to allow each domain to unmap the mappings
+/// with which it leaves.
 pub fn every_run_is_printed()
     ensures { RunsArePrinted }
 {}
@@ -77,4 +77,9 @@ pub fn every_run_is_printed()
 /// the line of a gate.
 pub fn printed_texts_are_given()
     ensures { PrintedTextsAreGiven }
+{}
+
+/// A law: a text that `explore` lists is one that a run of the script may print.
+pub fn given_texts_are_printed()
+    ensures { GivenTextsArePrinted }
 {}

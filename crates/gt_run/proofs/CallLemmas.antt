@@ -20,7 +20,10 @@ use Rattle.gt_live.specs.declared.domain.Domain.{Domain}
 use Rattle.gt_live.specs.declared.monitor.Monitor.{Monitor}
 use Rattle.gt_types.specs.declared.DomId.{DomId}
 use Rattle.gt_run.specs.Asking.{AnswersCall, Asks}
-use Rattle.gt_run.specs.Serving.{Calls, TellsOutcomes, Makes, ListOutcome, Records}
+use Rattle.gt_types.specs.declared.GrantRef.{GrantRef}
+use Rattle.gt_entry.specs.declared.entry.Entry.{Entry}
+use Rattle.gt_script_lines.specs.declared.calls.ScriptCall.TheVariants as said
+use Rattle.gt_run.specs.Serving.{Calls, FitsEntry, TellsOutcomes, Makes, ListOutcome, Records}
 use Rattle.gt_run.specs.Serving.{answer_lines}
 use Rattle.gt_run.specs.Serving.{counted, is_logged, lost_in, record_made, records_told}
 use Rattle.gt_run.specs.Telling.{TellsNext, LogsTrail}
@@ -206,12 +209,17 @@ tells_where logged made old new (Some t) u os asked a i (next, is, tells) =
     subst (λ (b : Bool). Added b made new u os) asked
     (subst (λ (x : Option TrailLogger). Added true made new x os) (sym is) (tells_some made old new t next os a i tells))
 
+-- a line that grants no entry
+pub fits_other : (call : ScriptCall) → ((gref : GrantRef) (entry : Entry) → call ≡ said.Grant gref entry → ⊥) → FitsEntry call
+fits_other (said.Grant gref entry) other = absurd (other gref entry refl)
+fits_other call other = tt
+
 -- the call of a line was made, its record was pushed, and its answer is printed
 pub calls : {P : Type 0} (may : P → AllowRelation) (duty : ThreadJob P) (line : ℕ) (call : ScriptCall) (d e : Domain) (before after : Labels) (t u : Option TrailLogger) (answer : Answer) (text : List ℕ)
     → Makes may duty call d e before after answer → LogsTrail e.trail t u → text ≡ answer_line duty.part.types.now line duty.part.dom answer
     → Calls may duty line call d e before after t u text
 calls may duty line call d e before after t u answer text makes tells is = λ p kept.
-    let made = makes p.named kept.names in
+    let made = makes.1 p.named kept.names in
     let own : AddsRecord (record_made duty.part.dom d made.0 answer) d.trail e.trail =
     subst (λ (x : DomId). AddsRecord (record_made x d made.0 answer) d.trail e.trail) kept.own (adds_record may duty.monitor.now d made.0 answer e made.2.1) in
     let added = tells_where (is_logged duty) _ d.trail e.trail t u p.outcomes kept.asked own kept.told tells in
@@ -222,6 +230,7 @@ calls may duty line call d e before after t u answer text makes tells is = λ p 
         answer = answer;
         told = added.told;
         lost = added.lost;
+        fits = makes.0;
         says = made.1;
         asks = subst (λ (x : Domain). Asks may duty.monitor.now x made.0 answer e) (sym kept.domain) made.2;
         records = subst (λ (x : Domain). Records (is_logged duty) (record_made duty.part.dom x made.0 answer) added.told added.lost) (sym kept.domain) added.records;

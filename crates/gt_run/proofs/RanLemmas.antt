@@ -3,6 +3,7 @@ use Rattle.std.proofs.Common.{◌≡◌, ◌++◌, ◌+◌, ◌<◌, ℕ, Bool, 
 use Rattle.std.proofs.Common.{Ok, Err, sym, subst, ap, ◌∙◌, inl, inr}
 use Rattle.std.proofs.lemmas.List.{map-append, map_more}
 use Rattle.std.proofs.lemmas.List.Elements.{All-append, All-cons, All-nil}
+use Rattle.gt_types.specs.Config.{IsWithinLimits}
 use Rattle.gt_types.specs.declared.config.Config.{Config}
 use Rattle.gt_types.specs.declared.config.DomainConfig.{DomainConfig}
 use Rattle.gt_host.specs.Faults.{fault_of, read_fault}
@@ -44,11 +45,12 @@ parts_more domains i d tasks names parts p within is same over (doms, all) = (
 -- the duties are those of the script
 are_of : (c : RunContents) (logged : Bool) (config : Config) (rights : ScriptRights) (flags : ℕ) (parts : List DomainPart) → AreListsOf c parts → config.domains.items ≡ c.head.domains
     → config.first_gen ≡ first_gen c.head → may_by rights ≡ may_in c.head → AreNumbered flags c.tasks → (ds : List (ThreadJob ScriptRights)) → AreUnder config rights flags logged parts ds → AreOf c logged ds
-are_of c logged config rights flags parts are domains generation may numbered ds (m, of_config, of_rights, of_flags, of_frames, duties) = record {
+are_of c logged config rights flags parts are domains generation may numbered ds (m, of_config, within, of_rights, of_flags, of_frames, duties) = record {
   parts = parts;
   of_script = are;
   monitor = m;
   domains = ap (λ (x : Config). x.domains.items) of_config ∙ domains;
+  limits = subst IsWithinLimits (sym of_config) within;
   generation = ap (λ (x : Config). x.first_gen) of_config ∙ generation;
   rights = ap may_by of_rights ∙ may;
   flags = subst (λ (n : ℕ). AreNumbered n c.tasks) (sym of_flags) numbered;

@@ -1,6 +1,7 @@
 -- The output of a run, for its input.
 use Rattle.std.specs.Prelude.{◌≡◌, ◌⊎◌, ℕ, Bool, List, map, All, Option, Some, Result, Ok, Err}
 use Rattle.std.specs.Io.KnownBytes.{Keeps}
+use Rattle.gt_types.specs.Config.{IsWithinLimits}
 use Rattle.gt_types.specs.declared.config.Config.{Config}
 use Rattle.gt_types.specs.declared.config.DomainConfig.{DomainConfig}
 use Rattle.gt_policy.specs.declared.fault.TokenFault as policy
@@ -57,11 +58,11 @@ Wrote may Are old new (Err (Play Read)) = ⊥
 Wrote may Are old new (Err (Play (Script fault))) = ⊥
 Wrote may Are old new (Err (Play (Policy fault))) = ⊥
 
--- the jobs of these parts, over one monitor of this configuration with all its frames, these rights and this number of
--- flags
+-- the jobs of these parts, over one monitor of this configuration, which is within the limits, with all its frames,
+-- these rights and this number of flags
 abbrev pub AreUnder : {P : Type 0} → Config → P → ℕ → Bool → List DomainPart → List (ThreadJob P) → Type 0
 AreUnder {P} config rights flags logged parts duties =
-    (m : Monitor P) × (m.config ≡ config) × (m.rights ≡ rights) × (m.words.flags ≡ flags)
+    (m : Monitor P) × (m.config ≡ config) × IsWithinLimits config × (m.rights ≡ rights) × (m.words.flags ≡ flags)
     × (m.words.frames ≡ frames_kept config) × AreDuties m logged parts duties
 
 -- the part has these tasks and these names of types
@@ -77,12 +78,13 @@ abbrev pub AreListsOf : RunContents → List DomainPart → Type 0
 AreListsOf c parts = AreParts c.head.domains c.tasks (type_names c.head) parts
 
 -- the jobs of a script's parts, over one monitor that has the script's domains with all their frames, its first
--- generation and its flags, and allows what the script allows
+-- generation and its flags, is within the limits, and allows what the script allows
 pub record AreOf (c : RunContents) (logged : Bool) (duties : List (ThreadJob ScriptRights)) : Type 0 where
   pub parts : List DomainPart
   pub of_script : AreListsOf c parts
   pub monitor : Monitor ScriptRights
   pub domains : monitor.config.domains.items ≡ c.head.domains
+  pub limits : IsWithinLimits monitor.config
   pub generation : monitor.config.first_gen ≡ first_gen c.head
   pub rights : may_by monitor.rights ≡ may_in c.head
   pub flags : AreNumbered monitor.words.flags c.tasks

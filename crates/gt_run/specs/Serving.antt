@@ -7,6 +7,8 @@ use Rattle.gt_run.specs.Prelude.{handle_given, label_given, with_name, SaysReque
 use Rattle.gt_run.specs.Prelude.{subject_of, HasLeft, IsNewDomain, Departed, Domain, Monitor, RunAction, Do, Tell, Await, RunTask, ThreadJob, DomainPart}
 use Rattle.gt_run.specs.Prelude.{Passed, TrailLogger}
 use Rattle.gt_run.specs.Asking.{Asks, MakesFlagStep, RaisesFlag, Stand}
+use Rattle.gt_entry.specs.Entries.{IsEntry}
+use Rattle.gt_script_lines.specs.declared.calls.ScriptCall.TheVariants as calls
 
 -- calls
 
@@ -43,6 +45,11 @@ record_made dom d request answer = encoded_record dom (hypercall_of_request (sub
 abbrev pub is_logged : {P : Type 0} → ThreadJob P → Bool
 is_logged duty = is_some duty.log
 
+-- the numbers of the entry that a line grants are in the range of their types
+abbrev pub FitsEntry : ScriptCall → Type 0
+FitsEntry (calls.Grant gref entry) = IsEntry entry
+FitsEntry call = Unit {0}
+
 -- The call of a line was made. The domain got the request that the line makes, by what its labels named then, and gave
 -- its answer. Its outcome is appended, and a map answered Ok gives its handle to its label.
 pub record MakesCall {P : Type 0} (may : P → AllowRelation) (duty : ThreadJob P) (line : ℕ) (call : ScriptCall)
@@ -51,6 +58,7 @@ pub record MakesCall {P : Type 0} (may : P → AllowRelation) (duty : ThreadJob 
   pub answer : Answer
   pub told : List Record
   pub lost : ℕ
+  pub fits : FitsEntry call
   pub says : SaysRequest p.named duty.part.dom call request
   pub asks : Asks may duty.monitor.now p.domain request answer q.domain
   pub records : Records (is_logged duty) (record_made duty.part.dom p.domain request answer) told lost
@@ -194,9 +202,10 @@ Calls may duty line call d e before after t u text =
 abbrev pub Makes : {P : Type 0} → (P → AllowRelation) → ThreadJob P → ScriptCall → Domain → Domain → Labels → Labels → Answer
     → Type 0
 Makes may duty call d e before after answer =
-    (named : List Named) → AreNamed before named
+    FitsEntry call
+    × ((named : List Named) → AreNamed before named
     → (request : Request) × SaysRequest named duty.part.dom call request × Asks may duty.monitor.now d request answer e
-    × AreNamed after (with_name named duty.part.dom (label_given call) (handle_given answer))
+    × AreNamed after (with_name named duty.part.dom (label_given call) (handle_given answer)))
 
 -- nothing was pushed for the calls of this domain, which has made none
 abbrev pub StartsTold : {P : Type 0} → ThreadJob P → Domain → Option TrailLogger → Type 0

@@ -1,15 +1,17 @@
 //! One domain's list, from its first line to its last.
 ghost use Rattle.std.specs.Prelude.{◌≡◌, ◌++◌, [], false, IfOk, IsOk, IsTrue, MatchBool};
 ghost use Rattle.gt_word_history.specs.declared.view.FlagStep.TheVariants.{Passed};
+ghost use Rattle.gt_entry.specs.Entries.{IsEntry};
 ghost use Rattle.gt_run.specs.Asking.{IsSameStand, MakesFlagStep};
 ghost use Rattle.gt_run.specs.Printing.{IsOutputOf};
-ghost use Rattle.gt_run.specs.Serving.{gate_line, Calls, IsReady, Makes, Serves, StartsTold};
+ghost use Rattle.gt_run.specs.Serving.{gate_line, Calls, FitsEntry, IsReady, Makes, Serves, StartsTold};
 
 use crate::gate::Gate;
 use crate::lists::ThreadJob;
 use crate::running::RunningDomain;
 use crate::telling::{TrailLogger, tell_next, teller_for};
 use gt_core::Answer;
+use gt_entry::Entry;
 use gt_host::{Labels, call_bytes, label_given, name_mapping, push_answer_line, request_of};
 use gt_live::Departed;
 use gt_script::RunAction;
@@ -34,6 +36,21 @@ pub struct Output {
     pub left: Departed,
 }
 
+// A law: each number of an entry fits its type.
+fn entry_fits(entry: Entry)
+    ensures { IsEntry entry }
+{}
+
+// A law: the numbers of the entry that a line grants fit their types.
+fn granted_fits(call: &ScriptCall<'_>)
+    ensures { FitsEntry call.now }
+{
+    match call {
+        ScriptCall::Grant { entry, .. } => entry_fits(*entry),
+        _ => {}
+    }
+}
+
 // Makes the call of a line. A map that is answered Ok gives its handle to its label.
 fn make_call<'a, R: Wait, P: Allows>(
     rt: &R,
@@ -48,6 +65,7 @@ fn make_call<'a, R: Wait, P: Allows>(
     ensures made { IfOk result
         (Makes P.may duty.now call.now domain.old.domain domain.new.domain labels.old labels.new) }
 {
+    granted_fits(call);
     let bytes = call_bytes(alloc, call)?;
     let dom = duty.part.dom;
     let answer = domain.ask(rt, request_of(labels, dom, bytes.as_slice(), call));
