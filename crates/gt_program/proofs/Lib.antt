@@ -1,4 +1,4 @@
-pub mod Given
+pub mod GivenLemmas
 pub mod Obeyed
-pub mod Questions
+pub mod QuestionLemmas
 pub mod RelayLemmas

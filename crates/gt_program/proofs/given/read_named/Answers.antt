@@ -1,6 +1,6 @@
 use Rattle.std.proofs.Common.{ℕ}
 use Rattle.std.specs.Global.{Vec}
-use Rattle.gt_program.proofs.Given.{read_so}
+use Rattle.gt_program.proofs.GivenLemmas.{read_so}
 use Rattle.gt_program.proofs.given.read_named.Goals as goal
 
 pub returns-in-Ok : goal.returns-in-Ok

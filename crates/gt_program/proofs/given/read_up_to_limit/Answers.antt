@@ -1,6 +1,6 @@
 use Rattle.std.proofs.Common.{ℕ}
 use Rattle.std.specs.Global.{Vec}
-use Rattle.gt_program.proofs.Given.{whole_so}
+use Rattle.gt_program.proofs.GivenLemmas.{whole_so}
 use Rattle.gt_program.proofs.given.read_up_to_limit.Goals as goal
 
 pub returns-in-Ok : goal.returns-in-Ok

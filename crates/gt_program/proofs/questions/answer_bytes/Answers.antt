@@ -1,6 +1,6 @@
 use Rattle.std.proofs.Common.{inr}
 use Rattle.gt_text.specs.Laws.{keeps_same}
-use Rattle.gt_program.proofs.Questions.{answers_bytes}
+use Rattle.gt_program.proofs.QuestionLemmas.{answers_bytes}
 use Rattle.gt_program.proofs.questions.answer_bytes.Goals as goal
 
 pub returns-in-Ok : goal.returns-in-Ok

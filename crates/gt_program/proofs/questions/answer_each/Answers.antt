@@ -2,7 +2,7 @@ use Rattle.std.proofs.Common.{List, ℕ}
 use Rattle.std.specs.Str.Lines.{lines}
 use Rattle.gt_text.specs.Laws.{keeps_same}
 use Rattle.gt_program.specs.Obeying.{AnswersLines}
-use Rattle.gt_program.proofs.Given.{known_read}
+use Rattle.gt_program.proofs.GivenLemmas.{known_read}
 use Rattle.gt_program.proofs.Obeyed.{nothing_done, with_text}
 use Rattle.gt_program.proofs.questions.answer_each.Goals as goal
 

@@ -1,5 +1,5 @@
 use Rattle.std.proofs.Common.{drop, map}
-use Rattle.gt_program.proofs.Questions.{GoesOn}
+use Rattle.gt_program.proofs.QuestionLemmas.{GoesOn}
 use Rattle.gt_program.proofs.questions.answer_lines.Given as goal
 
 abbrev pub invariant-lines : goal.invariant-lines

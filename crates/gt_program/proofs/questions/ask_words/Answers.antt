@@ -1,6 +1,6 @@
 use Rattle.std.proofs.Common.{inr}
 use Rattle.gt_text.specs.Laws.{keeps_same}
-use Rattle.gt_program.proofs.Questions.{asks_same}
+use Rattle.gt_program.proofs.QuestionLemmas.{asks_same}
 use Rattle.gt_program.proofs.questions.ask_words.Goals as goal
 
 pub returns-in-Some : goal.returns-in-Some
