@@ -183,7 +183,10 @@ fn runs_of_1_to_64_domains_begin_and_end(rt: HostRuntime) -> Result<(), AllocErr
     for count in 1..65u16 {
         // the mapper of the last domain's page is the first one that leaves
         let left = count.saturating_sub(1);
-        assert_eq!(rt; run(alloc, count)?, (usize::from(count), [count, count, count, left]));
+        assert_eq!(rt;
+            run(alloc, count)?,
+            (usize::from(count), [count, count, count, left])
+        );
     }
     Ok(())
 }
