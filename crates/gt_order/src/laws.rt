@@ -3,6 +3,7 @@ ghost use Rattle.gt_order.specs.Calling.{CopiesAreMade, LostAccessesAreMade, Map
 ghost use Rattle.gt_order.specs.Calling.{ReadsAreMade, UnmapsAreMade, WritesAreMade};
 ghost use Rattle.gt_order.specs.Explored.{RunsAreExplored};
 ghost use Rattle.gt_order.specs.Printed.{GivenTextsArePrinted, PrintedTextsAreGiven, RunsArePrinted};
+ghost use Rattle.gt_order.specs.Printed.{UnloggedRunsPrint};
 ghost use Rattle.gt_order.specs.Leaving.{LeavingIsUnmapping};
 ghost use Rattle.gt_order.specs.Laws.{CoreSeesTheWords, RunsHaveLegalOrders, StepsKeepAgreement};
 ghost use Rattle.gt_order.specs.Texts.{RunsWriteALegalOrder, TextsAreOfALegalOrder};
@@ -71,6 +72,11 @@ pub fn every_run_is_explored()
 /// with which it leaves.
 pub fn every_run_is_printed()
     ensures { RunsArePrinted }
+{}
+
+/// A law: without a log, all that `run` appends at Ok is such a text.
+pub fn every_unlogged_run_is_printed()
+    ensures { UnloggedRunsPrint }
 {}
 
 /// A law: a text that a run of the script may print is one that `explore` lists, if it has neither a line with N26 nor
