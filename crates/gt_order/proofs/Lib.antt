@@ -29,4 +29,5 @@ pub mod Spelled
 pub mod Stages
 pub mod Start
 pub mod Stepping
+pub mod Unlogged
 pub mod Walks

@@ -1,6 +1,7 @@
 -- The texts that a run of a script may print: those that `explore` lists, and those in which a call got no memory or a
 -- gate stopped a list.
-use Rattle.std.specs.Prelude.{◌≡◌, ◌≢◌, ◌⊎◌, ◌++◌, ℕ, Bool, All, List, [], ◌∷◌, Option, None}
+use Rattle.std.specs.Prelude.{◌≡◌, ◌≢◌, ◌⊎◌, ◌++◌, ℕ, Bool, false, All, List, [], ◌∷◌, Option, None}
+use Rattle.std.specs.Io.KnownBytes.{Appends}
 use Rattle.gt_types.specs.Names.{domain_of}
 use Rattle.gt_types.specs.declared.config.DomainConfig.{DomainConfig}
 use Rattle.gt_order.specs.Prelude.{DomId, Handle, Legal, N26, NoFacts, Request, denial_of}
@@ -17,7 +18,7 @@ use Rattle.gt_host.specs.Printing.{answer_line}
 use Rattle.gt_host.specs.Rights.{may_by}
 use Rattle.gt_host.specs.declared.rights.ScriptPolicy.{ScriptPolicy as ScriptRights}
 use Rattle.gt_run.specs.Printing.{texts_in}
-use Rattle.gt_run.specs.Runs.{AreOf}
+use Rattle.gt_run.specs.Runs.{AreOf, WritesScript}
 use Rattle.gt_run.specs.Serving.{IsAwait, gate_line}
 use Rattle.gt_explore_replay.specs.Orders.{DeedHappens, FlagsAreRaised, GivesMappingsBack, Happening, MayGive, Prints}
 use Rattle.gt_explore_replay.specs.Orders.{doer, events_in, own_happenings, trace_in}
@@ -103,6 +104,13 @@ RunsArePrinted =
     (c : RunContents) (logged : Bool) (duties : List (ThreadJob ScriptRights)) (old new : Option (List ℕ))
     → (of : AreOf c logged duties) → (wrote : WritesAll may_by duties old new)
     → All (MayLeave may_by of.monitor) wrote.0 → All CopiesGetMemory wrote.0 → MayPrint c (texts_in wrote.0)
+
+-- without a log, what `run` appends is a text that a run of the script may print, under the same conditions
+abbrev pub UnloggedRunsPrint : Type 0
+UnloggedRunsPrint =
+    (c : RunContents) (old new : Option (List ℕ)) → (wrote : WritesScript c false old new)
+    → All (MayLeave may_by wrote.1.monitor) wrote.2.0 → All CopiesGetMemory wrote.2.0
+    → (text : List ℕ) × MayPrint c text × Appends old new text
 
 -- a text that `explore` lists is one that a run may print
 abbrev pub GivenTextsArePrinted : Type 0

@@ -6,7 +6,8 @@ use Rattle.gt_order.specs.Prelude.{IsWithinLimits, N26, NoFacts, denial_of}
 use Rattle.gt_order.specs.RunNames.{IsAmong}
 use Rattle.gt_order.specs.RunNames.{View, answer_of, Answer, AllowRelation, HasLeft}
 use Rattle.gt_order.specs.RunNames.{Domain, Departed, Monitor, AreUnmaps, MayUnmapAll, IsLegalOrder, CallMade}
-use Rattle.gt_order.specs.RunNames.{Await, Call, Deed, FlagMade, FlagStep, OnFlag, Passed, Raised, RunAction, RunOrder, Tell}
+use Rattle.gt_order.specs.RunNames.{Await, Call, Deed, FlagMade, FlagStep, OnFlag, Passed, Raised, RunAction}
+use Rattle.gt_order.specs.RunNames.{RunOrder, Tell}
 use Rattle.gt_order.specs.RunNames.{CallOutcome, SeatRun, Told, Kept, Starved, Read, Wrote, ScriptCall}
 use Rattle.gt_order.specs.RunNames.{Do, RunTask, ThreadJob, Served, WasServed, WritesAll, MakesCall}
 use Rattle.gt_order.specs.RunNames.{ListOutcome, ListProgress}

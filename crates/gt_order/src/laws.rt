@@ -3,6 +3,7 @@ ghost use Rattle.gt_order.specs.Calling.{CopiesAreMade, LostAccessesAreMade, Map
 ghost use Rattle.gt_order.specs.Calling.{ReadsAreMade, UnmapsAreMade, WritesAreMade};
 ghost use Rattle.gt_order.specs.Explored.{RunsAreExplored};
 ghost use Rattle.gt_order.specs.Printed.{GivenTextsArePrinted, PrintedTextsAreGiven, RunsArePrinted};
+ghost use Rattle.gt_order.specs.Printed.{UnloggedRunsPrint};
 ghost use Rattle.gt_order.specs.Leaving.{LeavingIsUnmapping};
 ghost use Rattle.gt_order.specs.Laws.{CoreSeesTheWords, RunsHaveLegalOrders, StepsKeepAgreement};
 ghost use Rattle.gt_order.specs.Texts.{RunsWriteALegalOrder, TextsAreOfALegalOrder};
@@ -22,8 +23,8 @@ pub fn steps_keep_agreement()
     ensures { StepsKeepAgreement }
 {}
 
-/// A law: the contracts of a domain's calls make each of them a call of a run, bytes and all, except a copy that reached
-/// its access and could not make it. Nothing beyond the clauses of those contracts is needed.
+/// A law: the contracts of a domain's calls make each of them a call of a run, bytes and all, except a copy that
+/// reached its access and could not make it. Nothing beyond the clauses of those contracts is needed.
 pub fn calls_of_domains_are_made<P: Allows>(monitor: &Monitor<P>)
     ensures plain { PlainCallsAreMade P.may monitor.now }
     ensures unmaps { UnmapsAreMade P.may monitor.now }
@@ -52,8 +53,9 @@ pub fn every_text_is_of_a_legal_order<P: Allows>(monitor: &Monitor<P>)
     ensures { TextsAreOfALegalOrder P.may monitor.now }
 {}
 
-/// A law: what a run wrote, by the contract of `run`, is the text of one legal interleaving of its calls, bytes and all,
-/// if no copy was refused at its access and the policy allows each domain to unmap the mappings with which it leaves.
+/// A law: what a run wrote, by the contract of `run`, is the text of one legal interleaving of its calls, bytes and
+/// all, if no copy was refused at its access and the policy allows each domain to unmap the mappings with which it
+/// leaves.
 pub fn every_run_writes_a_legal_order<P: Allows>(monitor: &Monitor<P>)
     ensures { RunsWriteALegalOrder P.may monitor.now }
 {}
@@ -66,11 +68,16 @@ pub fn every_run_is_explored()
 {}
 
 /// A law: what a run writes, but for its audit lines, is a text that a run of the script may print, bytes and all: that
-/// of one legal order of its calls, with N26 for a call that got no memory and made no step, and with the line of a gate
-/// that stopped a list. No copy may have answered N26, and the policy has to allow each domain to unmap the mappings
-/// with which it leaves.
+/// of one legal order of its calls, with N26 for a call that got no memory and made no step, and with the line of a
+/// gate that stopped a list. No copy may have answered N26, and the policy has to allow each domain to unmap the
+/// mappings with which it leaves.
 pub fn every_run_is_printed()
     ensures { RunsArePrinted }
+{}
+
+/// A law: without a log, all that `run` appends at Ok is such a text.
+pub fn every_unlogged_run_is_printed()
+    ensures { UnloggedRunsPrint }
 {}
 
 /// A law: a text that a run of the script may print is one that `explore` lists, if it has neither a line with N26 nor

@@ -9,14 +9,14 @@
 //! the answer that its domain gave ([`every_run_has_a_legal_order`]). The contracts of a domain's calls make them calls
 //! of a run ([`calls_of_domains_are_made`]). The lists of `gt_run` print the answers of such an order
 //! ([`every_text_is_of_a_legal_order`]), and so does each text that `run` writes at Ok
-//! ([`every_run_writes_a_legal_order`]). It is a text that a run of the script may print ([`every_run_is_printed`]).
-//! Each text that `explore` lists is one that a run may print ([`given_texts_are_printed`]), and a text that a run may
-//! print is one of those if it has neither N26 nor the line of a gate ([`printed_texts_are_given`],
-//! [`every_run_is_explored`]).
+//! ([`every_run_writes_a_legal_order`]). It is a text that a run of the script may print ([`every_run_is_printed`],
+//! [`every_unlogged_run_is_printed`]). Each text that `explore` lists is one that a run may print
+//! ([`given_texts_are_printed`]), and a text that a run may print is one of those if it has neither N26 nor the line of
+//! a gate ([`printed_texts_are_given`], [`every_run_is_explored`]).
 //!
-//! It uses `gt_run`, `gt_explore_replay`, `gt_host`, `gt_script`, `gt_script_lines`, `gt_live`, `gt_core`, `gt_words`,
-//! `gt_shared_table`, `gt_word_history`, `gt_calls`, `gt_frames`, `gt_handles`, `gt_entry`, `gt_types` and the kit's
-//! `atomic_table`.
+//! It uses `gt_run`, `gt_explore_replay`, `gt_host`, `gt_script`, `gt_script_lines`, `gt_live`, `gt_audit`, `gt_core`,
+//! `gt_words`, `gt_shared_table`, `gt_word_history`, `gt_calls`, `gt_frames`, `gt_handles`, `gt_entry`, `gt_types` and
+//! the kit's `atomic_table`, `byteorder` and `hex`.
 #![tactic(auto)]
 
 mod laws;
@@ -24,6 +24,6 @@ mod laws;
 pub use laws::{
     calls_of_domains_are_made, core_sees_the_words, every_run_has_a_legal_order,
     every_run_is_explored, every_run_is_printed, every_run_writes_a_legal_order,
-    every_text_is_of_a_legal_order, given_texts_are_printed, leaving_is_unmapping,
-    printed_texts_are_given, steps_keep_agreement,
+    every_text_is_of_a_legal_order, every_unlogged_run_is_printed, given_texts_are_printed,
+    leaving_is_unmapping, printed_texts_are_given, steps_keep_agreement,
 };
