@@ -150,8 +150,29 @@ module _ (b : Places) (h : StepHistory) (s : State Cell FrameHolder) (kept : Fra
     pass_keeps n is raised w same = others_keep (Flag f Passed) (λ t q rs. refl) (kept.flags f (λ none. raised (sym is ∙ none))) w same (flag_place b f) n no_lock_there
         (λ g there. inr (kept.flags g (λ none. there (ap (λ (ws : List ℕ). get_or ws (flag_place b g) 0) (ap (set s.words (flag_place b f)) (sym is) ∙ word_again s.words (flag_place b f)) ∙ none))))
 
+  busy_here : (q : ℕ) → q < length b.names → (k : ℕ) → k ≢ 0 → get_or (set s.words (lock_place b q) k) (lock_place b q) 0 ≡ 0 → ⊥
+  busy_here q lt k busy is = busy (sym (get_or-set_same s.words (lock_place b q) k 0 (kept.wide q lt)) ∙ is)
+
+  -- a seat waits for a frame
+  pub waits_keep : (q : ℕ) (n : FrameAt) → IsNamed b q n → q < length b.names → (k : ℕ) → k ≢ 0
+      → FramesAreKept b h (record { words = set s.words (lock_place b q) k; homes = s.homes; views = s.views })
+  waits_keep q n named lt k busy = record {
+    truth = kept.truth;
+    apart = kept.apart;
+    home = kept.home;
+    values = kept.values;
+    out = kept.out;
+    one = kept.one;
+    once = kept.once;
+    free = λ a lta is_free. dite (ℕ_discrete a q)
+        (λ (e : a ≡ q). absurd (busy_here q lt k busy (subst (λ (i : ℕ). get_or (set s.words (lock_place b q) k) (lock_place b i) 0 ≡ 0) e is_free)))
+        (λ (ne : a ≢ q). kept.free a lta (sym (get_or-set_other s.words (lock_place b q) (lock_place b a) k 0 (λ e. ne (one_lock b a q e))) ∙ is_free));
+    wide = λ a lta. let l = length-set s.words (lock_place b q) k in let f = kept.wide a lta in omega arith;
+    flags = λ f is. kept.flags f (λ none. is (get_or-set_other s.words (lock_place b q) (flag_place b f) k 0 (no_flag_there b q n f named) ∙ none));
+  }
+
   -- a frame is taken
-  module _ (q : ℕ) (n : FrameAt) (named : IsNamed b q n) (y : Cell) (there : get_elem? s.homes q ≡ some (some y)) (lt : q < length b.names) (w : FrameHolder) (more : w.held ≡ (q, made b h n) ∷ v.held) where
+  module _ (q : ℕ) (n : FrameAt) (named : IsNamed b q n) (y : Cell) (there : get_elem? s.homes q ≡ some (some y)) (lt : q < length b.names) (w : FrameHolder) (more : w.held ≡ (q, made b h n) ∷ v.held) (k : ℕ) (busy : k ≢ 0) where
     abbrev x : FrameState
     x = made b h n
 
@@ -177,7 +198,7 @@ module _ (b : Places) (h : StepHistory) (s : State Cell FrameHolder) (kept : Fra
     one_more a j u found (inl e) has = nobody j u found (subst (λ (z : ℕ). Has z u.held) (sym e) has)
     one_more a j u found (inr mine) has = kept.one id j v u a at found mine has
 
-    pub takes_keep : (carried : List (ℕ × Cell)) → FramesAreKept b h (stepped s (lock_place b q) 1 id carried w (takes q y))
+    pub takes_keep : (carried : List (ℕ × Cell)) → FramesAreKept b h (stepped s (lock_place b q) k id carried w (takes q y))
     takes_keep carried = record {
       truth = kept.truth;
       apart = kept.apart;
@@ -193,12 +214,10 @@ module _ (b : Places) (h : StepHistory) (s : State Cell FrameHolder) (kept : Fra
           i u fi hi;
       once = λ j u found. each_view s id w (λ _ u. AreOnce u.held) (subst AreOnce (sym more) ((λ has. nobody id v at has), kept.once id v at)) (λ j u ne f. kept.once j u f) j u found;
       free = λ a lta is_free. dite (ℕ_discrete a q)
-          (λ (e : a ≡ q). absurd (let r : get_or (set s.words (lock_place b q) 1) (lock_place b q) 0 ≡ 1 = get_or-set_same s.words (lock_place b q) 1 0 (kept.wide q lt) in
-          let z : get_or (set s.words (lock_place b q) 1) (lock_place b q) 0 ≡ 0 = subst (λ (i : ℕ). get_or (set s.words (lock_place b q) 1) (lock_place b i) 0 ≡ 0) e is_free in
-          let o : 1 ≡ 0 = sym r ∙ z in omega arith))
-          (λ (ne : a ≢ q). let r = kept.free a lta (sym (get_or-set_other s.words (lock_place b q) (lock_place b a) 1 0 (λ e. ne (one_lock b a q e))) ∙ is_free) in (r.0, set_else s.homes q a none ne ∙ r.1));
-      wide = λ a lta. let l = length-set s.words (lock_place b q) 1 in let f = kept.wide a lta in omega arith;
-      flags = λ f is. kept.flags f (λ none. is (get_or-set_other s.words (lock_place b q) (flag_place b f) 1 0 (no_flag_there b q n f named) ∙ none));
+          (λ (e : a ≡ q). absurd (busy_here q lt k busy (subst (λ (i : ℕ). get_or (set s.words (lock_place b q) k) (lock_place b i) 0 ≡ 0) e is_free)))
+          (λ (ne : a ≢ q). let r = kept.free a lta (sym (get_or-set_other s.words (lock_place b q) (lock_place b a) k 0 (λ e. ne (one_lock b a q e))) ∙ is_free) in (r.0, set_else s.homes q a none ne ∙ r.1));
+      wide = λ a lta. let l = length-set s.words (lock_place b q) k in let f = kept.wide a lta in omega arith;
+      flags = λ f is. kept.flags f (λ none. is (get_or-set_other s.words (lock_place b q) (flag_place b f) k 0 (no_flag_there b q n f named) ∙ none));
     }
 
   -- a frame is given back, and an access is one more step

@@ -31,12 +31,13 @@ use Rattle.gt_shared_table.specs.Bytes.{IsAside, IsOnWords, IsTrueStep, journal_
 use Rattle.gt_shared_table.specs.Rule.{Cell, FrameAt, HoldsAll, IsNamed, FramesAreKept, Places, hidden, inner, lock_place, made}
 use Rattle.gt_shared_table.specs.Rule.{flag_place, own_of}
 use Rattle.gt_shared_table.specs.Telling.{Accesses, AddsStep, IsByHeld, TookAt, AreLeft, holder_after, holding, outlook_after}
-use Rattle.gt_shared_table.specs.Laws.{FlagsArePassed, FlagsAreRaised, FramesAreFreed, FramesAreLocked, FramesAreReturned}
+use Rattle.gt_shared_table.specs.Laws.{FlagsArePassed, FlagsAreRaised, FramesAreAwaited, FramesAreFreed, FramesAreLocked}
+use Rattle.gt_shared_table.specs.Laws.{FramesAreReturned}
 use Rattle.gt_shared_table.specs.Laws.{WordsAreStepped}
 use Rattle.gt_shared_table.proofs.OneStep.{access_stands, history_goes_on, holds_access, own_place, seen_there}
 use Rattle.gt_shared_table.proofs.OneStep.{word_again}
 use Rattle.gt_shared_table.proofs.Keeping.{gives_keep, pass_keeps, raise_keeps, returns_keep, takes_keep, was_mine}
-use Rattle.gt_shared_table.proofs.Keeping.{words_keep}
+use Rattle.gt_shared_table.proofs.Keeping.{waits_keep, words_keep}
 
 hidden_set : (hs : List (Maybe Cell)) (q : ℕ) (m : Maybe Cell) → map hidden (set hs q m) ≡ map hidden hs
 hidden_set [] q m = refl
@@ -77,7 +78,7 @@ module _ (b : Places) (s : State Cell FrameHolder) (holds : HoldsAll b s) (id : 
   own_at = at_map own_of s.views id v at
 
   -- a frame is taken
-  module _ (q : ℕ) (n : FrameAt) (named : IsNamed b q n) (lt : q < length b.names) (is_free : slice_index s.words (lock_place b q) ≡ 0) (carried : List (ℕ × Cell)) where
+  module _ (q : ℕ) (n : FrameAt) (named : IsNamed b q n) (lt : q < length b.names) (is_free : slice_index s.words (lock_place b q) ≡ 0) (k : ℕ) (busy : k ≢ 0) (carried : List (ℕ × Cell)) where
     abbrev pub x : FrameState
     x = made b h n
 
@@ -85,11 +86,11 @@ module _ (b : Places) (s : State Cell FrameHolder) (holds : HoldsAll b s) (id : 
     there = let f = holds.frames.free q lt is_free in f.1 ∙ ap (λ (z : Cell). some (some z)) (holds.frames.home q n f.0 named f.1)
 
     abbrev pub after : State Cell FrameHolder
-    after = stepped s (lock_place b q) 1 id carried (holding q x v) (takes q (Some x))
+    after = stepped s (lock_place b q) k id carried (holding q x v) (takes q (Some x))
 
     same_inner : inner b after ≡ inner b s
     same_inner = λ i. record {
-      words = take-set-le n_words s.words (lock_place b q) 1 (let l : n_words ≤ n_words + 8 * q = omega arith in l) i;
+      words = take-set-le n_words s.words (lock_place b q) k (let l : n_words ≤ n_words + 8 * q = omega arith in l) i;
       homes = hidden_set s.homes q none i;
       views = (map-set own_of s.views id (holding q x v) ∙ set_again (map own_of s.views) id v.own own_at) i;
     }
@@ -100,7 +101,28 @@ module _ (b : Places) (s : State Cell FrameHolder) (holds : HoldsAll b s) (id : 
     pub locked : HoldsAll b after
     locked = all_by b after words_after h
         (one_history b.layout (whole (inner b after)) (whole (inner b s)) words_after.shown holds.words.shown (λ i. whole_views (same_inner i).views))
-        (takes_keep b h s holds.frames id v at q n named (Some x) there lt (holding q x v) refl carried)
+        (takes_keep b h s holds.frames id v at q n named (Some x) there lt (holding q x v) refl k busy carried)
+
+  -- a seat waits for a frame that another seat has
+  module _ (q : ℕ) (n : FrameAt) (named : IsNamed b q n) (lt : q < length b.names) (k : ℕ) (busy : k ≢ 0) (carried : List (ℕ × Cell)) where
+    abbrev waited : State Cell FrameHolder
+    waited = record { words = set s.words (lock_place b q) k; homes = s.homes; views = s.views }
+
+    inner_waited : inner b waited ≡ inner b s
+    inner_waited = λ i. record {
+      words = take-set-le n_words s.words (lock_place b q) k (let l : n_words ≤ n_words + 8 * q = omega arith in l) i;
+      homes = map hidden s.homes;
+      views = map own_of s.views;
+    }
+
+    words_waited : TableHolds b.layout (inner b waited)
+    words_waited = subst (TableHolds b.layout) (sym inner_waited) holds.words
+
+    pub waits : HoldsAll b (stepped s (lock_place b q) k id carried v keeps)
+    waits = subst (λ (vs : List FrameHolder). HoldsAll b (record { words = set s.words (lock_place b q) k; homes = s.homes; views = vs })) (sym (set_again s.views id v at))
+        (all_by b waited words_waited h
+        (one_history b.layout (whole (inner b waited)) (whole (inner b s)) words_waited.shown holds.words.shown (λ i. whole_views (inner_waited i).views))
+        (waits_keep b h s holds.frames id v at q n named lt k busy))
 
   -- a step that leaves the words of entries and headers
   module _ (x : SeatStep) (aside : IsAside x) (here : v.own.gone ≡ false) where
@@ -265,16 +287,36 @@ nothing_found b s holds id v at i n is c =
 abbrev IsMe : Me Cell FrameHolder → Me Cell FrameHolder → Type 0
 IsMe m n = m ≡ n
 
+-- the frame was taken by a step that leaves k in its lock word
+takes_by : (b : Places) (s : State Cell FrameHolder) → HoldsAll b s → (id : ℕ) (me : Me Cell FrameHolder) → get_elem? s.views id ≡ some me.0 → (q : ℕ) (n : FrameAt) → IsNamed b q n → q < length b.names → (k : ℕ) → k ≢ 0
+    → slice_index s.words (lock_place b q) ≡ 0
+    → (w : FrameHolder) × (a : Act Cell) × Valid s.homes me.1 a × HoldsAll b (stepped s (lock_place b q) k id me.1 w a) × TookAt b.layout n q me (w, carried_after me.1 a)
+takes_by b s holds id me at q n named lt k busy none_has = let y : FrameState = made b holds.words.shown.history n in
+    (holding q y me.0, takes q (Some y), there b s holds id me.0 at q n named lt none_has k busy me.1, locked b s holds id me.0 at q n named lt none_has k busy me.1, (y, refl, refl, refl))
+
+is_none : (word : ℕ) → (word == 0) ≡ true → word ≡ 0
+is_none word e = grind (arith, nat_tests)
+
+a_number_is_busy : (k : ℕ) → suc k ≢ 0
+a_number_is_busy k e = omega arith
+
 locks_by : (b : Places) (s : State Cell FrameHolder) → HoldsAll b s → (id : ℕ) (me : Me Cell FrameHolder) → get_elem? s.views id ≡ some me.0 → (q : ℕ) (n : FrameAt) → IsNamed b q n → q < length b.names → (word : ℕ) → slice_index s.words (lock_place b q) ≡ word → (t : Bool) → (word == 0) ≡ t
     → (w : FrameHolder) × (a : Act Cell) × Valid s.homes me.1 a × HoldsAll b (stepped s (lock_place b q) (either t 1 word) id me.1 w a)
     × MatchBool t (TookAt b.layout n q me (w, carried_after me.1 a)) (IsMe (w, carried_after me.1 a) me)
-locks_by b s holds id me at q n named lt word is true e = let none_has : slice_index s.words (lock_place b q) ≡ 0 = is ∙ (let z : word ≡ 0 = grind (arith, nat_tests) in z) in
-    let y : FrameState = made b holds.words.shown.history n in
-    (holding q y me.0, takes q (Some y), there b s holds id me.0 at q n named lt none_has me.1, locked b s holds id me.0 at q n named lt none_has me.1, (y, refl, refl, refl))
+locks_by b s holds id me at q n named lt word is true e = takes_by b s holds id me at q n named lt 1 (a_number_is_busy 0) (is ∙ is_none word e)
 locks_by b s holds id me at q n named lt word is false e = (me.0, keeps, tt, nothing_found b s holds id me.0 at (lock_place b q) word is me.1, refl)
 
 pub locks : FramesAreLocked
 locks b slots id me q n named lt s holds many at bound = locks_by b s holds id me at q n named lt (slice_index s.words (lock_place b q)) refl (slice_index s.words (lock_place b q) == 0) refl
+
+awaits_by : (b : Places) (s : State Cell FrameHolder) → HoldsAll b s → (id : ℕ) (me : Me Cell FrameHolder) → get_elem? s.views id ≡ some me.0 → (q : ℕ) (n : FrameAt) → IsNamed b q n → q < length b.names → (word : ℕ) → slice_index s.words (lock_place b q) ≡ word → (t : Bool) → (word == 0) ≡ t
+    → (w : FrameHolder) × (a : Act Cell) × Valid s.homes me.1 a × HoldsAll b (stepped s (lock_place b q) 2 id me.1 w a)
+    × MatchBool t (TookAt b.layout n q me (w, carried_after me.1 a)) (IsMe (w, carried_after me.1 a) me)
+awaits_by b s holds id me at q n named lt word is true e = takes_by b s holds id me at q n named lt 2 (a_number_is_busy 1) (is ∙ is_none word e)
+awaits_by b s holds id me at q n named lt word is false e = (me.0, keeps, tt, waits b s holds id me.0 at q n named lt 2 (a_number_is_busy 1) me.1, refl)
+
+pub awaits : FramesAreAwaited
+awaits b slots id me q n named lt s holds many at bound = awaits_by b s holds id me at q n named lt (slice_index s.words (lock_place b q)) refl (slice_index s.words (lock_place b q) == 0) refl
 
 pub frees : FramesAreFreed
 frees b slots id me q n named x hs has y c out m is by_held here s holds many at bound = (

@@ -1,5 +1,5 @@
 -- Consequences of the rules, for callers.
-use Rattle.std.specs.Prelude.{◌≡◌, ℕ, ◌<◌, List, [], ◌∷◌, ◌==◌, false, length, take, slice_index, slice_set, Some}
+use Rattle.std.specs.Prelude.{◌≡◌, ◌≢◌, ℕ, ◌<◌, List, [], ◌∷◌, ◌==◌, false, length, take, slice_index, slice_set, Some}
 use mathlib.Core.Option.{some}
 use prog.Atomic.{either}
 use lib.ListN.{get_elem?}
@@ -45,7 +45,7 @@ FramesAreTaken =
     (b : Places) (h : StepHistory) (s : State Cell FrameHolder) (kept : FramesAreKept b h s) (id : ℕ) (v : FrameHolder)
     → get_elem? s.views id ≡ some v → (q : ℕ) (n : FrameAt) → IsNamed b q n → (y : Cell)
     → get_elem? s.homes q ≡ some (some y) → q < length b.names → (w : FrameHolder) → w.held ≡ (q, made b h n) ∷ v.held
-    → (c : List (ℕ × Cell)) → FramesAreKept b h (stepped s (lock_place b q) 1 id c w (takes q y))
+    → (k : ℕ) → k ≢ 0 → (c : List (ℕ × Cell)) → FramesAreKept b h (stepped s (lock_place b q) k id c w (takes q y))
 
 abbrev pub FramesComeBack : Type 0
 FramesComeBack =
@@ -62,6 +62,12 @@ FramesAreLocked =
     (b : Places) (slots id : ℕ) (me : Me Cell FrameHolder) (q : ℕ) (n : FrameAt) → IsNamed b q n → q < length b.names
     → Allows (HoldsAll b) slots id me (lock_place b q) (λ w. either (w == 0) 1 w)
     (λ w m. Locks b.layout n q me w m)
+
+-- the same by a step that leaves the mark of a frame for which a seat may wait
+abbrev pub FramesAreAwaited : Type 0
+FramesAreAwaited =
+    (b : Places) (slots id : ℕ) (me : Me Cell FrameHolder) (q : ℕ) (n : FrameAt) → IsNamed b q n → q < length b.names
+    → Allows (HoldsAll b) slots id me (lock_place b q) (λ _. 2) (λ w m. Locks b.layout n q me w m)
 
 -- the frame that the seat carries first may be freed by an access
 abbrev pub FramesAreFreed : Type 0

@@ -1,6 +1,7 @@
 //! Laws: what the rule of the table allows. A law does nothing; its contract is the theorem.
 ghost use Rattle.gt_shared_table.specs.Laws.{AccessesGoOn, FramesAreTaken, FramesComeBack, FramesStay};
-ghost use Rattle.gt_shared_table.specs.Laws.{FramesAreFreed, FramesAreLocked, FramesAreReturned, FramesHaveOneSlot};
+ghost use Rattle.gt_shared_table.specs.Laws.{FramesAreAwaited, FramesAreFreed, FramesAreLocked, FramesAreReturned};
+ghost use Rattle.gt_shared_table.specs.Laws.{FramesHaveOneSlot};
 ghost use Rattle.gt_shared_table.specs.Laws.{FlagsArePassed, FlagsAreRaised, FramesOpen, WordsAreStepped};
 ghost use Rattle.gt_shared_table.specs.Seats.{SeatsAreDealt, SeatsAreTakenIn};
 
@@ -20,6 +21,7 @@ pub fn every_frame_is_kept()
 pub fn every_step_is_allowed()
     ensures words { WordsAreStepped }
     ensures locks { FramesAreLocked }
+    ensures awaits { FramesAreAwaited }
     ensures frees { FramesAreFreed }
     ensures returned { FramesAreReturned }
     ensures raises { FlagsAreRaised }

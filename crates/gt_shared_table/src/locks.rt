@@ -1,4 +1,5 @@
-//! The steps on the locks of frames.
+//! The steps on the locks of frames. A lock word is 0 if its frame is free, `TAKEN` if a seat has it, and `AWAITED` if
+//! another seat may wait for it besides. Only then the step that frees it wakes a seat, which is a system call.
 ghost use Rattle.std.specs.Prelude.{◌≡◌, ◌<◌, ◌==◌, MatchBool};
 ghost use prog.Atomic.{either};
 ghost use Rattle.atomic_table.specs.Table.{Allows};
@@ -10,6 +11,11 @@ use crate::rule::{CellSeat, Cells, FrameSlot, FreesBy, LocksSlot, OfAccess, OfSl
 use std::marker::Brand;
 use std::sync::Wait;
 
+// The number of a lock word whose frame a seat has, and for which no seat waits.
+const TAKEN: u64 = 1;
+// The number of a lock word whose frame a seat has, and for which another may wait.
+const AWAITED: u64 = 2;
+
 // Exchanges a lock word, once. Only the proof uses `slot`, except for its lock.
 fn lock_word<J: OfSlot>(cells: &Cells, seat: &mut CellSeat, slot: FrameSlot) -> u64
     requires fits { (seat.old.table_id ≡ cells.now.table_id) × (slot.lock < cells.now.table_id.words) }
@@ -18,10 +24,21 @@ fn lock_word<J: OfSlot>(cells: &Cells, seat: &mut CellSeat, slot: FrameSlot) -> 
     ensures seat { (seat.new.table_id ≡ seat.old.table_id) × (seat.new.id ≡ seat.old.id) }
     ensures locks { Locks J.layout J.name J.slot seat.old.me result seat.new.me }
 {
-    cells.compare_exchange::<LocksSlot<J>>(seat, slot.lock, 0, 1)
+    cells.compare_exchange::<LocksSlot<J>>(seat, slot.lock, 0, TAKEN)
 }
 
-// Stores a lock word. By this store the access to its frame takes place.
+// Swaps a lock word for `AWAITED`. Only the proof uses `slot`, except for its lock.
+fn await_word<J: OfSlot>(cells: &Cells, seat: &mut CellSeat, slot: FrameSlot) -> u64
+    requires fits { (seat.old.table_id ≡ cells.now.table_id) × (slot.lock < cells.now.table_id.words) }
+    requires allowed { Allows (HoldsAll (places_of cells.now.key)) cells.now.table_id.slots seat.old.id seat.old.me
+        slot.lock (λ _. 2) (λ n m. Locks J.layout J.name J.slot seat.old.me n m) }
+    ensures seat { (seat.new.table_id ≡ seat.old.table_id) × (seat.new.id ≡ seat.old.id) }
+    ensures locks { Locks J.layout J.name J.slot seat.old.me result seat.new.me }
+{
+    cells.swap::<LocksSlot<J>>(seat, slot.lock, AWAITED)
+}
+
+// Frees a lock word. By this step the access to its frame takes place.
 pub(crate) fn free_lock<J: OfAccess>(cells: &Cells, seat: &mut CellSeat, slot: FrameSlot)
     requires fits { (seat.old.table_id ≡ cells.now.table_id) × (slot.lock < cells.now.table_id.words) }
     requires allowed { Allows (HoldsAll (places_of cells.now.key)) cells.now.table_id.slots seat.old.id seat.old.me
@@ -29,11 +46,12 @@ pub(crate) fn free_lock<J: OfAccess>(cells: &Cells, seat: &mut CellSeat, slot: F
     ensures seat { (seat.new.table_id ≡ seat.old.table_id) × (seat.new.id ≡ seat.old.id) }
     ensures frees { Frees J.places J.name J.access J.left seat.old.me seat.new.me }
 {
-    cells.store::<FreesBy<J>>(seat, slot.lock, 0);
-    cells.wake_one(slot.lock);
+    if cells.swap::<FreesBy<J>>(seat, slot.lock, 0) == AWAITED {
+        cells.wake_one(slot.lock);
+    }
 }
 
-// Stores the lock word of a frame that returns unchanged.
+// Frees the lock word of a frame that returns unchanged.
 pub(crate) fn return_lock<J: OfAccess>(cells: &Cells, seat: &mut CellSeat, slot: FrameSlot)
     requires fits { (seat.old.table_id ≡ cells.now.table_id) × (slot.lock < cells.now.table_id.words) }
     requires allowed { Allows (HoldsAll (places_of cells.now.key)) cells.now.table_id.slots seat.old.id seat.old.me
@@ -41,8 +59,9 @@ pub(crate) fn return_lock<J: OfAccess>(cells: &Cells, seat: &mut CellSeat, slot:
     ensures seat { (seat.new.table_id ≡ seat.old.table_id) × (seat.new.id ≡ seat.old.id) }
     ensures returned { Returns J.left seat.old.me seat.new.me }
 {
-    cells.store::<ReturnsTo<J>>(seat, slot.lock, 0);
-    cells.wake_one(slot.lock);
+    if cells.swap::<ReturnsTo<J>>(seat, slot.lock, 0) == AWAITED {
+        cells.wake_one(slot.lock);
+    }
 }
 
 // Takes the frame of a slot if no other seat has it. Otherwise returns false, with the seat unchanged.
@@ -56,18 +75,34 @@ pub(crate) fn try_lock(cells: &Cells, seat: &mut CellSeat, slot: FrameSlot) -> b
     lock_word::<Brand>(cells, seat, slot) == 0
 }
 
-// Takes the frame of a slot. Waits while another seat has it.
+// Takes the frame of a slot if no other seat has it, and marks its lock as awaited in either case. Otherwise returns
+// false, with the seat unchanged.
+fn take_awaited(cells: &Cells, seat: &mut CellSeat, slot: FrameSlot) -> bool
+    requires mine { seat.old.table_id ≡ cells.now.table_id }
+    requires slot { IsSlotOf (places_of cells.now.key) cells.now.table_id slot }
+    ensures seat { (seat.new.table_id ≡ seat.old.table_id) × (seat.new.id ≡ seat.old.id) }
+    ensures took { MatchBool result (Took (layout_of cells.now.key) slot seat.old.me seat.new.me)
+        (seat.new.me ≡ seat.old.me) }
+{
+    await_word::<Brand>(cells, seat, slot) == 0
+}
+
+// Takes the frame of a slot. Waits while another seat has it. A seat that waited takes the frame with the mark that
+// others may wait too, so the next wakes when it frees the frame.
 pub(crate) fn lock<R: Wait>(rt: &R, cells: &Cells, seat: &mut CellSeat, slot: FrameSlot)
     requires mine { seat.old.table_id ≡ cells.now.table_id }
     requires slot { IsSlotOf (places_of cells.now.key) cells.now.table_id slot }
     ensures seat { (seat.new.table_id ≡ seat.old.table_id) × (seat.new.id ≡ seat.old.id) }
     ensures took { Took (layout_of cells.now.key) slot seat.old.me seat.new.me }
 {
+    if try_lock(cells, seat, slot) {
+        return;
+    }
     'tries: for _try in rt.forever() {
-        if try_lock(cells, seat, slot) {
+        if take_awaited(cells, seat, slot) {
             return;
         }
-        cells.park(rt, slot.lock, 1);
+        cells.park(rt, slot.lock, AWAITED as u32);
     }
     unreachable!()
 }

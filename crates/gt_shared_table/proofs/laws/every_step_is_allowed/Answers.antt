@@ -1,4 +1,4 @@
-use Rattle.gt_shared_table.proofs.Steps.{frees, locks, passes, raises, returns as gives_back, steps}
+use Rattle.gt_shared_table.proofs.Steps.{awaits, frees, locks, passes, raises, returns as gives_back, steps}
 use Rattle.gt_shared_table.proofs.laws.every_step_is_allowed.Goals as goal
 
 pub returns-clause-words : goal.returns-clause-words
@@ -18,3 +18,6 @@ returns-clause-raises c = raises
 
 pub returns-clause-passes : goal.returns-clause-passes
 returns-clause-passes c = passes
+
+pub returns-clause-awaits : goal.returns-clause-awaits
+returns-clause-awaits c = awaits
