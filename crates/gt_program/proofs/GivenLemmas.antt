@@ -21,5 +21,5 @@ read_so items known left (Err e) opened read = tt
 -- a text that was read up to the limit, and is not too long
 pub whole_so : {B E : Type 0} (items : B → List ℕ) (known : Option (List ℕ)) (bytes : B) (r : Result B E) → IfSome known (λ all. items bytes ≡ take 1048577 all) → IfOk r (λ b. (b ≡ bytes) × (length (items b) ≤ 1048576))
     → IfOk r (λ b. IfSome known (λ all. items b ≡ all))
-whole_so items known bytes (Ok b) read (same, short) = whole_text known (items b) (subst (λ (x : B). IfSome known (λ all. items x ≡ take 1048577 all)) (sym same) read) short
+whole_so {B = B} items known bytes (Ok b) read (same, short) = whole_text known (items b) (subst (λ (x : B). IfSome known (λ all. items x ≡ take 1048577 all)) (sym same) read) short
 whole_so items known bytes (Err e) read is = tt

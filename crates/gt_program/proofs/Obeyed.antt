@@ -41,7 +41,7 @@ use Rattle.gt_program.specs.Obeying.{AnswersVerdict, IsSearched, Searches, Seeks
 use Rattle.gt_explore_verdict.specs.declared.judging.Verdict.{Verdict}
 use Rattle.gt_explore_verdict.specs.declared.judging.Verdict.TheVariants.{Holds, Fails, Undecided}
 use Rattle.gt_explore.specs.declared.exploring.ExploreOptions.{ExploreOptions as Searched}
-use Rattle.gt_program.specs.Obeying.{AnswersLines, ChecksAll, ChecksAs, ChecksNever, Deed, IsGiven, OrNothing, SeeksText, kind_of}
+use Rattle.gt_program.specs.Obeying.{AnswersLines, ChecksAll, ChecksAs, ChecksNever, Deed, IsGiven, OrNothing, SeeksText, kind_checked}
 use Rattle.gt_program.specs.Obeying.{WithFile}
 use Rattle.gt_program.specs.declared.checking.CheckKind.{CheckKind}
 use Rattle.std.specs.Str.Lines.{lines}
@@ -121,7 +121,7 @@ pub files_named : (P : Doing) (file : List ℕ → Option (List ℕ)) (given nam
 files_named P file given names old new outcome is checked = subst (λ (l : List (Option (List ℕ))). ChecksFiles P file l old new outcome) is checked
 
 -- all files were checked as what was asked for
-pub checked_kind : (script : Bool) (kind : CheckKind) (file : List ℕ → Option (List ℕ)) (input name : Option (List ℕ)) (more : List (Option (List ℕ))) (old new : Option (List ℕ)) (outcome : Outcome) → kind ≡ kind_of script
+pub checked_kind : (script : Bool) (kind : CheckKind) (file : List ℕ → Option (List ℕ)) (input name : Option (List ℕ)) (more : List (Option (List ℕ))) (old new : Option (List ℕ)) (outcome : Outcome) → kind ≡ kind_checked script
     → ChecksAll (Checks kind) file input name more old new outcome → ChecksAll (ChecksAs script) file input name more old new outcome
 checked_kind true kind file input name more old new outcome is checked = subst (λ (k : CheckKind). ChecksAll (Checks k) file input name more old new outcome) is checked
 checked_kind false kind file input name more old new outcome is checked = subst (λ (k : CheckKind). ChecksAll (Checks k) file input name more old new outcome) is checked

@@ -141,9 +141,9 @@ ChecksNever given input old new (Err (failures.Breach fault)) = CheckedNever giv
 ChecksNever given input old new (Err failure) = ⊥
 
 -- what `check` checks, with `--script` or without
-abbrev pub kind_of : Bool → CheckKind
-kind_of false = checks.Policy
-kind_of true = checks.Script
+abbrev pub kind_checked : Bool → CheckKind
+kind_checked false = checks.Policy
+kind_checked true = checks.Script
 
 -- what a text is checked as, or against
 abbrev pub Checks : CheckKind → Doing

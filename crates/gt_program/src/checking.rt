@@ -4,7 +4,7 @@ ghost use Rattle.std.specs.Option.{option_map};
 ghost use Rattle.gt_text.specs.Streams.{OfInput};
 ghost use Rattle.gt_commands.specs.Files.{names_of};
 ghost use Rattle.gt_program.specs.Obeying.{known_input, Checks, ChecksAll, ChecksAs, ChecksFiles, ChecksNever, OrNothing};
-ghost use Rattle.gt_program.specs.Obeying.{WithFile, Works, kind_of};
+ghost use Rattle.gt_program.specs.Obeying.{WithFile, Works, kind_checked};
 
 use crate::commands::{Context, Work, fail, work_asked};
 use crate::explained::{check_explained, check_never_explained};
@@ -35,7 +35,7 @@ pub enum CheckKind<'w> {
 
 // Returns what is checked by `check`.
 fn kind_of<'w>(script: bool) -> CheckKind<'w>
-    ensures { result ≡ kind_of script }
+    ensures { result ≡ kind_checked script }
 {
     if script {
         CheckKind::Script

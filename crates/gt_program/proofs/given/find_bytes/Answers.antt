@@ -1,6 +1,10 @@
 use Rattle.std.proofs.Common.{refl}
+use Rattle.gt_explore.specs.declared.exploring.ExploreOptions.{ExploreOptions}
+use Rattle.gt_explore.specs.declared.exploring.ExploreRequest.TheVariants as requests
 use Rattle.gt_program.proofs.Obeyed.{found_so}
 use Rattle.gt_program.proofs.given.find_bytes.Goals as goal
 
 pub returns : goal.returns
-returns g c = found_so _ _ _ _ _ _ _ refl refl c.work_asked.ensures
+returns g c =
+    let asked : ExploreOptions = record { request = requests.Has c.args.text; states = c.args.states } in
+    found_so asked c.args.text.now c.args.states _ _ _ _ refl refl c.work_asked.ensures

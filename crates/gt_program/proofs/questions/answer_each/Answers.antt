@@ -1,9 +1,8 @@
 use Rattle.std.proofs.Common.{List, ℕ}
 use Rattle.std.specs.Str.Lines.{lines}
-use Rattle.gt_text.specs.Laws.{keeps_same}
 use Rattle.gt_program.specs.Obeying.{AnswersLines}
 use Rattle.gt_program.proofs.GivenLemmas.{known_read}
-use Rattle.gt_program.proofs.Obeyed.{nothing_done, with_text}
+use Rattle.gt_program.proofs.Obeyed.{with_text}
 use Rattle.gt_program.proofs.questions.answer_each.Goals as goal
 
 pub returns-in-Ok : goal.returns-in-Ok
@@ -11,7 +10,3 @@ returns-in-Ok g c =
     let answered = rw c.as_slice.ensures.value at c.answer_bytes.ensures in
     with_text _ (λ (asked : List ℕ). AnswersLines c.args.file.now (g.T.TextSource.file c.args.context.now.texts.now c.args.file.now) (lines asked)) c.in-Ok.bytes.items _ _ _
     (known_read _ _ c.in-Ok.bytes.items c.input.ensures c.in-Ok.ensures) answered
-
-pub returns-in-Err : goal.returns-in-Err
-returns-in-Err g c =
-    nothing_done _ (λ (asked : List ℕ). AnswersLines c.args.file.now (g.T.TextSource.file c.args.context.now.texts.now c.args.file.now) (lines asked)) _ _ _ c.fail.ensures (keeps_same _)
