@@ -186,7 +186,10 @@ fn runs_of_few_and_many_domains_begin_and_end(rt: HostRuntime) -> Result<(), All
     for count in COUNTS.iter() {
         // the mapper of the last domain's page is the first one that leaves
         let left = count.saturating_sub(1);
-        assert_eq!(rt; run(alloc, *count)?, (usize::from(*count), [*count, *count, *count, left]));
+        assert_eq!(rt;
+            run(alloc, *count)?,
+            (usize::from(*count), [*count, *count, *count, left])
+        );
     }
     Ok(())
 }
