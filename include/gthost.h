@@ -16,7 +16,7 @@
  *
  * Memory comes from the program's malloc. Only gthost_start, gthost_type_of, gthost_map (for its mapping),
  * gthost_reserve_records and the records that are kept allocate. A run of one domain takes 1 MB. A run of 64 domains
- * takes 50 MB, and 67 MB while it starts. Records take 48 bytes each, in pieces of 12 KiB. A mapping takes less than
+ * takes 51 MB, and 68 MB while it starts. Records take 48 bytes each, in pieces of 12 KiB. A mapping takes less than
  * 100 bytes. gthost_start needs 64 KiB of stack, and every other call 16 KiB.
  *
  * Threads. A handle may be in one call at a time. Different threads may call for different domains of a monitor at the

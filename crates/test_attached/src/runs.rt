@@ -177,15 +177,18 @@ fn run(alloc: Global, count: u16) -> Result<(usize, [u16; 4]), AllocError> {
     Ok((len, [granted, mapped, busy, leave_all(guests)]))
 }
 
+// Numbers of domains: the ends of the range, and half of it.
+static COUNTS: [u16; 7] = [1, 2, 31, 32, 33, 63, 64];
+
 #[test]
-fn runs_of_1_to_64_domains_begin_and_end(rt: HostRuntime) -> Result<(), AllocError> {
+fn runs_of_few_and_many_domains_begin_and_end(rt: HostRuntime) -> Result<(), AllocError> {
     let alloc = rt.alloc();
-    for count in 1..65u16 {
+    for count in COUNTS.iter() {
         // the mapper of the last domain's page is the first one that leaves
         let left = count.saturating_sub(1);
         assert_eq!(rt;
-            run(alloc, count)?,
-            (usize::from(count), [count, count, count, left])
+            run(alloc, *count)?,
+            (usize::from(*count), [*count, *count, *count, left])
         );
     }
     Ok(())
