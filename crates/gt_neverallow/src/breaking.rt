@@ -62,7 +62,7 @@ fn push_example(
     push_text(out, target.name.as_str())
 }
 
-// Returns the first example for a permission; empty if there is none.
+// Returns the first example for a permission, or an empty one.
 fn example_for(
     alloc: Global,
     never: &Neverallow,
@@ -168,7 +168,7 @@ fn breaches_of(
 }
 
 /// Returns each allow statement of a policy that grants something that a `neverallow` statement of the other text
-/// forbids, once for each such statement, in the order of the policy. Attributes stand for their types, and the names in
+/// forbids, once for each such statement, in the order of the policy. An attribute means its types, and the names in
 /// the other text are those of the policy.
 ///
 /// The error is the first fault of the policy, or else of the other text. If an allocation fails, its kind is

@@ -6,7 +6,7 @@
 //! JSON.
 //!
 //! It is proved that the pairs are exactly those for which some source, target and permission are granted by the one
-//! and forbidden by the other. They stand in the order of the policy. An error is the first fault of the policy or of
+//! and forbidden by the other. They have the order of the policy. An error is the first fault of the policy or of
 //! the other text.
 //!
 //! It uses `gt_policy` and `gt_policy_text` (statements and tokens), `gt_policy_check` (types, what a statement grants,

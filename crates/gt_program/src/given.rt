@@ -69,7 +69,7 @@ fn read_named<R, T: TextSource, E>(
     }
 }
 
-/// Reads the whole text of the named file. A failure is reported, and then there is none.
+/// Reads the whole text of the named file. A failure is reported, and nothing is returned.
 pub(crate) fn read_given<'a, R, T: TextSource, E: Eprint>(
     context: &Context<R, T, E>,
     name: &'a str,

@@ -266,8 +266,8 @@ fn answer_bytes<'a, R, T: TextSource, W: Write, E: Eprint>(
 }
 
 /// Answers each question of the standard input about the policy of the file, and returns the worst outcome. Blank lines
-/// and comments are skipped. Each answer comes after a line `# SOURCE TARGET PERMISSION`. A line that is no question is
-/// reported with its number.
+/// and comments are skipped. Each answer comes after a line `# SOURCE TARGET PERMISSION`. A line that is not a question
+/// is reported with its number.
 pub(crate) fn answer_each<'a, R, T: TextSource, W: Write, E: Eprint>(
     context: &Context<R, T, E>,
     file: &'a str,
