@@ -61,7 +61,8 @@ pub(crate) fn look_at_control(words: &Words, seat: &mut Seat, dom: DomId, gref: 
     requires seat { IsSeatOf words.now seat.old }
     requires can { CanMake words.now.layout seat.old.view (Step.LookControl dom gref) }
     ensures seat { IsSameSeat seat.old seat.new }
-    ensures made { Made words.now.layout (Step.LookControl dom gref) (Observation.Word result) seat.old.view seat.new.view }
+    ensures made { Made words.now.layout (Step.LookControl dom gref) (Observation.Word result)
+        seat.old.view seat.new.view }
 {
     words.load_control(seat, dom, gref)
 }
@@ -97,7 +98,8 @@ fn look_at_half(words: &Words, seat: &mut Seat, leg: &Leg, half: BodyWord, at: u
     requires place { at ≡ position_at words.now leg.now.dom }
     requires can { CanMake words.now.layout seat.old.view (Step.LookBody leg.now.dom leg.now.gref half) }
     ensures seat { IsSameSeat seat.old seat.new }
-    ensures made { Made words.now.layout (Step.LookBody leg.now.dom leg.now.gref half) (Observation.Word result) seat.old.view seat.new.view }
+    ensures made { Made words.now.layout (Step.LookBody leg.now.dom leg.now.gref half) (Observation.Word result)
+        seat.old.view seat.new.view }
 {
     words.load_body_at(seat, leg.dom, leg.gref, half, at)
 }

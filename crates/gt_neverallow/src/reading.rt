@@ -46,7 +46,8 @@ fn named<'a>(
     policy: &[LinedStatement],
     nevers: Items<Neverallow<'a>>,
 ) -> Result<Items<Neverallow<'a>>, PolicyFault>
-    ensures ok { IfOk result (λ ns. named_with nevers.entry (undeclared policy.now (flat_map names_of nevers.entry)) ≡ Ok ns) }
+    ensures ok { IfOk result (λ ns.
+        named_with nevers.entry (undeclared policy.now (flat_map names_of nevers.entry)) ≡ Ok ns) }
     ensures fault { IfErr result (λ e. (f : TokenFault) → fault_shown e ≡ Some f →
         named_with nevers.entry (undeclared policy.now (flat_map names_of nevers.entry)) ≡ Err f) }
     ensures memory { IfErr result (λ e. fault_shown e ≡ None → e ≡ out_of_memory) }
@@ -65,7 +66,8 @@ pub(crate) fn read_nevers<'a>(
     text: &'a str,
 ) -> Result<Items<Neverallow<'a>>, PolicyFault>
     ensures ok { IfOk result (λ ns. NeverSays policy.now text.entry.now (Ok ns)) }
-    ensures fault { IfErr result (λ e. (f : TokenFault) → fault_shown e ≡ Some f → NeverSays policy.now text.entry.now (Err f)) }
+    ensures fault { IfErr result (λ e. (f : TokenFault) → fault_shown e ≡ Some f →
+        NeverSays policy.now text.entry.now (Err f)) }
     ensures memory { IfErr result (λ e. fault_shown e ≡ None → e ≡ out_of_memory) }
 {
     if text.len() > LONGEST_TEXT {

@@ -135,8 +135,8 @@ fn plain_words(alloc: Global, words: &[String]) -> Result<Vec<String>, AllocErro
 }
 
 /// Does what the words of a command line, the program's name first, ask for, and returns the outcome. Texts, rules, help
-/// and version go to `out`, rules in lines of the width of `style`, if it has one. A fault goes to `err`, in one line. Of `play`, `run` and `policy` it is followed by its
-/// reasons if they are asked for.
+/// and version go to `out`, rules in lines of the width of `style`, if it has one. A fault goes to `err`, in one line. Of
+/// `play`, `run` and `policy` it is followed by its reasons if they are asked for.
 ///
 /// The outcome is yes for success, no for a fault of `play`, `run` and `policy`, for a policy with an error, for a denied
 /// question and for a word that no text has, and unknown for a fault of another command and if the words ask for nothing

@@ -119,7 +119,8 @@ impl<'m, P: Allows> RunningDomain<'m, P> {
     /// Passes a flag if it is raised. Otherwise returns false and makes no step.
     pub fn pass_flag(&mut self, flag: usize) -> bool
         ensures same { IsSameStand self.old self.new }
-        ensures passed { MatchBool result (MakesFlagStep P.may self.old.monitor flag Passed self.old.domain self.new.domain)
+        ensures passed { MatchBool result
+            (MakesFlagStep P.may self.old.monitor flag Passed self.old.domain self.new.domain)
             (self.new.domain ≡ self.old.domain) }
     {
         self.monitor.has_flag(flag) && self.domain.pass_flag(self.monitor, flag)
