@@ -85,7 +85,7 @@ pub enum FlagStep {
 }
 
 /// A step on an entry, a header or a frame: the position of its domain, then the reference or the frame's number. Or a
-/// step on the flag of this number, which is no domain's.
+/// step on the flag of this number: flags belong to the run and not to a domain.
 pub enum SeatStep {
     Entry(u64, u64, EntryStep),
     Header(u64, HeaderStep),
