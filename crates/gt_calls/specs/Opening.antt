@@ -3,9 +3,9 @@ use Rattle.std.specs.Prelude.{◌≡◌, ◌≢◌, ◌⊎◌, ◌+◌, ◌<◌,
 use Rattle.std.specs.Prelude.{Option, None}
 use Rattle.gt_calls.specs.Prelude.{arith, FRAME_SIZE, LAST_GENERATION, MAX_MAPPINGS, MAX_TABLE_FRAMES, DomId, GrantRef}
 use Rattle.gt_calls.specs.Prelude.{TypeId, Write, Perms, Triple, resolved, Entry, EntryChange, ToReadOnly, ToWritable}
-use Rattle.gt_calls.specs.Prelude.{Handle, OpenRequest, Grant, Revoke, Demote, Promote, Map, Unmap, Load, SetVersion}
-use Rattle.gt_calls.specs.Prelude.{SetupTable, QuerySize, GetVersion, Store, Peek, Poke, Copy, Withdraw, SERIAL_LIMIT}
-use Rattle.gt_calls.specs.Prelude.{HeldPin, CopyArgs, End, Rule, CallResult}
+use Rattle.gt_calls.specs.Prelude.{Handle, OpenRequest, Grant, Revoke, Demote, Promote, Map, Unmap, Release, Load}
+use Rattle.gt_calls.specs.Prelude.{SetVersion, SetupTable, QuerySize, GetVersion, Store, Peek, Poke, Copy, Withdraw}
+use Rattle.gt_calls.specs.Prelude.{HeldPin, CopyArgs, End, Rule, CallResult, SERIAL_LIMIT}
 use Rattle.gt_calls.specs.Rules.{CallerKnowledge, IsOfRun, is_already, cannot_stand, frame_count_of, is_invalid}
 use Rattle.gt_calls.specs.Rules.{size_of}
 use Rattle.gt_calls.specs.Rules.{map_dir, rights_to_map, rights_to_unmap, rights_to_copy, rights_to_setup}
@@ -56,6 +56,11 @@ pub record OpensUnmap (k : CallerKnowledge) (caller : DomId) (handle : Handle) :
   pub mapping : HeldPin
   pub found : k.mapping handle ≡ Some mapping
   pub allowed : IsAllowed k.may (rights_to_unmap k caller mapping.dom)
+
+-- the release of a mapping by a domain that leaves: the handle has this mapping
+pub record OpensRelease (k : CallerKnowledge) (handle : Handle) : Type 0 where
+  pub mapping : HeldPin
+  pub found : k.mapping handle ≡ Some mapping
 
 -- a load: the range is inside a frame, and the handle has this mapping
 pub record OpensLoad (k : CallerKnowledge) (handle : Handle) (off len : ℕ) : Type 0 where
@@ -118,6 +123,7 @@ Opens k caller (Demote gref) = OpensTurn k ToReadOnly gref
 Opens k caller (Promote gref) = OpensTurn k ToWritable gref
 Opens k caller (Map dom gref flags) = OpensMap k caller dom flags
 Opens k caller (Unmap handle) = OpensUnmap k caller handle
+Opens k caller (Release handle) = OpensRelease k handle
 Opens k caller (Load handle off len) = OpensLoad k handle off len
 Opens k caller (Store handle off len) = OpensStore k handle off len
 Opens k caller (Peek frame off len) = OpensOwn k caller frame off len

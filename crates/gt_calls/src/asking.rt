@@ -9,7 +9,8 @@ ghost use Rattle.gt_calls.specs.Rules.{grant_begun};
 use crate::action::CallResult;
 use crate::judging::{
     judge_change, judge_copy, judge_grant, judge_load, judge_map, judge_own_access, judge_query,
-    judge_revoke, judge_setup, judge_store, judge_unmap, judge_version, label_of, own_entry,
+    judge_release, judge_revoke, judge_setup, judge_store, judge_unmap, judge_version, label_of,
+    own_entry,
 };
 use crate::known::{CallerState, OwnerEntry};
 use crate::request::{OpenRequest, Request};
@@ -53,6 +54,7 @@ fn judge_beginning<P: Allows>(
             let source = label_of(known.config, caller);
             judge_unmap(known, source, handle)
         }
+        OpenRequest::Release { handle } => judge_release(known.mappings, handle),
         OpenRequest::Load { handle, off, len } => {
             judge_load(known.mappings, handle, off, usize::from(len))
         }
@@ -127,6 +129,7 @@ fn plainly_asked(request: Request<'_>) -> OpenRequest
         Request::Promote { gref } => OpenRequest::Promote { gref },
         Request::Map { dom, gref, flags } => OpenRequest::Map { dom, gref, flags },
         Request::Unmap { handle } => OpenRequest::Unmap { handle },
+        Request::Release { handle } => OpenRequest::Release { handle },
         Request::Load { handle, off, len } => OpenRequest::Load { handle, off, len },
         Request::Store { handle, off, bytes } => OpenRequest::Store {
             handle,

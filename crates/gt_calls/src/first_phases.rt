@@ -218,7 +218,9 @@ pub(crate) fn set_first<P: Allows>(
 {
     match *request {
         OpenRequest::Map { dom, gref, flags } => *phase = mapping(known, caller, dom, gref, flags),
-        OpenRequest::Unmap { handle } => begin_unmap(held_at(known, handle), handle, phase),
+        OpenRequest::Unmap { handle } | OpenRequest::Release { handle } => {
+            begin_unmap(held_at(known, handle), handle, phase)
+        }
         OpenRequest::Grant { gref, entry } => *phase = Phase::Storing { gref, entry },
         OpenRequest::Revoke { gref } => *phase = revoking(known, gref),
         OpenRequest::Withdraw { gref } => *phase = turning(gref, EntryChange::Withdraw),

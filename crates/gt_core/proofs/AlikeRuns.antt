@@ -3,7 +3,7 @@
 use Rattle.gt_core.proofs.Words.{◌≡◌, ◌≢◌, ◌⊎◌, inl, inr, ℕ, refl, Bool, List, [], ◌∷◌, ◌++◌, Option, Some, None, sym}
 use Rattle.gt_core.proofs.Words.{ap, ◌∙◌, take, drop, option_map, domain_of, DomId, DomainConfig, Denial}
 use Rattle.gt_core.proofs.Words.{MAX_TABLE_FRAMES, Header, header_word, Handle, asked, begun_of, CallerKnowledge, path}
-use Rattle.gt_core.proofs.Words.{HeldPin, Request, OpenRequest, Map, Unmap, Load, Store, Peek, SetupTable, QuerySize, GetVersion}
+use Rattle.gt_core.proofs.Words.{HeldPin, Request, OpenRequest, Map, Unmap, Release, Load, Store, Peek, SetupTable, QuerySize, GetVersion}
 use Rattle.gt_core.proofs.Words.{Observation, Word, Step, LookHeader, LookControl, LookBody, PinStep, StoreHeader, Exchange}
 use Rattle.gt_core.proofs.Words.{ReadBytes, Action, Makes, CallResult, Answer, Event, Begin, Tick, ItemEvent, Began}
 use Rattle.gt_core.proofs.Words.{Stepped, Item, Element, Busy, Idle, NoDomain, Did, History, Setting, Underway}
@@ -29,6 +29,7 @@ bare_action (Ends verdict) = Ends verdict
 -- the handle that is named finds the same mapping without its key
 abbrev FindsSame : (Handle → Option HeldPin) → (Handle → Option HeldPin) → OpenRequest → Type 0
 FindsSame bared found (Unmap a) = bared (bare_handle a) ≡ found a
+FindsSame bared found (Release a) = bared (bare_handle a) ≡ found a
 FindsSame bared found (Load a off len) = bared (bare_handle a) ≡ found a
 FindsSame bared found (Store a off len) = bared (bare_handle a) ≡ found a
 FindsSame bared found r = Unit {0}

@@ -1,7 +1,7 @@
 -- What a history leaves is the same without keys.
 use Rattle.gt_core.proofs.Words.{◌≡◌, ◌+◌, ◌⊎◌, inl, inr, ℕ, refl, Bool, true, false, List, [], ◌∷◌, ◌++◌, map, Option}
 use Rattle.gt_core.proofs.Words.{Some, None, cond, sym, ap, ◌∙◌, ◌==◌, option_map, fun_ext, DomId, Entry, Header}
-use Rattle.gt_core.proofs.Words.{EntryChange, BodyWord, asked, bytes_given_by, Request, OpenRequest, Unmap, Load, Store, ByMapping}
+use Rattle.gt_core.proofs.Words.{EntryChange, BodyWord, asked, bytes_given_by, Request, OpenRequest, Unmap, Release, Load, Store, ByMapping}
 use Rattle.gt_core.proofs.Words.{Observation}
 use Rattle.gt_core.proofs.Words.{Step, Unpin, Answer, ItemEvent, Began, Stepped, Item, Patch, written, History, Setting}
 use Rattle.gt_core.proofs.Words.{Underway, WriteMade, entry_at, changed_entry_of, change_at, change_of, raises_at}
@@ -55,6 +55,7 @@ mapped-bare a = grind arith
 -- the request without the key of a handle
 abbrev pub bare_asked : OpenRequest → OpenRequest
 bare_asked (Unmap handle) = Unmap (bare_handle handle)
+bare_asked (Release handle) = Release (bare_handle handle)
 bare_asked (Load handle off len) = Load (bare_handle handle) off len
 bare_asked (Store handle off len) = Store (bare_handle handle) off len
 bare_asked request = request

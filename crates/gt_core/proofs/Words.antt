@@ -152,6 +152,7 @@ pub use Rattle.gt_calls.specs.{declared.request.OpenRequest.TheVariants.Promote,
 pub use Rattle.gt_calls.specs.{declared.request.OpenRequest.TheVariants.Revoke, declared.request.OpenRequest.TheVariants.Withdraw}
 pub use Rattle.gt_calls.specs.{declared.request.OpenRequest.TheVariants.SetVersion}
 pub use Rattle.gt_calls.specs.{declared.request.OpenRequest.TheVariants.SetupTable, declared.request.OpenRequest.TheVariants.Store}
+pub use Rattle.gt_calls.specs.{declared.request.OpenRequest.TheVariants.Release}
 pub use Rattle.gt_calls.specs.{declared.request.OpenRequest.TheVariants.Unmap}
 pub use Rattle.gt_calls.specs.{declared.request.PinHolder.PinHolder}
 pub use Rattle.gt_calls.specs.{declared.request.PinHolder.TheVariants.Leg as ByLeg}

@@ -1,7 +1,7 @@
 -- Runs that are equal except for the keys of handles, which a run may choose.
 use Rattle.std.specs.Prelude.{◌≡◌, ◌≤◌, ◌⊎◌, ℕ, List, [], ◌∷◌, Option, Some}
-use Rattle.gt_core.specs.Prelude.{option_map, Bor, inl, inr, DomId, Handle, SERIAL_LIMIT, Request, OpenRequest, Unmap, Load}
-use Rattle.gt_core.specs.Prelude.{Store, ByMapping, Step, Unpin, asked, Answer, Mapped, Bytes, Event, Begin, Tick}
+use Rattle.gt_core.specs.Prelude.{option_map, Bor, inl, inr, DomId, Handle, SERIAL_LIMIT, Request, OpenRequest, Unmap, Release}
+use Rattle.gt_core.specs.Prelude.{Load, Store, ByMapping, Step, Unpin, asked, Answer, Mapped, Bytes, Event, Begin, Tick}
 use Rattle.gt_core.specs.Prelude.{ItemEvent, Began, Stepped, Item, Element, Did}
 use Rattle.gt_calls.specs.declared.request.Request.TheVariants as requests
 use Rattle.gt_core.specs.History.{History, Setting}
@@ -21,6 +21,7 @@ bare_bytes bytes = record { ref_ptr = (0, 0); now = bytes.now }
 abbrev pub bare_request : Request → Request
 bare_request (requests.GrantBytes gref bytes) = requests.GrantBytes gref (bare_bytes bytes)
 bare_request (requests.Unmap handle) = requests.Unmap (bare_handle handle)
+bare_request (requests.Release handle) = requests.Release (bare_handle handle)
 bare_request (requests.Load handle off len) = requests.Load (bare_handle handle) off len
 bare_request (requests.Store handle off bytes) = requests.Store (bare_handle handle) off (bare_bytes bytes)
 bare_request (requests.Poke frame off bytes) = requests.Poke frame off (bare_bytes bytes)
@@ -89,6 +90,7 @@ IsKnown h d handle = IsGiven h d handle ⊎ (SERIAL_LIMIT ≤ handle.serial)
 -- the handle that the request names is known
 abbrev pub AsksKnown : History → ℕ → OpenRequest → Type 0
 AsksKnown h d (Unmap handle) = IsKnown h d handle
+AsksKnown h d (Release handle) = IsKnown h d handle
 AsksKnown h d (Load handle off len) = IsKnown h d handle
 AsksKnown h d (Store handle off len) = IsKnown h d handle
 AsksKnown h d request = Unit {0}

@@ -1,7 +1,7 @@
 -- When a domain may reach bytes: what an access, and a change of an entry, requires.
 use Rattle.std.specs.Prelude.{◌≡◌, ◌≤◌, ◌⊎◌, ℕ, Bool, true, false, [], Option, Some, None, Any, ◌+◌, ◌<◌}
 use Rattle.gt_core.specs.Prelude.{resolved, IsAllowed, DomId, FRAME_SIZE, Dir, Read, Write, Use, ForMap, ForCopy}
-use Rattle.gt_core.specs.Prelude.{Invalid, permits, forwards, IsSpelled, FirstHalf, SecondHalf, ByMapping, OpenRequest, Unmap}
+use Rattle.gt_core.specs.Prelude.{Invalid, permits, forwards, IsSpelled, FirstHalf, SecondHalf, ByMapping, OpenRequest, GivesUp}
 use Rattle.gt_core.specs.Prelude.{Load, Store, Copy, HeldPin, Spot, EntryChange, Publish, ToInvalid, ToReadOnly, ToWritable}
 use Rattle.gt_core.specs.Prelude.{ToWithdrawn, Step, StoreBody, Unpin, Exchange, ReadBytes, WriteBytes, CopyBytes}
 use Rattle.gt_core.specs.Prelude.{Taken, Item, ItemEvent, Stepped, rights_to_map, rights_to_copy, frame_count_of}
@@ -89,7 +89,7 @@ abbrev pub AccessIsJustified : Setting → History → DomId → OpenRequest →
 AccessIsJustified s before d request dir at len =
     IsInFrame s at len × MayAccess before d dir at len × MayAsk s before d request
 
--- an access is justified, and only the unmap that names its handle drops a mapping
+-- an access is justified, and only an unmap or a release that names its handle drops a mapping
 abbrev pub Justified : Setting → History → DomId → OpenRequest → Step → Type 0
 Justified s before d request (ReadBytes dom frame off len) =
     AccessIsJustified s before d request Read
@@ -98,7 +98,7 @@ Justified s before d request (WriteBytes dom frame off len) =
     AccessIsJustified s before d request Write
     (record { frame = record { owner = dom; number = frame }; off = off }) len
 Justified s before d request (CopyBytes from to len) = CopyIsJustified s before d request from to len
-Justified s before d request (Unpin p (ByMapping handle)) = request ≡ Unmap handle
+Justified s before d request (Unpin p (ByMapping handle)) = GivesUp request handle
 Justified s before d request _ = Unit {0}
 
 -- owners' changes, and pins

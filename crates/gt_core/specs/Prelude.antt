@@ -7,7 +7,7 @@ pub use Rattle.gt_calls.specs.Machine.{action_at, first_phase}
 pub use Rattle.gt_calls.specs.Opening.{IsAllowed}
 pub use Rattle.gt_calls.specs.Path.{dest_pair, end_leg, entry_refusal, map_leg, path, rule_of_try, second_leg}
 pub use Rattle.gt_calls.specs.Path.{source_pair}
-pub use Rattle.gt_calls.specs.Resting.{GivesHeld, Rests}
+pub use Rattle.gt_calls.specs.Resting.{GivesHeld, GivesUp, Rests}
 pub use Rattle.gt_calls.specs.Rules.{CallerKnowledge, before_pin, begun, control_with, entry_in, first, first_body}
 pub use Rattle.gt_calls.specs.Rules.{first_look, frame_count_of, own_generation, is_kind}
 pub use Rattle.gt_types.specs.Copies.{is_dest_granted, is_source_granted}
@@ -43,7 +43,7 @@ pub use Rattle.gt_calls.specs.declared.leg.LegPhase.TheVariants.{Second}
 pub use Rattle.gt_calls.specs.declared.leg.TheConstants.{MORE_TRIES}
 pub use Rattle.gt_calls.specs.declared.request.OpenRequest.{OpenRequest}
 pub use Rattle.gt_calls.specs.declared.request.OpenRequest.TheVariants.{Copy, Demote, GetVersion, Load, Map, Peek, Poke}
-pub use Rattle.gt_calls.specs.declared.request.OpenRequest.TheVariants.{QuerySize, SetVersion, SetupTable, Store, Unmap}
+pub use Rattle.gt_calls.specs.declared.request.OpenRequest.TheVariants.{QuerySize, Release, SetVersion, SetupTable, Store, Unmap}
 pub use Rattle.gt_types.specs.declared.copies.CopyArgs.{CopyArgs}
 pub use Rattle.gt_calls.specs.declared.request.PinHolder.{PinHolder}
 pub use Rattle.gt_calls.specs.declared.request.PinHolder.TheVariants.{Leg as ByLeg, Mapping as ByMapping}
