@@ -40,7 +40,7 @@ use Rattle.gt_order.proofs.Served.{Serves, follows-list, prints-list}
 use Rattle.gt_order.specs.Explored.{EndsAtNoGate, HasNoneLost, RunsAreExplored}
 use Rattle.gt_order.specs.Ordering.{events_of, items_in, own_in}
 use Rattle.gt_order.specs.Printed.{AllPrint, CopiesGetMemory, MayPrint, PrintsList, RunsArePrinted}
-use Rattle.gt_order.specs.Texts.{HasAllFrames, HasWholeCopies, IsMadeWhole, MayLeave}
+use Rattle.gt_order.specs.Texts.{HasAllFrames, HasWholeCopies, IsMadeWhole}
 
 -- each domain follows its list
 all-follow : (c : RunContents) (hs : List Happening) (ds : List DomainConfig) (all : List (Served ScriptRights)) → length ds ≡ length all
@@ -78,7 +78,7 @@ all-among Is (y ∷ ys) all x (inl e) = subst Is (sym e) (All-head Is y ys all)
 all-among Is (y ∷ ys) all x (inr is) = all-among Is ys (All-tail Is y ys all) x is
 
 module _ (c : RunContents) (logged : Bool) (x : Served ScriptRights) (xs : List (Served ScriptRights)) (of : AreOf c logged (duties_in (x ∷ xs)))
-    (are : AreServed may_by (x ∷ xs)) (one : ShowOneState (x ∷ xs)) (leave : All (MayLeave may_by of.monitor) (x ∷ xs)) (gets : All CopiesGetMemory (x ∷ xs)) where
+    (are : AreServed may_by (x ∷ xs)) (one : ShowOneState (x ∷ xs)) (gets : All CopiesGetMemory (x ∷ xs)) where
   abbrev m : Monitor ScriptRights
   m = of.monitor
 
@@ -140,8 +140,8 @@ module _ (c : RunContents) (logged : Bool) (x : Served ScriptRights) (xs : List 
       (All-get_or (λ (d : ThreadJob ScriptRights). d.monitor.now ≡ m) (duties_in (x ∷ xs)) i s.duty inside on) in
       copies-whole (get_or (x ∷ xs) i s) (subst (λ (n : Monitor ScriptRights). HasAllFrames n) (sym here) of.frames) (gets i s l)
 
-  all : FollowsAll may_by m x xs on ids are one leave copies
-  all = follows-all may_by m x xs on ids are one leave copies of.limits
+  all : FollowsAll may_by m x xs on ids are one copies
+  all = follows-all may_by m x xs on ids are one copies of.limits
 
   numbered : AreFlagsOf m c.tasks
   numbered task is = all-among (λ (t : RunTask). IsBelow m.words.flags t.deed) c.tasks of.flags task is
@@ -214,15 +214,15 @@ of-lists c logged duties served same of = record {
 }
 
 pub runs-explored : RunsAreExplored
-runs-explored c logged duties old new of wrote leave passes whole = by wrote.0 wrote.1 wrote.2 wrote.3 leave passes whole
+runs-explored c logged duties old new of wrote passes whole = by wrote.0 wrote.1 wrote.2 wrote.3 passes whole
   where
-    by : (all : List (Served ScriptRights)) → duties_in all ≡ duties → AreServed may_by all → ShowOneState all → All (MayLeave may_by of.monitor) all → All EndsAtNoGate all → All HasNoneLost all → MayGive c (texts_in all)
-    by [] same are one leave passes whole = absurd (none-run c logged duties of same)
-    by (x ∷ xs) same are one leave passes whole = explored c logged x xs (of-lists c logged duties (x ∷ xs) same of) are one leave (copies-get (x ∷ xs) whole) passes whole
+    by : (all : List (Served ScriptRights)) → duties_in all ≡ duties → AreServed may_by all → ShowOneState all → All EndsAtNoGate all → All HasNoneLost all → MayGive c (texts_in all)
+    by [] same are one passes whole = absurd (none-run c logged duties of same)
+    by (x ∷ xs) same are one passes whole = explored c logged x xs (of-lists c logged duties (x ∷ xs) same of) are one (copies-get (x ∷ xs) whole) passes whole
 
 pub runs-printed : RunsArePrinted
-runs-printed c logged duties old new of wrote leave gets = by wrote.0 wrote.1 wrote.2 wrote.3 leave gets
+runs-printed c logged duties old new of wrote gets = by wrote.0 wrote.1 wrote.2 wrote.3 gets
   where
-    by : (all : List (Served ScriptRights)) → duties_in all ≡ duties → AreServed may_by all → ShowOneState all → All (MayLeave may_by of.monitor) all → All CopiesGetMemory all → MayPrint c (texts_in all)
-    by [] same are one leave gets = absurd (none-run c logged duties of same)
-    by (x ∷ xs) same are one leave gets = printed c logged x xs (of-lists c logged duties (x ∷ xs) same of) are one leave gets
+    by : (all : List (Served ScriptRights)) → duties_in all ≡ duties → AreServed may_by all → ShowOneState all → All CopiesGetMemory all → MayPrint c (texts_in all)
+    by [] same are one gets = absurd (none-run c logged duties of same)
+    by (x ∷ xs) same are one gets = printed c logged x xs (of-lists c logged duties (x ∷ xs) same of) are one gets

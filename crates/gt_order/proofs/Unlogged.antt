@@ -66,10 +66,10 @@ run-text : (all : List (Served ScriptRights)) → (audits_in all ≡ []) × (all
 run-text all quiet = (λ j. texts_in all ++ (quiet.0 j ++ lost_text (counted (quiet.1 j)))) ∙ append-nil (texts_in all)
 
 pub unlogged-print : UnloggedRunsPrint
-unlogged-print c old new wrote leave gets =
+unlogged-print c old new wrote gets =
     let all = wrote.2.0 in
     let same : duties_in all ≡ wrote.0 = wrote.2.1 in
     let unlogged : All (λ (d : ThreadJob ScriptRights). is_some d.log ≡ false) (duties_in all) =
     subst (All (λ (d : ThreadJob ScriptRights). is_some d.log ≡ false)) (sym same)
     (All-weaker (λ (d : ThreadJob ScriptRights). (d.monitor.now ≡ wrote.1.monitor) × (is_some d.log ≡ false)) (λ (d : ThreadJob ScriptRights). is_some d.log ≡ false) (λ d both. both.1) wrote.0 wrote.1.duties_are.1) in
-    (texts_in all, runs-printed c false wrote.0 old new wrote.1 wrote.2 leave gets, subst (Appends old new) (run-text all (quiet-run all wrote.2.2 unlogged)) wrote.2.4)
+    (texts_in all, runs-printed c false wrote.0 old new wrote.1 wrote.2 gets, subst (Appends old new) (run-text all (quiet-run all wrote.2.2 unlogged)) wrote.2.4)
