@@ -17,7 +17,7 @@ use Rattle.gt_order.proofs.Explored.{copies-get-by, of-lists, runs-printed}
 use Rattle.gt_order.proofs.Served.{printed-given}
 use Rattle.gt_order.proofs.Unlogged.{unlogged-text}
 use Rattle.gt_order.specs.Printed.{CopiesGetMemory, IsUndisturbed, MayPrint}
-use Rattle.gt_order.specs.Running.{AppendsText, CopiesHaveMemory, WroteIfOk, WroteText}
+use Rattle.gt_order.specs.Running.{AppendsText, CopiesHaveMemory, RanInOrder, WroteIfOk, WroteText}
 
 appended : (c : RunContents) (logged : Bool) (old new : Option (List ℕ)) (wrote : WritesScript c logged old new) → AppendsText logged old new (texts_in wrote.2.0)
 appended c false old new wrote = unlogged-text c old new wrote
@@ -43,6 +43,6 @@ wrote-if-ok logged Told old new (Ok done) (c, told, wrote) = (c, told, wrote-tex
 wrote-if-ok logged Told old new (Err fault) ran = tt
 
 pub input-so : (o : Option (List ℕ)) (logged : Bool) (Told : List ℕ → Result RunContents Wrong → Type 0) (old new : Option (List ℕ)) (r : Result (Unit {0}) RunFault)
-    → OfInput o (λ input. Ran logged (Told input) old new r) → OfInput o (λ input. WroteIfOk logged (Told input) old new r)
-input-so None logged Told old new r (input, few, ran) = (input, few, wrote-if-ok logged (Told input) old new r ran)
-input-so (Some all) logged Told old new r ran = wrote-if-ok logged (Told all) old new r ran
+    → OfInput o (λ input. Ran logged (Told input) old new r) → OfInput o (λ input. RanInOrder logged (Told input) old new r)
+input-so None logged Told old new r (input, few, ran) = (input, few, (ran, wrote-if-ok logged (Told input) old new r ran))
+input-so (Some all) logged Told old new r ran = (ran, wrote-if-ok logged (Told all) old new r ran)

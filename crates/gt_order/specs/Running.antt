@@ -7,7 +7,7 @@ use Rattle.gt_script.specs.Contents.{type_names}
 use Rattle.gt_script.specs.RunContents.{RunContents}
 use Rattle.gt_script.specs.Script.{Wrong}
 use Rattle.gt_host.specs.Printing.{answer_line}
-use Rattle.gt_run.specs.Runs.{OfScript}
+use Rattle.gt_run.specs.Runs.{OfScript, Ran}
 use Rattle.gt_run.specs.declared.fault.RunFault.{RunFault}
 use Rattle.gt_explore_replay.specs.Orders.{MayGive}
 use Rattle.gt_order.specs.Printed.{HasPart, IsCopy, IsUndisturbed, MayPrint, no_memory}
@@ -36,3 +36,8 @@ abbrev pub WroteIfOk : Bool → (Result RunContents Wrong → Type 0) → Option
     → Result (Unit {0}) RunFault → Type 0
 WroteIfOk logged Told old new (Ok done) = OfScript Told (λ c. WroteText c logged old new)
 WroteIfOk logged Told old new (Err fault) = Unit {0}
+
+-- the output of `run`, by its result, with what its text is
+abbrev pub RanInOrder : Bool → (Result RunContents Wrong → Type 0) → Option (List ℕ) → Option (List ℕ)
+    → Result (Unit {0}) RunFault → Type 0
+RanInOrder logged Told old new r = Ran logged Told old new r × WroteIfOk logged Told old new r

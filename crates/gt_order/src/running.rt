@@ -3,8 +3,7 @@ ghost use Rattle.std.specs.Prelude.{is_some};
 ghost use Rattle.gt_script.specs.RunScripts.{RunTells};
 ghost use Rattle.gt_text.specs.Streams.{ConsumesAtMost, OfInput};
 ghost use Rattle.gt_text.specs.declared.streams.TheConstants.{READ_LIMIT};
-ghost use Rattle.gt_run.specs.Runs.{Ran};
-ghost use Rattle.gt_order.specs.Running.{WroteIfOk};
+ghost use Rattle.gt_order.specs.Running.{RanInOrder};
 
 use gt_audit::SharedLog;
 use gt_run::{Gate, RunFault};
@@ -29,10 +28,8 @@ pub fn run<R: Threads + Wait + Sync, I: Read, W: Write, G: Gate + Sync>(
     gate: &G,
 ) -> Result<(), RunFault>
     ensures text { OfInput (I.remaining reader.old) (λ input.
-        Ran (is_some log.entry) (RunTells input) (W.contents writer.old) (W.contents writer.new) result) }
+        RanInOrder (is_some log.entry) (RunTells input) (W.contents writer.old) (W.contents writer.new) result) }
     ensures read { ConsumesAtMost READ_LIMIT (I.remaining reader.old) (I.remaining reader.new) }
-    ensures printed { OfInput (I.remaining reader.old) (λ input.
-        WroteIfOk (is_some log.entry) (RunTells input) (W.contents writer.old) (W.contents writer.new) result) }
 {
     gt_run::run(rt, alloc, reader, writer, log, gate)
 }
