@@ -27,11 +27,12 @@ use crate::telling::{
     push_counterexample, push_found_texts, push_place, push_verdict, push_witness_comment,
 };
 use crate::texts::{FoundTexts, texts_within};
-use crate::witness::push_witness;
+use crate::witness::witness_of;
 use gt_explore_search::FoundText;
 use gt_explore_verdict::{Claim, Condition, Judgement, Verdict, judge, verdict_at};
 use gt_script::RunScript;
 use gt_text::text_of;
+use gt_types::DomId;
 use std::alloc::Global;
 
 /// The output, and the verdict.
@@ -62,6 +63,14 @@ fn texts_told(alloc: Global, found: &FoundTexts, met: &[bool]) -> Result<Vec<u8>
     Ok(text)
 }
 
+// Returns the reason why a script for `play` does not give its text: in it this domain keeps a mapping, or it is wrong.
+fn unplayable(keeps: Option<DomId>) -> TextsFault {
+    match keeps {
+        Some(dom) => TextsFault::Keeps(dom),
+        None => TextsFault::Astray,
+    }
+}
+
 // Returns a script for `play` that gives the text of an order, after this comment. It was played, and gave it.
 fn script_after(
     alloc: Global,
@@ -77,13 +86,12 @@ fn script_after(
     let Ok(source) = text_of(source) else {
         return Err(TextsFault::Astray);
     };
-    let mut lines = Vec::new(alloc);
-    push_witness(alloc, &mut lines, source, script, order.turns.as_slice())?;
+    let witness = witness_of(alloc, source, script, order.turns.as_slice())?;
     let mut text = comment;
-    text.extend_from_slice(lines.as_slice())?;
+    text.extend_from_slice(witness.lines.as_slice())?;
     let domains = script.head().domains();
     if !gives_answers(alloc, domains, text.as_slice(), order.text.as_slice())? {
-        return Err(TextsFault::Astray);
+        return Err(unplayable(witness.keeps));
     }
     Ok(text)
 }

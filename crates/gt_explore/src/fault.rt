@@ -1,9 +1,8 @@
 //! Faults of an exploration.
-use gt_explore_replay::ReplayFault;
 use gt_explore_search::SearchFault;
 use gt_explore_verdict::ExpressionFault;
 use gt_host::PlayFault;
-use gt_types::DomId;
+use gt_types::{DomId, Memory};
 use std::alloc::{AllocError, AllocFailed};
 use std::error::Error;
 use std::fmt;
@@ -15,7 +14,8 @@ pub enum TextsFault {
     Memory,
     /// There are more states than the limit.
     States,
-    /// In some order this domain reaches its end with a mapping that the policy does not let it unmap.
+    /// No script for `play` gives the text: in the order found for it this domain leaves with a mapping that the policy
+    /// does not let it unmap, and later answers depend on that.
     Keeps(DomId),
     /// The search found an order that the core does not follow to its text, a run that returned to a state, or a
     /// witness that does not give its text.
@@ -73,17 +73,13 @@ impl From<SearchFault> for TextsFault {
             SearchFault::Memory => TextsFault::Memory,
             SearchFault::States => TextsFault::States,
             SearchFault::Circle => TextsFault::Astray,
-            SearchFault::Keeps(dom) => TextsFault::Keeps(dom),
         }
     }
 }
 
-impl From<ReplayFault> for TextsFault {
-    fn from(error: ReplayFault) -> TextsFault {
-        match error {
-            ReplayFault::Memory => TextsFault::Memory,
-            ReplayFault::Keeps(dom) => TextsFault::Keeps(dom),
-        }
+impl From<Memory> for TextsFault {
+    fn from(_error: Memory) -> TextsFault {
+        TextsFault::Memory
     }
 }
 

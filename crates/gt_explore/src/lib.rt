@@ -22,4 +22,3 @@ mod witness;
 pub use exploring::{ExploreOptions, ExploreRequest, explore};
 pub use fault::{ExploreFault, TextsFault};
 pub use texts::{FoundTexts, texts_of, texts_within};
-pub use witness::push_witness;
