@@ -2,7 +2,7 @@
 use gt_explore_search::SearchFault;
 use gt_explore_verdict::ExpressionFault;
 use gt_host::PlayFault;
-use gt_types::{DomId, Memory};
+use gt_types::Memory;
 use std::alloc::{AllocError, AllocFailed};
 use std::error::Error;
 use std::fmt;
@@ -14,9 +14,6 @@ pub enum TextsFault {
     Memory,
     /// There are more states than the limit.
     States,
-    /// No script for `play` gives the text: in the order found for it this domain leaves with a mapping that the policy
-    /// does not let it unmap, and later answers depend on that.
-    Keeps(DomId),
     /// The search found an order that the core does not follow to its text, a run that returned to a state, or a
     /// witness that does not give its text.
     Astray,
@@ -36,7 +33,6 @@ impl fmt::Display for TextsFault {
         match self {
             TextsFault::Memory => f.write_str("memory"),
             TextsFault::States => f.write_str("states"),
-            TextsFault::Keeps(dom) => write!(f, "domain {} keeps a mapping", dom.0),
             TextsFault::Astray => f.write_str("astray"),
             TextsFault::Witness => f.write_str("no such text"),
             TextsFault::Expression(fault) => write!(f, "{fault}"),

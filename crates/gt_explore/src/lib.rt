@@ -14,6 +14,7 @@ mod checked;
 mod conditions;
 mod exploring;
 mod fault;
+mod leaving;
 mod naming;
 mod telling;
 mod texts;
