@@ -3,11 +3,11 @@
 #
 # - every text that `gthost run` prints in 200 runs must be among those that `explore` prints;
 # - every witness, played, must give the answers of its text, and after them only `ok` for each mapping that a domain
-#   unmaps at the end of its list.
+#   unmaps at the end of its list. A text that needs the release of a mapping that its domain may not unmap has none.
 #
 # A program has two or three domains with two to four calls each on the entries 0 and 1 of the first domain, and some
-# flags between them. One that can't run (`stuck`), with more states than the limit, or whose domain can't give a mapping
-# back is drawn anew. It is no part of the gate. The same seed draws the same programs. Prints how much was tried; the
+# flags between them. In some programs the policy does not let a domain unmap what it maps. One that can't run (`stuck`),
+# or has more states than the limit, is drawn anew. It is no part of the gate. The same seed draws the same programs. Prints how much was tried; the
 # status is 1 if something is wrong, and the program is then left as explore-N.gt.
 # PROGRAM=FILE takes the built program gthost.
 # usage: bench/explore.sh [SEED [PROGRAMS [RUNS]]]        1, 50 and 200 if they are left out
@@ -51,7 +51,7 @@ draw() {
       srand(seed); upto(2)
       domains = 2 + (rand() < 0.3)
       for (dom = 2; dom <= domains; dom++) {
-        print "triple t" dom " t1 unmap"
+        if (rand() < 0.8) print "triple t" dom " t1 unmap"
         print "triple t" dom " t1 map_read"
         if (rand() < 0.8) print "triple t" dom " t1 map_write"
         if (rand() < 0.8) { print "triple t" dom " t1 copy"; print "triple t1 t" dom " copy" }
@@ -97,7 +97,7 @@ try() {
   fault="$("$program" explore "$work/program.gt" 2>&1 >"$work/all")" || true
   case "$fault" in
     '') ;;
-    *stuck | *'keeps a mapping') return 1 ;;
+    *stuck) return 1 ;;
     *) wrong "$number" "explore says $fault"; return ;;
   esac
   if grep -q 'not all texts' "$work/all"; then return 1; fi
@@ -114,6 +114,10 @@ try() {
   done
   for ((at = 1; at <= count; at++)); do
     if fault="$("$program" explore --witness "$at" "$work/program.gt" 2>&1 >"$work/witness.gt")"; then
+      if grep -q '^# no script' "$work/witness.gt"; then
+        unplayable=$((unplayable + 1))
+        continue
+      fi
       "$program" play "$work/witness.gt" >"$work/played" || { wrong "$number" "the witness of text $at is not played"; return; }
       gives "$work/text.$at" "$work/played" || { wrong "$number" "the witness of text $at gives another"; return; }
       witnesses=$((witnesses + 1))
@@ -127,12 +131,12 @@ try() {
   states=$((states + $(sed -n 's/^states //p' "$work/all")))
 }
 
-texts=0 ran=0 witnesses=0 states=0 tried=0 passed=0
+texts=0 ran=0 witnesses=0 unplayable=0 states=0 tried=0 passed=0
 for ((number = 1; tried < programs; number++)); do
   draw "$((seed * 100000 + number))" >"$work/program.gt"
   if try "$number"; then tried=$((tried + 1)); else passed=$((passed + 1)); fi
 done
 echo "$tried programs ($passed drawn anew), $states states, $texts texts"
 echo "$((tried * runs)) runs printed $ran of them, and no other"
-echo "$witnesses witnesses gave their texts"
+echo "$witnesses witnesses gave their texts; $unplayable texts need a release that play has no line for"
 exit $failed

@@ -74,6 +74,11 @@ fn misled(
         Ok(witness) => witness,
         Err(fault) => return Ok(Some(format!(in alloc; "{fault}")?)),
     };
+    let lines = String::from_utf8_lossy(alloc, witness.as_slice())?;
+    if let Some(reason) = lines.as_str().strip_prefix("# no script") {
+        let reason = reason.trim_end();
+        return Ok(Some(format!(in alloc; "no script{reason}")?));
+    }
     let given = played(alloc, witness.as_slice())?;
     let given = String::from_utf8_lossy(alloc, given.as_slice())?;
     'domains: for dom in 0..MOST {

@@ -24,7 +24,7 @@ use Rattle.gt_explore.specs.Adding.{AreDifferentTexts, IsTextAmong, texts_of_ord
 use Rattle.gt_explore.specs.Exploring.{AreConditions, AreTextsOf, DecidesClaim, IsMadeBy, MeansGiven, TellsClaim, TellsClaimBy}
 use Rattle.gt_explore.specs.Exploring.{TellsVerdict, TellsWitnesses, place_of, satisfied}
 use Rattle.gt_explore.specs.Telling.{Found, counterexample_comment, found_told, witness_comment}
-use Rattle.gt_explore.specs.Witness.{GivesAfter, GivesAnswers}
+use Rattle.gt_explore.specs.Witness.{ShowsAfter}
 use Rattle.gt_explore.specs.declared.answering.ExploreOutput.{ExploreOutput}
 use Rattle.gt_explore.specs.declared.exploring.ExploreRequest.{ExploreRequest}
 use Rattle.gt_explore.specs.declared.fault.TextsFault.{TextsFault}
@@ -86,7 +86,7 @@ means_given c f given are =
 
 -- one more script is written
 pub witness_more : (c : RunContents) (f : Found) (os : List FoundText) (i number : ℕ) (o : FoundText) (script rest : List ℕ) → i < length os → o ≡ get_or os i o
-    → GivesAnswers c.head.domains script o.text.items → TellsWitnesses c f (number + 1) (texts_of_orders (drop (i + 1) os)) rest
+    → ShowsAfter c.head [] script o.text.items → TellsWitnesses c f (number + 1) (texts_of_orders (drop (i + 1) os)) rest
     → TellsWitnesses c f number (texts_of_orders (drop i os)) (witness_comment f (number + 1) ++ (script ++ rest))
 witness_more c f os i number o script rest lt is gives told =
     let P : List FoundText → Type 0 = λ ps. TellsWitnesses c f number (texts_of_orders ps) (witness_comment f (number + 1) ++ (script ++ rest)) in
@@ -102,15 +102,13 @@ none_left c f number i os end = let P : List FoundText → Type 0 = λ ps. Tells
 
 -- a text shows that a claim does not hold
 pub shows_text : (c : RunContents) (f : FoundTexts) (at number : ℕ) (o : FoundText) (comment : List ℕ) (r : Result (Vec ℕ Global) TextsFault) → number ≡ at + 1 → Some o ≡ slice_get f.texts.items at
-    → comment ≡ counterexample_comment (found_told f) number o.text.items → IfOk r (λ text. GivesAfter c.head.domains comment text.items o.text.items)
+    → comment ≡ counterexample_comment (found_told f) number o.text.items → IfOk r (λ text. ShowsAfter c.head comment text.items o.text.items)
     → IfOk r (λ text. (v : Verdict) → TellsVerdict c (found_told f) v (Some at) text.items)
 shows_text c f at number o comment (Err fault) many there is after = tt
 shows_text c f at number o comment (Ok text) many there is after = λ v. (
   o.text.items,
-  after.0,
   slice_get-map (λ (p : FoundText). p.text.items) f.texts.items at ∙ ap (option_map (λ (p : FoundText). p.text.items)) (sym there),
-  after.1 ∙ ap (λ (l : List ℕ). l ++ after.0) (is ∙ ap (λ (n : ℕ). counterexample_comment (found_told f) n o.text.items) many),
-  after.2,
+  subst (λ (l : List ℕ). ShowsAfter c.head l text.items o.text.items) (is ∙ ap (λ (n : ℕ). counterexample_comment (found_told f) n o.text.items) many) after,
 )
 
 -- the verdict is told by the text that shows it

@@ -23,7 +23,7 @@ use Rattle.gt_explore_verdict.specs.declared.judging.Verdict.{Verdict}
 use Rattle.gt_explore_verdict.specs.declared.judging.Verdict.TheVariants.{Holds, Fails, Undecided}
 use Rattle.gt_explore.specs.Adding.{AreDifferentTexts, IsTextAmong}
 use Rattle.gt_explore.specs.Telling.{Found, counterexample_comment, heading, states_line, texts_told, witness_comment}
-use Rattle.gt_explore.specs.Witness.{GivesAnswers, IsWitness}
+use Rattle.gt_explore.specs.Witness.{IsWitness, ShowsAfter}
 use Rattle.gt_explore.specs.declared.exploring.ExploreOptions.{ExploreOptions}
 use Rattle.gt_explore.specs.declared.exploring.ExploreRequest.{ExploreRequest}
 use Rattle.gt_explore.specs.declared.exploring.ExploreRequest.TheVariants as requests
@@ -67,13 +67,13 @@ verdict_line Holds = codes "holds\n"
 verdict_line Fails = codes "does not hold\n"
 verdict_line Undecided = codes "not decided\n"
 
--- the output for a claim that no text satisfies the conditions, or that each does: the verdict, or a script for `play`
--- that gives the first text that shows that it does not hold
+-- the output for a claim that no text satisfies the conditions, or that each does: the verdict, or the first text that
+-- shows that it does not hold, as a comment, and a script for `play` that gives it, if one was found
 abbrev pub TellsVerdict : RunContents → Found → Verdict → Option ℕ → List ℕ → Type 0
 TellsVerdict c f verdict None text = text ≡ verdict_line verdict ++ states_line f
 TellsVerdict c f verdict (Some at) text =
-    (given : List ℕ) × (script : List ℕ) × (slice_get f.texts at ≡ Some given)
-    × (text ≡ counterexample_comment f (at + 1) given ++ script) × GivesAnswers c.head.domains text given
+    (given : List ℕ) × (slice_get f.texts at ≡ Some given)
+    × ShowsAfter c.head (counterexample_comment f (at + 1) given) text given
 
 -- the output for a claim, by whether each text satisfies the conditions, and by the judgement
 abbrev pub TellsClaimBy : RunContents → Claim → Found → List Bool → Judgement → List ℕ → Type 0
@@ -107,7 +107,7 @@ abbrev pub TellsWitnesses : RunContents → Found → ℕ → List (List ℕ) �
 TellsWitnesses c f before [] out = out ≡ []
 TellsWitnesses c f before (text ∷ texts) out =
     (script : List ℕ) × (rest : List ℕ) × (out ≡ witness_comment f (before + 1) ++ (script ++ rest))
-    × GivesAnswers c.head.domains script text × TellsWitnesses c f (before + 1) texts rest
+    × ShowsAfter c.head [] script text × TellsWitnesses c f (before + 1) texts rest
 
 -- the texts that a script may give, each under its number
 abbrev pub GivesTexts : RunContents → List ℕ → Verdict → Type 0
@@ -127,10 +127,10 @@ NumbersText c given text verdict =
     (f : Found) × AreTextsOf c f × (verdict ≡ verdict_at Find (is_some (place_of given f.texts)) f.whole)
     × MeansGiven c given verdict × (text ≡ number_told f (place_of given f.texts))
 
--- a script for `play` that gives the answers of the text of a number
+-- a script for `play` that gives the answers of the text of a number, if one was found
 abbrev pub GivesWitness : RunContents → ℕ → List ℕ → Verdict → Type 0
 GivesWitness c number text verdict =
-    (f : Found) × AreTextsOf c f × IsWitness c.head.domains f.texts number text × (verdict ≡ verdict_of_all f.whole)
+    (f : Found) × AreTextsOf c f × IsWitness c.head f.texts number text × (verdict ≡ verdict_of_all f.whole)
 
 -- such a script for each text
 abbrev pub GivesWitnesses : RunContents → List ℕ → Verdict → Type 0

@@ -1,16 +1,15 @@
 -- The lines that the faults of an exploration print.
-use Rattle.std.specs.Prelude.{ℕ, List, ◌++◌, codes, decimal}
+use Rattle.std.specs.Prelude.{ℕ, List, codes}
 use Rattle.gt_host.specs.Faults.{play_fault_text}
 use Rattle.gt_explore_verdict.specs.Faults.{expression_fault_text}
 use Rattle.gt_explore.specs.declared.fault.ExploreFault.{ExploreFault}
 use Rattle.gt_explore.specs.declared.fault.ExploreFault.TheVariants.{Play, Texts}
 use Rattle.gt_explore.specs.declared.fault.TextsFault.{TextsFault}
-use Rattle.gt_explore.specs.declared.fault.TextsFault.TheVariants.{Memory, States, Keeps, Astray, Witness, Expression}
+use Rattle.gt_explore.specs.declared.fault.TextsFault.TheVariants.{Memory, States, Astray, Witness, Expression}
 
 abbrev pub texts_fault_text : TextsFault → List ℕ
 texts_fault_text Memory = codes "memory"
 texts_fault_text States = codes "states"
-texts_fault_text (Keeps dom) = codes "domain " ++ decimal dom.0 ++ codes " keeps a mapping"
 texts_fault_text Astray = codes "astray"
 texts_fault_text Witness = codes "no such text"
 texts_fault_text (Expression fault) = expression_fault_text fault

@@ -62,6 +62,12 @@ counterexample_lines f number text =
 abbrev pub counterexample_comment : Found → ℕ → List ℕ → List ℕ
 counterexample_comment f number text = commented (counterexample_lines f number text)
 
+-- the line in place of a script for `play` that was not found: this domain leaves with a mapping that it may not unmap
+abbrev pub unplayable_line : ℕ → List ℕ
+unplayable_line dom =
+    codes "# no script for play gives it: domain " ++ decimal dom
+    ++ codes " leaves with a mapping that it may not unmap\n"
+
 -- the comment over a script that gives the text of this number
 abbrev pub witness_comment : Found → ℕ → List ℕ
 witness_comment f number = commented (heading f.whole (length f.texts) number)

@@ -1,11 +1,18 @@
 -- A script for `play` that gives the answers of a text.
-use Rattle.std.specs.Prelude.{◌≡◌, ◌+◌, ◌++◌, ◌==◌, ℕ, Bool, false, List, [], All, filter, map, take, length}
-use Rattle.std.specs.Prelude.{Some, Ok, codes, decimal, slice_get}
-use Rattle.std.specs.List.{after_first, slice_split}
+use Rattle.std.specs.Prelude.{◌≡◌, ◌⊎◌, ◌+◌, ◌++◌, ◌==◌, ◌&&◌, not, ℕ, Bool, true, false, List, [], All, filter, map, take}
+use Rattle.std.specs.Prelude.{length, Some, Ok, codes, decimal, slice_get}
+use Rattle.std.specs.List.{after_first, list_any, slice_split}
 use Rattle.std.specs.Str.{bytes_eq}
+use Rattle.gt_types.specs.Names.{unmap}
+use Rattle.gt_types.specs.declared.DomId.{DomId}
+use Rattle.gt_types.specs.declared.TypeId.{TypeId}
 use Rattle.gt_types.specs.declared.config.DomainConfig.{DomainConfig}
+use Rattle.gt_types.specs.declared.perms.Perms.{Perms}
+use Rattle.gt_script.specs.Contents.{Contents}
 use Rattle.gt_script.specs.Script.{TellsScript}
 use Rattle.gt_host.specs.Playing.{Played}
+use Rattle.gt_host.specs.Rights.{may_in}
+use Rattle.gt_explore.specs.Telling.{unplayable_line}
 
 -- a line without its number: what comes after its first space
 abbrev pub without_number : List ℕ → List ℕ
@@ -51,17 +58,33 @@ pub record GivesAnswers (domains : List DomainConfig) (script text : List ℕ) :
   pub played : Played (TellsScript script) false (Some []) (Some out) (Ok tt)
   pub answers : HaveAnswers domains text out
 
--- the script is this comment and more lines, and gives the answers of the text
-abbrev pub GivesAfter : List DomainConfig → List ℕ → List ℕ → List ℕ → Type 0
-GivesAfter domains comment script text =
-    (lines : List ℕ) × (script ≡ comment ++ lines) × GivesAnswers domains script text
+-- the policy does not let a domain of this type unmap the entries of one of these domains
+abbrev pub is_forbidden : (TypeId → TypeId → Perms → Bool) → List DomainConfig → TypeId → Bool
+is_forbidden may domains source = list_any (λ (d : DomainConfig). not (may source d.label unmap)) domains
+
+-- the policy does not let this domain unmap the entries of one of these
+abbrev pub may_not_unmap : (TypeId → TypeId → Perms → Bool) → List DomainConfig → DomId → Bool
+may_not_unmap may domains dom =
+    list_any (λ (d : DomainConfig). (d.id.0 == dom.0) && is_forbidden may domains d.label) domains
+
+-- the lines say that no script for `play` was found, which has no line for a domain that leaves with a mapping that it
+-- may not unmap
+abbrev pub SaysUnplayable : Contents → List ℕ → Type 0
+SaysUnplayable c lines =
+    (dom : DomId) × (may_not_unmap (may_in c) c.domains dom ≡ true) × (lines ≡ unplayable_line dom.0)
+
+-- the output is this comment and more lines: a script for `play` that gives the answers of the text; or, if a domain may
+-- not unmap what it may have mapped, maybe a line that says that no script was found
+abbrev pub ShowsAfter : Contents → List ℕ → List ℕ → List ℕ → Type 0
+ShowsAfter c comment out text =
+    (lines : List ℕ) × (out ≡ comment ++ lines) × (GivesAnswers c.domains out text ⊎ SaysUnplayable c lines)
 
 -- the text of this number among these, of which the first has the number 1
 abbrev pub IsTextNumbered : List (List ℕ) → ℕ → List ℕ → Type 0
 IsTextNumbered texts number text = (at : ℕ) × (number ≡ at + 1) × (slice_get texts at ≡ Some text)
 
--- a script for `play` that gives the answers of the text of this number
-pub record IsWitness (domains : List DomainConfig) (texts : List (List ℕ)) (number : ℕ) (script : List ℕ) : Type 0 where
+-- a script for `play` that gives the answers of the text of this number, or the line in its place
+pub record IsWitness (c : Contents) (texts : List (List ℕ)) (number : ℕ) (script : List ℕ) : Type 0 where
   pub text : List ℕ
   pub numbered : IsTextNumbered texts number text
-  pub gives : GivesAnswers domains script text
+  pub gives : ShowsAfter c [] script text

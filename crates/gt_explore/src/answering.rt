@@ -1,5 +1,5 @@
 //! The answer to a request about a script: the output and the verdict.
-ghost use Rattle.std.specs.Prelude.{◌≡◌, ◌++◌, ◌<◌, ℕ, List, IfOk, IfSome, OnOk, Some, is_some, length, map, slice_get};
+ghost use Rattle.std.specs.Prelude.{◌≡◌, ◌++◌, ◌<◌, ℕ, List, [], IfOk, IfSome, OnOk, Some, is_some, length, map, slice_get};
 ghost use Rattle.std.specs.List.{position};
 ghost use Rattle.std.specs.Option.{option_map};
 ghost use Rattle.std.specs.Str.{bytes_eq};
@@ -17,21 +17,24 @@ ghost use Rattle.gt_explore.specs.Exploring.{TellsClaim, TellsClaimBy, TellsVerd
 ghost use Rattle.gt_explore.specs.Exploring.{satisfied as satisfied_in};
 ghost use Rattle.gt_explore.specs.Exploring.{verdict_of_all};
 ghost use Rattle.gt_explore.specs.Telling.{found_told, texts_told};
-ghost use Rattle.gt_explore.specs.Witness.{GivesAfter, GivesAnswers, IsWitness};
+ghost use Rattle.gt_explore.specs.Witness.{IsWitness, SaysUnplayable, ShowsAfter};
 
 use crate::checked::gives_answers;
 use crate::conditions::{conditions_for, satisfied};
 use crate::exploring::{ExploreOptions, ExploreRequest};
 use crate::fault::TextsFault;
+use crate::leaving::may_not_unmap;
 use crate::telling::{
-    push_counterexample, push_found_texts, push_place, push_verdict, push_witness_comment,
+    push_counterexample, push_found_texts, push_place, push_unplayable, push_verdict,
+    push_witness_comment,
 };
 use crate::texts::{FoundTexts, texts_within};
-use crate::witness::push_witness;
+use crate::witness::witness_of;
 use gt_explore_search::FoundText;
 use gt_explore_verdict::{Claim, Condition, Judgement, Verdict, judge, verdict_at};
 use gt_script::RunScript;
 use gt_text::text_of;
+use gt_types::DomId;
 use std::alloc::Global;
 
 /// The output, and the verdict.
@@ -62,33 +65,55 @@ fn texts_told(alloc: Global, found: &FoundTexts, met: &[bool]) -> Result<Vec<u8>
     Ok(text)
 }
 
-// Returns a script for `play` that gives the text of an order, after this comment. It was played, and gave it.
+// Returns this comment, and the line in place of a script for `play` that was not found: this domain leaves with a
+// mapping that the policy does not let it unmap, and `play` has no line for that.
+fn without_script(
+    alloc: Global,
+    script: &RunScript,
+    comment: &[u8],
+    dom: DomId,
+) -> Result<Vec<u8>, TextsFault>
+    ensures { IfOk result (λ text. (lines : List ℕ) × (text.items ≡ comment.now ++ lines)
+        × SaysUnplayable (contents_told script.now.head) lines) }
+{
+    if !may_not_unmap(alloc, script.head(), dom)? {
+        return Err(TextsFault::Astray);
+    }
+    let mut text = Vec::from_slice(alloc, comment)?;
+    push_unplayable(&mut text, dom)?;
+    Ok(text)
+}
+
+// Returns this comment, and a script for `play` that gives the text of an order: it was played, and gave it. Where a
+// domain leaves with a mapping that it may not unmap, a line takes the place of a script that does not give the text.
 fn script_after(
     alloc: Global,
     source: &[u8],
     script: &RunScript,
     order: &FoundText,
-    comment: Vec<u8>,
+    comment: &[u8],
 ) -> Result<Vec<u8>, TextsFault>
     requires { CanConfigure (contents_told script.now.head) }
     ensures { IfOk result (λ text.
-        GivesAfter script.now.head.domains comment.items text.items order.now.text.items) }
+        ShowsAfter (contents_told script.now.head) comment.now text.items order.now.text.items) }
 {
     let Ok(source) = text_of(source) else {
         return Err(TextsFault::Astray);
     };
-    let mut lines = Vec::new(alloc);
-    push_witness(alloc, &mut lines, source, script, order.turns.as_slice())?;
-    let mut text = comment;
-    text.extend_from_slice(lines.as_slice())?;
+    let witness = witness_of(alloc, source, script, order.turns.as_slice())?;
+    let mut text = Vec::from_slice(alloc, comment)?;
+    text.extend_from_slice(witness.lines.as_slice())?;
     let domains = script.head().domains();
-    if !gives_answers(alloc, domains, text.as_slice(), order.text.as_slice())? {
-        return Err(TextsFault::Astray);
+    if gives_answers(alloc, domains, text.as_slice(), order.text.as_slice())? {
+        return Ok(text);
     }
-    Ok(text)
+    match witness.keeps {
+        Some(dom) => without_script(alloc, script, comment, dom),
+        None => Err(TextsFault::Astray),
+    }
 }
 
-// Returns a script for `play` that gives the text of an order.
+// Returns a script for `play` that gives the text of an order, or the line in its place.
 fn script_of(
     alloc: Global,
     source: &[u8],
@@ -96,10 +121,11 @@ fn script_of(
     order: &FoundText,
 ) -> Result<Vec<u8>, TextsFault>
     requires { CanConfigure (contents_told script.now.head) }
-    ensures { IfOk result (λ text. GivesAnswers script.now.head.domains text.items order.now.text.items) }
+    ensures { IfOk result (λ text.
+        ShowsAfter (contents_told script.now.head) [] text.items order.now.text.items) }
 {
     let comment = Vec::new(alloc);
-    script_after(alloc, source, script, order, comment)
+    script_after(alloc, source, script, order, comment.as_slice())
 }
 
 // Returns the order at this index.
@@ -109,7 +135,8 @@ fn order_at(orders: &[FoundText], at: usize) -> Option<&FoundText>
     orders.get(at)
 }
 
-// Returns a script for `play` that gives the text at this index, which shows that a claim does not hold.
+// Returns the text at this index, which shows that a claim does not hold, as a comment, and a script for `play` that
+// gives it, or the line in its place.
 fn counterexample(
     alloc: Global,
     source: &[u8],
@@ -129,7 +156,7 @@ fn counterexample(
     };
     let mut comment = Vec::new(alloc);
     push_counterexample(alloc, &mut comment, found, number, order.text.as_slice())?;
-    script_after(alloc, source, script, order, comment)
+    script_after(alloc, source, script, order, comment.as_slice())
 }
 
 // Returns the output for a verdict, by the index of the text that shows it.
@@ -274,7 +301,8 @@ fn number_of(
     Ok(ExploreOutput { text, verdict })
 }
 
-// Returns a script for `play` that gives the text of this number among those that were found.
+// Returns a script for `play` that gives the text of this number among those that were found, or the line in its
+// place.
 fn script_numbered(
     alloc: Global,
     source: &[u8],
@@ -284,7 +312,7 @@ fn script_numbered(
 ) -> Result<Vec<u8>, TextsFault>
     requires { CanConfigure (contents_told script.now.head) }
     ensures { IfOk result (λ text.
-        IsWitness script.now.head.domains (texts_of_orders found.now.texts.items) number text.items) }
+        IsWitness (contents_told script.now.head) (texts_of_orders found.now.texts.items) number text.items) }
 {
     let Some(at) = number.checked_sub(1) else {
         return Err(TextsFault::Witness);

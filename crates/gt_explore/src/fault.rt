@@ -1,9 +1,8 @@
 //! Faults of an exploration.
-use gt_explore_replay::ReplayFault;
 use gt_explore_search::SearchFault;
 use gt_explore_verdict::ExpressionFault;
 use gt_host::PlayFault;
-use gt_types::DomId;
+use gt_types::Memory;
 use std::alloc::{AllocError, AllocFailed};
 use std::error::Error;
 use std::fmt;
@@ -15,8 +14,6 @@ pub enum TextsFault {
     Memory,
     /// There are more states than the limit.
     States,
-    /// In some order this domain reaches its end with a mapping that the policy does not let it unmap.
-    Keeps(DomId),
     /// The search found an order that the core does not follow to its text, a run that returned to a state, or a
     /// witness that does not give its text.
     Astray,
@@ -36,7 +33,6 @@ impl fmt::Display for TextsFault {
         match self {
             TextsFault::Memory => f.write_str("memory"),
             TextsFault::States => f.write_str("states"),
-            TextsFault::Keeps(dom) => write!(f, "domain {} keeps a mapping", dom.0),
             TextsFault::Astray => f.write_str("astray"),
             TextsFault::Witness => f.write_str("no such text"),
             TextsFault::Expression(fault) => write!(f, "{fault}"),
@@ -73,17 +69,13 @@ impl From<SearchFault> for TextsFault {
             SearchFault::Memory => TextsFault::Memory,
             SearchFault::States => TextsFault::States,
             SearchFault::Circle => TextsFault::Astray,
-            SearchFault::Keeps(dom) => TextsFault::Keeps(dom),
         }
     }
 }
 
-impl From<ReplayFault> for TextsFault {
-    fn from(error: ReplayFault) -> TextsFault {
-        match error {
-            ReplayFault::Memory => TextsFault::Memory,
-            ReplayFault::Keeps(dom) => TextsFault::Keeps(dom),
-        }
+impl From<Memory> for TextsFault {
+    fn from(_error: Memory) -> TextsFault {
+        TextsFault::Memory
     }
 }
 

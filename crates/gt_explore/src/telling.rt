@@ -5,13 +5,14 @@ ghost use Rattle.gt_explore.specs.Exploring.{number_told, verdict_line};
 ghost use Rattle.gt_explore.specs.Telling.{comment_byte, commented, counterexample_comment, counterexample_lines};
 ghost use Rattle.gt_explore.specs.Telling.{found_told, heading};
 ghost use Rattle.gt_explore.specs.Telling.{states_line, states_told, text_shown, texts_listed, texts_told};
-ghost use Rattle.gt_explore.specs.Telling.{witness_comment};
+ghost use Rattle.gt_explore.specs.Telling.{unplayable_line, witness_comment};
 ghost use Rattle.gt_explore.specs.Adding.{texts_of_orders};
 
 use crate::texts::FoundTexts;
 use gt_explore_search::FoundText;
 use gt_explore_verdict::Verdict;
 use gt_text::{push_number, push_text};
+use gt_types::DomId;
 use std::alloc::{AllocError, Global};
 
 // Returns the words between the number of a text and that of all texts.
@@ -221,6 +222,16 @@ pub fn push_counterexample(
 {
     let lines = counterexample_lines(alloc, found, number, text)?;
     push_commented(out, lines.as_slice())
+}
+
+/// Appends the line in place of a script for `play` that was not found: this domain leaves with a mapping that it may
+/// not unmap.
+pub fn push_unplayable(out: &mut Vec<u8>, dom: DomId) -> Result<(), AllocError>
+    ensures { OnOk result (out.new.items ≡ out.old.items ++ unplayable_line dom.0) }
+{
+    push_text(out, "# no script for play gives it: domain ")?;
+    push_number(out, dom.0)?;
+    push_text(out, " leaves with a mapping that it may not unmap\n")
 }
 
 /// Appends the comment over a script that gives the text of this number.

@@ -100,8 +100,7 @@ fn distinct(
 /// are.
 ///
 /// # Errors
-/// `Keeps` if a domain can't unmap what it has at its end, `Astray` if the search found an order that the core does not
-/// follow to its text, and `Memory`.
+/// `Astray` if the search found an order that the core does not follow to its text, and `Memory`.
 pub fn texts_within(
     alloc: Global,
     script: &RunScript,
@@ -133,8 +132,8 @@ pub fn texts_within(
 /// script's flags are numbered, as those of each parsed script are.
 ///
 /// # Errors
-/// `States` beyond the limit, `Keeps` if a domain can't unmap what it has at its end, `Astray` if the search found an
-/// order that the core does not follow to its text, and `Memory`.
+/// `States` beyond the limit, `Astray` if the search found an order that the core does not follow to its text, and
+/// `Memory`.
 pub fn texts_of(alloc: Global, script: &RunScript, limit: usize) -> Result<FoundTexts, TextsFault>
     requires { CanConfigure (contents_told script.now.head) }
     ensures possible { IfOk result (λ all. All (MayGive (run_told script.now)) (texts_of_orders all.texts.items)) }

@@ -5,10 +5,11 @@ ghost use Rattle.gt_script.specs.RunScripts.{CanConfigure};
 use crate::fault::TextsFault;
 use crate::naming::WitnessNames;
 use gt_explore_replay::{Replay, Turn, Walker};
+use gt_host::ScriptPolicy;
 use gt_script::{RunAction, RunScript, RunTask};
 use gt_script_lines::{line_words, text_lines};
 use gt_text::{push_number, push_text};
-use gt_types::DomId;
+use gt_types::{Allows, DomId, DomainConfig, Perms, TypeId};
 use std::alloc::{AllocError, Global};
 
 // The position of the label among the words of a line that has one: `do ID CALL LABEL ..`.
@@ -69,30 +70,133 @@ fn push_tick(out: &mut Vec<u8>, dom: DomId) -> Result<(), AllocError> {
     push_text(out, " 1\n")
 }
 
-// Appends the line that makes this turn of a domain.
-fn push_move<'a>(
-    alloc: Global,
-    out: &mut Vec<u8>,
-    lines: &[&str],
-    names: &mut WitnessNames<'a>,
-    turn: Turn,
-    walker: &Walker<'_, 'a>,
-) -> Result<(), AllocError> {
-    if walker.is_calling() {
-        return push_tick(out, walker.dom());
-    }
-    let Some(task) = walker.task() else {
-        return match names.held(turn.place, walker, turn.choice) {
-            Some(name) => push_give_back(out, walker.dom(), name),
-            None => Ok(()),
-        };
-    };
-    match &task.deed {
-        RunAction::Do(call) => {
-            let name = names.begin(turn.place, walker, task.line, call)?;
-            push_begin(alloc, out, lines, task.line, shown(&name))
+// Appends a comment on a mapping of this name that a domain releases when it leaves.
+fn push_left(out: &mut Vec<u8>, dom: DomId, name: &[u8]) -> Result<(), AllocError> {
+    push_text(out, "# domain ")?;
+    push_number(out, dom.0)?;
+    push_text(out, " leaves and releases ")?;
+    out.extend_from_slice(name)?;
+    push_text(out, ", which it may not unmap\n")
+}
+
+// Returns the type of a domain.
+fn type_of(domains: &[DomainConfig], dom: DomId) -> Option<TypeId> {
+    for domain in domains {
+        if domain.id.0 == dom.0 {
+            return Some(domain.label);
         }
-        RunAction::Tell(_) | RunAction::Await(_) => Ok(()),
+    }
+    None
+}
+
+// A script for `play` under way.
+#[derive(Drop)]
+struct WitnessScript<'w, 't, 'a> {
+    alloc: Global,
+    out: Vec<u8>,
+    lines: &'w [&'t str],
+    domains: &'w [DomainConfig],
+    rights: ScriptPolicy,
+    names: WitnessNames<'a>,
+    // For each domain, whether the release that it has open has no line.
+    skips: Vec<bool>,
+    // The first domain that releases a mapping without a line.
+    keeps: Option<DomId>,
+}
+
+impl<'w, 't, 'a> WitnessScript<'w, 't, 'a> {
+    // Returns whether the policy lets a domain unmap an entry of this owner.
+    fn may_unmap(&self, dom: DomId, owner: DomId) -> bool {
+        let Some(source) = type_of(self.domains, dom) else {
+            return false;
+        };
+        let Some(target) = type_of(self.domains, owner) else {
+            return false;
+        };
+        self.rights.allows(source, target, Perms::UNMAP)
+    }
+
+    // Returns whether a domain may unmap its mapping at this index of those that it has.
+    fn may_give_back(&self, run: &Replay, walker: &Walker, choice: usize) -> bool {
+        let Some(handle) = walker.held().get(choice) else {
+            return false;
+        };
+        match run.core().subject(walker.dom(), *handle) {
+            Some((owner, _)) => self.may_unmap(walker.dom(), owner),
+            None => false,
+        }
+    }
+
+    // Appends the line by which a domain at the end of its list begins to unmap a mapping, or a comment if it may not.
+    fn push_end(&mut self, run: &Replay, walker: &Walker, turn: Turn) -> Result<(), AllocError> {
+        let is_left = !self.may_give_back(run, walker, turn.choice);
+        if let Some(skips) = self.skips.get_mut(turn.place) {
+            *skips = is_left;
+        }
+        let Some(name) = self.names.held(turn.place, walker, turn.choice) else {
+            return Ok(());
+        };
+        if is_left {
+            if self.keeps.is_none() {
+                self.keeps = Some(walker.dom());
+            }
+            push_left(&mut self.out, walker.dom(), name)
+        } else {
+            push_give_back(&mut self.out, walker.dom(), name)
+        }
+    }
+
+    // Appends the line of a step of what a domain has open, unless that has no lines.
+    fn push_step(&mut self, walker: &Walker, place: usize) -> Result<(), AllocError> {
+        let is_skipped = match self.skips.get(place) {
+            Some(skips) => *skips,
+            None => false,
+        };
+        if walker.call().is_none() && is_skipped {
+            return Ok(());
+        }
+        push_tick(&mut self.out, walker.dom())
+    }
+
+    // Appends the line that makes this turn of a domain.
+    fn push_move(
+        &mut self,
+        run: &Replay<'_, 'a>,
+        walker: &Walker<'_, 'a>,
+        turn: Turn,
+    ) -> Result<(), AllocError> {
+        if walker.is_calling() {
+            return self.push_step(walker, turn.place);
+        }
+        let Some(task) = walker.task() else {
+            return self.push_end(run, walker, turn);
+        };
+        match &task.deed {
+            RunAction::Do(call) => {
+                let name = self.names.begin(turn.place, walker, task.line, call)?;
+                push_begin(
+                    self.alloc,
+                    &mut self.out,
+                    self.lines,
+                    task.line,
+                    shown(&name),
+                )
+            }
+            RunAction::Tell(_) | RunAction::Await(_) => Ok(()),
+        }
+    }
+
+    // Makes a turn, after its line, and names the mapping that the domain gets.
+    fn make_turn(&mut self, run: &mut Replay<'_, 'a>, turn: Turn) -> Result<(), TextsFault> {
+        if let Some(walker) = run.walkers().get(turn.place) {
+            self.push_move(run, walker, turn)?;
+        }
+        let before = held_at(run, turn.place);
+        let _ = run.advance(turn)?;
+        if let Some(walker) = run.walkers().get(turn.place) {
+            self.names.note(turn.place, walker, before)?;
+        }
+        Ok(())
     }
 }
 
@@ -104,20 +208,6 @@ fn shown(name: &Option<Vec<u8>>) -> Option<&[u8]> {
     }
 }
 
-// Makes a turn, and names the mapping that the domain gets.
-fn make_turn<'s, 'a>(
-    run: &mut Replay<'s, 'a>,
-    names: &mut WitnessNames<'a>,
-    turn: Turn,
-) -> Result<(), TextsFault> {
-    let before = held_at(run, turn.place);
-    let _ = run.advance(turn)?;
-    if let Some(walker) = run.walkers().get(turn.place) {
-        names.note(turn.place, walker, before)?;
-    }
-    Ok(())
-}
-
 // Returns the number of mappings of the domain at this position.
 fn held_at(run: &Replay, place: usize) -> usize {
     match run.walkers().get(place) {
@@ -126,29 +216,47 @@ fn held_at(run: &Replay, place: usize) -> usize {
     }
 }
 
-/// Appends the lines of a script for `play` whose domains make the moves of these turns of the script in `source`. A
-/// domain that has mappings at the end of its list unmaps them by lines of their own.
+/// The lines of a script for `play`, and the first domain that leaves in it with a mapping which the policy does not
+/// let it unmap, if there is one. `play` has no line for that, so that domain keeps the mapping there.
+#[derive(Drop)]
+pub struct PlayScript {
+    pub lines: Vec<u8>,
+    pub keeps: Option<DomId>,
+}
+
+/// Returns the lines of a script for `play` whose domains make the moves of these turns of the script in `source`. A
+/// domain that has mappings at the end of its list unmaps them by lines of their own, if the policy lets it.
 ///
 /// # Errors
-/// `Memory`, and `Keeps` if a domain can't unmap a mapping. Part of the lines are then appended.
-pub fn push_witness<'s, 'a>(
+/// `Memory` if an allocation fails.
+pub fn witness_of<'s, 'a>(
     alloc: Global,
-    out: &mut Vec<u8>,
     source: &str,
     script: &'s RunScript<'a>,
     turns: &[Turn],
-) -> Result<(), TextsFault>
+) -> Result<PlayScript, TextsFault>
     requires { CanConfigure (contents_told script.now.head) }
 {
     let lines = text_lines(alloc, source)?;
-    push_head(out, lines.as_slice(), body_of(script.tasks()))?;
+    let head = script.head();
+    let domains = head.domains();
+    let mut witness = WitnessScript {
+        alloc,
+        out: Vec::new(alloc),
+        lines: lines.as_slice(),
+        domains,
+        rights: ScriptPolicy::of(alloc, head)?,
+        names: WitnessNames::new(alloc),
+        skips: vec![in alloc; false; domains.len()]?,
+        keeps: None,
+    };
+    push_head(&mut witness.out, lines.as_slice(), body_of(script.tasks()))?;
     let mut run = Replay::new(alloc, script)?;
-    let mut names = WitnessNames::new(alloc);
     for turn in turns {
-        if let Some(walker) = run.walkers().get(turn.place) {
-            push_move(alloc, out, lines.as_slice(), &mut names, *turn, walker)?;
-        }
-        make_turn(&mut run, &mut names, *turn)?;
+        witness.make_turn(&mut run, *turn)?;
     }
-    Ok(())
+    Ok(PlayScript {
+        lines: witness.out,
+        keeps: witness.keeps,
+    })
 }

@@ -17,7 +17,7 @@ use Rattle.gt_calls.specs.declared.action.CallResult.TheVariants.{Given, Granted
 use Rattle.gt_calls.specs.declared.held.HeldPin.{HeldPin}
 use Rattle.gt_calls.specs.declared.request.OpenRequest.{OpenRequest}
 use Rattle.gt_calls.specs.declared.request.OpenRequest.TheVariants.{Copy, GetVersion, Load, Map, Peek, QuerySize, SetupTable}
-use Rattle.gt_calls.specs.declared.request.OpenRequest.TheVariants.{Store, Unmap}
+use Rattle.gt_calls.specs.declared.request.OpenRequest.TheVariants.{Release, Store, Unmap}
 use Rattle.gt_calls.specs.declared.request.Request.{Request}
 use Rattle.gt_calls.specs.declared.request.Request.TheVariants as requests
 use Rattle.gt_calls.specs.Asking.{asked, begun_of, bytes_begun, field_refused}
@@ -54,6 +54,7 @@ BeginsWith (SetupTable frames) header (Given value) = value ≡ Frames header.fr
 BeginsWith (SetupTable frames) header verdict = ⊥
 BeginsWith (Map dom gref flags) header verdict = ⊥
 BeginsWith (Unmap handle) header verdict = ⊥
+BeginsWith (Release handle) header verdict = ⊥
 BeginsWith (Load handle off len) header verdict = ⊥
 BeginsWith (Store handle off len) header verdict = ⊥
 BeginsWith (Peek frame off len) header verdict = ⊥
@@ -101,10 +102,12 @@ answer-is s h d r v answer against begins by = grind arith
 gives-none : (v : CallResult) → handle_given (answer_of v) ≡ None
 gives-none v = grind arith
 
--- an unmap that is answered at its beginning takes no mapping
+-- a call that is answered at its beginning drops no mapping
 keeps-all : (held : List Handle) (q : Request) (header : Header) (v : CallResult) → BeginsWith (asked q) header v → held_after held (given_up q) (answer_of v) ≡ held
 keeps-all held (requests.Unmap handle) header (Refused denial) begins = refl
 keeps-all held (requests.Unmap handle) header v begins = absurd begins
+keeps-all held (requests.Release handle) header (Refused denial) begins = refl
+keeps-all held (requests.Release handle) header v begins = absurd begins
 keeps-all held q header v begins = grind arith
 
 -- the beginning of a call that is answered at once

@@ -7,6 +7,9 @@ use Rattle.std.proofs.lemmas.Option.{slice_get_past}
 use Rattle.gt_types.specs.declared.DomId.{DomId}
 use Rattle.gt_handles.specs.Handles.{value_of}
 use Rattle.gt_handles.specs.declared.handles.Handle.{Handle}
+use Rattle.gt_calls.specs.declared.action.CallResult.{CallResult}
+use Rattle.gt_calls.specs.declared.action.Step.{Step}
+use Rattle.gt_calls.specs.declared.call.Call.{Call}
 use Rattle.gt_calls.specs.declared.held.HeldPin.{HeldPin}
 use Rattle.gt_calls.specs.declared.judging.TheConstants.{SERIAL_LIMIT}
 use Rattle.gt_calls.specs.declared.request.OpenRequest.{OpenRequest}
@@ -37,7 +40,7 @@ use Rattle.std.proofs.Common.{Bor, inl, inr, ◌≤◌}
 use Rattle.std.specs.Prelude.{unwrap_or}
 use Rattle.std.proofs.lemmas.Option.{none-some}
 use Rattle.gt_calls.specs.Opening.{opens}
-use Rattle.gt_calls.specs.Rules.{CallerKnowledge}
+use Rattle.gt_calls.specs.Rules.{CallerKnowledge, release_begun}
 use Rattle.gt_calls.specs.declared.request.OpenRequest.TheVariants as asks-for
 use Rattle.gt_host.specs.Naming.{AreNamed}
 use Rattle.gt_host.specs.Runs.{call_bytes, handle_named, request_of}
@@ -163,19 +166,26 @@ module _ (s : Setting) (h : History) (tasks : List RunTask) (k : Course) (scene 
     alike-known : KnowAlike (known_at s h k.dom) (known_in scene t n.mappings)
     alike-known = knows-alike s h k.dom scene a t n table placed show.pins below few
 
-    gives-as-run : begun_of (known_in scene t n.mappings) k.dom (requests.Unmap place) ≡ begun_of (known_at s h k.dom) k.dom (requests.Unmap handle)
-    gives-as-run = begun-of-renamed (known_at s h k.dom) (known_in scene t n.mappings) k.dom place (requests.Unmap handle) (requests.Unmap place) alike-known (state-at choice handle place there here) refl refl
+    gives-as-run : begun_of (known_in scene t n.mappings) k.dom (requests.Release place) ≡ begun_of (known_at s h k.dom) k.dom (requests.Release handle)
+    gives-as-run = begun-of-renamed (known_at s h k.dom) (known_in scene t n.mappings) k.dom place (requests.Release handle) (requests.Release place) alike-known (state-at choice handle place there here) refl refl
 
-    gives-by-place : BeginsAlike (known_by_place s h k.dom) (known_in scene t n.mappings) k.dom (requests.Unmap place)
-    gives-by-place = begins-alike (known_in scene t n.mappings) (known_by_place s h k.dom) k.dom (requests.Unmap place)
+    gives-by-place : BeginsAlike (known_by_place s h k.dom) (known_in scene t n.mappings) k.dom (requests.Release place)
+    gives-by-place = begins-alike (known_in scene t n.mappings) (known_by_place s h k.dom) k.dom (requests.Release place)
         (alike-between (known_at s h k.dom) (known_in scene t n.mappings) (known_by_place s h k.dom) alike-known (place-alike s h k.dom below))
         (ap (slice_get (pins_mapped_at h k.dom)) serial-is ∙ sym (run-at choice handle there) ∙ sym (state-at choice handle place there here))
 
-    -- an unmap of the mapping at a place begins as in the run
-    pub gives-run : (result : Opened) → ((z : CallerKnowledge) → BeginsAlike z (known_in scene t n.mappings) k.dom (requests.Unmap place) → OpensSo z k.dom (requests.Unmap place) result) → GivesAsRun s h k.dom handle choice (Some result)
-    gives-run (Done verdict) opened = sym gives-as-run ∙ opened (known_in scene t n.mappings) (record { header = refl; begins = refl; judged = refl; first = refl })
-    gives-run (Open now step) opened = let o = opened (known_by_place s h k.dom) gives-by-place in
+    -- the release of the mapping at a place begins as in the run
+    pub gives-run : (now : Call) (step : Step) → ((z : CallerKnowledge) → BeginsAlike z (known_in scene t n.mappings) k.dom (requests.Release place) → OpensSo z k.dom (requests.Release place) (Open now step)) → GivesAsRun s h k.dom handle choice (Some (now, step))
+    gives-run now step opened = let o = opened (known_by_place s h k.dom) gives-by-place in
         (sym gives-as-run ∙ sym gives-by-place.begins ∙ o.unanswered, (place, serial-is, o))
+
+    -- it is not refused, since there is a mapping
+    pub gives-open : (verdict : CallResult) → ((z : CallerKnowledge) → BeginsAlike z (known_in scene t n.mappings) k.dom (requests.Release place) → OpensSo z k.dom (requests.Release place) (Done verdict)) → ⊥
+    gives-open verdict opened =
+        let many : length (handles_at h k.dom) ≡ length (pins_mapped_at h k.dom) = length-map (mappings_at h k.dom.0) (λ (m : Handle × HeldPin). m.0) ∙ sym (length-map (mappings_at h k.dom.0) (λ (m : Handle × HeldPin). m.1)) in
+        let pin = get-there (handles_at h k.dom) (pins_mapped_at h k.dom) choice handle many there in
+        let found : value_of n.mappings place ≡ Some pin.0 = state-at choice handle place there here ∙ run-at choice handle there ∙ pin.1 in
+        none-some verdict (sym (ap (λ (m : Option HeldPin). release_begun (λ z. m) place) found) ∙ opened (known_in scene t n.mappings) (record { header = refl; begins = refl; judged = refl; first = refl }))
 
   module _ (call : ScriptCall) (q p : Request) (asks : SaysRequest k.named k.dom call q) (says : SaysRequest names k.dom call p) where
     abbrev place : Handle
@@ -248,12 +258,25 @@ module _ (s : Setting) (h : History) (tasks : List RunTask) (k : Course) (scene 
   pub given-there : slice_get n.handles.items choice ≡ None → ⊥
   given-there none = let there = get-there (handles_at h k.dom) n.handles.items choice handle as-many-there at-choice in none-some there.0 (sym none ∙ there.1)
 
-  -- an unmap of it begins as in the run
-  pub given-line : (place : Handle) (result : Opened) → slice_get n.handles.items choice ≡ Some place → ((z : CallerKnowledge) → BeginsAlike z (known_in scene t n.mappings) d (requests.Unmap place) → OpensSo z d (requests.Unmap place) result)
-      → GivesAsRun s h k.dom handle choice (Some result)
-  given-line place result here opened =
-      let few = show.few in let begun = show.begun in let ok = a.mappings.ok in let small = a.mappings.small in
-      let below : maps_answered_at h k.dom.0 < SERIAL_LIMIT = omega arith in
-      let many : length a.mappings.items < SERIAL_LIMIT = (let len : a.mappings.len ≡ length a.mappings.items = ok.0 in let le : a.mappings.len ≤ a.mappings.cap = ok.1 in omega arith) in
-      gives-run s h tasks k scene a t n show table placed-there below many choice handle place at-choice here result
-      (subst (λ (x : DomId). (z : CallerKnowledge) → BeginsAlike z (known_in scene t n.mappings) x (requests.Unmap place) → OpensSo z x (requests.Unmap place) result) dom opened)
+  few-mappings : length a.mappings.items < SERIAL_LIMIT
+  few-mappings = let ok = a.mappings.ok in let small = a.mappings.small in let len : a.mappings.len ≡ length a.mappings.items = ok.0 in let le : a.mappings.len ≤ a.mappings.cap = ok.1 in omega arith
+
+  few-answered : maps_answered_at h k.dom.0 < SERIAL_LIMIT
+  few-answered = let few = show.few in let begun = show.begun in omega arith
+
+  -- what the start of a release of it gives, by what is known in the state
+  abbrev pub Starts : Handle → Opened → Type 0
+  Starts place result = (z : CallerKnowledge) → BeginsAlike z (known_in scene t n.mappings) d (requests.Release place) → OpensSo z d (requests.Release place) result
+
+  starts-there : (place : Handle) (result : Opened) → Starts place result → (z : CallerKnowledge) → BeginsAlike z (known_in scene t n.mappings) k.dom (requests.Release place) → OpensSo z k.dom (requests.Release place) result
+  starts-there place result opened = subst (λ (x : DomId). (z : CallerKnowledge) → BeginsAlike z (known_in scene t n.mappings) x (requests.Release place) → OpensSo z x (requests.Release place) result) dom opened
+
+  -- it begins as in the run
+  pub given-line : (place : Handle) (now : Call) (step : Step) → slice_get n.handles.items choice ≡ Some place → Starts place (Open now step) → GivesAsRun s h k.dom handle choice (Some (now, step))
+  given-line place now step here opened =
+      gives-run s h tasks k scene a t n show table placed-there few-answered few-mappings choice handle place at-choice here now step (starts-there place (Open now step) opened)
+
+  -- it is not refused
+  pub given-open : (place : Handle) (verdict : CallResult) → slice_get n.handles.items choice ≡ Some place → Starts place (Done verdict) → ⊥
+  given-open place verdict here opened =
+      gives-open s h tasks k scene a t n show table placed-there few-answered few-mappings choice handle place at-choice here verdict (starts-there place (Done verdict) opened)

@@ -55,11 +55,11 @@ without-place low (x ∷ hs) high (suc at) handle r there =
 abbrev pub giving_course : Course → ℕ → Course
 giving_course k choice = record k { opened = giving; held = take choice k.held ++ drop (suc choice) k.held }
 
--- it is where the run has brought it, if the unmap is of the mapping at this place
+-- it is where the run has brought it, if the release is of the mapping at this place
 pub shows-giving : (s : Setting) (h : History) (tasks : List RunTask) (k : Course) (a : Actor) (choice : ℕ) (handle place : Handle) (now : Call) (step : Step) → ShowsCalls s h tasks k a → k.opened ≡ resting → slice_get k.held choice ≡ Some handle
-    → place.serial ≡ choice → OpensAsRun (known_by_place s h k.dom) k.dom (requests.Unmap place) now step → ShowsCalls s (began k.dom (requests.Unmap handle) ∷ h) tasks (giving_course k choice) (giving_actor a now step)
+    → place.serial ≡ choice → OpensAsRun (known_by_place s h k.dom) k.dom (requests.Release place) now step → ShowsCalls s (began k.dom (requests.Release handle) ∷ h) tasks (giving_course k choice) (giving_actor a now step)
 shows-giving s h tasks k a choice handle place now step show rest there serial is =
-    let d = k.dom in let q = requests.Unmap handle in let g : History = began d q ∷ h in let same = begun-same s h d q in
+    let d = k.dom in let q = requests.Release handle in let g : History = began d q ∷ h in let same = begun-same s h d q in
     let all : k.held ≡ handles_at h d = rests s h tasks k a.next k.opened (open_call h d.0) a.«open» rest show.opens in
     let at : slice_get (handles_at h d) place.serial ≡ Some handle = ap (slice_get (handles_at h d)) serial ∙ ap (λ (l : List Handle). slice_get l choice) (sym all) ∙ there in
     let few : maps_answered_at h d.0 + 0 ≤ a.next = subst (λ (z : Opened). maps_answered_at h d.0 + tasks_open z ≤ a.next) rest show.few in

@@ -1,22 +1,12 @@
 -- Each handle that a course has was answered to its domain, and what a line asks fits its types.
-use Rattle.std.proofs.Common.{◌≡◌, ◌<◌, ◌^◌, ◌==◌, ◌%◌, ℕ, zero, suc, refl, Bool, true, false, List, [], ◌∷◌, length}
-use Rattle.std.proofs.Common.{drop}
-use Rattle.std.proofs.Common.{Option, Some, None, Ok, Err, Result, sym, ap, ◌∙◌, arith, subst, inl, Bor, codes}
-use Rattle.std.specs.Prelude.{if◌then◌else◌}
-use Rattle.std.specs.Result.{result_unwrap_or}
-use Rattle.std.specs.Str.{bytes_eq}
-use Rattle.byteorder.specs.Numbers.{little_from-lt}
-use Rattle.hex.specs.Hex.{IsBytes, decode_of}
-use Rattle.hex.specs.declared.error.FromHexError.{FromHexError}
-use Rattle.hex.proofs.HexLemmas.{decode_of-ok}
+use Rattle.std.proofs.Common.{◌≡◌, ℕ, refl, List, [], ◌∷◌, Option, Some, None, sym, ap, ◌∙◌, subst, inl, Bor}
+use Rattle.hex.specs.Hex.{IsBytes}
 use Rattle.gt_types.specs.declared.DomId.{DomId}
 use Rattle.gt_types.specs.declared.GrantRef.{GrantRef}
 use Rattle.gt_handles.specs.declared.handles.Handle.{Handle}
-use Rattle.gt_entry.specs.Bytes.{field, flags_of, is_set}
 use Rattle.gt_entry.specs.Entries.{IsEntry}
 use Rattle.gt_entry.specs.declared.entry.Entry.{Entry}
-use Rattle.gt_entry.specs.declared.entry.Entry.TheVariants.{Page, Sub, Via}
-use Rattle.gt_calls.specs.Asking.{FitsAsked, asked, domain_said, entry_spelled, is_readonly_said, said_in_v1, said_in_v2}
+use Rattle.gt_calls.specs.Asking.{FitsAsked, asked}
 use Rattle.gt_calls.specs.declared.request.Request.{Request}
 use Rattle.gt_core.specs.Alike.{IsGiven}
 use Rattle.gt_core.specs.History.{History}
@@ -25,11 +15,11 @@ use Rattle.gt_core.specs.declared.trace.Element.TheVariants.{Item as Did}
 use Rattle.gt_core.specs.declared.trace.Item.{Item}
 use Rattle.gt_host.specs.Runs.{Named, SaysRequest, call_bytes, request_of}
 use Rattle.gt_host.proofs.AlikeLemmas.{AnswerGiven}
-use Rattle.gt_script_lines.specs.Hexadecimal.{hex_bytes}
 use Rattle.gt_script_lines.specs.declared.calls.ScriptCall.{ScriptCall}
 use Rattle.gt_script_lines.specs.declared.calls.ScriptCall.TheVariants as calls
 use Rattle.gt_explore_replay.specs.Courses.{Course, back_after, course_after}
 use Rattle.gt_explore_replay.proofs.Alike.{held_answered, held_grown, held_left, names_grown, names_more}
+use Rattle.gt_explore_replay.proofs.EntryFits.{entry-fits, hex-bytes}
 use Rattle.gt_script.specs.Lists.{RunTask}
 use Rattle.gt_explore_moves.specs.Scenes.{WasAnsweredAll}
 use Rattle.gt_explore_moves.specs.Starting.{held_but}
@@ -50,7 +40,7 @@ line-answered types line call lost h k i (Some a) was own e = let given = given-
   held = held_answered (i ∷ h) k.dom.0 k.held lost a (held_grown h (Did i) k.dom.0 k.held was.held) given;
 }
 
--- what it has after an unmap at the end of its list began or went on
+-- what it has after a release at the end of its list began or went on
 pub back-answered : (h : History) (k : Course) (i : Item) (answer : Option Answer) → WasAnsweredAll h k → WasAnsweredAll (i ∷ h) (back_after k answer)
 back-answered h k i None was = record { named = names_grown h (Did i) k.named was.named; held = held_grown h (Did i) k.dom.0 k.held was.held }
 back-answered h k i (Some a) was = record { named = names_grown h (Did i) k.named was.named; held = held_grown h (Did i) k.dom.0 k.held was.held }
@@ -73,56 +63,6 @@ back-dom k None = refl
 back-dom k (Some a) = refl
 
 -- entries
-
-none-bytes : IsBytes []
-none-bytes i = omega arith
-
-bytes-drop : (n : ℕ) (xs : List ℕ) → IsBytes xs → IsBytes (drop n xs)
-bytes-drop zero xs all = all
-bytes-drop (suc n) [] all = all
-bytes-drop (suc n) (x ∷ xs) all = bytes-drop n xs (λ i. all (suc i))
-
-small-field : (bytes : List ℕ) (at n : ℕ) → IsBytes bytes → field bytes at n < 256 ^ n
-small-field bytes at n all = little_from-lt 0 n (drop at bytes) (bytes-drop at bytes all)
-
-either-entry : (b : Bool) (e f : Entry) → IsEntry e → IsEntry f → IsEntry (if b then e else f)
-either-entry true e f is other = is
-either-entry false e f is other = other
-
-abbrev page_said : List ℕ → ℕ → Entry
-page_said bytes frame = Page (domain_said bytes) (is_readonly_said bytes) frame
-
-abbrev sub_said : List ℕ → Entry
-sub_said bytes = Sub (domain_said bytes) (is_readonly_said bytes) (field bytes 8 8) (field bytes 4 2) (field bytes 6 2)
-
-abbrev via_said : List ℕ → Entry
-via_said bytes = Via (domain_said bytes) (is_readonly_said bytes) (record { 0 = field bytes 4 2 }) (record { 0 = field bytes 8 4 })
-
-entry-fits : (bytes : List ℕ) → IsBytes bytes → IsEntry (entry_spelled bytes)
-entry-fits bytes all =
-    let dom : field bytes 2 2 < 65536 = small-field bytes 2 2 all in
-    let low : field bytes 4 4 < 2 ^ 32 = small-field bytes 4 4 all in
-    let frame : field bytes 8 8 < 2 ^ 64 = small-field bytes 8 8 all in
-    let gref : field bytes 8 4 < 2 ^ 32 = small-field bytes 8 4 all in
-    let second : field bytes 4 2 < 65536 = small-field bytes 4 2 all in
-    let third : field bytes 6 2 < 65536 = small-field bytes 6 2 all in
-    let wide : field bytes 4 4 < 2 ^ 64 = omega arith in
-    either-entry (length bytes == 16) (said_in_v2 bytes) (said_in_v1 bytes)
-    (either-entry (flags_of bytes % 4 == 3) (via_said bytes) (if is_set (flags_of bytes) 256 then sub_said bytes else page_said bytes (field bytes 8 8)) (dom, second, gref)
-    (either-entry (is_set (flags_of bytes) 256) (sub_said bytes) (page_said bytes (field bytes 8 8)) (dom, frame, second, third) (dom, frame)))
-    (dom, wide)
-
-decoded : (r : Result (List ℕ) FromHexError) → ((bytes : List ℕ) → r ≡ Ok bytes → IsBytes bytes) → IsBytes (result_unwrap_or r [])
-decoded (Ok bytes) all = all bytes refl
-decoded (Err e) all = none-bytes
-
--- each byte of a hexadecimal text is one
-hex-bytes : (word : List ℕ) → IsBytes (hex_bytes word)
-unfolding hex_bytes
-hex-bytes word = by (bytes_eq word (codes "-")) where
-  by : (dash : Bool) → IsBytes (if dash then [] else result_unwrap_or (decode_of word) [])
-  by true = none-bytes
-  by false = decoded (decode_of word) (λ bytes is. (decode_of-ok word bytes is).3)
 
 -- an entry that a line names fits its types
 abbrev pub NamesEntry : ScriptCall → Type 0

@@ -20,7 +20,7 @@ use Rattle.gt_core.specs.declared.trace.Answer.{Answer}
 use Rattle.gt_host.specs.Printing.{answer_line}
 use Rattle.gt_host.specs.Runs.{SaysRequest}
 use Rattle.gt_script_lines.specs.declared.calls.ScriptCall.{ScriptCall}
-use Rattle.gt_calls.specs.declared.request.Request.TheVariants.{Unmap}
+use Rattle.gt_calls.specs.declared.request.Request.TheVariants.{Release}
 use Rattle.gt_handles.specs.declared.handles.Handle.{Handle}
 use Rattle.gt_explore_replay.specs.Courses.{Course, back_after, course_after, resting}
 use Rattle.gt_explore_replay.specs.Orders.{given_up}
@@ -109,17 +109,17 @@ module _ (s : Setting) (h : History) (scene : SearchContext) (place : ℕ) (text
         told = told;
       })
 
--- an unmap at the end of a list is open
+-- the release of a mapping at the end of a list is open
 pub giving-opens : (s : Setting) (h : History) (scene : SearchContext) (place : ℕ) (k : Course) (a : Actor) (handle : Handle) (answer : Option Answer) (choice : ℕ) (now : Call) (step : Step) (old new : SearchState) (b : Actor) → ShowsCalls s h (tasks_at scene place) k a → k.opened ≡ resting → slice_get k.held choice ≡ Some handle
-    → BeginsRight s h (beginning k.dom (Unmap handle) answer) (Unmap handle) → GivesAsRun s h k.dom handle choice (Some (Open now step)) → b ≡ giving_actor a now step → new.actors.items ≡ slice_set old.actors.items place b → new.ground ≡ old.ground → new.told ≡ old.told
-    → MovesAsRun s (beginning k.dom (Unmap handle) answer ∷ h) (tasks_at scene place) a k (back_after (held_but k choice) answer) old new place On
+    → BeginsRight s h (beginning k.dom (Release handle) answer) (Release handle) → GivesAsRun s h k.dom handle choice (Some (now, step)) → b ≡ giving_actor a now step → new.actors.items ≡ slice_set old.actors.items place b → new.ground ≡ old.ground → new.told ≡ old.told
+    → MovesAsRun s (beginning k.dom (Release handle) answer ∷ h) (tasks_at scene place) a k (back_after (held_but k choice) answer) old new place On
 giving-opens s h scene place k a handle answer choice now step old new b show rest held right (none, (at, serial, is)) b-is becomes ground told =
-    subst (λ (z : Option Answer). MovesAsRun s (beginning k.dom (Unmap handle) z ∷ h) (tasks_at scene place) a k (back_after (held_but k choice) z) old new place On)
-    (sym (none-answered s h k.dom (asked (Unmap handle)) (begun_of (known_at s h k.dom) k.dom (Unmap handle)) answer _ none right.1)) (record {
+    subst (λ (z : Option Answer). MovesAsRun s (beginning k.dom (Release handle) z ∷ h) (tasks_at scene place) a k (back_after (held_but k choice) z) old new place On)
+    (sym (none-answered s h k.dom (asked (Release handle)) (begun_of (known_at s h k.dom) k.dom (Release handle)) answer _ none right.1)) (record {
       grows = refl;
       actor = b;
       becomes = becomes;
-      shows = subst (ShowsCalls s (beginning k.dom (Unmap handle) None ∷ h) (tasks_at scene place) (back_after (held_but k choice) None)) (sym b-is)
+      shows = subst (ShowsCalls s (beginning k.dom (Release handle) None ∷ h) (tasks_at scene place) (back_after (held_but k choice) None)) (sym b-is)
           (shows-giving s h (tasks_at scene place) k a choice handle at now step show rest held serial is);
       ground = ground;
       told = told;

@@ -13,7 +13,7 @@ use Rattle.gt_types.specs.declared.config.DomainConfig.{DomainConfig}
 use Rattle.gt_handles.specs.declared.handles.Handle.{Handle}
 use Rattle.gt_calls.specs.Asking.{FitsAsked, asked}
 use Rattle.gt_calls.specs.declared.request.Request.{Request}
-use Rattle.gt_calls.specs.declared.request.Request.TheVariants.{Unmap}
+use Rattle.gt_calls.specs.declared.request.Request.TheVariants.{Release}
 use Rattle.gt_core.specs.Alike.{HappensKnown}
 use Rattle.gt_core.specs.GoingOn.{beginning}
 use Rattle.gt_core.specs.History.{History, Setting, Underway, open_call}
@@ -29,7 +29,7 @@ use Rattle.gt_host.specs.Playing.{setting_of_script}
 use Rattle.gt_host.specs.Runs.{Named, SaysRequest, answer_in}
 use Rattle.gt_script_lines.specs.declared.calls.ScriptCall.{ScriptCall}
 use Rattle.gt_explore_replay.specs.Abreast.{CanComeNext, history_in}
-use Rattle.gt_explore_replay.specs.Courses.{Course, CourseLeads, ActionLeads, GivesAt, IsDoneIf, Opened, OpenLeads, RestLeads}
+use Rattle.gt_explore_replay.specs.Courses.{Course, CourseLeads, ActionLeads, GivesAt, Opened, OpenLeads, RestLeads}
 use Rattle.gt_explore_replay.specs.Courses.{back_after, calling, course_after, giving, resting}
 use Rattle.gt_explore_replay.specs.Orders.{Happening, IsRaisedBefore, did, given_up, passed, raised}
 use Rattle.gt_explore_replay.proofs.Alike.{asks_answered, held_here}
@@ -122,8 +122,8 @@ GiveMeets scene place choice old new res =
     → slice_get old.actors.items place ≡ Some a → slice_get old.ground.tables.items place ≡ Some t
     → slice_get scene.roster.domains.items place ≡ Some domain → domain.id ≡ k.dom
     → ShowsCalls s h (tasks_at scene place) k a → KnowsTable s h k.dom scene t → k.opened ≡ resting → slice_get k.held choice ≡ Some handle
-    → BeginsRight s h (beginning k.dom (Unmap handle) answer) (Unmap handle) → IsDoneIf answer
-    → IfOk res (MovesAsRun s (beginning k.dom (Unmap handle) answer ∷ h) (tasks_at scene place) a k (back_after (held_but k choice) answer) old new place)
+    → BeginsRight s h (beginning k.dom (Release handle) answer) (Release handle)
+    → IfOk res (MovesAsRun s (beginning k.dom (Release handle) answer ∷ h) (tasks_at scene place) a k (back_after (held_but k choice) answer) old new place)
 
 abbrev pub TickMeets : {E : Type 0} → SearchContext → ℕ → ActorCall → SearchState → SearchState → Result TurnResult E → Type 0
 TickMeets scene place o old new res =
@@ -253,14 +253,13 @@ module _ (c : RunContents) (scene : SearchContext) (hs : List Happening) (ks : L
         → GiveMeets {E = Unit {0}} scene place choice old new (Ok led) → CourseLeads (type_names c.head) k choice x j → CanComeNext s hs x → Comes new led x j
     back-begins new led choice x j end meets leads may =
         let gives : GivesAt k choice x j = rest-leads choice x j [] (nothing-there tasks a.next end) leads in
-        let handle = gives.0 in let e = gives.1 in let q = Unmap handle in
+        let handle = gives.0 in let e = gives.1 in let q = Release handle in
         begins {P = Comes new led x j} q e (subst (λ (z : Happening). CanComeNext s hs z) gives.3 may) (λ i e-is same right.
         let answer = i.answer in let one = beginning k.dom q answer in
         let domain = domain-at c scene hs ks old place k a is shows at there in
         let table = table-at c scene hs ks old place k a is shows at there in
-        let done : IsDoneIf answer = subst (λ (z : Element). IsDoneIf (answer_in z)) e-is gives.4 in
-        let moved = meets s h k a domain.0 handle table.0 answer there table.1 domain.1 domain.2 show table.2 rest.0 gives.2 right done in
-        let after : back_after (held_but k choice) answer ≡ j = sym (gives.5 ∙ ap (λ (z : Element). back_after (held_but k choice) (answer_in z)) e-is) in
+        let moved = meets s h k a domain.0 handle table.0 answer there table.1 domain.1 domain.2 show table.2 rest.0 gives.2 right in
+        let after : back_after (held_but k choice) answer ≡ j = sym (gives.4 ∙ ap (λ (z : Element). back_after (held_but k choice) (answer_in z)) e-is) in
         let dom : j.dom ≡ k.dom = ap (λ (z : Course). z.dom) (sym after) ∙ back-dom (held_but k choice) answer in
         let answered = subst (WasAnsweredAll (one ∷ h)) after (back-answered h (held_but k choice) one answer (but-answered h k choice known)) in
         let came = begun-to new led q answer j right (inl (held_here h k.dom.0 choice k.held handle gives.2 known.held)) tt dom answered
@@ -349,8 +348,8 @@ module _ (c : RunContents) (scene : SearchContext) (hs : List Happening) (ks : L
     (
       leads.2,
       λ i e-is own.
-          let to : j ≡ back_after k i.answer = leads.4 ∙ ap (λ (z : Element). back_after k (answer_in z)) e-is in (
-            (subst (λ (z : Element). IsDoneIf (answer_in z)) e-is leads.3, to),
+          let to : j ≡ back_after k i.answer = leads.3 ∙ ap (λ (z : Element). back_after k (answer_in z)) e-is in (
+            to,
             ap (λ (z : Course). z.dom) to ∙ back-dom k i.answer,
             subst (WasAnsweredAll (i ∷ h)) (sym to) (back-answered h k i i.answer known),
           ),

@@ -21,7 +21,7 @@ use Rattle.gt_calls.specs.declared.call.Phase.{Phase}
 use Rattle.gt_calls.specs.declared.held.HeldPin.{HeldPin}
 use Rattle.gt_calls.specs.declared.judging.TheConstants.{SERIAL_LIMIT}
 use Rattle.gt_calls.specs.declared.request.OpenRequest.{OpenRequest}
-use Rattle.gt_calls.specs.declared.request.OpenRequest.TheVariants.{Unmap, Load, Store}
+use Rattle.gt_calls.specs.declared.request.OpenRequest.TheVariants.{Unmap, Release, Load, Store}
 use Rattle.gt_calls.specs.declared.request.PinHolder.TheVariants.{Mapping as ByHandle}
 use Rattle.gt_calls.specs.Following.{Advances, FitsNext, Goes, IsLeftAlike}
 use Rattle.gt_calls.specs.Path.{FitsStep, IsExchanged, path}
@@ -84,6 +84,7 @@ is-left k l call shown seen at domains may own = by call.phase refl at where
 finds-place : (ms : List (Handle × HeldPin)) (place : Handle) (r : OpenRequest) (high : ℕ) → SerialsRise 0 (map (λ (m : Handle × HeldPin). m.0) ms) high → AsksByPlace (map (λ (m : Handle × HeldPin). m.0) ms) place r
     → FindsSame (pin_by_place (map (λ (m : Handle × HeldPin). m.1) ms)) place (mapping_of ms) r
 finds-place ms place (Unmap a) high rise there = sym (mapping-listed ms a ∙ listed-at 0 ms high place.serial a rise there)
+finds-place ms place (Release a) high rise there = sym (mapping-listed ms a ∙ listed-at 0 ms high place.serial a rise there)
 finds-place ms place (Load a off len) high rise there = sym (mapping-listed ms a ∙ listed-at 0 ms high place.serial a rise there)
 finds-place ms place (Store a off len) high rise there = sym (mapping-listed ms a ∙ listed-at 0 ms high place.serial a rise there)
 finds-place ms place r high rise there = tt

@@ -11,7 +11,7 @@ use Rattle.gt_calls.specs.declared.request.OpenRequest.{OpenRequest}
 use Rattle.gt_calls.specs.declared.request.Request.{Request}
 use Rattle.gt_calls.specs.declared.request.Request.TheVariants as requests
 use Rattle.gt_calls.specs.Asking.{asked, asked_by, begun_by, begun_of, bytes_of, plainly_asked}
-use Rattle.gt_calls.specs.declared.request.OpenRequest.TheVariants.{Map, Unmap, Load, Store}
+use Rattle.gt_calls.specs.declared.request.OpenRequest.TheVariants.{Map, Unmap, Release, Load, Store}
 use Rattle.gt_calls.specs.declared.action.Observation.{Observation}
 use Rattle.gt_calls.specs.declared.action.CallResult.{CallResult}
 use Rattle.gt_calls.specs.Rules.{CallerKnowledge, begun}
@@ -40,6 +40,7 @@ path-found : (k : CallerKnowledge) (found : Handle → Option HeldPin) (n : ℕ)
     → k.maps_answered < SERIAL_LIMIT → n < SERIAL_LIMIT → FindsSame found b k.mapping r
     → option_map (action_under b) (path (with_mappings k found n) d (asked_under b r) vs) ≡ option_map (action_under b) (path k d r vs)
 path-found k found n d b (Unmap a) vs below also finds = grind arith
+path-found k found n d b (Release a) vs below also finds = grind arith
 path-found k found n d b (Load a off len) vs below also finds = grind arith
 path-found k found n d b (Store a off len) vs below also finds = grind arith
 path-found k found n d b (Map dom gref flags) vs below also finds =
@@ -60,6 +61,7 @@ begun-found : (k : CallerKnowledge) (found : Handle → Option HeldPin) (n : ℕ
     → k.maps_answered < SERIAL_LIMIT → n < SERIAL_LIMIT → FindsSame found b k.mapping r
     → begun (with_mappings k found n) d (asked_under b r) ≡ begun k d r
 begun-found k found n d b (Unmap a) below also finds = grind arith
+begun-found k found n d b (Release a) below also finds = grind arith
 begun-found k found n d b (Load a off len) below also finds = grind arith
 begun-found k found n d b (Store a off len) below also finds = grind arith
 begun-found k found n d b (Map dom gref flags) below also finds = begun-map k found n d dom gref flags below also
@@ -92,12 +94,14 @@ asked-renamed b q p same asks = ap (asked_by p) same ∙ by (bytes_of q) where
 -- the handle that is asked by
 abbrev pub own_handle : OpenRequest → Handle
 own_handle (Unmap a) = a
+own_handle (Release a) = a
 own_handle (Load a off len) = a
 own_handle (Store a off len) = a
 own_handle request = record { serial = 0; key = 0 }
 
 under-own : (r : OpenRequest) → asked_under (own_handle r) r ≡ r
 under-own (Unmap a) = refl
+under-own (Release a) = refl
 under-own (Load a off len) = refl
 under-own (Store a off len) = refl
 under-own r = refl
@@ -105,6 +109,7 @@ under-own r = refl
 first-found : (k : CallerKnowledge) (found : Handle → Option HeldPin) (n : ℕ) (d : DomId) (r : OpenRequest) → FindsSame found (own_handle r) k.mapping r
     → first_phase (with_mappings k found n) d r ≡ first_phase k d r
 first-found k found n d (Unmap a) finds = ap (unmap_phase a) finds
+first-found k found n d (Release a) finds = ap (unmap_phase a) finds
 first-found k found n d (Load a off len) finds = ap (λ (m : Option HeldPin). load_phase m off len) finds
 first-found k found n d (Store a off len) finds = ap (λ (m : Option HeldPin). store_phase m off len) finds
 first-found k found n d r finds = refl
@@ -125,6 +130,7 @@ begins-alike k l d q alike found = record {
 -- a request under another handle is found by that one
 pub finds-own : (found mapping : Handle → Option HeldPin) (b : Handle) (r : OpenRequest) → found b ≡ mapping b → FindsSame found (own_handle (asked_under b r)) mapping (asked_under b r)
 finds-own found mapping b (Unmap a) e = e
+finds-own found mapping b (Release a) e = e
 finds-own found mapping b (Load a off len) e = e
 finds-own found mapping b (Store a off len) e = e
 finds-own found mapping b r e = tt

@@ -1,4 +1,5 @@
 -- Where a domain of a state comes to by the step of its open call.
+use Rattle.std.proofs.Common.{inl, inr}
 use Rattle.std.proofs.Common.{◌≡◌, ◌+◌, ◌≤◌, ◌++◌, ℕ, zero, suc, refl, List, [], ◌∷◌, length, take, drop, Option, Some}
 use Rattle.std.proofs.Common.{None, sym, ap, ◌∙◌, arith, subst, Result}
 use Rattle.std.specs.Prelude.{IfOk, codes, slice_get, slice_set}
@@ -20,12 +21,13 @@ use Rattle.gt_calls.specs.declared.action.CallResult.TheVariants.{Given, Granted
 use Rattle.gt_calls.specs.declared.call.Call.{Call}
 use Rattle.gt_calls.specs.declared.held.HeldPin.{HeldPin}
 use Rattle.gt_calls.specs.declared.request.OpenRequest.{OpenRequest}
-use Rattle.gt_calls.specs.declared.request.OpenRequest.TheVariants.{Unmap}
+use Rattle.gt_calls.specs.declared.request.OpenRequest.TheVariants.{Unmap, Release}
 use Rattle.gt_calls.specs.declared.request.PinHolder.TheVariants.{Leg as ByLeg, Mapping as ByHandle}
 use Rattle.gt_calls.specs.declared.request.Request.{Request}
 use Rattle.gt_calls.specs.declared.request.Request.TheVariants as requests
 use Rattle.gt_calls.specs.Asking.{asked}
 use Rattle.gt_calls.specs.Path.{after_beginning, by_mapping, path}
+use Rattle.gt_calls.specs.Resting.{GivesUp}
 use Rattle.gt_calls.specs.Rules.{CallerKnowledge, begun}
 use Rattle.gt_core.specs.Acting.{answer_of}
 use Rattle.gt_core.specs.History.{History, Setting, Underway, contents_at, known_at, maps_answered_at, one_if_mapped}
@@ -102,30 +104,47 @@ maps-left (Unpin p (ByHandle a)) ms n = absurd n
 maps-left (Unpin p (ByLeg place)) ms n = refl
 maps-left y ms n = refl
 
--- the path of an unmap
+-- the path of a call that drops a mapping
 
-unmap-step : (b : Option CallResult) (m : Option HeldPin) (handle : Handle) (vs : List Observation) (z : Step) → after_beginning b (by_mapping m (λ q. Unpin q (ByHandle handle))) vs ≡ Some (Makes z) → (p : HeldPin) × (z ≡ Unpin p (ByHandle handle))
-unmap-step None (Some q) handle [] z e = (q, grind arith)
-unmap-step b m handle vs z e = absurd (grind arith)
+drop-step : (b : Option CallResult) (m : Option HeldPin) (handle : Handle) (vs : List Observation) (z : Step) → after_beginning b (by_mapping m (λ q. Unpin q (ByHandle handle))) vs ≡ Some (Makes z) → (p : HeldPin) × (z ≡ Unpin p (ByHandle handle))
+drop-step None (Some q) handle [] z e = (q, grind arith)
+drop-step b m handle vs z e = absurd (grind arith)
 
-unmap-over : (b : Option CallResult) (m : Option HeldPin) (handle : Handle) (vs : List Observation) (z : Step) (seen : Observation) (v : CallResult) → after_beginning b (by_mapping m (λ q. Unpin q (ByHandle handle))) vs ≡ Some (Makes z)
+drop-over : (b : Option CallResult) (m : Option HeldPin) (handle : Handle) (vs : List Observation) (z : Step) (seen : Observation) (v : CallResult) → after_beginning b (by_mapping m (λ q. Unpin q (ByHandle handle))) vs ≡ Some (Makes z)
     → after_beginning b (by_mapping m (λ q. Unpin q (ByHandle handle))) (vs ++ seen ∷ []) ≡ Some (Done v) → v ≡ Granted
-unmap-over None (Some q) handle [] z seen v e f = grind arith
-unmap-over b m handle vs z seen v e f = absurd (grind arith)
+drop-over None (Some q) handle [] z seen v e f = grind arith
+drop-over b m handle vs z seen v e f = absurd (grind arith)
 
-unmap-makes : (k : CallerKnowledge) (d : DomId) (handle : Handle) (vs : List Observation) (z : Step) → path k d (Unmap handle) vs ≡ Some (Makes z) → (p : HeldPin) × (z ≡ Unpin p (ByHandle handle))
-unmap-makes k d handle vs z e = unmap-step (begun k d (Unmap handle)) (k.mapping handle) handle vs z e
+drop-makes : (k : CallerKnowledge) (d : DomId) (r : OpenRequest) (handle : Handle) (vs : List Observation) (z : Step) → GivesUp r handle → path k d r vs ≡ Some (Makes z) → (p : HeldPin) × (z ≡ Unpin p (ByHandle handle))
+drop-makes k d r handle vs z (inl is) e = drop-step (begun k d (Unmap handle)) (k.mapping handle) handle vs z (ap (λ (q : OpenRequest). path k d q vs) (sym is) ∙ e)
+drop-makes k d r handle vs z (inr is) e = drop-step (begun k d (Release handle)) (k.mapping handle) handle vs z (ap (λ (q : OpenRequest). path k d q vs) (sym is) ∙ e)
 
-unmap-ends : (k : CallerKnowledge) (d : DomId) (handle : Handle) (vs : List Observation) (z : Step) (seen : Observation) (v : CallResult) → path k d (Unmap handle) vs ≡ Some (Makes z) → path k d (Unmap handle) (vs ++ seen ∷ []) ≡ Some (Done v) → v ≡ Granted
-unmap-ends k d handle vs z seen v e f = unmap-over (begun k d (Unmap handle)) (k.mapping handle) handle vs z seen v e f
+drop-ends : (k : CallerKnowledge) (d : DomId) (r : OpenRequest) (handle : Handle) (vs : List Observation) (z : Step) (seen : Observation) (v : CallResult) → GivesUp r handle → path k d r vs ≡ Some (Makes z) → path k d r (vs ++ seen ∷ []) ≡ Some (Done v) → v ≡ Granted
+drop-ends k d r handle vs z seen v (inl is) e f =
+    let from : (ws : List Observation) → path k d (Unmap handle) ws ≡ path k d r ws = λ ws. ap (λ (q : OpenRequest). path k d q ws) (sym is) in
+    drop-over (begun k d (Unmap handle)) (k.mapping handle) handle vs z seen v (from vs ∙ e) (from (vs ++ seen ∷ []) ∙ f)
+drop-ends k d r handle vs z seen v (inr is) e f =
+    let from : (ws : List Observation) → path k d (Release handle) ws ≡ path k d r ws = λ ws. ap (λ (q : OpenRequest). path k d q ws) (sym is) in
+    drop-over (begun k d (Release handle)) (k.mapping handle) handle vs z seen v (from vs ∙ e) (from (vs ++ seen ∷ []) ∙ f)
+
+-- under another handle a call drops the mapping of that one
+drops-under : (b x : Handle) (r : OpenRequest) → GivesUp r x → GivesUp (asked_under b r) b
+drops-under b x r (inl is) = inl (ap (asked_under b) is)
+drops-under b x r (inr is) = inr (ap (asked_under b) is)
+
+asks-there : (hs : List Handle) (place x : Handle) (r : OpenRequest) → GivesUp r x → AsksByPlace hs place r → slice_get hs place.serial ≡ Some x
+asks-there hs place x r (inl is) asks = subst (AsksByPlace hs place) is asks
+asks-there hs place x r (inr is) asks = subst (AsksByPlace hs place) is asks
 
 -- what a call asks, and gives up
 
-gives-up : (q : Request) (handle : Handle) → asked q ≡ Unmap handle → given_up q ≡ Some handle
-gives-up q handle e = grind arith
+gives-up : (q : Request) (handle : Handle) → GivesUp (asked q) handle → given_up q ≡ Some handle
+gives-up q handle (inl e) = grind arith
+gives-up q handle (inr e) = grind arith
 
-keeps-each : (q : Request) → ((handle : Handle) → asked q ≡ Unmap handle → ⊥) → given_up q ≡ None
-keeps-each (requests.Unmap handle) n = absurd (n handle refl)
+keeps-each : (q : Request) → ((handle : Handle) → GivesUp (asked q) handle → ⊥) → given_up q ≡ None
+keeps-each (requests.Unmap handle) n = absurd (n handle (inl refl))
+keeps-each (requests.Release handle) n = absurd (n handle (inr refl))
 keeps-each q n = refl
 
 map-labelled : (named : List Named) (d : DomId) (call : ScriptCall) (q : Request) → SaysRequest named d call q → AsksMapping (asked q) → (given : List ℕ) × (label_given call ≡ Some given)
@@ -232,7 +251,7 @@ get-set (z ∷ xs) (suc at) x y e = get-set xs at x y e
 leads-on : (types : List (List ℕ)) (k : Course) (opened : Opened) (i : Item) (j : Course) → k.opened ≡ opened → TickLeads types k opened i j → i.answer ≡ None → j ≡ k
 leads-on types k resting i j e leads none = absurd leads
 leads-on types k (calling line call lost) i j e leads none = leads ∙ ap (course_after types line call lost k) none ∙ ap (λ (x : Opened). record k { opened = x }) (sym e)
-leads-on types k giving i j e leads none = leads.1 ∙ ap (back_after k) none ∙ ap (λ (x : Opened). record k { opened = x }) (sym e)
+leads-on types k giving i j e leads none = leads ∙ ap (back_after k) none ∙ ap (λ (x : Opened). record k { opened = x }) (sym e)
 
 same-known : (s : Setting) (h : History) (d : DomId) → SameKnown s h h d
 same-known s h d = record { mappings = refl; answered = refl; known = refl }
@@ -304,30 +323,26 @@ module _ (s : Setting) (h : History) (scene : SearchContext) (before : SearchSta
 
   -- it ends
   module _ (v : CallResult) (ends : next_in s h k.dom c saw ≡ Some (Done v)) (m : Actor) (next_m : m.next ≡ a.next) (maps_m : m.mappings.items ≡ mappings_after o.step a.mappings.items) where
-    asks-unmap : (p : HeldPin) (x : Handle) → z ≡ Unpin p (ByHandle x) → c.request ≡ Unmap x
-    asks-unmap p x is = subst (λ (y : Step). Justified s h k.dom c.request y) is here.right.justified
+    asks-drop : (p : HeldPin) (x : Handle) → z ≡ Unpin p (ByHandle x) → GivesUp c.request x
+    asks-drop p x is = subst (λ (y : Step). Justified s h k.dom c.request y) is here.right.justified
 
-    is-granted : (p : HeldPin) (x : Handle) → z ≡ Unpin p (ByHandle x) → v ≡ Granted
-    is-granted p x is = unmap-ends (known_at s h k.dom) k.dom x (values c) z saw v
-        (subst (λ (q : OpenRequest). path (known_at s h k.dom) k.dom q (values c) ≡ Some (Makes z)) (asks-unmap p x is) here.right.continues)
-        (subst (λ (q : OpenRequest). path (known_at s h k.dom) k.dom q (values c ++ saw ∷ []) ≡ Some (Done v)) (asks-unmap p x is) ends)
+    is-granted : (x : Handle) → GivesUp c.request x → v ≡ Granted
+    is-granted x drops = drop-ends (known_at s h k.dom) k.dom c.request x (values c) z saw v drops here.right.continues ends
 
-    takes : (p : HeldPin) (x : Handle) → z ≡ Unpin p (ByHandle x) → m.mappings.items ≡ but way.place.serial a.mappings.items
-    takes p x is =
-        let made = unmap-makes (known_by_place s h k.dom) k.dom way.place (values c) o.step
-        (subst (λ (q : OpenRequest). path (known_by_place s h k.dom) k.dom q (values c) ≡ Some (Makes o.step)) (way.asks ∙ ap (asked_under way.place) (asks-unmap p x is)) way.follows) in
+    takes : (x : Handle) → GivesUp c.request x → m.mappings.items ≡ but way.place.serial a.mappings.items
+    takes x drops =
+        let made = drop-makes (known_by_place s h k.dom) k.dom o.call.request way.place (values c) o.step
+        (subst (λ (q : OpenRequest). GivesUp q way.place) (sym way.asks) (drops-under way.place x c.request drops)) way.follows in
         maps_m ∙ ap (λ (y : Step). mappings_after y a.mappings.items) made.1
 
-    at-place : (p : HeldPin) (x : Handle) → z ≡ Unpin p (ByHandle x) → slice_get (handles_at h k.dom) way.place.serial ≡ Some x
-    at-place p x is = subst (AsksByPlace (handles_at h k.dom) way.place) (asks-unmap p x is) way.by_place
+    at-place : (x : Handle) → GivesUp c.request x → slice_get (handles_at h k.dom) way.place.serial ≡ Some x
+    at-place x drops = asks-there (handles_at h k.dom) way.place x c.request drops way.by_place
 
     keeps : GivesNone z → m.mappings.items ≡ a.mappings.items
     keeps n = maps_m ∙ maps-left o.step a.mappings.items (under-none way.place o.step z n same)
 
-    no-unmap : GivesNone z → (x : Handle) → c.request ≡ Unmap x → ⊥
-    no-unmap n x r =
-        let made = unmap-makes (known_at s h k.dom) k.dom x (values c) z (subst (λ (q : OpenRequest). path (known_at s h k.dom) k.dom q (values c) ≡ Some (Makes z)) r here.right.continues) in
-        subst GivesNone made.1 n
+    no-drop : GivesNone z → (x : Handle) → GivesUp c.request x → ⊥
+    no-drop n x drops = subst GivesNone (drop-makes (known_at s h k.dom) k.dom c.request x (values c) z drops here.right.continues).1 n
 
     -- the call of a line
     module _ (types : List (List ℕ)) (line : ℕ) (call : ScriptCall) (lost : Option Handle) (said : IsOfLine k.dom call lost c) (all : k.held ≡ handles_at h k.dom) (few : maps_answered_at h k.dom.0 + 1 ≤ a.next)
@@ -361,22 +376,23 @@ module _ (s : Setting) (h : History) (scene : SearchContext) (before : SearchSta
 
       line-unmapped : IsNoMap v → (p : HeldPin) (x : Handle) → z ≡ Unpin p (ByHandle x) → Goal z saw answer (label_given call)
       line-unmapped n p x is =
+          let drops : GivesUp c.request x = asks-drop p x is in
           let tells : TellsEnd h z v answer = tells-as h k.dom c.request z saw v answer n told in
-          let done : answer ≡ answers.Done = subst (λ (w : CallResult). TellsEnd h (Unpin p (ByHandle x)) w answer) (is-granted p x is) (subst (λ (y : Step). TellsEnd h y v answer) is tells) in
-          let gone : lost ≡ Some x = said.lost_is ∙ gives-up said.request x (sym said.asks ∙ asks-unmap p x is) in
+          let done : answer ≡ answers.Done = subst (λ (w : CallResult). TellsEnd h (Unpin p (ByHandle x)) w answer) (is-granted x drops) (subst (λ (y : Step). TellsEnd h y v answer) is tells) in
+          let gone : lost ≡ Some x = said.lost_is ∙ gives-up said.request x (subst (λ (r : OpenRequest). GivesUp r x) said.asks drops) in
           subst (λ (y : Step). Goal y saw answer (label_given call)) (sym is)
           (subst (λ (w : Answer). Goal (Unpin p (ByHandle x)) saw w (label_given call)) (sym done)
           (subst (λ (names : List Named). ShowsCalls s (stepped k.dom (Unpin p (ByHandle x)) saw (Some answers.Done) ∷ h) tasks
           (over_course k names (held_after k.held lost answers.Done) (k.text ++ answer_line types line k.dom answers.Done)) b) (sym (named-kept k.named k.dom (label_given call)))
           (shows-less s h tasks k a b p x way.place saw (held_after k.held lost answers.Done) (k.text ++ answer_line types line k.dom answers.Done) answers.Done show
-          (ap (λ (l : Option Handle). held_after k.held l answers.Done) gone ∙ ap (handles_without x) all) (at-place p x is) refl next_b closed.none
-          (maps-none (label_given call) v m.mappings.items b.mappings.items n closed.maps ∙ takes p x is))))
+          (ap (λ (l : Option Handle). held_after k.held l answers.Done) gone ∙ ap (handles_without x) all) (at-place x drops) refl next_b closed.none
+          (maps-none (label_given call) v m.mappings.items b.mappings.items n closed.maps ∙ takes x drops))))
 
       line-kept : IsNoMap v → GivesNone z → Goal z saw answer (label_given call)
       line-kept n gives =
           let tells : TellsEnd h z v answer = tells-as h k.dom c.request z saw v answer n told in
           let plain : GivesNoHandle answer = told-plain h z v answer tells in
-          let gone : lost ≡ None = said.lost_is ∙ keeps-each said.request (λ x e. no-unmap gives x (said.asks ∙ e)) in
+          let gone : lost ≡ None = said.lost_is ∙ keeps-each said.request (λ x e. no-drop gives x (subst (λ (r : OpenRequest). GivesUp r x) (sym said.asks) e)) in
           subst (λ (names : List Named). ShowsCalls s (stepped k.dom z saw (Some answer) ∷ h) tasks (over_course k names (held_after k.held lost answer) (k.text ++ answer_line types line k.dom answer)) b)
           (sym (ap (with_name k.named k.dom (label_given call)) (no-handle-given answer plain) ∙ named-kept k.named k.dom (label_given call)))
           (subst (λ (hs : List Handle). ShowsCalls s (stepped k.dom z saw (Some answer) ∷ h) tasks (over_course k k.named hs (k.text ++ answer_line types line k.dom answer)) b)
@@ -398,18 +414,19 @@ module _ (s : Setting) (h : History) (scene : SearchContext) (before : SearchSta
         by (Given value) is = line-plain (subst IsNoMap (sym is) tt)
         by (Refused denial) is = line-plain (subst IsNoMap (sym is) tt)
 
-    -- an unmap at the end of a list
-    back-shows : (x : Handle) (answer : Answer) (b : Actor) → c.request ≡ Unmap x → k.held ≡ handles_without x (handles_at h k.dom) → v ≡ Granted → EndsAs h k.dom c.request z saw v answer → CallIsOver None v m b
+    -- the release of a mapping at the end of a list
+    back-shows : (x : Handle) (answer : Answer) (b : Actor) → c.request ≡ Release x → k.held ≡ handles_without x (handles_at h k.dom) → EndsAs h k.dom c.request z saw v answer → CallIsOver None Granted m b
         → ShowsCalls s (stepped k.dom z saw (Some answer) ∷ h) tasks (record k { opened = resting }) b
-    back-shows x answer b asks held granted told closed =
-        let made = unmap-makes (known_at s h k.dom) k.dom x (values c) z (subst (λ (q : OpenRequest). path (known_at s h k.dom) k.dom q (values c) ≡ Some (Makes z)) asks here.right.continues) in
+    back-shows x answer b asks held told closed =
+        let made = drop-makes (known_at s h k.dom) k.dom c.request x (values c) z (inr asks) here.right.continues in
+        let granted : v ≡ Granted = is-granted x (inr asks) in
         let n : IsNoMap v = subst IsNoMap (sym granted) tt in
         let tells : TellsEnd h z v answer = tells-as h k.dom c.request z saw v answer n told in
         let done : answer ≡ answers.Done = subst (λ (w : CallResult). TellsEnd h (Unpin made.0 (ByHandle x)) w answer) granted (subst (λ (y : Step). TellsEnd h y v answer) made.1 tells) in
         subst (λ (y : Step). ShowsCalls s (stepped k.dom y saw (Some answer) ∷ h) tasks (record k { opened = resting }) b) (sym made.1)
         (subst (λ (w : Answer). ShowsCalls s (stepped k.dom (Unpin made.0 (ByHandle x)) saw (Some w) ∷ h) tasks (record k { opened = resting }) b) (sym done)
-        (shows-less s h tasks k a b made.0 x way.place saw k.held k.text answers.Done show held (at-place made.0 x made.1) refl (closed.next ∙ next_m) closed.none
-        (maps-none None v m.mappings.items b.mappings.items n closed.maps ∙ takes made.0 x made.1)))
+        (shows-less s h tasks k a b made.0 x way.place saw k.held k.text answers.Done show held (at-place x (inr asks)) refl (closed.next ∙ next_m) closed.none
+        (closed.maps ∙ takes x (inr asks))))
 
     ended : (x : Answer) × (i.answer ≡ Some x) × EndsAs h k.dom c.request z saw v x
     ended = (in-run s h scene before at k a o i tick).ending v ends
@@ -448,7 +465,7 @@ module _ (s : Setting) (h : History) (scene : SearchContext) (before : SearchSta
             told = x.told ∙ told;
           }
 
-      back-ends : (x : Handle) → c.request ≡ Unmap x → k.held ≡ handles_without x (handles_at h k.dom) → j ≡ back_after k i.answer → ClosesBack v m mid new at led → TicksAsRun s (i ∷ h) tasks k j old new at led
+      back-ends : (x : Handle) → c.request ≡ Release x → k.held ≡ handles_without x (handles_at h k.dom) → j ≡ back_after k i.answer → ClosesBack m mid new at led → TicksAsRun s (i ∷ h) tasks k j old new at led
       back-ends x asks held leads y =
           let j-is : j ≡ record k { opened = resting } = leads ∙ ap (back_after k) ended.1 in
           record {
@@ -456,7 +473,7 @@ module _ (s : Setting) (h : History) (scene : SearchContext) (before : SearchSta
             actor = y.actor;
             becomes = becomes-then y.actor y.becomes;
             shows = subst (λ (q : Course). ShowsCalls s (i ∷ h) tasks q y.actor) (sym j-is) (subst (λ (q : Item). ShowsCalls s (q ∷ h) tasks (record k { opened = resting }) y.actor) (sym item-over)
-                (back-shows x ended.0 y.actor asks held y.granted ended.2 y.closed));
+                (back-shows x ended.0 y.actor asks held ended.2 y.closed));
             tables = tables-then y.ground;
             pages = pages-then y.ground;
             told = y.told ∙ told;
@@ -466,7 +483,7 @@ module _ (s : Setting) (h : History) (scene : SearchContext) (before : SearchSta
   pub call-over : (types : List (List ℕ)) (j : Course) (seen : Observation) (old mid new : SearchState) (result : Result TurnResult SearchFault) (v : CallResult) (m : Actor) → next_in s h k.dom c saw ≡ Some (Done v) → m.next ≡ a.next → m.mappings.items ≡ mappings_after o.step a.mappings.items
       → HasStepped s h k i o seen old.ground.tables.items old.ground.pages.items → mid.actors.items ≡ slice_set old.actors.items at m → mid.ground ≡ old.ground → mid.told ≡ old.told → TickLeads types k k.opened i j
       → ((place : ℕ) (t : RunTask) → o.task ≡ Some place → slice_get tasks place ≡ Some t → IfOk result (Closes (i ∷ h) types t o.step v m mid new at))
-      → (o.task ≡ None → IfOk result (ClosesBack v m mid new at)) → IfOk result (TicksAsRun s (i ∷ h) tasks k j old new at)
+      → (o.task ≡ None → IfOk result (ClosesBack m mid new at)) → IfOk result (TicksAsRun s (i ∷ h) tasks k j old new at)
   call-over types j seen old mid new result v m ends next_m maps_m made set ground told leads line back = by k.opened refl here.shows leads where
     by : (opened : Opened) → k.opened ≡ opened → ShowsOpen s h tasks k a.next opened (Some c) (Some o) → TickLeads types k opened i j → IfOk result (TicksAsRun s (i ∷ h) tasks k j old new at)
     by resting e shown led = absurd shown
@@ -474,4 +491,4 @@ module _ (s : Setting) (h : History) (scene : SearchContext) (before : SearchSta
         IfOk-weaker result _ _ (λ x closes. line-ends v ends m next_m maps_m types j seen old mid new x made set ground told number call lost shown.1 shown.2 shown.3
         (subst (λ (z : Opened). maps_answered_at h k.dom.0 + tasks_open z ≤ a.next) e show.few) led task.of_task task.dom_is task.line_is task.deed_is closes)
         (line task.place task.of_task task.task_is task.there)
-    by giving e shown led = IfOk-weaker result _ _ (λ x closes. back-ends v ends m next_m maps_m types j seen old mid new x made set ground told shown.2.0 shown.2.1 shown.2.2 led.1 closes) (back shown.1)
+    by giving e shown led = IfOk-weaker result _ _ (λ x closes. back-ends v ends m next_m maps_m types j seen old mid new x made set ground told shown.2.0 shown.2.1 shown.2.2 led closes) (back shown.1)

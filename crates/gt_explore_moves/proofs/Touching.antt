@@ -25,6 +25,7 @@ use Rattle.gt_calls.specs.Path.{at_first_look, by_mapping}
 use Rattle.gt_calls.specs.Path.{ended, exchanges, exchanges_once, grant_path, held_of, is_stopped, last_step, leg}
 use Rattle.gt_calls.specs.Path.{looks, makes, map_leg, path, reads_body}
 use Rattle.gt_calls.specs.Path.{rule_of_try, steps_of, tries, try_pin, turn, turns}
+use Rattle.gt_calls.specs.Resting.{GivesUp}
 use Rattle.gt_calls.specs.Rules.{CallerKnowledge, begun, first_body, first_look, is_kind, size_of}
 use Rattle.gt_calls.specs.declared.action.Action.TheVariants.{Step as Makes, Done}
 use Rattle.gt_calls.specs.declared.action.CallResult.{CallResult}
@@ -47,7 +48,7 @@ use Rattle.gt_calls.specs.declared.request.OpenRequest.TheVariants.{Copy, Demote
 use Rattle.gt_calls.specs.declared.request.OpenRequest.TheVariants.{Poke}
 use Rattle.gt_calls.specs.declared.request.OpenRequest.TheVariants.{Promote, QuerySize, Revoke, SetVersion}
 use Rattle.gt_calls.specs.declared.request.OpenRequest.TheVariants.{SetupTable, Store}
-use Rattle.gt_calls.specs.declared.request.OpenRequest.TheVariants.{Unmap, Withdraw}
+use Rattle.gt_calls.specs.declared.request.OpenRequest.TheVariants.{Unmap, Release, Withdraw}
 use Rattle.gt_calls.specs.declared.request.PinHolder.TheVariants.{Mapping as ByHandle, Leg as ByLeg}
 use Rattle.gt_calls.specs.declared.request.Request.{Request}
 use Rattle.gt_entry.specs.Entries.{frame_of}
@@ -231,6 +232,7 @@ RequestTouches A uses d (Demote gref) = A (Entry d gref)
 RequestTouches A uses d (Promote gref) = A (Entry d gref)
 RequestTouches A uses d (Map dom gref flags) = LegTouches A (resolved d dom) gref × BytesTouch A uses
 RequestTouches A uses d (Unmap handle) = Unit {0}
+RequestTouches A uses d (Release handle) = Unit {0}
 RequestTouches A uses d (Load handle off len) = uses.loads ≡ true
 RequestTouches A uses d (Store handle off len) = uses.stores ≡ true
 RequestTouches A uses d (Peek frame off len) = A (Reads d frame)
@@ -298,6 +300,7 @@ module _ (A : Touch → Type 0) (uses : MappingUse) (k : CallerKnowledge) (d : D
       (map_leg k d dom gref flags) t.0 t.1) _ _
       (λ denial. each-ended Good _) (λ p. each-ended Good _)
   each-step (Unmap handle) t = each-mapped Good (k.mapping handle) _ (λ m found. ((mapped handle m found).0, found, tt))
+  each-step (Release handle) t = each-mapped Good (k.mapping handle) _ (λ m found. ((mapped handle m found).0, found, tt))
   each-step (Load handle off len) t = each-mapped Good (k.mapping handle) _
       (λ m found. ((mapped handle m found).1 t, tt, tt))
   each-step (Store handle off len) t = each-mapped Good (k.mapping handle) _
@@ -317,16 +320,23 @@ module _ (A : Touch → Type 0) (uses : MappingUse) (k : CallerKnowledge) (d : D
   pub path-touches : (request : OpenRequest) → RequestTouches A uses d request → EachStep Good (path k d request)
   path-touches request t = each-after Good (begun k d request) (steps_of k d request) (each-step request t)
 
--- the pin that an unmap releases
-pub unmap-found : (k : CallerKnowledge) (d : DomId) (handle : Handle) (vs : List Observation) (p : HeldPin) (a : Handle)
-    → path k d (Unmap handle) vs ≡ Some (Makes (Unpin p (ByHandle a))) → k.mapping a ≡ Some p
-unmap-found k d handle vs p a e =
-    each-after (Found) (begun k d (Unmap handle)) _ (each-mapped Found (k.mapping handle) _ (λ m found. found))
-    vs (Unpin p (ByHandle a)) e
-  where
-    Found : Step → Type 0
-    Found (Unpin q (ByHandle b)) = k.mapping b ≡ Some q
-    Found step = Unit {0}
+-- a step that drops a mapping names its pin
+abbrev NamesPin : CallerKnowledge → Step → Type 0
+NamesPin k (Unpin q (ByHandle b)) = k.mapping b ≡ Some q
+NamesPin k step = Unit {0}
+
+-- the pin that an unmap or a release gives up
+pub drop-found : (k : CallerKnowledge) (d : DomId) (r : OpenRequest) (handle : Handle) (vs : List Observation)
+    (p : HeldPin) (a : Handle)
+    → GivesUp r handle → path k d r vs ≡ Some (Makes (Unpin p (ByHandle a))) → k.mapping a ≡ Some p
+drop-found k d r handle vs p a (inl is) e =
+    each-after (NamesPin k) (begun k d (Unmap handle)) _
+    (each-mapped (NamesPin k) (k.mapping handle) _ (λ m found. found))
+    vs (Unpin p (ByHandle a)) (ap (λ (q : OpenRequest). path k d q vs) (sym is) ∙ e)
+drop-found k d r handle vs p a (inr is) e =
+    each-after (NamesPin k) (begun k d (Release handle)) _
+    (each-mapped (NamesPin k) (k.mapping handle) _ (λ m found. found))
+    vs (Unpin p (ByHandle a)) (ap (λ (q : OpenRequest). path k d q vs) (sym is) ∙ e)
 
 -- calls of scripts
 

@@ -10,6 +10,7 @@ use Rattle.gt_types.specs.declared.DomId.{DomId}
 use Rattle.gt_types.specs.declared.config.DomainConfig.{DomainConfig}
 use Rattle.gt_handles.specs.declared.handles.Handle.{Handle}
 use Rattle.gt_calls.specs.Path.{path}
+use Rattle.gt_calls.specs.Resting.{GivesUp}
 use Rattle.gt_calls.specs.Rules.{CallerKnowledge}
 use Rattle.gt_calls.specs.declared.action.Action.TheVariants as actions
 use Rattle.gt_calls.specs.declared.action.Observation.{Observation}
@@ -83,7 +84,7 @@ use Rattle.gt_explore_moves.proofs.SpaceMoves.{each-turn}
 use Rattle.gt_explore_moves.proofs.StateComesOn.{raised-here, raised-still, task-own}
 use Rattle.gt_explore_moves.proofs.Touching.{DeedTouches, RequestTouches, StepTouches, TasksTouch, Unmet, meets-under}
 use Rattle.gt_explore_moves.proofs.Touching.{or-false}
-use Rattle.gt_explore_moves.proofs.Touching.{PinTouches, said-touches, steps-apart, unmap-found, unmaps-release}
+use Rattle.gt_explore_moves.proofs.Touching.{PinTouches, said-touches, drop-found, steps-apart, unmaps-release}
 use Rattle.gt_explore_moves.proofs.Touching.{unmet-deed, unmet-mapping}
 use Rattle.gt_explore_moves.proofs.Within.{CallWithin, ElementTouches, HappeningTouches, ItemTouches, PinsTouch, Within}
 use Rattle.gt_explore_moves.proofs.Within.{course-within, others-within}
@@ -502,11 +503,10 @@ module _ (c : RunContents) where
           by-item i.happened refl touches leads (λ p a unpins. subst (λ b. Releases h b (Unpin p (ByHandle a)))
           (sym own)
           (unmaps-release h d p a
-          (unmap-found (known_at set h d) d a (values u) p a
-          (ap (λ (q : OpenRequest). path (known_at set h d) d q (values u))
-          (sym (subst (λ x. Justified set (i ∷ h) j.actor v.request x) unpins r.justified)
-          ∙ ap (λ (c : Underway). c.request) same)
-          ∙ leads ∙ ap (λ (x : Step). Some (actions.Step x)) unpins))))
+          (drop-found (known_at set h d) d u.request a (values u) p a
+          (subst (λ (c : Underway). GivesUp c.request a) same
+          (subst (λ x. Justified set (i ∷ h) j.actor v.request x) unpins r.justified))
+          (leads ∙ ap (λ (x : Step). Some (actions.Step x)) unpins))))
 
   -- the next move of a domain, and what another domain does before it, of which it meets nothing
   abbrev ComesFree : List Happening → Happening → Happening → Type 0
@@ -556,9 +556,9 @@ module _ (c : RunContents) where
   rest-free : (hs : List Happening) (k : Course) (move : NextMove) (tasks : List RunTask) (choice : ℕ) (y x : Happening)
       (j : Course) → k.opened ≡ resting → k.tasks ≡ tasks → IsNext hs k move → HappeningTouches (Unmet move) hs y
       → RestLeads (type_names c.head) k tasks choice x j → CanComeNext set (hs ++ y ∷ []) x → ComesFree hs y x
-  rest-free hs k move [] choice y x j rest same next touches (handle, e, there, is, done, to) may =
+  rest-free hs k move [] choice y x j rest same next touches (handle, e, there, is, to) may =
       subst (ComesFree hs y) (sym is)
-      (tt, begin-free hs y k.dom (requests.Unmap handle) e (subst (CanComeNext set (hs ++ y ∷ [])) is may))
+      (tt, begin-free hs y k.dom (requests.Release handle) e (subst (CanComeNext set (hs ++ y ∷ [])) is may))
   rest-free hs k move (t ∷ ts) choice y x j rest same next touches leads may =
       line-free hs k move t ts y x j rest same next touches leads.1 may
 
@@ -905,9 +905,9 @@ module _ (c : RunContents) (scene : SearchContext) (hs : List Happening) (place 
               (said-touches (Unmet move) uses said.named k.dom call said.request said.says
               (subst (DeedTouches (Unmet move) uses k.dom) task.deed_is whole.0)),
         )
-    later-unmet o u giving (along, task, unmap) all = (
+    later-unmet o u giving (along, task, released) all = (
       subst (λ (t : Option ℕ). TasksTouch (Unmet move) uses k.dom (drop (first_of a.next t) tasks)) task all,
-      subst (RequestTouches (Unmet move) uses k.dom) (sym unmap.1) tt,
+      subst (RequestTouches (Unmet move) uses k.dom) (sym released.1) tt,
     )
 
     left-unmet : (o : Option ActorCall) (u : Option Underway) → ShowsOpen s h tasks k a.next k.opened u o

@@ -369,8 +369,8 @@ module _ (A : Touch → Type 0) (uses : MappingUse) where
       (choice : ℕ)
       (x : Happening) → k.tasks ≡ tasks → RestLeads types k tasks choice x j → CanComeNext s hs x
       → TasksTouch A uses k.dom tasks → HistoryWithin (history_in hs) k.dom → GoesWithin hs x j
-  rest-within types s hs k j [] choice x same (handle, e, there, is, done, to) may touch past =
-      goes-to s hs (Begin k.dom (requests.Unmap handle)) e x j [] is
+  rest-within types s hs k j [] choice x same (handle, e, there, is, to) may touch past =
+      goes-to s hs (Begin k.dom (requests.Release handle)) e x j [] is
       (ap (λ (c : Course). c.dom) to
       ∙ back-dom (record k { held = take choice k.held ++ drop (suc choice) k.held }) (answer_in e))
       (ap (λ (c : Course). c.tasks) to
@@ -389,7 +389,7 @@ module _ (A : Touch → Type 0) (uses : MappingUse) where
     by (calling line call lost) (none, e, is, to) = goes-to s hs (Tick k.dom) e x j k.tasks is
         (ap (λ (c : Course). c.dom) to ∙ after-dom types line call lost k (answer_in e))
         (ap (λ (c : Course). c.tasks) to ∙ after-tasks types line call lost k (answer_in e)) tt may w.tasks_touch w.past
-    by giving (none, e, is, done, to) = goes-to s hs (Tick k.dom) e x j k.tasks is
+    by giving (none, e, is, to) = goes-to s hs (Tick k.dom) e x j k.tasks is
         (ap (λ (c : Course). c.dom) to ∙ back-dom k (answer_in e))
         (ap (λ (c : Course). c.tasks) to ∙ back-tasks k (answer_in e)) tt may w.tasks_touch w.past
 

@@ -8,7 +8,7 @@ use Rattle.gt_explore_moves.specs.Prelude.{History, Setting, Underway, entry_at,
 use Rattle.gt_explore_moves.specs.Prelude.{maps_answered_at, open_call, table_at, values, may_by, Named, SaysRequest}
 use Rattle.gt_explore_moves.specs.Prelude.{handle_named, ScriptCall, Course, resting, calling, giving, given_up}
 use Rattle.gt_explore_moves.specs.Prelude.{handles_without, RunTask, Do, SparseTable}
-use Rattle.gt_calls.specs.declared.request.OpenRequest.TheVariants.{Unmap}
+use Rattle.gt_calls.specs.declared.request.OpenRequest.TheVariants.{Unmap, Release}
 use Rattle.gt_explore_replay.specs.Courses.{Opened}
 use Rattle.gt_explore_moves.specs.Mappings.{labels_of, mapping_pins}
 use Rattle.gt_explore_moves.specs.Placing.{pin_by_place}
@@ -63,6 +63,7 @@ known_by_place s h d = record (known_at s h d) { mapping = pin_by_place (pins_ma
 -- the request uses the handle whose serial is the index of the run's mapping
 abbrev pub AsksByPlace : List Handle → Handle → OpenRequest → Type 0
 AsksByPlace handles place (Unmap handle) = slice_get handles place.serial ≡ Some handle
+AsksByPlace handles place (Release handle) = slice_get handles place.serial ≡ Some handle
 AsksByPlace handles place (Load handle off len) = slice_get handles place.serial ≡ Some handle
 AsksByPlace handles place (Store handle off len) = slice_get handles place.serial ≡ Some handle
 AsksByPlace handles place request = Unit {0}
@@ -90,7 +91,7 @@ pub record IsOfTask (tasks : List RunTask) (next : ℕ) (d : DomId) (line : ℕ)
   pub deed_is : of_task.deed ≡ Do call
 
 -- the call in progress is the one that a line asks for, by what its labels named when it began, and this is the handle
--- that it unmaps
+-- of the mapping that it drops
 pub record IsOfLine (d : DomId) (call : ScriptCall) (lost : Option Handle) (c : Underway) : Type 0 where
   pub named : List Named
   pub request : Request
@@ -100,7 +101,7 @@ pub record IsOfLine (d : DomId) (call : ScriptCall) (lost : Option Handle) (c : 
   pub lost_is : lost ≡ given_up request
 
 -- the open call of a domain in a state is the one on its course and by the history, and the domain has the handles of
--- its mappings: all of them, except for the one that it unmaps at the end of its list
+-- its mappings: all of them, except for the one that it releases at the end of its list
 abbrev pub ShowsOpen : Setting → History → List RunTask → Course → ℕ → Opened → Option Underway → Option ActorCall → Type 0
 ShowsOpen s h tasks k next resting None None = k.held ≡ handles_at h k.dom
 ShowsOpen s h tasks k next (calling line call lost) (Some c) (Some o) =
@@ -108,7 +109,7 @@ ShowsOpen s h tasks k next (calling line call lost) (Some c) (Some o) =
     × (k.held ≡ handles_at h k.dom)
 ShowsOpen s h tasks k next giving (Some c) (Some o) =
     GoesAlong s h k.dom c o × (o.task ≡ None)
-    × ((handle : Handle) × (c.request ≡ Unmap handle) × (k.held ≡ handles_without handle (handles_at h k.dom)))
+    × ((handle : Handle) × (c.request ≡ Release handle) × (k.held ≡ handles_without handle (handles_at h k.dom)))
 ShowsOpen s h tasks k next opened c o = ⊥
 
 -- the number of its open calls: one while it is calling

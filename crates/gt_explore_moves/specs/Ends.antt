@@ -28,7 +28,7 @@ AreDone s actors = (at : ℕ) (a : Actor) → slice_get actors at ≡ Some a →
 abbrev pub choices : ℕ → ℕ → List Turn
 choices place n = map (λ choice. record { place = place; choice = choice }) (range_with_len 0 n)
 
--- the number of its moves: at the end of its list it can unmap each of its mappings; otherwise it has one
+-- the number of its moves: at the end of its list it can release each of its mappings; otherwise it has one
 abbrev pub choices_at : SearchContext → ℕ → Actor → ℕ
 choices_at s place a = if is_ended s place a then length a.mappings.items else 1
 

@@ -31,7 +31,7 @@ pub use Rattle.gt_host.specs.Rights.{may_by, may_in}
 pub use Rattle.gt_host.specs.Runs.{Named, SaysRequest, call_bytes, handle_named, label_given}
 pub use Rattle.gt_script_lines.specs.declared.calls.ScriptCall.{ScriptCall}
 pub use Rattle.gt_explore_replay.specs.Abreast.{CanComeNext, HaveAnswered, WereAnswered, history_in}
-pub use Rattle.gt_explore_replay.specs.Courses.{Course, CourseLeads, IsDoneIf, back_after, calling, course_after, giving}
+pub use Rattle.gt_explore_replay.specs.Courses.{Course, CourseLeads, back_after, calling, course_after, giving}
 pub use Rattle.gt_explore_replay.specs.Courses.{resting}
 pub use Rattle.gt_explore_replay.specs.Orders.{Happening, IsRaisedBefore, given_up, handles_without}
 pub use Rattle.gt_script.specs.Contents.{type_names}

@@ -3,7 +3,7 @@ use Rattle.std.specs.Prelude.{◌≡◌, ◌<◌, Option}
 use Rattle.gt_handles.specs.declared.handles.Handle.{Handle}
 use Rattle.gt_calls.specs.declared.held.HeldPin.{HeldPin}
 use Rattle.gt_calls.specs.declared.request.OpenRequest.{OpenRequest}
-use Rattle.gt_calls.specs.declared.request.OpenRequest.TheVariants.{Unmap, Load, Store}
+use Rattle.gt_calls.specs.declared.request.OpenRequest.TheVariants.{Unmap, Release, Load, Store}
 use Rattle.gt_calls.specs.declared.request.PinHolder.TheVariants.{Mapping as ByHandle}
 use Rattle.gt_calls.specs.declared.action.Step.{Step}
 use Rattle.gt_calls.specs.declared.action.Step.TheVariants.{Unpin}
@@ -15,11 +15,12 @@ use Rattle.gt_calls.specs.Rules.{CallerKnowledge}
 -- the request, with this handle instead of its own
 abbrev pub asked_under : Handle → OpenRequest → OpenRequest
 asked_under b (Unmap a) = Unmap b
+asked_under b (Release a) = Release b
 asked_under b (Load a off len) = Load b off len
 asked_under b (Store a off len) = Store b off len
 asked_under b request = request
 
--- a step, with this handle instead of that of the mapping that it unmaps
+-- a step, with this handle instead of that of the mapping that it drops
 abbrev pub step_under : Handle → Step → Step
 step_under b (Unpin p (ByHandle a)) = Unpin p (ByHandle b)
 step_under b step = step
@@ -31,6 +32,7 @@ action_under b (Done verdict) = Done verdict
 -- this handle finds for the one caller what the handle of its request finds for the other
 abbrev pub FindsSame : (Handle → Option HeldPin) → Handle → (Handle → Option HeldPin) → OpenRequest → Type 0
 FindsSame found b mapping (Unmap a) = found b ≡ mapping a
+FindsSame found b mapping (Release a) = found b ≡ mapping a
 FindsSame found b mapping (Load a off len) = found b ≡ mapping a
 FindsSame found b mapping (Store a off len) = found b ≡ mapping a
 FindsSame found b mapping request = Unit {0}

@@ -2,7 +2,7 @@
 use Rattle.std.specs.Prelude.{◌≡◌, ◌++◌, ◌+◌, ℕ, suc, take, drop, List, ◌∷◌, Option, Some, None, slice_set}
 use Rattle.gt_explore_moves.specs.Prelude.{DomId, Handle, Step, Call, Request, asked, begun_of, History, Setting, known_at}
 use Rattle.gt_explore_moves.specs.Prelude.{ScriptCall, Course, resting, RunTask, Do, TurnResult, Answered, Nowhere, On}
-use Rattle.gt_calls.specs.declared.request.Request.TheVariants.{Unmap}
+use Rattle.gt_calls.specs.declared.request.Request.TheVariants.{Release}
 use Rattle.gt_explore_moves.specs.Beginnings.{OpensAsRun}
 use Rattle.gt_explore_moves.specs.Calls.{AsksByPlace, ShowsCalls, handles_at, known_by_place}
 use Rattle.gt_explore_moves.specs.Renaming.{asked_under}
@@ -20,14 +20,13 @@ BeginsAsRun s h d q (Open call step) =
     × ((p : Request) × (place : Handle) × (asked p ≡ asked_under place (asked q))
     × AsksByPlace (handles_at h d) place (asked q) × OpensAsRun (known_by_place s h d) d p call step)
 
--- an unmap of the mapping at this index began in a state as that of this handle begins in the run: over, with the same
--- verdict; or open, by a handle whose serial is the index
-abbrev pub GivesAsRun : Setting → History → DomId → Handle → ℕ → Option Opened → Type 0
+-- the release of the mapping at this index began in a state as that of this handle begins in the run: it is open, with
+-- this call and first step, by a handle whose serial is the index
+abbrev pub GivesAsRun : Setting → History → DomId → Handle → ℕ → Option (Call × Step) → Type 0
 GivesAsRun s h d handle choice None = ⊥
-GivesAsRun s h d handle choice (Some (Done verdict)) = begun_of (known_at s h d) d (Unmap handle) ≡ Some verdict
-GivesAsRun s h d handle choice (Some (Open call step)) =
-    (begun_of (known_at s h d) d (Unmap handle) ≡ None)
-    × ((place : Handle) × (place.serial ≡ choice) × OpensAsRun (known_by_place s h d) d (Unmap place) call step)
+GivesAsRun s h d handle choice (Some o) =
+    (begun_of (known_at s h d) d (Release handle) ≡ None)
+    × ((place : Handle) × (place.serial ≡ choice) × OpensAsRun (known_by_place s h d) d (Release place) o.0 o.1)
 
 -- a domain whose next task began with this call, whose first step is this
 abbrev pub opened_actor : Actor → Call → Step → Actor
@@ -38,7 +37,7 @@ opened_actor a call step =
 abbrev pub passed_actor : Actor → Actor
 passed_actor a = record a { next = a.next + 1 }
 
--- a domain that unmaps a mapping at the end of its list, with this first step
+-- a domain that releases a mapping at the end of its list, with this first step
 abbrev pub giving_actor : Actor → Call → Step → Actor
 giving_actor a call step = record a { «open» = Some (record { task = None; call = call; step = step }) }
 

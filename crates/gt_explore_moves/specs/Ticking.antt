@@ -4,7 +4,7 @@ use Rattle.std.specs.Prelude.{slice_get, slice_set}
 use Rattle.gt_explore_moves.specs.Prelude.{DomainConfig, FRAME_SIZE, Observation, Step, ReadBytes, Unpin, CallResult, Granted, KeptPin}
 use Rattle.gt_explore_moves.specs.Prelude.{answer_of, History, Setting, contents_at, seen_by, IsItemOf, IsRight, Answer}
 use Rattle.gt_explore_moves.specs.Prelude.{BytesAnswer, Bytes, Tick, Item, answer_line, may_by, call_bytes, label_given}
-use Rattle.gt_explore_moves.specs.Prelude.{HaveAnswered, Course, IsDoneIf, back_after, calling, course_after, giving, resting}
+use Rattle.gt_explore_moves.specs.Prelude.{HaveAnswered, Course, back_after, calling, course_after, giving, resting}
 use Rattle.gt_explore_moves.specs.Prelude.{RunAction, RunTask, Do, TurnResult, On, IsLikeReached, IsSettingOf, PagesShow, TablesShow, SparsePage}
 use Rattle.gt_explore_moves.specs.Prelude.{SparseTable}
 use Rattle.gt_explore_replay.specs.Courses.{Opened}
@@ -38,7 +38,7 @@ pub record ShowsAt (s : Setting) (h : History) (scene : SearchContext) (w : Sear
 abbrev pub TickLeads : List (List ℕ) → Course → Opened → Item → Course → Type 0
 TickLeads types k resting i j = ⊥
 TickLeads types k (calling line call lost) i j = j ≡ course_after types line call lost k i.answer
-TickLeads types k giving i j = IsDoneIf i.answer × (j ≡ back_after k i.answer)
+TickLeads types k giving i j = j ≡ back_after k i.answer
 
 -- by a step of the domain at this position the state reaches the point to which this history brings the domain on its
 -- course
@@ -75,7 +75,7 @@ label_given_by deed = None
 
 -- the step
 
--- the mappings of a domain after its step: without the one that the step unmaps
+-- the mappings of a domain after its step: without the one that the step drops
 abbrev pub mappings_after : Step → List LabelledMapping → List LabelledMapping
 mappings_after (Unpin p holder) ms = given_back holder ms
 mappings_after step ms = ms
@@ -133,12 +133,11 @@ pub record Closes (h : History) (types : List (List ℕ)) (t : RunTask) (last : 
   pub ground : new.ground ≡ old.ground
   pub told : new.told ≡ old.told
 
--- an unmap at the end of a list is over with this verdict, which is Ok
-pub record ClosesBack (verdict : CallResult) (a : Actor) (old new : SearchState) (at : ℕ) (led : TurnResult) : Type 0 where
+-- the release of a mapping at the end of a list is over
+pub record ClosesBack (a : Actor) (old new : SearchState) (at : ℕ) (led : TurnResult) : Type 0 where
   pub on : led ≡ On
-  pub granted : verdict ≡ Granted
   pub actor : Actor
   pub becomes : new.actors.items ≡ slice_set old.actors.items at actor
-  pub closed : CallIsOver None verdict a actor
+  pub closed : CallIsOver None Granted a actor
   pub ground : new.ground ≡ old.ground
   pub told : new.told ≡ old.told

@@ -12,8 +12,8 @@ pub struct LabelledMapping<'a> {
     pub held: HeldPin,
 }
 
-/// An open call with its next step. It is the call of the task at this index of the domain's list, or an unmap at the
-/// end of the list.
+/// An open call with its next step. It is the call of the task at this index of the domain's list, or the release of
+/// a mapping at the end of the list.
 #[derive(Clone, Copy)]
 pub struct ActorCall {
     pub task: Option<usize>,
@@ -101,7 +101,7 @@ impl<'a> Actor<'a> {
         self.next = self.next.saturating_add(1);
     }
 
-    /// Begins to unmap a mapping at the end of its list, with this first step.
+    /// Begins to release a mapping at the end of its list, with this first step.
     pub fn give(&mut self, call: Call, step: Step)
         ensures { self.new ≡ giving_actor self.old call step }
     {
@@ -135,7 +135,7 @@ impl<'a> Actor<'a> {
         }
     }
 
-    /// Makes this step, and removes the mapping that the step unmaps.
+    /// Makes this step, and removes the mapping that the step drops.
     pub fn make(&mut self, step: Step)
         ensures mappings { self.new.mappings.items ≡ mappings_after step self.old.mappings.items }
         ensures rest { self.new ≡ record self.old { mappings = self.new.mappings } }

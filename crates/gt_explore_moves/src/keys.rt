@@ -52,7 +52,7 @@ fn push_mappings(key: &mut Vec<u8>, mappings: &[LabelledMapping]) -> Result<(), 
     Ok(())
 }
 
-// Returns the index of the mapping that a call unmaps.
+// Returns the index of the mapping that a call drops.
 fn place_given(open: &ActorCall) -> u64 {
     match open.step {
         gt_calls::Step::Unpin {

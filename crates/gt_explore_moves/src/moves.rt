@@ -1,5 +1,5 @@
 //! The moves of the domains.
-ghost use Rattle.std.specs.Prelude.{◌≡◌, false, get_or, IfOk, List};
+ghost use Rattle.std.specs.Prelude.{◌≡◌, IfOk, List};
 ghost use Rattle.std.specs.Option.{option_map};
 ghost use Rattle.gt_calls.specs.Asking.{FitsAsked, asked};
 ghost use Rattle.gt_calls.specs.declared.request.Request.{Request};
@@ -10,6 +10,7 @@ ghost use Rattle.gt_explore_moves.specs.Mappings.{label_bytes};
 ghost use Rattle.gt_explore_moves.specs.Ticking.{bytes_by, label_given_by};
 ghost use Rattle.gt_types.specs.declared.DomId.{DomId};
 
+mod flags;
 mod sets;
 mod turns;
 
@@ -70,16 +71,8 @@ fn label_of<'a>(task: &RunTask<'a>) -> Option<&'a [u8]>
     }
 }
 
-// Returns whether a flag was raised.
-fn is_told(told: &[bool], flag: usize) -> bool
-    ensures { result ≡ get_or told.now flag false }
-{
-    flag < told.len() && told[flag]
-}
-
 impl<'s, 'a> SearchContext<'s, 'a> {
-    ghost use Rattle.std.specs.Prelude.{◌≡◌, ◌<◌, ◌^◌, ℕ, List, ◌∷◌, Option, Some, None, true, length, slice_get};
-    ghost use Rattle.std.specs.Prelude.{slice_set, IfOk};
+    ghost use Rattle.std.specs.Prelude.{◌≡◌, ◌<◌, ◌^◌, ℕ, List, ◌∷◌, Option, Some, None, length, slice_get, IfOk};
     ghost use Rattle.gt_core.specs.GoingOn.{beginning};
     ghost use Rattle.gt_core.specs.Legal.{BeginsRight};
     ghost use Rattle.gt_core.specs.declared.trace.Answer.{Answer};
@@ -92,12 +85,12 @@ impl<'s, 'a> SearchContext<'s, 'a> {
     ghost use Rattle.gt_core.specs.History.{History, Setting, Underway, known_at, maps_answered_at, seen_by, values};
     ghost use Rattle.gt_explore_moves.specs.Continuing.{GoesOnAsRun, StillKnows};
     ghost use Rattle.gt_host.specs.Runs.{SaysRequest};
-    ghost use Rattle.gt_calls.specs.declared.request.Request.TheVariants.{Unmap};
+    ghost use Rattle.gt_calls.specs.declared.request.Request.TheVariants.{Release};
     ghost use Rattle.gt_handles.specs.declared.handles.Handle.{Handle};
     ghost use Rattle.gt_types.specs.declared.config.DomainConfig.{DomainConfig};
-    ghost use Rattle.gt_explore_replay.specs.Courses.{Course, IsDoneIf, back_after, course_after, resting};
+    ghost use Rattle.gt_explore_replay.specs.Courses.{Course, back_after, course_after, resting};
     ghost use Rattle.gt_script.specs.Lists.{RunTask};
-    ghost use Rattle.gt_explore_moves.specs.Starting.{BeginsAsRun, GivesAsRun, IsNextCall, MovesAsRun, PassesTo, PrintsLine};
+    ghost use Rattle.gt_explore_moves.specs.Starting.{BeginsAsRun, GivesAsRun, IsNextCall, MovesAsRun, PrintsLine};
     ghost use Rattle.gt_explore_moves.specs.Starting.{held_but};
     ghost use Rattle.gt_calls.specs.Following.{Goes, IsLeftAlike};
     ghost use Rattle.gt_calls.specs.Rules.{CallerKnowledge, knows};
@@ -230,14 +223,14 @@ impl<'s, 'a> SearchContext<'s, 'a> {
         }
     }
 
-    // Starts an unmap of a domain's mapping at this index, if there is one.
-    fn unmapping(
+    // Starts the release of a domain's mapping at this index, if there is one. It asks no policy, so it is never refused.
+    fn releasing(
         &self,
         actor: &Actor<'a>,
         table: &SparseTable,
         dom: DomId,
         choice: usize,
-    ) -> Result<Option<CallOpening>, SearchFault>
+    ) -> Result<Option<(Call, Step)>, SearchFault>
         ensures { (s : Setting) (h : History) (tasks : List RunTask) (k : Course) (handle : Handle) →
             ShowsCalls s h tasks k actor.now → length tasks < 2 ^ 63 → KnowsTable s h k.dom self.now table.now →
             dom ≡ k.dom → k.opened ≡ resting → slice_get k.held choice ≡ Some handle →
@@ -247,11 +240,14 @@ impl<'s, 'a> SearchContext<'s, 'a> {
         let Some(handle) = names.handles.get(choice).copied() else {
             return Ok(None);
         };
-        let request = Request::Unmap { handle };
-        Ok(Some(self.opening(table, &names.mappings, dom, request)))
+        let request = Request::Release { handle };
+        match self.opening(table, &names.mappings, dom, request) {
+            CallOpening::Open(call, step) => Ok(Some((call, step))),
+            CallOpening::Done(_) => Ok(None),
+        }
     }
 
-    // Makes the move by which a domain at the end of its list begins to unmap a mapping.
+    // Makes the move by which a domain at the end of its list begins to release a mapping.
     fn give_back(&self, world: &mut SearchState<'a>, turn: Turn) -> Result<TurnResult, SearchFault>
         ensures { (s : Setting) (h : History) (k : Course) (a : Actor) (domain : DomainConfig) (handle : Handle)
             (t : SparseTable) (answer : Option Answer) → slice_get world.old.actors.items turn.place ≡ Some a →
@@ -259,8 +255,8 @@ impl<'s, 'a> SearchContext<'s, 'a> {
             slice_get self.now.roster.domains.items turn.place ≡ Some domain → domain.id ≡ k.dom →
             ShowsCalls s h (tasks_at self.now turn.place) k a → KnowsTable s h k.dom self.now t →
             k.opened ≡ resting → slice_get k.held turn.choice ≡ Some handle →
-            BeginsRight s h (beginning k.dom (Unmap handle) answer) (Unmap handle) → IsDoneIf answer →
-            IfOk result (MovesAsRun s (beginning k.dom (Unmap handle) answer ∷ h) (tasks_at self.now turn.place) a k
+            BeginsRight s h (beginning k.dom (Release handle) answer) (Release handle) →
+            IfOk result (MovesAsRun s (beginning k.dom (Release handle) answer ∷ h) (tasks_at self.now turn.place) a k
             (back_after (held_but k turn.choice) answer) world.old world.new turn.place) }
     {
         let Some(domain) = self.roster.config().domains.get(turn.place) else {
@@ -272,13 +268,12 @@ impl<'s, 'a> SearchContext<'s, 'a> {
         let Some(table) = world.ground.tables.get(turn.place) else {
             return Ok(TurnResult::Nowhere);
         };
-        match self.unmapping(actor, table, domain.id, turn.choice)? {
+        match self.releasing(actor, table, domain.id, turn.choice)? {
             None => Ok(TurnResult::Nowhere),
-            Some(CallOpening::Open(call, step)) => {
+            Some((call, step)) => {
                 actor.give(call, step);
                 Ok(TurnResult::On)
             }
-            Some(CallOpening::Done(_)) => Err(SearchFault::Keeps(domain.id)),
         }
     }
 
@@ -359,27 +354,16 @@ impl<'s, 'a> SearchContext<'s, 'a> {
         self.line(task, &answer)
     }
 
-    // Ends an unmap at the end of a domain's list.
-    fn close_back(
-        &self,
-        world: &mut SearchState<'a>,
-        at: usize,
-        dom: DomId,
-        verdict: CallResult,
-    ) -> Result<TurnResult, SearchFault>
+    // Ends the release of a mapping at the end of a domain's list.
+    fn close_back(&self, world: &mut SearchState<'a>, at: usize) -> TurnResult
         ensures { (a : Actor) → slice_get world.old.actors.items at ≡ Some a →
-            IfOk result (ClosesBack verdict a world.old world.new at) }
+            ClosesBack a world.old world.new at result }
     {
         let Some(actor) = world.actors.get_mut(at) else {
-            return Ok(TurnResult::Nowhere);
+            return TurnResult::Nowhere;
         };
-        match verdict {
-            CallResult::Granted => {
-                actor.open = None;
-                Ok(TurnResult::On)
-            }
-            _ => Err(SearchFault::Keeps(dom)),
-        }
+        actor.open = None;
+        TurnResult::On
     }
 
     // Ends the open call of a domain.
@@ -395,10 +379,10 @@ impl<'s, 'a> SearchContext<'s, 'a> {
             ReadsInFrame «open».step → «open».task ≡ Some place → slice_get (tasks_at self.now at) place ≡ Some t →
             IfOk result (Closes h self.now.types.items t «open».step verdict a world.old world.new at) }
         ensures back { (a : Actor) → slice_get world.old.actors.items at ≡ Some a → «open».task ≡ None →
-            IfOk result (ClosesBack verdict a world.old world.new at) }
+            IfOk result (ClosesBack a world.old world.new at) }
     {
         let Some(place) = open.task else {
-            return self.close_back(world, at, open.call.caller, verdict);
+            return Ok(self.close_back(world, at));
         };
         let Some(task) = self.task(at, place) else {
             return Ok(TurnResult::Nowhere);
@@ -452,45 +436,6 @@ impl<'s, 'a> SearchContext<'s, 'a> {
     {
         let seen = self.make(&mut world.ground, at, open)?;
         self.settle(world, at, open, seen)
-    }
-
-    // Makes the move by which a domain raises a flag.
-    fn raise(&self, world: &mut SearchState<'a>, at: usize, flag: usize) -> TurnResult
-        ensures { (s : Setting) (h : History) (k : Course) (t : RunTask) (ts : List RunTask) (a : Actor) →
-            slice_get world.old.actors.items at ≡ Some a → ShowsCalls s h (tasks_at self.now at) k a →
-            k.opened ≡ resting → k.tasks ≡ t ∷ ts → flag < length world.old.told.items →
-            (result ≡ TurnResult.On) × (world.new.told.items ≡ slice_set world.old.told.items flag true)
-            × PassesTo s h (tasks_at self.now at) a (record k { tasks = ts }) world.old world.new at }
-    {
-        let Some(actor) = world.actors.get_mut(at) else {
-            return TurnResult::Nowhere;
-        };
-        let Some(told) = world.told.get_mut(flag) else {
-            return TurnResult::Nowhere;
-        };
-        *told = true;
-        actor.pass();
-        TurnResult::On
-    }
-
-    // Makes the move by which a domain passes a flag, if that was raised.
-    fn go_past(&self, world: &mut SearchState<'a>, at: usize, flag: usize) -> TurnResult
-        ensures raised { (s : Setting) (h : History) (k : Course) (t : RunTask) (ts : List RunTask) (a : Actor) →
-            slice_get world.old.actors.items at ≡ Some a → ShowsCalls s h (tasks_at self.now at) k a →
-            k.opened ≡ resting → k.tasks ≡ t ∷ ts → slice_get world.old.told.items flag ≡ Some true →
-            (result ≡ TurnResult.On) × (world.new.told ≡ world.old.told)
-            × PassesTo s h (tasks_at self.now at) a (record k { tasks = ts }) world.old world.new at }
-    {
-        let is_raised = is_told(world.told.as_slice(), flag);
-        let Some(actor) = world.actors.get_mut(at) else {
-            return TurnResult::Nowhere;
-        };
-        if is_raised {
-            actor.pass();
-            TurnResult::On
-        } else {
-            TurnResult::Nowhere
-        }
     }
 
     /// Makes the move of a domain.

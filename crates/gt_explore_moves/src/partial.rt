@@ -16,7 +16,7 @@ use std::alloc::Global;
 /// all.
 ///
 /// # Errors
-/// `Memory` if an allocation fails; `Circle` if a run returns to a state; `Keeps` if a domain can't unmap a mapping.
+/// `Memory` if an allocation fails; `Circle` if a run returns to a state.
 pub fn search_within<'s, 'a>(
     alloc: Global,
     script: &'s RunScript<'a>,

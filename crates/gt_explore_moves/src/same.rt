@@ -34,7 +34,8 @@ fn same_asked(one: OpenRequest, other: OpenRequest) -> bool
                 flags: f,
             },
         ) => dom == d && gref == g && flags == f,
-        (OpenRequest::Unmap { handle }, OpenRequest::Unmap { handle: h }) => handle == h,
+        (OpenRequest::Unmap { handle }, OpenRequest::Unmap { handle: h })
+        | (OpenRequest::Release { handle }, OpenRequest::Release { handle: h }) => handle == h,
         (
             OpenRequest::Load { handle, off, len },
             OpenRequest::Load {

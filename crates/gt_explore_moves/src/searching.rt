@@ -15,8 +15,7 @@ use std::alloc::Global;
 /// list of turns that led to it.
 ///
 /// # Errors
-/// `Memory` if an allocation fails; `States` beyond the limit; `Circle` if a run returns to a state; `Keeps` if a
-/// domain can't unmap a mapping.
+/// `Memory` if an allocation fails; `States` beyond the limit; `Circle` if a run returns to a state.
 pub fn search<'s, 'a>(
     alloc: Global,
     script: &'s RunScript<'a>,

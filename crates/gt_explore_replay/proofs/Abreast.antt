@@ -8,7 +8,7 @@ use Rattle.gt_types.specs.Names.{domain_of}
 use Rattle.gt_types.specs.declared.DomId.{DomId}
 use Rattle.gt_handles.specs.declared.handles.Handle.{Handle}
 use Rattle.gt_calls.specs.declared.request.Request.{Request}
-use Rattle.gt_calls.specs.declared.request.Request.TheVariants.{Unmap}
+use Rattle.gt_calls.specs.declared.request.Request.TheVariants.{Release}
 use Rattle.gt_core.specs.Acting.{begun_element, ticked_element}
 use Rattle.gt_core.specs.Alike.{bare_handle, bare_request, told_part, AreAlike}
 use Rattle.gt_core.specs.History.{History, Setting, open_call}
@@ -182,7 +182,7 @@ some_told None b e = absurd (none-some (told_part b) e)
 some_told (Some a) b e = (a, refl, same_Some (told_part a) (told_part b) e)
 
 given_bare : (q : Request) → option_map bare_handle (given_up q) ≡ given_up (bare_request q)
-given_bare (Unmap handle) = refl
+given_bare (Release handle) = refl
 given_bare q = refl
 
 given_alike : (q r : Request) → bare_request q ≡ bare_request r → option_map bare_handle (given_up q) ≡ option_map bare_handle (given_up r)
@@ -365,7 +365,7 @@ tick_came n s types hs h k j v w choice x m old new walks alike stands there bus
           alike = alike_now.alike;
           walks =
               subst (λ (i : Course). WalksAbreast n (grown (history_in hs) e) (grown h (ticked_element v.dom (ticked.Done step seen b))) i w) (sym next)
-              (subst (λ (u : Walker). WalksAbreast n (grown (history_in hs) e) (grown h (ticked_element v.dom (ticked.Done step seen b))) (record k { opened = resting }) u) (sym closed.1)
+              (subst (λ (u : Walker). WalksAbreast n (grown (history_in hs) e) (grown h (ticked_element v.dom (ticked.Done step seen b))) (record k { opened = resting }) u) (sym closed)
               (goes_on n s (history_in hs) h k v (record v { doing = doing.Nothing }) k.tasks k.held resting e (ticked_element v.dom (ticked.Done step seen b))
               walks (alike_now.over some.0 some.1) tt walks.tasks walks.numbered refl refl refl walks.held walks.kept walks.holds));
           others = alike_now.others;
@@ -394,9 +394,9 @@ tick_came n s types hs h k j v w choice x m old new walks alike stands there bus
     by doing.GivesBack (calling number asked freed) t is opened so leads_on made from = absurd so
     by doing.GivesBack giving t is opened so leads_on made from =
         let busy_still = subst (λ (o : Opened). IsOpenSo (history_in hs) k.dom.0 o) opened walks.opened in
-        back t leads_on.1 opened is leads_on.2 leads_on.4 (both t leads_on.1 busy_still leads_on.2 made.0) made.1 from
+        back t leads_on.1 opened is leads_on.2 leads_on.3 (both t leads_on.1 busy_still leads_on.2 made.0) made.1 from
 
--- the beginning of an unmap at the end of a list
+-- the beginning of a release at the end of a list
 pub give_came : (n : ℕ) (s : Setting) (types : List (List ℕ)) (hs : List Happening) (h : History) (k j : Course) (v w : Walker) (choice : ℕ) (x : Happening) (m : Option Moved) (old new : CoreState)
     → WalksAbreast n (history_in hs) h k v → AreAlike s (history_in hs) h → CoreStands s h old → domain_of s.domains k.dom ≢ None
     → length (tasks_left_of v) ≤ v.next → v.doing ≡ doing.Nothing
@@ -404,19 +404,19 @@ pub give_came : (n : ℕ) (s : Setting) (types : List (List ℕ)) (hs : List Hap
 give_came n s types hs h k j v w choice x m old new walks alike stands there end idle leads may gives =
     let one = subst (λ (o : Opened). OpenLeads types k o choice x j) (rests v.doing k.opened idle walks.doing) leads in
     let gave : GivesAt k choice x j = subst (λ (l : List RunTask). RestLeads types k l choice x j) (sym walks.tasks ∙ drop_all (tasks_left_of v) v.next end) one in
-    let (handle, e, at, is, done, to) = gave in
+    let (handle, e, at, is, to) = gave in
     let (other, here, same) = held_at k.held v.held.items choice handle walks.held at in
     let (b, makes, from) = gives other here in
     let made = makes h stands in
     let rest = subst (λ (o : Opened). IsOpenSo (history_in hs) k.dom.0 o) (rests v.doing k.opened idle walks.doing) walks.opened in
-    let mine : MayDo s (history_in hs) (Begin k.dom (Unmap handle)) e = subst (λ (z : Happening). CanComeNext s hs z) is may in
-    let both = begins_alike s (history_in hs) h k.dom (Unmap handle) (Unmap other) e (begun_element v.dom (Unmap other) b) alike (ap (λ (z : Handle). Unmap z) (sym same))
+    let mine : MayDo s (history_in hs) (Begin k.dom (Release handle)) e = subst (λ (z : Happening). CanComeNext s hs z) is may in
+    let both = begins_alike s (history_in hs) h k.dom (Release handle) (Release other) e (begun_element v.dom (Release other) b) alike (ap (λ (z : Handle). Release z) (sym same))
     (inl (held_here (history_in hs) k.dom.0 choice k.held handle at walks.kept)) (inl (held_here h k.dom.0 choice v.held.items other here walks.holds)) there rest mine
-    (subst (λ (d : DomId). MayDo s h (Begin d (Unmap other)) (begun_element v.dom (Unmap other) b)) walks.dom made.0) in
+    (subst (λ (d : DomId). MayDo s h (Begin d (Release other)) (begun_element v.dom (Release other) b)) walks.dom made.0) in
     by handle other e b is to both made.1 from
   where
-    by : (handle other : Handle) (e : Element) (b : Begun) → x ≡ did (Begin k.dom (Unmap handle)) e → j ≡ back_after (record k { held = take choice k.held ++ drop (suc choice) k.held }) (answer_in e)
-        → DoAlike s (history_in hs) h k.dom.0 e (begun_element v.dom (Unmap other) b) → CoreStands s (grown h (begun_element v.dom (Unmap other) b)) new
+    by : (handle other : Handle) (e : Element) (b : Begun) → x ≡ did (Begin k.dom (Release handle)) e → j ≡ back_after (record k { held = take choice k.held ++ drop (suc choice) k.held }) (answer_in e)
+        → DoAlike s (history_in hs) h k.dom.0 e (begun_element v.dom (Release other) b) → CoreStands s (grown h (begun_element v.dom (Release other) b)) new
         → IsGivenFrom choice v b m w → Came n s (history_in hs) h k j x m new w
     by handle other e begun.Open is to both stood (some, same, left) =
         let none = none_told (answer_in e) both.told in
@@ -424,15 +424,15 @@ give_came n s types hs h k j v w choice x m old new walks alike stands there end
         let held : SameHandles (take choice k.held ++ drop (suc choice) k.held) w.held.items = left_alike k.held v.held.items choice walks.held ∙ ap (map bare_handle) (sym left) in
         record {
           moved = some;
-          event = Begin k.dom (Unmap handle);
+          event = Begin k.dom (Release handle);
           mine = e;
-          theirs = begun_element v.dom (Unmap other) begun.Open;
+          theirs = begun_element v.dom (Release other) begun.Open;
           happening = is;
           stands = stood;
           alike = both.alike;
           walks =
-              subst (λ (i : Course). WalksAbreast n (grown (history_in hs) e) (grown h (begun_element v.dom (Unmap other) begun.Open)) i w) (sym next)
-              (goes_on n s (history_in hs) h k v w k.tasks (take choice k.held ++ drop (suc choice) k.held) giving e (begun_element v.dom (Unmap other) begun.Open)
+              subst (λ (i : Course). WalksAbreast n (grown (history_in hs) e) (grown h (begun_element v.dom (Release other) begun.Open)) i w) (sym next)
+              (goes_on n s (history_in hs) h k v w k.tasks (take choice k.held ++ drop (suc choice) k.held) giving e (begun_element v.dom (Release other) begun.Open)
               walks (both.goes none) (subst (λ (d : OpenTask). IsDoingSo d giving) (sym (ap (λ (u : Walker). u.doing) same)) tt)
               (left_same v w (ap (λ (u : Walker). u.tasks.items) same) (ap (λ (u : Walker). u.next) same) ∙ walks.tasks) walks.numbered
               (ap (λ (u : Walker). u.dom) same) (ap (λ (u : Walker). u.labels) same) (ap (λ (u : Walker). u.text.items) same) held
@@ -441,6 +441,28 @@ give_came n s types hs h k j v w choice x m old new walks alike stands there end
           others = both.others;
           dom = ap (λ (i : Course). i.dom) next;
         }
-    by handle other e (begun.Done b) is to both stood from = absurd from
+    by handle other e (begun.Done b) is to both stood (gone, same, left) =
+        let some = some_told (answer_in e) b both.told in
+        let next = to ∙ ap (λ (o : Option Answer). back_after (record k { held = take choice k.held ++ drop (suc choice) k.held }) o) some.1 in
+        let held : SameHandles (take choice k.held ++ drop (suc choice) k.held) w.held.items = left_alike k.held v.held.items choice walks.held ∙ ap (map bare_handle) (sym left) in
+        record {
+          moved = gone;
+          event = Begin k.dom (Release handle);
+          mine = e;
+          theirs = begun_element v.dom (Release other) (begun.Done b);
+          happening = is;
+          stands = stood;
+          alike = both.alike;
+          walks =
+              subst (λ (i : Course). WalksAbreast n (grown (history_in hs) e) (grown h (begun_element v.dom (Release other) (begun.Done b))) i w) (sym next)
+              (goes_on n s (history_in hs) h k v w k.tasks (take choice k.held ++ drop (suc choice) k.held) resting e (begun_element v.dom (Release other) (begun.Done b))
+              walks (both.over some.0 some.1) (subst (λ (d : OpenTask). IsDoingSo d resting) (sym (ap (λ (u : Walker). u.doing) same ∙ idle)) tt)
+              (left_same v w (ap (λ (u : Walker). u.tasks.items) same) (ap (λ (u : Walker). u.next) same) ∙ walks.tasks) walks.numbered
+              (ap (λ (u : Walker). u.dom) same) (ap (λ (u : Walker). u.labels) same) (ap (λ (u : Walker). u.text.items) same) held
+              (held_left (history_in hs) k.dom.0 choice k.held walks.kept)
+              (subst (λ (l : List Handle). WereAnswered h k.dom.0 l) (sym left) (held_left h k.dom.0 choice v.held.items walks.holds)));
+          others = both.others;
+          dom = ap (λ (i : Course). i.dom) next;
+        }
     by handle other e begun.Busy is to both stood from = absurd (let done = both.done in cc)
     by handle other e begun.NoDomain is to both stood from = absurd (let done = both.done in cc)

@@ -1,11 +1,10 @@
 -- What a move of a domain was, by what the core did.
-use Rattle.std.proofs.Common.{◌≡◌, ◌≢◌, ◌⊎◌, ◌++◌, ◌+◌, ℕ, suc, List, take, drop, Option, Some, refl, sym, ◌∙◌, subst}
-use Rattle.std.proofs.Common.{inl, inr, Bor}
+use Rattle.std.proofs.Common.{◌≡◌, ◌++◌, ◌+◌, ℕ, suc, List, take, drop, Option, Some, refl, sym, ◌∙◌, subst, Bor}
 use Rattle.std.specs.Prelude.{slice_get, IsSome}
 use Rattle.std.proofs.lemmas.Option.{same_Some}
 use Rattle.gt_handles.specs.declared.handles.Handle.{Handle}
 use Rattle.gt_calls.specs.declared.request.Request.{Request}
-use Rattle.gt_calls.specs.declared.request.Request.TheVariants.{Unmap}
+use Rattle.gt_calls.specs.declared.request.Request.TheVariants.{Release}
 use Rattle.gt_calls.specs.declared.action.Observation.{Observation}
 use Rattle.gt_calls.specs.declared.action.Step.{Step}
 use Rattle.gt_core.specs.Acting.{begun_element, ticked_element}
@@ -17,12 +16,10 @@ use Rattle.gt_core.specs.declared.core_state.Begun.TheVariants as begun
 use Rattle.gt_core.specs.declared.core_state.Ticked.{Ticked}
 use Rattle.gt_core.specs.declared.core_state.Ticked.TheVariants as ticked
 use Rattle.gt_core.specs.declared.trace.Answer.{Answer}
-use Rattle.gt_core.specs.declared.trace.Answer.TheVariants.{Done}
 use Rattle.gt_core.specs.declared.trace.Event.TheVariants.{Begin, Tick}
 use Rattle.gt_script_lines.specs.declared.calls.ScriptCall.{ScriptCall}
 use Rattle.gt_script.specs.Lists.{RunTask}
 use Rattle.gt_explore_replay.specs.Making.{AsksFor, IsBegunFrom, BeginsLine, IsTickedFrom, TicksOpen, IsGivenFrom, GivesBackAt}
-use Rattle.gt_explore_replay.specs.Making.{StartKeeps, StepKeeps}
 use Rattle.gt_explore_replay.specs.Orders.{given_up}
 use Rattle.gt_explore_replay.specs.Walking.{AnswersLine, ClosesCall}
 use Rattle.gt_explore_replay.specs.declared.replay.Moved.{Moved}
@@ -71,31 +68,24 @@ ticked_idle types v w t m is = subst (λ (x : Ticked). IsTickedFrom types v x m 
 pub ticked_away : (types : List (List ℕ)) (v w : Walker) (t : Ticked) (m : Option Moved) → t ≡ ticked.NoDomain → IsTickedFrom types v t m w
 ticked_away types v w t m is = subst (λ (x : Ticked). IsTickedFrom types v x m w) (sym is) tt
 
-pub step_keeps : (A : Type 0) (s : Setting) (old new : CoreState) (v : Walker) (t : Ticked) (step : Step) (seen : Observation) (answer : Answer) → t ≡ ticked.Done step seen answer
-    → DoesEvent s old (Tick v.dom) (ticked_element v.dom t) new → A ⊎ ((v.doing ≡ doing.GivesBack) × (answer ≢ Done)) → A ⊎ StepKeeps s old v new
-step_keeps A s old new v t step seen answer is does (inl a) = inl a
-step_keeps A s old new v t step seen answer is does (inr keeps) =
-    inr (step, seen, answer, keeps.0, keeps.1, subst (λ (x : Ticked). DoesEvent s old (Tick v.dom) (ticked_element v.dom x) new) is does)
-
--- an unmap at the end of a list
+-- the release of a mapping at the end of a list
 
 pub gives_back_at : (s : Setting) (old new : CoreState) (v w : Walker) (choice : ℕ) (handle : Handle) (b : Begun) (m : Option Moved) → slice_get v.held.items choice ≡ Some handle
-    → DoesEvent s old (Begin v.dom (Unmap handle)) (begun_element v.dom (Unmap handle) b) new → IsGivenFrom choice v b m w → GivesBackAt s old v choice m new w
+    → DoesEvent s old (Begin v.dom (Release handle)) (begun_element v.dom (Release handle) b) new → IsGivenFrom choice v b m w → GivesBackAt s old v choice m new w
 gives_back_at s old new v w choice handle b m at does from = λ other there.
     let same : handle ≡ other = same_Some handle other (sym at ∙ there) in
-    (b, subst (λ (x : Handle). DoesEvent s old (Begin v.dom (Unmap x)) (begun_element v.dom (Unmap x) b) new) same does, from)
+    (b, subst (λ (x : Handle). DoesEvent s old (Begin v.dom (Release x)) (begun_element v.dom (Release x) b) new) same does, from)
 
 pub given_open : (choice : ℕ) (v w : Walker) (b : Begun) (m : Option Moved) → b ≡ begun.Open → IsSome m → w ≡ record v { doing = doing.GivesBack; held = w.held }
     → w.held.items ≡ take choice v.held.items ++ drop (suc choice) v.held.items → IsGivenFrom choice v b m w
 given_open choice v w b m is some same left = subst (λ (x : Begun). IsGivenFrom choice v x m w) (sym is) (some, same, left)
+
+pub given_done : (choice : ℕ) (v w : Walker) (b : Begun) (answer : Answer) (m : Option Moved) → b ≡ begun.Done answer → IsSome m → w ≡ record v { held = w.held }
+    → w.held.items ≡ take choice v.held.items ++ drop (suc choice) v.held.items → IsGivenFrom choice v b m w
+given_done choice v w b answer m is some same left = subst (λ (x : Begun). IsGivenFrom choice v x m w) (sym is) (some, same, left)
 
 pub given_busy : (choice : ℕ) (v w : Walker) (b : Begun) (m : Option Moved) → b ≡ begun.Busy → IsGivenFrom choice v b m w
 given_busy choice v w b m is = subst (λ (x : Begun). IsGivenFrom choice v x m w) (sym is) tt
 
 pub given_away : (choice : ℕ) (v w : Walker) (b : Begun) (m : Option Moved) → b ≡ begun.NoDomain → IsGivenFrom choice v b m w
 given_away choice v w b m is = subst (λ (x : Begun). IsGivenFrom choice v x m w) (sym is) tt
-
-pub start_keeps : (A : Type 0) (s : Setting) (old new : CoreState) (v : Walker) (choice : ℕ) (handle : Handle) (b : Begun) (answer : Answer) → slice_get v.held.items choice ≡ Some handle → b ≡ begun.Done answer
-    → DoesEvent s old (Begin v.dom (Unmap handle)) (begun_element v.dom (Unmap handle) b) new → A ⊎ StartKeeps s old v choice new
-start_keeps A s old new v choice handle b answer at is does =
-    inr (handle, answer, at, subst (λ (x : Begun). DoesEvent s old (Begin v.dom (Unmap handle)) (begun_element v.dom (Unmap handle) x) new) is does)

@@ -3,11 +3,12 @@ pub mod Alike
 pub mod Coming
 pub mod Doing
 pub mod Ending
+pub mod EntryFits
 pub mod Following
-pub mod Keeping
 pub mod Making
 pub mod Moving
 pub mod Places
+pub mod Releasing
 pub mod Starting
 pub mod Turning
 pub mod Whole

@@ -4,7 +4,7 @@ use Rattle.std.specs.Prelude.{slice_get}
 use Rattle.std.proofs.lemmas.List.{length-map}
 use Rattle.gt_handles.specs.declared.handles.Handle.{Handle}
 use Rattle.gt_calls.specs.declared.request.Request.{Request}
-use Rattle.gt_calls.specs.declared.request.Request.TheVariants.{Unmap}
+use Rattle.gt_calls.specs.declared.request.Request.TheVariants.{Release}
 use Rattle.gt_calls.specs.declared.action.Observation.{Observation}
 use Rattle.gt_calls.specs.declared.action.Step.{Step}
 use Rattle.gt_core.specs.History.{History, Setting}
@@ -17,7 +17,6 @@ use Rattle.gt_core.specs.declared.core_state.Begun.TheVariants as begun
 use Rattle.gt_core.specs.declared.core_state.Ticked.{Ticked}
 use Rattle.gt_core.specs.declared.core_state.Ticked.TheVariants as ticked
 use Rattle.gt_core.specs.declared.trace.Answer.{Answer}
-use Rattle.gt_core.specs.declared.trace.Answer.TheVariants.{Done}
 use Rattle.gt_core.specs.declared.trace.Event.TheVariants.{Begin, Tick}
 use Rattle.gt_script_lines.specs.declared.calls.ScriptCall.{ScriptCall}
 use Rattle.gt_script.specs.declared.tasks.RunActionBy.TheVariants.{Do}
@@ -29,7 +28,7 @@ use Rattle.gt_explore_replay.specs.Walking.{AnswersLine, ClosesCall, IsClosedFro
 use Rattle.gt_explore_replay.specs.declared.walker.OpenTask.{OpenTask}
 use Rattle.gt_explore_replay.specs.declared.walker.OpenTask.TheVariants as doing
 use Rattle.gt_explore_replay.specs.declared.walker.Walker.{Walker}
-use Rattle.gt_explore_replay.proofs.Moving.{begins_done, begins_open, gives_open, ticks_done, ticks_open}
+use Rattle.gt_explore_replay.proofs.Moving.{begins_done, begins_open, gives_done, gives_open, ticks_done, ticks_open}
 
 -- the beginning of a call did this, and the core stands for it
 abbrev pub BeginsSo : Setting → CoreState → CoreState → Walker → Request → Begun → Type 0
@@ -40,9 +39,9 @@ pub closed_line : (types : List (List ℕ)) (answer : Answer) (v w : Walker) (li
 unfolding IsClosedFrom
 closed_line types answer v w line call lost is a = subst (λ (d : OpenTask). IsClosedFrom types d answer v w) (sym is) a
 
-pub closed_back : (types : List (List ℕ)) (answer : Answer) (v w : Walker) → v.doing ≡ doing.GivesBack → answer ≡ Done → w ≡ record v { doing = doing.Nothing } → ClosesCall types answer v w
+pub closed_back : (types : List (List ℕ)) (answer : Answer) (v w : Walker) → v.doing ≡ doing.GivesBack → w ≡ record v { doing = doing.Nothing } → ClosesCall types answer v w
 unfolding IsClosedFrom
-closed_back types answer v w is done to = subst (λ (d : OpenTask). IsClosedFrom types d answer v w) (sym is) (done, to)
+closed_back types answer v w is to = subst (λ (d : OpenTask). IsClosedFrom types d answer v w) (sym is) to
 
 -- a step did this
 abbrev pub TicksSo : Setting → CoreState → CoreState → Walker → Ticked → Type 0
@@ -79,16 +78,30 @@ line_done s types old new v w task call request lost b answer at does idle asks 
 
 pub back_open : (s : Setting) (types : List (List ℕ)) (old new : CoreState) (v w : Walker) (before after : List Handle) (handle : Handle) (b : Begun)
     → length v.tasks.items ≤ v.next → v.doing ≡ doing.Nothing → v.held.items ≡ before ++ handle ∷ after
-    → w ≡ record v { doing = doing.GivesBack; held = w.held } → w.held.items ≡ before ++ after → b ≡ begun.Open → BeginsSo s old new v (Unmap handle) b → WalksTo s types old v new w
+    → w ≡ record v { doing = doing.GivesBack; held = w.held } → w.held.items ≡ before ++ after → b ≡ begun.Open → BeginsSo s old new v (Release handle) b → WalksTo s types old v new w
 back_open s types old new v w before after handle b all idle holds same left is told = λ h stands.
     let so = told h stands in
     let end : length (tasks_left_of v) ≤ v.next = simp length-map all in (
-      Begin v.dom (Unmap handle),
-      begun_element v.dom (Unmap handle) b,
+      Begin v.dom (Release handle),
+      begun_element v.dom (Release handle) b,
       so.0,
       so.1,
-      gives_open types v w before after handle (begun_element v.dom (Unmap handle) b) all idle holds (ap (λ (x : Begun). answer_in (begun_element v.dom (Unmap handle) x)) is)
+      gives_open types v w before after handle (begun_element v.dom (Release handle) b) all idle holds (ap (λ (x : Begun). answer_in (begun_element v.dom (Release handle) x)) is)
           (ap (λ (u : Walker). u.dom) same) (ap (λ (u : Walker). u.labels) same) (ap (λ (u : Walker). u.tasks.items) same) (ap (λ (u : Walker). u.next) same) (ap (λ (u : Walker). u.doing) same) left (ap (λ (u : Walker). u.text.items) same) end,
+    )
+
+pub back_done : (s : Setting) (types : List (List ℕ)) (old new : CoreState) (v w : Walker) (before after : List Handle) (handle : Handle) (b : Begun) (answer : Answer)
+    → length v.tasks.items ≤ v.next → v.doing ≡ doing.Nothing → v.held.items ≡ before ++ handle ∷ after
+    → w ≡ record v { held = w.held } → w.held.items ≡ before ++ after → b ≡ begun.Done answer → BeginsSo s old new v (Release handle) b → WalksTo s types old v new w
+back_done s types old new v w before after handle b answer all idle holds same left is told = λ h stands.
+    let so = told h stands in
+    let end : length (tasks_left_of v) ≤ v.next = simp length-map all in (
+      Begin v.dom (Release handle),
+      begun_element v.dom (Release handle) b,
+      so.0,
+      so.1,
+      gives_done types v w before after handle (begun_element v.dom (Release handle) b) answer all idle holds (ap (λ (x : Begun). answer_in (begun_element v.dom (Release handle) x)) is)
+          (ap (λ (u : Walker). u.dom) same) (ap (λ (u : Walker). u.labels) same) (ap (λ (u : Walker). u.tasks.items) same) (ap (λ (u : Walker). u.next) same) (ap (λ (u : Walker). u.doing) same ∙ idle) left (ap (λ (u : Walker). u.text.items) same) end,
     )
 
 pub step_open : (s : Setting) (types : List (List ℕ)) (old new : CoreState) (v : Walker) (t : Ticked) (step : Step) (seen : Observation)

@@ -5,9 +5,8 @@ use Rattle.std.specs.Prelude.{slice_get}
 use Rattle.gt_types.specs.declared.DomId.{DomId}
 use Rattle.gt_handles.specs.declared.handles.Handle.{Handle}
 use Rattle.gt_calls.specs.declared.request.Request.{Request}
-use Rattle.gt_calls.specs.declared.request.Request.TheVariants.{Unmap}
+use Rattle.gt_calls.specs.declared.request.Request.TheVariants.{Release}
 use Rattle.gt_core.specs.declared.trace.Answer.{Answer}
-use Rattle.gt_core.specs.declared.trace.Answer.TheVariants.{Done}
 use Rattle.gt_core.specs.declared.trace.Element.{Element}
 use Rattle.gt_core.specs.declared.trace.Event.TheVariants.{Begin, Tick}
 use Rattle.gt_script_lines.specs.declared.calls.ScriptCall.{ScriptCall}
@@ -172,19 +171,33 @@ awaits types v task flag at does idle = record {
 -- the end of a list
 
 gives_first : (types : List (List ℕ)) (dom : DomId) (named : List Named) (before after : List Handle) (handle : Handle) (x : Element) (more : List Happening) (rest : List ℕ) → answer_in x ≡ None
-    → CallGoesOn dom (λ answer later. (answer ≡ Done) × FollowsList types dom named (before ++ after) [] later rest) more
-    → FollowsList types dom named (before ++ handle ∷ after) [] (did (Begin dom (Unmap handle)) x ∷ more) rest
-gives_first types dom named before after handle x more rest none (trace, answer, later, is, ends, (done, (order, gives, nothing))) = (
+    → CallGoesOn dom (λ answer later. FollowsList types dom named (before ++ after) [] later rest) more
+    → FollowsList types dom named (before ++ handle ∷ after) [] (did (Begin dom (Release handle)) x ∷ more) rest
+gives_first types dom named before after handle x more rest none (trace, answer, later, is, ends, (order, gives, nothing)) = (
   handle ∷ order,
-  (before, after, refl, calls_open dom (Unmap handle) (λ a l. (a ≡ Done) × GivesMappingsBack dom order (before ++ after) l) x more none (trace, answer, later, is, ends, (done, gives))),
+  (before, after, refl, calls_open dom (Release handle) (λ a l. GivesMappingsBack dom order (before ++ after) l) x more none (trace, answer, later, is, ends, gives)),
   nothing,
 )
+
+gives_over : (types : List (List ℕ)) (dom : DomId) (named : List Named) (before after : List Handle) (handle : Handle) (x : Element) (answer : Answer) (more : List Happening) (rest : List ℕ) → answer_in x ≡ Some answer
+    → FollowsList types dom named (before ++ after) [] more rest → FollowsList types dom named (before ++ handle ∷ after) [] (did (Begin dom (Release handle)) x ∷ more) rest
+gives_over types dom named before after handle x answer more rest is (order, gives, nothing) =
+    (handle ∷ order, (before, after, refl, calls_done dom (Release handle) (λ a l. GivesMappingsBack dom order (before ++ after) l) x answer more is gives), nothing)
+
+-- what happens at the end of a list happens to the domain there
+at_end : (types : List (List ℕ)) (v : Walker) (named : List Named) (held : List Handle) (hs : List Happening) (text : List ℕ) → v.doing ≡ doing.Nothing → v.held.items ≡ held → length (tasks_left_of v) ≤ v.next
+    → FollowsList types v.dom named held [] hs text → Continues types v named v.doing hs text
+unfolding Continues
+at_end types v named held hs text idle holds end follows =
+    let one = subst (λ (l : List Handle). FollowsList types v.dom named l [] hs text) (sym holds) follows in
+    let two = subst (λ (l : List RunTask). FollowsList types v.dom named v.held.items l hs text) (sym (drop_all (tasks_left_of v) v.next end)) one in
+    subst (λ (d : OpenTask). Continues types v named d hs text) (sym idle) two
 
 pub gives_open : (types : List (List ℕ)) (v w : Walker) (before after : List Handle) (handle : Handle) (x : Element)
     → length v.tasks.items ≤ v.next → v.doing ≡ doing.Nothing → v.held.items ≡ before ++ handle ∷ after → answer_in x ≡ None
     → w.dom ≡ v.dom → w.labels ≡ v.labels → w.tasks.items ≡ v.tasks.items → w.next ≡ v.next → w.doing ≡ doing.GivesBack → w.held.items ≡ before ++ after → w.text.items ≡ v.text.items
     → length (tasks_left_of v) ≤ v.next
-    → Moves types v (did (Begin v.dom (Unmap handle)) x) w
+    → Moves types v (did (Begin v.dom (Release handle)) x) w
 unfolding Continues
 gives_open types v w before after handle x all idle holds none dom labels tasks next busy left text end = record {
   own_move = refl;
@@ -194,15 +207,36 @@ gives_open types v w before after handle x all idle holds none dom labels tasks 
     subst (λ l. AreNamed l named) (sym labels) names,
     λ more rest go. (
       rest,
-      let none_left : tasks_left v ≡ [] = drop_all (tasks_left_of v) v.next end in
-          let one = subst (λ (d : OpenTask). Continues types w named d more rest) busy go in
-          let two = subst (λ (d : DomId). CallGoesOn d (λ answer later. (answer ≡ Done) × FollowsList types d named w.held.items (tasks_left w) later rest) more) dom one in
-          let three = subst (λ (l : List Handle). CallGoesOn v.dom (λ answer later. (answer ≡ Done) × FollowsList types v.dom named l (tasks_left w) later rest) more) left two in
-          let four = subst (λ (l : List RunTask). CallGoesOn v.dom (λ answer later. (answer ≡ Done) × FollowsList types v.dom named (before ++ after) l later rest) more) (left_same v w tasks next ∙ none_left) three in
-          let five = gives_first types v.dom named before after handle x more rest none four in
-          let six = subst (λ (l : List Handle). FollowsList types v.dom named l [] (did (Begin v.dom (Unmap handle)) x ∷ more) rest) (sym holds) five in
-          let seven = subst (λ (l : List RunTask). FollowsList types v.dom named v.held.items l (did (Begin v.dom (Unmap handle)) x ∷ more) rest) (sym none_left) six in
-          subst (λ (d : OpenTask). Continues types v named d (did (Begin v.dom (Unmap handle)) x ∷ more) rest) (sym idle) seven,
+      let one = subst (λ (d : OpenTask). Continues types w named d more rest) busy go in
+          let two = subst (λ (d : DomId). CallGoesOn d (λ answer later. FollowsList types d named w.held.items (tasks_left w) later rest) more) dom one in
+          let three = subst (λ (l : List Handle). CallGoesOn v.dom (λ answer later. FollowsList types v.dom named l (tasks_left w) later rest) more) left two in
+          let four = subst (λ (l : List RunTask). CallGoesOn v.dom (λ answer later. FollowsList types v.dom named (before ++ after) l later rest) more)
+          (left_same v w tasks next ∙ drop_all (tasks_left_of v) v.next end) three in
+          at_end types v named (before ++ handle ∷ after) (did (Begin v.dom (Release handle)) x ∷ more) rest idle holds end (gives_first types v.dom named before after handle x more rest none four),
+      ap (λ (l : List ℕ). l ++ rest) (sym text),
+    ),
+  );
+}
+
+pub gives_done : (types : List (List ℕ)) (v w : Walker) (before after : List Handle) (handle : Handle) (x : Element) (answer : Answer)
+    → length v.tasks.items ≤ v.next → v.doing ≡ doing.Nothing → v.held.items ≡ before ++ handle ∷ after → answer_in x ≡ Some answer
+    → w.dom ≡ v.dom → w.labels ≡ v.labels → w.tasks.items ≡ v.tasks.items → w.next ≡ v.next → w.doing ≡ doing.Nothing → w.held.items ≡ before ++ after → w.text.items ≡ v.text.items
+    → length (tasks_left_of v) ≤ v.next
+    → Moves types v (did (Begin v.dom (Release handle)) x) w
+unfolding Continues
+gives_done types v w before after handle x answer all idle holds is dom labels tasks next rests left text end = record {
+  own_move = refl;
+  dom = dom;
+  leads = λ named names. (
+    named,
+    subst (λ l. AreNamed l named) (sym labels) names,
+    λ more rest go. (
+      rest,
+      let one = subst (λ (d : OpenTask). Continues types w named d more rest) rests go in
+          let two = subst (λ (d : DomId). FollowsList types d named w.held.items (tasks_left w) more rest) dom one in
+          let three = subst (λ (l : List Handle). FollowsList types v.dom named l (tasks_left w) more rest) left two in
+          let four = subst (λ (l : List RunTask). FollowsList types v.dom named (before ++ after) l more rest) (left_same v w tasks next ∙ drop_all (tasks_left_of v) v.next end) three in
+          at_end types v named (before ++ handle ∷ after) (did (Begin v.dom (Release handle)) x ∷ more) rest idle holds end (gives_over types v.dom named before after handle x answer more rest is four),
       ap (λ (l : List ℕ). l ++ rest) (sym text),
     ),
   );
@@ -244,7 +278,7 @@ ticks_done types v w x answer is closed = by v.doing refl closed
         ),
       );
     }
-    by doing.GivesBack same (done, to) =
+    by doing.GivesBack same to =
         subst (λ (u : Walker). Moves types v (did (Tick v.dom) x) u) (sym to) (record {
           own_move = refl;
           dom = refl;
@@ -253,7 +287,7 @@ ticks_done types v w x answer is closed = by v.doing refl closed
             names,
             λ more rest go. (
               rest,
-              subst (λ (d : OpenTask). Continues types v named d (did (Tick v.dom) x ∷ more) rest) (sym same) (goes_done v.dom _ x answer more is (done, go)),
+              subst (λ (d : OpenTask). Continues types v named d (did (Tick v.dom) x ∷ more) rest) (sym same) (goes_done v.dom _ x answer more is go),
               refl,
             ),
           );

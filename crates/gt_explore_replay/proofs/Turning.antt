@@ -6,9 +6,8 @@ use Rattle.std.proofs.lemmas.List.{append-nil}
 use Rattle.std.specs.Prelude.{slice_get, slice_set, All, AllPairs, get_or}
 use Rattle.gt_handles.specs.declared.handles.Handle.{Handle}
 use Rattle.gt_calls.specs.declared.request.Request.{Request}
-use Rattle.gt_calls.specs.declared.request.Request.TheVariants.{Unmap}
+use Rattle.gt_calls.specs.declared.request.Request.TheVariants.{Release}
 use Rattle.gt_core.specs.declared.trace.Answer.{Answer}
-use Rattle.gt_core.specs.declared.trace.Answer.TheVariants.{Done}
 use Rattle.gt_core.specs.declared.trace.Element.{Element}
 use Rattle.gt_core.specs.declared.trace.Event.TheVariants.{Begin, Tick}
 use Rattle.gt_script_lines.specs.declared.calls.ScriptCall.{ScriptCall}
@@ -30,7 +29,7 @@ use Rattle.gt_explore_replay.specs.Orders.{AllFollow}
 use Rattle.gt_explore_replay.specs.Orders.{IsOrderOf}
 use Rattle.gt_explore_replay.specs.Walking.{HaveOwnIds}
 use Rattle.gt_explore_replay.specs.Courses.{Opened, resting, calling, giving, Course, course_answered, course_after, back_after}
-use Rattle.gt_explore_replay.specs.Courses.{IsDoneIf, ActionLeads, GivesAt, RestLeads, OpenLeads, CourseLeads, CourseEnds}
+use Rattle.gt_explore_replay.specs.Courses.{ActionLeads, GivesAt, RestLeads, OpenLeads, CourseLeads, CourseEnds}
 use Rattle.gt_explore_replay.specs.Courses.{TurnsLead}
 use Rattle.gt_explore_replay.specs.Courses.{AllCoursesEnd, courses_text, first_courses, IsTurnedBy}
 
@@ -92,7 +91,7 @@ GoesFrom types k (calling line call lost) hs part =
     (FollowsList types k.dom (with_name k.named k.dom (label_given call) (handle_given answer)) (held_after k.held lost answer) k.tasks more)
     part) hs
 GoesFrom types k giving hs part =
-    CallGoesOn k.dom (λ answer more. (answer ≡ Done) × FollowsList types k.dom k.named k.held k.tasks more part) hs
+    CallGoesOn k.dom (λ answer more. FollowsList types k.dom k.named k.held k.tasks more part) hs
 
 -- the next point of its course, and what it does from there on
 record Next (types : List (List ℕ)) (k : Course) (Leads : ℕ → Course → Type 0) (more : List Happening) (part : List ℕ) : Type 0 where
@@ -185,25 +184,25 @@ around-length : {X : Type 0} (before after : List X) (x : X) → take (length be
 around-length [] after x = refl
 around-length (b ∷ before) after x = ap (λ l. b ∷ l) (around-length before after x)
 
--- what follows the answer of an unmap at the end of the list, or its step
+-- what follows the answer of a release at the end of the list, or its step
 back-next : (types : List (List ℕ)) (k : Course) (held : List Handle) (order : List Handle) (e : Element) (more : List Happening) (part : List ℕ) → part ≡ []
-    → Answered k.dom (λ answer later. (answer ≡ Done) × GivesMappingsBack k.dom order held later) e more → k.tasks ≡ []
-    → Next types k (λ c j. IsDoneIf (answer_in e) × (j ≡ back_after (record k { held = held }) (answer_in e))) more part
-back-next types k held order e more part nothing (inl (answer, is, (done, gives))) end = record {
+    → Answered k.dom (λ answer later. GivesMappingsBack k.dom order held later) e more → k.tasks ≡ []
+    → Next types k (λ c j. j ≡ back_after (record k { held = held }) (answer_in e)) more part
+back-next types k held order e more part nothing (inl (answer, is, gives)) end = record {
   choice = 0;
   next = record k { held = held; opened = resting };
   rest = part;
-  leads = (subst IsDoneIf (sym is) done, ap (λ (o : Option Answer). back_after (record k { held = held }) o) (sym is));
+  leads = ap (λ (o : Option Answer). back_after (record k { held = held }) o) (sym is);
   goes = subst (λ (l : List RunTask). FollowsList types k.dom k.named held l more part) (sym end) (order, gives, nothing);
   text = refl;
   dom = refl;
 }
-back-next types k held order e more part nothing (inr (none, (trace, answer, later, is, ends, (done, gives)))) end = record {
+back-next types k held order e more part nothing (inr (none, (trace, answer, later, is, ends, gives))) end = record {
   choice = 0;
   next = record k { held = held; opened = giving };
   rest = part;
-  leads = (subst IsDoneIf (sym none) tt, ap (λ (o : Option Answer). back_after (record k { held = held }) o) (sym none));
-  goes = (trace, answer, later, is, ends, (done, subst (λ (l : List RunTask). FollowsList types k.dom k.named held l later part) (sym end) (order, gives, nothing)));
+  leads = ap (λ (o : Option Answer). back_after (record k { held = held }) o) (sym none);
+  goes = (trace, answer, later, is, ends, subst (λ (l : List RunTask). FollowsList types k.dom k.named held l later part) (sym end) (order, gives, nothing));
   text = refl;
   dom = refl;
 }
@@ -215,7 +214,7 @@ gives-next : (types : List (List ℕ)) (k : Course) (order : List Handle) (x : H
     → GivesMappingsBack k.dom order k.held (x ∷ more) → k.tasks ≡ [] → Next types k (λ c j. GivesAt k c x j) more part
 gives-next types k [] x more part nothing (left, none) end = no-happening x more none
 gives-next types k (handle ∷ order) x more part nothing (before, after, is, happens) end =
-    let begun = begins-next k.dom (Unmap handle) (λ answer later. (answer ≡ Done) × GivesMappingsBack k.dom order (before ++ after) later) x more happens in
+    let begun = begins-next k.dom (Release handle) (λ answer later. GivesMappingsBack k.dom order (before ++ after) later) x more happens in
     let n = back-next types k (before ++ after) order begun.0 more part nothing begun.2 end in
     let there : slice_get k.held (length before) ≡ Some handle = ap (λ (l : List Handle). slice_get l (length before)) is ∙ at-length before after handle in
     let left : before ++ after ≡ take (length before) k.held ++ drop (suc (length before)) k.held =
@@ -224,7 +223,7 @@ gives-next types k (handle ∷ order) x more part nothing (before, after, is, ha
       choice = length before;
       next = n.next;
       rest = n.rest;
-      leads = (handle, begun.0, there, begun.1, n.leads.0, n.leads.1 ∙ ap (λ (l : List Handle). back_after (record k { held = l }) (answer_in begun.0)) left);
+      leads = (handle, begun.0, there, begun.1, n.leads ∙ ap (λ (l : List Handle). back_after (record k { held = l }) (answer_in begun.0)) left);
       goes = n.goes;
       text = n.text;
       dom = n.dom;
@@ -264,26 +263,26 @@ open-next types k (calling line call lost) x more part is goes =
       dom = n.dom;
     }
 open-next types k giving x more part is goes =
-    let step = goes-on-next k.dom (λ answer later. (answer ≡ Done) × FollowsList types k.dom k.named k.held k.tasks later part) x more goes in
+    let step = goes-on-next k.dom (λ answer later. FollowsList types k.dom k.named k.held k.tasks later part) x more goes in
     let n = giving-next types k step.0 more part step.2 in
     record {
       choice = 0;
       next = n.next;
       rest = n.rest;
-      leads = (refl, step.0, step.1, n.leads.0, n.leads.1);
+      leads = (refl, step.0, step.1, n.leads);
       goes = n.goes;
       text = n.text;
       dom = n.dom;
     }
   where
     giving-next : (types : List (List ℕ)) (k : Course) (e : Element) (more : List Happening) (part : List ℕ)
-        → Answered k.dom (λ answer later. (answer ≡ Done) × FollowsList types k.dom k.named k.held k.tasks later part) e more
-        → Next types k (λ c j. IsDoneIf (answer_in e) × (j ≡ back_after k (answer_in e))) more part
-    giving-next types k e more part (inl (answer, is, (done, follows))) = record {
+        → Answered k.dom (λ answer later. FollowsList types k.dom k.named k.held k.tasks later part) e more
+        → Next types k (λ c j. j ≡ back_after k (answer_in e)) more part
+    giving-next types k e more part (inl (answer, is, follows)) = record {
       choice = 0;
       next = record k { opened = resting };
       rest = part;
-      leads = (subst IsDoneIf (sym is) done, ap (λ (o : Option Answer). back_after k o) (sym is));
+      leads = ap (λ (o : Option Answer). back_after k o) (sym is);
       goes = follows;
       text = refl;
       dom = refl;
@@ -292,7 +291,7 @@ open-next types k giving x more part is goes =
       choice = 0;
       next = record k { opened = giving };
       rest = part;
-      leads = (subst IsDoneIf (sym none) tt, ap (λ (o : Option Answer). back_after k o) (sym none));
+      leads = ap (λ (o : Option Answer). back_after k o) (sym none);
       goes = goes;
       text = refl;
       dom = refl;
@@ -301,7 +300,7 @@ open-next types k giving x more part is goes =
 -- a domain that does no more is at its end
 over-by : (types : List (List ℕ)) (k : Course) (tasks : List RunTask) (part : List ℕ) → FollowsList types k.dom k.named k.held tasks [] part → (tasks ≡ []) × (k.held ≡ []) × (part ≡ [])
 over-by types k [] part ([], (none, nothing), is) = (refl, none, is)
-over-by types k [] part (handle ∷ order, (before, after, is, (e, trace, answer, more, so, ends, done)), nothing) = absurd (cc)
+over-by types k [] part (handle ∷ order, (before, after, is, (e, trace, answer, more, so, ends, gives)), nothing) = absurd (cc)
 over-by types k (t ∷ ts) part follows = absurd (by t.deed follows)
   where
     by : (deed : RunAction) → DeedHappens types k.dom k.named k.held t.line deed (λ names holds later rest. FollowsList types k.dom names holds ts later rest) [] part → ⊥

@@ -6,7 +6,7 @@ use Rattle.std.proofs.Math.ListN.{set}
 use Rattle.std.proofs.lemmas.List.{length-map, length-set, get_or-set_same}
 use Rattle.std.proofs.lemmas.Option.{slice_get_within, slice_get-map}
 use Rattle.std.specs.Option.{option_map}
-use Rattle.std.specs.Prelude.{slice_get, IfErr, IfOk, IsSome, Result, Ok, Err}
+use Rattle.std.specs.Prelude.{slice_get, IfOk, IsSome, Result, Ok, Err}
 use Rattle.gt_types.specs.Names.{domain_of}
 use Rattle.gt_types.specs.declared.DomId.{DomId}
 use Rattle.gt_types.specs.declared.config.Config.{Config}
@@ -31,7 +31,7 @@ use Rattle.gt_host.specs.Rights.{may_by}
 use Rattle.gt_explore_replay.specs.Orders.{Happening, did, raised, passed, trace_in, IsRaisedBefore}
 use Rattle.gt_explore_replay.specs.Walking.{tasks_left_of}
 use Rattle.gt_explore_replay.specs.Courses.{Course, CourseLeads, ActionLeads}
-use Rattle.gt_explore_replay.specs.Making.{BeginsLine, TicksOpen, GivesBackAt, StartKeeps, StepKeeps}
+use Rattle.gt_explore_replay.specs.Making.{BeginsLine, TicksOpen, GivesBackAt}
 use Rattle.gt_explore_replay.specs.Abreast.{history_in, WalksAbreast, CanComeNext, IsAbreast}
 use Rattle.gt_explore_replay.specs.declared.replay.Moved.{Moved}
 use Rattle.gt_explore_replay.specs.declared.replay.Replay.{Replay}
@@ -41,7 +41,6 @@ use Rattle.gt_explore_replay.proofs.Abreast.{Came, begin_came, give_came, goes_p
 use Rattle.gt_explore_replay.proofs.Abreast.{tick_came}
 use Rattle.gt_explore_replay.proofs.Coming.{IsQuiet, tells, waits, apart_at, domain_known, history_one, less_or, map_set}
 use Rattle.gt_explore_replay.proofs.Coming.{mapped_back, trace_more, trace_same}
-use Rattle.gt_explore_replay.proofs.Keeping.{start_given, step_given}
 use Rattle.gt_explore_replay.proofs.Places.{get_cases, get_set}
 
 -- what happened
@@ -275,29 +274,3 @@ turn_within c hs ks r place k abreast at =
     let within = slice_get_within ks place k at in
     let many = abreast.many in
     omega (arith, within, many)
-
--- memory
-
--- a domain that begins to give a mapping back does so, but for memory
-pub give_memory : {E : Type 0} (c : RunContents) (hs : List Happening) (ks : List Course) (r : Replay) (new : CoreState) (x : Happening) (place choice : ℕ) (k j : Course) (v : Walker) (Wanted : E → Type 0) (res : Result (Option Moved) E)
-    → IsAbreast c hs ks r → slice_get ks place ≡ Some k → slice_get r.walkers.items place ≡ Some v
-    → length v.tasks.items ≤ v.next → v.doing ≡ doing.Nothing → CourseLeads (type_names c.head) k choice x j → CanComeNext (setting_of_script c.head) hs x
-    → IfErr res (λ f. Wanted f ⊎ StartKeeps (setting_in may_by r.core) r.core.state v choice new) → IfErr res Wanted
-give_memory c hs ks r new x place choice k j v Wanted (Ok m) abreast at there all idle leads may keeps = tt
-give_memory c hs ks r new x place choice k j v Wanted (Err f) abreast at there all idle leads may (inl wanted) = wanted
-give_memory c hs ks r new x place choice k j v Wanted (Err f) abreast at there all idle leads may (inr keeps) =
-    let end : length (tasks_left_of v) ≤ v.next = simp length-map all in
-    absurd (start_given (length r.told.items) (setting_of_script c.head) (type_names c.head) hs abreast.replayed k j v choice x r.core.state new
-    (abreast.each place k v at there) abreast.alike abreast.stands (course_known c hs ks r place k abreast at) end idle leads may
-    (subst (λ (s : Setting). StartKeeps s r.core.state v choice new) abreast.setting keeps))
-
--- what a domain has open makes a step, but for memory
-pub tick_memory : {E : Type 0} (c : RunContents) (hs : List Happening) (ks : List Course) (r : Replay) (new : CoreState) (x : Happening) (place choice : ℕ) (k j : Course) (v : Walker) (Wanted : E → Type 0) (res : Result (Option Moved) E)
-    → IsAbreast c hs ks r → slice_get ks place ≡ Some k → slice_get r.walkers.items place ≡ Some v → CourseLeads (type_names c.head) k choice x j → CanComeNext (setting_of_script c.head) hs x
-    → IfErr res (λ f. Wanted f ⊎ StepKeeps (setting_in may_by r.core) r.core.state v new) → IfErr res Wanted
-tick_memory c hs ks r new x place choice k j v Wanted (Ok m) abreast at there leads may keeps = tt
-tick_memory c hs ks r new x place choice k j v Wanted (Err f) abreast at there leads may (inl wanted) = wanted
-tick_memory c hs ks r new x place choice k j v Wanted (Err f) abreast at there leads may (inr keeps) =
-    absurd (step_given (length r.told.items) (setting_of_script c.head) (type_names c.head) hs abreast.replayed k j v choice x r.core.state new
-    (abreast.each place k v at there) abreast.alike abreast.stands (course_known c hs ks r place k abreast at) leads may
-    (subst (λ (s : Setting). StepKeeps s r.core.state v new) abreast.setting keeps))

@@ -26,7 +26,7 @@ SameNames one other = map bare_name one ≡ map bare_name other
 abbrev pub SameHandles : List Handle → List Handle → Type 0
 SameHandles one other = map bare_handle one ≡ map bare_handle other
 
--- both have the same open, and unmap the same handle at its end
+-- both have the same open, and drop the mapping of the same handle at its end
 abbrev pub IsDoingSo : OpenTask → Opened → Type 0
 IsDoingSo Nothing resting = Unit {0}
 IsDoingSo (Line line call lost) (calling number asked freed) =

@@ -1,16 +1,16 @@
--- The turns of an order: whose move is next, and which mapping a domain unmaps at the end of its list. By its turns the
+-- The turns of an order: whose move is next, and which mapping a domain releases at the end of its list. By its turns the
 -- domains of an order move from the first lines of their lists to the ends.
 use Rattle.std.specs.Prelude.{◌≡◌, ◌++◌, ℕ, suc, List, [], ◌∷◌, map, take, drop, Option, Some, None, slice_get}
 use Rattle.std.specs.Prelude.{slice_set}
 use Rattle.std.specs.List.{flat_map}
-use Rattle.gt_explore_replay.specs.Prelude.{DomId, Handle, Request, Unmap, Answer, Done, Element, Begin, Tick}
+use Rattle.gt_explore_replay.specs.Prelude.{DomId, Handle, Request, Release, Answer, Element, Begin, Tick}
 use Rattle.gt_explore_replay.specs.Prelude.{type_names, RunContents, list_of, RunAction, Do, Tell, Await, RunTask, answer_line, Named}
 use Rattle.gt_explore_replay.specs.Prelude.{SaysRequest, handle_given, label_given, with_name, ScriptCall, answer_in}
 use Rattle.gt_explore_replay.specs.declared.replay.Turn.{Turn}
 use Rattle.gt_explore_replay.specs.Orders.{Happening, did, raised, passed, given_up, held_after, IsOrderOf}
 
--- what a domain has open on its course: nothing; the call of a line, which unmaps this handle if it is answered Ok; or
--- an unmap at the end of its list
+-- what a domain has open on its course: nothing; the call of a line, which drops the mapping of this handle if it is
+-- answered Ok; or the release of a mapping at the end of its list
 pub data Opened : Type 0 where
   resting : Opened
   calling : ℕ → ScriptCall → Option Handle → Opened
@@ -43,15 +43,10 @@ abbrev pub course_after : List (List ℕ) → ℕ → ScriptCall → Option Hand
 course_after types line call lost k None = record k { opened = calling line call lost }
 course_after types line call lost k (Some answer) = course_answered types line call lost k answer
 
--- the course after an unmap at the end of the list began or continued: with this answer, or it is open
+-- the course after a release at the end of the list began or continued: with this answer, or it is open
 abbrev pub back_after : Course → Option Answer → Course
 back_after k None = record k { opened = giving }
 back_after k (Some answer) = record k { opened = resting }
-
--- the answer is Ok, if there is one
-abbrev pub IsDoneIf : Option Answer → Type 0
-IsDoneIf None = Unit {0}
-IsDoneIf (Some answer) = answer ≡ Done
 
 -- by this happening a domain takes the action of its next line, and these tasks are left
 abbrev pub ActionLeads : List (List ℕ) → Course → ℕ → List RunTask → RunAction → Happening → Course → Type 0
@@ -62,11 +57,11 @@ ActionLeads types k line left (Do call) x j =
     × (x ≡ did (Begin k.dom request) e)
     × (j ≡ course_after types line call (given_up request) (record k { tasks = left }) (answer_in e))
 
--- by this happening a domain at the end of its list begins to unmap its mapping at this index
+-- by this happening a domain at the end of its list begins to release its mapping at this index
 abbrev pub GivesAt : Course → ℕ → Happening → Course → Type 0
 GivesAt k choice x j =
     (handle : Handle) × (e : Element) × (slice_get k.held choice ≡ Some handle)
-    × (x ≡ did (Begin k.dom (Unmap handle)) e) × IsDoneIf (answer_in e)
+    × (x ≡ did (Begin k.dom (Release handle)) e)
     × (j ≡ back_after (record k { held = take choice k.held ++ drop (suc choice) k.held }) (answer_in e))
 
 -- by this happening a domain at rest moves
@@ -80,7 +75,7 @@ OpenLeads types k resting choice x j = RestLeads types k k.tasks choice x j
 OpenLeads types k (calling line call lost) choice x j =
     (choice ≡ 0) × (e : Element) × (x ≡ did (Tick k.dom) e) × (j ≡ course_after types line call lost k (answer_in e))
 OpenLeads types k giving choice x j =
-    (choice ≡ 0) × (e : Element) × (x ≡ did (Tick k.dom) e) × IsDoneIf (answer_in e) × (j ≡ back_after k (answer_in e))
+    (choice ≡ 0) × (e : Element) × (x ≡ did (Tick k.dom) e) × (j ≡ back_after k (answer_in e))
 
 -- by this happening a domain moves from one point of its course to the next
 abbrev pub CourseLeads : List (List ℕ) → Course → ℕ → Happening → Course → Type 0

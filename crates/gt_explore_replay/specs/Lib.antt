@@ -3,4 +3,5 @@ pub mod Courses
 pub mod Making
 pub mod Orders
 pub mod Prelude
+pub mod Releasing
 pub mod Walking

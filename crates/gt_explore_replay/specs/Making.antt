@@ -1,7 +1,7 @@
 -- A move of a domain: the event of the core, what that did, and the domain afterwards.
-use Rattle.std.specs.Prelude.{◌≡◌, ◌≢◌, ◌++◌, ◌+◌, ℕ, suc, List, take, drop, Option, Some, slice_get, IsSome}
-use Rattle.gt_explore_replay.specs.Prelude.{Handle, Request, Unmap, Setting, DoesEvent, CoreState, Begin, Tick, RunTask}
-use Rattle.gt_explore_replay.specs.Prelude.{Observation, Step, Answer, Done, begun_element, ticked_element, Begun, Ticked}
+use Rattle.std.specs.Prelude.{◌≡◌, ◌++◌, ◌+◌, ℕ, suc, List, take, drop, Option, Some, slice_get, IsSome}
+use Rattle.gt_explore_replay.specs.Prelude.{Handle, Request, Release, Setting, DoesEvent, CoreState, Begin, Tick, RunTask}
+use Rattle.gt_explore_replay.specs.Prelude.{begun_element, ticked_element, Begun, Ticked}
 use Rattle.gt_explore_replay.specs.Prelude.{ScriptCall, AreNamed, Named}
 use Rattle.gt_explore_replay.specs.Prelude.{SaysRequest, Moved, Line, GivesBack, Walker}
 use Rattle.std.specs.Borrow.{Bor}
@@ -14,7 +14,7 @@ use Rattle.gt_explore_replay.specs.Walking.{AnswersLine, ClosesCall}
 abbrev pub AsksFor : Walker → ScriptCall → Request → Type 0
 AsksFor v call request = (named : List Named) → AreNamed v.labels named → SaysRequest named v.dom call request
 
--- the call of a line, which unmaps this handle, began: it is open, or it has its answer
+-- the call of a line, which drops the mapping of this handle, began: it is open, or it has its answer
 abbrev pub IsBegunFrom : List (List ℕ) → RunTask → Bor ScriptCall → Option Handle → Walker → Begun → Option Moved
     → Walker → Type 0
 IsBegunFrom types task call lost v begun.Open m w =
@@ -44,30 +44,20 @@ abbrev pub TicksOpen : Setting → List (List ℕ) → CoreState → Walker → 
 TicksOpen s types old v m new w =
     (t : Ticked) × DoesEvent s old (Tick v.dom) (ticked_element v.dom t) new × IsTickedFrom types v t m w
 
--- an unmap of the mapping at this index began: it is open
+-- the release of the mapping at this index began: it is open, or it has its answer
 abbrev pub IsGivenFrom : ℕ → Walker → Begun → Option Moved → Walker → Type 0
 IsGivenFrom choice v begun.Open m w =
     IsSome m × (w ≡ record v { doing = GivesBack; held = w.held })
     × (w.held.items ≡ take choice v.held.items ++ drop (suc choice) v.held.items)
-IsGivenFrom choice v (begun.Done answer) m w = ⊥
+IsGivenFrom choice v (begun.Done answer) m w =
+    IsSome m × (w ≡ record v { held = w.held })
+    × (w.held.items ≡ take choice v.held.items ++ drop (suc choice) v.held.items)
 IsGivenFrom choice v begun.Busy m w = Unit {0}
 IsGivenFrom choice v begun.NoDomain m w = Unit {0}
 
--- the core began an unmap of the mapping at this index, if there is one
+-- the core began the release of the mapping at this index, if there is one
 abbrev pub GivesBackAt : Setting → CoreState → Walker → ℕ → Option Moved → CoreState → Walker → Type 0
 GivesBackAt s old v choice m new w =
     (handle : Handle) → slice_get v.held.items choice ≡ Some handle
-    → (b : Begun) × DoesEvent s old (Begin v.dom (Unmap handle)) (begun_element v.dom (Unmap handle) b) new
+    → (b : Begun) × DoesEvent s old (Begin v.dom (Release handle)) (begun_element v.dom (Release handle) b) new
     × IsGivenFrom choice v b m w
-
--- the unmap of the mapping at this index was answered at once, so it was refused
-abbrev pub StartKeeps : Setting → CoreState → Walker → ℕ → CoreState → Type 0
-StartKeeps s old v choice new =
-    (handle : Handle) × (answer : Answer) × (slice_get v.held.items choice ≡ Some handle)
-    × DoesEvent s old (Begin v.dom (Unmap handle)) (begun_element v.dom (Unmap handle) (begun.Done answer)) new
-
--- a step answered an unmap at the end of a list with a refusal
-abbrev pub StepKeeps : Setting → CoreState → Walker → CoreState → Type 0
-StepKeeps s old v new =
-    (step : Step) × (seen : Observation) × (answer : Answer) × (v.doing ≡ GivesBack) × (answer ≢ Done)
-    × DoesEvent s old (Tick v.dom) (ticked_element v.dom (ticked.Done step seen answer)) new

@@ -1,8 +1,9 @@
 -- The texts that a script for `run` may give.
 use Rattle.std.specs.Prelude.{◌≡◌, ◌≢◌, ◌<◌, ◌++◌, ◌==◌, not, ℕ, List, [], ◌∷◌, map, filter, All, Option, Some, None}
 use Rattle.std.specs.Prelude.{slice_get}
-use Rattle.gt_explore_replay.specs.Prelude.{domain_of, DomId, DomainConfig, Handle, Request, Unmap, Legal, actor_of, Answer}
-use Rattle.gt_explore_replay.specs.Prelude.{Done, Mapped, Element, Event, Begin, Tick, type_names, RunContents, list_of, RunAction}
+use Rattle.gt_explore_replay.specs.Prelude.{domain_of, DomId, DomainConfig, Handle, Request, Unmap, Release, Legal, actor_of}
+use Rattle.gt_explore_replay.specs.Prelude.{Answer, Done, Mapped, Element, Event, Begin, Tick, type_names, RunContents}
+use Rattle.gt_explore_replay.specs.Prelude.{list_of, RunAction}
 use Rattle.gt_explore_replay.specs.Prelude.{Do, Tell, Await, RunTask, setting_of_script, answer_line, Named, SaysRequest, EndsWith}
 use Rattle.gt_explore_replay.specs.Prelude.{handle_given, label_given, with_name}
 
@@ -67,29 +68,30 @@ CallHappens dom request After hs =
     × (hs ≡ did (Begin dom request) first ∷ (ticks_of dom trace ++ more))
     × EndsWith (first ∷ trace) answer × After answer more
 
--- the handle that a request unmaps, if it is answered Ok
+-- the handle of the mapping that a request drops, if it is answered Ok
 abbrev pub given_up : Request → Option Handle
 given_up (Unmap handle) = Some handle
+given_up (Release handle) = Some handle
 given_up request = None
 
 -- all but the handle with this serial
 abbrev pub handles_without : Handle → List Handle → List Handle
 handles_without handle held = filter (λ h. not (h.serial == handle.serial)) held
 
--- the handles of a domain after this answer: a map answered Ok gives it a handle, and an unmap answered Ok takes one
+-- the handles of a domain after this answer: a map answered Ok gives it a handle, and a call that drops a mapping takes
+-- one if it is answered Ok
 abbrev pub held_after : List Handle → Option Handle → Answer → List Handle
 held_after held (Some handle) Done = handles_without handle held
 held_after held lost (Mapped handle) = held ++ handle ∷ []
 held_after held lost answer = held
 
--- A domain at the end of its list unmaps all its mappings, in this order, and each unmap is answered Ok. (The running
--- monitor does this when the domain leaves.)
+-- A domain at the end of its list releases all its mappings, in this order. (The running monitor does this when the
+-- domain leaves.) A release asks no policy.
 abbrev pub GivesMappingsBack : DomId → List Handle → List Handle → List Happening → Type 0
 GivesMappingsBack dom [] held hs = (held ≡ []) × (hs ≡ [])
 GivesMappingsBack dom (handle ∷ order) held hs =
     (before : List Handle) × (after : List Handle) × (held ≡ before ++ handle ∷ after)
-    × CallHappens dom (Unmap handle)
-    (λ answer more. (answer ≡ Done) × GivesMappingsBack dom order (before ++ after) more) hs
+    × CallHappens dom (Release handle) (λ answer more. GivesMappingsBack dom order (before ++ after) more) hs
 
 -- after a call of this line the text continues with its answer
 abbrev pub Prints : List ℕ → (List ℕ → Type 0) → List ℕ → Type 0
@@ -110,7 +112,7 @@ DeedHappens types dom named held line (Do call) Next hs text =
     (Next (with_name named dom (label_given call) (handle_given answer)) (held_after held (given_up request) answer) more)
     text) hs
 
--- a domain serves its list, line by line, and then unmaps all its mappings; this is what it prints
+-- a domain serves its list, line by line, and then releases all its mappings; this is what it prints
 abbrev pub FollowsList : List (List ℕ) → DomId → List Named → List Handle → List RunTask → List Happening → List ℕ → Type 0
 FollowsList types dom named held [] hs text = (order : List Handle) × GivesMappingsBack dom order held hs × (text ≡ [])
 FollowsList types dom named held (t ∷ ts) hs text =

@@ -2,7 +2,7 @@
 pub use Rattle.gt_calls.specs.declared.action.Observation.{Observation}
 pub use Rattle.gt_calls.specs.declared.action.Step.{Step}
 pub use Rattle.gt_calls.specs.declared.request.Request.{Request}
-pub use Rattle.gt_calls.specs.declared.request.Request.TheVariants.{Unmap}
+pub use Rattle.gt_calls.specs.declared.request.Request.TheVariants.{Release, Unmap}
 pub use Rattle.gt_core.specs.Acting.{begun_element, ticked_element}
 pub use Rattle.gt_core.specs.Alike.{bare_handle, AreAlike, IsGiven}
 pub use Rattle.gt_core.specs.History.{History, Setting, open_call}

@@ -6,7 +6,6 @@ use Rattle.gt_explore_replay.specs.Prelude.{history_after, CoreStands, setting_i
 use Rattle.gt_explore_replay.specs.Prelude.{ScriptCall, type_names, RunContents, list_of, RunTask, AreNamed, setting_of_script}
 use Rattle.gt_explore_replay.specs.Prelude.{answer_line, may_by, Named, handle_given, label_given, with_name, Replay, OpenTask}
 use Rattle.gt_explore_replay.specs.Prelude.{Nothing, Line, GivesBack, Walker}
-use Rattle.gt_core.specs.declared.trace.Answer.TheVariants as answers
 use Rattle.gt_explore_replay.specs.Orders.{Happening, did, doer, own_happenings, events_in, trace_in, IsRaisedBefore}
 use Rattle.gt_explore_replay.specs.Orders.{FlagsAreRaised}
 use Rattle.gt_explore_replay.specs.Orders.{CallGoesOn, Prints, FollowsList, held_after}
@@ -29,8 +28,7 @@ Continues types w named (Line line call lost) hs text =
     (held_after w.held.items lost answer) (tasks_left w) more)
     text) hs
 Continues types w named GivesBack hs text =
-    CallGoesOn w.dom (λ answer more. (answer ≡ answers.Done)
-    × FollowsList types w.dom named w.held.items (tasks_left w) more text) hs
+    CallGoesOn w.dom (λ answer more. FollowsList types w.dom named w.held.items (tasks_left w) more text) hs
 
 -- by this happening a domain moves from one point of its list to another: what it does from there on, with this before
 -- it, is what it does from here on, and it has printed what comes between
@@ -63,7 +61,7 @@ pub record AnswersLine (types : List (List ℕ)) (line : ℕ) (call : ScriptCall
 unfoldable pub IsClosedFrom : List (List ℕ) → OpenTask → Answer → Walker → Walker → Type 0
 IsClosedFrom types Nothing answer v w = ⊥
 IsClosedFrom types (Line line call lost) answer v w = AnswersLine types line call.now lost answer v w
-IsClosedFrom types GivesBack answer v w = (answer ≡ answers.Done) × (w ≡ record v { doing = Nothing })
+IsClosedFrom types GivesBack answer v w = w ≡ record v { doing = Nothing }
 
 abbrev pub ClosesCall : List (List ℕ) → Answer → Walker → Walker → Type 0
 ClosesCall types answer v w = IsClosedFrom types v.doing answer v w

@@ -2,7 +2,7 @@
 //!
 //! A [`Replay`] has the domains of a script at the beginnings of their lists, on a core at rest. Each `advance` makes
 //! the next move of one of them: the beginning of a call, a step of it, a flag that is raised or passed, or the
-//! beginning of an unmap by a domain at the end of its list. So a list of turns is one order of the run. [`text_of`]
+//! beginning of a release by a domain at the end of its list. So a list of turns is one order of the run. [`text_of`]
 //! returns its text.
 //!
 //! Each text that `text_of` returns is one that the script may give. `specs/Orders.antt` defines what that is, by
@@ -11,12 +11,10 @@
 //! It uses `gt_script` (scripts), `gt_core` (calls), `gt_host` (what lines ask and print) and `gt_types`.
 #![tactic(auto)]
 
-mod fault;
 mod laws;
 mod replay;
 mod walker;
 
-pub use fault::ReplayFault;
-pub use laws::every_order_has_turns;
+pub use laws::{every_order_has_turns, every_release_is_ok};
 pub use replay::{Moved, Replay, Turn, text_of};
 pub use walker::Walker;

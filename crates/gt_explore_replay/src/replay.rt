@@ -1,6 +1,6 @@
 //! One order of a script's run, move by move.
 ghost use Rattle.std.specs.Prelude.{◌≡◌, ◌<◌, ℕ, true, false, List, length, map, All, IfOk, IfSome, IsTrue};
-ghost use Rattle.std.specs.Prelude.{IfErr, slice_set, get_or};
+ghost use Rattle.std.specs.Prelude.{slice_set, get_or};
 ghost use Rattle.std.specs.Option.{IsSomeAnd};
 ghost use Rattle.gt_script.specs.Contents.{contents_told};
 ghost use Rattle.gt_script.specs.RunContents.{run_told};
@@ -9,15 +9,13 @@ ghost use Rattle.gt_script.specs.Stuck.{AreNumbered};
 ghost use Rattle.gt_explore_replay.specs.Courses.{IsTurnedBy};
 ghost use Rattle.gt_explore_replay.specs.Orders.{Happening, MayGive};
 ghost use Rattle.gt_explore_replay.specs.Walking.{StartsWalk};
-ghost use Rattle.gt_explore_replay.specs.declared.fault.ReplayFault.TheVariants as faults;
 
-use crate::fault::ReplayFault;
 use crate::walker::Walker;
 use gt_core::{Core, Observation, Step};
 use gt_host::{ScriptPolicy, core_of};
 use gt_script::{RunAction, RunScript};
 use gt_script_lines::Text;
-use gt_types::DomainConfig;
+use gt_types::{DomainConfig, Memory};
 use std::alloc::{AllocError, Global};
 
 /// The kind of a move.
@@ -31,7 +29,7 @@ pub enum Moved {
     Stepped(Step, Observation),
 }
 
-/// The next move: that of the domain at this position among the script's domains. At the end of its list it unmaps the
+/// The next move: that of the domain at this position among the script's domains. At the end of its list it releases the
 /// mapping at the index `choice` of those that it has. Elsewhere `choice` is ignored.
 #[derive(Clone, Copy, Debug, PartialEq, Eq)]
 pub struct Turn {
@@ -96,7 +94,6 @@ fn is_raised(told: &[bool], flag: usize) -> bool
 
 impl<'s, 'a> Replay<'s, 'a> {
     ghost use Rattle.std.specs.Prelude.{◌≡◌, ◌++◌, List, [], ◌∷◌, IfOk, IfSome, IsSome, Some, slice_get, slice_set};
-    ghost use Rattle.std.specs.Prelude.{IfErr};
     ghost use Rattle.std.specs.Option.{IsSomeAnd};
     ghost use Rattle.gt_script.specs.Contents.{contents_told, type_names};
     ghost use Rattle.gt_script.specs.RunContents.{RunContents, run_told};
@@ -107,18 +104,16 @@ impl<'s, 'a> Replay<'s, 'a> {
     ghost use Rattle.gt_explore_replay.specs.Courses.{AllCoursesEnd, Course, CourseLeads, courses_text, first_courses};
     ghost use Rattle.gt_explore_replay.specs.Orders.{Happening, IsOrderOf};
     ghost use Rattle.gt_explore_replay.specs.Walking.{ComesOn, HasWalked};
-    ghost use Rattle.gt_explore_replay.specs.declared.fault.ReplayFault.TheVariants as faults;
 
     /// Makes a replay with the domains of the script before the first lines of their lists, on a core at rest.
     ///
     /// # Errors
     /// `Memory` if an allocation fails.
-    pub fn new(alloc: Global, script: &'s RunScript<'a>) -> Result<Replay<'s, 'a>, ReplayFault>
+    pub fn new(alloc: Global, script: &'s RunScript<'a>) -> Result<Replay<'s, 'a>, Memory>
         requires { CanConfigure (contents_told script.now.head) }
         ensures walks { IfOk result (HasWalked (run_told script.entry.now) []) }
         ensures abreast { AreNumbered script.entry.now.flags script.entry.now.tasks →
             IfOk result (IsAbreast (run_told script.entry.now) [] (first_courses (run_told script.entry.now))) }
-        ensures memory { IfErr result (λ f. f ≡ faults.Memory) }
     {
         let head = script.head();
         let walkers = walkers_of(alloc, script, head.domains())?;
@@ -153,18 +148,14 @@ impl<'s, 'a> Replay<'s, 'a> {
     /// awaits a flag that is not raised. The replay cannot be used after None, or after an error.
     ///
     /// # Errors
-    /// `Memory` if an allocation fails; `Keeps` if the domain can't unmap a mapping.
-    pub fn advance(&mut self, turn: Turn) -> Result<Option<Moved>, ReplayFault>
+    /// `Memory` if an allocation fails.
+    pub fn advance(&mut self, turn: Turn) -> Result<Option<Moved>, Memory>
         ensures walks { (c : RunContents) (hs : List Happening) → HasWalked c hs self.old →
             IfOk result (λ m. IsSome m → ComesOn c hs self.new) }
         ensures abreast { (c : RunContents) (hs : List Happening) (ks : List Course) (x : Happening) (k j : Course) →
             IsAbreast c hs ks self.old → slice_get ks turn.place ≡ Some k →
             CourseLeads (type_names c.head) k turn.choice x j → CanComeNext (setting_of_script c.head) hs x →
             IfOk result (λ m. IsSome m × IsAbreast c (hs ++ x ∷ []) (slice_set ks turn.place j) self.new) }
-        ensures memory { (c : RunContents) (hs : List Happening) (ks : List Course) (x : Happening) (k j : Course) →
-            IsAbreast c hs ks self.old → slice_get ks turn.place ≡ Some k →
-            CourseLeads (type_names c.head) k turn.choice x j → CanComeNext (setting_of_script c.head) hs x →
-            IfErr result (λ f. f ≡ faults.Memory) }
     {
         if turn.place >= self.walkers.len() {
             return Ok(None);
@@ -217,19 +208,17 @@ impl<'s, 'a> Replay<'s, 'a> {
 /// them, or could not take its turn.
 ///
 /// # Errors
-/// `Memory` if an allocation fails; `Keeps` if a domain can't unmap a mapping.
+/// `Memory` if an allocation fails.
 pub fn text_of<'s, 'a>(
     alloc: Global,
     script: &'s RunScript<'a>,
     turns: &[Turn],
-) -> Result<Option<Vec<u8>>, ReplayFault>
+) -> Result<Option<Vec<u8>>, Memory>
     requires { CanConfigure (contents_told script.now.head) }
     ensures possible { IfOk result (λ t. IfSome t (λ text. MayGive (run_told script.now) text.items)) }
     ensures whole { (hs : List Happening) (text : List ℕ) → AreNumbered script.now.flags script.now.tasks →
         IsTurnedBy (run_told script.now) hs turns.now text →
         IfOk result (λ t. IsSomeAnd t (λ v. v.items ≡ text)) }
-    ensures memory { (hs : List Happening) (text : List ℕ) → AreNumbered script.now.flags script.now.tasks →
-        IsTurnedBy (run_told script.now) hs turns.now text → IfErr result (λ f. f ≡ faults.Memory) }
 {
     let mut run = Replay::new(alloc, script)?;
     'turns: for turn in turns {

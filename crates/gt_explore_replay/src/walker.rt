@@ -2,7 +2,6 @@
 ghost use Rattle.std.specs.Prelude.{◌≡◌, List, IfOk, OnOk};
 ghost use Rattle.gt_explore_replay.specs.Orders.{given_up, held_after, handles_without};
 
-use crate::fault::ReplayFault;
 use crate::replay::Moved;
 use gt_core::{Answer, Begun, Core, Handle, Request, Ticked};
 use gt_host::{
@@ -10,20 +9,20 @@ use gt_host::{
 };
 use gt_script::RunTask;
 use gt_script_lines::{ScriptCall, Text};
-use gt_types::DomId;
+use gt_types::{DomId, Memory};
 use std::alloc::{AllocError, Global};
 
 /// The open task of a domain.
 #[derive(Clone, Copy)]
 pub enum OpenTask<'s, 'a> {
     Nothing,
-    /// The call of a line, which unmaps this handle if it is answered Ok.
+    /// The call of a line, which drops the mapping of this handle if it is answered Ok.
     Line {
         line: usize,
         call: &'s ScriptCall<'a>,
         gone: Option<Handle>,
     },
-    /// An unmap at the end of its list.
+    /// The release of a mapping at the end of its list.
     GivesBack,
 }
 
@@ -42,12 +41,12 @@ pub struct Walker<'s, 'a> {
     pub(crate) text: Vec<u8>,
 }
 
-// Returns the handle that a request unmaps, if it is answered Ok.
+// Returns the handle of the mapping that a request drops, if it is answered Ok.
 fn given_up(request: Request<'_>) -> Option<Handle>
     ensures { result ≡ given_up request.entry }
 {
     match request {
-        Request::Unmap { handle } => Some(handle),
+        Request::Unmap { handle } | Request::Release { handle } => Some(handle),
         _ => None,
     }
 }
@@ -181,14 +180,11 @@ impl<'s, 'a> Walker<'s, 'a> {
 }
 
 impl<'s, 'a> Walker<'s, 'a> {
-    ghost use Rattle.std.specs.Prelude.{◌≡◌, ◌≢◌, ◌⊎◌, ◌<◌, ◌≤◌, ℕ, List, length, slice_get, IsTrue, IsSome, IfOk};
-    ghost use Rattle.std.specs.Prelude.{IfErr, Some};
+    ghost use Rattle.std.specs.Prelude.{◌≡◌, ◌≢◌, ◌<◌, ◌≤◌, ℕ, List, length, slice_get, IsTrue, IsSome, IfOk, Some};
     ghost use Rattle.gt_core.specs.Standing.{setting_in};
     ghost use Rattle.gt_host.specs.Rights.{may_by};
     ghost use Rattle.gt_script.specs.declared.tasks.RunActionBy.TheVariants as deeds;
-    ghost use Rattle.gt_core.specs.declared.trace.Answer.TheVariants as answers;
-    ghost use Rattle.gt_explore_replay.specs.Making.{BeginsLine, GivesBackAt, TicksOpen, StartKeeps, StepKeeps};
-    ghost use Rattle.gt_explore_replay.specs.declared.fault.ReplayFault.TheVariants as faults;
+    ghost use Rattle.gt_explore_replay.specs.Making.{BeginsLine, GivesBackAt, TicksOpen};
     ghost use Rattle.gt_explore_replay.specs.Walking.{AnswersLine, ClosesCall, WalksTo, tasks_left_of};
     ghost use Rattle.gt_explore_replay.specs.declared.walker.OpenTask.TheVariants as doing;
 
@@ -219,7 +215,7 @@ impl<'s, 'a> Walker<'s, 'a> {
         types: &[Text],
         task: &'s RunTask<'a>,
         call: &'s ScriptCall<'a>,
-    ) -> Result<Option<Moved>, ReplayFault>
+    ) -> Result<Option<Moved>, Memory>
         requires next { slice_get (tasks_left_of self.old) self.old.next ≡ Some task.now }
         requires room { self.old.next < length self.old.tasks.items }
         requires does { task.now.deed ≡ deeds.Do call.now }
@@ -228,7 +224,6 @@ impl<'s, 'a> Walker<'s, 'a> {
             core.old.state self.old core.new.state self.new) }
         ensures does { IfOk result (λ m. BeginsLine (setting_in may_by core.old) types.now core.old.state
             self.old task.now call.entry m core.new.state self.new) }
-        ensures memory { IfErr result (λ f. f ≡ faults.Memory) }
         ensures config { core.new.config ≡ core.old.config }
         ensures rights { core.new.rights ≡ core.old.rights }
     {
@@ -252,12 +247,12 @@ impl<'s, 'a> Walker<'s, 'a> {
         }
     }
 
-    // Begins to unmap one of its mappings, at the end of its list.
+    // Begins to release one of its mappings, at the end of its list.
     pub(crate) fn give_back(
         &mut self,
         core: &mut Core<ScriptPolicy>,
         choice: usize,
-    ) -> Result<Option<Moved>, ReplayFault>
+    ) -> Result<Option<Moved>, Memory>
         requires end { length self.old.tasks.items ≤ self.old.next }
         requires idle { self.old.doing ≡ doing.Nothing }
         ensures makes { (types : List (List ℕ)) → IfOk result (λ m. IsSome m
@@ -265,8 +260,6 @@ impl<'s, 'a> Walker<'s, 'a> {
             core.old.state self.old core.new.state self.new) }
         ensures does { IfOk result (λ m. GivesBackAt (setting_in may_by core.old) core.old.state
             self.old choice m core.new.state self.new) }
-        ensures keeps { IfErr result (λ f. (f ≡ faults.Memory)
-            ⊎ StartKeeps (setting_in may_by core.old) core.old.state self.old choice core.new.state) }
         ensures config { core.new.config ≡ core.old.config }
         ensures rights { core.new.rights ≡ core.old.rights }
     {
@@ -274,24 +267,21 @@ impl<'s, 'a> Walker<'s, 'a> {
             return Ok(None);
         }
         let handle = self.held.remove(choice);
-        let begun = core.begin(self.dom, Request::Unmap { handle })?;
+        let begun = core.begin(self.dom, Request::Release { handle })?;
         match begun {
             Begun::Open => {
                 self.doing = OpenTask::GivesBack;
-                return Ok(Some(Moved::Began));
+                Ok(Some(Moved::Began))
             }
-            Begun::Done(_) => return Err(ReplayFault::Keeps(self.dom)),
-            Begun::Busy => return Ok(None),
-            Begun::NoDomain => return Ok(None),
+            Begun::Done(_) => Ok(Some(Moved::Began)),
+            Begun::Busy | Begun::NoDomain => Ok(None),
         }
     }
 
     // Applies the answer of its open task.
-    fn close(&mut self, alloc: Global, types: &[Text], answer: &Answer) -> Result<bool, ReplayFault>
+    fn close(&mut self, alloc: Global, types: &[Text], answer: &Answer) -> Result<bool, AllocError>
         ensures closes { IfOk result (λ b. IsTrue b → ClosesCall types.now answer.now self.old self.new) }
         ensures open { self.old.doing ≢ doing.Nothing → IfOk result IsTrue }
-        ensures keeps { IfErr result (λ f. (f ≡ faults.Memory)
-            ⊎ ((self.old.doing ≡ doing.GivesBack) × (answer.now ≢ answers.Done))) }
     {
         match self.doing {
             OpenTask::Nothing => Ok(false),
@@ -300,9 +290,6 @@ impl<'s, 'a> Walker<'s, 'a> {
                 Ok(true)
             }
             OpenTask::GivesBack => {
-                let Answer::Done = answer else {
-                    return Err(ReplayFault::Keeps(self.dom));
-                };
                 self.doing = OpenTask::Nothing;
                 Ok(true)
             }
@@ -315,14 +302,12 @@ impl<'s, 'a> Walker<'s, 'a> {
         alloc: Global,
         core: &mut Core<ScriptPolicy>,
         types: &[Text],
-    ) -> Result<Option<Moved>, ReplayFault>
+    ) -> Result<Option<Moved>, Memory>
         requires { self.old.doing ≢ doing.Nothing }
         ensures makes { IfOk result (λ m. IsSome m → WalksTo (setting_in may_by core.old) types.now
             core.old.state self.old core.new.state self.new) }
         ensures does { IfOk result (λ m. TicksOpen (setting_in may_by core.old) types.now core.old.state
             self.old m core.new.state self.new) }
-        ensures keeps { IfErr result (λ f. (f ≡ faults.Memory)
-            ⊎ StepKeeps (setting_in may_by core.old) core.old.state self.old core.new.state) }
         ensures config { core.new.config ≡ core.old.config }
         ensures rights { core.new.rights ≡ core.old.rights }
     {

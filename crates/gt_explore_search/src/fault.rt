@@ -1,5 +1,5 @@
 //! Faults of a search.
-use gt_types::{DomId, Memory};
+use gt_types::Memory;
 use std::alloc::{AllocError, AllocFailed};
 
 /// The reason that a search did not finish.
@@ -11,8 +11,6 @@ pub enum SearchFault {
     States,
     /// A run returned to a state.
     Circle,
-    /// In some order this domain reaches the end of its list with a mapping that the policy does not let it unmap.
-    Keeps(DomId),
 }
 
 impl From<AllocError> for SearchFault {

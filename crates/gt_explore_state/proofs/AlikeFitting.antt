@@ -5,7 +5,7 @@ use Rattle.gt_core.proofs.Words.{ap, ◌∙◌, arith, subst, ◌==◌, eqb-true
 use Rattle.gt_core.proofs.Words.{count_by, sum_by-cons, option_map, DomId, Dir, Handle, HeldPin, PinHolder, ByMapping, ByLeg}
 use Rattle.gt_core.proofs.Words.{Observation, Taken, Missed}
 use Rattle.gt_core.proofs.Words.{Makes, CallResult, Step, PinStep, Unpin, StoreHeader, Exchange, ReadBytes, State}
-use Rattle.gt_core.proofs.Words.{state_of, OpenRequest, Unmap}
+use Rattle.gt_core.proofs.Words.{inl, inr, state_of, OpenRequest, Release, Unmap}
 use Rattle.gt_core.proofs.Words.{History, Setting, Pin, Underway, live, open_call, values, word_at, seen_by, known_at}
 use Rattle.gt_core.proofs.Words.{legs_at, numbered, without}
 use Rattle.gt_core.proofs.Words.{generation_at, is_pin_on, mappings_at, mapping_of, gather, by_leg, path, begun}
@@ -27,6 +27,7 @@ use Rattle.gt_core.specs.declared.underway.OpenCall.{OpenCall}
 use Rattle.gt_core.specs.declared.trace.ItemEvent.TheVariants.{Stepped}
 use Rattle.gt_core.specs.declared.trace.Item.{Item}
 use Rattle.gt_calls.specs.Path.{by_mapping}
+use Rattle.gt_calls.specs.Resting.{GivesUp}
 use Rattle.gt_explore_state.specs.Shows.{IsInRun, LooksInRun, StepFits}
 use Rattle.gt_explore_state.specs.Likeness.{LikeReachedFits}
 use Rattle.gt_explore_state.proofs.Showing.{item-is}
@@ -36,6 +37,7 @@ use Rattle.gt_explore_state.proofs.Fitting.{looks, fits, own-legs, copy-frames, 
 
 abbrev pub FindsSame : (Handle → Option HeldPin) → (Handle → Option HeldPin) → OpenRequest → Type 0
 FindsSame bared found (Unmap a) = bared (bare_handle a) ≡ found a
+FindsSame bared found (Release a) = bared (bare_handle a) ≡ found a
 FindsSame bared found (Load a off len) = bared (bare_handle a) ≡ found a
 FindsSame bared found (Store a off len) = bared (bare_handle a) ≡ found a
 FindsSame bared found r = Unit {0}
@@ -162,11 +164,12 @@ module _ (s : Setting) (g : History) (reached : CanBeReached s g) (x : State) (h
 
 -- a mapping that is given up
 
-unmap-by : (b : Option CallResult) (m : Option HeldPin) (handle : Handle) (vs : List Observation) (p : HeldPin) (holder : PinHolder) → after_beginning b (by_mapping m (λ q. Unpin q (ByMapping handle))) vs ≡ Some (Makes (Unpin p holder)) → m ≡ Some p
-unmap-by b m handle vs p holder e = grind arith
+drop-by : (b : Option CallResult) (m : Option HeldPin) (handle : Handle) (vs : List Observation) (p : HeldPin) (holder : PinHolder) → after_beginning b (by_mapping m (λ q. Unpin q (ByMapping handle))) vs ≡ Some (Makes (Unpin p holder)) → m ≡ Some p
+drop-by b m handle vs p holder e = grind arith
 
-unmap-finds : (k : CallerKnowledge) (d : DomId) (handle : Handle) (vs : List Observation) (p : HeldPin) (holder : PinHolder) → path k d (Unmap handle) vs ≡ Some (Makes (Unpin p holder)) → k.mapping handle ≡ Some p
-unmap-finds k d handle vs p holder e = unmap-by (begun k d (Unmap handle)) (k.mapping handle) handle vs p holder e
+drop-finds : (k : CallerKnowledge) (d : DomId) (r : OpenRequest) (handle : Handle) (vs : List Observation) (p : HeldPin) (holder : PinHolder) → GivesUp r handle → path k d r vs ≡ Some (Makes (Unpin p holder)) → k.mapping handle ≡ Some p
+drop-finds k d r handle vs p holder (inl is) e = drop-by (begun k d (Unmap handle)) (k.mapping handle) handle vs p holder (subst (λ (q : OpenRequest). path k d q vs ≡ Some (Makes (Unpin p holder))) is e)
+drop-finds k d r handle vs p holder (inr is) e = drop-by (begun k d (Release handle)) (k.mapping handle) handle vs p holder (subst (λ (q : OpenRequest). path k d q vs ≡ Some (Makes (Unpin p holder))) is e)
 
 -- all of it
 
@@ -174,7 +177,7 @@ step-fits : (s : Setting) (h : History) (d : DomId) (c : Underway) (z : Step) �
 step-fits s h d c (PinStep p) f j e = let w = word_at s h p.dom.0 p.gref.0 in cond_both (w == p.word) Taken (Missed w) (StepFits s h d (PinStep p)) (λ is. f.words (eqb-true w p.word is)) (λ is. tt)
 step-fits s h d c (Exchange gref looked change) f j e = let w = word_at s h d.0 gref.0 in cond_both (w == looked) Taken (Missed w) (StepFits s h d (Exchange gref looked change)) (λ is. f.words (eqb-true w looked is)) (λ is. tt)
 step-fits s h d c (StoreHeader version frames) f j e = f.words
-step-fits s h d c (Unpin p (ByMapping handle)) f j e = loses-mapping h d handle p (unmap-finds (known_at s h d) d handle (values c) p (ByMapping handle) (subst (λ (r : OpenRequest). path (known_at s h d) d r (values c) ≡ Some (Makes (Unpin p (ByMapping handle)))) j e))
+step-fits s h d c (Unpin p (ByMapping handle)) f j e = loses-mapping h d handle p (drop-finds (known_at s h d) d c.request handle (values c) p (ByMapping handle) j e)
 step-fits s h d c (Unpin p (ByLeg n)) f j e = subst (λ (k : ℕ). Loses p (live h) (without d.0 (ByLeg k) (live h))) (sym f.legs.1) (loses-leg h d f.legs.0 p f.legs.2)
 step-fits s h d c (ReadBytes dom frame off len) f j e = j.0.1
 step-fits s h d c (WriteBytes dom frame off len) f j e = j.0.1

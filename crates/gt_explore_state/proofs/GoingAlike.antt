@@ -349,6 +349,8 @@ record Renamed (g : History) (d : DomId) (request : Request) : Type 0 where
 renamed : (s : Setting) (h g : History) (d : DomId) (request : Request) → AreAlike s h g → AsksKnown h d.0 (asked request) → Renamed g d request
 renamed s h g d (requests.Unmap handle) alike known = let r = known-like s h g d.0 handle alike known in
     record { request' = requests.Unmap r.0; same = ap (λ (a : Handle). requests.Unmap a) r.1; known = r.2; fits = λ f. tt; said = λ x f. f }
+renamed s h g d (requests.Release handle) alike known = let r = known-like s h g d.0 handle alike known in
+    record { request' = requests.Release r.0; same = ap (λ (a : Handle). requests.Release a) r.1; known = r.2; fits = λ f. tt; said = λ x f. f }
 renamed s h g d (requests.Load handle off len) alike known = let r = known-like s h g d.0 handle alike known in
     record { request' = requests.Load r.0 off len; same = ap (λ (a : Handle). requests.Load a off len) r.1; known = r.2; fits = λ f. tt; said = λ x f. f }
 renamed s h g d (requests.Store handle off bytes) alike known = let r = known-like s h g d.0 handle alike known in

@@ -1,20 +1,13 @@
 //! Sets of domains whose moves need no alternative, since no domain outside can disturb them.
-ghost use Rattle.std.specs.Prelude.{◌≡◌, false, get_or};
+ghost use Rattle.std.specs.Prelude.{◌≡◌};
 ghost use Rattle.gt_explore_moves.specs.Touches.{first_left};
 
-use super::is_told;
+use super::flags::is_set;
 use crate::actor::Actor;
 use crate::scene::{SearchContext, SearchState};
 use crate::touches::{MappingUse, NextMove, any_mapping_meets, is_load, is_store, meets_task};
 use gt_script::RunAction;
 use std::alloc::AllocError;
-
-// Returns whether the domain at this position is in a set.
-pub(super) fn is_in(inside: &[bool], place: usize) -> bool
-    ensures { result ≡ get_or inside.now place false }
-{
-    place < inside.len() && inside[place]
-}
 
 // Returns the index of the first task that a domain has not finished: that of its open call, or the next one.
 fn first_left(actor: &Actor<'_>) -> usize
@@ -45,7 +38,7 @@ impl<'s, 'a> SearchContext<'s, 'a> {
             return NextMove::Free;
         };
         match &task.deed {
-            RunAction::Await(flag) if !is_told(told, *flag) => NextMove::Awaits(*flag),
+            RunAction::Await(flag) if !is_set(told, *flag) => NextMove::Awaits(*flag),
             _ => NextMove::Free,
         }
     }
@@ -145,7 +138,7 @@ impl<'s, 'a> SearchContext<'s, 'a> {
         ensures { IfNone result (NoneMeets self.now world.now inside.now next (length world.now.actors.items)) }
     {
         for (place, actor) in world.actors.as_slice().iter().enumerate() {
-            if !is_in(inside, place) && self.may_meet(next, place, actor) {
+            if !is_set(inside, place) && self.may_meet(next, place, actor) {
                 return Some(place);
             }
         }
@@ -158,7 +151,7 @@ impl<'s, 'a> SearchContext<'s, 'a> {
     {
         let told = world.told.as_slice();
         for (place, actor) in world.actors.as_slice().iter().enumerate() {
-            if is_in(inside, place) {
+            if is_set(inside, place) {
                 let next = self.next_move(told, place, actor);
                 if let Some(other) = self.who_meets(world, inside, next) {
                     return Some(other);
@@ -173,7 +166,7 @@ impl<'s, 'a> SearchContext<'s, 'a> {
         ensures { IsTrue result → SomeGoesOn self.now world.now inside.now }
     {
         for (place, actor) in world.actors.as_slice().iter().enumerate() {
-            if is_in(inside, place) && !self.is_done(place, actor) {
+            if is_set(inside, place) && !self.is_done(place, actor) {
                 return true;
             }
         }

@@ -2,7 +2,7 @@
 ghost use Rattle.std.specs.Prelude.{◌≡◌, ◌++◌, OnOk, false, IfOk};
 ghost use Rattle.gt_explore_moves.specs.Ends.{choices};
 
-use super::sets::is_in;
+use super::flags::is_set;
 use crate::actor::Actor;
 use crate::scene::{SearchContext, SearchState};
 use gt_explore_replay::Turn;
@@ -42,7 +42,7 @@ impl<'s, 'a> SearchContext<'s, 'a> {
         self.is_ended(place, actor) && actor.mappings.is_empty()
     }
 
-    // Counts its moves: at the end of its list it can unmap each of its mappings.
+    // Counts its moves: at the end of its list it can release each of its mappings.
     fn choices(&self, place: usize, actor: &Actor<'a>) -> usize
         ensures { result ≡ choices_at self.now place actor.now }
     {
@@ -68,7 +68,7 @@ impl<'s, 'a> SearchContext<'s, 'a> {
     fn choices_in(&self, inside: &[bool], place: usize, actor: &Actor<'a>) -> usize
         ensures { result ≡ choices_in self.now inside.now place actor.now }
     {
-        if is_in(inside, place) {
+        if is_set(inside, place) {
             self.choices(place, actor)
         } else {
             0

@@ -1,10 +1,8 @@
 use Rattle.std.proofs.Common.{rules, ◌≡◌, [], ◌<◌, ◌≤◌, length, arith, false}
 use Rattle.std.specs.Prelude.{is_some, IsSome}
-use Rattle.std.proofs.lemmas.Result.{err_from_is_err_and}
 use Rattle.gt_script.specs.RunContents.{run_told}
 use Rattle.gt_explore_replay.proofs.Ending.{some_order}
 use Rattle.gt_explore_replay.proofs.Following.{follows_first, follows_more, follows_over, follows_turn, not_both}
-use Rattle.gt_explore_replay.specs.declared.fault.ReplayFault.TheVariants as faults
 use Rattle.gt_explore_replay.proofs.replay.text_of.Goals as goal
 
 pub turns-init : goal.turns-init
@@ -44,11 +42,3 @@ returns-then-is_none-clause-whole c = λ hs text numbered turned.
     let is = c.if-is_none.true in
     let isnt : is_some c.in_ok-moved.moved ≡ false = first_of (search rules, grind (arith, was, is), cc) in
     absurd (not_both (is_some c.in_ok-moved.moved) some isnt)
-
-pub returns-in_err-moved-clause-memory : goal.returns-in_err-moved-clause-memory
-returns-in_err-moved-clause-memory c = λ hs text numbered turned.
-    let within : c.turns.turn-index < length c.args.turns.now = c.turns-test.true in
-    let p = err_from_is_err_and c.from_residual-in_err-moved.result c.from_residual-in_err-moved.ensures.1 in
-    rw (p.1, p.2)
-    (follows_turn (c.in_err-moved.field-0.0 ≡ faults.Memory) (run_told c.args.script.now) hs text c.args.script.now.flags c.args.turns.now c.turns.turn-index _ _ within
-    (c.in_err-moved.ensures.memory (run_told c.args.script.now)) c.turns.invariant.follows numbered turned)

@@ -21,6 +21,6 @@ returns-then-is_raised c = record {
 pub returns-else-is_raised : goal.returns-else-is_raised
 returns-else-is_raised c = record {
   raised = λ s h k t ts a there show rest left flagged.
-      let told = c.args.world.now.told.items in let v = c.as_slice.ensures.value in let e = c.is_told-is_raised.ensures in
+      let told = c.args.world.now.told.items in let v = c.as_slice.ensures.value in let e = c.is_set-is_raised.ensures in
       absurd (true≢false (sym (get_or_from_slice_get told c.args.flag true false flagged) ∙ sym (ap (λ (l : List Bool). get_or l c.args.flag false) v) ∙ sym e ∙ c.if-is_raised.false));
 }

@@ -14,6 +14,6 @@ returns-then-not-is_done c = λ yes.
       a,
       subst (λ (l : List Actor). slice_get l place ≡ Some a) same
           (slice_get-get_or xs place a c.loop-place-test.true ∙ ap Some (sym c.actor-item.is)),
-      sym c.is_in.ensures ∙ c.if-is_in.true,
+      sym c.is_set.ensures ∙ c.if-is_set.true,
       sym c.is_done.ensures ∙ c.if-not-is_done.true,
     )

@@ -8,8 +8,6 @@ use Rattle.gt_explore_replay.proofs.Coming.{comes_made, comes_passed, comes_rais
 use Rattle.gt_explore_replay.proofs.Following.{not_both}
 use Rattle.gt_explore_replay.proofs.Moving.{awaits, tells}
 use Rattle.gt_explore_replay.proofs.Whole.{await_comes, await_told, begin_comes, give_comes, tell_below, tell_comes, tick_comes}
-use Rattle.gt_explore_replay.proofs.Whole.{tick_memory, give_memory}
-use Rattle.gt_explore_replay.specs.declared.fault.ReplayFault.TheVariants as faults
 use Rattle.gt_explore_replay.proofs.replay.Replay.advance.Goals as goal
 
 pub tick-requires : goal.tick-requires
@@ -123,22 +121,6 @@ returns-then-is_raised-clause-abreast c = λ k hs ks x u j abreast at leads may.
           refl refl (ap (λ (w : Walker). set c.args.self.now.walkers.items c.args.turn.place w) c.skip-then-is_raised.ensures) refl
           (sym c.in-Some.ensures.task) c.in-Await.is (c.is_calling.ensures.idle c.if-is_calling.false) leads,
     )
-
-pub returns-then-is_calling-clause-memory : goal.returns-then-is_calling-clause-memory
-returns-then-is_calling-clause-memory c = λ k hs ks x u j abreast at leads may.
-    let within : c.args.turn.place < length c.args.self.now.walkers.items = search rules in
-    tick_memory k hs ks c.args.self.now c.tick.new.core.state x c.args.turn.place c.args.turn.choice u j c.index_mut-walker.result.now (λ f. f ≡ faults.Memory) c.tick.result abreast at
-    (slice_get_read c.args.self.now.walkers.items _ c.args.turn.place c.index_mut-walker.result.now refl within c.index_mut-walker.ensures.value) leads may c.tick.ensures.keeps
-
-pub returns-in_default-clause-memory : goal.returns-in_default-clause-memory
-returns-in_default-clause-memory c = λ k hs ks x u j abreast at leads may.
-    let within : c.args.turn.place < length c.args.self.now.walkers.items = search rules in
-    give_memory k hs ks c.args.self.now c.give_back.new.core.state x c.args.turn.place c.args.turn.choice u j c.index_mut-walker.result.now (λ f. f ≡ faults.Memory) c.give_back.result abreast at
-    (slice_get_read c.args.self.now.walkers.items _ c.args.turn.place c.index_mut-walker.result.now refl within c.index_mut-walker.ensures.value)
-    c.in_default.ensures.end (c.is_calling.ensures.idle c.if-is_calling.false) leads may c.give_back.ensures.keeps
-
-pub returns-in-Do-clause-memory : goal.returns-in-Do-clause-memory
-returns-in-Do-clause-memory c = λ k hs ks x u j abreast at leads may. c.begin.ensures.memory
 
 pub returns-else-raise-clause-abreast : goal.returns-else-raise-clause-abreast
 returns-else-raise-clause-abreast c = λ k hs ks x u j abreast at leads may.

@@ -1,6 +1,5 @@
 use Rattle.std.proofs.Common.{refl}
-use Rattle.std.proofs.lemmas.Result.{err_from_is_err_and}
-use Rattle.gt_explore_replay.proofs.Doing.{makes_step, step_keeps, ticked_done, ticked_on}
+use Rattle.gt_explore_replay.proofs.Doing.{makes_step, ticked_done, ticked_on}
 use Rattle.gt_explore_replay.proofs.Making.{step_done, step_open}
 use Rattle.gt_explore_replay.proofs.walker.Walker.tick.Goals as goal
 
@@ -21,9 +20,3 @@ pub returns-then-closed-clause-does : goal.returns-then-closed-clause-does
 returns-then-closed-clause-does c =
     makes_step _ c.args.types.now _ _ c.args.self.now _ c.in_ok-ticked.ticked _ c.in_ok-ticked.ensures.stands
     (ticked_done c.args.types.now c.args.self.now _ c.in_ok-ticked.ticked c.in-Done.step c.in-Done.seen c.in-Done.answer _ c.in-Done.is refl (c.in_ok-closed-in-Done.ensures.closes c.if-closed.true))
-
-pub returns-in_err-closed-in-Done-clause-keeps : goal.returns-in_err-closed-in-Done-clause-keeps
-returns-in_err-closed-in-Done-clause-keeps c =
-    let p = err_from_is_err_and c.from_residual-in_err-closed-in-Done.result c.from_residual-in_err-closed-in-Done.ensures.1 in
-    rw (p.1, p.2)
-    (step_keeps _ _ _ _ c.args.self.now c.in_ok-ticked.ticked c.in-Done.step c.in-Done.seen c.in-Done.answer c.in-Done.is c.in_ok-ticked.ensures.stands c.in_err-closed-in-Done.ensures.keeps)
