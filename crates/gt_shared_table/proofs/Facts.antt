@@ -46,47 +46,24 @@ moved_out k s last x me out c frame e is =
 pub bytes_are : (x f : FrameState) (off n : ℕ) (out bs : List ℕ) → f ≡ x → out ≡ bs → bs ≡ bytes_at f off n → length bs ≡ n → out ≡ bytes_at x off (length out)
 bytes_are x f off n out bs same is read len = is ∙ (read ∙ (λ i. bytes_at (same i) off (sym (ap length is ∙ len) i)))
 
+-- the seat with this frame in the slot that it carries first
+abbrev pub with_frame : FrameSlot → FrameState → Me Cell FrameHolder → Me Cell FrameHolder
+with_frame s frame me = (me.0, (s.index, Some frame) ∷ rest me.1)
+
 -- a frame that is out may be given back by this access
-pub frees_out : (b : Places) (slots id : ℕ) (z : TableId) (s : FrameSlot) (last : Bool) (x frame : FrameState) (me m1 m2 : Me Cell FrameHolder) → IsSlotOf b z s → IsOut b.layout s last x me
-    → m1 ≡ (me.0, (s.index, None) ∷ rest me.1) → m2 ≡ (m1.0, (s.index, Some frame) ∷ rest m1.1) → (m : FrameStep) → frame ≡ record x { journal = journal_by m x.journal } → IsByHeld b me.0.held x m → me.0.own.gone ≡ false
-    → Allows (HoldsAll b) slots id m2 s.lock (λ _. 0) (λ _ m'. Frees b (name_of s) m (left_by last m2.0.held) m2 m')
-frees_out b slots id z s last x frame me m1 m2 of out e f m is by_held here =
-    let same : m2.0 ≡ me.0 = ap (λ (z : Me Cell FrameHolder). z.0) f ∙ ap (λ (z : Me Cell FrameHolder). z.0) e in
-    subst (λ (i : ℕ). Allows (HoldsAll b) slots id m2 i (λ _. 0) (λ _ m'. Frees b (name_of s) m (left_by last m2.0.held) m2 m')) (sym of.0)
-    (frees b slots id m2 s.index (name_of s) of.2 x (left_by last m2.0.held)
-    (subst (λ (v : FrameHolder). AreLeft s.index x v.held (left_by last v.held)) (sym same) out.left)
-    frame (rest m1.1) (ap (λ (z : Me Cell FrameHolder). z.1) f) m is
-    (subst (λ (v : FrameHolder). IsByHeld b v.held x m) (sym same) by_held)
-    (ap (λ (v : FrameHolder). v.own.gone) same ∙ here))
+pub frees_out : (b : Places) (slots id : ℕ) (z : TableId) (s : FrameSlot) (last : Bool) (x frame : FrameState) (me : Me Cell FrameHolder) → IsSlotOf b z s → IsOut b.layout s last x me
+    → (m : FrameStep) → frame ≡ record x { journal = journal_by m x.journal } → IsByHeld b me.0.held x m → me.0.own.gone ≡ false
+    → Allows (HoldsAll b) slots id (with_frame s frame me) s.lock (λ _. 0) (λ _ m'. Frees b (name_of s) m (left_by last me.0.held) (with_frame s frame me) m')
+frees_out b slots id z s last x frame me of out m is by_held here =
+    subst (λ (i : ℕ). Allows (HoldsAll b) slots id (with_frame s frame me) i (λ _. 0) (λ _ m'. Frees b (name_of s) m (left_by last me.0.held) (with_frame s frame me) m')) (sym of.0)
+    (frees b slots id (with_frame s frame me) s.index (name_of s) of.2 x (left_by last me.0.held) out.left frame (rest me.1) refl m is by_held here)
 
 -- or as it was taken
-pub returns_out : (b : Places) (slots id : ℕ) (z : TableId) (s : FrameSlot) (last : Bool) (x frame : FrameState) (me m1 m2 : Me Cell FrameHolder) → IsSlotOf b z s → IsOut b.layout s last x me
-    → m1 ≡ (me.0, (s.index, None) ∷ rest me.1) → m2 ≡ (m1.0, (s.index, Some frame) ∷ rest m1.1) → frame ≡ x
-    → Allows (HoldsAll b) slots id m2 s.lock (λ _. 0) (λ _ m'. Returns (left_by last m2.0.held) m2 m')
-returns_out b slots id z s last x frame me m1 m2 of out e f is =
-    let same : m2.0 ≡ me.0 = ap (λ (z : Me Cell FrameHolder). z.0) f ∙ ap (λ (z : Me Cell FrameHolder). z.0) e in
-    subst (λ (i : ℕ). Allows (HoldsAll b) slots id m2 i (λ _. 0) (λ _ m'. Returns (left_by last m2.0.held) m2 m')) (sym of.0)
-    (returns b slots id m2 s.index (name_of s) of.2 x (left_by last m2.0.held)
-    (subst (λ (v : FrameHolder). AreLeft s.index x v.held (left_by last v.held)) (sym same) out.left)
-    (rest m1.1) (ap (λ (z : Me Cell FrameHolder). z.1) f ∙ ap (λ (y : FrameState). (s.index, Some y) ∷ rest m1.1) is))
-
--- what a free tells of the seat before its frame was moved
-pub frees_before : (b : Places) (s : FrameSlot) (last : Bool) (m : FrameStep) (frame : FrameState) (me m1 m2 m' : Me Cell FrameHolder)
-    → m1 ≡ (me.0, (s.index, None) ∷ rest me.1) → m2 ≡ (m1.0, (s.index, Some frame) ∷ rest m1.1)
-    → Frees b (name_of s) m (left_by last m2.0.held) m2 m' → Frees b (name_of s) m (left_by last me.0.held) me m'
-frees_before b s last m frame me m1 m2 m' e f freed =
-    let same : m2.0 ≡ me.0 = ap (λ (z : Me Cell FrameHolder). z.0) f ∙ ap (λ (z : Me Cell FrameHolder). z.0) e in
-    let left : rest m2.1 ≡ rest me.1 = ap (λ (z : Me Cell FrameHolder). rest z.1) f ∙ ap (λ (z : Me Cell FrameHolder). rest z.1) e in
-    subst (λ (z : FrameHolder × List (ℕ × Cell)). Frees b (name_of s) m (left_by last z.0.held) (z.0, (0, None) ∷ z.1) m') (λ i. (same i, left i)) freed
-
--- the same of a return
-pub returns_before : (s : FrameSlot) (last : Bool) (frame : FrameState) (me m1 m2 m' : Me Cell FrameHolder)
-    → m1 ≡ (me.0, (s.index, None) ∷ rest me.1) → m2 ≡ (m1.0, (s.index, Some frame) ∷ rest m1.1)
-    → Returns (left_by last m2.0.held) m2 m' → Returns (left_by last me.0.held) me m'
-returns_before s last frame me m1 m2 m' e f back =
-    let same : m2.0 ≡ me.0 = ap (λ (z : Me Cell FrameHolder). z.0) f ∙ ap (λ (z : Me Cell FrameHolder). z.0) e in
-    let left : rest m2.1 ≡ rest me.1 = ap (λ (z : Me Cell FrameHolder). rest z.1) f ∙ ap (λ (z : Me Cell FrameHolder). rest z.1) e in
-    subst (λ (z : FrameHolder × List (ℕ × Cell)). Returns (left_by last z.0.held) (z.0, (0, None) ∷ z.1) m') (λ i. (same i, left i)) back
+pub returns_out : (b : Places) (slots id : ℕ) (z : TableId) (s : FrameSlot) (last : Bool) (x frame : FrameState) (me : Me Cell FrameHolder) → IsSlotOf b z s → IsOut b.layout s last x me → frame ≡ x
+    → Allows (HoldsAll b) slots id (with_frame s frame me) s.lock (λ _. 0) (λ _ m'. Returns (left_by last me.0.held) (with_frame s frame me) m')
+returns_out b slots id z s last x frame me of out is =
+    subst (λ (i : ℕ). Allows (HoldsAll b) slots id (with_frame s frame me) i (λ _. 0) (λ _ m'. Returns (left_by last me.0.held) (with_frame s frame me) m')) (sym of.0)
+    (returns b slots id (with_frame s frame me) s.index (name_of s) of.2 x (left_by last me.0.held) out.left (rest me.1) (ap (λ (y : FrameState). (s.index, Some y) ∷ rest me.1) is))
 
 -- a frame that was taken and freed by an access: the seat did nothing else
 pub accessed : (b : Places) (s : FrameSlot) (m : FrameStep) (me m1 m' : Me Cell FrameHolder) → Took b.layout s me m1 → Frees b (name_of s) m (left_by true m1.0.held) m1 m' → Accessed b.layout (name_of s) m me m'
@@ -130,17 +107,15 @@ pub is_right : (x frame : FrameState) (w : Writ) (off : ℕ) (ys : List ℕ) →
 is_right x frame w off ys is kept = last_right x.owner x.number x.journal (record { writ = w; off = off; bytes = ys }) (subst IsKept is kept)
 
 -- a copy within a frame that was just taken
-pub frees_within : (b : Places) (slots id : ℕ) (z : TableId) (s : FrameSlot) (me0 m0 m1 m2 : Me Cell FrameHolder) (t : Took b.layout s me0 m0) → IsSlotOf b z s → (x frame : FrameState) → IsOut b.layout s true x m0
-    → m1 ≡ (m0.0, (s.index, None) ∷ rest m0.1) → m2 ≡ (m1.0, (s.index, Some frame) ∷ rest m1.1) → (w : Writ) (off len to : ℕ) → length (contents x) ≡ FRAME_SIZE → off + len ≤ FRAME_SIZE
-    → frame ≡ record x { journal = recorded x.journal w to (bytes_at x off len) } → IsKept frame → m0.0.own.gone ≡ false
-    → Allows (HoldsAll b) slots id m2 s.lock (λ _. 0) (λ _ m'. Frees b (name_of s) (Copied s.owner s.number off (record { writ = w; off = to; bytes = bytes_at (held_first m2.0.held) off len })) (left_by true m2.0.held) m2 m')
-frees_within b slots id z s me0 m0 m1 m2 t of x frame out e f w off len to size inside is kept here =
-    let same : m2.0 ≡ m0.0 = ap (λ (z : Me Cell FrameHolder). z.0) f ∙ ap (λ (z : Me Cell FrameHolder). z.0) e in
-    let x_is : t.0 ≡ x = took_is b.layout s me0 m0 t x out.carried in
-    let held_is : m0.0.held ≡ (s.index, x) ∷ me0.0.held = ap (λ (z : Me Cell FrameHolder). z.0.held) t.1 ∙ ap (λ (y : FrameState). (s.index, y) ∷ me0.0.held) x_is in
-    let first : held_first m2.0.held ≡ x = ap (λ (v : FrameHolder). held_first v.held) same ∙ ap held_first held_is in
-    subst (λ (y : FrameState). Allows (HoldsAll b) slots id m2 s.lock (λ _. 0) (λ _ m'. Frees b (name_of s) (Copied s.owner s.number off (record { writ = w; off = to; bytes = bytes_at y off len })) (left_by true m2.0.held) m2 m')) (sym first)
-    (frees_out b slots id z s true x frame m0 m1 m2 of out e f (Copied s.owner s.number off (record { writ = w; off = to; bytes = bytes_at x off len })) is
+pub frees_within : (b : Places) (slots id : ℕ) (z : TableId) (s : FrameSlot) (me0 me : Me Cell FrameHolder) (t : Took b.layout s me0 me) → IsSlotOf b z s → (x frame : FrameState) → IsOut b.layout s true x me
+    → (w : Writ) (off len to : ℕ) → length (contents x) ≡ FRAME_SIZE → off + len ≤ FRAME_SIZE
+    → frame ≡ record x { journal = recorded x.journal w to (bytes_at x off len) } → IsKept frame → me.0.own.gone ≡ false
+    → Allows (HoldsAll b) slots id (with_frame s frame me) s.lock (λ _. 0) (λ _ m'. Frees b (name_of s) (Copied s.owner s.number off (record { writ = w; off = to; bytes = bytes_at (held_first me.0.held) off len })) (left_by true me.0.held) (with_frame s frame me) m')
+frees_within b slots id z s me0 me t of x frame out w off len to size inside is kept here =
+    let x_is : t.0 ≡ x = took_is b.layout s me0 me t x out.carried in
+    let held_is : me.0.held ≡ (s.index, x) ∷ me0.0.held = ap (λ (z : Me Cell FrameHolder). z.0.held) t.1 ∙ ap (λ (y : FrameState). (s.index, y) ∷ me0.0.held) x_is in
+    subst (λ (y : FrameState). Allows (HoldsAll b) slots id (with_frame s frame me) s.lock (λ _. 0) (λ _ m'. Frees b (name_of s) (Copied s.owner s.number off (record { writ = w; off = to; bytes = bytes_at y off len })) (left_by true me.0.held) (with_frame s frame me) m')) (sym (ap held_first held_is))
+    (frees_out b slots id z s true x frame me of out (Copied s.owner s.number off (record { writ = w; off = to; bytes = bytes_at x off len })) is
     ((s.index, x), subst (IsAmong (s.index, x)) (sym held_is) (inl refl), of.2, bytes_again x off len size inside, is_right x frame w to (bytes_at x off len) is kept) here)
 
 -- the one frame that a seat has may go back as it was taken

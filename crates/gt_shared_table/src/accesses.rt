@@ -1,4 +1,5 @@
-//! Accesses to frames. Each takes a frame out of its slot, works on it, puts it back and frees its lock.
+//! Accesses to frames. Each locks a frame, works on it in its slot and frees its lock. A copy takes its source out of
+//! its slot meanwhile.
 ghost use Rattle.std.specs.Prelude.{◌≡◌, ◌≢◌, ◌+◌, ◌≤◌, [], ◌∷◌, Bool, false, length, IfOk};
 ghost use Rattle.std.specs.Prelude.{IsTrue, OnOk, OnErr, Some, None};
 ghost use Rattle.atomic_table.specs.Table.{Allows, rest};
@@ -139,9 +140,10 @@ fn read_out(
     ensures filled { (out.new ≡ result.bytes) × (length result.bytes ≡ length out.old) }
     ensures receipt { IsReadIn (layout_of cells.now.key) (name_of slot) off result }
 {
-    let frame = take_out(cells, seat, slot, last);
-    let filled = frame.read_into(off, out);
-    let _ = cells.exchange(seat, slot.index, Some(frame));
+    let filled = match seat.slot_mut(cells, slot.index) {
+        Some(frame) => frame.read_into(off, out),
+        None => unreachable!(),
+    };
     free_read::<Brand>(cells, seat, slot, last, off, out);
     filled
 }
@@ -169,9 +171,10 @@ fn write_out<'a>(
     ensures receipt { IfOk result (λ r. r ≡ written_in (layout_of cells.now.key) (name_of slot) writ.now off bytes.now) }
     ensures refused { OnErr result (Returns (left_by last seat.old.me.0.held) seat.old.me seat.new.me) }
 {
-    let mut frame = take_out(cells, seat, slot, last);
-    let written = frame.write(writ, off, bytes);
-    let _ = cells.exchange(seat, slot.index, Some(frame));
+    let written = match seat.slot_mut(cells, slot.index) {
+        Some(frame) => frame.write(writ, off, bytes),
+        None => unreachable!(),
+    };
     match written {
         Ok(written) => {
             free_written::<Brand>(cells, seat, slot, last, writ, off, bytes);
@@ -217,9 +220,10 @@ fn copy_out(
     ensures refused { OnErr result (Returns (left_by last seat.old.me.0.held) seat.old.me seat.new.me) }
 {
     let _owner = from.owner();
-    let mut to = take_out(cells, seat, slot, last);
-    let copied = Frame::copy_between(from, &mut to, writ, range, to_off);
-    let _ = cells.exchange(seat, slot.index, Some(to));
+    let copied = match seat.slot_mut(cells, slot.index) {
+        Some(to) => Frame::copy_between(from, to, writ, range, to_off),
+        None => unreachable!(),
+    };
     match copied {
         Ok(copied) => {
             free_copied::<Brand>(cells, seat, slot, last, source, from, writ, range, to_off);
@@ -406,10 +410,13 @@ pub(crate) fn copy_within<R: Wait>(
     ensures refused { OnErr result (seat.new.me ≡ seat.old.me) }
 {
     lock(rt, cells, seat, slot);
-    let mut frame = take_out(cells, seat, slot, true);
-    let _owner = frame.owner();
-    let copied = frame.copy_within(writ, range, to_off);
-    let _ = cells.exchange(seat, slot.index, Some(frame));
+    let copied = match seat.slot_mut(cells, slot.index) {
+        Some(frame) => {
+            let _owner = frame.owner();
+            frame.copy_within(writ, range, to_off)
+        }
+        None => unreachable!(),
+    };
     match copied {
         Ok(copied) => {
             free_copied_within::<Brand>(cells, seat, slot, writ, range, to_off);

@@ -1,18 +1,17 @@
 use Rattle.gt_word_history.specs.declared.view.FrameStep.TheVariants.{Wrote}
 use Rattle.gt_shared_table.specs.Rule.{places_of}
-use Rattle.gt_shared_table.proofs.Facts.{frees_before, frees_out, is_right, returns_out}
+use Rattle.gt_shared_table.specs.Telling.{IsOut}
+use Rattle.gt_shared_table.proofs.Facts.{frees_out, is_right, moved_out, returns_out}
 use Rattle.gt_shared_table.proofs.accesses.write_out.Goals as goal
 
 pub free_written-requires-clause-allowed : goal.free_written-requires-clause-allowed
-free_written-requires-clause-allowed c = let t = c.take_out-frame in let z = c.args.cells.now.table_id in
-    frees_out (places_of c.args.cells.now.key) z.slots c.exchange.new.seat.id z c.args.slot c.args.last t.result c.write-written.new.self c.args.seat.now.me t.new.seat.me c.exchange.new.seat.me c.requires.slot t.ensures.out t.ensures.me c.exchange.ensures.3
+free_written-requires-clause-allowed c = let b = places_of c.args.cells.now.key in let z = c.args.cells.now.table_id in let me = c.args.seat.now.me in let x = c.in-Some.frame in
+    let out : IsOut b.layout c.args.slot c.args.last x me = moved_out b.layout c.args.slot c.args.last c.requires.out.0 me c.requires.out.1 c.slot_mut.result.now x c.slot_mut.ensures.value c.in-Some.is in
+    frees_out b z.slots c.args.seat.now.id z c.args.slot c.args.last x c.write-written.new.self me c.requires.slot out
     (Wrote (record { writ = c.args.writ.now; off = c.args.off; bytes = c.args.bytes.now })) c.in-Ok.ensures.written.journal
-    (is_right t.result c.write-written.new.self c.args.writ.now c.args.off c.args.bytes.now c.in-Ok.ensures.written.journal c.write-written.ensures.kept) c.requires.mine.1
+    (is_right x c.write-written.new.self c.args.writ.now c.args.off c.args.bytes.now c.in-Ok.ensures.written.journal c.write-written.ensures.kept) c.requires.mine.1
 
 pub return_as_taken-requires-clause-allowed : goal.return_as_taken-requires-clause-allowed
-return_as_taken-requires-clause-allowed c = let t = c.take_out-frame in let z = c.args.cells.now.table_id in
-    returns_out (places_of c.args.cells.now.key) z.slots c.exchange.new.seat.id z c.args.slot c.args.last t.result c.write-written.new.self c.args.seat.now.me t.new.seat.me c.exchange.new.seat.me c.requires.slot t.ensures.out t.ensures.me c.exchange.ensures.3 c.in-Err.ensures.refused
-
-pub returns-in-Ok-clause-wrote : goal.returns-in-Ok-clause-wrote
-returns-in-Ok-clause-wrote c = let t = c.take_out-frame in
-    frees_before (places_of c.args.cells.now.key) c.args.slot c.args.last (Wrote (record { writ = c.args.writ.now; off = c.args.off; bytes = c.args.bytes.now })) c.write-written.new.self c.args.seat.now.me t.new.seat.me c.exchange.new.seat.me c.free_written.new.seat.me t.ensures.me c.exchange.ensures.3 c.free_written.ensures.frees
+return_as_taken-requires-clause-allowed c = let b = places_of c.args.cells.now.key in let z = c.args.cells.now.table_id in let me = c.args.seat.now.me in let x = c.in-Some.frame in
+    let out : IsOut b.layout c.args.slot c.args.last x me = moved_out b.layout c.args.slot c.args.last c.requires.out.0 me c.requires.out.1 c.slot_mut.result.now x c.slot_mut.ensures.value c.in-Some.is in
+    returns_out b z.slots c.args.seat.now.id z c.args.slot c.args.last x c.write-written.new.self me c.requires.slot out c.in-Err.ensures.refused
