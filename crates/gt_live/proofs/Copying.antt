@@ -75,7 +75,7 @@ use Rattle.gt_calls.specs.Machine.{phase_after, where_via}
 use Rattle.gt_calls.specs.Path.{Continuation, dest_pair, end_leg, entry_refusal, held_of, path, place_of, rule_of_try}
 use Rattle.gt_calls.specs.Path.{second_leg, source_pair}
 use Rattle.gt_calls.specs.Resting.{HasRead, HasSeenTable, IsLegFor, IsForwarded, IsMapped, IsOnFrom, IsOfRun as IsNamed}
-use Rattle.gt_calls.specs.Resting.{Lets, Rests, RestsOnTry}
+use Rattle.gt_calls.specs.Resting.{GivesUp, Lets, Rests, RestsOnTry}
 use Rattle.gt_calls.specs.Rules.{CallerKnowledge, first_look, via_judged}
 use Rattle.gt_types.specs.Copies.{is_dest_granted}
 use Rattle.gt_live.specs.Driving.{CanMake, Knows}
@@ -272,7 +272,11 @@ module _ (c : CallerKnowledge) (k : Layout) (caller : DomId) (v : View) (knows :
       by (inr y) = (own-of-run k v caller d knows.named knows.inside y.0, in-own c k caller v knows q.0 y.1)
   can-walk request copies held steps (LookBody d q half) walk x all r other = (named-run c k caller v knows d r.1.0, in-seen-table k (path c caller request) v steps d q walk r.1.1)
   can-walk request copies held steps (Pin p) walk x all r other = let t = tries-pin request copies held steps p walk x all r.1 in (t.run, t.inside, t.can)
-  can-walk request copies held steps (Unpin p (ByHandle handle)) walk x all r other = absurd (subst (λ (y : OpenRequest). IsCopy y) r.1.0 copies)
+  can-walk request copies held steps (Unpin p (ByHandle handle)) walk x all r other = by r.1.0
+    where
+      by : GivesUp request handle → CanMake k (view_after steps v) (Unpin p (ByHandle handle))
+      by (inl y) = absurd (subst (λ (z : OpenRequest). IsCopy z) y copies)
+      by (inr y) = absurd (subst (λ (z : OpenRequest). IsCopy z) y copies)
   can-walk request copies held steps (Unpin p (ByLeg place)) walk x all r other =
       let w = view_after steps v in let x1 : HasTaken k (p ∷ r.1.others) v w = subst (λ (ps : List HeldPin). HasTaken k ps v w) r.1.held x in let a1 : AreOfRun k (p ∷ r.1.others) = subst (λ (ps : List HeldPin). AreOfRun k ps) r.1.held all in
       (a1.0.0, a1.0.1, holds-taken k (p ∷ r.1.others) v w p x1 (inl refl))

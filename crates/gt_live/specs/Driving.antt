@@ -10,7 +10,7 @@ use Rattle.gt_live.specs.Prelude.{path}
 use Rattle.gt_live.specs.Prelude.{Rests, CallerKnowledge, begun, IsAt, held_by_call, pins_by_call, Effect, Pinned}
 use Rattle.gt_live.specs.Prelude.{Unpinned, Changed, Stored}
 use Rattle.gt_words.specs.Answers.{Pins}
-use Rattle.gt_calls.specs.declared.request.OpenRequest.TheVariants as asks
+use Rattle.gt_calls.specs.Resting.{GivesUp}
 use Rattle.gt_live.specs.declared.driving.Effect.TheVariants.{Nothing}
 use Rattle.gt_live.specs.Walks.{IsWalk, TellsSteps, view_after, all_shown}
 use Rattle.gt_live.specs.Effects.{Answers}
@@ -75,7 +75,7 @@ pub record ChangesBy (c : CallerKnowledge) (k : Layout) (request : OpenRequest) 
 
 -- the pin of the mapping under this handle was released, as asked
 pub record UnpinsBy (c : CallerKnowledge) (k : Layout) (request : OpenRequest) (handle : Handle) (v w : View) : Type 0 where
-  pub asked : request ≡ asks.Unmap handle
+  pub asked : GivesUp request handle
   pub mapping : HeldPin
   pub found : c.mapping handle ≡ Some mapping
   pub before : View
