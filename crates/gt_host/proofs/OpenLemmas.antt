@@ -123,6 +123,7 @@ few_steps (asks.Demote gref) = omega arith
 few_steps (asks.Promote gref) = omega arith
 few_steps (asks.Map dom gref flags) = omega arith
 few_steps (asks.Unmap handle) = omega arith
+few_steps (asks.Release handle) = omega arith
 few_steps (asks.Load handle off len) = omega arith
 few_steps (asks.Store handle off len) = omega arith
 few_steps (asks.Peek frame off len) = omega arith

@@ -48,6 +48,7 @@ fn hypercall_of_request<P: Allows>(
         | Request::Withdraw { .. }
         | Request::Demote { .. }
         | Request::Promote { .. }
+        | Request::Release { .. }
         | Request::Load { .. }
         | Request::Store { .. }
         | Request::Peek { .. }

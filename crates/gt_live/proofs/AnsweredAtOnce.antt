@@ -122,6 +122,7 @@ module _ (k : CallerKnowledge) (caller : DomId) where
   once (requests.Unmap handle) w =
       let r = asks.Unmap handle in let a = is_none (k.mapping handle) in let o = unmap_denied k caller (k.mapping handle) in
       first-of r (refused_when a N6 ∷ o ∷ []) (refused-may r a N6, (once-unmap r (k.mapping handle), tt))
+  once (requests.Release handle) w = refused-may (asks.Release handle) (is_none (k.mapping handle)) N6
   once (requests.SetVersion version) w =
       let r = asks.SetVersion version in let a = not (is_version version) in let b = version == k.header.version in let f = has_valid k.entry (size_of k.header) in
       first-of r (refused_when a N2 ∷ granted_when b ∷ refused_when f N24 ∷ []) (refused-may r a N2, (granted-may r tt b, (refused-may r f N24, tt)))
@@ -171,6 +172,9 @@ module _ (k : CallerKnowledge) (caller : DomId) where
       by (asks.Unmap handle) Granted is at = absurd at
       by (asks.Unmap handle) (Given value) is at = absurd at
       by (asks.Unmap handle) (Mapped p) is at = absurd at
+      by (asks.Release handle) Granted is at = absurd at
+      by (asks.Release handle) (Given value) is at = absurd at
+      by (asks.Release handle) (Mapped p) is at = absurd at
       by _ _ is at = absurd is
 
   once-own : (r : OpenRequest) (frame off len : ℕ) → MayBe r (own_access_begun k.domains caller frame off len)

@@ -384,6 +384,13 @@ module _ (caller : DomId) where
         ok (Refused d) h = tt
         ok (Mapped p) h = absurd h
         ok (Given x) h = absurd h
+    steps-sound (asks.Release handle) w = let s = unmaps-sound k (k.mapping handle) handle in record { ends = s.ends; answers = λ vs v e. ok v (s.answers vs v e) }
+      where
+        ok : (v : CallResult) → OkOrRefused v → IsAnswerTo (asks.Release handle) v
+        ok Granted h = tt
+        ok (Refused d) h = tt
+        ok (Mapped p) h = absurd h
+        ok (Given x) h = absurd h
     steps-sound (asks.Map dom gref flags) w = let s = leg-sound (map_leg k caller dom gref flags) in record { ends = s.ends; answers = λ vs v e. ok v (s.answers vs v e) }
       where
         ok : (v : CallResult) → MapAnswer v → IsAnswerTo (asks.Map dom gref flags) v

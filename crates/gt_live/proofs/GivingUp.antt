@@ -569,6 +569,7 @@ module _ (k : Layout) (p : ℕ) where
     found c caller (asks.Promote gref) stands ys e = inr (gref, turns-found caller gref stands ToWritable MORE_TRIES ys e)
     found c caller (asks.Map dom gref flags) stands ys e = inl (map-found c caller dom gref flags ys e)
     found c caller (asks.Unmap handle) stands ys e = absurd (never-mapping (c.mapping handle) _ ys e.1)
+    found c caller (asks.Release handle) stands ys e = absurd (never-mapping (c.mapping handle) _ ys e.1)
     found c caller (asks.Load handle off len) stands ys e = absurd (never-mapping (c.mapping handle) _ ys e.1)
     found c caller (asks.Store handle off len) stands ys e = absurd (never-mapping (c.mapping handle) _ ys e.1)
     found c caller (asks.Peek frame off len) stands ys e = absurd (never-makes _ _ (never-ended Granted granted-never) ys e.1)

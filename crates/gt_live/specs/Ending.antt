@@ -38,6 +38,7 @@ IsAnswerTo (asks.Withdraw gref) Granted = Unit {0}
 IsAnswerTo (asks.Demote gref) Granted = Unit {0}
 IsAnswerTo (asks.Promote gref) Granted = Unit {0}
 IsAnswerTo (asks.Unmap handle) Granted = Unit {0}
+IsAnswerTo (asks.Release handle) Granted = Unit {0}
 IsAnswerTo (asks.SetVersion version) Granted = Unit {0}
 IsAnswerTo request verdict = ⊥
 
@@ -46,10 +47,11 @@ abbrev pub IsMap : OpenRequest → Type 0
 IsMap (asks.Map dom gref flags) = Unit {0}
 IsMap request = ⊥
 
--- the request maps or unmaps
+-- the request makes or drops a mapping
 abbrev pub IsOfMapping : OpenRequest → Type 0
 IsOfMapping (asks.Map dom gref flags) = Unit {0}
 IsOfMapping (asks.Unmap handle) = Unit {0}
+IsOfMapping (asks.Release handle) = Unit {0}
 IsOfMapping request = ⊥
 
 -- the request changes one of the caller's entries

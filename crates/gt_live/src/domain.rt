@@ -370,7 +370,7 @@ impl Domain {
     }
 
     // Releases the pin of each mapping.
-    fn release<P: Allows>(&mut self, monitor: &Monitor<P>)
+    fn release_all<P: Allows>(&mut self, monitor: &Monitor<P>)
         requires mine { BelongsTo P.may monitor.now self.old }
         ensures mine { BelongsTo P.may monitor.now self.new }
         ensures seat { IsSameSeat self.old.seat self.new.seat }
@@ -390,7 +390,7 @@ impl Domain {
         ensures left { HasLeft monitor.now.words.layout self result }
         ensures seat { IsSeatOf monitor.now.words result.seat }
     {
-        self.release(monitor);
+        self.release_all(monitor);
         let Domain {
             alloc: _,
             seat,

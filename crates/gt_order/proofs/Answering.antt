@@ -27,7 +27,7 @@ use Rattle.gt_live.specs.Domains.{verdict_of_frames, verdict_of_size, verdict_of
 use Rattle.gt_live.specs.Ending.{IsOfMapping}
 use Rattle.gt_live.specs.declared.domain.Domain.{Domain}
 use Rattle.gt_live.specs.declared.monitor.Monitor.{Monitor}
-use Rattle.gt_order.proofs.Called.{map-made, plain-made, unmap-made}
+use Rattle.gt_order.proofs.Called.{map-made, plain-made, release-made, unmap-made}
 use Rattle.gt_order.proofs.Accessing.{copies-made, lost-made, reads-made, writes-made}
 use Rattle.gt_order.specs.Calling.{IsLoading, IsOutcomeOf, IsSingle, IsStoring, StaysOf, WasMade}
 use Rattle.gt_order.specs.Runs.{FitsTypes, KeepsNoPin}
@@ -186,6 +186,7 @@ module _ {P : Type 0} (may : P → AllowRelation) (m : Monitor P) where
     is-made (requests.Map dom gref flags) answer quiet fits x = let z = map-made may m d e dom gref flags x.0 stays x.2 in
         (z.0, z.2.0, subst (OutcomeGivesAnswer m z.0) (sym x.1) (map-same m x.0 z.0 z.1), z.2.1, map-only dom gref flags z.0)
     is-made (requests.Unmap handle) answer quiet fits x = let z = unmap-made may m d e handle x.0 stays x.2 x.3 x.4 in (Told (verdict_of x.0), z.0, x.1 ∙ plain-same x.0, z.1, tt)
+    is-made (requests.Release handle) answer quiet fits x = let z = release-made may m d e handle x.0 stays x.2 x.3 x.4 in (Told (verdict_of x.0), z.0, x.1 ∙ plain-same x.0, z.1, tt)
     is-made (requests.SetVersion version) answer quiet fits x = plain (requests.SetVersion version) (verdict_of x.0) (plain_answer x.0) answer (λ q. q) fits (plain-pin x.0) (plain-same x.0) x.1 x.2.0 x.2.1
     is-made (requests.SetupTable frames) answer quiet fits x = plain (requests.SetupTable frames) (verdict_of_frames x.0) (frames_answer x.0) answer (λ q. q) fits (frames-pin x.0) (frames-same x.0) x.1 x.2.0 x.2.1
     is-made (requests.QuerySize dom) answer quiet fits x = plain (requests.QuerySize dom) (verdict_of_size x.0) (size_answer x.0) answer (λ q. q) fits (size-pin x.0) (size-same x.0) x.1 x.2.0 x.2.1

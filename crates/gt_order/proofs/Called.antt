@@ -6,17 +6,18 @@ use Rattle.gt_calls.specs.declared.action.CallResult.{CallResult}
 use Rattle.gt_calls.specs.declared.action.CallResult.TheVariants.{Refused}
 use Rattle.gt_calls.specs.declared.held.HeldPin.{HeldPin}
 use Rattle.gt_calls.specs.declared.request.OpenRequest.{OpenRequest}
-use Rattle.gt_calls.specs.declared.request.OpenRequest.TheVariants.{Unmap}
+use Rattle.gt_calls.specs.declared.request.OpenRequest.TheVariants.{Release, Unmap}
 use Rattle.gt_live.specs.Domains.{AllowRelation}
 use Rattle.gt_live.specs.Ending.{IsOfMapping}
 use Rattle.gt_live.specs.Mappings.{KeepsMappings}
 use Rattle.gt_live.specs.declared.monitor.Monitor.{Monitor}
-use Rattle.gt_order.specs.Calling.{MapsAreMade, PlainCallsAreMade, UnmapsAreMade}
+use Rattle.gt_order.specs.Calling.{MapsAreMade, PlainCallsAreMade, ReleasesAreMade, UnmapsAreMade}
 use Rattle.gt_order.specs.Runs.{LeavesMappings}
 use Rattle.gt_order.specs.Runs.CallOutcome.{Told, Kept, Starved}
 
 pub leaves : (request : OpenRequest) (verdict : CallResult) (old new : HandleMap HeldPin) → (IsOfMapping request → ⊥) → KeepsMappings old new → LeavesMappings request verdict old new
 leaves (Unmap handle) verdict old new n k = absurd (n tt)
+leaves (Release handle) verdict old new n k = absurd (n tt)
 leaves request verdict old new n k = k
 
 pub plain-made : {P : Type 0} (may : P → AllowRelation) (m : Monitor P) → PlainCallsAreMade may m
@@ -43,6 +44,28 @@ unmap-made may m d e handle (Ok tt) stays answered removed refused = (
   },
 )
 unmap-made may m d e handle (Err denial) stays answered removed refused = (
+  answered.steps,
+  record {
+    before = stays.before;
+    afterwards = stays.afterwards;
+    seat = stays.seat;
+    fits = (tt, tt);
+    answered = (tt, (answered, refl), refused.0);
+  },
+)
+
+pub release-made : {P : Type 0} (may : P → AllowRelation) (m : Monitor P) → ReleasesAreMade may m
+release-made may m d e handle (Ok tt) stays answered removed refused = (
+  answered.steps,
+  record {
+    before = stays.before;
+    afterwards = stays.afterwards;
+    seat = stays.seat;
+    fits = (tt, tt);
+    answered = (tt, (answered, refl), removed);
+  },
+)
+release-made may m d e handle (Err denial) stays answered removed refused = (
   answered.steps,
   record {
     before = stays.before;

@@ -42,7 +42,7 @@ use Rattle.gt_calls.specs.declared.action.CallResult.{CallResult}
 use Rattle.gt_calls.specs.declared.action.CallResult.TheVariants.{Mapped as KeptPin, Refused}
 use Rattle.gt_calls.specs.declared.held.HeldPin.{HeldPin}
 use Rattle.gt_calls.specs.declared.request.OpenRequest.{OpenRequest}
-use Rattle.gt_calls.specs.declared.request.OpenRequest.TheVariants.{Map, Unmap}
+use Rattle.gt_calls.specs.declared.request.OpenRequest.TheVariants.{Map, Release, Unmap}
 use Rattle.gt_calls.specs.declared.request.Request.{Request}
 use Rattle.gt_core.proofs.Beginning.{plain-unmapped}
 use Rattle.gt_core.proofs.AgreementKept.{open_call-own}
@@ -129,11 +129,13 @@ map-refuses k d dom flags = map-list (is_none (domain_of k.domains (resolved d d
 -- by what a request asks
 abbrev pub RefusesOnly : OpenRequest → Option CallResult → Type 0
 RefusesOnly (Unmap handle) o = Refuses o
+RefusesOnly (Release handle) o = Refuses o
 RefusesOnly (Map dom gref flags) o = Refuses o
 RefusesOnly request o = Unit {0}
 
 begun-refuses : (k : CallerKnowledge) (d : DomId) (r : OpenRequest) → RefusesOnly r (begun k d r)
 begun-refuses k d (Unmap handle) = unmap-refuses k d handle
+begun-refuses k d (Release handle) = refused-when (is_none (k.mapping handle)) N6
 begun-refuses k d (Map dom gref flags) = map-refuses k d dom flags
 begun-refuses k d r = tt
 
@@ -165,6 +167,8 @@ answered-at-once k d request v said e = by (begun_of k d request) refl
 pub keeps-at-once : (request : OpenRequest) (v : CallResult) (old new : HandleMap HeldPin) → RefusesOnly request (Some v) → LeavesMappings request v old new → KeepsMappings old new
 keeps-at-once (Unmap handle) (Refused denial) old new r l = l
 keeps-at-once (Unmap handle) v old new r l = absurd r
+keeps-at-once (Release handle) (Refused denial) old new r l = l
+keeps-at-once (Release handle) v old new r l = absurd r
 keeps-at-once request v old new r l = l
 
 pub no-pin-at-once : (request : OpenRequest) (p : HeldPin) → IsMap request → RefusesOnly request (Some (KeptPin p)) → ⊥

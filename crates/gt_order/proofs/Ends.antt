@@ -9,7 +9,7 @@ use Rattle.gt_calls.specs.declared.held.CallPins.{CallPins}
 use Rattle.gt_core.proofs.Words.{◌≡◌, ◌≢◌, ◌+◌, inl, inr, ℕ, refl, Bool, true, false, cond, ◌==◌, List, [], ◌∷◌, ◌++◌}
 use Rattle.gt_core.proofs.Words.{Option, Some, None, sym, ap, ◌∙◌, subst, reverse, same_Some, none-some, arith}
 use Rattle.gt_core.proofs.Words.{eqb-true, fun_ext, All, DomId, domain_of, HeldPin, Handle, HandleMap, ByMapping, ByLeg}
-use Rattle.gt_core.proofs.Words.{value_of, count_of, OpenRequest, Unmap, Observation, Nothing, Word, Taken, Missed, Step, LookHeader}
+use Rattle.gt_core.proofs.Words.{value_of, count_of, OpenRequest, Unmap, Release, Observation, Nothing, Word, Taken, Missed, Step, LookHeader}
 use Rattle.gt_core.proofs.Words.{LookControl, LookBody, PinStep, Unpin, StoreBody, StoreHeader, Exchange, ReadBytes}
 use Rattle.gt_core.proofs.Words.{WriteBytes, CopyBytes, CallResult, Granted, Given, KeptPin, Refused, Makes, Done, Phase}
 use Rattle.gt_core.proofs.Words.{Ending, path, known_at, action_at, Setting, Underway, values, open_call, CallAgrees}
@@ -20,6 +20,7 @@ use Rattle.gt_core.proofs.Words.{HandleSlot}
 use Rattle.gt_core.proofs.Words.{after_beginning, same_handle, Denial, holder_after, FitsNext, eq-eqb, State}
 use Rattle.gt_calls.specs.declared.action.CallValue.TheVariants.{Frames, Size as SizeTold, Version as VersionTold}
 use Rattle.gt_calls.specs.declared.action.Action.{Action}
+use Rattle.gt_calls.specs.Resting.{GivesUp}
 use Rattle.gt_calls.specs.Rules.{begun}
 use Rattle.gt_calls.specs.Path.{by_mapping as by_handle}
 use Rattle.gt_calls.proofs.Advancing.{leads-here, stands-on}
@@ -205,13 +206,15 @@ unmaps-by None (Some m) handle (Word w ∷ vs) step e = absurd (cc)
 unmaps-by None (Some m) handle (Taken ∷ vs) step e = absurd (cc)
 unmaps-by None (Some m) handle (Missed w ∷ vs) step e = absurd (cc)
 
--- no unmap
+-- neither an unmap nor a release
 abbrev IsOther : OpenRequest → Type 0
 IsOther (Unmap handle) = ⊥
+IsOther (Release handle) = ⊥
 IsOther request = Unit {0}
 
 keeps-others : (request : OpenRequest) (verdict : CallResult) (old new : HandleMap HeldPin) → IsOther request → LeavesMappings request verdict old new → KeepsMappings old new
 keeps-others (Unmap handle) verdict old new o l = absurd o
+keeps-others (Release handle) verdict old new o l = absurd o
 keeps-others request verdict old new o l = l
 
 module _ (s : Setting) (g : Items) (d : DomId) (cl : Underway) (vs : List Observation) (seen : Observation) (verdict : CallResult) (old new : HandleMap HeldPin) (call : open_call g d.0 ≡ Some cl)
@@ -219,7 +222,7 @@ module _ (s : Setting) (g : Items) (d : DomId) (cl : Underway) (vs : List Observ
   abbrev item : Step → Item
   item step = stepped d step seen (Some (answer_of verdict))
 
-  -- the mappings are the same, and the call was no unmap
+  -- the mappings are the same, and the call was neither an unmap nor a release
   as-it-was : (step : Step) → path (known_at s g d) d cl.request vs ≡ Some (Makes step) → ((p : HeldPin) (handle : Handle) → step ≡ Unpin p (ByMapping handle) → ⊥) → mappings_at (item step ∷ g) d.0 ≡ mappings_at g d.0
       → MappingsAgree new (mappings_at (item step ∷ g) d.0) (maps_answered_at (item step ∷ g) d.0)
   as-it-was step next not same =
@@ -227,11 +230,12 @@ module _ (s : Setting) (g : Items) (d : DomId) (cl : Underway) (vs : List Observ
     where
       other : (request : OpenRequest) → path (known_at s g d) d request vs ≡ Some (Makes step) → IsOther request
       other (Unmap handle) e = let u = unmaps-by (begun (known_at s g d) d (Unmap handle)) (mapping_of (mappings_at g d.0) handle) handle vs step e in absurd (not u.0 handle u.1)
+      other (Release handle) e = let u = unmaps-by (begun (known_at s g d) d (Release handle)) (mapping_of (mappings_at g d.0) handle) handle vs step e in absurd (not u.0 handle u.1)
       other request e = tt
 
-  gone : (p : HeldPin) (handle : Handle) → cl.request ≡ Unmap handle → mapping_of (mappings_at g d.0) handle ≡ Some p → IsRight s g (item (Unpin p (ByMapping handle)))
+  gone : (p : HeldPin) (handle : Handle) → GivesUp cl.request handle → mapping_of (mappings_at g d.0) handle ≡ Some p → IsRight s g (item (Unpin p (ByMapping handle)))
       → MappingsAgree new (mappings_at (item (Unpin p (ByMapping handle)) ∷ g) d.0) (maps_answered_at (item (Unpin p (ByMapping handle)) ∷ g) d.0)
-  gone p handle is found right = by verdict (subst (λ (z : OpenRequest). LeavesMappings z verdict old new) is leaves) right
+  gone p handle is found right = by verdict (dropped is verdict leaves) right
       (mapping-agrees g d p handle seen (Some (answer_of verdict)) old (plain-unmapped verdict) found a)
     where
       has : value_of old handle ≡ Some p
@@ -240,6 +244,14 @@ module _ (s : Setting) (g : Items) (d : DomId) (cl : Underway) (vs : List Observ
       refused : (denial : Denial) → IsRight s g (stepped d (Unpin p (ByMapping handle)) seen (Some (Denied denial))) → ⊥
       refused denial ok = let r : StepsRightIn s g (stepped d (Unpin p (ByMapping handle)) seen (Some (Denied denial))) (Unpin p (ByMapping handle)) seen (Some cl) = subst (StepsRightIn s g (stepped d (Unpin p (ByMapping handle)) seen (Some (Denied denial))) (Unpin p (ByMapping handle)) seen) call ok in
           last-leaves cl.steps (Unpin p (ByMapping handle), seen) (r.left (λ e. none-some denial (sym e))).0
+
+      dropped : GivesUp cl.request handle → (v : CallResult) → LeavesMappings cl.request v old new → LeavesMappings (Unmap handle) v old new
+      dropped (inl is) v l = subst (λ (z : OpenRequest). LeavesMappings z v old new) is l
+      dropped (inr is) v l = as-unmap v (subst (λ (z : OpenRequest). LeavesMappings z v old new) is l)
+        where
+          as-unmap : (u : CallResult) → LeavesMappings (Release handle) u old new → LeavesMappings (Unmap handle) u old new
+          as-unmap (Refused denial) k = k
+          as-unmap u k = k
 
       by : (v : CallResult) → LeavesMappings (Unmap handle) v old new → IsRight s g (stepped d (Unpin p (ByMapping handle)) seen (Some (answer_of v)))
           → MappingsAgree (handle_taken handle old) (mappings_at (stepped d (Unpin p (ByMapping handle)) seen (Some (answer_of v)) ∷ g) d.0) (maps_answered_at (stepped d (Unpin p (ByMapping handle)) seen (Some (answer_of v)) ∷ g) d.0)

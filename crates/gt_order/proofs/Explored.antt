@@ -5,6 +5,7 @@ use Rattle.std.proofs.Common.{◌∙◌, subst, arith, inl, inr, ⊎_elim}
 use Rattle.gt_types.specs.Denial.{denial_of}
 use Rattle.gt_types.specs.declared.denial.Facts.TheVariants.{None as NoFacts}
 use Rattle.gt_types.specs.declared.denial.Rule.TheVariants.{N16, N26}
+use Rattle.std.specs.List.{flat_map}
 use Rattle.std.specs.Prelude.{is_some}
 use Rattle.std.proofs.lemmas.List.{get_or-map, length-map}
 use Rattle.std.proofs.lemmas.List.Elements.{All-get_or, All-head, All-tail, All-weaker}
@@ -14,12 +15,14 @@ use Rattle.gt_types.specs.declared.config.DomainConfig.{DomainConfig}
 use Rattle.gt_core.specs.Acting.{setting_of}
 use Rattle.gt_core.specs.History.{Setting}
 use Rattle.gt_core.specs.Legal.{Legal}
+use Rattle.gt_core.specs.declared.trace.Answer.{Answer}
 use Rattle.gt_core.specs.declared.trace.Answer.TheVariants as answers
 use Rattle.gt_types.specs.declared.denial.Denial.{Denial}
 use Rattle.gt_script.specs.declared.tasks.RunActionBy.TheVariants.{Do}
 use Rattle.gt_script_lines.specs.declared.calls.ScriptCall.{ScriptCall}
 use Rattle.gt_script_lines.specs.declared.calls.ScriptCall.TheVariants as calls
 use Rattle.gt_host.specs.Playing.{setting_of_script}
+use Rattle.gt_host.specs.Printing.{answer_line}
 use Rattle.gt_host.specs.Rights.{may_by}
 use Rattle.gt_host.specs.declared.rights.ScriptPolicy.{ScriptPolicy as ScriptRights}
 use Rattle.gt_script.specs.Contents.{type_names}
@@ -30,17 +33,19 @@ use Rattle.gt_script.specs.RunContents.{RunContents}
 use Rattle.gt_script.specs.RunScripts.{list_of}
 use Rattle.gt_explore_replay.specs.Orders.{AllFollow, FollowsList, Happening, MayGive, doer, events_in, own_happenings, trace_in}
 use Rattle.gt_live.specs.declared.monitor.Monitor.{Monitor}
-use Rattle.gt_run.specs.Printing.{AreDuties, AreServed, Served, ShowOneState, duties_in, texts_in}
+use Rattle.gt_run.specs.Printing.{AreDuties, AreServed, Served, ShowOneState, WasServed, duties_in, texts_in}
 use Rattle.gt_run.specs.Runs.{AreOf, IsOver}
 use Rattle.gt_run.specs.declared.lists.DomainPart.{DomainPart}
 use Rattle.gt_run.specs.declared.lists.ThreadJob.{ThreadJob}
 use Rattle.gt_order.proofs.Happenings.{events-are, happenings, order-known, order-raised, own-are, trace-is}
 use Rattle.gt_order.proofs.Listed.{AreFlagsOf, FollowsAll, HasStarved, IsStopped, follows-all}
-use Rattle.gt_order.proofs.Served.{Serves, follows-list, prints-list}
-use Rattle.gt_order.specs.Explored.{EndsAtNoGate, HasNoneLost, RunsAreExplored}
+use Rattle.gt_run.specs.Serving.{ListOutcome, answer_lines}
+use Rattle.gt_order.proofs.Served.{Serves, end-part, follows-list, part-in, prints-list, start-part}
+use Rattle.gt_order.specs.Explored.{EndsAtNoGate, HasNoneLost, IsStarved, RunsAreExplored}
 use Rattle.gt_order.specs.Ordering.{events_of, items_in, own_in}
-use Rattle.gt_order.specs.Printed.{AllPrint, CopiesGetMemory, MayPrint, PrintsList, RunsArePrinted}
-use Rattle.gt_order.specs.Texts.{HasAllFrames, HasWholeCopies, IsMadeWhole, MayLeave}
+use Rattle.gt_order.specs.Printed.{AllPrint, CopiesGetMemory, HasPart, MayPrint, PrintsList, RunsArePrinted, no_memory}
+use Rattle.gt_order.specs.Running.{CopiesHaveMemory}
+use Rattle.gt_order.specs.Texts.{HasAllFrames, HasWholeCopies, IsMadeWhole}
 
 -- each domain follows its list
 all-follow : (c : RunContents) (hs : List Happening) (ds : List DomainConfig) (all : List (Served ScriptRights)) → length ds ≡ length all
@@ -77,8 +82,18 @@ all-among Is [] all x is = absurd is
 all-among Is (y ∷ ys) all x (inl e) = subst Is (sym e) (All-head Is y ys all)
 all-among Is (y ∷ ys) all x (inr is) = all-among Is ys (All-tail Is y ys all) x is
 
-module _ (c : RunContents) (logged : Bool) (x : Served ScriptRights) (xs : List (Served ScriptRights)) (of : AreOf c logged (duties_in (x ∷ xs)))
-    (are : AreServed may_by (x ∷ xs)) (one : ShowOneState (x ∷ xs)) (leave : All (MayLeave may_by of.monitor) (x ∷ xs)) (gets : All CopiesGetMemory (x ∷ xs)) where
+among-get : {A : Type 0} (xs : List A) (i : ℕ) (d : A) → i < length xs → IsAmong (get_or xs i d) xs
+among-get [] i d l = absurd (omega (arith, l))
+among-get (x ∷ xs) zero d l = inl refl
+among-get (x ∷ xs) (suc i) d l = inr (among-get xs i d (omega (arith, l)))
+
+-- what one of the elements gives is in what all give
+flat-part : {A : Type 0} (f : A → List ℕ) (xs : List A) (x : A) → IsAmong x xs → HasPart (f x) (flat_map f xs)
+flat-part f [] x is = absurd is
+flat-part f (y ∷ ys) x (inl e) = subst (λ z. HasPart (f z) (flat_map f (y ∷ ys))) (sym e) ([], flat_map f ys, refl)
+flat-part f (y ∷ ys) x (inr is) = end-part (f x) (flat_map f ys) (flat_map f (y ∷ ys)) (f y, refl) (flat-part f ys x is)
+
+module _ (c : RunContents) (logged : Bool) (x : Served ScriptRights) (xs : List (Served ScriptRights)) (of : AreOf c logged (duties_in (x ∷ xs))) where
   abbrev m : Monitor ScriptRights
   m = of.monitor
 
@@ -133,60 +148,81 @@ module _ (c : RunContents) (logged : Bool) (x : Served ScriptRights) (xs : List 
       others (y ∷ ys) zero l = refl
       others (y ∷ ys) (suc n) l = others ys n (omega (arith, l))
 
-  copies : All HasWholeCopies (x ∷ xs)
-  copies i s l =
-      let inside : i < length (duties_in (x ∷ xs)) = let e = length-map (x ∷ xs) (λ (t : Served ScriptRights). t.duty) in omega (arith, l, e) in
-      let here : (get_or (x ∷ xs) i s).duty.monitor.now ≡ m = subst (λ (d : ThreadJob ScriptRights). d.monitor.now ≡ m) (get_or-map (λ (t : Served ScriptRights). t.duty) (x ∷ xs) i s s.duty l)
-      (All-get_or (λ (d : ThreadJob ScriptRights). d.monitor.now ≡ m) (duties_in (x ∷ xs)) i s.duty inside on) in
-      copies-whole (get_or (x ∷ xs) i s) (subst (λ (n : Monitor ScriptRights). HasAllFrames n) (sym here) of.frames) (gets i s l)
+  -- a line of the text shows each call of a list that got no memory
+  starved-shows : (i : ℕ) → i < length (x ∷ xs) → AreServed may_by (x ∷ xs) → (o : ListOutcome) → IsAmong o (lists i).outcomes → IsStarved o
+      → HasPart (answer_line (type_names c.head) o.line (lists i).duty.part.dom no_memory) (texts_in (x ∷ xs))
+  starved-shows i l are o among starved =
+      let was = All-get_or (WasServed may_by) (x ∷ xs) i x l are in
+      let names = (lists i).duty.part.types.now in let dom = (lists i).duty.part.dom in
+      let line : HasPart (answer_line names o.line dom o.answer) (answer_lines names dom (lists i).outcomes) = flat-part (λ (z : ListOutcome). answer_line names z.line dom z.answer) (lists i).outcomes o among in
+      let mine : HasPart (answer_line names o.line dom o.answer) (lists i).text = start-part (answer_line names o.line dom o.answer) (answer_lines names dom (lists i).outcomes) was.last (lists i).text was.prints line in
+      let whole : HasPart (answer_line names o.line dom o.answer) (texts_in (x ∷ xs)) = part-in (answer_line names o.line dom o.answer) (lists i).text (texts_in (x ∷ xs)) mine (flat-part (λ (s : Served ScriptRights). s.text) (x ∷ xs) (lists i) (among-get (x ∷ xs) i x l)) in
+      subst (λ (a : Answer). HasPart (answer_line (type_names c.head) o.line dom a) (texts_in (x ∷ xs))) starved
+      (subst (λ (ts : List (List ℕ)). HasPart (answer_line ts o.line dom o.answer) (texts_in (x ∷ xs))) (over-at i l).1 whole)
 
-  all : FollowsAll may_by m x xs on ids are one leave copies
-  all = follows-all may_by m x xs on ids are one leave copies of.limits
-
-  numbered : AreFlagsOf m c.tasks
-  numbered task is = all-among (λ (t : RunTask). IsBelow m.words.flags t.deed) c.tasks of.flags task is
-
-  order-legal : Legal (setting_of_script c.head) (events_in (happenings all.order)) (trace_in (happenings all.order))
-  order-legal = subst (λ (s : Setting). Legal s (events_in (happenings all.order)) (trace_in (happenings all.order))) setting-is
-      (subst (λ es. Legal (setting_of m.config (may_by m.rights)) es (trace_in (happenings all.order))) (sym (events-are all.order))
-      (subst (λ ts. Legal (setting_of m.config (may_by m.rights)) (events_of (items_in all.order)) ts) (sym (trace-is all.order)) all.legal))
-
-  all-known : All (λ y. domain_of c.head.domains (doer y) ≢ None) (happenings all.order)
-  all-known = subst (λ (ds : List DomainConfig). All (λ y. domain_of ds (doer y) ≢ None) (happenings all.order)) of.domains (order-known m.config (may_by m.rights) all.order all.flags all.legal)
-
-  -- the list of the domain at a position
-  serves-at : (i : ℕ) (d : DomainConfig) → i < length c.head.domains
-      → Serves (HasStarved (lists i).outcomes) (IsStopped (lists i)) (type_names c.head) (get_or c.head.domains i d).id [] [] (list_of c.tasks (get_or c.head.domains i d).id) (own_happenings (get_or c.head.domains i d).id (happenings all.order)) (lists i).text
-  serves-at i d inside =
-      let l : i < length (x ∷ xs) = omega (arith, inside, same-many) in
-      let within : i < length m.config.domains.items = let e = ap length of.domains in omega (arith, inside, e) in
-      let over = over-at i l in
-      let mine = all.follow i within (subst (AreFlagsOf m) (sym over.0) numbered) of.frames in
-      let typed = subst (λ (ts : List (List ℕ)). Serves (HasStarved (lists i).outcomes) (IsStopped (lists i)) ts (lists i).duty.part.dom [] [] (list_of (lists i).duty.part.tasks.now (lists i).duty.part.dom) (happenings (own_in (lists i).duty.part.dom all.order)) (lists i).text) over.1 mine in
-      let tasked = subst (λ (ts : List RunTask). Serves (HasStarved (lists i).outcomes) (IsStopped (lists i)) (type_names c.head) (lists i).duty.part.dom [] [] (list_of ts (lists i).duty.part.dom) (happenings (own_in (lists i).duty.part.dom all.order)) (lists i).text) over.0 typed in
-      let named = subst (λ (n : DomId). Serves (HasStarved (lists i).outcomes) (IsStopped (lists i)) (type_names c.head) n [] [] (list_of c.tasks n) (happenings (own_in n all.order)) (lists i).text) (dom-at i d l) tasked in
-      subst (λ (hs : List Happening). Serves (HasStarved (lists i).outcomes) (IsStopped (lists i)) (type_names c.head) (get_or c.head.domains i d).id [] [] (list_of c.tasks (get_or c.head.domains i d).id) hs (lists i).text) (sym (own-are (get_or c.head.domains i d).id all.order)) named
-
-  pub printed : MayPrint c (texts_in (x ∷ xs))
-  printed = (happenings all.order, record { legal = order-legal; print = all-print c (happenings all.order) c.head.domains (x ∷ xs) (sym same-many) each; known = all-known; flags = order-raised m.config all.order all.flags })
+  pub copies-get-by : AreServed may_by (x ∷ xs) → CopiesHaveMemory c (texts_in (x ∷ xs)) → All CopiesGetMemory (x ∷ xs)
+  copies-get-by are have i s l = subst CopiesGetMemory (same-list x s i l) mine
     where
-      each : (i : ℕ) (d : DomainConfig) (s : Served ScriptRights) → i < length c.head.domains
-          → PrintsList (type_names c.head) (get_or c.head.domains i d).id [] [] (list_of c.tasks (get_or c.head.domains i d).id) (own_happenings (get_or c.head.domains i d).id (happenings all.order)) (get_or (x ∷ xs) i s).text
-      each i d s inside =
-          subst (λ (q : Served ScriptRights). PrintsList (type_names c.head) (get_or c.head.domains i d).id [] [] (list_of c.tasks (get_or c.head.domains i d).id) (own_happenings (get_or c.head.domains i d).id (happenings all.order)) q.text) (same-list x s i (omega (arith, inside, same-many)))
-          (prints-list (HasStarved (lists i).outcomes) (IsStopped (lists i)) (type_names c.head) (get_or c.head.domains i d).id (list_of c.tasks (get_or c.head.domains i d).id) [] [] _ (lists i).text (serves-at i d inside))
+      mine : CopiesGetMemory (lists i)
+      mine task call o is-in does among line copy starved =
+          have task call (lists i).duty.part.dom (subst (IsAmong task) (over-at i l).0 is-in) does copy
+          (subst (λ (n : ℕ). HasPart (answer_line (type_names c.head) n (lists i).duty.part.dom no_memory) (texts_in (x ∷ xs))) line (starved-shows i l are o among starved))
 
-  pub explored : All EndsAtNoGate (x ∷ xs) → All HasNoneLost (x ∷ xs) → MayGive c (texts_in (x ∷ xs))
-  explored passes whole = (happenings all.order, record { legal = order-legal; follow = all-follow c (happenings all.order) c.head.domains (x ∷ xs) (sym same-many) each; known = all-known; flags = order-raised m.config all.order all.flags })
-    where
-      each : (i : ℕ) (d : DomainConfig) (s : Served ScriptRights) → i < length c.head.domains
-          → FollowsList (type_names c.head) (get_or c.head.domains i d).id [] [] (list_of c.tasks (get_or c.head.domains i d).id) (own_happenings (get_or c.head.domains i d).id (happenings all.order)) (get_or (x ∷ xs) i s).text
-      each i d s inside =
-          let l : i < length (x ∷ xs) = omega (arith, inside, same-many) in
-          subst (λ (q : Served ScriptRights). FollowsList (type_names c.head) (get_or c.head.domains i d).id [] [] (list_of c.tasks (get_or c.head.domains i d).id) (own_happenings (get_or c.head.domains i d).id (happenings all.order)) q.text) (same-list x s i l)
-          (follows-list (HasStarved (lists i).outcomes) (IsStopped (lists i)) (type_names c.head) (get_or c.head.domains i d).id
-          (λ starved. whole i x l starved.0 starved.1 starved.2) (λ stopped. passes i x l stopped.0 stopped.1 stopped.2)
-          (list_of c.tasks (get_or c.head.domains i d).id) [] [] _ (lists i).text (serves-at i d inside))
+  module _ (are : AreServed may_by (x ∷ xs)) (one : ShowOneState (x ∷ xs)) (gets : All CopiesGetMemory (x ∷ xs)) where
+    copies : All HasWholeCopies (x ∷ xs)
+    copies i s l =
+        let inside : i < length (duties_in (x ∷ xs)) = let e = length-map (x ∷ xs) (λ (t : Served ScriptRights). t.duty) in omega (arith, l, e) in
+        let here : (get_or (x ∷ xs) i s).duty.monitor.now ≡ m = subst (λ (d : ThreadJob ScriptRights). d.monitor.now ≡ m) (get_or-map (λ (t : Served ScriptRights). t.duty) (x ∷ xs) i s s.duty l)
+        (All-get_or (λ (d : ThreadJob ScriptRights). d.monitor.now ≡ m) (duties_in (x ∷ xs)) i s.duty inside on) in
+        copies-whole (get_or (x ∷ xs) i s) (subst (λ (n : Monitor ScriptRights). HasAllFrames n) (sym here) of.frames) (gets i s l)
+
+    all : FollowsAll may_by m x xs on ids are one copies
+    all = follows-all may_by m x xs on ids are one copies of.limits
+
+    numbered : AreFlagsOf m c.tasks
+    numbered task is = all-among (λ (t : RunTask). IsBelow m.words.flags t.deed) c.tasks of.flags task is
+
+    order-legal : Legal (setting_of_script c.head) (events_in (happenings all.order)) (trace_in (happenings all.order))
+    order-legal = subst (λ (s : Setting). Legal s (events_in (happenings all.order)) (trace_in (happenings all.order))) setting-is
+        (subst (λ es. Legal (setting_of m.config (may_by m.rights)) es (trace_in (happenings all.order))) (sym (events-are all.order))
+        (subst (λ ts. Legal (setting_of m.config (may_by m.rights)) (events_of (items_in all.order)) ts) (sym (trace-is all.order)) all.legal))
+
+    all-known : All (λ y. domain_of c.head.domains (doer y) ≢ None) (happenings all.order)
+    all-known = subst (λ (ds : List DomainConfig). All (λ y. domain_of ds (doer y) ≢ None) (happenings all.order)) of.domains (order-known m.config (may_by m.rights) all.order all.flags all.legal)
+
+    -- the list of the domain at a position
+    serves-at : (i : ℕ) (d : DomainConfig) → i < length c.head.domains
+        → Serves (HasStarved (lists i).outcomes) (IsStopped (lists i)) (type_names c.head) (get_or c.head.domains i d).id [] [] (list_of c.tasks (get_or c.head.domains i d).id) (own_happenings (get_or c.head.domains i d).id (happenings all.order)) (lists i).text
+    serves-at i d inside =
+        let l : i < length (x ∷ xs) = omega (arith, inside, same-many) in
+        let within : i < length m.config.domains.items = let e = ap length of.domains in omega (arith, inside, e) in
+        let over = over-at i l in
+        let mine = all.follow i within (subst (AreFlagsOf m) (sym over.0) numbered) of.frames in
+        let typed = subst (λ (ts : List (List ℕ)). Serves (HasStarved (lists i).outcomes) (IsStopped (lists i)) ts (lists i).duty.part.dom [] [] (list_of (lists i).duty.part.tasks.now (lists i).duty.part.dom) (happenings (own_in (lists i).duty.part.dom all.order)) (lists i).text) over.1 mine in
+        let tasked = subst (λ (ts : List RunTask). Serves (HasStarved (lists i).outcomes) (IsStopped (lists i)) (type_names c.head) (lists i).duty.part.dom [] [] (list_of ts (lists i).duty.part.dom) (happenings (own_in (lists i).duty.part.dom all.order)) (lists i).text) over.0 typed in
+        let named = subst (λ (n : DomId). Serves (HasStarved (lists i).outcomes) (IsStopped (lists i)) (type_names c.head) n [] [] (list_of c.tasks n) (happenings (own_in n all.order)) (lists i).text) (dom-at i d l) tasked in
+        subst (λ (hs : List Happening). Serves (HasStarved (lists i).outcomes) (IsStopped (lists i)) (type_names c.head) (get_or c.head.domains i d).id [] [] (list_of c.tasks (get_or c.head.domains i d).id) hs (lists i).text) (sym (own-are (get_or c.head.domains i d).id all.order)) named
+
+    pub printed : MayPrint c (texts_in (x ∷ xs))
+    printed = (happenings all.order, record { legal = order-legal; print = all-print c (happenings all.order) c.head.domains (x ∷ xs) (sym same-many) each; known = all-known; flags = order-raised m.config all.order all.flags })
+      where
+        each : (i : ℕ) (d : DomainConfig) (s : Served ScriptRights) → i < length c.head.domains
+            → PrintsList (type_names c.head) (get_or c.head.domains i d).id [] [] (list_of c.tasks (get_or c.head.domains i d).id) (own_happenings (get_or c.head.domains i d).id (happenings all.order)) (get_or (x ∷ xs) i s).text
+        each i d s inside =
+            subst (λ (q : Served ScriptRights). PrintsList (type_names c.head) (get_or c.head.domains i d).id [] [] (list_of c.tasks (get_or c.head.domains i d).id) (own_happenings (get_or c.head.domains i d).id (happenings all.order)) q.text) (same-list x s i (omega (arith, inside, same-many)))
+            (prints-list (HasStarved (lists i).outcomes) (IsStopped (lists i)) (type_names c.head) (get_or c.head.domains i d).id (list_of c.tasks (get_or c.head.domains i d).id) [] [] _ (lists i).text (serves-at i d inside))
+
+    pub explored : All EndsAtNoGate (x ∷ xs) → All HasNoneLost (x ∷ xs) → MayGive c (texts_in (x ∷ xs))
+    explored passes whole = (happenings all.order, record { legal = order-legal; follow = all-follow c (happenings all.order) c.head.domains (x ∷ xs) (sym same-many) each; known = all-known; flags = order-raised m.config all.order all.flags })
+      where
+        each : (i : ℕ) (d : DomainConfig) (s : Served ScriptRights) → i < length c.head.domains
+            → FollowsList (type_names c.head) (get_or c.head.domains i d).id [] [] (list_of c.tasks (get_or c.head.domains i d).id) (own_happenings (get_or c.head.domains i d).id (happenings all.order)) (get_or (x ∷ xs) i s).text
+        each i d s inside =
+            let l : i < length (x ∷ xs) = omega (arith, inside, same-many) in
+            subst (λ (q : Served ScriptRights). FollowsList (type_names c.head) (get_or c.head.domains i d).id [] [] (list_of c.tasks (get_or c.head.domains i d).id) (own_happenings (get_or c.head.domains i d).id (happenings all.order)) q.text) (same-list x s i l)
+            (follows-list (HasStarved (lists i).outcomes) (IsStopped (lists i)) (type_names c.head) (get_or c.head.domains i d).id
+            (λ starved. whole i x l starved.0 starved.1 starved.2) (λ stopped. passes i x l stopped.0 stopped.1 stopped.2)
+            (list_of c.tasks (get_or c.head.domains i d).id) [] [] _ (lists i).text (serves-at i d inside))
 
 -- a list without N26 has no copy without memory
 copies-get : (served : List (Served ScriptRights)) → All HasNoneLost served → All CopiesGetMemory served
@@ -199,7 +235,7 @@ none-run c logged duties of same = none (ap (map (λ (d : ThreadJob ScriptRights
     none : [] ≡ of.parts → ⊥
     none e = let some = of.limits.some in let l = ap length (ap (map (λ (p : DomainPart). p.dom)) e ∙ of.of_script.0) in let k = length-map c.head.domains (λ (d : DomainConfig). d.id) in let j = ap length of.domains in omega (arith, some, l, k, j)
 
-abbrev of-lists : (c : RunContents) (logged : Bool) (duties : List (ThreadJob ScriptRights)) (served : List (Served ScriptRights)) → duties_in served ≡ duties → AreOf c logged duties → AreOf c logged (duties_in served)
+abbrev pub of-lists : (c : RunContents) (logged : Bool) (duties : List (ThreadJob ScriptRights)) (served : List (Served ScriptRights)) → duties_in served ≡ duties → AreOf c logged duties → AreOf c logged (duties_in served)
 of-lists c logged duties served same of = record {
   parts = of.parts;
   of_script = of.of_script;
@@ -214,15 +250,15 @@ of-lists c logged duties served same of = record {
 }
 
 pub runs-explored : RunsAreExplored
-runs-explored c logged duties old new of wrote leave passes whole = by wrote.0 wrote.1 wrote.2 wrote.3 leave passes whole
+runs-explored c logged duties old new of wrote passes whole = by wrote.0 wrote.1 wrote.2 wrote.3 passes whole
   where
-    by : (all : List (Served ScriptRights)) → duties_in all ≡ duties → AreServed may_by all → ShowOneState all → All (MayLeave may_by of.monitor) all → All EndsAtNoGate all → All HasNoneLost all → MayGive c (texts_in all)
-    by [] same are one leave passes whole = absurd (none-run c logged duties of same)
-    by (x ∷ xs) same are one leave passes whole = explored c logged x xs (of-lists c logged duties (x ∷ xs) same of) are one leave (copies-get (x ∷ xs) whole) passes whole
+    by : (all : List (Served ScriptRights)) → duties_in all ≡ duties → AreServed may_by all → ShowOneState all → All EndsAtNoGate all → All HasNoneLost all → MayGive c (texts_in all)
+    by [] same are one passes whole = absurd (none-run c logged duties of same)
+    by (x ∷ xs) same are one passes whole = explored c logged x xs (of-lists c logged duties (x ∷ xs) same of) are one (copies-get (x ∷ xs) whole) passes whole
 
 pub runs-printed : RunsArePrinted
-runs-printed c logged duties old new of wrote leave gets = by wrote.0 wrote.1 wrote.2 wrote.3 leave gets
+runs-printed c logged duties old new of wrote gets = by wrote.0 wrote.1 wrote.2 wrote.3 gets
   where
-    by : (all : List (Served ScriptRights)) → duties_in all ≡ duties → AreServed may_by all → ShowOneState all → All (MayLeave may_by of.monitor) all → All CopiesGetMemory all → MayPrint c (texts_in all)
-    by [] same are one leave gets = absurd (none-run c logged duties of same)
-    by (x ∷ xs) same are one leave gets = printed c logged x xs (of-lists c logged duties (x ∷ xs) same of) are one leave gets
+    by : (all : List (Served ScriptRights)) → duties_in all ≡ duties → AreServed may_by all → ShowOneState all → All CopiesGetMemory all → MayPrint c (texts_in all)
+    by [] same are one gets = absurd (none-run c logged duties of same)
+    by (x ∷ xs) same are one gets = printed c logged x xs (of-lists c logged duties (x ∷ xs) same of) are one gets

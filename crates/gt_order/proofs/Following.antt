@@ -36,7 +36,7 @@ use Rattle.gt_order.specs.Texts.{HasAllFrames, OutcomeGivesAnswer}
 use Rattle.gt_types.specs.Denial.{denial_of}
 use Rattle.gt_types.specs.declared.denial.Facts.TheVariants.{None as NoFacts}
 use Rattle.gt_types.specs.declared.denial.Rule.TheVariants.{N26}
-use Rattle.gt_order.specs.Leaving.{AreUnmaps}
+use Rattle.gt_order.specs.Leaving.{AreReleases}
 use Rattle.gt_order.specs.Ordering.{RunOrder, items_by_outcome, items_of_call, of_core, order_of_deeds, way_of}
 use Rattle.gt_order.specs.Ordering.Occurrence.{OfFlag}
 use Rattle.gt_order.specs.Runs.{AreDeeds, CallMade, CallOutcome, Deed, FlagMade, IsAnswered, domain_after}
@@ -84,6 +84,10 @@ module _ {P : Type 0} (may : P → AllowRelation) (m : Monitor P) (d e : Domain)
   answered-keeps (requests.Unmap handle) answer (Ok done, is, answered, removed, refused, told) =
       subst (λ (a : Answer). Keeps e.mappings (held_after held (Some handle) a)) (sym is) (keeps-less d.mappings e.mappings handle removed.0 held removed.1 k).keeps
   answered-keeps (requests.Unmap handle) answer (Err denial, is, answered, removed, refused, told) =
+      subst (λ (a : Answer). Keeps e.mappings (held_after held (Some handle) a)) (sym is) (keeps-same d.mappings e.mappings held refused.0 k)
+  answered-keeps (requests.Release handle) answer (Ok done, is, answered, removed, refused, silent) =
+      subst (λ (a : Answer). Keeps e.mappings (held_after held (Some handle) a)) (sym is) (keeps-less d.mappings e.mappings handle removed.0 held removed.1 k).keeps
+  answered-keeps (requests.Release handle) answer (Err denial, is, answered, removed, refused, silent) =
       subst (λ (a : Answer). Keeps e.mappings (held_after held (Some handle) a)) (sym is) (keeps-same d.mappings e.mappings held refused.0 k)
   answered-keeps (requests.SetVersion version) answer (r, is, (answered, kept, told)) = told-so answer (plain_answer r) is (plain-held held r) kept.0
   answered-keeps (requests.SetupTable frames) answer (r, is, (answered, kept, told)) = told-so answer (frames_answer r) is (frames-held held r) kept.0
@@ -216,42 +220,42 @@ module _ (Lost Stopped : Type 0) (c : Config) (may : AllowRelation) (types : Lis
       (before (task ∷ rest) (mine ∷ more) text (inl (happens (λ names holds hs left. Serves Lost Stopped types dom names holds rest hs left) more text f))))
 
 module _ (c : Config) (may : AllowRelation) (types : List (List ℕ)) (dom : DomId) where
-  -- the unmaps with which a domain leaves
+  -- the releases with which a domain leaves
   pub record GivesBack (held : List Handle) (us : List Deed) (after : Domain) : Type 0 where
     pub order : List Handle
     pub held' : List Handle
     pub keeps : Keeps after.mappings held'
     pub back : (last : List Handle) (more : List Happening) → GivesMappingsBack dom last held' more → GivesMappingsBack dom (order ++ last) held (happenings (order_of_deeds c may dom us) ++ more)
 
-  pub gives-back : (b : Board) (d : Domain) (us : List Deed) (held : List Handle) → AreDeeds b c may d us → AreUnmaps us → Keeps d.mappings held → GivesBack held us (domain_after d us)
-  gives-back b d [] held calls unmaps k = record { order = []; held' = held; keeps = k; back = λ last more g. g }
-  gives-back b d (OnFlag x ∷ us) held calls unmaps k = absurd unmaps
-  gives-back b d (Call u ∷ us) held calls unmaps k =
-      let was = gives-back b d us held calls.2 unmaps.1 k in
+  pub gives-back : (b : Board) (d : Domain) (us : List Deed) (held : List Handle) → AreDeeds b c may d us → AreReleases us → Keeps d.mappings held → GivesBack held us (domain_after d us)
+  gives-back b d [] held calls releases k = record { order = []; held' = held; keeps = k; back = λ last more g. g }
+  gives-back b d (OnFlag x ∷ us) held calls releases k = absurd releases
+  gives-back b d (Call u ∷ us) held calls releases k =
+      let was = gives-back b d us held calls.2 releases.1 k in
       let old : Keeps u.old.mappings was.held' = subst (λ (x : HandleMap HeldPin). Keeps x was.held') (sym calls.1.mappings) was.keeps in
-      let answered : IsAnswered b c may (requests.Unmap unmaps.0.0) (Told Granted) u.steps u.old u.new = subst (λ (r : Request). IsAnswered b c may r (Told Granted) u.steps u.old u.new) unmaps.0.1
-      (subst (λ (o : CallOutcome). IsAnswered b c may u.request o u.steps u.old u.new) unmaps.0.2 calls.0.answered) in
-      let less = keeps-less u.old.mappings u.new.mappings unmaps.0.0 answered.2.0 was.held' answered.2.1 old in
+      let answered : IsAnswered b c may (requests.Release releases.0.0) (Told Granted) u.steps u.old u.new = subst (λ (r : Request). IsAnswered b c may r (Told Granted) u.steps u.old u.new) releases.0.1
+      (subst (λ (o : CallOutcome). IsAnswered b c may u.request o u.steps u.old u.new) releases.0.2 calls.0.answered) in
+      let less = keeps-less u.old.mappings u.new.mappings releases.0.0 answered.2.0 was.held' answered.2.1 old in
       let mine = items_by_outcome dom (way_of c may u) u.request u.outcome u.steps in
-      let same : mine ≡ items_of_call dom (way_of c may u) (requests.Unmap unmaps.0.0) (Some answers.Done) u.steps = λ j. items_by_outcome dom (way_of c may u) (unmaps.0.1 j) (unmaps.0.2 j) u.steps in record {
-        order = was.order ++ unmaps.0.0 ∷ [];
-        held' = handles_without unmaps.0.0 was.held';
+      let same : mine ≡ items_of_call dom (way_of c may u) (requests.Release releases.0.0) (Some answers.Done) u.steps = λ j. items_by_outcome dom (way_of c may u) (releases.0.1 j) (releases.0.2 j) u.steps in record {
+        order = was.order ++ releases.0.0 ∷ [];
+        held' = handles_without releases.0.0 was.held';
         keeps = less.keeps;
         back = λ last more g.
-            let one : GivesMappingsBack dom (unmaps.0.0 ∷ last) was.held' (happenings (of_core mine) ++ more) = (
+            let one : GivesMappingsBack dom (releases.0.0 ∷ last) was.held' (happenings (of_core mine) ++ more) = (
               less.before,
               less.after,
               less.whole,
-              subst (λ g. CallHappens dom (requests.Unmap unmaps.0.0) (λ answer more. (answer ≡ answers.Done) × GivesMappingsBack dom last (less.before ++ less.after) more) (happenings (of_core g) ++ more)) (sym same)
-                  (call-happens dom (way_of c may u) (requests.Unmap unmaps.0.0) answers.Done u.steps (λ answer more. (answer ≡ answers.Done) × GivesMappingsBack dom last (less.before ++ less.after) more) more (refl, subst (λ (l : List Handle). GivesMappingsBack dom last l more) less.left g)),
+              subst (λ g. CallHappens dom (requests.Release releases.0.0) (λ answer more. (answer ≡ answers.Done) × GivesMappingsBack dom last (less.before ++ less.after) more) (happenings (of_core g) ++ more)) (sym same)
+                  (call-happens dom (way_of c may u) (requests.Release releases.0.0) answers.Done u.steps (λ answer more. (answer ≡ answers.Done) × GivesMappingsBack dom last (less.before ++ less.after) more) more (refl, subst (λ (l : List Handle). GivesMappingsBack dom last l more) less.left g)),
             ) in
-            subst (λ (l : List Handle). GivesMappingsBack dom l held (happenings (of_core mine ++ order_of_deeds c may dom us) ++ more)) (sym (append_assoc was.order (unmaps.0.0 ∷ []) last))
-            (subst (GivesMappingsBack dom (was.order ++ unmaps.0.0 ∷ last) held)
+            subst (λ (l : List Handle). GivesMappingsBack dom l held (happenings (of_core mine ++ order_of_deeds c may dom us) ++ more)) (sym (append_assoc was.order (releases.0.0 ∷ []) last))
+            (subst (GivesMappingsBack dom (was.order ++ releases.0.0 ∷ last) held)
             (sym (ap (λ (hs : List Happening). hs ++ more) (happenings-both (of_core mine) (order_of_deeds c may dom us)) ∙ append_assoc (happenings (order_of_deeds c may dom us)) (happenings (of_core mine)) more))
-            (was.back (unmaps.0.0 ∷ last) (happenings (of_core mine) ++ more) one));
+            (was.back (releases.0.0 ∷ last) (happenings (of_core mine) ++ more) one));
       }
 
-  -- the deeds of a list, and the unmaps behind them
+  -- the deeds of a list, and the releases behind them
   pub deeds-both : (us ms : List Deed) → order_of_deeds c may dom (us ++ ms) ≡ order_of_deeds c may dom us ++ order_of_deeds c may dom ms
   deeds-both [] ms = refl
   deeds-both (Call u ∷ us) ms =

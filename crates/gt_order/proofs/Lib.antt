@@ -30,4 +30,5 @@ pub mod Stages
 pub mod Start
 pub mod Stepping
 pub mod Unlogged
+mod Running
 pub mod Walks

@@ -40,7 +40,7 @@ use Rattle.gt_order.proofs.Said.{said-fits}
 use Rattle.gt_order.proofs.Served.{Serves, gate-split}
 use Rattle.gt_order.specs.Explored.{IsStarved}
 use Rattle.gt_order.specs.Printed.{Leaves, no_memory}
-use Rattle.gt_order.specs.Leaving.{AreUnmaps}
+use Rattle.gt_order.specs.Leaving.{AreReleases}
 use Rattle.gt_order.specs.Ordering.{AreOnRaisedFlags, IsLegalOrder, RunOrder, events_of, items_in, order_of_deeds, own_in, trace_of}
 use Rattle.gt_order.specs.Ordering.Occurrence.{OfFlag}
 use Rattle.gt_order.specs.Runs.{AreDeeds, CallMade, Deed, FlagMade, IsAtRest, IsMonitorRun, IsSeatRun}
@@ -61,7 +61,7 @@ use Rattle.gt_run.specs.Serving.{answer_lines, gate_line, list_start}
 use Rattle.gt_run.specs.declared.lists.ThreadJob.{ThreadJob}
 use Rattle.gt_order.specs.Texts.{AreDeedsOf, IsFlagStepOf, AreDeedsOfList, AreMadeWhole, AreOfALegalOrder, HasList}
 use Rattle.gt_types.specs.Config.{IsWithinLimits}
-use Rattle.gt_order.specs.Texts.{AreOfOneOrder, HasAllFrames, HasWholeCopies, IsMadeWhole, IsViewOf, MayLeave, OutcomeGivesAnswer, RunsWriteALegalOrder}
+use Rattle.gt_order.specs.Texts.{AreOfOneOrder, HasAllFrames, HasWholeCopies, IsMadeWhole, IsViewOf, OutcomeGivesAnswer, RunsWriteALegalOrder}
 use Rattle.gt_order.specs.Texts.{TextsAreOfALegalOrder}
 use Rattle.gt_order.proofs.Answering.{NotLost, is-made, whole-request}
 
@@ -296,8 +296,8 @@ module _ {P : Type 0} (may : P → AllowRelation) (m : Monitor P) where
     lines : AreDeedsOf may s.duty come.made s.outcomes
     lines = subst (AreDeedsOf may s.duty come.made) l.served.came come.lines
 
-    -- the calls and the unmaps behind them follow the list
-    followed : (us : List Deed) → AreDeeds m.words m.config (may m.rights) l.served.left.domain us → AreUnmaps us → ((h : Handle) → value_of (domain_after l.served.left.domain us).mappings h ≡ None) → DidFollow s (us ++ come.made)
+    -- the calls and the releases behind them follow the list
+    followed : (us : List Deed) → AreDeeds m.words m.config (may m.rights) l.served.left.domain us → AreReleases us → ((h : Handle) → value_of (domain_after l.served.left.domain us).mappings h ≡ None) → DidFollow s (us ++ come.made)
     followed us calls unmaps none numbered all = by l.served.ends
       where
         types : List (List ℕ)
@@ -348,16 +348,16 @@ module _ {P : Type 0} (may : P → AllowRelation) (m : Monitor P) where
       made = come.made;
       deeds_are = come.deeds_are;
       view = ap (λ (d : Domain). d.seat.view) come.now ∙ sym e;
-      of_list = record { leaving = []; listed = come.made; all = refl; unmaps = tt; lines = lines };
+      of_list = record { leaving = []; listed = come.made; all = refl; releases = tt; lines = lines };
       follows = λ gone. absurd gone;
     }
-    finished v (inr g) = let u = leaving m.words m.config (may m.rights) l.served.left.domain g.0 come.mine g.1 g.2 in record {
+    finished v (inr g) = let u = leaving m.words m.config (may m.rights) l.served.left.domain g.0 come.mine g.1 in record {
       first = l.served.domain;
       starts = starts;
       made = u.0 ++ come.made;
       deeds_are = deeds-on l.served.domain l.served.left.domain come.made come.now u.0 come.deeds_are u.1;
-      view = ap (λ (d : Domain). d.seat.view) (after-on l.served.domain l.served.left.domain come.made come.now u.0) ∙ (u.3 ∙ sym g.3);
-      of_list = record { leaving = u.0; listed = come.made; all = refl; unmaps = u.2; lines = lines };
+      view = ap (λ (d : Domain). d.seat.view) (after-on l.served.domain l.served.left.domain come.made come.now u.0) ∙ (u.3 ∙ sym g.2);
+      of_list = record { leaving = u.0; listed = come.made; all = refl; releases = u.2; lines = lines };
       follows = λ gone. followed u.0 u.1 u.2 u.4;
     }
 
@@ -420,7 +420,7 @@ stays-at b c may i first (OnFlag x ∷ us) at calls = calls.0.kept.seat.position
 -- what a run wrote is the text of a legal order
 module _ {P : Type 0} (may : P → AllowRelation) (m : Monitor P) (x : Served P) (xs : List (Served P)) (on : All (λ (d : ThreadJob P). d.monitor.now ≡ m) (duties_in (x ∷ xs)))
     (ids : map (λ (d : ThreadJob P). d.part.dom) (duties_in (x ∷ xs)) ≡ map (λ (d : DomainConfig). d.id) m.config.domains.items) (are : AreServed may (x ∷ xs)) (one : ShowOneState (x ∷ xs))
-    (leave : All (MayLeave may m) (x ∷ xs)) (copies : All HasWholeCopies (x ∷ xs)) where
+    (copies : All HasWholeCopies (x ∷ xs)) where
   abbrev lists : ℕ → Served P
   lists i = get_or (x ∷ xs) i x
 
@@ -446,7 +446,7 @@ module _ {P : Type 0} (may : P → AllowRelation) (m : Monitor P) (x : Served P)
   left-at : (i : ℕ) (l : i < length m.config.domains.items) → IsViewOf m.words m.config (may m.rights) (list-at i l).served.left.domain (lists i).departed.seat.view
   left-at i l =
       let h = list-at i l in
-      inr ((lists i).departed, subst (λ (n : Monitor P). HasLeft n.words.layout h.served.left.domain (lists i).departed) h.monitor h.served.leaves, All-get_or (MayLeave may m) (x ∷ xs) i x (within i l) leave h.served, refl)
+      inr ((lists i).departed, subst (λ (n : Monitor P). HasLeft n.words.layout h.served.left.domain (lists i).departed) h.monitor h.served.leaves, refl)
 
   view-at : (i : ℕ) (l : i < length m.config.domains.items) → get_elem? one.0.views i ≡ some (lists i).departed.seat.view
   view-at i l =
@@ -487,13 +487,13 @@ module _ {P : Type 0} (may : P → AllowRelation) (m : Monitor P) (x : Served P)
       }
 
 pub runs-legal : {P : Type 0} (may : P → AllowRelation) (m : Monitor P) → RunsWriteALegalOrder may m
-runs-legal {P} may m duties old new limits of wrote leave copies = by wrote.0 wrote.1 wrote.2 wrote.3 leave copies
+runs-legal {P} may m duties old new limits of wrote copies = by wrote.0 wrote.1 wrote.2 wrote.3 copies
   where
-    by : (all : List (Served P)) → duties_in all ≡ duties → AreServed may all → ShowOneState all → All (MayLeave may m) all → All HasWholeCopies all → AreOfOneOrder may m all
-    by [] same are one leave copies =
+    by : (all : List (Served P)) → duties_in all ≡ duties → AreServed may all → ShowOneState all → All HasWholeCopies all → AreOfOneOrder may m all
+    by [] same are one copies =
         absurd (none (ap length (ap (map (λ (d : ThreadJob P). d.part.dom)) same ∙ of.1)))
       where
         none : 0 ≡ length (map (λ (d : DomainConfig). d.id) m.config.domains.items) → ⊥
         none e = let l = length-map m.config.domains.items (λ (d : DomainConfig). d.id) in let some = limits.some in omega (arith, e, l, some)
-    by (x ∷ xs) same are one leave copies =
-        one-order may m x xs (subst (All (λ (d : ThreadJob P). d.monitor.now ≡ m)) (sym same) of.0) (ap (map (λ (d : ThreadJob P). d.part.dom)) same ∙ of.1) are one leave copies limits
+    by (x ∷ xs) same are one copies =
+        one-order may m x xs (subst (All (λ (d : ThreadJob P). d.monitor.now ≡ m)) (sym same) of.0) (ap (map (λ (d : ThreadJob P). d.part.dom)) same ∙ of.1) are one copies limits

@@ -66,12 +66,16 @@ module _ (Lost Stopped : Type 0) (types : List (List ℕ)) (dom : DomId) where
 
 -- texts without such lines
 
-end-part : (part rest text : List ℕ) → IsEndOf rest text → HasPart part rest → HasPart part text
+pub end-part : (part rest text : List ℕ) → IsEndOf rest text → HasPart part rest → HasPart part text
 end-part part rest text (before, is) (b, r, e) = (before ++ b, r, is ∙ (ap (λ (l : List ℕ). before ++ l) e ∙ sym (append_assoc before b (part ++ r))))
 
-start-part : (part one rest text : List ℕ) → text ≡ one ++ rest → HasPart part one → HasPart part text
+pub start-part : (part one rest text : List ℕ) → text ≡ one ++ rest → HasPart part one → HasPart part text
 start-part part one rest text is (b, r, e) =
     (b, r ++ rest, is ∙ (ap (λ (l : List ℕ). l ++ rest) e ∙ (append_assoc b (part ++ r) rest ∙ ap (λ (l : List ℕ). b ++ l) (append_assoc part r rest))))
+
+-- a part of a part
+pub part-in : (part one text : List ℕ) → HasPart part one → HasPart one text → HasPart part text
+part-in part one text p (b, r, e) = end-part part (one ++ r) text (b, e) (start-part part one r (one ++ r) refl p)
 
 end-tells : (types : List (List ℕ)) (rest text : List ℕ) → IsEndOf rest text → IsUndisturbed types text → IsUndisturbed types rest
 end-tells types rest text end none = record {

@@ -1,5 +1,5 @@
 -- What a run writes without a log is what its lists printed.
-use Rattle.std.proofs.Common.{◌≡◌, ◌++◌, ◌+◌, ℕ, Bool, true, false, List, [], ◌∷◌, All, fold, refl, sym, ap}
+use Rattle.std.proofs.Common.{◌≡◌, ◌++◌, ◌+◌, ℕ, Bool, true, false, List, [], ◌∷◌, All, Option, fold, refl, sym, ap}
 use Rattle.std.proofs.Common.{◌∙◌, subst, arith}
 use Rattle.std.specs.Prelude.{is_some, take}
 use Rattle.std.specs.List.{flat_map}
@@ -20,6 +20,8 @@ use Rattle.gt_run.specs.Printing.{AreServed, Served, WasServed, all_lost, audits
 use Rattle.gt_run.specs.Serving.{DoesDeed, DoesWhere, ListLeadsTo, ListOutcome, ListProgress, Records}
 use Rattle.gt_run.specs.Serving.{audit_lines, counted, list_start, lost_in, record_made, records_told}
 use Rattle.gt_run.specs.declared.lists.ThreadJob.{ThreadJob}
+use Rattle.gt_script.specs.RunContents.{RunContents}
+use Rattle.gt_run.specs.Runs.{WritesScript}
 use Rattle.gt_order.proofs.Explored.{runs-printed}
 use Rattle.gt_order.specs.Printed.{UnloggedRunsPrint}
 
@@ -65,11 +67,16 @@ quiet-run (s ∷ all) are unlogged =
 run-text : (all : List (Served ScriptRights)) → (audits_in all ≡ []) × (all_lost all ≡ 0) → run_text all ≡ texts_in all
 run-text all quiet = (λ j. texts_in all ++ (quiet.0 j ++ lost_text (counted (quiet.1 j)))) ∙ append-nil (texts_in all)
 
-pub unlogged-print : UnloggedRunsPrint
-unlogged-print c old new wrote leave gets =
+-- what is appended is the text of the lists
+pub unlogged-text : (c : RunContents) (old new : Option (List ℕ)) (wrote : WritesScript c false old new) → Appends old new (texts_in wrote.2.0)
+unlogged-text c old new wrote =
     let all = wrote.2.0 in
     let same : duties_in all ≡ wrote.0 = wrote.2.1 in
     let unlogged : All (λ (d : ThreadJob ScriptRights). is_some d.log ≡ false) (duties_in all) =
     subst (All (λ (d : ThreadJob ScriptRights). is_some d.log ≡ false)) (sym same)
     (All-weaker (λ (d : ThreadJob ScriptRights). (d.monitor.now ≡ wrote.1.monitor) × (is_some d.log ≡ false)) (λ (d : ThreadJob ScriptRights). is_some d.log ≡ false) (λ d both. both.1) wrote.0 wrote.1.duties_are.1) in
-    (texts_in all, runs-printed c false wrote.0 old new wrote.1 wrote.2 leave gets, subst (Appends old new) (run-text all (quiet-run all wrote.2.2 unlogged)) wrote.2.4)
+    subst (Appends old new) (run-text all (quiet-run all wrote.2.2 unlogged)) wrote.2.4
+
+pub unlogged-print : UnloggedRunsPrint
+unlogged-print c old new wrote gets =
+    (texts_in wrote.2.0, runs-printed c false wrote.0 old new wrote.1 wrote.2 gets, unlogged-text c old new wrote)

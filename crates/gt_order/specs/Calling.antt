@@ -25,7 +25,7 @@ pub record StaysOf {P : Type 0} (may : P → AllowRelation) (m : Monitor P) (d e
   pub afterwards : BelongsTo may m e
   pub seat : IsSameSeat d.seat e.seat
 
--- calls other than map and unmap whose result is their path's, so those with an access only if they are refused
+-- calls other than map, unmap and release whose result is their path's, so those with an access only if they are refused
 abbrev pub PlainCallsAreMade : {P : Type 0} → (P → AllowRelation) → Monitor P → Type 0
 PlainCallsAreMade may m =
     (d e : Domain) (request : Request) (verdict : CallResult) → StaysOf may m d e
@@ -39,6 +39,14 @@ UnmapsAreMade may m =
     → Answered may m d (requests.Unmap handle) (verdict_of result) e
     → OnOk result ((p : HeldPin) × Removes d.mappings e.mappings handle p) → OnErr result (KeepsPinned d e)
     → (steps : List Moment) × WasMade may m (requests.Unmap handle) (Told (verdict_of result)) steps d e
+
+-- a release
+abbrev pub ReleasesAreMade : {P : Type 0} → (P → AllowRelation) → Monitor P → Type 0
+ReleasesAreMade may m =
+    (d e : Domain) (handle : Handle) (result : Result (Unit {0}) Denial) → StaysOf may m d e
+    → Answered may m d (requests.Release handle) (verdict_of result) e
+    → OnOk result ((p : HeldPin) × Removes d.mappings e.mappings handle p) → OnErr result (KeepsPinned d e)
+    → (steps : List Moment) × WasMade may m (requests.Release handle) (Told (verdict_of result)) steps d e
 
 -- the outcome of a map with this result
 abbrev pub IsOutcomeOf : Result Handle Denial → CallOutcome → Type 0

@@ -11,7 +11,6 @@ use Rattle.gt_run.specs.Printing.{texts_in}
 use Rattle.gt_run.specs.Runs.{AreOf}
 use Rattle.gt_run.specs.Serving.{gate_line}
 use Rattle.gt_explore_replay.specs.Orders.{MayGive}
-use Rattle.gt_order.specs.Texts.{MayLeave}
 
 -- the call got no memory
 abbrev pub IsStarved : ListOutcome → Type 0
@@ -26,10 +25,10 @@ abbrev pub EndsAtNoGate : {P : Type 0} → Served P → Type 0
 EndsAtNoGate s = (before : List ℕ) (line : ℕ) → s.text ≡ before ++ gate_line line s.duty.part.dom → ⊥
 
 -- what a run of a script writes is a text that the script may give, so one that `explore` lists, if no list was stopped
--- by its gate, no answer is N26, and the policy allows each domain to unmap the mappings with which it leaves
+-- by its gate and no answer is N26
 abbrev pub RunsAreExplored : Type 0
 RunsAreExplored =
     (c : RunContents) (logged : Bool) (duties : List (ThreadJob ScriptRights)) (old new : Option (List ℕ))
     → (of : AreOf c logged duties) → (wrote : WritesAll may_by duties old new)
-    → All (MayLeave may_by of.monitor) wrote.0 → All EndsAtNoGate wrote.0 → All HasNoneLost wrote.0
+    → All EndsAtNoGate wrote.0 → All HasNoneLost wrote.0
     → MayGive c (texts_in wrote.0)

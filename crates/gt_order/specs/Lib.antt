@@ -9,3 +9,4 @@ pub mod Laws
 pub mod Prelude
 pub mod RunNames
 pub mod Texts
+pub mod Running

@@ -23,7 +23,6 @@ use Rattle.gt_run.specs.Serving.{IsAwait, gate_line}
 use Rattle.gt_explore_replay.specs.Orders.{DeedHappens, FlagsAreRaised, GivesMappingsBack, Happening, MayGive, Prints}
 use Rattle.gt_explore_replay.specs.Orders.{doer, events_in, own_happenings, trace_in}
 use Rattle.gt_order.specs.Explored.{IsStarved}
-use Rattle.gt_order.specs.Texts.{MayLeave}
 
 -- the answer of a call that got no memory
 abbrev pub no_memory : Answer
@@ -47,7 +46,7 @@ GetsNoMemory types dom named held line (Do call) Next hs text =
     × Prints (answer_line types line dom no_memory) (Next named held hs) text
 GetsNoMemory types dom named held line action Next hs text = ⊥
 
--- a domain at the end of its list unmaps all its mappings
+-- a domain at the end of its list releases all its mappings
 abbrev pub Leaves : DomId → List Handle → List Happening → Type 0
 Leaves dom held hs = (order : List Handle) × GivesMappingsBack dom order held hs
 
@@ -97,19 +96,18 @@ CopiesGetMemory s =
     (task : RunTask) (call : ScriptCall) (o : ListOutcome) → IsAmong task s.duty.part.tasks.now → task.deed ≡ Do call
     → IsAmong o s.outcomes → o.line ≡ task.line → IsCopy call → IsStarved o → ⊥
 
--- what a run of a script writes is a text that a run of it may print, if no copy got no memory at its access, and the
--- policy allows each domain to unmap the mappings with which it leaves
+-- what a run of a script writes is a text that a run of it may print, if no copy got no memory at its access
 abbrev pub RunsArePrinted : Type 0
 RunsArePrinted =
     (c : RunContents) (logged : Bool) (duties : List (ThreadJob ScriptRights)) (old new : Option (List ℕ))
     → (of : AreOf c logged duties) → (wrote : WritesAll may_by duties old new)
-    → All (MayLeave may_by of.monitor) wrote.0 → All CopiesGetMemory wrote.0 → MayPrint c (texts_in wrote.0)
+    → All CopiesGetMemory wrote.0 → MayPrint c (texts_in wrote.0)
 
--- without a log, what `run` appends is a text that a run of the script may print, under the same conditions
+-- without a log, what `run` appends is a text that a run of the script may print, under the same condition
 abbrev pub UnloggedRunsPrint : Type 0
 UnloggedRunsPrint =
     (c : RunContents) (old new : Option (List ℕ)) → (wrote : WritesScript c false old new)
-    → All (MayLeave may_by wrote.1.monitor) wrote.2.0 → All CopiesGetMemory wrote.2.0
+    → All CopiesGetMemory wrote.2.0
     → (text : List ℕ) × MayPrint c text × Appends old new text
 
 -- a text that `explore` lists is one that a run may print

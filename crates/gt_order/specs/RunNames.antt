@@ -9,7 +9,7 @@ pub use Rattle.gt_live.specs.Domains.{AllowRelation, HasLeft}
 pub use Rattle.gt_live.specs.declared.domain.Domain.{Domain}
 pub use Rattle.gt_live.specs.declared.domain.Departed.{Departed}
 pub use Rattle.gt_live.specs.declared.monitor.Monitor.{Monitor}
-pub use Rattle.gt_order.specs.Leaving.{AreUnmaps, MayUnmapAll}
+pub use Rattle.gt_order.specs.Leaving.{AreReleases}
 pub use Rattle.gt_order.specs.Ordering.{IsLegalOrder, RunOrder}
 pub use Rattle.gt_order.specs.Runs.{CallMade, CallOutcome, Deed, FitsTypes, FlagMade, SeatRun}
 pub use Rattle.gt_order.specs.Runs.Deed.{Call, OnFlag}

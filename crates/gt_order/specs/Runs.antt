@@ -30,11 +30,13 @@ pub record CallMade : Type 0 where
   pub old : Domain
   pub new : Domain
 
--- the mappings after a call with this result of its path: an unmap that is not refused removes one, and no other call
--- changes any
+-- the mappings after a call with this result of its path: an unmap or a release that is not refused removes one, and no
+-- other call changes any
 abbrev pub LeavesMappings : OpenRequest → CallResult → HandleMap HeldPin → HandleMap HeldPin → Type 0
 LeavesMappings (asks.Unmap handle) (Refused denial) old new = KeepsMappings old new
 LeavesMappings (asks.Unmap handle) verdict old new = (p : HeldPin) × Removes old new handle p
+LeavesMappings (asks.Release handle) (Refused denial) old new = KeepsMappings old new
+LeavesMappings (asks.Release handle) verdict old new = (p : HeldPin) × Removes old new handle p
 LeavesMappings request verdict old new = KeepsMappings old new
 
 -- a result that keeps no pin

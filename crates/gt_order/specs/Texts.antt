@@ -5,7 +5,7 @@ use Rattle.gt_order.specs.RunNames.{some, get_elem?, State, Config, Denial, Boar
 use Rattle.gt_order.specs.Prelude.{IsWithinLimits, N26, NoFacts, denial_of}
 use Rattle.gt_order.specs.RunNames.{IsAmong}
 use Rattle.gt_order.specs.RunNames.{View, answer_of, Answer, AllowRelation, HasLeft}
-use Rattle.gt_order.specs.RunNames.{Domain, Departed, Monitor, AreUnmaps, MayUnmapAll, IsLegalOrder, CallMade}
+use Rattle.gt_order.specs.RunNames.{Domain, Departed, Monitor, AreReleases, IsLegalOrder, CallMade}
 use Rattle.gt_order.specs.RunNames.{Await, Call, Deed, FlagMade, FlagStep, OnFlag, Passed, Raised, RunAction}
 use Rattle.gt_order.specs.RunNames.{RunOrder, Tell}
 use Rattle.gt_order.specs.RunNames.{CallOutcome, SeatRun, Told, Kept, Starved, Read, Wrote, ScriptCall}
@@ -84,18 +84,17 @@ pub record HasList {P : Type 0} (may : P → AllowRelation) (m : Monitor P) (i :
   pub served : WasServed may s
   pub whole : AreMadeWhole s.duty s.outcomes
 
--- the view is the domain's at the end of its list; or the domain has left since, and the policy allows it to unmap each
--- of its mappings
+-- the view is the domain's at the end of its list, or the domain has left since
 abbrev pub IsViewOf : Board → Config → AllowRelation → Domain → View → Type 0
 IsViewOf b c may d v =
-    (v ≡ d.seat.view) ⊎ ((l : Departed) × HasLeft b.layout d l × MayUnmapAll c may d × (v ≡ l.seat.view))
+    (v ≡ d.seat.view) ⊎ ((l : Departed) × HasLeft b.layout d l × (v ≡ l.seat.view))
 
--- each of a domain's deeds is one of its list, or an unmap with which it left
+-- each of a domain's deeds is one of its list, or a release with which it left
 pub record AreDeedsOfList {P : Type 0} (may : P → AllowRelation) (s : Served P) (made : List Deed) : Type 0 where
   pub leaving : List Deed
   pub listed : List Deed
   pub all : made ≡ leaving ++ listed
-  pub unmaps : AreUnmaps leaving
+  pub releases : AreReleases leaving
   pub lines : AreDeedsOf may s.duty listed s.outcomes
 
 -- the text of the lists is that of a legal order: one order is legal for the run, has the steps of the history in their
@@ -122,10 +121,6 @@ TextsAreOfALegalOrder {P} may m =
 abbrev pub HasWholeCopies : {P : Type 0} → Served P → Type 0
 HasWholeCopies s = AreMadeWhole s.duty s.outcomes
 
--- the policy allows the domain of the list to unmap each mapping with which it left
-abbrev pub MayLeave : {P : Type 0} → (P → AllowRelation) → Monitor P → Served P → Type 0
-MayLeave may m s = (served : WasServed may s) → MayUnmapAll m.config (may m.rights) served.left.domain
-
 -- the jobs are those of the monitor's domains, in their order
 abbrev pub AreOfDomains : {P : Type 0} → Monitor P → List (ThreadJob P) → Type 0
 AreOfDomains m duties =
@@ -141,5 +136,5 @@ AreOfOneOrder {P} may m all =
 abbrev pub RunsWriteALegalOrder : {P : Type 0} → (P → AllowRelation) → Monitor P → Type 0
 RunsWriteALegalOrder {P} may m =
     (duties : List (ThreadJob P)) (old new : Option (List ℕ)) → IsWithinLimits m.config → AreOfDomains m duties
-    → (wrote : WritesAll may duties old new) → All (MayLeave may m) wrote.0 → All HasWholeCopies wrote.0
+    → (wrote : WritesAll may duties old new) → All HasWholeCopies wrote.0
     → AreOfOneOrder may m wrote.0

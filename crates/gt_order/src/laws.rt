@@ -1,10 +1,10 @@
 //! Consequences of the definitions. Each law is a function that does nothing; its contract is the law.
 ghost use Rattle.gt_order.specs.Calling.{CopiesAreMade, LostAccessesAreMade, MapsAreMade, PlainCallsAreMade};
-ghost use Rattle.gt_order.specs.Calling.{ReadsAreMade, UnmapsAreMade, WritesAreMade};
+ghost use Rattle.gt_order.specs.Calling.{ReadsAreMade, ReleasesAreMade, UnmapsAreMade, WritesAreMade};
 ghost use Rattle.gt_order.specs.Explored.{RunsAreExplored};
 ghost use Rattle.gt_order.specs.Printed.{GivenTextsArePrinted, PrintedTextsAreGiven, RunsArePrinted};
 ghost use Rattle.gt_order.specs.Printed.{UnloggedRunsPrint};
-ghost use Rattle.gt_order.specs.Leaving.{LeavingIsUnmapping};
+ghost use Rattle.gt_order.specs.Leaving.{LeavingIsReleasing};
 ghost use Rattle.gt_order.specs.Laws.{CoreSeesTheWords, RunsHaveLegalOrders, StepsKeepAgreement};
 ghost use Rattle.gt_order.specs.Texts.{RunsWriteALegalOrder, TextsAreOfALegalOrder};
 
@@ -28,6 +28,7 @@ pub fn steps_keep_agreement()
 pub fn calls_of_domains_are_made<P: Allows>(monitor: &Monitor<P>)
     ensures plain { PlainCallsAreMade P.may monitor.now }
     ensures unmaps { UnmapsAreMade P.may monitor.now }
+    ensures releases { ReleasesAreMade P.may monitor.now }
     ensures maps { MapsAreMade P.may monitor.now }
     ensures writes { WritesAreMade P.may monitor.now }
     ensures reads { ReadsAreMade P.may monitor.now }
@@ -41,10 +42,9 @@ pub fn every_run_has_a_legal_order()
     ensures { RunsHaveLegalOrders }
 {}
 
-/// A law: if the policy allows a domain to unmap each of its mappings, leaving is that many unmaps, each Ok. So a run
-/// continues beyond a domain that leaves.
-pub fn leaving_is_unmapping()
-    ensures { LeavingIsUnmapping }
+/// A law: leaving is a release of each mapping, each Ok. So a run continues beyond a domain that leaves.
+pub fn leaving_is_releasing()
+    ensures { LeavingIsReleasing }
 {}
 
 /// A law: the lists of a run print the answers of one legal interleaving of their calls, bytes and all, if no copy was
@@ -54,23 +54,20 @@ pub fn every_text_is_of_a_legal_order<P: Allows>(monitor: &Monitor<P>)
 {}
 
 /// A law: what a run wrote, by the contract of `run`, is the text of one legal interleaving of its calls, bytes and
-/// all, if no copy was refused at its access and the policy allows each domain to unmap the mappings with which it
-/// leaves.
+/// all, if no copy was refused at its access.
 pub fn every_run_writes_a_legal_order<P: Allows>(monitor: &Monitor<P>)
     ensures { RunsWriteALegalOrder P.may monitor.now }
 {}
 
 /// A law: what a run writes, but for its audit lines, is a text that the script may give, so one that `explore` lists,
-/// bytes and all, if no list was stopped by its gate, no answer is N26, and the policy allows each domain to unmap the
-/// mappings with which it leaves.
+/// bytes and all, if no list was stopped by its gate and no answer is N26.
 pub fn every_run_is_explored()
     ensures { RunsAreExplored }
 {}
 
 /// A law: what a run writes, but for its audit lines, is a text that a run of the script may print, bytes and all: that
 /// of one legal order of its calls, with N26 for a call that got no memory and made no step, and with the line of a
-/// gate that stopped a list. No copy may have answered N26, and the policy has to allow each domain to unmap the
-/// mappings with which it leaves.
+/// gate that stopped a list. No copy may have answered N26.
 pub fn every_run_is_printed()
     ensures { RunsArePrinted }
 {}

@@ -1,29 +1,28 @@
 //! Each run of the monitor is one legal interleaving of the core's events.
 //!
-//! Nothing here runs: the crate has definitions and laws. Each law is a function that does nothing, whose contract is
-//! the law. A run is the one order of all steps of all seats (`gt_words`), with the calls and the steps on flags that
-//! each domain made, as their contracts describe them (`gt_live`).
+//! A run is the one order of all steps of all seats (`gt_words`), with the calls and the steps on flags that each domain
+//! made, as their contracts describe them (`gt_live`). For each run whose calls are finished, there is an order of the
+//! core's items, which is legal (`gt_core`), and of steps on flags between them. Its steps are those of the run in their
+//! order, accesses to bytes too, and each call has the answer that its domain gave ([`every_run_has_a_legal_order`]).
+//! Each law is a function that does nothing, whose contract is the law.
 //!
-//! For each run whose calls are finished, there is an order of the core's items, which is legal (`gt_core`), and of
-//! steps on flags between them. Its steps are those of the run in their order, accesses to bytes too, and each call has
-//! the answer that its domain gave ([`every_run_has_a_legal_order`]). The contracts of a domain's calls make them calls
-//! of a run ([`calls_of_domains_are_made`]). The lists of `gt_run` print the answers of such an order
-//! ([`every_text_is_of_a_legal_order`]), and so does each text that `run` writes at Ok
-//! ([`every_run_writes_a_legal_order`]). It is a text that a run of the script may print ([`every_run_is_printed`],
-//! [`every_unlogged_run_is_printed`]). Each text that `explore` lists is one that a run may print
-//! ([`given_texts_are_printed`]), and a text that a run may print is one of those if it has neither N26 nor the line of
-//! a gate ([`printed_texts_are_given`], [`every_run_is_explored`]).
+//! [`run`] runs a script. Its contract says that what it appended is a text that a run of the script may print, and one
+//! that `explore` lists, if it has neither N26 nor the line of a gate. Other laws say the same by the calls of the lists
+//! ([`every_run_is_printed`], [`every_run_is_explored`]), of each text without such lines ([`printed_texts_are_given`]),
+//! and of each text that `explore` lists ([`given_texts_are_printed`]).
 //!
 //! It uses `gt_run`, `gt_explore_replay`, `gt_host`, `gt_script`, `gt_script_lines`, `gt_live`, `gt_audit`, `gt_core`,
-//! `gt_words`, `gt_shared_table`, `gt_word_history`, `gt_calls`, `gt_frames`, `gt_handles`, `gt_entry`, `gt_types` and
-//! the kit's `atomic_table`, `byteorder` and `hex`.
+//! `gt_words`, `gt_shared_table`, `gt_word_history`, `gt_calls`, `gt_frames`, `gt_handles`, `gt_entry`, `gt_text`,
+//! `gt_types` and the kit's `atomic_table`, `byteorder` and `hex`.
 #![tactic(auto)]
 
 mod laws;
+mod running;
 
 pub use laws::{
     calls_of_domains_are_made, core_sees_the_words, every_run_has_a_legal_order,
     every_run_is_explored, every_run_is_printed, every_run_writes_a_legal_order,
     every_text_is_of_a_legal_order, every_unlogged_run_is_printed, given_texts_are_printed,
-    leaving_is_unmapping, printed_texts_are_given, steps_keep_agreement,
+    leaving_is_releasing, printed_texts_are_given, steps_keep_agreement,
 };
+pub use running::run;

@@ -1,5 +1,5 @@
 -- From the text that a run wrote to memory to the one that goes out.
-use Rattle.std.proofs.Common.{◌≡◌, ◌∙◌, ℕ, Bool, List, [], ◌++◌, Option, None, Some, Result, Ok, Err, sym, subst, inl}
+use Rattle.std.proofs.Common.{◌≡◌, ◌∙◌, ℕ, Bool, List, [], ◌++◌, Option, None, Some, Result, Ok, Err, sym, subst, inl, true, false}
 use Rattle.std.proofs.Common.{inr}
 use Rattle.std.proofs.Common.{arith}
 use Rattle.std.proofs.lemmas.List.{append-nil}
@@ -20,6 +20,7 @@ use Rattle.gt_script.specs.RunContents.{RunContents}
 use Rattle.gt_script.specs.RunScripts.{RunTells}
 use Rattle.gt_script.specs.Script.{Wrong}
 use Rattle.gt_text.specs.Streams.{AppendsBeginning, OfInput}
+use Rattle.gt_order.specs.Running.{AppendsText, WroteIfOk}
 use Rattle.gt_program.specs.Formats.{RanAs, Relays}
 
 -- where all stays nothing went out, which is a beginning of any text
@@ -54,6 +55,16 @@ module _ (old new : Option (List ℕ)) (text : List ℕ) where
   relayed_text logged Told (Err why) (Err fault) ran (inl memory, kept) = subst (λ (f : RunFault). Ran logged Told old new (Err f)) (sym memory) (inl kept)
   relayed_text logged Told (Err why) (Err fault) ran (inr same, kept) = subst (λ (f : RunFault). Ran logged Told old new (Err f)) (sym same) (kept_on logged Told (Some []) (Some text) old new why kept ran)
 
+  sent_on : (logged : Bool) (part : List ℕ) → AppendsText logged (Some []) (Some text) part → Appends old new text → AppendsText logged old new part
+  sent_on false part is went = subst (λ (l : List ℕ). Appends old new l) is went
+  sent_on true part (audit, is) went = (audit, subst (λ (l : List ℕ). Appends old new l) is went)
+
+  relayed_wrote : (logged : Bool) (Told : Result RunContents Wrong → Type 0) (outcome answer : Result (Unit {0}) RunFault) → WroteIfOk logged Told (Some []) (Some text) outcome → Relays text outcome old new answer → WroteIfOk logged Told old new answer
+  relayed_wrote logged Told (Ok done) (Ok sent) (c, told, wrote) went =
+      (c, told, record { text = wrote.text; appends = sent_on logged wrote.text wrote.appends went; printed = wrote.printed; given = wrote.given })
+  relayed_wrote logged Told (Err why) (Ok sent) wrote went = absurd went
+  relayed_wrote logged Told outcome (Err fault) wrote went = tt
+
   relayed_json : (Wrote : Promise RunFault) (outcome answer : Result (Unit {0}) RunFault) → AsJson Run (Play Memory) (Play Write) Wrote (Some []) (Some text) outcome → Relays text outcome old new answer
       → AsJson Run (Play Memory) (Play Write) Wrote old new answer
   relayed_json Wrote (Ok done) (Ok sent) (lines, wrote, whole) went = (lines, wrote, subst (λ (l : List ℕ). Appends old new l) whole went)
@@ -67,7 +78,7 @@ module _ (old new : Option (List ℕ)) (text : List ℕ) where
 
 relayed_one : (old new : Option (List ℕ)) (text : List ℕ) (format : Format) (logged : Bool) (input : List ℕ) (outcome answer : Result (Unit {0}) RunFault) → RanAs format logged input (Some []) (Some text) outcome → Relays text outcome old new answer
     → RanAs format logged input old new answer
-relayed_one old new text Text logged input outcome answer ran went = relayed_text old new text logged (RunTells input) outcome answer ran went
+relayed_one old new text Text logged input outcome answer ran went = (relayed_text old new text logged (RunTells input) outcome answer ran.0 went, relayed_wrote old new text logged (RunTells input) outcome answer ran.1 went)
 relayed_one old new text Json logged input outcome answer ran went = relayed_json old new text (Ran logged (RunTells input)) outcome answer ran went
 
 -- what follows for each input follows for the one that there is

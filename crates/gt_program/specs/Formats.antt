@@ -12,7 +12,7 @@ use Rattle.gt_host.specs.Playing.{Played}
 use Rattle.gt_host.specs.declared.fault.PlayFault.{PlayFault}
 use Rattle.gt_policy_list.specs.Writing.{Listed}
 use Rattle.gt_policy_list.specs.declared.fault.ListingFault.{ListingFault}
-use Rattle.gt_run.specs.Runs.{Ran}
+use Rattle.gt_order.specs.Running.{RanInOrder}
 use Rattle.gt_run.specs.declared.fault.RunFault.{RunFault}
 use Rattle.gt_script.specs.Script.{TellsScript}
 use Rattle.gt_text.specs.Streams.{AppendsBeginning}
@@ -26,7 +26,7 @@ PlayedAs Json audited input = PlayedAsJson input audited
 
 -- the output of `run`
 abbrev pub RanAs : Format → Bool → List ℕ → Promise RunFault
-RanAs Text audited input = Ran audited (RunTells input)
+RanAs Text audited input = RanInOrder audited (RunTells input)
 RanAs Json audited input = RanAsJson input audited
 
 -- The output of a text that a run wrote to memory, by the run's result. At Ok it is the text, or a prefix of it if a

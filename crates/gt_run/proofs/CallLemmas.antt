@@ -46,6 +46,7 @@ adds_record may m d (requests.Map dom gref flags) answer e (Ok handle, is, answe
 adds_record may m d (requests.Map dom gref flags) answer e (Err denial, is, answered, told) = adds d e (requests.Map dom gref flags) answer _ is told
 adds_record may m d (requests.Unmap handle) answer e (Ok done, is, answered, removed, refused, told) = adds d e (requests.Unmap handle) answer _ is told
 adds_record may m d (requests.Unmap handle) answer e (Err denial, is, answered, removed, refused, told) = adds d e (requests.Unmap handle) answer _ is told
+adds_record may m d (requests.Release handle) answer e (r, is, answered, removed, refused, silent) = silent
 adds_record may m d (requests.SetVersion version) answer e (Ok done, is, (answered, kept, told)) = adds d e (requests.SetVersion version) answer _ is told
 adds_record may m d (requests.SetVersion version) answer e (Err denial, is, (answered, kept, told)) = adds d e (requests.SetVersion version) answer _ is told
 adds_record may m d (requests.SetupTable frames) answer e (Ok given, is, (answered, kept, told)) = adds d e (requests.SetupTable frames) answer _ is told

@@ -77,6 +77,11 @@ AnswersCall may m d (requests.Unmap handle) answer e =
     × Answered may m d (requests.Unmap handle) (verdict_of r) e
     × OnOk r ((p : HeldPin) × Removes d.mappings e.mappings handle p) × OnErr r (KeepsPinned d e)
     × Tells d.trail (told_of d (hypercalls.Unmap (subject_of d handle)) (verdict_of r)) e.trail
+AnswersCall may m d (requests.Release handle) answer e =
+    (r : Result (Unit {0}) Denial) × (answer ≡ plain_answer r)
+    × Answered may m d (requests.Release handle) (verdict_of r) e
+    × OnOk r ((p : HeldPin) × Removes d.mappings e.mappings handle p) × OnErr r (KeepsPinned d e)
+    × (e.trail ≡ d.trail)
 AnswersCall may m d (requests.SetVersion version) answer e =
     (r : Result (Unit {0}) Denial) × (answer ≡ plain_answer r)
     × AnswersTold may m d (requests.SetVersion version) (hypercalls.SetVersion version) (verdict_of r) e

@@ -145,6 +145,7 @@ impl<'m, P: Allows> RunningDomain<'m, P> {
                 mapped.map_or_else(Answer::Denied, Answer::Mapped)
             }
             Request::Unmap { handle } => done(self.domain.unmap(self.monitor, handle)),
+            Request::Release { handle } => done(self.domain.release(self.monitor, handle)),
             Request::SetVersion { version } => done(self.domain.set_version(self.monitor, version)),
             Request::SetupTable { frames } => {
                 let has = self.domain.setup_table(self.monitor, frames);

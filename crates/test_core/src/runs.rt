@@ -62,6 +62,10 @@ pub const UNMAP: Request = Request::Unmap {
     handle: FIRST_HANDLE,
 };
 
+const RELEASE: Request = Request::Release {
+    handle: FIRST_HANDLE,
+};
+
 const UNMAP_SECOND: Request = Request::Unmap {
     handle: SECOND_HANDLE,
 };
@@ -181,8 +185,31 @@ const TAKEN_HANDLE: [Row; 7] = [
     (Do(PEER, UNMAP_SECOND), "N6"),
 ];
 
+// A release asks no policy. The owner may map the peer's page, and may not unmap it.
+const RELEASED_WITHOUT_A_RIGHT: [Row; 8] = [
+    (Do(PEER, grant!(0, page!(OWNER, true, 5))), "ok"),
+    (
+        Do(
+            OWNER,
+            Request::Map {
+                dom: PEER,
+                gref: GrantRef(0),
+                flags: READ_ONLY,
+            },
+        ),
+        "ok 0.0",
+    ),
+    (Do(OWNER, UNMAP), "N5 source=1 target=2 Perms(4)"),
+    (Begin(OWNER, RELEASE), "open"),
+    (Do(PEER, REVOKE), "N19 100010000015"),
+    (Tick(OWNER, 1), "ok"),
+    (Do(OWNER, RELEASE), "N6"),
+    (Do(PEER, REVOKE), "ok"),
+];
+
 // Each run with the version of the tables. No bytes may be copied from one domain to another.
-static RUNS: [Run; 20] = [
+static RUNS: [Run; 21] = [
+    (1, &[], &[], &RELEASED_WITHOUT_A_RIGHT),
     (1, &[], &MAPPED_RW, &REVOKE_BEFORE_THE_UNPIN),
     (1, &[], &GRANTED, &ANOTHER_GRANT_BEFORE_THE_PIN),
     (1, &[], &[], &READ_ONLY_PAGE),

@@ -6,8 +6,8 @@ use gt_entry::Entry;
 use gt_types::{DOMID_SELF, DomId, GrantRef};
 use std::test::Fail;
 use test_monitor::TestCall::{
-    self, Bytes, Copy, Demote, GetVersion, Grant, Load, Map, Peek, Poke, Promote, Revoke, Setup,
-    Size, Store, Unmap, Version, Withdraw,
+    self, Bytes, Copy, Demote, GetVersion, Grant, Load, Map, Peek, Poke, Promote, Release, Revoke,
+    Setup, Size, Store, Unmap, Version, Withdraw,
 };
 use test_monitor::{READ_ONLY, WRITABLE};
 use test_rows::{copy, end, page, sub, via};
@@ -49,7 +49,7 @@ const OVERLAP: CopyArgs = copy!(
     0
 );
 
-const A_MAPPING_IS_COUNTED_AND_GIVEN_UP: [Line; 13] = [
+const A_MAPPING_IS_COUNTED_AND_GIVEN_UP: [Line; 18] = [
     (TWO, Map(1, 0, READ_ONLY), "N10 -1 entry 1 0 0"),
     (ONE, Grant(0, READ_ONLY_PAGE), "ok"),
     (TWO, Map(1, 0, READ_ONLY), "ok"),
@@ -63,6 +63,11 @@ const A_MAPPING_IS_COUNTED_AND_GIVEN_UP: [Line; 13] = [
     (THREE, Map(1, 0, READ_ONLY), "N11 -1 entry 1 0 200020000001"),
     (TWO, Map(9, 0, READ_ONLY), "N1 -2"),
     (TWO, Map(1, 0, 3), "N2 -1"),
+    (TWO, Map(1, 0, READ_ONLY), "ok"),
+    (ONE, Revoke(0), "N19 -1 entry 1 0 200020000011"),
+    (TWO, Release, "ok"),
+    (TWO, Release, "N6 -4"),
+    (ONE, Revoke(0), "ok"),
 ];
 
 // A withdrawal closes the entry to new pins, and the existing mapping stays. Its pin holds back the next grant.

@@ -23,6 +23,7 @@ pub enum TestCall<'a> {
     /// Domain, reference and flags.
     Map(u16, u32, u32),
     Unmap,
+    Release,
     Version(u32),
     Setup(u32),
     Size(u16),

@@ -207,6 +207,7 @@ impl<'m, P: Allows> TestDomain<'m, P> {
             TestCall::Promote(gref) => done(self.promote(gref)),
             TestCall::Map(dom, gref, flags) => done(self.map(dom, gref, flags)),
             TestCall::Unmap => done(self.unmap()),
+            TestCall::Release => done(self.domain.release(monitor, self.last)),
             TestCall::Version(version) => done(self.domain.set_version(monitor, version)),
             TestCall::Setup(count) => frames(self.domain.setup_table(monitor, count)),
             TestCall::Size(dom) => size(self.domain.query_size(monitor, DomId(dom))),
@@ -240,6 +241,7 @@ impl<'m, P: Allows> TestDomain<'m, P> {
                 done(answer)
             }
             Request::Unmap { handle } => done(self.domain.unmap(monitor, handle)),
+            Request::Release { handle } => done(self.domain.release(monitor, handle)),
             Request::SetVersion { version } => done(self.domain.set_version(monitor, version)),
             Request::SetupTable { frames: count } => {
                 frames(self.domain.setup_table(monitor, count))

@@ -150,7 +150,7 @@ impl Domain {
         ensures mine { BelongsTo P.may monitor.now self.new }
         ensures resets { Resets P.may monitor.now self.old result self.new }
     {
-        self.release(monitor);
+        self.release_all(monitor);
         self.close(monitor)
     }
 

@@ -8,7 +8,7 @@ use super::{Domain, known_with, refusal_of, tell_done, tell_refusal};
 use crate::driving::{drive_map, pin_of};
 use crate::monitor::Monitor;
 use gt_audit::{Hypercall, Record, Reply, Trail};
-use gt_calls::{CallResult, Handle, HeldPin, judge_map, judge_unmap};
+use gt_calls::{CallResult, Handle, HeldPin, judge_map, judge_release, judge_unmap};
 use gt_types::{Allows, Denial, DomId, Facts, GrantRef, Rule};
 
 // Records a map that was Ok. The record of a refused one is made in another function, so that a map that is Ok makes
@@ -208,6 +208,28 @@ impl Domain {
         ensures silent { self.new.trail ≡ self.old.trail }
     {
         if let Some(verdict) = self.judge_unmap(monitor, handle) {
+            return Err(refusal_of(verdict));
+        }
+        let held = self.mappings.take(handle).unwrap();
+        monitor.words.unpin(&mut self.seat, pin_of(held));
+        Ok(())
+    }
+
+    /// Drops a mapping, and releases its pin, without asking the policy and without a record. [`Domain::finish`] does
+    /// this with each mapping.
+    ///
+    /// # Errors
+    /// N6. Mappings and pins are unchanged.
+    pub fn release<P: Allows>(&mut self, monitor: &Monitor<P>, handle: Handle) -> Result<(), Denial>
+        requires mine { BelongsTo P.may monitor.now self.old }
+        ensures mine { BelongsTo P.may monitor.now self.new }
+        ensures seat { IsSameSeat self.old.seat self.new.seat }
+        ensures answered { Answered P.may monitor.now self.old (Request.Release handle) (verdict_of result) self.new }
+        ensures removed { OnOk result ((p : HeldPin) × Removes self.old.mappings self.new.mappings handle p) }
+        ensures refused { OnErr result (KeepsPinned self.old self.new) }
+        ensures silent { self.new.trail ≡ self.old.trail }
+    {
+        if let Some(verdict) = judge_release(&self.mappings, handle) {
             return Err(refusal_of(verdict));
         }
         let held = self.mappings.take(handle).unwrap();

@@ -4,7 +4,7 @@ use Rattle.gt_live.proofs.domain.Domain.finish.Goals as goal
 
 pub returns : goal.returns
 returns g c =
-    let m = c.args.monitor.now in let e = c.release.ensures in let f = c.release.new.self in
+    let m = c.args.monitor.now in let e = c.release_all.ensures in let f = c.release_all.new.self in
     let moments = released-moments m.words.layout e.released.0 c.args.self.mappings c.args.self.seat.view f.mappings f.seat.view e.released.1 in
     record {
       left = record {

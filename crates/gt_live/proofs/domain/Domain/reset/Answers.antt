@@ -3,7 +3,7 @@ use Rattle.gt_live.proofs.domain.Domain.reset.Goals as goal
 
 pub returns-clause-resets : goal.returns-clause-resets
 returns-clause-resets g c =
-    let r = c.release.ensures in let d = c.release.new.self in let e = c.close.new.self in
+    let r = c.release_all.ensures in let d = c.release_all.new.self in let e = c.close.new.self in
     record {
       between = d;
       seat = r.seat;

@@ -1,10 +1,7 @@
-use Rattle.std.proofs.Common.{◌≡◌, ◌∙◌, ◌+◌, ◌<◌, sym, subst, refl, Some, None, Option}
+use Rattle.std.proofs.Common.{◌≡◌, ◌∙◌, ◌<◌, sym, subst, refl, Some, None, Option}
 use Rattle.gt_types.specs.declared.limits.TheConstants.{TABLE_ENTRIES}
 use Rattle.std.specs.Option.{IsSome}
-use Rattle.std.specs.Prelude.{OnSome}
-use Rattle.gt_handles.specs.declared.handles.Handle.{Handle}
-use Rattle.gt_handles.specs.Handles.{HandleMap, Updates, count_of, value_of}
-use Rattle.gt_handles.specs.Listing.{IsTaken}
+use Rattle.gt_handles.specs.Handles.{value_of}
 use Rattle.gt_words.specs.Conditions.{HasDomain, Holds}
 use Rattle.gt_words.specs.Answers.{Unpins}
 use Rattle.gt_word_history.specs.Controls.{generation_of}
@@ -21,20 +18,11 @@ use Rattle.gt_calls.specs.declared.request.Request.TheVariants as requests
 use Rattle.gt_live.specs.Domains.{knowledge}
 use Rattle.gt_live.proofs.Accessing.{mapped-way, none-left, refused-called, refuses}
 use Rattle.gt_live.proofs.DomainKept.{some-pins, unmapped}
+use Rattle.gt_live.proofs.Dropping.{taken-out}
 use Rattle.gt_live.proofs.Making.{same_seat-self, still_seat}
 use Rattle.gt_live.proofs.OneStep.{one-step}
 use Rattle.gt_live.proofs.AnsweredAtOnce.{mapping-refused}
 use Rattle.gt_live.proofs.domain.Domain.unmap_unrecorded.Goals as goal
-
--- what was taken out under this handle
-taken-out : (old new : HandleMap HeldPin) (h : Handle) (m : HeldPin) (r : Option HeldPin) → value_of old h ≡ Some m → r ≡ value_of old h
-    → Updates old new h None → OnSome r (count_of new + 1 ≡ count_of old) → new.given ≡ old.given → IsTaken old new h m
-taken-out old new h m r there value updates count given = record {
-  value = there;
-  updates = updates;
-  count = subst (λ (o : Option HeldPin). OnSome o (count_of new + 1 ≡ count_of old)) (value ∙ there) count;
-  given = given;
-}
 
 pub returns-in-Some : goal.returns-in-Some
 returns-in-Some g c =

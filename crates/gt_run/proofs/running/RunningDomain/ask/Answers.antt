@@ -69,6 +69,15 @@ returns-in-Unmap-clause-asked g c =
       (e.mine, e.seat),
     )
 
+pub returns-in-Release-clause-asked : goal.returns-in-Release-clause-asked
+returns-in-Release-clause-asked g c =
+    let e = c.release.ensures in
+    rw (← c.self.view_is, c.in-Release.is) (
+      e.seat.dom,
+      (c.release.result, c.done-in-Release.ensures, e.answered, e.removed, e.refused, e.silent),
+      (e.mine, e.seat),
+    )
+
 pub returns-in-SetVersion-clause-asked : goal.returns-in-SetVersion-clause-asked
 returns-in-SetVersion-clause-asked g c =
     let e = c.set_version.ensures in

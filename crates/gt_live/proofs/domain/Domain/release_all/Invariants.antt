@@ -3,7 +3,7 @@ use Rattle.gt_handles.specs.declared.handles.Handle.{Handle}
 use Rattle.gt_handles.specs.Handles.{count_of}
 use Rattle.gt_words.specs.Conditions.{IsSameSeat}
 use Rattle.gt_live.specs.Domains.{BelongsTo, Released}
-use Rattle.gt_live.proofs.domain.Domain.release.Given as goal
+use Rattle.gt_live.proofs.domain.Domain.release_all.Given as goal
 
 abbrev pub invariant-mappings : goal.invariant-mappings
 invariant-mappings g l = record {
