@@ -246,8 +246,8 @@ module _ (c : Config) (may : AllowRelation) (types : List (List ℕ)) (dom : Dom
               less.before,
               less.after,
               less.whole,
-              subst (λ g. CallHappens dom (requests.Release releases.0.0) (λ answer more. (answer ≡ answers.Done) × GivesMappingsBack dom last (less.before ++ less.after) more) (happenings (of_core g) ++ more)) (sym same)
-                  (call-happens dom (way_of c may u) (requests.Release releases.0.0) answers.Done u.steps (λ answer more. (answer ≡ answers.Done) × GivesMappingsBack dom last (less.before ++ less.after) more) more (refl, subst (λ (l : List Handle). GivesMappingsBack dom last l more) less.left g)),
+              subst (λ g. CallHappens dom (requests.Release releases.0.0) (λ answer more. GivesMappingsBack dom last (less.before ++ less.after) more) (happenings (of_core g) ++ more)) (sym same)
+                  (call-happens dom (way_of c may u) (requests.Release releases.0.0) answers.Done u.steps (λ answer more. GivesMappingsBack dom last (less.before ++ less.after) more) more (subst (λ (l : List Handle). GivesMappingsBack dom last l more) less.left g)),
             ) in
             subst (λ (l : List Handle). GivesMappingsBack dom l held (happenings (of_core mine ++ order_of_deeds c may dom us) ++ more)) (sym (append_assoc was.order (releases.0.0 ∷ []) last))
             (subst (GivesMappingsBack dom (was.order ++ releases.0.0 ∷ last) held)

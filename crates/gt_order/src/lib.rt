@@ -13,7 +13,7 @@
 //!
 //! It uses `gt_run`, `gt_explore_replay`, `gt_host`, `gt_script`, `gt_script_lines`, `gt_live`, `gt_audit`, `gt_core`,
 //! `gt_words`, `gt_shared_table`, `gt_word_history`, `gt_calls`, `gt_frames`, `gt_handles`, `gt_entry`, `gt_text`,
-//! `gt_types` and the kit's `atomic_table`, `byteorder` and `hex`.
+//! `gt_types` and the kit's `atomic_table` and `hex`.
 #![tactic(auto)]
 
 mod laws;
