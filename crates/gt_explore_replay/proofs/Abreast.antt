@@ -8,7 +8,7 @@ use Rattle.gt_types.specs.Names.{domain_of}
 use Rattle.gt_types.specs.declared.DomId.{DomId}
 use Rattle.gt_handles.specs.declared.handles.Handle.{Handle}
 use Rattle.gt_calls.specs.declared.request.Request.{Request}
-use Rattle.gt_calls.specs.declared.request.Request.TheVariants.{Release}
+use Rattle.gt_calls.specs.declared.request.Request.TheVariants.{Release, Unmap}
 use Rattle.gt_core.specs.Acting.{begun_element, ticked_element}
 use Rattle.gt_core.specs.Alike.{bare_handle, bare_request, told_part, AreAlike}
 use Rattle.gt_core.specs.History.{History, Setting, open_call}
@@ -182,6 +182,7 @@ some_told None b e = absurd (none-some (told_part b) e)
 some_told (Some a) b e = (a, refl, same_Some (told_part a) (told_part b) e)
 
 given_bare : (q : Request) → option_map bare_handle (given_up q) ≡ given_up (bare_request q)
+given_bare (Unmap handle) = refl
 given_bare (Release handle) = refl
 given_bare q = refl
 

@@ -13,6 +13,7 @@ use Rattle.gt_calls.specs.declared.action.Action.TheVariants.{Step as Makes, Don
 use Rattle.gt_calls.specs.declared.action.CallResult.{CallResult}
 use Rattle.gt_calls.specs.declared.action.CallResult.TheVariants.{Granted}
 use Rattle.gt_calls.specs.declared.action.Observation.{Observation}
+use Rattle.gt_calls.specs.declared.action.Observation.TheVariants.{Nothing}
 use Rattle.gt_calls.specs.declared.action.Step.{Step}
 use Rattle.gt_calls.specs.declared.action.Step.TheVariants.{Unpin}
 use Rattle.gt_calls.specs.declared.held.HeldPin.{HeldPin}
@@ -21,7 +22,7 @@ use Rattle.gt_calls.specs.declared.request.OpenRequest.TheVariants.{Release}
 use Rattle.gt_calls.specs.declared.request.PinHolder.TheVariants.{Mapping as ByHandle}
 use Rattle.gt_calls.specs.declared.request.Request.{Request}
 use Rattle.gt_calls.specs.declared.request.Request.TheVariants as requests
-use Rattle.gt_core.specs.History.{History, Setting, Underway, known_at, mapping_of, mappings_at, open_call, values}
+use Rattle.gt_core.specs.History.{History, Setting, Underway, known_at, mapping_of, mappings_at, open_call, seen_by, values}
 use Rattle.gt_core.specs.Legal.{AnsweredBy, GivesValue, IsRight, StepsRightIn, gives_back, next_in, refusal_of, verdict_in}
 use Rattle.gt_core.specs.declared.trace.Answer.{Answer}
 use Rattle.gt_core.specs.declared.trace.Answer.TheVariants as answers
@@ -51,24 +52,32 @@ begins-mapped s h i handle right is some = by i.actor i.happened i.answer is rig
 
 -- at its step
 
-over : (b : Option CallResult) (m : Option HeldPin) (handle : Handle) (vs : List Observation) (z : Step) (seen : Observation) → after_beginning b (by_mapping m (λ q. Unpin q (ByHandle handle))) vs ≡ Some (Makes z)
-    → after_beginning b (by_mapping m (λ q. Unpin q (ByHandle handle))) (vs ++ seen ∷ []) ≡ Some (Ends Granted)
-over None (Some q) handle [] z seen e = grind arith
-over b m handle vs z seen e = absurd (grind arith)
+-- its one step drops the mapping, and then it is over
+over : (b : Option CallResult) (m : Option HeldPin) (handle : Handle) (vs : List Observation) (z : Step) → after_beginning b (by_mapping m (λ q. Unpin q (ByHandle handle))) vs ≡ Some (Makes z)
+    → ((p : HeldPin) × (z ≡ Unpin p (ByHandle handle))) × (after_beginning b (by_mapping m (λ q. Unpin q (ByHandle handle))) (vs ++ Nothing ∷ []) ≡ Some (Ends Granted))
+over None (Some q) handle [] z e = ((q, grind arith), refl)
+over b m handle vs z e = absurd (grind arith)
 
-release-over : (k : CallerKnowledge) (d : DomId) (r : OpenRequest) (handle : Handle) (vs : List Observation) (z : Step) (seen : Observation) → r ≡ Release handle → path k d r vs ≡ Some (Makes z) → path k d r (vs ++ seen ∷ []) ≡ Some (Ends Granted)
-release-over k d r handle vs z seen is e =
+release-over : (k : CallerKnowledge) (d : DomId) (r : OpenRequest) (handle : Handle) (vs : List Observation) (z : Step) → r ≡ Release handle → path k d r vs ≡ Some (Makes z)
+    → ((p : HeldPin) × (z ≡ Unpin p (ByHandle handle))) × (path k d r (vs ++ Nothing ∷ []) ≡ Some (Ends Granted))
+release-over k d r handle vs z is e =
     let from : (ws : List Observation) → path k d r ws ≡ path k d (Release handle) ws = λ ws. ap (λ (q : OpenRequest). path k d q ws) is in
-    from (vs ++ seen ∷ []) ∙ over (begun k d (Release handle)) (k.mapping handle) handle vs z seen (sym (from vs) ∙ e)
+    let o = over (begun k d (Release handle)) (k.mapping handle) handle vs z (sym (from vs) ∙ e) in
+    (o.0, from (vs ++ Nothing ∷ []) ∙ o.1)
 
-answered-ok : (s : Setting) (h : History) (d : DomId) (handle : Handle) (z : Step) (giving : Bool) (given : Option Answer) (against : Option Denial)
-    → AnsweredBy s h d (Release handle) (Some z) giving (Some Granted) given against → given ≡ Some answers.Done
-answered-ok s h d handle z giving None against by = absurd by
-answered-ok s h d handle z giving (Some answer) against by = ap (λ (a : Answer). Some a) (value answer by.0 by.2)
+answered-ok : (s : Setting) (h : History) (d : DomId) (r : OpenRequest) (handle : Handle) (z : Step) (next : Option Action) (given : Option Answer) (against : Option Denial)
+    → r ≡ Release handle → next ≡ Some (Ends Granted) → AnsweredBy s h d r (Some z) (gives_back next) (verdict_in next) given against → given ≡ Some answers.Done
+answered-ok s h d r handle z next given against is ends by =
+    plain given (subst (λ (q : OpenRequest). AnsweredBy s h d q (Some z) false (Some Granted) given against) is
+    (subst (λ (a : Option Action). AnsweredBy s h d r (Some z) (gives_back a) (verdict_in a) given against) ends by))
   where
     value : (a : Answer) → refusal_of a ≡ None → GivesValue s h d (Release handle) (Some z) a → a ≡ answers.Done
-    value (answers.Denied denial) refused given = absurd (none-some denial (sym refused))
-    value a refused given = given
+    value (answers.Denied denial) refused told = absurd (none-some denial (sym refused))
+    value a refused told = told
+
+    plain : (o : Option Answer) → AnsweredBy s h d (Release handle) (Some z) false (Some Granted) o against → o ≡ Some answers.Done
+    plain None so = absurd so
+    plain (Some answer) so = ap (λ (a : Answer). Some a) (value answer so.0 so.2)
 
 ends-ok : OpenReleasesAreOk
 ends-ok s h i step seen c handle right is opened asks = by i.actor i.happened i.answer is right opened
@@ -77,9 +86,10 @@ ends-ok s h i step seen c handle right is opened asks = by i.actor i.happened i.
     in-call actor given z v None e right = absurd (none-some c e)
     in-call actor given z v (Some u) e right =
         let request : u.request ≡ Release handle = ap (λ (x : Underway). x.request) (same_Some u c e) ∙ asks in
-        let ends : next_in s h actor u v ≡ Some (Ends Granted) = release-over (known_at s h actor) actor u.request handle (values u) z v request right.continues in
-        let one = subst (λ (a : Option Action). AnsweredBy s h actor u.request (Some z) (gives_back a) (verdict_in a) given _) ends right.answered in
-        answered-ok s h actor handle z _ given _ (subst (λ (r : OpenRequest). AnsweredBy s h actor r (Some z) _ (Some Granted) given _) request one)
+        let o = release-over (known_at s h actor) actor u.request handle (values u) z request right.continues in
+        let nothing : v ≡ Nothing = right.sees ∙ ap (seen_by s h actor) o.0.1 in
+        let ends : next_in s h actor u v ≡ Some (Ends Granted) = ap (λ (w : Observation). path (known_at s h actor) actor u.request (values u ++ w ∷ [])) nothing ∙ o.1 in
+        answered-ok s h actor u.request handle z (next_in s h actor u v) given _ request ends right.answered
 
     by : (actor : DomId) (x : ItemEvent) (given : Option Answer) → x ≡ Stepped step seen → IsRight s h (record { actor = actor; happened = x; answer = given }) → open_call h actor.0 ≡ Some c → given ≡ Some answers.Done
     by actor (Began request) given e right opened = absurd (cc)

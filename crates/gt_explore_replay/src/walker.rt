@@ -271,10 +271,11 @@ impl<'s, 'a> Walker<'s, 'a> {
         match begun {
             Begun::Open => {
                 self.doing = OpenTask::GivesBack;
-                Ok(Some(Moved::Began))
+                return Ok(Some(Moved::Began));
             }
-            Begun::Done(_) => Ok(Some(Moved::Began)),
-            Begun::Busy | Begun::NoDomain => Ok(None),
+            Begun::Done(_) => return Ok(Some(Moved::Began)),
+            Begun::Busy => return Ok(None),
+            Begun::NoDomain => return Ok(None),
         }
     }
 
