@@ -7,10 +7,12 @@
 #
 # A program has two or three domains with two to four calls each on the entries 0 and 1 of the first domain, and some
 # flags between them. In some programs the policy does not let a domain unmap what it maps. One that can't run (`stuck`),
-# or has more states than the limit, is drawn anew. It is no part of the gate. The same seed draws the same programs. Prints how much was tried; the
-# status is 1 if something is wrong, and the program is then left as explore-N.gt.
+# or has more states than the limit, is drawn anew. The same seed draws the same programs. With the word `cases` the
+# programs are those of `cases_explore`, whose texts the gate compares with stored ones. It is no part of the gate.
+# Prints how much was tried; the status is 1 if something is wrong, and the program is then left as explore-N.gt.
 # PROGRAM=FILE takes the built program gthost.
 # usage: bench/explore.sh [SEED [PROGRAMS [RUNS]]]        1, 50 and 200 if they are left out
+#        bench/explore.sh cases [RUNS]                    200 runs of each if they are left out
 set -euo pipefail
 
 # shellcheck source=bench/common.sh
@@ -18,6 +20,7 @@ source "$(dirname "${BASH_SOURCE[0]}")/common.sh"
 seed="${1:-1}"
 programs="${2:-50}"
 runs="${3:-200}"
+if [ "$seed" = cases ]; then runs="${2:-200}"; fi
 program="$(built gthost)"
 work="$(mktemp -d)"
 trap 'rm -rf "$work"' EXIT
@@ -132,10 +135,17 @@ try() {
 }
 
 texts=0 ran=0 witnesses=0 unplayable=0 states=0 tried=0 passed=0
-for ((number = 1; tried < programs; number++)); do
-  draw "$((seed * 100000 + number))" >"$work/program.gt"
-  if try "$number"; then tried=$((tried + 1)); else passed=$((passed + 1)); fi
-done
+if [ "$seed" = cases ]; then
+  for file in "$top"/crates/cases_explore/data/*.gt; do
+    cp "$file" "$work/program.gt"
+    if try "$(basename "$file" .gt)"; then tried=$((tried + 1)); else passed=$((passed + 1)); fi
+  done
+else
+  for ((number = 1; tried < programs; number++)); do
+    draw "$((seed * 100000 + number))" >"$work/program.gt"
+    if try "$number"; then tried=$((tried + 1)); else passed=$((passed + 1)); fi
+  done
+fi
 echo "$tried programs ($passed drawn anew), $states states, $texts texts"
 echo "$((tried * runs)) runs printed $ran of them, and no other"
 echo "$witnesses witnesses gave their texts; $unplayable texts need a release that play has no line for"
