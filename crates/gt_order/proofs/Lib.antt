@@ -30,5 +30,5 @@ pub mod Stages
 pub mod Start
 pub mod Stepping
 pub mod Unlogged
-mod Running
+mod RunTexts
 pub mod Walks

@@ -1,5 +1,5 @@
 use Rattle.gt_script.specs.RunScripts.{RunTells}
-use Rattle.gt_order.proofs.Running.{input-so}
+use Rattle.gt_order.proofs.RunTexts.{input-so}
 use Rattle.gt_order.proofs.running.run.Goals as goal
 
 pub returns-clause-text : goal.returns-clause-text
