@@ -105,7 +105,8 @@ uint32_t gthost_version(void);
 
 /*
  * The calls of a domain as the library exports them: `domain` may not be null. The functions below have the same names
- * without _at, and test `domain` first. A program in C or C++ calls those.
+ * without _at, and test `domain` first. A program in C or C++ calls those. Two exports store their answer in `answer`;
+ * their other pointers may not be null either.
  */
 struct gthost_answer gthost_finish_at(struct gthost_domain *domain);
 struct gthost_answer gthost_reset_at(struct gthost_domain *domain);
@@ -123,8 +124,9 @@ struct gthost_answer gthost_withdraw_at(struct gthost_domain *domain, uint32_t g
 struct gthost_answer gthost_demote_at(struct gthost_domain *domain, uint32_t gref);
 struct gthost_answer gthost_promote_at(struct gthost_domain *domain, uint32_t gref);
 struct gthost_found_entry gthost_entry_at(struct gthost_domain *domain, uint32_t gref);
-struct gthost_answer gthost_map_at(struct gthost_domain *domain, uint16_t dom, uint32_t gref, uint32_t flags);
-struct gthost_answer gthost_unmap_at(struct gthost_domain *domain, struct gthost_handle name);
+void gthost_map_at(struct gthost_domain *domain, uint16_t dom, uint32_t gref, uint32_t flags,
+                   struct gthost_answer *answer);
+void gthost_unmap_at(struct gthost_domain *domain, const struct gthost_handle *name, struct gthost_answer *answer);
 struct gthost_found_mapping gthost_mapping_at(struct gthost_domain *domain, struct gthost_handle name);
 struct gthost_begun_copy gthost_copy_begin_at(struct gthost_domain *domain, struct gthost_copy copy);
 struct gthost_answer gthost_copy_end_at(struct gthost_domain *domain);
@@ -178,8 +180,9 @@ static inline struct gthost_begun_copy gthost_null_copy(void)
  * The answer (GTHOST_LEFT) has the number of records that were lost, and in `more` the number of its entries that
  * others still use. If that is 0, no domain maps or copies by any of its entries, now or later, and its memory is free.
  * Otherwise others may still touch it, until they unmap. An entry is in use if it has pins. It is also in use if it is
- * still valid, since each of the 64 tries to withdraw it was missed: others took or released pins in between.
- * gthost_reset returns the same while the domain stays, so that gthost_entry can show when the last pin is gone.
+ * still valid, since each of the 64 tries to withdraw it was missed: others took or released pins in between. Such an
+ * entry may be mapped later too. gthost_reset returns the same while the domain stays, so that gthost_entry can show
+ * when the last pin is gone, and a second gthost_reset can withdraw what is still valid.
  */
 static inline struct gthost_answer gthost_finish(struct gthost_domain *domain)
 {
@@ -187,10 +190,11 @@ static inline struct gthost_answer gthost_finish(struct gthost_domain *domain)
 }
 
 /*
- * Makes the domain ready for another guest in its place: like gthost_finish, but the domain stays, with no copy, no
- * mapping, and each of its entries withdrawn. The answer is the same. Its records stay. The new guest has the number,
- * the label, the table and the generations of the one before. The memory of that one is free if `more` is 0, and
- * otherwise when gthost_entry shows no pins on any entry.
+ * Makes the domain ready for another guest in its place: like gthost_finish, but the domain stays, with no copy and no
+ * mapping. Each of its entries is withdrawn, but for those that 64 missed tries left valid, and `more` counts these too.
+ * The answer is the same. Its records stay. The new guest has the number, the label, the table and the generations of
+ * the one before. The memory of that one is free if `more` is 0. Otherwise it is free when gthost_entry shows each entry
+ * invalid and without pins. An entry that is still valid needs another gthost_reset, or a gthost_withdraw.
  */
 static inline struct gthost_answer gthost_reset(struct gthost_domain *domain)
 {
@@ -286,13 +290,25 @@ static inline struct gthost_found_entry gthost_entry(struct gthost_domain *domai
 /* Maps an entry of a domain. The answer is a GTHOST_HANDLE. N1, N2, N5, N8 to N13, N16 to N18, N26. */
 static inline struct gthost_answer gthost_map(struct gthost_domain *domain, uint16_t dom, uint32_t gref, uint32_t flags)
 {
-    return domain ? gthost_map_at(domain, dom, gref, flags) : gthost_null_answer();
+    struct gthost_answer answer;
+    if (domain) {
+        gthost_map_at(domain, dom, gref, flags, &answer);
+    } else {
+        answer = gthost_null_answer();
+    }
+    return answer;
 }
 
 /* Unmaps a mapping. N5, N6. */
 static inline struct gthost_answer gthost_unmap(struct gthost_domain *domain, struct gthost_handle name)
 {
-    return domain ? gthost_unmap_at(domain, name) : gthost_null_answer();
+    struct gthost_answer answer;
+    if (domain) {
+        gthost_unmap_at(domain, &name, &answer);
+    } else {
+        answer = gthost_null_answer();
+    }
+    return answer;
 }
 
 /*

@@ -139,6 +139,16 @@ def parameters(declaration):
     return [" ".join(one.split()) for one in inside.split(",")]
 
 
+def passed_as(param, params):
+    """How a function of the header passes on an export's parameter: as it is, or a value or its answer by address."""
+    name = re.search(r"\w+$", param).group()
+    if param in params:
+        return name
+    if param == "struct gthost_answer *answer" or param.removeprefix("const ").replace(" *", " ") in params:
+        return f"&{name}"
+    raise SystemExit(f"header: the function in front of an export does not take {param}")
+
+
 def compare_inline(header, exports):
     """The function in front of each export tests each pointer, and passes on what it was passed."""
     for name, export in exports.items():
@@ -146,12 +156,13 @@ def compare_inline(header, exports):
         if not found:
             raise SystemExit(f"header: there is no function {name} in front of {export}")
         params, body = parameters(found.group(1)), found.group(2)
-        if params != parameters(re.search(rf"\b{export}\(.*?\);", header, re.S).group()):
-            raise SystemExit(f"header: {name} takes other parameters than {export}")
+        passed = [passed_as(one, params) for one in parameters(re.search(rf"\b{export}\(.*?\);", header, re.S).group())]
         names = [re.search(r"\w+$", one).group() for one in params]
+        if [word.lstrip("&") for word in passed if word != "&answer"] != names:
+            raise SystemExit(f"header: {name} takes other parameters than {export}")
         pointers = [word for word, one in zip(names, params) if "*" in one]
-        untested = [word for word in pointers if not re.search(rf"return {word} \?|!{word}\b", body)]
-        if untested or f"{export}({', '.join(names)})" not in body:
+        untested = [word for word in pointers if not re.search(rf"return {word} \?|!{word}\b|if \({word}\)", body)]
+        if untested or f"{export}({', '.join(passed)})" not in body:
             raise SystemExit(f"header: {name} does not test its pointers, or passes {export} something else")
 
 
@@ -162,19 +173,19 @@ def declarations(found, names):
             field, kind = (one.strip() for one in param.split(":", 1))
             if kind not in EMPTY:
                 told += c_type(kind, field, names)
-        answered = SCALARS[result][0] if result in SCALARS else f"struct {names[result]}"
+        answered = (SCALARS[result][0] if result in SCALARS else f"struct {names[result]}") if result else "void"
         yield name, f"{answered} {name}({', '.join(told) or 'void'});"
 
 
 def exports(text):
-    found = re.findall(r'pub extern "C" fn (\w+)\((.*?)\) -> (\w+)\s*(?=\{|ensures)', text, re.S)
+    found = re.findall(r'pub extern "C" fn (\w+)\((.*?)\)(?: -> (\w+))?\s*(?=\{|ensures)', text, re.S)
     return dict(declarations(found, STRUCTS))
 
 
 def rust():
     text = "\n".join((TOP / "contrib" / "rust" / "src" / name).read_text(encoding="utf-8") for name in ("raw.rs", "types.rs"))
     text = re.sub(r"//.*", "", text).replace("super::", "")
-    found = re.findall(r"^    pub fn (gthost_\w+)\((.*?)\) -> (\w+);", text, re.S | re.M)
+    found = re.findall(r"^    pub fn (gthost_\w+)\((.*?)\)(?: -> (\w+))?;", text, re.S | re.M)
     return structs(text), dict(declarations(found, OF_RUST))
 
 

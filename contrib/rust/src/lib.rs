@@ -203,14 +203,18 @@ impl Domain {
     /// Maps an entry of a domain.
     pub fn map(&mut self, dom: u16, gref: u32, access: Access) -> Result<Handle, Refusal> {
         let flags = if access == Access::Write { 2 } else { 6 };
-        let answer = self.call(|d| unsafe { raw::gthost_map_at(d, dom, gref, flags) })?;
+        let mut answer = raw::Answer::default();
+        unsafe { raw::gthost_map_at(&mut self.raw, dom, gref, flags, &mut answer) };
+        let answer = judged(answer)?;
         let (key, dom) = (answer.more as usize, answer.dom as u16);
         Ok(Handle { serial: answer.value, key, run: answer.detail, dom })
     }
 
     /// Unmaps a mapping.
     pub fn unmap(&mut self, handle: Handle) -> Result<(), Refusal> {
-        self.call(|d| unsafe { raw::gthost_unmap_at(d, handle) }).map(drop)
+        let mut answer = raw::Answer::default();
+        unsafe { raw::gthost_unmap_at(&mut self.raw, &handle, &mut answer) };
+        judged(answer).map(drop)
     }
 
     /// Returns what is mapped under a name. `ABSENT` if this domain has no such mapping.

@@ -146,8 +146,8 @@ extern "C" {
     pub fn gthost_withdraw_at(domain: &mut Domain, gref: u32) -> Answer;
     pub fn gthost_demote_at(domain: &mut Domain, gref: u32) -> Answer;
     pub fn gthost_promote_at(domain: &mut Domain, gref: u32) -> Answer;
-    pub fn gthost_map_at(domain: &mut Domain, dom: u16, gref: u32, flags: u32) -> Answer;
-    pub fn gthost_unmap_at(domain: &mut Domain, name: super::Handle) -> Answer;
+    pub fn gthost_map_at(domain: &mut Domain, dom: u16, gref: u32, flags: u32, answer: &mut Answer);
+    pub fn gthost_unmap_at(domain: &mut Domain, name: &super::Handle, answer: &mut Answer);
     pub fn gthost_mapping_at(domain: &mut Domain, name: super::Handle) -> FoundMapping;
     pub fn gthost_copy_begin_at(domain: &mut Domain, copy: Copying) -> BegunCopy;
     pub fn gthost_copy_end_at(domain: &mut Domain) -> Answer;

@@ -1,5 +1,5 @@
 -- How an audit record is encoded for C.
-use Rattle.std.specs.Prelude.{ℕ, Some, None}
+use Rattle.std.specs.Prelude.{Some, None}
 use Rattle.gt_audit.specs.declared.record.Hypercall.{Hypercall}
 use Rattle.gt_audit.specs.declared.record.Hypercall.TheVariants as calls
 use Rattle.gt_audit.specs.declared.record.Record.{Record as Kept}

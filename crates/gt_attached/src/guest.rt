@@ -74,7 +74,7 @@ impl<P: Allows + Drop> Drop for AttachedDomain<P> {
 }
 
 impl<P: Allows + Drop> AttachedDomain<P> {
-    ghost use Rattle.std.specs.Prelude.{◌≡◌, ◌≤◌, IsSome, None, OnOk, OnErr, is_some};
+    ghost use Rattle.std.specs.Prelude.{◌≡◌, ◌≤◌, Err, IsSome, None, OnOk, OnErr, is_some};
     ghost use Rattle.gt_audit.specs.Telling.{HasNone, Tells};
     ghost use Rattle.gt_audit.specs.declared.pieces.TheConstants.{MOST_RESERVED};
     ghost use Rattle.gt_audit.specs.declared.record.Hypercall.TheVariants as Hypercall;
@@ -86,7 +86,10 @@ impl<P: Allows + Drop> AttachedDomain<P> {
     ghost use Rattle.gt_live.specs.Domains.{KeepsPinned, MapAnswered, mapping_reply, subject_of};
     ghost use Rattle.gt_live.specs.Domains.{told_of, verdict_of, verdict_of_frames, verdict_of_size};
     ghost use Rattle.gt_live.specs.Domains.{verdict_of_version};
-    ghost use Rattle.gt_live.specs.Mappings.{Removes};
+    ghost use Rattle.gt_live.specs.Mappings.{Removes, unused_handle};
+    ghost use Rattle.gt_types.specs.Denial.{denial_of};
+    ghost use Rattle.gt_types.specs.declared.denial.Facts.TheVariants.{None as NoFacts};
+    ghost use Rattle.gt_types.specs.declared.denial.Rule.TheVariants.{N6};
     ghost use Rattle.gt_handles.specs.Handles.{value_of};
     ghost use Rattle.gt_attached.specs.Seated.{BeginsAccess, EndsAccess, Leaves, StaysIdle, taken_of};
     ghost use Rattle.std.specs.List.{slice_get};
@@ -272,7 +275,7 @@ impl<P: Allows + Drop> AttachedDomain<P> {
     /// Unmaps a mapping, and releases its pin.
     ///
     /// # Errors
-    /// N6 or N5. Mappings and pins are unchanged.
+    /// N6 if the domain has no mapping under this handle, or N5. Mappings and pins are unchanged.
     pub fn unmap(&mut self, handle: Handle) -> Result<(), Denial>
         requires idle { self.old.copying ≡ None }
         ensures stays { StaysIdle self.old self.new }
@@ -281,6 +284,7 @@ impl<P: Allows + Drop> AttachedDomain<P> {
         ensures removed { OnOk result ((p : Mapping)
             × Removes self.old.domain.mappings self.new.domain.mappings handle p) }
         ensures refused { OnErr result (KeepsPinned self.old.domain self.new.domain) }
+        ensures absent { value_of self.old.domain.mappings handle ≡ None → result ≡ Err (denial_of N6 NoFacts) }
         ensures told { Tells self.old.domain.trail
             (told_of self.old.domain (Hypercall.Unmap (subject_of self.old.domain handle)) (verdict_of result))
             self.new.domain.trail }
@@ -294,6 +298,14 @@ impl<P: Allows + Drop> AttachedDomain<P> {
         ensures { result ≡ value_of self.now.domain.mappings handle }
     {
         self.domain.mapping(&self.monitor, handle)
+    }
+
+    /// Returns a handle under which the domain has no mapping now. Its serial is that of the next mapping.
+    pub fn unused_handle(&self) -> Handle
+        ensures value { result ≡ unused_handle self.now.domain }
+        ensures unused { value_of self.now.domain.mappings result ≡ None }
+    {
+        self.domain.unused_handle()
     }
 
     /// Bounds the trail: a call is recorded only while the trail has fewer than `records` records. With 0 no call is

@@ -1,23 +1,29 @@
 -- What C passes, as values of the monitor.
-use Rattle.std.specs.Prelude.{ℕ, ◌-◌, ◌^◌, Bool, true, false, ◌&&◌, List, [], take, ◌==◌, if◌then◌else◌}
+use Rattle.std.specs.Prelude.{◌≡◌, ℕ, Bool, true, false, ◌&&◌, List, [], take, ◌==◌, if◌then◌else◌}
 use Rattle.gt_entry.specs.declared.entry.Entry.{Entry}
 use Rattle.gt_entry.specs.declared.entry.Entry.TheVariants.{Page, Sub, Via}
 use Rattle.gt_handles.specs.declared.handles.Handle.{Handle as Name}
+use Rattle.gt_live.specs.Mappings.{unused_handle}
+use Rattle.gt_attached.specs.Encoding.{encoded}
+use Rattle.gt_attached.specs.declared.answer.AttachedOutcome.{AttachedOutcome}
+use Rattle.gt_attached.specs.declared.answer.EncodedAnswer.{EncodedAnswer}
 use Rattle.gt_c.specs.declared.calls.EntryBytes.{EntryBytes}
 use Rattle.gt_c.specs.declared.calls.MapHandle.{MapHandle}
 use Rattle.gt_c.specs.declared.here.CDomain.{CDomain}
-
--- a handle that no mapping ever has: serials stay below it
-abbrev pub no_handle : Name
-no_handle = record { serial = 2 ^ 64 - 1; key = 2 ^ 64 - 1 }
 
 -- the name is of a mapping of this domain in this run
 abbrev pub is_of_domain : CDomain → MapHandle → Bool
 is_of_domain d name = (name.run == d.run) && (name.dom == d.guest.domain.seat.dom.0)
 
--- the handle that a name gives in a call of this domain: that of no mapping, if the name is of another domain or run
+-- the handle that a name gives in a call of this domain: if the name is of another domain or run, one under which the
+-- domain has no mapping
 abbrev pub handle_named : CDomain → MapHandle → Name
-handle_named d name = if is_of_domain d name then record { serial = name.serial; key = name.key } else no_handle
+handle_named d name =
+    if is_of_domain d name then record { serial = name.serial; key = name.key } else unused_handle d.guest.domain
+
+-- the name is of another domain or run, and the answer is therefore this
+abbrev pub RefusesForeign : CDomain → MapHandle → AttachedOutcome → EncodedAnswer → Type 0
+RefusesForeign d name refused answer = is_of_domain d name ≡ false → answer ≡ encoded refused
 
 -- read-only if the number is not 0
 abbrev pub reads_only : ℕ → Bool

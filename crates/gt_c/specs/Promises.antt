@@ -13,7 +13,11 @@ use Rattle.gt_c.specs.declared.here.CDomain.{CDomain}
 use Rattle.gt_c.specs.declared.telling.EntryReport.{EntryReport}
 use Rattle.gt_c.specs.declared.telling.MappingReport.{MappingReport}
 use Rattle.gt_c.specs.declared.telling.RecordReport.{RecordReport}
-use Rattle.gt_c.specs.Asking.{handle_named, page, spelled, sub, via}
+use Rattle.gt_types.specs.Denial.{denial_of}
+use Rattle.gt_types.specs.declared.denial.Facts.TheVariants.{None as NoFacts}
+use Rattle.gt_types.specs.declared.denial.Rule.TheVariants.{N6}
+use Rattle.gt_attached.specs.declared.answer.AttachedOutcome.TheVariants as outcomes
+use Rattle.gt_c.specs.Asking.{RefusesForeign, handle_named, page, spelled, sub, via}
 use Rattle.gt_c.specs.Calling.{CallsGuest, CallsTelling, KeepsAtMost, Reserves, SaysDone, SaysFollowed, SaysMapped}
 use Rattle.gt_c.specs.Calling.{SaysTold, SaysUnmapped, TakesAll, dom_of, ref_at}
 use Rattle.gt_c.specs.Calling.{outcome, outcome_frames, outcome_size, outcome_version}
@@ -65,11 +69,12 @@ Maps dom gref flags answer before after =
     CallsGuest before after answer
     (SaysMapped (requests.Map (dom_of dom) (ref_at gref) flags) (calls.Map (dom_of dom) (ref_at gref) flags) answer)
 
--- a mapping is unmapped
+-- a mapping is unmapped; by the name of another domain or run none is, and the answer is N6
 abbrev pub Unmaps : MapHandle → EncodedAnswer → Option CDomain → Option CDomain → Type 0
 Unmaps name answer before after =
     CallsGuest before after answer (λ d e.
-    SaysUnmapped (requests.Unmap (handle_named d name)) calls.Unmap (handle_named d name) answer d e)
+    SaysUnmapped (requests.Unmap (handle_named d name)) calls.Unmap (handle_named d name) answer d e
+    × RefusesForeign d name (outcomes.Denied (denial_of N6 NoFacts)) answer)
 
 -- the table gets a version, or more frames
 abbrev pub SetsVersion : ℕ → EncodedAnswer → Option CDomain → Option CDomain → Type 0
@@ -93,11 +98,12 @@ AsksVersion dom answer before after =
     CallsGuest before after answer
     (SaysTold outcome_version verdict_of_version (requests.GetVersion (dom_of dom)) (calls.GetVersion (dom_of dom)) answer)
 
--- a mapping, or a record, is returned
+-- a mapping, or a record, is returned; none is by the name of another domain or run
 abbrev pub TellsMapping : MapHandle → MappingReport → Option CDomain → Option CDomain → Type 0
 TellsMapping name told before after =
     CallsTelling before after told.answer (told.mapping ≡ no_mapping)
-    (λ d e. SaysMapping (handle_named d name) told.mapping told.answer d e)
+    (λ d e. SaysMapping (handle_named d name) told.mapping told.answer d e
+    × RefusesForeign d name outcomes.Absent told.answer)
 
 abbrev pub TellsRecord : ℕ → RecordReport → Option CDomain → Option CDomain → Type 0
 TellsRecord index told before after =

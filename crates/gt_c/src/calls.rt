@@ -1,6 +1,9 @@
 //! The exports for a domain's own entries and table, and for its mappings of other domains' pages.
-ghost use Rattle.std.specs.Prelude.{◌≡◌, IfSome, None};
-ghost use Rattle.gt_c.specs.Asking.{handle_named, page, spelled, sub, via};
+ghost use Rattle.std.specs.Prelude.{◌≡◌, true, false, IfSome, None};
+ghost use Rattle.gt_attached.specs.Encoding.{encoded};
+ghost use Rattle.gt_attached.specs.declared.answer.AttachedOutcome.TheVariants as outcomes;
+ghost use Rattle.gt_handles.specs.Handles.{value_of};
+ghost use Rattle.gt_c.specs.Asking.{handle_named, is_of_domain, page, spelled, sub, via};
 ghost use Rattle.gt_c.specs.Calling.{MayBeCalled, TurnedAway, outcome, outcome_followed, outcome_frames};
 ghost use Rattle.gt_c.specs.Calling.{outcome_mapped, outcome_size, outcome_version};
 ghost use Rattle.gt_c.specs.Promises.{AsksSize, AsksVersion, DemotesEntry, FollowsBytes, GrantsBytes, GrantsPage};
@@ -26,19 +29,14 @@ pub struct MapHandle {
     pub dom: u16,
 }
 
-// A handle that no mapping ever has.
-const NO_HANDLE: Name = Name {
-    serial: u64::MAX,
-    key: usize::MAX,
-};
-
-// Returns the handle in a name, for a call of this domain. For a name of another domain or another run it returns the
-// handle of no mapping.
+// Returns the handle in a name, for a call of this domain. For a name of another domain or another run it returns a
+// handle under which the domain has no mapping.
 pub(crate) fn handle_named(here: &CDomain, name: MapHandle) -> Name
-    ensures { result ≡ handle_named here.now name }
+    ensures value { result ≡ handle_named here.now name }
+    ensures foreign { is_of_domain here.now name ≡ false → value_of here.now.guest.domain.mappings result ≡ None }
 {
     if name.run != here.run || name.dom != here.guest.dom().0 {
-        return NO_HANDLE;
+        return here.guest.unused_handle();
     }
     Name {
         serial: name.serial,
@@ -79,6 +77,73 @@ pub(crate) fn turned_away(domain: &mut DomainHandle) -> Option<EncodedAnswer>
     None
 }
 
+// Map and unmap are the most frequent calls, so they store their answer where the caller wants it. An answer that is
+// returned has one place for all its values, and each field goes through a register. These three functions store
+// answers that are rare. They are not inlined, so that an Ok has its stores for itself.
+#[cold]
+#[inline(never)]
+fn store_no_domain(answer: &mut EncodedAnswer)
+    ensures { answer.new ≡ encoded outcomes.NoDomain }
+{
+    *answer = EncodedAnswer::of(AttachedOutcome::NoDomain);
+}
+
+#[cold]
+#[inline(never)]
+fn store_busy(answer: &mut EncodedAnswer)
+    ensures { answer.new ≡ encoded outcomes.Busy }
+{
+    *answer = EncodedAnswer::of(AttachedOutcome::Busy);
+}
+
+#[cold]
+#[inline(never)]
+fn store_refusal(answer: &mut EncodedAnswer, denial: Denial)
+    ensures { answer.new ≡ encoded (outcomes.Denied denial) }
+{
+    *answer = EncodedAnswer::of(AttachedOutcome::Denied(denial));
+}
+
+// Stores why no call is made on a handle, and returns true; or returns false, and the call may be made.
+#[inline(always)]
+fn is_turned_away(domain: &mut DomainHandle, answer: &mut EncodedAnswer) -> bool
+    ensures away { result ≡ true → TurnedAway domain.old.held.value domain.new.held.value answer.new }
+    ensures may { result ≡ false → MayBeCalled domain.old.held.value domain.new.held.value }
+{
+    if !domain.is_live {
+        store_no_domain(answer);
+        return true;
+    }
+    let here = here_mut(&mut domain.held);
+    if here.guest.is_copying() {
+        store_busy(answer);
+        return true;
+    }
+    false
+}
+
+#[inline(always)]
+fn store_mapped(answer: &mut EncodedAnswer, told: Result<Name, Denial>, dom: DomId, run: u32)
+    ensures { answer.new ≡ encoded (outcome_mapped dom run told) }
+{
+    match told {
+        Ok(handle) => {
+            *answer = EncodedAnswer::of(AttachedOutcome::Mapped(Named { handle, dom, run }));
+        }
+        Err(denial) => store_refusal(answer, denial),
+    }
+}
+
+#[inline(always)]
+fn store_done(answer: &mut EncodedAnswer, told: Result<(), Denial>)
+    ensures { answer.new ≡ encoded (outcome told) }
+{
+    match told {
+        Ok(()) => *answer = EncodedAnswer::of(AttachedOutcome::Done),
+        Err(denial) => store_refusal(answer, denial),
+    }
+}
+
 #[inline(always)]
 fn done(answer: Result<(), Denial>) -> AttachedOutcome
     ensures { result ≡ outcome answer }
@@ -94,16 +159,6 @@ fn followed_outcome(answer: Result<Followed, Denial>) -> AttachedOutcome
 {
     match answer {
         Ok(followed) => AttachedOutcome::Followed(followed),
-        Err(denial) => AttachedOutcome::Denied(denial),
-    }
-}
-
-#[inline(always)]
-fn mapped(answer: Result<Name, Denial>, dom: DomId, run: u32) -> AttachedOutcome
-    ensures { result ≡ outcome_mapped dom run answer }
-{
-    match answer {
-        Ok(handle) => AttachedOutcome::Mapped(Named { handle, dom, run }),
         Err(denial) => AttachedOutcome::Denied(denial),
     }
 }
@@ -316,29 +371,35 @@ pub extern "C" fn gthost_map_at(
     dom: u16,
     gref: u32,
     flags: u32,
-) -> EncodedAnswer
-    ensures { Maps dom gref flags result domain.old.held.value domain.new.held.value }
+    answer: &mut EncodedAnswer,
+)
+    ensures { Maps dom gref flags answer.new domain.old.held.value domain.new.held.value }
 {
-    if let Some(answer) = turned_away(domain) {
-        return answer;
+    if is_turned_away(domain, answer) {
+        return;
     }
     let here = here_mut(&mut domain.held);
-    let (caller, run) = (here.guest.dom(), here.run);
+    let caller = here.guest.dom();
     let told = here.guest.map(DomId(dom), GrantRef(gref), flags);
-    EncodedAnswer::of(mapped(told, caller, run))
+    store_mapped(answer, told, caller, here.run);
 }
 
 /// Unmaps a mapping.
 #[unsafe(no_mangle)]
-pub extern "C" fn gthost_unmap_at(domain: &mut DomainHandle, name: MapHandle) -> EncodedAnswer
-    ensures { Unmaps name result domain.old.held.value domain.new.held.value }
+pub extern "C" fn gthost_unmap_at(
+    domain: &mut DomainHandle,
+    name: &MapHandle,
+    answer: &mut EncodedAnswer,
+)
+    ensures { Unmaps name.now answer.new domain.old.held.value domain.new.held.value }
 {
-    if let Some(answer) = turned_away(domain) {
-        return answer;
+    if is_turned_away(domain, answer) {
+        return;
     }
     let here = here_mut(&mut domain.held);
-    let handle = handle_named(here, name);
-    EncodedAnswer::of(done(here.guest.unmap(handle)))
+    let handle = handle_named(here, *name);
+    let told = here.guest.unmap(handle);
+    store_done(answer, told);
 }
 
 /// Gives the caller's table this version, 1 or 2.

@@ -1,6 +1,7 @@
 -- A domain that closes its table.
 use Rattle.std.proofs.Common.{◌≡◌, ℕ, ◌+◌, ◌<◌, ◌∙◌, Bool, true, false, refl, sym, ap, subst, List, [], ◌∷◌, ◌++◌}
 use Rattle.std.proofs.Common.{length, get_or, Option, None, inl, inr, ◌⊎◌, arith, cond, add-zero, zero-add}
+use Rattle.std.proofs.Common.{zero, suc, add-one}
 use Rattle.std.proofs.lemmas.List.Sums.{sum_by-append}
 use lib.ListN.{get_or-append}
 use Rattle.std.specs.List.{count_by}
@@ -26,7 +27,8 @@ use Rattle.gt_calls.specs.declared.action.CallResult.TheVariants.{Granted, Given
 use Rattle.gt_calls.specs.declared.held.HeldPin.{HeldPin}
 use Rattle.gt_calls.specs.declared.known.OwnerEntry.{OwnerEntry}
 use Rattle.gt_calls.specs.declared.request.OpenRequest.TheVariants as asks
-use Rattle.gt_live.specs.Closing.{ClosesRow, GoesOn, IsMissed, IsShut, StaysQuiet, is_in_use, is_used}
+use Rattle.gt_live.specs.Closing.{AreMissed, ClosesRow, GoesOn, IsMissed, IsShut, StaysQuiet, is_in_use, is_used}
+use Rattle.gt_live.specs.Closing.{most_withdrawals}
 use Rattle.gt_live.specs.Domains.{AllowRelation, IsUnsettled, done_by}
 use Rattle.gt_live.specs.Ending.{IsAtOnce}
 use Rattle.gt_live.specs.Mappings.{KeepsMappings}
@@ -81,11 +83,24 @@ missed-within may m r u v w x a b h =
       until = goes-then h.after.seat.view w x h.until b;
     }
 
+-- missed withdrawals are those of a longer time too
+pub all-missed-within : {P : Type 0} (may : P → AllowRelation) (m : Monitor P) (r n : ℕ) (u v w x : View) → GoesOn u v
+    → GoesOn w x → AreMissed may m r n v w → AreMissed may m r n u x
+all-missed-within may m r zero u v w x a b on = goes-then u v x a (goes-then v w x on b)
+all-missed-within may m r (suc n) u v w x a b (y, before, last) =
+    (y, all-missed-within may m r n u v y y a (goes-self y) before, missed-within may m r y y w x (goes-self y) b last)
+
+-- one withdrawal more was missed
+pub one-more-missed : {P : Type 0} (may : P → AllowRelation) (m : Monitor P) (r n : ℕ) (u v w : View) → AreMissed may m r n u v
+    → IsMissed may m r v w → AreMissed may m r (n + 1) u w
+one-more-missed may m r n u v w before last =
+    subst (λ (k : ℕ). AreMissed may m r k u w) (sym (add-one n)) (v, before, last)
+
 pub shut-within : {P : Type 0} (may : P → AllowRelation) (m : Monitor P) (c d : Domain) (r : ℕ) (e f : Domain) → GoesOn c.seat.view d.seat.view
     → GoesOn e.seat.view f.seat.view → entry_in f.own.items r ≡ entry_in e.own.items r → IsShut may m d r e → IsShut may m c r f
 shut-within may m c d r e f a b same (inl none) = inl (same ∙ none)
 shut-within may m c d r e f a b same (inr missed) =
-    inr (missed-within may m r c.seat.view d.seat.view e.seat.view f.seat.view a b missed)
+    inr (all-missed-within may m r most_withdrawals c.seat.view d.seat.view e.seat.view f.seat.view a b missed)
 
 -- a row that was withdrawn is Invalid
 pub row-shut : (own new : List OwnerEntry) (r : ℕ) → r < length own → new ≡ row_changed own r Withdraw → entry_in new r ≡ Invalid

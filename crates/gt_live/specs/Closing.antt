@@ -1,5 +1,5 @@
 -- How a domain closes its table, and what a look at one of its entries finds.
-use Rattle.std.specs.Prelude.{◌≡◌, ◌⊎◌, ◌<◌, ◌≤◌, ℕ, Bool, true, nat_lt, not, ◌||◌, List, length, count_by, HoldsAt, Option, Some, None}
+use Rattle.std.specs.Prelude.{◌≡◌, ◌⊎◌, ◌<◌, ◌≤◌, ℕ, zero, suc, Bool, true, nat_lt, not, ◌||◌, List, length, count_by, HoldsAt, Option, Some, None}
 use Rattle.gt_entry.specs.declared.control.Control.{Control}
 use Rattle.gt_entry.specs.declared.control.EntryKind.TheVariants.{Invalid as NoKind}
 use Rattle.gt_calls.specs.Rules.{size_of}
@@ -50,9 +50,19 @@ pub record IsMissed {P : Type 0} (may : P → AllowRelation) (m : Monitor P) (r 
   pub since : GoesOn v before.seat.view
   pub until : GoesOn after.seat.view w
 
--- an entry is shut: it is Invalid, or its withdrawal was refused
+-- between two views, this many withdrawals of an entry were refused, one after another
+abbrev pub AreMissed : {P : Type 0} → (P → AllowRelation) → Monitor P → ℕ → ℕ → View → View → Type 0
+AreMissed may m r zero v w = GoesOn v w
+AreMissed may m r (suc n) v w = (u : View) × AreMissed may m r n v u × IsMissed may m r u w
+
+-- the number of times that the withdrawal of an entry is asked, with up to four tries each
+abbrev pub most_withdrawals : ℕ
+most_withdrawals = 16
+
+-- an entry is shut: it is Invalid, or all withdrawals that were asked were refused
 abbrev pub IsShut : {P : Type 0} → (P → AllowRelation) → Monitor P → Domain → ℕ → Domain → Type 0
-IsShut may m d r e = (entry_in e.own.items r ≡ Invalid) ⊎ IsMissed may m r d.seat.view e.seat.view
+IsShut may m d r e =
+    (entry_in e.own.items r ≡ Invalid) ⊎ AreMissed may m r most_withdrawals d.seat.view e.seat.view
 
 -- an entry was closed, and a look then found this word: the entry is shut, and if it is still valid the word shows it
 pub record ClosesRow {P : Type 0} (may : P → AllowRelation) (m : Monitor P) (d : Domain) (r word : ℕ) (e : Domain)

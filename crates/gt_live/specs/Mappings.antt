@@ -3,7 +3,7 @@ use Rattle.std.specs.Prelude.{◌≡◌, ℕ, ◌==◌, ◌&&◌, Bool, true, fa
 use Rattle.gt_live.specs.Prelude.{DomId, Dir, Read, Write, ForMap, Perms, permits, ReachesBy, FrameName, SeatOf, Direct}
 use Rattle.gt_live.specs.Prelude.{generation_of, Layout, position_in, held, is_same_dir, View, HandleMap, KeepsSpent}
 use Rattle.gt_live.specs.Prelude.{IsInserted, IsTaken, count_passing, Handle, HeldPin, frame_of, IsAllowed, frame_count_of}
-use Rattle.gt_live.specs.Prelude.{label_of, map_perms, triples, TypeId, DomainConfig}
+use Rattle.gt_live.specs.Prelude.{label_of, map_perms, triples, TypeId, Domain, DomainConfig}
 pub use Rattle.gt_access.specs.Routes.{HasPin, entry_record_of}
 
 -- a mapping: its pin is held, of an entry that permits the caller and is of one of its owner's frames, and the policy
@@ -48,3 +48,7 @@ pub record AddsMapping (old new : HandleMap HeldPin) (h : Handle) (p : HeldPin) 
 pub record Removes (old new : HandleMap HeldPin) (h : Handle) (p : HeldPin) : Type 0 where
   pub taken : IsTaken old new h p
   pub spent : KeepsSpent old new
+
+-- a handle under which the domain has no mapping: its serial is that of the next mapping
+abbrev pub unused_handle : Domain → Handle
+unused_handle d = record { serial = d.mappings.given; key = 0 }

@@ -230,7 +230,7 @@ impl Domain {
     ghost use Rattle.gt_calls.specs.Rules.{knows, label_of};
     ghost use Rattle.gt_live.specs.Domains.{known_on, verdict_of_frames, verdict_of_size};
     ghost use Rattle.gt_live.specs.Domains.{verdict_of_version};
-    ghost use Rattle.gt_live.specs.Mappings.{ReachesItsFrame};
+    ghost use Rattle.gt_live.specs.Mappings.{ReachesItsFrame, unused_handle};
     ghost use Rattle.gt_access.specs.Routes.{MayAccessBy};
     ghost use Rattle.gt_calls.specs.declared.held.AccessPath.TheVariants.{Direct};
     ghost use Rattle.gt_handles.specs.Handles.{value_of};
@@ -322,6 +322,17 @@ impl Domain {
             MayAccessBy monitor.now.config.domains.items (P.may monitor.now.rights) self.now.seat.dom (Direct p)) }
     {
         self.mappings.get(handle).copied()
+    }
+
+    /// Returns a handle under which the domain has no mapping now. Its serial is that of the next mapping.
+    pub fn unused_handle(&self) -> Handle
+        ensures value { result ≡ unused_handle self.now }
+        ensures unused { value_of self.now.mappings result ≡ None }
+    {
+        Handle {
+            serial: self.mappings.given(),
+            key: 0,
+        }
     }
 
     // Lends what the domain knows without a look, and what the monitor allows.

@@ -177,6 +177,23 @@ fn run(alloc: Global, count: u16) -> Result<(usize, [u16; 4]), AllocError> {
     Ok((len, [granted, mapped, busy, leave_all(guests)]))
 }
 
+// Begins a run of this number of domains, which leave without a call. Returns how many began.
+fn begins(alloc: Global, count: u16) -> Result<usize, AllocError> {
+    let settings = settings(alloc, count, 1)?;
+    match begin(alloc, settings.as_slice(), 0, POLICY) {
+        Ok(guests) => Ok(guests.len()),
+        Err(_) => Ok(0),
+    }
+}
+
+#[test]
+fn each_number_of_domains_begins(rt: HostRuntime) -> Result<(), AllocError> {
+    for count in 1..65u16 {
+        assert_eq!(rt; begins(rt.alloc(), count)?, usize::from(count));
+    }
+    Ok(())
+}
+
 // Numbers of domains: the ends of the range, and half of it.
 static COUNTS: [u16; 7] = [1, 2, 31, 32, 33, 63, 64];
 

@@ -95,6 +95,17 @@ fn too_much_room_is_refused_before_any_is_taken(rt: HostRuntime) {
     assert_eq!(rt; (trail.len(), trail.lost()), (1, 0));
 }
 
+// More than a million records.
+const ROOM: usize = 1_000_001;
+
+#[test]
+fn there_is_room_for_many_records(rt: HostRuntime) {
+    let mut trail = Trail::new(rt.alloc());
+    assert!(rt; trail.reserve(ROOM).is_ok());
+    trail.push(record(1, 0));
+    assert_eq!(rt; (trail.len(), trail.lost()), (1, 0));
+}
+
 // Pushes records, and counts those that their token and a look under their number return.
 fn pushes<R: Wait>(rt: &R, log: &SharedLog, dom: u16) -> u64 {
     let mut same: u64 = 0;
@@ -141,6 +152,48 @@ fn a_domain_tells_its_records(rt: HostRuntime) -> Result<(), Fail> {
     assert_eq!(rt;
         (log.find(DomId(2), 1), log.count() as u64),
         (Some(record(2, 1)), RECORDS)
+    );
+    Ok(())
+}
+
+// More records than any other test pushes into a log.
+const MANY: u64 = 3000;
+
+// Pushes one record of each of two domains under each number.
+fn fill<R: Wait>(rt: &R, log: &SharedLog) -> bool {
+    let mut all = true;
+    for number in 0..MANY {
+        all = all
+            && log.push(rt, DomId(1), number, record(1, number)).is_ok()
+            && log.push(rt, DomId(2), number, record(2, number)).is_ok();
+    }
+    all
+}
+
+// Counts the numbers, from 900 in steps of 50, under which a domain's own record is found.
+fn count_found(log: &SharedLog, dom: u16) -> u64 {
+    let mut found: u64 = 0;
+    for step in 0..42u64 {
+        let number = 900 + step * 50;
+        if log.find(DomId(dom), number) == Some(record(dom, number)) {
+            found = found.wrapping_add(1);
+        }
+    }
+    found
+}
+
+#[test]
+fn records_are_found_in_a_long_log(rt: HostRuntime) -> Result<(), Fail> {
+    let log = SharedLog::new(rt.alloc())?;
+    assert!(rt; fill(&rt, &log));
+    assert_eq!(rt; log.count() as u64, 2 * MANY);
+    assert_eq!(rt; (count_found(&log, 1), count_found(&log, 2)), (42, 42));
+    assert_eq!(rt;
+        (
+            log.find(DomId(2), MANY - 1) == Some(record(2, MANY - 1)),
+            log.find(DomId(2), MANY).is_some()
+        ),
+        (true, false)
     );
     Ok(())
 }

@@ -1,4 +1,4 @@
-use Rattle.std.proofs.Common.{◌≡◌, ap, ◌∙◌}
+use Rattle.std.proofs.Common.{◌≡◌}
 use Rattle.gt_attached.specs.Encoding.{encoded}
 use Rattle.gt_calls.specs.declared.request.Request.TheVariants as requests
 use Rattle.gt_audit.specs.declared.record.Hypercall.TheVariants as hypercalls
@@ -7,16 +7,16 @@ use Rattle.gt_c.proofs.Made.{idle-there, made}
 use Rattle.gt_c.proofs.calls.gthost_map_at.Goals as goal
 
 pub map-told-requires : goal.map-told-requires
-map-told-requires c = record { idle = idle-there c.args.domain.now.held.value (c.turned_away.ensures.may c.in_default.is) c.here_mut-here.ensures.value }
+map-told-requires c = record { idle = idle-there c.args.domain.now.held.value (c.is_turned_away.ensures.may c.if-is_turned_away.false) c.here_mut-here.ensures.value }
 
 pub returns : goal.returns
 returns c =
-    let x = c.here_mut-here.result.now in
-    let said : c.mapped.result ≡ outcome_mapped x.guest.domain.seat.dom x.run c.map-told.result = cc in
-    made c.of.result (SaysMapped (requests.Map (dom_of c.args.dom) (ref_at c.args.gref) c.args.flags) (hypercalls.Map (dom_of c.args.dom) (ref_at c.args.gref) c.args.flags) c.of.result) (c.turned_away.ensures.may c.in_default.is) c.here_mut-here.ensures.value
+    let x = c.here_mut-here.result.now in let answer = c.store_mapped.new.answer in
+    let said : answer ≡ encoded (outcome_mapped x.guest.domain.seat.dom x.run c.map-told.result) = cc in
+    made answer (SaysMapped (requests.Map (dom_of c.args.dom) (ref_at c.args.gref) c.args.flags) (hypercalls.Map (dom_of c.args.dom) (ref_at c.args.gref) c.args.flags) answer) (c.is_turned_away.ensures.may c.if-is_turned_away.false) c.here_mut-here.ensures.value
     (record {
       result = c.map-told.result;
-      encodes = c.of.ensures ∙ ap encoded said;
+      encodes = said;
       stays = c.map-told.ensures.stays;
       holds = (c.map-told.ensures.answered, c.map-told.ensures.told);
     })

@@ -1,24 +1,35 @@
-use Rattle.std.proofs.Common.{ap, subst, ◌∙◌}
+use Rattle.std.proofs.Common.{ap, subst, ◌∙◌, Result}
+use Rattle.gt_types.specs.Denial.{denial_of}
+use Rattle.gt_types.specs.declared.denial.Denial.{Denial}
+use Rattle.gt_types.specs.declared.denial.Facts.TheVariants.{None as NoFacts}
+use Rattle.gt_types.specs.declared.denial.Rule.TheVariants.{N6}
 use Rattle.gt_handles.specs.declared.handles.Handle.{Handle as Name}
 use Rattle.gt_attached.specs.Encoding.{encoded}
+use Rattle.gt_attached.specs.declared.answer.AttachedOutcome.TheVariants as outcomes
 use Rattle.gt_calls.specs.declared.request.Request.TheVariants as requests
 use Rattle.gt_audit.specs.declared.record.Hypercall.TheVariants as hypercalls
-use Rattle.gt_c.specs.Asking.{handle_named}
-use Rattle.gt_c.specs.Calling.{SaysUnmapped}
+use Rattle.gt_c.specs.Asking.{RefusesForeign, handle_named}
+use Rattle.gt_c.specs.Calling.{SaysUnmapped, outcome}
 use Rattle.gt_c.proofs.Made.{idle-there, made}
 use Rattle.gt_c.proofs.calls.gthost_unmap_at.Goals as goal
 
-pub unmap-requires : goal.unmap-requires
-unmap-requires c = record { idle = idle-there c.args.domain.now.held.value (c.turned_away.ensures.may c.in_default.is) c.here_mut-here.ensures.value }
+pub unmap-told-requires : goal.unmap-told-requires
+unmap-told-requires c = record { idle = idle-there c.args.domain.now.held.value (c.is_turned_away.ensures.may c.if-is_turned_away.false) c.here_mut-here.ensures.value }
 
 pub returns : goal.returns
 returns c =
-    made c.of.result (λ d e. SaysUnmapped (requests.Unmap (handle_named d c.args.name)) hypercalls.Unmap (handle_named d c.args.name) c.of.result d e) (c.turned_away.ensures.may c.in_default.is) c.here_mut-here.ensures.value
-    (subst (λ (h : Name). SaysUnmapped (requests.Unmap h) hypercalls.Unmap h c.of.result c.here_mut-here.result.now (record { guest = c.unmap.new.self; run = c.here_mut-here.result.now.run }))
-    c.handle_named-handle.ensures
-    (record {
-      result = c.unmap.result;
-      encodes = c.of.ensures ∙ ap encoded c.done.ensures;
-      stays = c.unmap.ensures.stays;
-      holds = (c.unmap.ensures.answered, c.unmap.ensures.removed, c.unmap.ensures.refused, c.unmap.ensures.told);
-    }))
+    let x = c.here_mut-here.result.now in let answer = c.store_done.new.answer in
+    let refused : RefusesForeign x c.args.name.now (outcomes.Denied (denial_of N6 NoFacts)) answer =
+    λ foreign. c.store_done.ensures
+    ∙ ap (λ (r : Result (Unit {0}) Denial). encoded (outcome r)) (c.unmap-told.ensures.absent (c.handle_named-handle.ensures.foreign foreign)) in
+    made answer (λ d e. SaysUnmapped (requests.Unmap (handle_named d c.args.name.now)) hypercalls.Unmap (handle_named d c.args.name.now) answer d e × RefusesForeign d c.args.name.now (outcomes.Denied (denial_of N6 NoFacts)) answer) (c.is_turned_away.ensures.may c.if-is_turned_away.false) c.here_mut-here.ensures.value (
+      subst (λ (h : Name). SaysUnmapped (requests.Unmap h) hypercalls.Unmap h answer x (record { guest = c.unmap-told.new.self; run = x.run }))
+          c.handle_named-handle.ensures.value
+          (record {
+            result = c.unmap-told.result;
+            encodes = c.store_done.ensures;
+            stays = c.unmap-told.ensures.stays;
+            holds = (c.unmap-told.ensures.answered, c.unmap-told.ensures.removed, c.unmap-told.ensures.refused, c.unmap-told.ensures.told);
+          }),
+      refused,
+    )

@@ -1,13 +1,14 @@
-use Rattle.std.proofs.Common.{◌∙◌, ap, arith, inl, inr, refl, List}
+use Rattle.std.proofs.Common.{◌≡◌, ◌∙◌, ℕ, ap, arith, inl, inr, refl, subst, List}
 use Rattle.std.specs.Prelude.{slice_get}
 use Rattle.gt_entry.specs.declared.change.EntryChange.TheVariants.{Withdraw}
 use Rattle.gt_calls.specs.declared.known.OwnerEntry.{OwnerEntry}
-use Rattle.gt_live.proofs.Closing.{goes-self, quiet-self, quiet-then, row-shut}
+use Rattle.gt_live.specs.Closing.{AreMissed}
+use Rattle.gt_live.proofs.Closing.{goes-self, one-more-missed, quiet-self, quiet-then, row-shut}
 use Rattle.gt_live.proofs.RowsKept.{row-other}
 use Rattle.gt_live.proofs.domain.Domain.withdraw_often.Goals as goal
 
 pub asked-init : goal.asked-init
-asked-init g c = record { mine = c.requires.mine; quiet = quiet-self c.args.self.now; same = refl; missed = λ some. absurd (omega (arith, some)) }
+asked-init g c = record { mine = c.requires.mine; quiet = quiet-self c.args.self.now; same = refl; missed = goes-self c.args.self.now.seat.view }
 
 pub asked-preserved : goal.asked-preserved
 asked-preserved g c =
@@ -17,14 +18,15 @@ asked-preserved g c =
       mine = w.mine;
       quiet = quiet-then d e f inv.quiet w.quiet;
       same = c.in-Err.ensures.same ∙ inv.same;
-      missed = λ some. record {
-        before = e;
-        after = f;
-        denial = _;
-        refused = c.in-Err.ensures.answered;
-        since = inv.quiet.goes_on;
-        until = goes-self f.seat.view;
-      };
+      missed = one-more-missed g.P.Allows.may c.args.monitor.now c.args.gref.0 c.asked.counter d.seat.view e.seat.view f.seat.view inv.missed
+          (record {
+            before = e;
+            after = f;
+            denial = _;
+            refused = c.in-Err.ensures.answered;
+            since = goes-self e.seat.view;
+            until = goes-self f.seat.view;
+          });
     }
 
 pub returns-in-Ok : goal.returns-in-Ok
@@ -42,10 +44,12 @@ returns-in-Ok g c =
 
 pub returns : goal.returns
 returns g c =
-    let inv = c.asked.invariant in
+    let inv = c.asked.invariant in let d = c.args.self.now in let e = c.asked.self in
+    let most = c.asked.auto.counter-end in let least = c.asked-test.false in
+    let end : c.asked.counter ≡ 16 = omega (arith, most, least) in
     record {
       mine = inv.mine;
       quiet = inv.quiet;
-      shut = inr (inv.missed (omega arith));
+      shut = inr (subst (λ (n : ℕ). AreMissed g.P.Allows.may c.args.monitor.now c.args.gref.0 n d.seat.view e.seat.view) end inv.missed);
       others = λ q ne. ap (λ (os : List OwnerEntry). slice_get os q) inv.same;
     }
