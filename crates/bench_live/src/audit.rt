@@ -1,9 +1,8 @@
 //! The recording of calls, and the size of a load.
-use gt_types::Allows;
-use test_monitor::TestDomain;
+use test_monitor::Calls;
 
 /// The recording of the calls of a domain.
-#[derive(Clone, Copy, PartialEq, Eq)]
+#[derive(Clone, Copy)]
 pub enum Audit {
     /// Each record is allocated as it comes.
     On,
@@ -19,7 +18,7 @@ pub enum Audit {
 const RECORDS_AHEAD: usize = 400_000;
 
 /// Sets the recording of the calls of a domain. Returns whether it could.
-pub(crate) fn record_calls<P: Allows>(domain: &mut TestDomain<'_, P>, audit: Audit) -> bool {
+pub(crate) fn record_calls<D: Calls>(domain: &mut D, audit: Audit) -> bool {
     match audit {
         Audit::On | Audit::Taken => true,
         Audit::Ahead => domain.reserve_records(RECORDS_AHEAD).is_ok(),

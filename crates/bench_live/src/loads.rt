@@ -1,16 +1,15 @@
 //! The loads, and their run.
 use crate::audit::Extent;
-use crate::parts::{Moves, Part, Spread, Worker, page, work};
+use crate::parts::{Accesses, Moves, Part, Spread, Worker, page, work};
 use anyhow::{Result, bail};
 use gt_allow::AllowTable;
 use gt_entry::Entry;
-use gt_live::Monitor;
 use gt_policy::Policy;
-use gt_types::{Allows, Config, DomId, DomainConfig, GrantRef, MAX_TABLE_FRAMES, TypeId};
+use gt_types::{Config, DomId, DomainConfig, GrantRef, MAX_TABLE_FRAMES, TypeId};
 use std::alloc::{AllocError, Global};
 use std::sync::Wait;
 use std::thread::{self, Threads};
-use test_monitor::{TestDomain, all_running};
+use test_monitor::{Calls, all_running, start_run};
 
 /// The work of the threads.
 #[derive(Clone, Copy)]
@@ -75,12 +74,7 @@ fn run_domains(alloc: Global, count: u16, version: u32) -> Result<Config, AllocE
 }
 
 // Grants a page of the owner's to the middle domain, which forwards this domain to it.
-fn grant_way<P: Allows>(
-    owner: &mut TestDomain<'_, P>,
-    middle: &mut TestDomain<'_, P>,
-    number: u32,
-    dom: DomId,
-) -> bool {
+fn grant_way<D: Calls>(owner: &mut D, middle: &mut D, number: u32, dom: DomId) -> bool {
     let way = Entry::Via {
         dom,
         ro: false,
@@ -92,9 +86,9 @@ fn grant_way<P: Allows>(
 }
 
 // Grants the entries of a worker: one of the spread, or the page or the two ways by which it moves bytes.
-fn grant_one<P: Allows>(
-    owner: &mut TestDomain<'_, P>,
-    middle: &mut TestDomain<'_, P>,
+fn grant_one<D: Calls>(
+    owner: &mut D,
+    middle: &mut D,
     load: Load,
     spread: Spread,
     place: u32,
@@ -111,12 +105,7 @@ fn grant_one<P: Allows>(
 }
 
 // Grants the entries of all workers.
-fn grant_each<P: Allows>(
-    owner: &mut TestDomain<'_, P>,
-    middle: &mut TestDomain<'_, P>,
-    load: Load,
-    spread: Spread,
-) -> bool {
+fn grant_each<D: Calls>(owner: &mut D, middle: &mut D, load: Load, spread: Spread) -> bool {
     let mut all = true;
     'places: for place in 0..spread.count {
         all = grant_one(owner, middle, load, spread, place) && all;
@@ -136,18 +125,22 @@ fn owners_part(load: Load, spread: Spread) -> Option<Part> {
 // Returns the part of the mapper with this index.
 fn part_of(load: Load, spread: Spread, place: u32) -> Part {
     match load {
-        Load::Bytes(moves, len) => Part::Moves(moves, place, len),
+        Load::Bytes(moves, len) => Part::Moves(Accesses {
+            moves,
+            gref: place,
+            len,
+        }),
         _ => Part::Maps(spread.at(u64::from(place)).0),
     }
 }
 
 // Returns the workers of a load, whose entries are granted: the owner if it has a part, and then the mappers.
-fn workers<'m, P: Allows>(
+fn workers<D: Calls + Drop>(
     alloc: Global,
-    mut domains: Vec<TestDomain<'m, P>>,
+    mut domains: Vec<D>,
     load: Load,
     threads: u32,
-) -> Result<Vec<Worker<'m, P>>> {
+) -> Result<Vec<Worker<D>>> {
     if domains.len() < 6 {
         bail!("fewer than six domains");
     }
@@ -181,10 +174,10 @@ fn workers<'m, P: Allows>(
 }
 
 // Lets the workers do their parts, each in its own thread. Returns the number of rounds of all threads.
-fn run_workers<'m, P: Allows + Sync, R: Threads + Wait + Sync>(
+fn run_workers<D: Calls + Send + Drop, R: Threads + Wait + Sync>(
     rt: &R,
     alloc: Global,
-    workers: Vec<Worker<'m, P>>,
+    workers: Vec<Worker<D>>,
     extent: Extent,
 ) -> Result<u64, AllocError> {
     let Extent { rounds, audit, .. } = extent;
@@ -219,7 +212,7 @@ pub(crate) fn run<R: Threads + Wait + Sync>(
         1
     };
     let config = run_domains(alloc, extent.domains, version)?;
-    let (monitor, domains) = Monitor::new(alloc, config, rights(alloc)?)?;
+    let (monitor, domains) = start_run(alloc, config, rights(alloc)?)?;
     let workers = workers(
         alloc,
         all_running(alloc, &monitor, domains)?,

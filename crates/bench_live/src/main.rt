@@ -32,7 +32,7 @@ use std::alloc::Global;
 use std::sync::Wait;
 use std::thread::Threads;
 
-const LOADS: [(&str, Load); 14] = [
+static LOADS: [(&str, Load); 14] = [
     ("apart", Load::Apart),
     ("adjacent", Load::Adjacent),
     ("grants", Load::Grants),
@@ -49,7 +49,7 @@ const LOADS: [(&str, Load); 14] = [
     ("forward-4096", Load::Bytes(Moves::Forwards, 4096)),
 ];
 
-const AUDITS: [(&str, Audit); 4] = [
+static AUDITS: [(&str, Audit); 4] = [
     ("on", Audit::On),
     ("ahead", Audit::Ahead),
     ("taken", Audit::Taken),

@@ -4,10 +4,10 @@ use crate::loads::{FIRST_MAPPER, MIDDLE, MOST, OWNER};
 use gt_audit::Trail;
 use gt_calls::{CopyArgs, End};
 use gt_entry::Entry;
-use gt_types::{Allows, DOMID_SELF, DomId, GrantRef, LAST_GENERATION};
+use gt_types::{DOMID_SELF, DomId, GrantRef, LAST_GENERATION};
 use std::alloc::Global;
 use std::sync::Wait;
-use test_monitor::{READ_ONLY, TestDomain, WRITABLE};
+use test_monitor::{Calls, READ_ONLY, WRITABLE};
 
 /// The entry of the first mapper.
 const FIRST: u32 = 64;
@@ -36,7 +36,7 @@ impl Spread {
 }
 
 /// The work of the threads on bytes.
-#[derive(Clone, Copy, PartialEq, Eq)]
+#[derive(Clone, Copy)]
 pub(crate) enum Moves {
     /// Loads into a buffer of the thread's.
     Loads,
@@ -48,19 +48,26 @@ pub(crate) enum Moves {
     Forwards,
 }
 
-/// The part of a domain, with the entries that it maps or grants. Bytes are moved by the entry of a reference, a number of
-/// them at a time.
+/// Accesses to bytes: by the entry of this reference, this number of bytes at a time.
+#[derive(Clone, Copy)]
+pub(crate) struct Accesses {
+    pub moves: Moves,
+    pub gref: u32,
+    pub len: u16,
+}
+
+/// The part of a domain, with the entries that it maps or grants.
 #[derive(Clone, Copy)]
 pub(crate) enum Part {
     Maps(u32),
     Grants(Spread),
     Withdraws(Spread),
-    Moves(Moves, u32, u16),
+    Moves(Accesses),
 }
 
 #[derive(Drop)]
-pub(crate) struct Worker<'m, P: Allows> {
-    pub domain: TestDomain<'m, P>,
+pub(crate) struct Worker<D: Calls + Drop> {
+    pub domain: D,
     pub part: Part,
 }
 
@@ -75,7 +82,7 @@ pub(crate) fn page(dom: DomId, frame: u64) -> Entry {
 
 // Revokes the entries and grants them again by turns, this number of times, each time with as many tries as it takes.
 // Returns how often it did: fewer times if the entries reach their last generation.
-fn revoke_and_grant<P: Allows>(owner: &mut TestDomain<'_, P>, spread: Spread, rounds: u32) -> u32 {
+fn revoke_and_grant<D: Calls>(owner: &mut D, spread: Spread, rounds: u32) -> u32 {
     let mut done = 0;
     'rounds: for turn in 0..u64::MAX {
         if done >= rounds || done >= LAST_GENERATION - 1 {
@@ -91,11 +98,7 @@ fn revoke_and_grant<P: Allows>(owner: &mut TestDomain<'_, P>, spread: Spread, ro
 
 // Withdraws the entries by turns, and grants each again once it has no pin, this number of times, each time with as
 // many tries as it takes. Returns how often it did: fewer times if the entries reach their last generation.
-fn withdraw_and_grant<P: Allows>(
-    owner: &mut TestDomain<'_, P>,
-    spread: Spread,
-    rounds: u32,
-) -> u32 {
+fn withdraw_and_grant<D: Calls>(owner: &mut D, spread: Spread, rounds: u32) -> u32 {
     let mut done = 0;
     let mut withdrawn = false;
     'rounds: for _ in 0..u64::MAX {
@@ -114,7 +117,7 @@ fn withdraw_and_grant<P: Allows>(
 }
 
 // Maps an entry and unmaps it, this number of times, each time with as many tries as it takes.
-fn map_and_unmap<P: Allows>(domain: &mut TestDomain<'_, P>, gref: u32, rounds: u32) -> u32 {
+fn map_and_unmap<D: Calls>(domain: &mut D, gref: u32, rounds: u32) -> u32 {
     let mut done = 0;
     'rounds: for _ in 0..u64::MAX {
         if done >= rounds {
@@ -128,12 +131,7 @@ fn map_and_unmap<P: Allows>(domain: &mut TestDomain<'_, P>, gref: u32, rounds: u
 }
 
 // Does the same in parts, after each of which the records are taken.
-fn map_and_take<P: Allows>(
-    alloc: Global,
-    domain: &mut TestDomain<'_, P>,
-    gref: u32,
-    rounds: u32,
-) -> u32 {
+fn map_and_take<D: Calls>(alloc: Global, domain: &mut D, gref: u32, rounds: u32) -> u32 {
     let mut done: u32 = 0;
     let mut taken = Trail::new(alloc);
     'parts: for _ in 0..u64::MAX {
@@ -148,10 +146,11 @@ fn map_and_take<P: Allows>(
     done
 }
 
-// Returns the copy that a thread makes, of this number of bytes: from the owner's page to a frame of the thread's
-// domain, or from one page of the owner's to another, through two entries of the middle domain.
-fn copy_of(moves: Moves, gref: u32, len: u16) -> CopyArgs {
-    let forwards = moves == Moves::Forwards;
+// Returns the copy that a thread makes: from the owner's page to a frame of the thread's domain, or from one page of the
+// owner's to another, through two entries of the middle domain.
+fn copy_of(accesses: Accesses) -> CopyArgs {
+    let Accesses { moves, gref, len } = accesses;
+    let forwards = matches!(moves, Moves::Forwards);
     let dest = gref.saturating_add(MOST);
     CopyArgs {
         source: End {
@@ -171,9 +170,9 @@ fn copy_of(moves: Moves, gref: u32, len: u16) -> CopyArgs {
 
 // Makes one access, and returns whether it was done. A load reads over the buffer, or into fresh memory, and a store
 // writes the buffer's bytes.
-fn move_once<R: Wait, P: Allows>(
+fn move_once<R: Wait, D: Calls>(
     rt: &R,
-    domain: &mut TestDomain<'_, P>,
+    domain: &mut D,
     moves: Moves,
     copy: &CopyArgs,
     buffer: &mut [u8],
@@ -187,9 +186,9 @@ fn move_once<R: Wait, P: Allows>(
 }
 
 // Makes this number of accesses. Returns how many were done.
-fn move_often<R: Wait, P: Allows>(
+fn move_often<R: Wait, D: Calls>(
     rt: &R,
-    domain: &mut TestDomain<'_, P>,
+    domain: &mut D,
     moves: Moves,
     copy: &CopyArgs,
     buffer: &mut [u8],
@@ -206,37 +205,30 @@ fn move_often<R: Wait, P: Allows>(
 
 // Does the same with a buffer of the thread's own, so that no two threads share a cache line. Loads and stores go
 // through a mapping.
-fn move_bytes<R: Wait, P: Allows>(
+fn move_bytes<R: Wait, D: Calls>(
     rt: &R,
     alloc: Global,
-    domain: &mut TestDomain<'_, P>,
-    moves: Moves,
-    gref: u32,
-    len: u16,
+    domain: &mut D,
+    accesses: Accesses,
     rounds: u32,
 ) -> u32 {
+    let Accesses { moves, gref, len } = accesses;
     let Ok(mut buffer) = vec![in alloc; 0x5au8; usize::from(len)] else {
         return 0;
     };
-    let maps = moves != Moves::Copies && moves != Moves::Forwards;
+    let maps = !matches!(moves, Moves::Copies | Moves::Forwards);
     if maps && domain.map(OWNER.0, gref, WRITABLE).is_err() {
         return 0;
     }
-    move_often(
-        rt,
-        domain,
-        moves,
-        &copy_of(moves, gref, len),
-        buffer.as_mut_slice(),
-        rounds,
-    )
+    let copy = copy_of(accesses);
+    move_often(rt, domain, moves, &copy, buffer.as_mut_slice(), rounds)
 }
 
 /// Does the part of a worker for this number of rounds. Returns how many were done.
-pub(crate) fn work<R: Wait, P: Allows>(
+pub(crate) fn work<R: Wait, D: Calls + Drop>(
     rt: &R,
     alloc: Global,
-    worker: Worker<'_, P>,
+    worker: Worker<D>,
     audit: Audit,
     rounds: u32,
 ) -> u32 {
@@ -246,10 +238,12 @@ pub(crate) fn work<R: Wait, P: Allows>(
         return 0;
     }
     match part {
-        Part::Maps(gref) if audit == Audit::Taken => map_and_take(alloc, domain, gref, rounds),
+        Part::Maps(gref) if matches!(audit, Audit::Taken) => map_and_take(
+            alloc, domain, gref, rounds,
+        ),
         Part::Maps(gref) => map_and_unmap(domain, gref, rounds),
         Part::Grants(spread) => revoke_and_grant(domain, spread, rounds),
         Part::Withdraws(spread) => withdraw_and_grant(domain, spread, rounds),
-        Part::Moves(moves, gref, len) => move_bytes(rt, alloc, domain, moves, gref, len, rounds),
+        Part::Moves(accesses) => move_bytes(rt, alloc, domain, accesses, rounds),
     }
 }

@@ -1,21 +1,15 @@
 //! One script on the core and on the monitor.
-use crate::asking::{Asked, Both, place_of};
+use crate::asking::{Asked, Both, Shows};
 use crate::scarce::Scarce;
+use crate::stops::Stop;
 use crate::texts::text_difference;
-use anyhow::bail;
 use gt_core::{Answer, Core, Request};
 use gt_host::{Labels, ScriptPolicy, call_bytes, label_given, push_answer_line, request_of};
-use gt_live::Monitor;
 use gt_script::{Script, ScriptAction, ScriptCall, ScriptStep, Text, parse};
-use gt_types::{Config, DomId, DomainConfig, GrantRef};
-use std::alloc::Global;
+use gt_types::{Config, DomId};
+use std::alloc::{AllocError, Global};
 use std::sync::Wait;
-use test_monitor::{READ_ONLY, all_running};
-
-// The number of entries of each domain that are compared after each call.
-const ENTRIES: u32 = 9;
-
-const PAGE: u16 = 4_096;
+use test_monitor::{Calls, all_running, start_run};
 
 /// The result of a script: its calls, how many were Ok, in which of them allocations failed, and the first difference,
 /// if there is one.
@@ -27,87 +21,6 @@ pub struct Compared {
     pub difference: Option<String>,
 }
 
-// The first thing other than an answer that differs.
-#[derive(Clone, Copy)]
-enum Shows {
-    Frame(u16, u64),
-    Entry(u16, u32),
-}
-
-// Returns the configuration in the script.
-fn configured(alloc: Global, script: &Script<'_>) -> anyhow::Result<Config> {
-    Ok(Config {
-        domains: Vec::from_slice(alloc, script.domains())?,
-        first_gen: script.first_gen(),
-    })
-}
-
-fn rights(alloc: Global, script: &Script<'_>) -> anyhow::Result<ScriptPolicy> {
-    match ScriptPolicy::of(alloc, script) {
-        Ok(rights) => Ok(rights),
-        Err(_) => bail!("memory"),
-    }
-}
-
-// Returns the first frame of a domain, or the first entry, in which both differ. The last domain maps the entries.
-fn shown_of<R: Wait>(
-    rt: &R,
-    alloc: Global,
-    both: &mut Both<'_>,
-    place: usize,
-    domain: DomainConfig,
-    last: DomainConfig,
-) -> anyhow::Result<Option<Shows>> {
-    'frames: for frame in 0..u64::from(domain.frames) {
-        let peek = Request::Peek {
-            frame,
-            off: 0,
-            len: PAGE,
-        };
-        if !both.agrees(rt, alloc, place, domain.id, peek)? {
-            return Ok(Some(Shows::Frame(domain.id.0, frame)));
-        }
-    }
-    let looker = both.domains.len().saturating_sub(1);
-    'entries: for gref in 0..ENTRIES {
-        let map = Request::Map {
-            dom: domain.id,
-            gref: GrantRef(gref),
-            flags: READ_ONLY,
-        };
-        if !both.agrees(rt, alloc, looker, last.id, map)? {
-            return Ok(Some(Shows::Entry(domain.id.0, gref)));
-        }
-    }
-    Ok(None)
-}
-
-// Returns the first of all domains' frames and entries in which both differ.
-fn shown_by_all<R: Wait>(
-    rt: &R,
-    alloc: Global,
-    both: &mut Both<'_>,
-    domains: &[DomainConfig],
-) -> anyhow::Result<Option<Shows>> {
-    let Some(last) = domains.last() else {
-        return Ok(None);
-    };
-    'domains: for (place, domain) in domains.iter().enumerate() {
-        let shown = shown_of(rt, alloc, both, place, *domain, *last)?;
-        if shown.is_some() {
-            return Ok(shown);
-        }
-    }
-    Ok(None)
-}
-
-fn call_of<'b, 'a>(step: &'b ScriptStep<'a>) -> anyhow::Result<&'b ScriptCall<'a>> {
-    match &step.action {
-        ScriptAction::Do(call) => Ok(call),
-        _ => bail!("a line is not a whole call"),
-    }
-}
-
 // The result of the call of a line.
 #[derive(Clone, Copy)]
 enum Came {
@@ -117,138 +30,271 @@ enum Came {
     Differs(Shows),
 }
 
+// The course of a script: the handles that labels name, the lines of all answers, the number of calls and of those that
+// were Ok, and the first difference, if there is one.
+#[derive(Drop)]
+struct Told<'a> {
+    labels: Labels<'a>,
+    lines: Vec<u8>,
+    calls: usize,
+    done: usize,
+    difference: Option<String>,
+}
+
+// Returns the configuration and the rights in the script.
+fn settings(alloc: Global, script: &Script<'_>) -> Result<(Config, ScriptPolicy), Stop> {
+    let config = Config {
+        domains: Vec::from_slice(alloc, script.domains())?,
+        first_gen: script.first_gen(),
+    };
+    match ScriptPolicy::of(alloc, script) {
+        Ok(rights) => Ok((config, rights)),
+        Err(_) => Err(Stop::Memory),
+    }
+}
+
+// Makes a core with the script's configuration.
+fn core_of(alloc: Global, script: &Script<'_>) -> Result<Core<ScriptPolicy>, Stop> {
+    let (config, allowed) = settings(alloc, script)?;
+    match Core::new(alloc, config, allowed) {
+        Ok(core) => Ok(core),
+        Err(_) => Err(Stop::NotStarted),
+    }
+}
+
+fn call_of<'b, 'a>(step: &'b ScriptStep<'a>) -> Result<&'b ScriptCall<'a>, Stop> {
+    match &step.action {
+        ScriptAction::Do(call) => Ok(call),
+        _ => Err(Stop::NoCall),
+    }
+}
+
 // Returns the answer of a call on both. Each time that an allocation of the monitor fails, both must show what they did
 // before, and the call is made again.
-fn answered<R: Wait>(
+fn answered<R: Wait, D: Calls + Drop>(
+    both: &mut Both<D>,
     rt: &R,
-    alloc: Global,
-    both: &mut Both<'_>,
     scarce: &mut Scarce,
-    domains: &[DomainConfig],
     dom: DomId,
     request: Request<'_>,
-) -> anyhow::Result<Result<Answer, Came>> {
-    let place = place_of(domains, dom);
+) -> Result<Result<Answer, Came>, Stop> {
+    let place = both.place_of(dom);
     for _ in 0..scarce.begin() {
-        match both.ask(rt, scarce, place, dom, request)? {
+        match both.ask(rt, scarce, place, request)? {
             Asked::Alike(answer) => return Ok(Ok(answer)),
             Asked::Otherwise => return Ok(Err(Came::Otherwise)),
             Asked::Refused => {}
         }
-        if let Some(shows) = shown_by_all(rt, alloc, both, domains)? {
+        if let Some(shows) = both.shown_by_all(rt)? {
             return Ok(Err(Came::Differs(shows)));
         }
     }
     Ok(Err(Came::Otherwise))
 }
 
-// Makes the call of a line on both, appends the line of its answer, and compares what both then show.
-fn call_made<'a, R: Wait>(
+// Makes the call of a line on both.
+fn line_answered<'a, R: Wait, D: Calls + Drop>(
+    both: &mut Both<D>,
     rt: &R,
-    alloc: Global,
-    both: &mut Both<'_>,
     scarce: &mut Scarce,
-    script: &Script<'a>,
-    labels: &mut Labels<'a>,
+    labels: &Labels<'a>,
     step: &ScriptStep<'a>,
-    out: &mut Vec<u8>,
-    names: &[Text<'_>],
-) -> anyhow::Result<Came> {
+) -> Result<Result<Answer, Came>, Stop> {
     let call = call_of(step)?;
-    let bytes = call_bytes(alloc, call)?;
+    let bytes = call_bytes(both.alloc, call)?;
     let request = request_of(labels, step.dom, bytes.as_slice(), call);
-    let answer = match answered(rt, alloc, both, scarce, script.domains(), step.dom, request)? {
+    answered(both, rt, scarce, step.dom, request)
+}
+
+impl<'a> Told<'a> {
+    fn nothing(alloc: Global) -> Told<'a> {
+        Told {
+            labels: Labels::new(alloc),
+            lines: Vec::new(alloc),
+            calls: 0,
+            done: 0,
+            difference: None,
+        }
+    }
+
+    // Counts a call, and notes what differs, if anything does.
+    fn note(&mut self, alloc: Global, line: usize, came: Came) -> Result<(), AllocError> {
+        self.calls = self.calls.saturating_add(1);
+        match came {
+            Came::Done => self.done = self.done.saturating_add(1),
+            Came::Denied => {}
+            came => self.difference = Some(difference_at(alloc, line, came)?),
+        }
+        Ok(())
+    }
+
+    // Names the handle of a map, if this is its answer.
+    fn name(&mut self, step: &ScriptStep<'a>, answer: &Answer) -> Result<(), Stop> {
+        let call = call_of(step)?;
+        if let (Some(label), Answer::Mapped(handle)) = (label_given(call), answer) {
+            self.labels.name(step.dom, label, *handle)?;
+        }
+        Ok(())
+    }
+
+    // Adds the answer of a line.
+    fn add(
+        &mut self,
+        alloc: Global,
+        names: &[Text<'_>],
+        step: &ScriptStep<'a>,
+        answer: &Answer,
+    ) -> Result<(), Stop> {
+        self.name(step, answer)?;
+        push_answer_line(alloc, &mut self.lines, names, step.line, step.dom, answer)?;
+        Ok(())
+    }
+}
+
+// Makes the call of a line on both, adds its answer, and compares what both then show.
+fn call_made<'a, R: Wait, D: Calls + Drop>(
+    both: &mut Both<D>,
+    rt: &R,
+    scarce: &mut Scarce,
+    told: &mut Told<'a>,
+    names: &[Text<'_>],
+    step: &ScriptStep<'a>,
+) -> Result<Came, Stop> {
+    let answer = match line_answered(both, rt, scarce, &told.labels, step)? {
         Ok(answer) => answer,
         Err(came) => return Ok(came),
     };
-    if let (Some(label), Answer::Mapped(handle)) = (label_given(call), &answer) {
-        labels.name(step.dom, label, *handle)?;
-    }
-    push_answer_line(alloc, out, names, step.line, step.dom, &answer)?;
-    match shown_by_all(rt, alloc, both, script.domains())? {
-        Some(shows) => Ok(Came::Differs(shows)),
-        None if matches!(answer, Answer::Denied(_)) => Ok(Came::Denied),
-        None => Ok(Came::Done),
-    }
-}
-
-// Returns what differs at a line, if anything does.
-fn difference_at(alloc: Global, line: usize, came: Came) -> anyhow::Result<Option<String>> {
-    Ok(match came {
-        Came::Done | Came::Denied => None,
-        Came::Otherwise => Some(format!(in alloc; "line {line}: other answers")?),
-        Came::Differs(Shows::Frame(dom, frame)) => {
-            Some(format!(in alloc; "line {line}: frame {frame} of domain {dom} differs")?)
-        }
-        Came::Differs(Shows::Entry(dom, gref)) => {
-            Some(format!(in alloc; "line {line}: entry {gref} of domain {dom} differs")?)
-        }
+    told.add(both.alloc, names, step, &answer)?;
+    Ok(match both.shown_by_all(rt)? {
+        Some(shows) => Came::Differs(shows),
+        None if matches!(answer, Answer::Denied(_)) => Came::Denied,
+        None => Came::Done,
     })
 }
 
-// Compares all lines of a script on both.
-fn lines_compared<'a, R: Wait>(
-    rt: &R,
-    alloc: Global,
-    both: &mut Both<'_>,
-    script: &Script<'a>,
-    text: &str,
-    is_refusing: bool,
-) -> anyhow::Result<Compared> {
-    let mut scarce = Scarce::new(alloc, is_refusing)?;
-    let names = script.type_names(alloc)?;
-    let (mut labels, mut out) = (Labels::new(alloc), Vec::new(alloc));
-    let (mut calls, mut done) = (0usize, 0usize);
-    'steps: for step in script.steps() {
-        calls = calls.saturating_add(1);
-        let came = call_made(
-            rt,
-            alloc,
-            both,
-            &mut scarce,
-            script,
-            &mut labels,
-            step,
-            &mut out,
-            names.as_slice(),
-        )?;
-        if matches!(came, Came::Done) {
-            done = done.saturating_add(1);
+// Returns what differs at a line.
+fn difference_at(alloc: Global, line: usize, came: Came) -> Result<String, AllocError> {
+    match came {
+        Came::Differs(Shows::Frame(dom, frame)) => {
+            format!(in alloc; "line {line}: frame {frame} of domain {dom} differs")
         }
-        let difference = difference_at(alloc, step.line, came)?;
-        if difference.is_some() {
-            return Ok(Compared {
-                calls,
-                done,
-                refused: scarce.said(alloc)?,
-                difference,
-            });
+        Came::Differs(Shows::Entry(dom, gref)) => {
+            format!(in alloc; "line {line}: entry {gref} of domain {dom} differs")
+        }
+        _ => format!(in alloc; "line {line}: other answers"),
+    }
+}
+
+// Compares the lines of a script on both, up to the first that differs.
+fn lines_compared<'a, R: Wait, D: Calls + Drop>(
+    both: &mut Both<D>,
+    rt: &R,
+    scarce: &mut Scarce,
+    told: &mut Told<'a>,
+    steps: &[ScriptStep<'a>],
+    names: &[Text<'_>],
+) -> Result<(), Stop> {
+    for step in steps {
+        let came = call_made(both, rt, scarce, told, names, step)?;
+        told.note(both.alloc, step.line, came)?;
+        if told.difference.is_some() {
+            break;
         }
     }
     scarce.open();
-    let difference = text_difference(
-        alloc,
-        text,
-        out.as_slice(),
+    Ok(())
+}
+
+// Compares a script on both, and then the text of its play.
+fn script_told<'a, R: Wait, D: Calls + Drop>(
+    both: &mut Both<D>,
+    rt: &R,
+    scarce: &mut Scarce,
+    script: &Script<'a>,
+    text: &str,
+) -> Result<Told<'a>, Stop> {
+    let names = script.type_names(both.alloc)?;
+    let mut told = Told::nothing(both.alloc);
+    lines_compared(
         both,
-        script.domains(),
+        rt,
+        scarce,
+        &mut told,
+        script.steps(),
         names.as_slice(),
     )?;
+    if told.difference.is_none() {
+        told.difference = text_difference(both, text, told.lines.as_slice(), names.as_slice())?;
+    }
+    Ok(told)
+}
+
+// Compares a script on both, and tells which calls failed.
+fn script_compared<R: Wait, D: Calls + Drop>(
+    both: &mut Both<D>,
+    rt: &R,
+    script: &Script<'_>,
+    text: &str,
+    is_refusing: bool,
+) -> Result<Compared, Stop> {
+    let mut scarce = Scarce::new(both.alloc, is_refusing)?;
+    let Told {
+        calls,
+        done,
+        difference,
+        ..
+    } = script_told(both, rt, &mut scarce, script, text)?;
     Ok(Compared {
         calls,
         done,
-        refused: scarce.said(alloc)?,
+        refused: scarce.said(both.alloc)?,
         difference,
     })
 }
 
-// Makes a core with the script's configuration.
-fn core_of(alloc: Global, script: &Script<'_>) -> anyhow::Result<Core<ScriptPolicy>> {
-    let (config, allowed) = (configured(alloc, script)?, rights(alloc, script)?);
-    match Core::new(alloc, config, allowed) {
-        Ok(core) => Ok(core),
-        Err(_) => bail!("the core does not start"),
-    }
+// Makes a core with the script's configuration, next to these running domains.
+fn both_of<D: Calls + Drop>(
+    alloc: Global,
+    script: &Script<'_>,
+    domains: Vec<D>,
+) -> Result<Both<D>, Stop> {
+    let configured = Vec::from_slice(alloc, script.domains())?;
+    Ok(Both {
+        alloc,
+        configured,
+        core: core_of(alloc, script)?,
+        domains,
+        refused: 0,
+    })
+}
+
+// Compares a script on these running domains and a core.
+fn domains_compared<R: Wait, D: Calls + Drop>(
+    rt: &R,
+    alloc: Global,
+    script: &Script<'_>,
+    domains: Vec<D>,
+    text: &str,
+    is_refusing: bool,
+) -> Result<Compared, Stop> {
+    let mut both = both_of(alloc, script, domains)?;
+    script_compared(&mut both, rt, script, text, is_refusing)
+}
+
+// Compares a parsed script on both.
+fn compare_script<R: Wait>(
+    rt: &R,
+    alloc: Global,
+    script: &Script<'_>,
+    text: &str,
+    is_refusing: bool,
+) -> Result<Compared, Stop> {
+    let (config, allowed) = settings(alloc, script)?;
+    let Ok((monitor, domains)) = start_run(alloc, config, allowed) else {
+        return Err(Stop::NotStarted);
+    };
+    let domains = all_running(alloc, &monitor, domains)?;
+    domains_compared(rt, alloc, script, domains, text, is_refusing)
 }
 
 /// Plays a script on both. With `is_refusing` each allocation of each call fails once.
@@ -257,22 +303,9 @@ pub fn compare<R: Wait>(
     alloc: Global,
     text: &str,
     is_refusing: bool,
-) -> anyhow::Result<Compared> {
-    let Ok(script) = parse(alloc, text.as_bytes()) else {
-        bail!("a script has a fault");
-    };
-    let (config, allowed) = (configured(alloc, &script)?, rights(alloc, &script)?);
-    let core = core_of(alloc, &script)?;
-    let Ok((monitor, domains)) = Monitor::new(alloc, config, allowed) else {
-        bail!("the monitor does not start");
-    };
-    let Ok(domains) = all_running(alloc, &monitor, domains) else {
-        bail!("memory");
-    };
-    let mut both = Both {
-        core,
-        domains,
-        refused: 0,
-    };
-    lines_compared(rt, alloc, &mut both, &script, text, is_refusing)
+) -> Result<Compared, Stop> {
+    match parse(alloc, text.as_bytes()) {
+        Ok(script) => compare_script(rt, alloc, &script, text, is_refusing),
+        Err(_) => Err(Stop::Fault),
+    }
 }

@@ -21,13 +21,16 @@
 mod asking;
 mod comparing;
 mod scarce;
+mod stops;
 mod texts;
 
+use anyhow::bail;
 use comparing::{Compared, compare};
-use std::alloc::Global;
+use std::alloc::{AllocError, Global};
 use std::fs;
 use std::rt::Runtime;
 use std::sync::Wait;
+use stops::Stop;
 
 /// The results of the scripts of a file.
 #[derive(Drop)]
@@ -35,6 +38,43 @@ struct Tally {
     scripts: usize,
     calls: usize,
     done: usize,
+    refused: String,
+}
+
+impl Tally {
+    // Adds the result of a script. Returns a line about its difference, if there is one.
+    fn add(&mut self, alloc: Global, compared: Compared) -> Result<Option<String>, AllocError> {
+        self.scripts = self.scripts.saturating_add(1);
+        self.calls = self.calls.saturating_add(compared.calls);
+        self.done = self.done.saturating_add(compared.done);
+        self.refused.push_str(compared.refused.as_str())?;
+        Ok(match &compared.difference {
+            Some(difference) => Some(format!(in alloc; "script {}: {difference}\n", self.scripts)?),
+            None => None,
+        })
+    }
+
+    fn said(&self, alloc: Global) -> Result<String, AllocError> {
+        let Tally {
+            scripts,
+            calls,
+            done,
+            refused,
+        } = self;
+        format!(in alloc; "{scripts} scripts, {calls} calls, {done} of them ok\n{refused}")
+    }
+}
+
+// Compares the script of this head and body.
+fn compare_body<R: Wait>(
+    rt: &R,
+    alloc: Global,
+    head: &str,
+    body: &str,
+    is_refusing: bool,
+) -> Result<Compared, Stop> {
+    let script = format!(in alloc; "{head}{body}")?;
+    compare(rt, alloc, script.as_str(), is_refusing)
 }
 
 // Compares the bodies one after the other, up to the first one that differs.
@@ -43,51 +83,49 @@ fn compare_all<R: Wait>(
     alloc: Global,
     text: &str,
     is_refusing: bool,
-) -> anyhow::Result<String> {
-    let mut refused = String::new(alloc);
+) -> Result<String, Stop> {
     let mut tally = Tally {
         scripts: 0,
         calls: 0,
         done: 0,
+        refused: String::new(alloc),
     };
     let (head, bodies) = text.split_once("====\n").unwrap_or(("", text));
-    'bodies: for body in bodies.split("----\n") {
-        let script = format!(in alloc; "{head}{body}")?;
-        let Compared {
-            calls,
-            done,
-            refused: names,
-            difference,
-        } = compare(rt, alloc, script.as_str(), is_refusing)?;
-        tally.scripts = tally.scripts.saturating_add(1);
-        tally.calls = tally.calls.saturating_add(calls);
-        tally.done = tally.done.saturating_add(done);
-        refused.push_str(names.as_str())?;
-        if let Some(difference) = difference {
-            return Ok(format!(in alloc; "script {}: {difference}\n", tally.scripts)?);
+    for body in bodies.split("----\n") {
+        let compared = compare_body(rt, alloc, head, body, is_refusing)?;
+        if let Some(line) = tally.add(alloc, compared)? {
+            return Ok(line);
         }
     }
-    let Tally {
-        scripts,
-        calls,
-        done,
-    } = tally;
-    Ok(format!(in alloc; "{scripts} scripts, {calls} calls, {done} of them ok\n{refused}")?)
+    Ok(tally.said(alloc)?)
+}
+
+// Prints the results of the scripts of a file.
+fn say<R: Runtime + AllocGlobal + Wait>(
+    rt: &R,
+    alloc: Global,
+    name: &str,
+    is_refusing: bool,
+) -> anyhow::Result<()> {
+    let path = format!(in alloc; "{name}.gt")?;
+    let text = fs::read_to_string(rt, path.as_str())?;
+    match compare_all(rt, alloc, text.as_str(), is_refusing) {
+        Ok(said) => print!(rt; "{name}: {said}")?,
+        Err(stop) => bail!("{name}: {}", stop.text()),
+    }
+    Ok(())
 }
 
 fn main(rt: HostRuntime) -> anyhow::Result<()> {
     let alloc = rt.alloc();
     let words: Vec<String> = std::env::args(&rt)?.collect(alloc)?;
     let mut is_refusing = false;
-    'names: for word in words.iter().skip(1) {
+    for word in words.iter().skip(1) {
         if word.as_str() == "--refusing" {
             is_refusing = true;
-            continue;
+        } else {
+            say(&rt, alloc, word.as_str(), is_refusing)?;
         }
-        let path = format!(in alloc; "{word}.gt")?;
-        let text = fs::read_to_string(&rt, path.as_str())?;
-        let said = compare_all(&rt, alloc, text.as_str(), is_refusing)?;
-        print!(rt; "{word}: {said}")?;
     }
     Ok(())
 }

@@ -1,6 +1,5 @@
 //! Memory of calls of which each allocation fails in turn.
-use anyhow::bail;
-use gt_core::Request;
+use crate::stops::Stop;
 use std::alloc::{AllocError, Global};
 use test_flood::Flood;
 
@@ -30,19 +29,6 @@ pub struct Scarce {
     monitor: String,
     begin: String,
     tick: String,
-}
-
-// Returns the name of a call that allocates. No other call may fail so.
-fn name_of(request: Request<'_>) -> &'static str {
-    match request {
-        Request::Map { .. } => " map",
-        Request::Load { .. } => " load",
-        Request::Store { .. } => " store",
-        Request::Peek { .. } => " peek",
-        Request::Poke { .. } => " poke",
-        Request::Copy(_) => " copy",
-        _ => " another",
-    }
 }
 
 impl Scarce {
@@ -77,7 +63,7 @@ impl Scarce {
     }
 
     /// Leaves only the memory of the call.
-    pub fn close(&mut self) -> anyhow::Result<()> {
+    pub fn close(&mut self) -> Result<(), Stop> {
         let Some(flood) = &mut self.flood else {
             return Ok(());
         };
@@ -87,7 +73,7 @@ impl Scarce {
         flood.close(GAP)?;
         self.is_closed = flood.let_through(self.bytes);
         if !self.is_closed {
-            bail!("memory is not refused");
+            return Err(Stop::NotRefused);
         }
         Ok(())
     }
@@ -107,15 +93,14 @@ impl Scarce {
         }
     }
 
-    /// Notes a failure in this part of a call, and gives it a little more memory.
-    pub fn refused(&mut self, place: Place, request: Request<'_>) -> Result<(), AllocError> {
+    /// Notes a failure in this part of the call with this name, and gives it a little more memory.
+    pub fn refused(&mut self, place: Place, name: &'static str) -> Result<(), AllocError> {
         self.bytes = self.bytes.saturating_add(STEP);
         let names = match place {
             Place::Monitor => &mut self.monitor,
             Place::Begin => &mut self.begin,
             Place::Tick => &mut self.tick,
         };
-        let name = name_of(request);
         if !names.contains(name) {
             names.push_str(name)?;
         }

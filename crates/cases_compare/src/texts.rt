@@ -1,18 +1,26 @@
 //! The text of a play compared with the lines of the answers and the records of the domains.
 use crate::asking::Both;
-use anyhow::bail;
+use crate::stops::Stop;
 use gt_audit::push_line;
-use gt_host::{ScriptPolicy, play};
+use gt_host::play;
 use gt_script::Text;
-use gt_types::DomainConfig;
-use std::alloc::Global;
-use test_monitor::TestDomain;
+use std::alloc::{AllocError, Global};
+use test_monitor::Calls;
+
+// The records of all domains except the last, next to those of a text: the first domain whose records differ, the number
+// of its records with the lost ones, and the number of those in the text.
+#[derive(Clone, Copy)]
+struct Records {
+    differs: Option<u16>,
+    told: u64,
+    wanted: u64,
+}
 
 // Returns the audit lines of this domain among those of a text.
-fn lines_of(alloc: Global, text: &str, dom: u16) -> anyhow::Result<String> {
+fn lines_of(alloc: Global, text: &str, dom: u16) -> Result<String, AllocError> {
     let begins = format!(in alloc; "audit {dom} ")?;
     let mut out = String::new(alloc);
-    'lines: for line in text.lines() {
+    for line in text.lines() {
         if line.starts_with(begins.as_str()) {
             out.push_str(line)?;
             out.push('\n')?;
@@ -22,71 +30,105 @@ fn lines_of(alloc: Global, text: &str, dom: u16) -> anyhow::Result<String> {
 }
 
 // Returns the audit lines of a domain's records.
-fn lines_told(
-    alloc: Global,
-    domain: &TestDomain<'_, ScriptPolicy>,
-    names: &[Text<'_>],
-) -> anyhow::Result<String> {
+fn lines_told<D: Calls>(alloc: Global, domain: &D, names: &[Text<'_>]) -> Result<Vec<u8>, Stop> {
     let mut told = Vec::new(alloc);
-    'records: for record in &domain.told()? {
+    for record in &domain.told()? {
         push_line(&mut told, record, names)?;
     }
-    Ok(String::from_utf8(told)?)
+    Ok(told)
 }
 
-// Returns the first domain, except the last, whose records are not those of a text, the number of all records with the
-// lost ones, and the number of records in the text.
-fn records_compared(
-    alloc: Global,
-    audited: &str,
-    both: &Both<'_>,
-    configured: &[DomainConfig],
-    names: &[Text<'_>],
-) -> anyhow::Result<(Option<u16>, u64, usize)> {
-    let (mut first, mut told_of, mut wanted_of) = (None, 0u64, 0usize);
-    let count = both.domains.len().saturating_sub(1);
-    'domains: for (domain, named) in both.domains.iter().zip(configured.iter()).take(count) {
+impl Records {
+    // Adds the records of a domain, next to those of the text.
+    fn add<D: Calls>(
+        &mut self,
+        alloc: Global,
+        domain: &D,
+        dom: u16,
+        audited: &str,
+        names: &[Text<'_>],
+    ) -> Result<(), Stop> {
         let told = lines_told(alloc, domain, names)?;
-        let wanted = lines_of(alloc, audited, named.id.0)?;
-        if first.is_none() && told.as_str() != wanted.as_str() {
-            first = Some(named.id.0);
+        let wanted = lines_of(alloc, audited, dom)?;
+        if self.differs.is_none() && told.as_slice() != wanted.as_bytes() {
+            self.differs = Some(dom);
         }
         let kept = domain.told()?.len() as u64;
-        told_of = told_of.saturating_add(kept).saturating_add(domain.lost());
-        wanted_of = wanted_of.saturating_add(wanted.lines().count());
+        self.told = self.told.saturating_add(kept).saturating_add(domain.lost());
+        self.wanted = self.wanted.saturating_add(wanted.lines().count() as u64);
+        Ok(())
     }
-    Ok((first, told_of, wanted_of))
+}
+
+// Returns the records of all domains except the last, next to those of the text.
+fn records_compared<D: Calls + Drop>(
+    both: &Both<D>,
+    audited: &str,
+    names: &[Text<'_>],
+) -> Result<Records, Stop> {
+    let mut records = Records {
+        differs: None,
+        told: 0,
+        wanted: 0,
+    };
+    let count = both.domains.len().saturating_sub(1);
+    for (domain, named) in both.domains.iter().zip(both.configured.iter()).take(count) {
+        records.add(both.alloc, domain, named.id.0, audited, names)?;
+    }
+    Ok(records)
+}
+
+// Returns the text of a play with its audit.
+fn played(alloc: Global, script: &str) -> Result<Vec<u8>, Stop> {
+    let mut reader = script.as_bytes();
+    let mut played = Vec::new(alloc);
+    match play(alloc, &mut reader, &mut played, true) {
+        Ok(()) => Ok(played),
+        Err(_) => Err(Stop::NotPlayed),
+    }
+}
+
+// Returns whether a domain has lost a record.
+fn has_lost<D: Calls>(domains: &[D]) -> bool {
+    for domain in domains {
+        if domain.lost() != 0 {
+            return true;
+        }
+    }
+    false
+}
+
+// Returns what differs in the records, if anything does.
+fn difference_in<D: Calls + Drop>(
+    both: &Both<D>,
+    records: Records,
+) -> Result<Option<String>, AllocError> {
+    let alloc = both.alloc;
+    if records.told != records.wanted.saturating_add(both.refused as u64) {
+        return Ok(Some(String::from_str(alloc, "another number of records")?));
+    }
+    match records.differs {
+        Some(dom) if both.refused == 0 && !has_lost(both.domains.as_slice()) => {
+            Ok(Some(format!(in alloc; "other records of domain {dom}")?))
+        }
+        _ => Ok(None),
+    }
 }
 
 /// Returns the first thing in which the text of `play` differs: the lines of the answers, or the records of a domain
 /// except the last. If allocations failed, only records are counted: a failed call has one more, and a record that
 /// could not be allocated counts as lost.
-pub fn text_difference(
-    alloc: Global,
+pub fn text_difference<D: Calls + Drop>(
+    both: &Both<D>,
     script: &str,
     answers: &[u8],
-    both: &Both<'_>,
-    configured: &[DomainConfig],
     names: &[Text<'_>],
-) -> anyhow::Result<Option<String>> {
-    let mut reader = script.as_bytes();
-    let mut played = Vec::new(alloc);
-    if play(alloc, &mut reader, &mut played, true).is_err() {
-        bail!("the script is not played");
-    }
+) -> Result<Option<String>, Stop> {
+    let played = played(both.alloc, script)?;
     let Some(rest) = played.as_slice().strip_prefix(answers) else {
-        return Ok(Some(String::from_str(alloc, "other lines")?));
+        return Ok(Some(String::from_str(both.alloc, "other lines")?));
     };
     let rest = str::from_utf8(rest).unwrap_or("");
-    let (first, told, wanted) = records_compared(alloc, rest, both, configured, names)?;
-    if told != (wanted.saturating_add(both.refused)) as u64 {
-        return Ok(Some(String::from_str(alloc, "another number of records")?));
-    }
-    let is_lost = both.domains.iter().any(|domain| domain.lost() != 0);
-    match first {
-        Some(dom) if both.refused == 0 && !is_lost => {
-            Ok(Some(format!(in alloc; "other records of domain {dom}")?))
-        }
-        _ => Ok(None),
-    }
+    let records = records_compared(both, rest, names)?;
+    Ok(difference_in(both, records)?)
 }

@@ -1,20 +1,21 @@
 //! A start of a core or a monitor.
 use gt_core::Core;
-use gt_live::Monitor;
 use gt_types::{Config, DomainConfig, StartFault, Triples};
+use gt_words::Words;
 use std::alloc::{AllocError, Global};
 use test_flood::Flood;
-use test_monitor::all_running;
+use test_monitor::{all_running, start_run};
 
 /// The thing to start.
 #[derive(Clone, Copy)]
 pub enum Kind {
     Core,
     Monitor,
+    Words,
 }
 
 /// The result of a start.
-#[derive(Clone, Copy, PartialEq, Eq)]
+#[derive(Clone, Copy)]
 pub enum Came {
     Started,
     Refused,
@@ -43,20 +44,41 @@ fn nobody(alloc: Global) -> Triples {
     }
 }
 
-/// Starts in what the flood lets through. The domains of a monitor leave in as much memory as they want.
-pub fn start(alloc: Global, flood: &mut Flood, kind: Kind, config: Config) -> Came {
-    match kind {
-        Kind::Core => match Core::new(alloc, config, nobody(alloc)) {
-            Ok(_) => Came::Started,
-            Err(fault) => refused(fault),
-        },
-        Kind::Monitor => match Monitor::new(alloc, config, nobody(alloc)) {
-            Ok((monitor, domains)) => {
+// Starts a core.
+fn start_core(alloc: Global, config: Config) -> Came {
+    match Core::new(alloc, config, nobody(alloc)) {
+        Ok(_) => Came::Started,
+        Err(fault) => refused(fault),
+    }
+}
+
+// Starts a monitor. Its domains leave in as much memory as they want.
+fn start_monitor(alloc: Global, flood: Option<&mut Flood>, config: Config) -> Came {
+    match start_run(alloc, config, nobody(alloc)) {
+        Ok((monitor, domains)) => {
+            if let Some(flood) = flood {
                 flood.open();
-                let _ = all_running(alloc, &monitor, domains);
-                Came::Started
             }
-            Err(fault) => refused(fault),
-        },
+            let _ = all_running(alloc, &monitor, domains);
+            Came::Started
+        }
+        Err(fault) => refused(fault),
+    }
+}
+
+// Makes the words of a run.
+fn start_words(alloc: Global, config: &Config) -> Came {
+    match Words::new(alloc, config) {
+        Ok(_) => Came::Started,
+        Err(fault) => refused(fault),
+    }
+}
+
+/// Starts in what the flood lets through, or in ample memory if there is none.
+pub fn start(alloc: Global, flood: Option<&mut Flood>, kind: Kind, config: Config) -> Came {
+    match kind {
+        Kind::Core => start_core(alloc, config),
+        Kind::Monitor => start_monitor(alloc, flood, config),
+        Kind::Words => start_words(alloc, &config),
     }
 }

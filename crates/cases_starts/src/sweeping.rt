@@ -69,7 +69,7 @@ impl<'d> Starts<'d> {
             if !self.flood.let_through(left) {
                 return Ok(None);
             }
-            match start(self.alloc, &mut self.flood, self.kind, config) {
+            match start(self.alloc, Some(&mut self.flood), self.kind, config) {
                 Came::Started => break,
                 Came::Refused => below = left,
                 Came::Other => return Ok(None),

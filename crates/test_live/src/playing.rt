@@ -1,11 +1,11 @@
 //! Runs of a table: calls of domains with their expected answers, and then threads.
 use crate::working::{Behind, Part, work_at_once};
-use gt_types::{Allows, Memory, Rule, StartFault};
+use gt_types::{Memory, Rule, StartFault};
 use std::alloc::Global;
 use std::process::Abort;
 use std::sync::Wait;
 use std::thread::Threads;
-use test_monitor::{READ_ONLY, TestCall, TestDomain, TestReply, all_running, rights, start, text};
+use test_monitor::{Calls, READ_ONLY, TestCall, TestReply, all_running, rights, start, text};
 
 /// A line: the index of the domain, counted from 0, its call, and the expected answer.
 pub type Line<'a> = (usize, TestCall<'a>, &'a str);
@@ -52,9 +52,9 @@ pub struct Row<'a> {
 }
 
 // Returns the answer of the domain with this index.
-fn said<R: Wait + Abort, P: Allows>(
+fn said<R: Wait + Abort, D: Calls>(
     rt: &R,
-    domains: &mut [TestDomain<'_, P>],
+    domains: &mut [D],
     by: usize,
     asks: TestCall<'_>,
 ) -> TestReply {
@@ -72,10 +72,10 @@ fn is_of_memory(said: &TestReply) -> bool {
 }
 
 // Compares each line's answer.
-fn play<R: Wait + Abort, P: Allows>(
+fn play<R: Wait + Abort, D: Calls>(
     rt: &R,
     alloc: Global,
-    domains: &mut [TestDomain<'_, P>],
+    domains: &mut [D],
     lines: &[Line<'_>],
     insists: bool,
 ) -> Result<(), Memory> {
@@ -91,9 +91,9 @@ fn play<R: Wait + Abort, P: Allows>(
 }
 
 // Returns whether the domain reads these bytes over a buffer, through its last mapping or from one of its own frames.
-fn fills<R: Wait, P: Allows>(
+fn fills<R: Wait, D: Calls>(
     rt: &R,
-    domain: Option<&mut TestDomain<'_, P>>,
+    domain: Option<&mut D>,
     frame: Option<u64>,
     off: u16,
     wanted: [u8; 5],
@@ -110,7 +110,7 @@ fn fills<R: Wait, P: Allows>(
 }
 
 // Maps the first entry of domain 1 for reading this number of times. Returns how often that was Ok.
-fn map_often<P: Allows>(domain: Option<&mut TestDomain<'_, P>>, times: u32) -> u32 {
+fn map_often<D: Calls>(domain: Option<&mut D>, times: u32) -> u32 {
     let Some(domain) = domain else {
         return 0;
     };
@@ -124,10 +124,7 @@ fn map_often<P: Allows>(domain: Option<&mut TestDomain<'_, P>>, times: u32) -> u
 }
 
 // Lets the domain reserve space for this number of records, and keep no more.
-fn keep_at_most<P: Allows>(
-    domain: Option<&mut TestDomain<'_, P>>,
-    records: usize,
-) -> Result<(), Memory> {
+fn keep_at_most<D: Calls>(domain: Option<&mut D>, records: usize) -> Result<(), Memory> {
     let Some(domain) = domain else {
         return Ok(());
     };
@@ -137,7 +134,7 @@ fn keep_at_most<P: Allows>(
 }
 
 // Returns what a domain leaves, as a text: its records and how many were lost.
-fn left<P: Allows>(alloc: Global, domain: Option<TestDomain<'_, P>>) -> Result<String, Memory> {
+fn left<D: Calls + Drop>(alloc: Global, domain: Option<D>) -> Result<String, Memory> {
     let Some(domain) = domain else {
         return Ok(String::new(alloc));
     };
@@ -146,7 +143,7 @@ fn left<P: Allows>(alloc: Global, domain: Option<TestDomain<'_, P>>) -> Result<S
 }
 
 // Counts the records that a domain leaves.
-fn count_left<P: Allows>(domain: Option<TestDomain<'_, P>>) -> Result<usize, Memory> {
+fn count_left<D: Calls + Drop>(domain: Option<D>) -> Result<usize, Memory> {
     match domain {
         Some(domain) => Ok(domain.finish().records()?.len()),
         None => Ok(0),
@@ -154,10 +151,10 @@ fn count_left<P: Allows>(domain: Option<TestDomain<'_, P>>) -> Result<usize, Mem
 }
 
 // Plays a stage, and compares the results.
-fn make<R: Wait + Abort, P: Allows>(
+fn make<R: Wait + Abort, D: Calls + Drop>(
     rt: &R,
     alloc: Global,
-    domains: &mut Vec<TestDomain<'_, P>>,
+    domains: &mut Vec<D>,
     stage: Stage<'_>,
 ) -> Result<(), Memory> {
     match stage {

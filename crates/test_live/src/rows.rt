@@ -252,7 +252,7 @@ const A_COPY_OVERLAPS_ITSELF: [Line; 3] = [
 ];
 
 // Each row with its name, the version of the tables and the first generation of their entries.
-const ROWS: [(&str, u32, u32, &[Line]); 14] = [
+static ROWS: [(&str, u32, u32, &[Line]); 14] = [
     (
         "a mapping is counted and given up",
         1,
@@ -317,13 +317,13 @@ const ROWS: [(&str, u32, u32, &[Line]); 14] = [
 #[test]
 fn rows_are_answered(rt: HostRuntime) -> Result<(), Fail> {
     let alloc = rt.alloc();
-    for (name, version, first_gen, lines) in ROWS {
+    for (name, version, first_gen, lines) in ROWS.iter() {
         let row = Row {
-            name,
+            name: *name,
             count: 4,
-            version,
-            first_gen,
-            stages: &[Stage::Asked(lines)],
+            version: *version,
+            first_gen: *first_gen,
+            stages: &[Stage::Asked(*lines)],
             parts: &[],
             behind: &[],
         };

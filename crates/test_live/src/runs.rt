@@ -179,7 +179,7 @@ const STORED: [Line; 4] = [
     (TWO, Store(10, &[1, 2, 3]), "ok"),
 ];
 
-const ROWS: [Row; 13] = [
+static ROWS: [Row; 13] = [
     Row {
         name: "bytes are read over a buffer",
         stages: &[
@@ -291,8 +291,8 @@ const ROWS: [Row; 13] = [
 
 #[test]
 fn runs_go_as_they_must(rt: HostRuntime) -> Result<(), Fail> {
-    for row in ROWS {
-        play_row(&rt, rt.alloc(), &row)?;
+    for row in ROWS.iter() {
+        play_row(&rt, rt.alloc(), row)?;
     }
     Ok(())
 }
@@ -322,7 +322,7 @@ const ACCESSES: [Line; 18] = [
     ),
 ];
 
-const REFUSED: Row = Row {
+static REFUSED: Row = Row {
     name: "accesses with memory refused",
     stages: &[Stage::Insisted(&ACCESSES)],
     ..QUIET

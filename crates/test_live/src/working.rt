@@ -1,11 +1,11 @@
 //! The parts of domains that run at the same time, each in its own thread.
 use gt_calls::{CopyArgs, End};
 use gt_entry::{Control, Entry, EntryKind};
-use gt_types::{Allows, DOMID_SELF, Denial, DomId, Facts, GrantRef, Memory, Rule};
+use gt_types::{DOMID_SELF, Denial, DomId, Facts, GrantRef, Memory, Rule};
 use std::alloc::{AllocError, Global};
 use std::sync::Wait;
 use std::thread::{self, Threads};
-use test_monitor::{READ_ONLY, TestCall, TestDomain, TestReply, WRITABLE};
+use test_monitor::{Calls, READ_ONLY, TestCall, TestReply, WRITABLE};
 use test_rows::{copy, end};
 
 /// The number of bytes of one access.
@@ -73,8 +73,8 @@ pub enum Part {
 
 /// A domain in a thread, and whether all its calls so far were answered as the rules allow.
 #[derive(Drop)]
-struct Worker<'m, P: Allows> {
-    domain: TestDomain<'m, P>,
+struct Worker<D: Calls + Drop> {
+    domain: D,
     part: Part,
     rounds: u32,
     fair: bool,
@@ -145,7 +145,7 @@ fn is_fair(answer: Result<(), Denial>, one: Rule, other: Rule) -> bool {
     }
 }
 
-fn lend<P: Allows>(domain: &mut TestDomain<'_, P>) -> bool {
+fn lend<D: Calls>(domain: &mut D) -> bool {
     if domain.grant(0, &page(2, true)).is_err() {
         return false;
     }
@@ -157,7 +157,7 @@ fn lend<P: Allows>(domain: &mut TestDomain<'_, P>) -> bool {
     false
 }
 
-fn borrow<P: Allows>(domain: &mut TestDomain<'_, P>) -> bool {
+fn borrow<D: Calls>(domain: &mut D) -> bool {
     match domain.map(1, 0, READ_ONLY) {
         Ok(()) => domain.unmap().is_ok(),
         Err(denial) => denial.rule == Rule::N10 || denial.rule == Rule::N18,
@@ -165,12 +165,7 @@ fn borrow<P: Allows>(domain: &mut TestDomain<'_, P>) -> bool {
 }
 
 // Grants an entry if it is not granted, and updates what the owner knows.
-fn grant_once<P: Allows>(
-    domain: &mut TestDomain<'_, P>,
-    gref: u32,
-    entry: &Entry,
-    kept: &mut Kept,
-) -> bool {
+fn grant_once<D: Calls>(domain: &mut D, gref: u32, entry: &Entry, kept: &mut Kept) -> bool {
     let was_valid = kept.valid;
     let granted = domain.grant(gref, entry).is_ok();
     if granted {
@@ -184,7 +179,7 @@ fn grant_once<P: Allows>(
 }
 
 // Revokes an entry, and updates what the owner knows.
-fn revoke_once<P: Allows>(domain: &mut TestDomain<'_, P>, gref: u32, kept: &mut Kept) -> bool {
+fn revoke_once<D: Calls>(domain: &mut D, gref: u32, kept: &mut Kept) -> bool {
     let revoked = domain.revoke(gref);
     if revoked.is_ok() {
         kept.valid = false;
@@ -193,7 +188,7 @@ fn revoke_once<P: Allows>(domain: &mut TestDomain<'_, P>, gref: u32, kept: &mut 
 }
 
 // Demotes an entry and promotes it again.
-fn turn_once<P: Allows>(domain: &mut TestDomain<'_, P>, gref: u32, kept: &mut Kept) -> bool {
+fn turn_once<D: Calls>(domain: &mut D, gref: u32, kept: &mut Kept) -> bool {
     let demoted = domain.demote(gref);
     if demoted.is_ok() && !kept.ro {
         kept.ro = true;
@@ -208,12 +203,7 @@ fn turn_once<P: Allows>(domain: &mut TestDomain<'_, P>, gref: u32, kept: &mut Ke
 }
 
 // Makes one round of an owner: its entry is granted if it is not, demoted, promoted, and revoked.
-fn own_once<P: Allows>(
-    domain: &mut TestDomain<'_, P>,
-    gref: u32,
-    named: u16,
-    kept: &mut Kept,
-) -> bool {
+fn own_once<D: Calls>(domain: &mut D, gref: u32, named: u16, kept: &mut Kept) -> bool {
     let granted = grant_once(domain, gref, &page(named, false), kept);
     let turned = turn_once(domain, gref, kept);
     let revoked = revoke_once(domain, gref, kept);
@@ -221,7 +211,7 @@ fn own_once<P: Allows>(
 }
 
 // Makes one round of a mapper.
-fn map_once<P: Allows>(domain: &mut TestDomain<'_, P>, owner: u16, gref: u32, flags: u32) -> bool {
+fn map_once<D: Calls>(domain: &mut D, owner: u16, gref: u32, flags: u32) -> bool {
     match domain.map(owner, gref, flags) {
         Ok(()) => domain.unmap().is_ok(),
         Err(denial) => match denial.rule {
@@ -241,7 +231,7 @@ fn finds_old_pins(denial: Denial) -> bool {
 }
 
 // Grants the frame if the entry is not granted. The grant may be refused for the pins that a withdrawal left.
-fn grant_frame<P: Allows>(domain: &mut TestDomain<'_, P>, frame: u64, kept: &mut Kept) -> bool {
+fn grant_frame<D: Calls>(domain: &mut D, frame: u64, kept: &mut Kept) -> bool {
     match domain.grant(0, &page_of(frame)) {
         Ok(()) => {
             let fair = !kept.valid;
@@ -261,7 +251,7 @@ fn grant_frame<P: Allows>(domain: &mut TestDomain<'_, P>, frame: u64, kept: &mut
 }
 
 // Withdraws the entry. It may be refused if the entry is not granted, or if each of four tries met other pins.
-fn withdraw_once<P: Allows>(domain: &mut TestDomain<'_, P>, kept: &mut Kept) -> bool {
+fn withdraw_once<D: Calls>(domain: &mut D, kept: &mut Kept) -> bool {
     match domain.withdraw(0) {
         Ok(()) => {
             let fair = kept.valid;
@@ -302,7 +292,7 @@ fn is_whole(said: &TestReply) -> bool {
 }
 
 // Makes one round of a domain that copies a page which its owner may withdraw.
-fn take_once<R: Wait, P: Allows>(rt: &R, domain: &mut TestDomain<'_, P>) -> bool {
+fn take_once<R: Wait, D: Calls>(rt: &R, domain: &mut D) -> bool {
     match domain.ask(rt, TAKE) {
         TestReply::Done => is_whole(&domain.ask(rt, TestCall::Peek(3, 0, PAGE_LEN))),
         TestReply::Denied(denial) => stands_by(denial, Rule::N10, Rule::N18),
@@ -311,23 +301,14 @@ fn take_once<R: Wait, P: Allows>(rt: &R, domain: &mut TestDomain<'_, P>) -> bool
 }
 
 // Makes one round of a domain with transitive entries: one of them is granted if it is not, and revoked.
-fn forward_once<P: Allows>(
-    domain: &mut TestDomain<'_, P>,
-    gref: u32,
-    named: u16,
-    kept: &mut Kept,
-) -> bool {
+fn forward_once<D: Calls>(domain: &mut D, gref: u32, named: u16, kept: &mut Kept) -> bool {
     let granted = grant_once(domain, gref, &via(named), kept);
     revoke_once(domain, gref, kept) && granted
 }
 
 // Makes one round of a domain that copies through a transitive entry. Either of the two entries may then be invalid, or
 // change its pins in each try.
-fn follow_once<R: Wait, P: Allows>(
-    rt: &R,
-    domain: &mut TestDomain<'_, P>,
-    asks: TestCall<'_>,
-) -> bool {
+fn follow_once<R: Wait, D: Calls>(rt: &R, domain: &mut D, asks: TestCall<'_>) -> bool {
     match domain.ask(rt, asks) {
         TestReply::Done => true,
         TestReply::Denied(denial) => stands_by(denial, Rule::N10, Rule::N18),
@@ -335,18 +316,13 @@ fn follow_once<R: Wait, P: Allows>(
     }
 }
 
-fn access_once<R: Wait, P: Allows>(rt: &R, domain: &mut TestDomain<'_, P>, access: Access) -> bool {
+fn access_once<R: Wait, D: Calls>(rt: &R, domain: &mut D, access: Access) -> bool {
     let wrote = matches!(domain.ask(rt, access.write), TestReply::Done);
     byte_of(&domain.ask(rt, access.read), LEN).is_some() && wrote
 }
 
 // Makes one round of a domain, and returns whether its answers are allowed by the rules.
-fn round_of<R: Wait, P: Allows>(
-    rt: &R,
-    domain: &mut TestDomain<'_, P>,
-    part: &mut Part,
-    round: u32,
-) -> bool {
+fn round_of<R: Wait, D: Calls>(rt: &R, domain: &mut D, part: &mut Part, round: u32) -> bool {
     let odd = round % 2 == 1;
     match part {
         Part::Lends => lend(domain),
@@ -378,7 +354,7 @@ fn round_of<R: Wait, P: Allows>(
     }
 }
 
-fn work<'m, R: Wait, P: Allows>(rt: &R, worker: Worker<'m, P>) -> Worker<'m, P> {
+fn work<R: Wait, D: Calls + Drop>(rt: &R, worker: Worker<D>) -> Worker<D> {
     let Worker {
         mut domain,
         mut part,
@@ -397,10 +373,10 @@ fn work<'m, R: Wait, P: Allows>(rt: &R, worker: Worker<'m, P>) -> Worker<'m, P> 
 }
 
 // Runs all of them, each in its own thread.
-fn at_once<'m, P: Allows + Sync, R: Threads + Wait + Sync>(
+fn at_once<D: Calls + Send + Drop, R: Threads + Wait + Sync>(
     rt: &R,
-    workers: Vec<Worker<'m, P>>,
-) -> Result<Vec<Worker<'m, P>>, AllocError> {
+    workers: Vec<Worker<D>>,
+) -> Result<Vec<Worker<D>>, AllocError> {
     thread::map_vec(rt, workers, &|worker| work(rt, worker))
 }
 
@@ -416,12 +392,7 @@ fn kept_of(part: Part, gref: u32) -> Kept {
 }
 
 // Returns whether a map is refused by the word of an entry that is invalid and has no pins, at this generation.
-fn finds_idle<P: Allows>(
-    mapper: &mut TestDomain<'_, P>,
-    dom: u16,
-    gref: u32,
-    generation: u32,
-) -> bool {
+fn finds_idle<D: Calls>(mapper: &mut D, dom: u16, gref: u32, generation: u32) -> bool {
     let idle = Control {
         kind: EntryKind::Invalid,
         ro: false,
@@ -442,7 +413,7 @@ pub type Behind = (usize, usize, u16, u32);
 
 // Returns whether the entry is idle at the generation that its owner counts, once the owner has revoked it, and can
 // then be granted again.
-fn is_idle<P: Allows>(workers: &mut [Worker<'_, P>], behind: Behind) -> bool {
+fn is_idle<D: Calls + Drop>(workers: &mut [Worker<D>], behind: Behind) -> bool {
     let (owner, mapper, dom, gref) = behind;
     let Some(one) = workers.get_mut(owner) else {
         return false;
@@ -467,10 +438,10 @@ fn is_idle<P: Allows>(workers: &mut [Worker<'_, P>], behind: Behind) -> bool {
 
 /// Lets the domains do their parts, each in its own thread, for this number of rounds. Returns whether all calls were
 /// answered as the rules allow, and these entries are then idle.
-pub fn work_at_once<P: Allows + Sync, R: Threads + Wait + Sync>(
+pub fn work_at_once<D: Calls + Send + Drop, R: Threads + Wait + Sync>(
     rt: &R,
     alloc: Global,
-    domains: Vec<TestDomain<'_, P>>,
+    domains: Vec<D>,
     parts: &[(Part, u32)],
     behind: &[Behind],
 ) -> Result<bool, Memory> {

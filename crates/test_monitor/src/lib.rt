@@ -1,7 +1,8 @@
 //! Monitors and running domains for tests and timed loads, with calls as values and answers as texts.
 //!
-//! [`start`] makes a run of some domains, and [`all_running`] pairs each of them with its monitor ([`TestDomain`]), so
-//! that it can be dropped and can move into a thread. [`TestDomain::ask`] makes the call that a [`TestCall`] names, and
+//! [`start`] makes a run of some domains, and [`start_run`] that of a configuration. [`all_running`] pairs each domain
+//! with its monitor ([`TestDomain`]), so that it can be dropped and can move into a thread. Code that needs no more than
+//! a domain's calls and records is generic over [`Calls`], since a type without a lifetime costs less proof. [`TestDomain::ask`] makes the call that a [`TestCall`] names, and
 //! [`text`] prints its answer, with the word that a refusal carries. [`TestDomain::make`] makes the call of a request
 //! and answers as `gt_core` would.
 //!
@@ -17,5 +18,5 @@ mod running;
 mod starting;
 
 pub use asking::{READ_ONLY, TestCall, TestReply, WRITABLE, text};
-pub use running::{TestDomain, all_running};
-pub use starting::{numbered, rights, start};
+pub use running::{Calls, TestDomain, all_running};
+pub use starting::{numbered, rights, start, start_run};

@@ -14,6 +14,83 @@ use std::alloc::Global;
 use std::marker::Model;
 use std::sync::Wait;
 
+/// The calls and the records of a running domain. A mapping is the last one that it made.
+pub trait Calls {
+    /// Publishes an entry of its own.
+    fn grant(&mut self, gref: u32, entry: &Entry) -> Result<(), Denial>;
+
+    /// Makes its entry invalid, unless it has pins.
+    fn revoke(&mut self, gref: u32) -> Result<(), Denial>;
+
+    /// Makes its entry invalid, and leaves its pins.
+    fn withdraw(&mut self, gref: u32) -> Result<(), Denial>;
+
+    /// Makes its entry read-only.
+    fn demote(&mut self, gref: u32) -> Result<(), Denial>;
+
+    /// Makes its entry writable.
+    fn promote(&mut self, gref: u32) -> Result<(), Denial>;
+
+    /// Maps an entry, and keeps its handle as that of the last mapping.
+    fn map(&mut self, dom: u16, gref: u32, flags: u32) -> Result<(), Denial>;
+
+    /// Unmaps the last mapping.
+    fn unmap(&mut self) -> Result<(), Denial>;
+
+    /// Reads this number of bytes, starting at this offset, through the last mapping.
+    fn load<R: Wait>(&mut self, rt: &R, off: u16, len: u16) -> Result<Read, Denial>;
+
+    /// Fills the buffer with bytes, starting at this offset, through the last mapping.
+    fn load_into<R: Wait>(&mut self, rt: &R, off: u16, buffer: &mut [u8]) -> Result<(), Denial>;
+
+    /// Fills the buffer with bytes of one of its own frames, starting at this offset.
+    fn peek_into<R: Wait>(
+        &mut self,
+        rt: &R,
+        frame: u64,
+        off: u16,
+        buffer: &mut [u8],
+    ) -> Result<(), Denial>;
+
+    /// Writes these bytes, starting at this offset, through the last mapping.
+    fn store<R: Wait>(&mut self, rt: &R, off: u16, bytes: &[u8]) -> Result<(), Denial>;
+
+    /// Copies bytes between two frames.
+    fn copy<R: Wait>(&mut self, rt: &R, copy: &CopyArgs) -> Result<(), Denial>;
+
+    /// Makes the call, and returns its answer.
+    fn ask<R: Wait>(&mut self, rt: &R, asks: TestCall<'_>) -> TestReply;
+
+    /// Makes the call of a request, and answers as the core would.
+    fn make<R: Wait>(&mut self, rt: &R, request: Request<'_>) -> Answer;
+
+    /// Limits its trail: it keeps a new record only while it has fewer than this number.
+    fn keep_at_most(&mut self, records: usize);
+
+    /// Reserves space for this number of further records.
+    ///
+    /// # Errors
+    ///
+    /// `Memory`. The space is then unchanged.
+    fn reserve_records(&mut self, records: usize) -> Result<(), Memory>;
+
+    /// Swaps in `next` (emptied), and returns the records so far.
+    fn take_records(&mut self, next: Trail) -> Trail;
+
+    /// Returns its records so far.
+    ///
+    /// # Errors
+    ///
+    /// `Memory`.
+    fn told(&self) -> Result<Vec<Record>, Memory>;
+
+    /// Returns how many records were lost so far.
+    fn lost(&self) -> u64;
+
+    /// Leaves the run, with its records.
+    fn finish(self) -> Departed;
+}
+
 /// A domain with its monitor. It leaves the run when it is dropped.
 pub struct TestDomain<'m, P: Allows> {
     monitor: &'m Monitor<P>,
@@ -93,21 +170,21 @@ fn plain<T: Drop>(answer: Result<T, Denial>) -> Result<(), Denial> {
 }
 
 // Returns the answer of a call as the core gives it.
-fn answer_of(said: TestReply, mapped: Option<Handle>) -> Answer {
-    match (said, mapped) {
-        (TestReply::Done, Some(handle)) => Answer::Mapped(handle),
-        (TestReply::Done, None) => Answer::Done,
-        (TestReply::Frames(frames), _) => Answer::Frames(frames),
-        (TestReply::Size(size), _) => Answer::Size(size),
-        (TestReply::Version(version), _) => Answer::Version(version),
-        (TestReply::Bytes(bytes), _) => Answer::Bytes(Bytes { bytes }),
-        (TestReply::Denied(denial), _) => Answer::Denied(denial),
+fn answer_of(said: TestReply) -> Answer {
+    match said {
+        TestReply::Done => Answer::Done,
+        TestReply::Frames(frames) => Answer::Frames(frames),
+        TestReply::Size(size) => Answer::Size(size),
+        TestReply::Version(version) => Answer::Version(version),
+        TestReply::Bytes(bytes) => Answer::Bytes(Bytes { bytes }),
+        TestReply::Denied(denial) => Answer::Denied(denial),
     }
 }
 
 impl<'m, P: Allows> TestDomain<'m, P> {
     ghost use Rattle.gt_live.specs.Domains.{BelongsTo};
 
+    /// Pairs a domain with its monitor.
     pub fn new(monitor: &'m Monitor<P>, domain: Domain) -> Self
         requires { BelongsTo P.may monitor.now domain }
     {
@@ -118,28 +195,87 @@ impl<'m, P: Allows> TestDomain<'m, P> {
         }
     }
 
-    pub fn grant(&mut self, gref: u32, entry: &Entry) -> Result<(), Denial> {
+    // Each call of the domain by itself, so that none of what it promises is in the proof of another.
+
+    fn grant_bytes(&mut self, gref: GrantRef, bytes: &[u8]) -> TestReply {
+        done(self.domain.grant_bytes(self.monitor, gref, bytes))
+    }
+
+    fn set_version(&mut self, number: u32) -> TestReply {
+        done(self.domain.set_version(self.monitor, number))
+    }
+
+    fn setup_table(&mut self, count: u32) -> TestReply {
+        frames(self.domain.setup_table(self.monitor, count))
+    }
+
+    fn query_size(&mut self, dom: DomId) -> TestReply {
+        size(self.domain.query_size(self.monitor, dom))
+    }
+
+    fn get_version(&mut self, dom: DomId) -> TestReply {
+        version(self.domain.get_version(self.monitor, dom))
+    }
+
+    fn unmap_handle(&mut self, handle: Handle) -> Result<(), Denial> {
+        self.domain.unmap(self.monitor, handle)
+    }
+
+    fn release(&mut self, handle: Handle) -> Result<(), Denial> {
+        self.domain.release(self.monitor, handle)
+    }
+
+    fn load_from<R: Wait>(
+        &mut self,
+        rt: &R,
+        handle: Handle,
+        off: u16,
+        len: u16,
+    ) -> Result<Read, Denial> {
+        self.domain.load(rt, self.monitor, handle, off, len)
+    }
+
+    fn store_to<R: Wait>(
+        &mut self,
+        rt: &R,
+        handle: Handle,
+        off: u16,
+        bytes: &[u8],
+    ) -> Result<(), Denial> {
+        plain(self.domain.store(rt, self.monitor, handle, off, bytes))
+    }
+
+    fn peek<R: Wait>(&mut self, rt: &R, frame: u64, off: u16, len: u16) -> TestReply {
+        read(self.domain.peek(rt, self.monitor, frame, off, len))
+    }
+
+    fn poke<R: Wait>(&mut self, rt: &R, frame: u64, off: u16, bytes: &[u8]) -> TestReply {
+        done(self.domain.poke(rt, self.monitor, frame, off, bytes))
+    }
+}
+
+impl<'m, P: Allows> Calls for TestDomain<'m, P> {
+    fn grant(&mut self, gref: u32, entry: &Entry) -> Result<(), Denial> {
         self.domain.grant(self.monitor, GrantRef(gref), entry)
     }
 
-    pub fn revoke(&mut self, gref: u32) -> Result<(), Denial> {
+    fn revoke(&mut self, gref: u32) -> Result<(), Denial> {
         self.domain.revoke(self.monitor, GrantRef(gref))
     }
 
-    pub fn withdraw(&mut self, gref: u32) -> Result<(), Denial> {
+    fn withdraw(&mut self, gref: u32) -> Result<(), Denial> {
         self.domain.withdraw(self.monitor, GrantRef(gref))
     }
 
-    pub fn demote(&mut self, gref: u32) -> Result<(), Denial> {
+    fn demote(&mut self, gref: u32) -> Result<(), Denial> {
         self.domain.demote(self.monitor, GrantRef(gref))
     }
 
-    pub fn promote(&mut self, gref: u32) -> Result<(), Denial> {
+    fn promote(&mut self, gref: u32) -> Result<(), Denial> {
         self.domain.promote(self.monitor, GrantRef(gref))
     }
 
-    /// Maps an entry, and keeps its handle as that of the last mapping.
-    pub fn map(&mut self, dom: u16, gref: u32, flags: u32) -> Result<(), Denial> {
+    fn map(&mut self, dom: u16, gref: u32, flags: u32) -> Result<(), Denial> {
         let answer = self
             .domain
             .map(self.monitor, DomId(dom), GrantRef(gref), flags);
@@ -152,29 +288,22 @@ impl<'m, P: Allows> TestDomain<'m, P> {
         }
     }
 
-    /// Unmaps the last mapping.
-    pub fn unmap(&mut self) -> Result<(), Denial> {
-        self.domain.unmap(self.monitor, self.last)
+    fn unmap(&mut self) -> Result<(), Denial> {
+        let handle = self.last;
+        self.unmap_handle(handle)
     }
 
-    /// Reads this number of bytes, starting at this offset, through the last mapping.
-    pub fn load<R: Wait>(&mut self, rt: &R, off: u16, len: u16) -> Result<Read, Denial> {
-        self.domain.load(rt, self.monitor, self.last, off, len)
+    fn load<R: Wait>(&mut self, rt: &R, off: u16, len: u16) -> Result<Read, Denial> {
+        let handle = self.last;
+        self.load_from(rt, handle, off, len)
     }
 
-    /// Fills the buffer with bytes, starting at this offset, through the last mapping.
-    pub fn load_into<R: Wait>(
-        &mut self,
-        rt: &R,
-        off: u16,
-        buffer: &mut [u8],
-    ) -> Result<(), Denial> {
+    fn load_into<R: Wait>(&mut self, rt: &R, off: u16, buffer: &mut [u8]) -> Result<(), Denial> {
         let handle = self.last;
         plain(self.domain.load_into(rt, self.monitor, handle, off, buffer))
     }
 
-    /// Fills the buffer with bytes of one of its own frames, starting at this offset.
-    pub fn peek_into<R: Wait>(
+    fn peek_into<R: Wait>(
         &mut self,
         rt: &R,
         frame: u64,
@@ -184,122 +313,90 @@ impl<'m, P: Allows> TestDomain<'m, P> {
         plain(self.domain.peek_into(rt, self.monitor, frame, off, buffer))
     }
 
-    /// Writes these bytes, starting at this offset, through the last mapping.
-    pub fn store<R: Wait>(&mut self, rt: &R, off: u16, bytes: &[u8]) -> Result<(), Denial> {
-        plain(self.domain.store(rt, self.monitor, self.last, off, bytes))
+    fn store<R: Wait>(&mut self, rt: &R, off: u16, bytes: &[u8]) -> Result<(), Denial> {
+        let handle = self.last;
+        self.store_to(rt, handle, off, bytes)
     }
 
-    pub fn copy<R: Wait>(&mut self, rt: &R, copy: &CopyArgs) -> Result<(), Denial> {
+    fn copy<R: Wait>(&mut self, rt: &R, copy: &CopyArgs) -> Result<(), Denial> {
         plain(self.domain.copy(rt, self.monitor, copy))
     }
 
-    /// Makes the call, and returns its answer.
-    pub fn ask<R: Wait>(&mut self, rt: &R, asks: TestCall<'_>) -> TestReply {
-        let monitor = self.monitor;
+    fn ask<R: Wait>(&mut self, rt: &R, asks: TestCall<'_>) -> TestReply {
         match asks {
             TestCall::Grant(gref, entry) => done(self.grant(gref, &entry)),
-            TestCall::Bytes(gref, bytes) => {
-                done(self.domain.grant_bytes(monitor, GrantRef(gref), bytes))
-            }
+            TestCall::Bytes(gref, bytes) => self.grant_bytes(GrantRef(gref), bytes),
             TestCall::Revoke(gref) => done(self.revoke(gref)),
             TestCall::Withdraw(gref) => done(self.withdraw(gref)),
             TestCall::Demote(gref) => done(self.demote(gref)),
             TestCall::Promote(gref) => done(self.promote(gref)),
             TestCall::Map(dom, gref, flags) => done(self.map(dom, gref, flags)),
             TestCall::Unmap => done(self.unmap()),
-            TestCall::Release => done(self.domain.release(monitor, self.last)),
-            TestCall::Version(version) => done(self.domain.set_version(monitor, version)),
-            TestCall::Setup(count) => frames(self.domain.setup_table(monitor, count)),
-            TestCall::Size(dom) => size(self.domain.query_size(monitor, DomId(dom))),
-            TestCall::GetVersion(dom) => version(self.domain.get_version(monitor, DomId(dom))),
+            TestCall::Release => {
+                let handle = self.last;
+                done(self.release(handle))
+            }
+            TestCall::Version(version) => self.set_version(version),
+            TestCall::Setup(count) => self.setup_table(count),
+            TestCall::Size(dom) => self.query_size(DomId(dom)),
+            TestCall::GetVersion(dom) => self.get_version(DomId(dom)),
             TestCall::Load(off, len) => read(self.load(rt, off, len)),
             TestCall::Store(off, bytes) => done(self.store(rt, off, bytes)),
-            TestCall::Peek(frame, off, len) => read(self.domain.peek(rt, monitor, frame, off, len)),
-            TestCall::Poke(frame, off, bytes) => {
-                done(self.domain.poke(rt, monitor, frame, off, bytes))
-            }
+            TestCall::Peek(frame, off, len) => self.peek(rt, frame, off, len),
+            TestCall::Poke(frame, off, bytes) => self.poke(rt, frame, off, bytes),
             TestCall::Copy(copy) => done(self.copy(rt, &copy)),
         }
     }
 
-    /// Makes the call of a request, and answers as the core would.
-    pub fn make<R: Wait>(&mut self, rt: &R, request: Request<'_>) -> Answer {
-        let monitor = self.monitor;
-        let mut mapped = None;
+    fn make<R: Wait>(&mut self, rt: &R, request: Request<'_>) -> Answer {
         let said = match request {
-            Request::Grant { gref, entry } => done(self.domain.grant(monitor, gref, &entry)),
-            Request::GrantBytes { gref, bytes } => {
-                done(self.domain.grant_bytes(monitor, gref, bytes))
-            }
-            Request::Revoke { gref } => done(self.domain.revoke(monitor, gref)),
-            Request::Withdraw { gref } => done(self.domain.withdraw(monitor, gref)),
-            Request::Demote { gref } => done(self.domain.demote(monitor, gref)),
-            Request::Promote { gref } => done(self.domain.promote(monitor, gref)),
-            Request::Map { dom, gref, flags } => {
-                let answer = self.domain.map(monitor, dom, gref, flags);
-                mapped = answer.ok();
-                done(answer)
-            }
-            Request::Unmap { handle } => done(self.domain.unmap(monitor, handle)),
-            Request::Release { handle } => done(self.domain.release(monitor, handle)),
-            Request::SetVersion { version } => done(self.domain.set_version(monitor, version)),
-            Request::SetupTable { frames: count } => {
-                frames(self.domain.setup_table(monitor, count))
-            }
-            Request::QuerySize { dom } => size(self.domain.query_size(monitor, dom)),
-            Request::GetVersion { dom } => version(self.domain.get_version(monitor, dom)),
-            Request::Load { handle, off, len } => {
-                read(self.domain.load(rt, monitor, handle, off, len))
-            }
-            Request::Store { handle, off, bytes } => {
-                done(self.domain.store(rt, monitor, handle, off, bytes))
-            }
-            Request::Peek { frame, off, len } => {
-                read(self.domain.peek(rt, monitor, frame, off, len))
-            }
-            Request::Poke { frame, off, bytes } => {
-                done(self.domain.poke(rt, monitor, frame, off, bytes))
-            }
-            Request::Copy(args) => done(self.domain.copy(rt, monitor, &args)),
+            Request::Map { dom, gref, flags } => match self.map(dom.0, gref.0, flags) {
+                Ok(()) => return Answer::Mapped(self.last),
+                Err(denial) => return Answer::Denied(denial),
+            },
+            Request::Grant { gref, entry } => done(self.grant(gref.0, &entry)),
+            Request::GrantBytes { gref, bytes } => self.grant_bytes(gref, bytes),
+            Request::Revoke { gref } => done(self.revoke(gref.0)),
+            Request::Withdraw { gref } => done(self.withdraw(gref.0)),
+            Request::Demote { gref } => done(self.demote(gref.0)),
+            Request::Promote { gref } => done(self.promote(gref.0)),
+            Request::Unmap { handle } => done(self.unmap_handle(handle)),
+            Request::Release { handle } => done(self.release(handle)),
+            Request::SetVersion { version } => self.set_version(version),
+            Request::SetupTable { frames } => self.setup_table(frames),
+            Request::QuerySize { dom } => self.query_size(dom),
+            Request::GetVersion { dom } => self.get_version(dom),
+            Request::Load { handle, off, len } => read(self.load_from(rt, handle, off, len)),
+            Request::Store { handle, off, bytes } => done(self.store_to(rt, handle, off, bytes)),
+            Request::Peek { frame, off, len } => self.peek(rt, frame, off, len),
+            Request::Poke { frame, off, bytes } => self.poke(rt, frame, off, bytes),
+            Request::Copy(args) => done(self.copy(rt, &args)),
         };
-        answer_of(said, mapped)
+        answer_of(said)
     }
 
-    /// Limits its trail: it keeps a new record only while it has fewer than this number.
-    pub fn keep_at_most(&mut self, records: usize) {
+    fn keep_at_most(&mut self, records: usize) {
         self.domain.keep_at_most(records);
     }
 
-    /// Reserves space for this number of further records.
-    ///
-    /// # Errors
-    ///
-    /// `Memory`. The space is then unchanged.
-    pub fn reserve_records(&mut self, records: usize) -> Result<(), Memory> {
+    fn reserve_records(&mut self, records: usize) -> Result<(), Memory> {
         self.domain.reserve_records(records)
     }
 
-    /// Swaps in `next` (emptied), and returns the records so far.
-    pub fn take_records(&mut self, mut next: Trail) -> Trail {
+    fn take_records(&mut self, mut next: Trail) -> Trail {
         next.clear();
         self.domain.take_records(next)
     }
 
-    /// Returns its records so far.
-    ///
-    /// # Errors
-    ///
-    /// `Memory`.
-    pub fn told(&self) -> Result<Vec<Record>, Memory> {
+    fn told(&self) -> Result<Vec<Record>, Memory> {
         self.domain.trail().records()
     }
 
-    /// Returns how many records were lost so far.
-    pub fn lost(&self) -> u64 {
+    fn lost(&self) -> u64 {
         self.domain.trail().lost()
     }
 
-    pub fn finish(self) -> Departed {
+    fn finish(self) -> Departed {
         let TestDomain {
             monitor,
             domain,

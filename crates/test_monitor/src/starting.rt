@@ -61,6 +61,20 @@ pub fn start<P: Allows + Drop>(
     ensures { IfOk result (λ r. All (λ d. BelongsTo P.may r.0 d) r.1.items) }
 {
     let domains = numbered(alloc, count, version)?;
-    let config = Config { domains, first_gen };
+    start_run(alloc, Config { domains, first_gen }, rights)
+}
+
+/// Starts a run of this configuration.
+///
+/// # Errors
+///
+/// The first fault of the configuration, or `Memory`.
+pub fn start_run<P: Allows + Drop>(
+    alloc: Global,
+    config: Config,
+    rights: P,
+) -> Result<(Monitor<P>, Vec<Domain>), StartFault>
+    ensures { IfOk result (λ r. All (λ d. BelongsTo P.may r.0 d) r.1.items) }
+{
     Monitor::new(alloc, config, rights)
 }

@@ -1,4 +1,4 @@
-use Rattle.test_monitor.proofs.running.TestDomain.reserve_records.Goals as goal
+use Rattle.test_monitor.proofs.running.TestDomainCalls.reserve_records.Goals as goal
 
 pub invariant_of-self : goal.invariant_of-self
 invariant_of-self g c =
