@@ -1,5 +1,5 @@
 -- What an order that is added does to the texts.
-use Rattle.std.proofs.Common.{◌≡◌, ◌≢◌, ◌++◌, ◌<◌, ◌≤◌, ◌+◌, ◌-◌, ℕ, zero, suc, refl, List, [], ◌∷◌, All, Option, Some}
+use Rattle.std.proofs.Common.{◌≡◌, ◌≢◌, ◌++◌, ◌+◌, ℕ, zero, suc, refl, List, [], ◌∷◌, All, Option, Some}
 use Rattle.std.proofs.Common.{IfSome, ap, ◌∙◌, sym, subst, inl, inr, ◌⊎◌, length, get_or, arith, slice_get}
 use Rattle.std.proofs.lemmas.Cmp.{nat_list_cmp_total, tied_itself}
 use Rattle.std.proofs.lemmas.List.Elements.{All-cons, All-nil, All-push}
@@ -10,8 +10,7 @@ use Rattle.std.proofs.lemmas.Option.{none-some, same_Some, get_or_from_slice_get
 use Rattle.std.proofs.lemmas.Slice.Eq.{bytes_eq-Decides}
 use Rattle.std.specs.Ordering.{is_eq}
 use Rattle.std.specs.List.Sorted.{IsPermutation}
-use Rattle.std.specs.declared.cmp.Ordering.{Ordering}
-use Rattle.std.specs.declared.cmp.Ordering.TheVariants.{Less, Equal, Greater}
+use Rattle.std.specs.declared.cmp.Ordering.TheVariants.{Less, Equal}
 use Rattle.gt_explore_search.specs.declared.exploring.FoundText.{FoundText}
 use Rattle.gt_explore.specs.Adding.{AddsOrder, AreAscending, AreDifferentTexts, IsAdded, IsTextAmong, IsApart, compared}
 use Rattle.gt_explore.specs.Adding.{last_compared, texts_of_orders}

@@ -1,6 +1,6 @@
 -- The answers to requests.
-use Rattle.std.proofs.Common.{◌≡◌, ◌≢◌, ◌∙◌, ◌⊎◌, ◌+◌, ◌++◌, ℕ, zero, suc, Bool, true, false, List, [], ◌∷◌, All, Option, Some, None, ap, refl, subst}
-use Rattle.std.proofs.Common.{sym, slice_get, length, map, inl, inr, drop, get_or, ◌<◌, ◌≤◌, append_assoc, IfOk, Result, Ok, Err, Vec, Global}
+use Rattle.std.proofs.Common.{◌≡◌, ◌∙◌, ◌⊎◌, ◌+◌, ◌++◌, ℕ, zero, suc, Bool, true, false, List, [], ◌∷◌, Option, Some, None, ap, refl, subst}
+use Rattle.std.proofs.Common.{sym, slice_get, length, map, inl, inr, drop, get_or, ◌<◌, ◌≤◌, append_assoc, IfOk, OnOk, Result, Ok, Err, Vec, Global}
 use Rattle.std.proofs.Math.Bool.{cond}
 use Rattle.std.specs.Prelude.{is_some}
 use Rattle.std.specs.List.{position, position_from}
@@ -20,7 +20,7 @@ use Rattle.gt_explore_verdict.specs.declared.judging.Judgement.{Judgement}
 use Rattle.gt_explore_verdict.specs.declared.judging.Verdict.{Verdict}
 use Rattle.gt_explore_verdict.specs.declared.judging.Claim.TheVariants.{Find}
 use Rattle.gt_script.specs.RunContents.{RunContents}
-use Rattle.gt_explore.specs.Adding.{AreDifferentTexts, IsTextAmong, texts_of_orders}
+use Rattle.gt_explore.specs.Adding.{IsTextAmong, texts_of_orders}
 use Rattle.gt_explore.specs.Exploring.{AreConditions, AreTextsOf, DecidesClaim, IsMadeBy, MeansGiven, TellsClaim, TellsClaimBy}
 use Rattle.gt_explore.specs.Exploring.{TellsVerdict, TellsWitnesses, place_of, satisfied}
 use Rattle.gt_explore.specs.Telling.{Found, counterexample_comment, found_told, witness_comment}
@@ -95,6 +95,13 @@ witness_more c f os i number o script rest lt is gives told =
 -- lines one after the other
 pub joined : (out comment script rest pushed whole : List ℕ) → pushed ≡ out ++ comment → whole ≡ pushed ++ script → whole ++ rest ≡ out ++ (comment ++ (script ++ rest))
 joined out comment script rest pushed whole p w = ap (λ (l : List ℕ). l ++ rest) (w ∙ ap (λ (l : List ℕ). l ++ script) p) ∙ simp append_assoc
+
+-- three texts one after the other
+pub three_joined : {E : Type 0} (r : Result (Unit {0}) E) (out a b c first second third : List ℕ) → first ≡ out ++ a → second ≡ first ++ b → OnOk r (third ≡ second ++ c)
+    → OnOk r (third ≡ out ++ (a ++ (b ++ c)))
+three_joined (Err fault) out a b c first second third f s t = tt
+three_joined (Ok done) out a b c first second third f s t =
+    t ∙ ap (λ (l : List ℕ). l ++ c) (s ∙ ap (λ (l : List ℕ). l ++ b) f) ∙ append_assoc (out ++ a) b c ∙ append_assoc out a (b ++ c)
 
 -- no script is left to write
 pub none_left : (c : RunContents) (f : Found) (number i : ℕ) (os : List FoundText) → length os ≤ i → TellsWitnesses c f number (texts_of_orders (drop i os)) []

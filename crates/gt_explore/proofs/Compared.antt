@@ -15,11 +15,12 @@ use Rattle.std.specs.Option.{option_map}
 use Rattle.std.specs.Str.{bytes_eq}
 use lib.Pointwise.{pointwise}
 use Rattle.gt_host.specs.Playing.{Played}
+use Rattle.gt_script.specs.Contents.{Contents}
 use Rattle.gt_script.specs.Script.{TellsScript}
 use Rattle.gt_types.specs.declared.config.DomainConfig.{DomainConfig}
 use Rattle.gt_explore_search.specs.declared.exploring.FoundText.{FoundText}
 use Rattle.gt_explore.specs.Adding.{texts_of_orders}
-use Rattle.gt_explore.specs.Witness.{GivesAnswers, GoesOnWith, HaveAnswers, IsWitness, without_number}
+use Rattle.gt_explore.specs.Witness.{GivesAnswers, GoesOnWith, HaveAnswers, IsWitness, ShowsAfter, without_number}
 
 -- the line goes on after this space
 pub after_space : (line : List ℕ) (found : Option ℕ) (at : ℕ) → found ≡ cond (nat_lt (position_or_len (λ b. b == 32) line) (length line)) (Some (position_or_len (λ b. b == 32) line)) None
@@ -85,9 +86,9 @@ gives domains script text out told played is same = record {
 }
 
 -- the script gives the text of the order at this place
-pub is_witness : (domains : List DomainConfig) (orders : List FoundText) (number at : ℕ) (o : FoundText) (script : List ℕ) → number ≡ at + 1 → slice_get orders at ≡ Some o
-    → GivesAnswers domains script o.text.items → IsWitness domains (texts_of_orders orders) number script
-is_witness domains orders number at o script is there answers = record {
+pub is_witness : (c : Contents) (orders : List FoundText) (number at : ℕ) (o : FoundText) (script : List ℕ) → number ≡ at + 1 → slice_get orders at ≡ Some o
+    → ShowsAfter c [] script o.text.items → IsWitness c (texts_of_orders orders) number script
+is_witness c orders number at o script is there answers = record {
   text = o.text.items;
   numbered = (at, is, slice_get-map (λ (p : FoundText). p.text.items) orders at ∙ ap (option_map (λ (p : FoundText). p.text.items)) there);
   gives = answers;

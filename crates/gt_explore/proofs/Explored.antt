@@ -1,5 +1,5 @@
 -- From what was read to what was written.
-use Rattle.std.proofs.Common.{◌≡◌, ◌||◌, ◌∙◌, ℕ, Bool, true, refl, ap, List, [], ◌∷◌, IfOk, Option, None, Some, Result}
+use Rattle.std.proofs.Common.{◌≡◌, ℕ, List, Option, Result}
 use Rattle.std.proofs.Common.{Ok, Err, sym, subst}
 use Rattle.gt_host.specs.Faults.{fault_of, read_fault}
 use Rattle.gt_host.specs.declared.fault.PlayFault.{PlayFault}

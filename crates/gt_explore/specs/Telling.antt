@@ -1,5 +1,5 @@
 -- The output for texts that a script may give.
-use Rattle.std.specs.Prelude.{◌+◌, ◌++◌, ◌==◌, ℕ, Bool, true, false, if◌then◌else◌, List, [], ◌∷◌, length, codes, decimal}
+use Rattle.std.specs.Prelude.{◌+◌, ◌++◌, ◌==◌, ℕ, Bool, if◌then◌else◌, List, [], ◌∷◌, length, codes, decimal}
 use Rattle.std.specs.List.{flat_map}
 use Rattle.gt_explore.specs.Adding.{texts_of_orders}
 use Rattle.gt_explore.specs.declared.texts.FoundTexts.{FoundTexts}

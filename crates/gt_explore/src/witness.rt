@@ -91,11 +91,11 @@ fn type_of(domains: &[DomainConfig], dom: DomId) -> Option<TypeId> {
 
 // A script for `play` under way.
 #[derive(Drop)]
-struct WitnessScript<'w, 't, 'a> {
+struct WitnessScript<'d, 't, 'a> {
     alloc: Global,
     out: Vec<u8>,
-    lines: &'w [&'t str],
-    domains: &'w [DomainConfig],
+    lines: Vec<&'t str>,
+    domains: &'d [DomainConfig],
     rights: ScriptPolicy,
     names: WitnessNames<'a>,
     // For each domain, whether the release that it has open has no line.
@@ -104,7 +104,7 @@ struct WitnessScript<'w, 't, 'a> {
     keeps: Option<DomId>,
 }
 
-impl<'w, 't, 'a> WitnessScript<'w, 't, 'a> {
+impl<'d, 't, 'a> WitnessScript<'d, 't, 'a> {
     // Returns whether the policy lets a domain unmap an entry of this owner.
     fn may_unmap(&self, dom: DomId, owner: DomId) -> bool {
         let Some(source) = type_of(self.domains, dom) else {
@@ -177,7 +177,7 @@ impl<'w, 't, 'a> WitnessScript<'w, 't, 'a> {
                 push_begin(
                     self.alloc,
                     &mut self.out,
-                    self.lines,
+                    self.lines.as_slice(),
                     task.line,
                     shown(&name),
                 )
@@ -237,20 +237,21 @@ pub fn witness_of<'s, 'a>(
 ) -> Result<PlayScript, TextsFault>
     requires { CanConfigure (contents_told script.now.head) }
 {
-    let lines = text_lines(alloc, source)?;
     let head = script.head();
     let domains = head.domains();
+    let lines = text_lines(alloc, source)?;
+    let mut out = Vec::new(alloc);
+    push_head(&mut out, lines.as_slice(), body_of(script.tasks()))?;
     let mut witness = WitnessScript {
         alloc,
-        out: Vec::new(alloc),
-        lines: lines.as_slice(),
+        out,
+        lines,
         domains,
         rights: ScriptPolicy::of(alloc, head)?,
         names: WitnessNames::new(alloc),
         skips: vec![in alloc; false; domains.len()]?,
         keeps: None,
     };
-    push_head(&mut witness.out, lines.as_slice(), body_of(script.tasks()))?;
     let mut run = Replay::new(alloc, script)?;
     for turn in turns {
         witness.make_turn(&mut run, *turn)?;

@@ -263,7 +263,7 @@ leads-line types k j line left (Do call) x (q, e, says, is, to) =
 
 leads-rest : (types : List (List ℕ)) (k j : Course) (tasks : List RunTask) (choice : ℕ) (x : Happening)
     → RestLeads types k tasks choice x j → (j.dom ≡ k.dom) × (doer x ≡ k.dom)
-leads-rest types k j [] choice x (handle, e, there, is, done, to) = (
+leads-rest types k j [] choice x (handle, e, there, is, to) = (
   ap (λ (z : Course). z.dom) to ∙ back-dom (record k { held = take choice k.held ++ drop (suc choice) k.held })
       (answer_in e),
   ap doer is,
@@ -275,7 +275,7 @@ leads-open : (types : List (List ℕ)) (k j : Course) (opened : Opened) (choice 
 leads-open types k j resting choice x leads = leads-rest types k j k.tasks choice x leads
 leads-open types k j (calling line call lost) choice x (none, e, is, to) =
     (ap (λ (z : Course). z.dom) to ∙ after-dom types line call lost k _, ap doer is)
-leads-open types k j giving choice x (none, e, is, done, to) =
+leads-open types k j giving choice x (none, e, is, to) =
     (ap (λ (z : Course). z.dom) to ∙ back-dom k _, ap doer is)
 
 -- a course goes on in the name of its domain
@@ -612,7 +612,7 @@ module _ (c : RunContents) where
     by resting is l = rest-free hs k move k.tasks choice y x j is refl next touches l may
     by (calling line call lost) is (none, e, did-is, to) =
         tick e (λ rest. let no : calling line call lost ≡ resting = sym is ∙ rest in cc) did-is
-    by giving is (none, e, did-is, done, to) =
+    by giving is (none, e, did-is, to) =
         tick e (λ rest. let no : giving ≡ resting = sym is ∙ rest in cc) did-is
 
   -- ways

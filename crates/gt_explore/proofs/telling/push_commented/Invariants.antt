@@ -1,5 +1,4 @@
 use Rattle.std.proofs.Common.{◌≡◌, ◌++◌, take}
-use Rattle.std.specs.Prelude.{codes}
 use Rattle.std.specs.List.{flat_map}
 use Rattle.gt_explore.specs.Telling.{comment_byte}
 use Rattle.gt_explore.proofs.telling.push_commented.Given as goal

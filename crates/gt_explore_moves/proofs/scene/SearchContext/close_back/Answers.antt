@@ -3,8 +3,8 @@ use Rattle.std.proofs.lemmas.Option.{get_or_from_slice_get}
 use Rattle.gt_explore_moves.specs.declared.actor.Actor.{Actor}
 use Rattle.gt_explore_moves.proofs.scene.SearchContext.close_back.Goals as goal
 
-pub returns-in-Some : goal.returns-in-Some
-returns-in-Some c = λ a there. let at = c.args.at in let x = c.in-Some.actor.now in let w = c.args.world.now in
+pub returns : goal.returns
+returns c = λ a there. let at = c.args.at in let x = c.in-Some.actor.now in let w = c.args.world.now in
     let same : x ≡ a = c.in-Some.ensures.value ∙ get_or_from_slice_get w.actors.items at a x there in record {
       on = refl;
       actor = record { next = x.next; mappings = x.mappings; «open» = None };

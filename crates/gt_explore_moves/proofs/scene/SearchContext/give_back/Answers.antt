@@ -8,12 +8,11 @@ use Rattle.gt_explore_moves.specs.Ends.{tasks_at}
 use Rattle.gt_explore_moves.specs.Starting.{GivesAsRun, giving_actor}
 use Rattle.gt_explore_moves.specs.declared.actor.Actor.{Actor}
 use Rattle.gt_explore_state.specs.declared.table.SparseTable.{SparseTable}
-use Rattle.gt_explore_moves.specs.declared.calls.CallOpening.{CallOpening as Opened}
 use Rattle.gt_explore_moves.proofs.LineBegins.{giving-opens, tasks-short}
 use Rattle.gt_explore_moves.proofs.scene.SearchContext.give_back.Goals as goal
 
 pub returns-in-None : goal.returns-in-None
-returns-in-None c = λ s h k a domain handle t answer there here roster dom show table rest held right done.
+returns-in-None c = λ s h k a domain handle t answer there here roster dom show table rest held right.
     let scene = c.args.self.now in let at = c.args.turn.place in let x = c.in-Some-get_mut.actor.now in let w = c.args.world.now in
     let same : x ≡ a = c.in-Some-get_mut.ensures.value ∙ get_or_from_slice_get w.actors.items at a x there in
     let y = c.in-Some-get.table.now in let f = c.in-Some-get.ensures.lookup in
@@ -21,12 +20,12 @@ returns-in-None c = λ s h k a domain handle t answer there here roster dom show
     let d = c.in-Some.domain.now in let e = c.in-Some.ensures.lookup in
     let this : d ≡ domain = e.1 ∙ ap (λ (l : List DomainConfig). get_or l at d) (c.deref.ensures.value ∙ ap (λ (r : Config). r.domains.items) c.config.ensures)
     ∙ get_or_from_slice_get scene.roster.domains.items at domain d roster in
-    let gives = c.in_ok-unmapping.ensures s h (tasks_at scene at) k handle (subst (ShowsCalls s h (tasks_at scene at) k) (sym same) show) (tasks-short scene at)
+    let gives = c.in_ok-releasing.ensures s h (tasks_at scene at) k handle (subst (ShowsCalls s h (tasks_at scene at) k) (sym same) show) (tasks-short scene at)
     (subst (KnowsTable s h k.dom scene) (sym alike) table) (ap (λ (z : DomainConfig). z.id) this ∙ dom) rest held in
     absurd (subst (GivesAsRun s h k.dom handle c.args.turn.choice) c.in-None.is gives)
 
-pub returns-in-Some-Open : goal.returns-in-Some-Open
-returns-in-Some-Open c = λ s h k a domain handle t answer there here roster dom show table rest held right done.
+pub returns-in-Some-2 : goal.returns-in-Some-2
+returns-in-Some-2 c = λ s h k a domain handle t answer there here roster dom show table rest held right.
     let scene = c.args.self.now in let at = c.args.turn.place in let x = c.in-Some-get_mut.actor.now in let w = c.args.world.now in
     let same : x ≡ a = c.in-Some-get_mut.ensures.value ∙ get_or_from_slice_get w.actors.items at a x there in
     let y = c.in-Some-get.table.now in let f = c.in-Some-get.ensures.lookup in
@@ -34,10 +33,9 @@ returns-in-Some-Open c = λ s h k a domain handle t answer there here roster dom
     let d = c.in-Some.domain.now in let e = c.in-Some.ensures.lookup in
     let this : d ≡ domain = e.1 ∙ ap (λ (l : List DomainConfig). get_or l at d) (c.deref.ensures.value ∙ ap (λ (r : Config). r.domains.items) c.config.ensures)
     ∙ get_or_from_slice_get scene.roster.domains.items at domain d roster in
-    let gives = c.in_ok-unmapping.ensures s h (tasks_at scene at) k handle (subst (ShowsCalls s h (tasks_at scene at) k) (sym same) show) (tasks-short scene at)
+    let gives = c.in_ok-releasing.ensures s h (tasks_at scene at) k handle (subst (ShowsCalls s h (tasks_at scene at) k) (sym same) show) (tasks-short scene at)
     (subst (KnowsTable s h k.dom scene) (sym alike) table) (ap (λ (z : DomainConfig). z.id) this ∙ dom) rest held in
-    giving-opens s h scene at k a handle answer c.args.turn.choice c.in-Some-Open.call c.in-Some-Open.step w
+    giving-opens s h scene at k a handle answer c.args.turn.choice c.in-Some-2.call c.in-Some-2.step w
     (record { actors = with_item w.actors at c.give.new.self; ground = w.ground; told = w.told }) c.give.new.self show rest held right
-    (subst (λ (o : Opened). GivesAsRun s h k.dom handle c.args.turn.choice (Some o)) c.in-Some-Open.field-0-is
-    (subst (GivesAsRun s h k.dom handle c.args.turn.choice) c.in-Some-Open.is gives))
-    (c.give.ensures ∙ ap (λ (z : Actor). giving_actor z c.in-Some-Open.call c.in-Some-Open.step) same) refl refl refl
+    (subst (GivesAsRun s h k.dom handle c.args.turn.choice) c.in-Some-2.is gives)
+    (c.give.ensures ∙ ap (λ (z : Actor). giving_actor z c.in-Some-2.call c.in-Some-2.step) same) refl refl refl
