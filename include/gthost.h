@@ -105,8 +105,8 @@ uint32_t gthost_version(void);
 
 /*
  * The calls of a domain as the library exports them: `domain` may not be null. The functions below have the same names
- * without _at, and test `domain` first. A program in C or C++ calls those. Two exports store their answer in `answer`;
- * their other pointers may not be null either.
+ * without _at, and test `domain` first. A program in C or C++ calls those. Two exports store their answer in `answer`.
+ * No pointer of these two may be null, and what they point to may not overlap.
  */
 struct gthost_answer gthost_finish_at(struct gthost_domain *domain);
 struct gthost_answer gthost_reset_at(struct gthost_domain *domain);

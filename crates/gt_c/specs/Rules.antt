@@ -5,8 +5,8 @@ use Rattle.std.specs.Prelude.{ℕ, List, [], ◌∷◌, ◌++◌, ◌==◌, if�
 abbrev pub rule_lines : List (List ℕ)
 rule_lines =
     codes "ok" ∷
-    (codes "N1 -2 GNTST_bad_domain: a domain named, or the one that a transitive entry leads to, is not of the "
-    ++ codes "run; name a domain of the run") ∷
+    (codes "N1 -2 GNTST_bad_domain: a domain named, or the one that a transitive entry leads to, does not exist "
+    ++ codes "in this run; name a domain of this run") ∷
     (codes "N2 -1 GNTST_general_error: the flags of the map or copy, or the version, are not among those taken; "
     ++ codes "use flags 2 or 6 for a map, 0 to 3 for a copy, version 1 or 2") ∷
     codes "N3 -10 GNTST_bad_copy_arg: offset plus length is above 4096; ask for a range inside the page" ∷
@@ -40,10 +40,10 @@ rule_lines =
     (codes "N21 -1 GNTST_general_error: the entry given is invalid, or needs a table of version 2; set version "
     ++ codes "2, or grant a whole page") ∷
     codes "N22 -1 GNTST_general_error: the entry is at its last generation; use another reference" ∷
-    codes "N23 -1 GNTST_general_error: more than 16 table frames are asked; ask for at most 16" ∷
+    codes "N23 -1 GNTST_general_error: more than 16 table frames are asked for; ask for at most 16" ∷
     codes "N24 -1 GNTST_general_error: the table has valid entries; revoke or withdraw all entries first" ∷
-    codes "N25 -1 GNTST_general_error: the bytes are no entry of a table of this version; fix the field named" ∷
-    codes "N26 -1 GNTST_general_error: memory was refused; try again when there is memory" ∷ []
+    codes "N25 -1 GNTST_general_error: the bytes are not an entry of a table of this version; fix the field named" ∷
+    codes "N26 -1 GNTST_general_error: out of memory; try again when there is memory" ∷ []
 
 -- the other answers: why a call was not made
 abbrev pub unmade_bytes : ℕ → List ℕ

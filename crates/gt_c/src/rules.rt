@@ -16,8 +16,8 @@ const VERSION: u32 = 0x0001_0000;
 // The lines of the rules, by number; 0 is Ok.
 const LINES: [&str; 27] = [
     "ok",
-    "N1 -2 GNTST_bad_domain: a domain named, or the one that a transitive entry leads to, is not of the run; \
-     name a domain of the run",
+    "N1 -2 GNTST_bad_domain: a domain named, or the one that a transitive entry leads to, does not exist in \
+     this run; name a domain of this run",
     "N2 -1 GNTST_general_error: the flags of the map or copy, or the version, are not among those taken; use \
      flags 2 or 6 for a map, 0 to 3 for a copy, version 1 or 2",
     "N3 -10 GNTST_bad_copy_arg: offset plus length is above 4096; ask for a range inside the page",
@@ -48,10 +48,10 @@ const LINES: [&str; 27] = [
     "N21 -1 GNTST_general_error: the entry given is invalid, or needs a table of version 2; set version 2, or \
      grant a whole page",
     "N22 -1 GNTST_general_error: the entry is at its last generation; use another reference",
-    "N23 -1 GNTST_general_error: more than 16 table frames are asked; ask for at most 16",
+    "N23 -1 GNTST_general_error: more than 16 table frames are asked for; ask for at most 16",
     "N24 -1 GNTST_general_error: the table has valid entries; revoke or withdraw all entries first",
-    "N25 -1 GNTST_general_error: the bytes are no entry of a table of this version; fix the field named",
-    "N26 -1 GNTST_general_error: memory was refused; try again when there is memory",
+    "N25 -1 GNTST_general_error: the bytes are not an entry of a table of this version; fix the field named",
+    "N26 -1 GNTST_general_error: out of memory; try again when there is memory",
 ];
 
 // Returns why a call was not made.

@@ -2,8 +2,8 @@
 ghost use Rattle.std.specs.Prelude.{◌≡◌};
 ghost use Rattle.gt_c.specs.Calling.{outcome_reserved};
 ghost use Rattle.gt_c.specs.Promises.{Bounds, MakesRoom, TakesRecords, TellsEntry, TellsMapping, TellsRecord};
-ghost use Rattle.gt_c.specs.Telling.{entry_status, kept_record, kind_code, mapping_report, no_entry, no_mapping, no_record};
-ghost use Rattle.gt_c.specs.Telling.{outcome_present, read_only_code, writes};
+ghost use Rattle.gt_c.specs.Telling.{entry_status, kept_record, kind_code, mapping_report, no_entry, no_mapping};
+ghost use Rattle.gt_c.specs.Telling.{no_record, outcome_present, read_only_code, writes};
 
 use crate::calls::{MapHandle, handle_named, turned_away};
 use crate::handle::DomainHandle;
