@@ -233,10 +233,6 @@ fn texts_reason(
         TextsFault::States => {
             format!(in alloc; "gave up after {states} states; raise the limit with --states")?
         }
-        TextsFault::Keeps(dom) => format!(in alloc;
-            "domain {} ends with a mapping that the policy does not let it unmap",
-            dom.0
-        )?,
         TextsFault::Astray => format!(in alloc; "a witness went astray, which is a bug of gthost")?,
         TextsFault::Witness => format!(in alloc; "no output has this number")?,
         TextsFault::Expression(fault) => format!(in alloc; "{fault}")?,
