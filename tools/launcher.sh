@@ -120,6 +120,12 @@ done
 stored --help; try -h 0 -h; same -h out "$work/stored"
 stored --version; try -V 0 -V; same -V out "$work/stored"
 stored 'play -h'; try 'play --help' 0 play --help; same 'play --help' out "$work/stored"
+if command -v script >/dev/null; then
+  tried=$((tried + 1))
+  COLUMNS=60 script -qec "'$checkout/gthost' rules N19" /dev/null </dev/null | tr -d '\r' >"$work/out"
+  awk '$0 == "$ terminal: gthost rules N19" { f = 1; next } f && /^status / { exit } f' "$top/crates/cases_program/stdout" >"$work/stored"
+  same 'rules on a terminal' out "$work/stored"
+fi
 for name in N27 N0 N019 N+19 ''; do
   echo "gthost: no rule '$name' (rules are N1 to N26)" >"$work/stored"
   try "rules $name" 2 rules "$name"
@@ -312,7 +318,7 @@ try 'a library of no folder' 2 library; has 'a library of no folder' err 'usage:
 anew
 
 # Installing.
-try 'an installation' 0 install "$work/prefix"; has 'an installation' err 'proving and building'; has 'an installation' err "installed $work/prefix/bin/gthost"
+try 'an installation' 0 install "$work/prefix"; has 'an installation' err 'proving and building'; has 'an installation' err "installed $work/prefix/bin/gthost.* cd $work/prefix/share/gthost && gthost play examples/first.gt$"
 for file in bin/gthost share/man/man1/gthost.1 share/bash-completion/completions/gthost share/zsh/site-functions/_gthost \
   share/fish/vendor_completions.d/gthost.fish share/gthost/examples/first.gt; do
   [ -s "$work/prefix/$file" ] || wrong "an installation: no $file"

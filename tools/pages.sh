@@ -90,7 +90,7 @@ man() {
   stored --help | after | sed -n '/^Exit status/,/^Try:/{/^Try:/d;p}' | sed 's/^$/.PP/' | roff_but_breaks
   printf '.SH LIMITS\n'
   stored --version | sed '1,2d' | { printf '.nf\n'; roff; printf '.fi\n'; }
-  printf '.SH FILES\n.I share/gthost/examples\nbelow the folder of the installation: scripts, policies and a dump to try.\n'
+  printf '.SH FILES\n.I share/gthost/examples\nbelow the folder of the installation: scripts, policies and a dump to try. The command\nlines of EXAMPLES are for the folder share/gthost.\n'
   printf '.SH EXAMPLES\n.nf\n'
   stored --help | sed -n '/^Try:/,$p' | sed -e 's/^Try: *//' -e 's/^ *//' | roff
   printf '.fi\n.SH SEE ALSO\n'

@@ -1,6 +1,6 @@
 #!/usr/bin/env bash
-# Tries the built program gthost at its edges: pipes that close, closed streams, a full device, a folder as FILE and a
-# FILE that is too long. It is no part of the gate.
+# Tries the built program gthost at its edges: pipes that close, closed streams, a full device, a folder as FILE, a FILE
+# that is too long, a word that is not UTF-8, and a terminal. It is no part of the gate.
 # usage: tools/pipes.sh [PROGRAM]        the program; crates/gthost/out/gthost if it is left out
 set -uo pipefail
 top="$(cd "$(dirname "${BASH_SOURCE[0]}")/.." && pwd)"
@@ -35,27 +35,29 @@ check() {
   fi
 }
 
+# The status of a failed command: 1 of play, run and policy, and of help and the version; 2 of the others.
+failed_status() { case "$1" in play* | run* | policy* | -*) echo 1 ;; *) echo 2 ;; esac; }
+
 closed='gthost: write|'
 (set +o pipefail; "$program" play "$work/big.gt" 2>"$work/err"; echo $? >"$work/status") | head -n 1 >"$work/out"
 check 'a pipe that closes' '1|141' "$(cat "$work/status")" "$closed"
 [ "$(wc -l <"$work/out")" -eq 1 ] || { echo 'wrong: a pipe that closes: no line came'; failed=$((failed + 1)); }
-("$program" run "$work/short.gt" 2>"$work/err"; echo $? >"$work/status") | true
-check 'a pipe that is closed for run' '0|1|141' "$(cat "$work/status")" "$closed"
-("$program" rules 2>"$work/err"; echo $? >"$work/status") | true
-check 'a pipe that is closed for rules' '0|1|141' "$(cat "$work/status")" "$closed"
-("$program" --help 2>"$work/err"; echo $? >"$work/status") | true
-check 'a pipe that is closed for help' '0|1|141' "$(cat "$work/status")" "$closed"
+for words in "run $work/short.gt" rules --help; do
+  # shellcheck disable=SC2086
+  ("$program" $words 2>"$work/err"; echo $? >"$work/status") | true
+  check "$words to a pipe that is closed" "0|$(failed_status "$words")|141" "$(cat "$work/status")" "$closed"
+done
 
+printf 'type t\n' >"$work/missing_semicolon.te"
 for words in "play $work/short.gt" "run $work/short.gt" "policy $work/short.te" "check $work/missing_semicolon.te" \
   "why t t copy $work/short.te" 'rules' '--help' '--version' "explore $work/short.gt" "play -v $work/short.gt" \
   "run -v $work/short.gt"; do
-  printf 'type t\n' >"$work/missing_semicolon.te"
   # shellcheck disable=SC2086
   "$program" $words >/dev/full 2>"$work/err"
-  check "$words to a full device" 1 $? 'gthost: write'
+  check "$words to a full device" "$(failed_status "$words")" $? 'gthost: write'
   # shellcheck disable=SC2086
   "$program" $words >&- 2>"$work/err"
-  check "$words to a closed output" 1 $? 'gthost: write'
+  check "$words to a closed output" "$(failed_status "$words")" $? 'gthost: write'
 done
 
 "$program" play <&- >"$work/out" 2>"$work/err"
@@ -65,15 +67,31 @@ check 'a closed input' 1 $? 'gthost: read'
 : >"$work/err"
 "$program" play "$work/missing" >"$work/out" 2>&-
 check 'a fault with a closed standard error' 1 $? ''
-for command in play run explore policy check 'why t t copy' 'entries --version 1'; do
-  # shellcheck disable=SC2086
-  "$program" $command "$work" >"$work/out" 2>"$work/err"
+"$program" play $'\xff' >"$work/out" 2>"$work/err"
+check 'a word that is not UTF-8' 2 $? 'error: a word of the command line is not UTF-8'
+
+# A folder as FILE, and a FILE that is too long. Commands that answer have the reason in their line.
+for command in play run policy; do
+  "$program" "$command" "$work" >"$work/out" 2>"$work/err"
   check "$command of a folder" 1 $? 'gthost: read'
 done
-for command in play run explore; do
+for command in explore check 'why t t copy' 'entries --version 1'; do
+  # shellcheck disable=SC2086
+  "$program" $command "$work" >"$work/out" 2>"$work/err"
+  check "$command of a folder" 2 $? "gthost: $work: is a directory"
+done
+for command in play run; do
   "$program" "$command" "$work/long.gt" >"$work/out" 2>"$work/err"
   check "$command of 2 MiB" 1 $? 'gthost: line 1: limit'
 done
+"$program" explore "$work/long.gt" >"$work/out" 2>"$work/err"
+check 'explore of 2 MiB' 2 $? "gthost: $work/long.gt:1:1: a script has at most 1048576 bytes"
+"$program" policy "$work/long.gt" >"$work/out" 2>"$work/err"
+check 'policy of 2 MiB' 1 $? 'gthost: line 1: policy limit'
+"$program" why t t copy "$work/long.gt" >"$work/out" 2>"$work/err"
+check 'why of 2 MiB' 2 $? "gthost: $work/long.gt:1:1: a policy has at most 1048576 bytes"
+"$program" entries --version 1 "$work/long.gt" >"$work/out" 2>"$work/err"
+check 'entries of 2 MiB' 2 $? "gthost: $work/long.gt: more than 16 frames, which is 65536 bytes"
 
 # With their reasons, in the system's words.
 for command in play run; do
@@ -87,13 +105,23 @@ for command in play run; do
 done
 "$program" play -v <&- >"$work/out" 2>"$work/err"
 check '-v of a closed input' 1 $? $'gthost: read\n<stdin>: .* \\(os error 9\\)'
-for command in policy check 'why t t copy'; do
-  # shellcheck disable=SC2086
-  "$program" $command "$work/long.gt" >"$work/out" 2>"$work/err"
-  check "$command of 2 MiB" 1 $? 'gthost: line 1: policy limit'
-done
-"$program" entries --version 1 "$work/long.gt" >"$work/out" 2>"$work/err"
-check 'entries of 2 MiB' 1 $? 'gthost: limit'
+
+# A terminal: the rules have lines of its width, and a caret has a colour, unless NO_COLOR is set.
+if command -v script >/dev/null; then
+  : >"$work/err"
+  COLUMNS=50 script -qec "'$program' rules N19" /dev/null >"$work/out" </dev/null
+  check 'rules on a terminal' 0 $? ''
+  [ "$(tr -d '\r' <"$work/out" | wc -L)" -le 50 ] || { echo 'wrong: rules on a terminal of 50 columns'; failed=$((failed + 1)); }
+  script -qec "'$program' check '$work/missing_semicolon.te'" /dev/null >"$work/out" </dev/null
+  check 'check on a terminal' 1 $? ''
+  NO_COLOR=1 script -qec "'$program' check '$work/missing_semicolon.te'" /dev/null >"$work/plain" </dev/null
+  check 'check without colours' 1 $? ''
+  escape=$'\x1b'
+  grep -q "$escape" "$work/out" || { echo 'wrong: no colour on a terminal'; failed=$((failed + 1)); }
+  if grep -q "$escape" "$work/plain"; then echo 'wrong: a colour with NO_COLOR'; failed=$((failed + 1)); fi
+else
+  echo "not tried: a terminal (there is no command script)"
+fi
 
 echo "$tried tried, $failed wrong"
 [ "$failed" -eq 0 ]

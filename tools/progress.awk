@@ -1,6 +1,7 @@
 # How far a build is: `12 of 36 crates, about 20 min more`. What each crate costs is read from the table of docs/GATE.md.
-# The estimate is the time of the crates that are left, on so many lanes and at least that of the longest chain of them,
-# times how much slower than that this build was so far.
+# The estimate is the time of the crates that are left, on this number of lanes and at least that of the longest chain
+# of them, times how much slower than that this build was so far. Crates under way do not count, so an early estimate
+# would be far too high: ten minutes more are taken to have gone as estimated.
 #
 # usage: awk -v name=gthost -v lanes=4 -v seconds=600 -v changed='CRATE ..' -v then='CRATE=STAMP ..' \
 #            -v now='CRATE=STAMP ..' -f tools/progress.awk crates.txt docs/GATE.md
@@ -63,7 +64,7 @@ END {
   }
   first = left(at_first)
   rest = left(at_last)
-  slow = seconds > 60 && first - rest > 60 ? seconds / (first - rest) : 1
+  slow = (seconds + 600) / (first - rest + 600)
   if (seconds > first && slow < seconds / first) slow = seconds / (first + 1)
   printf "%d of %d crates, about %d min%s\n", count, all, rest * slow / 60 + 1, seconds ? " more" : ""
 }

@@ -2,7 +2,7 @@
 # their options and their texts are read from the outputs that the gate compares, so help and the messages for wrong
 # words are the program's, byte for byte; the program takes them from the parser of command lines that it is built with.
 #
-# usage: awk -f tools/words.awk -- crates/cases_program/stdout WORD..
+# usage: awk [-v width=COLUMNS] -f tools/words.awk -- crates/cases_program/stdout WORD..
 #
 # Exit status 0: a command. Its name, `file` or `input`, the place of its FILE among the words, the FILE, and its options
 # follow, a line each, then `=PLACE` for each further FILE, and `+PLACE` for the file of --never or --has, or `+PLACE@N` if
@@ -318,18 +318,43 @@ function check_values(command) {
 
 function is_format() { return !("format" in given) || given["format"] == "text" || given["format"] == "json" }
 
+# The lines, broken between words into lines of at most `width`, if it is given: that of a terminal, as the program takes
+# it.
+function wrapped(lines,    all, parts, n, m, i, j, most, column, out) {
+  if (width == "") return lines
+  most = width ~ /^\+?[0-9]+$/ ? width + 0 : 80
+  if (most < 40) most = 40
+  n = split(lines, all, "\n")
+  for (i = 1; i < n; i++) {
+    m = split(all[i], parts, " ")
+    column = 0
+    for (j = 1; j <= m; j++) {
+      if (column == 0) { out = out parts[j]; column = length(parts[j]) }
+      else if (column + length(parts[j]) + 1 > most) { out = out "\n    " parts[j]; column = length(parts[j]) + 4 }
+      else { out = out " " parts[j]; column += length(parts[j]) + 1 }
+    }
+    out = out "\n"
+  }
+  return out
+}
+
 # The line of a rule, or of all.
 function show_rules(    lines, n, i, number) {
-  if (!("RULE" in given)) show(text["gthost rules"])
+  if (!("RULE" in given)) show(wrapped(text["gthost rules"]))
   number = given["RULE"]
   sub(/^[Nn]/, "", number)
   n = split(text["gthost rules"], lines, "\n")
-  for (i = 1; i <= n; i++) if (number ~ /^[1-9][0-9]*$/ && index(lines[i], "N" number " ") == 1) show(lines[i] "\n")
+  for (i = 1; i <= n; i++) if (number ~ /^[1-9][0-9]*$/ && index(lines[i], "N" number " ") == 1) show(wrapped(lines[i] "\n"))
   finish(4, "gthost: no rule '" given["RULE"] "' (rules are N1 to N26)\n")
 }
 
-# Puts the command before its flags: a flag for reasons goes behind the command, and `help` is the command's `--help`.
-function lead_by_command(    word) {
+# Puts the command before its flags: a flag for reasons goes behind the command, and `help` is the command's `--help`. A
+# flag before `help` is dropped.
+function lead_by_command(    word, i) {
+  if (n >= 2 && (words[1] == "-v" || words[1] == "--verbose") && words[2] == "help") {
+    for (i = 1; i < n; i++) words[i] = words[i + 1]
+    n--
+  }
   if (n >= 2 && (words[1] == "-v" || words[1] == "--verbose")) {
     word = words[1]
     words[1] = words[2]

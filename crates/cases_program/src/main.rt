@@ -2,13 +2,14 @@
 //!
 //! Each word of this program's own command line is a command line of `gthost`, whose words are separated by blanks.
 //! After `full: ` comes one whose texts go to a writer that is full, after `unflushed: ` one whose texts go to a writer
-//! that takes all and fails to flush, after `asked: ` one with questions as the standard input, and after `terminal: `
-//! one for a terminal of 60 columns with colours. What `gthost` writes to the standard error goes to the standard output
-//! here, so that `stdout` has it. `args` has the command lines, `data/` their files, and `stdin` the text for those
-//! that name none. A command line is added there; that costs no proof.
+//! that takes all and fails to flush, after `asked: ` one with questions as the standard input, after `terminal: ` one
+//! for a terminal of 60 columns with colours, and after `not UTF-8: ` and `no memory: ` one whose words can't be read.
+//! What `gthost` writes to the standard error goes to the standard output here, so that `stdout` has it. `args` has the
+//! command lines, `data/` their files, and `stdin` the text for those that name none. A command line is added there;
+//! that costs no proof.
 #![tactic(auto)]
 
-use gt_program::{Outcome, Style, System, TextSource, obey};
+use gt_program::{Context, Outcome, Style, System, TextSource, obey_read};
 use std::alloc::{AllocError, Global};
 use std::fmt::Display;
 use std::fs::File;
@@ -103,13 +104,17 @@ enum Setting {
     Full(Full),
     Asked,
     Terminal,
+    // The words can't be read.
+    Unread(ErrorKind),
 }
 
-const PREFIXES: [(&str, Setting); 4] = [
+const PREFIXES: [(&str, Setting); 6] = [
     ("full: ", Setting::Full(Full::TakesNothing)),
     ("unflushed: ", Setting::Full(Full::HandsNothingOn)),
     ("asked: ", Setting::Asked),
     ("terminal: ", Setting::Terminal),
+    ("not UTF-8: ", Setting::Unread(ErrorKind::InvalidData)),
+    ("no memory: ", Setting::Unread(ErrorKind::OutOfMemory)),
 ];
 
 // Returns the setting that the prefix of a line names, and the line without it.
@@ -130,22 +135,22 @@ fn words_of(alloc: Global, line: &str) -> Result<Vec<String>, AllocError> {
     Ok(words)
 }
 
-// Does what words ask for, with this output and style.
-fn try_words<R: Runtime + AllocGlobal + Threads + Wait + Sync, W: Write>(
+// Does what words ask for that were read, with these texts, this style and this output.
+fn try_words<R: Print + AllocGlobal + Threads + Wait + Sync, T: TextSource, W: Write>(
     rt: &R,
-    words: &[String],
+    texts: &T,
+    words: io::Result<Vec<String>>,
     style: Style,
     out: &mut W,
 ) -> Outcome {
-    obey(
+    let context = Context {
         rt,
-        rt.alloc(),
-        &System { rt },
-        words,
+        alloc: rt.alloc(),
+        texts,
+        err: &Screen { rt },
         style,
-        out,
-        &Screen { rt },
-    )
+    };
+    obey_read(&context, words, out)
 }
 
 // Does what a command line asks for, and returns the outcome.
@@ -154,21 +159,18 @@ fn try_line<R: Runtime + AllocGlobal + Threads + Wait + Sync>(
     line: &str,
 ) -> Result<Outcome, AllocError> {
     let (setting, line) = setting_of(line);
-    let words = words_of(rt.alloc(), line)?;
-    let words = words.as_slice();
+    let words = Ok(words_of(rt.alloc(), line)?);
+    let files = System { rt };
+    let plain = Style::plain();
+    let mut screen = io::writer(rt);
     Ok(match setting {
-        Setting::Plain => try_words(rt, words, Style::plain(), &mut io::writer(rt)),
-        Setting::Terminal => try_words(rt, words, TERMINAL, &mut io::writer(rt)),
-        Setting::Full(mut full) => try_words(rt, words, Style::plain(), &mut full),
-        Setting::Asked => obey(
-            rt,
-            rt.alloc(),
-            &Asked { rt },
-            words,
-            Style::plain(),
-            &mut io::writer(rt),
-            &Screen { rt },
-        ),
+        Setting::Plain => try_words(rt, &files, words, plain, &mut screen),
+        Setting::Terminal => try_words(rt, &files, words, TERMINAL, &mut screen),
+        Setting::Full(mut full) => try_words(rt, &files, words, plain, &mut full),
+        Setting::Asked => try_words(rt, &Asked { rt }, words, plain, &mut screen),
+        Setting::Unread(kind) => {
+            try_words(rt, &files, Err(io::Error::from(kind)), plain, &mut screen)
+        }
     })
 }
 

@@ -109,15 +109,17 @@ top_built = (built gthost_app).top
 abbrev start : Walk
 start = walk_from nothing_held
 
+-- the kinds for a flag that is that of help, or else that of the version, or else wrong
+abbrev FlagKinds : Kinds → Bool → Bool → Type 0
+FlagKinds kinds help version = (help ≡ true → kinds ≡ DisplayHelp ∷ []) × (help ≡ false → version ≡ true → kinds ≡ DisplayVersion ∷ [])
+    × (help ≡ false → version ≡ false → Wrong kinds)
+
 -- what a word that names no command makes of the walk: it is refused, but for the mark
 abbrev Strays : Kinds → Walk → Word → Type 0
 Strays kinds next mark = (kinds ≡ []) × (next ≡ record start { is_trailing = true })
-Strays kinds next (long name None) = (bytes_eq (codes "help") name ≡ true → kinds ≡ DisplayHelp ∷ [])
-    × (bytes_eq (codes "help") name ≡ false → bytes_eq (codes "version") name ≡ true → kinds ≡ DisplayVersion ∷ [])
-    × (bytes_eq (codes "help") name ≡ false → bytes_eq (codes "version") name ≡ false → Wrong kinds)
+Strays kinds next (long name None) = FlagKinds kinds (bytes_eq (codes "help") name) (bytes_eq (codes "version") name)
 Strays kinds next (long name (Some value)) = Wrong kinds
-Strays kinds next (short letter) = ((104 == letter) ≡ true → kinds ≡ DisplayHelp ∷ []) × ((104 == letter) ≡ false → (86 == letter) ≡ true → kinds ≡ DisplayVersion ∷ [])
-    × ((104 == letter) ≡ false → (86 == letter) ≡ false → Wrong kinds)
+Strays kinds next (short letter) = FlagKinds kinds (104 == letter) (86 == letter)
 Strays kinds next plain = Wrong kinds
 
 module _ (names : Names) (word : Text) (none : subcommand_met names idle word ≡ None) where
@@ -276,23 +278,18 @@ module _ (word : Text) (rest : List Text) where
   refused : (kinds : Kinds) → Wrong kinds → Comes nothing (then kinds) (sub_at line_end)
   refused kinds bad = refuses (then kinds) (sub_at line_end) (wrong_first (top_ended line_end) (wrong_first (walk_fault top_built names (walked top_built.rules names start word) rest) bad))
 
+  of_flag : (a b : Bool) → FlagKinds (turn_fault top_built names start word) a b → Comes (cond a for_help (cond b for_version nothing)) line_kinds (sub_at line_end)
+  of_flag true b kinds = comes_as refl (ap then (kinds.0 refl)) refl (helps (sub_at line_end))
+  of_flag false true kinds = comes_as refl (ap then (kinds.1 refl refl)) refl (tells_version (sub_at line_end))
+  of_flag false false kinds = refused (turn_fault top_built names start word) (kinds.2 refl refl)
+
   of_none : (w : Word) → Strays (turn_fault top_built names start word) (walked top_built.rules names start word) w → Comes (asked_of_none w) line_kinds (sub_at line_end)
   of_none mark strays =
       refuses line_kinds (sub_at line_end)
       (subst Wrong (sym (ap₂ (λ (k : Kinds) (v : Walk). or_else (or_else k (walk_fault top_built names v rest)) (top_ended (fold (walked top_built.rules names) v rest))) strays.0 strays.1)) (after_top_mark rest))
-  of_none (long name None) strays = by (bytes_eq (codes "help") name) (bytes_eq (codes "version") name) refl refl
-    where
-      by : (a b : Bool) → bytes_eq (codes "help") name ≡ a → bytes_eq (codes "version") name ≡ b → Comes (asked_of_long name None) line_kinds (sub_at line_end)
-      by true b h v = comes_as (rw h refl) (ap then (strays.0 h)) refl (helps (sub_at line_end))
-      by false true h v = comes_as (rw (h, v) refl) (ap then (strays.1 h v)) refl (tells_version (sub_at line_end))
-      by false false h v = comes_as (rw (h, v) refl) refl refl (refused (turn_fault top_built names start word) (strays.2 h v))
+  of_none (long name None) strays = of_flag (bytes_eq (codes "help") name) (bytes_eq (codes "version") name) strays
   of_none (long name (Some value)) strays = refused (turn_fault top_built names start word) strays
-  of_none (short letter) strays = by (104 == letter) (86 == letter) refl refl
-    where
-      by : (a b : Bool) → (104 == letter) ≡ a → (86 == letter) ≡ b → Comes (asked_of_none (short letter)) line_kinds (sub_at line_end)
-      by true b h v = comes_as (rw h refl) (ap then (strays.0 h)) refl (helps (sub_at line_end))
-      by false true h v = comes_as (rw (h, v) refl) (ap then (strays.1 h v)) refl (tells_version (sub_at line_end))
-      by false false h v = comes_as (rw (h, v) refl) refl refl (refused (turn_fault top_built names start word) (strays.2 h v))
+  of_none (short letter) strays = of_flag (104 == letter) (86 == letter) strays
   of_none plain strays = refused (turn_fault top_built names start word) strays
 
   of_word : (mode : Option Mode) → mode_of word ≡ mode → Comes (request_by mode word rest) line_kinds (sub_at line_end)

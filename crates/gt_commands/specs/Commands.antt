@@ -310,22 +310,22 @@ sought_told explores.Witnesses = all_scripts
 
 -- what a plan asks for
 abbrev pub asked_by_plan : Invocation → Request
-asked_by_plan (plans.Play audit verbose format file) = to_play audit verbose format (option_map (λ f. f.now) file)
-asked_by_plan (plans.Run audit verbose format file) = to_run audit verbose format (option_map (λ f. f.now) file)
+asked_by_plan (plans.Play o) = to_play o.audit o.verbose o.format (option_map (λ f. f.now) o.file)
+asked_by_plan (plans.Run o) = to_run o.audit o.verbose o.format (option_map (λ f. f.now) o.file)
 asked_by_plan (plans.Explore asked states file) =
     to_explore (sought_told asked) states (option_map (λ f. f.now) file)
 asked_by_plan (plans.ExploreHas given states file) = to_find_text given.now states (option_map (λ f. f.now) file)
 asked_by_plan (plans.Policy verbose format file) = to_list verbose format (option_map (λ f. f.now) file)
 asked_by_plan (plans.Rules rule) = to_tell_rules (option_map (λ f. f.now) rule)
-asked_by_plan (plans.Check script format file more) =
-    to_check script format (option_map (λ f. f.now) file) (names_of more)
-asked_by_plan (plans.CheckNever never format file more) =
-    to_check_never never.now format (option_map (λ f. f.now) file) (names_of more)
+asked_by_plan (plans.Check script files) =
+    to_check script files.format (option_map (λ f. f.now) files.file) (names_of files.more)
+asked_by_plan (plans.CheckNever never files) =
+    to_check_never never.now files.format (option_map (λ f. f.now) files.file) (names_of files.more)
 asked_by_plan (plans.Why source target permission file) = to_explain (option_map (λ f. f.now) source)
     (option_map (λ f. f.now) target) (option_map (λ f. f.now) permission) (option_map (λ f. f.now) file)
 asked_by_plan (plans.WhyEach file) = to_explain_each file.now
-asked_by_plan (plans.Entries version hex every script format file) =
-    to_tell_entries version hex every script format (option_map (λ f. f.now) file)
+asked_by_plan (plans.Entries dump format file) =
+    to_tell_entries dump.version dump.hex dump.all dump.script format (option_map (λ f. f.now) file)
 
 -- what a plan asks for, or nothing if there is none
 abbrev pub asked_by_some : Option Invocation → Request

@@ -2,7 +2,7 @@
 use gt_explore_verdict::Claim;
 
 /// A command of the program.
-#[derive(Clone, Copy, Debug, PartialEq, Eq)]
+#[derive(Clone, Copy)]
 pub enum Mode {
     /// Run a script on the core.
     Play,
@@ -23,7 +23,7 @@ pub enum Mode {
 }
 
 /// The format of the output of a command.
-#[derive(Clone, Copy, Debug, PartialEq, Eq)]
+#[derive(Clone, Copy, PartialEq, Eq)]
 pub enum Format {
     /// As lines to read. Findings are printed as compilers print them.
     Text,
@@ -32,7 +32,7 @@ pub enum Format {
 }
 
 /// What `explore` is asked for.
-#[derive(Clone, Copy, Debug, PartialEq, Eq)]
+#[derive(Clone, Copy, PartialEq, Eq)]
 pub enum Exploration<'a> {
     /// All texts.
     Texts,
@@ -45,7 +45,7 @@ pub enum Exploration<'a> {
 }
 
 /// The FILEs of `check` after the first.
-#[derive(Clone, Copy, Debug, PartialEq, Eq)]
+#[derive(Clone, Copy, PartialEq, Eq)]
 pub struct MoreFiles<'a> {
     pub second: Option<&'a str>,
     pub third: Option<&'a str>,
@@ -77,23 +77,49 @@ impl<'a> MoreFiles<'a> {
     }
 }
 
+/// The options of `play` and of `run`.
+#[derive(Clone, Copy, PartialEq, Eq)]
+pub struct ScriptOptions<'a> {
+    /// Print the audit lines too.
+    pub audit: bool,
+    /// Print the reasons of faults and refusals.
+    pub verbose: bool,
+    pub format: Format,
+    /// The script, or None for the standard input.
+    pub file: Option<&'a str>,
+}
+
+/// The FILEs of `check`, and the format of its findings.
+#[derive(Clone, Copy, PartialEq, Eq)]
+pub struct CheckedFiles<'a> {
+    pub format: Format,
+    /// The first FILE, or None for the standard input.
+    pub file: Option<&'a str>,
+    /// Further FILEs.
+    pub more: MoreFiles<'a>,
+}
+
+/// How `entries` reads a dump, and what it prints of it.
+#[derive(Clone, Copy, PartialEq, Eq)]
+pub struct EntriesOptions {
+    /// The version of the table, 1 or 2.
+    pub version: u8,
+    /// The dump is hexadecimal text.
+    pub hex: bool,
+    /// Print entries of zeros too.
+    pub all: bool,
+    /// Print the lines of a script in which this domain makes the calls.
+    pub script: Option<u16>,
+}
+
 /// A command with its options. `file` is the FILE, or None for the standard input. A command without `verbose` explains
 /// its faults in any case.
-#[derive(Debug, PartialEq, Eq, Drop)]
+#[derive(PartialEq, Eq, Drop)]
 pub enum Invocation<'a> {
-    /// `audit`: print the audit lines too. `verbose`: print the reasons of faults and refusals.
-    Play {
-        audit: bool,
-        verbose: bool,
-        format: Format,
-        file: Option<&'a str>,
-    },
-    Run {
-        audit: bool,
-        verbose: bool,
-        format: Format,
-        file: Option<&'a str>,
-    },
+    /// Run a script on the core.
+    Play(ScriptOptions<'a>),
+    /// Run a script's domains in threads.
+    Run(ScriptOptions<'a>),
     /// `states`: the maximum number of states.
     Explore {
         asked: Exploration<'a>,
@@ -116,19 +142,15 @@ pub enum Invocation<'a> {
     Rules {
         rule: Option<&'a str>,
     },
-    /// `script`: the text is a script, not a policy. `more`: further FILEs.
+    /// `script`: the texts are scripts, not policies.
     Check {
         script: bool,
-        format: Format,
-        file: Option<&'a str>,
-        more: MoreFiles<'a>,
+        files: CheckedFiles<'a>,
     },
     /// Check policies against the `neverallow` statements of the file `never`.
     CheckNever {
         never: &'a str,
-        format: Format,
-        file: Option<&'a str>,
-        more: MoreFiles<'a>,
+        files: CheckedFiles<'a>,
     },
     /// `None` is any type or any permission.
     Why {
@@ -141,13 +163,9 @@ pub enum Invocation<'a> {
     WhyEach {
         file: &'a str,
     },
-    /// `version` is 1 or 2. `hex`: the dump is hexadecimal text. `all`: print entries of zeros too. `script`: print the
-    /// lines of a script in which this domain makes the calls.
+    /// Print the entries of a dump.
     Entries {
-        version: u8,
-        hex: bool,
-        all: bool,
-        script: Option<u16>,
+        dump: EntriesOptions,
         format: Format,
         file: Option<&'a str>,
     },

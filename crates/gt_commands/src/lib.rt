@@ -17,7 +17,9 @@ mod line;
 mod planning;
 mod values;
 
-pub use invocation::{Exploration, Format, Invocation, Mode, MoreFiles};
+pub use invocation::{
+    CheckedFiles, EntriesOptions, Exploration, Format, Invocation, Mode, MoreFiles, ScriptOptions,
+};
 pub use leading::{command_first, leading_word};
 pub use letters::with_long_flags;
 pub use planning::{mode_of, plan};

@@ -16,11 +16,12 @@ What a script may say:
   domains of a run          1 to 64
   ID of a domain            0 to 32751, each once
   frames of a domain        1 to 64, of 4096 bytes each
-  table frames of a domain  1 to 16, of 512 entries each in version 1, 256 in version 2
+  table frames of a domain  1 to 16, each of 512 entries in version 1, 256 in 2
   version of a table        1 or 2
   first generation          0 to 1048575
   bytes of a script         at most 1048576
-A policy has at most 1048576 bytes, 256 types, 256 attributes and 65536 allow statements.";
+A policy has at most 1048576 bytes, 256 types, 256 attributes and 65536 allow
+statements.";
 
 // Makes the FILE of a command.
 fn file_word<'a>(alloc: Global) -> Arg<'a>

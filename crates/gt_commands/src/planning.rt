@@ -9,8 +9,11 @@ ghost use Rattle.gt_commands.specs.Commands.{request_in_words, asked_by_some, as
 ghost use Rattle.gt_commands.specs.Commands.{sought_told};
 ghost use Rattle.gt_commands.specs.Commands.{explore_by, explore_for, explore_with, IsInvocationOf, IsPlanOf, gthost_app, list_with};
 ghost use Rattle.gt_commands.specs.Commands.{mode_of, more_files, play_with, read, run_with, why_with};
+ghost use Rattle.gt_commands.specs.declared.invocation.Mode.TheVariants as modes;
 
-use crate::invocation::{Exploration, Format, Invocation, Mode, MoreFiles};
+use crate::invocation::{
+    CheckedFiles, EntriesOptions, Exploration, Format, Invocation, Mode, MoreFiles, ScriptOptions,
+};
 use crate::line::gthost_command;
 use crate::values::{claim_of, format_of, script_of, states_of, type_of, version_of, witness_of};
 use clap::error::ErrorKind;
@@ -68,12 +71,12 @@ fn play_with<'a>(
     ensures { asked_by_some result ≡ play_with format audit verbose (option_map (λ v. v.now) file.entry) }
 {
     match format {
-        Some(format) => Some(Invocation::Play {
+        Some(format) => Some(Invocation::Play(ScriptOptions {
             audit,
             verbose,
             format,
             file,
-        }),
+        })),
         None => None,
     }
 }
@@ -87,12 +90,12 @@ fn run_with<'a>(
     ensures { asked_by_some result ≡ run_with format audit verbose (option_map (λ v. v.now) file.entry) }
 {
     match format {
-        Some(format) => Some(Invocation::Run {
+        Some(format) => Some(Invocation::Run(ScriptOptions {
             audit,
             verbose,
             format,
             file,
-        }),
+        })),
         None => None,
     }
 }
@@ -191,15 +194,11 @@ fn check_with<'a>(
     match (format, never, script) {
         (Some(format), None, script) => Some(Invocation::Check {
             script,
-            format,
-            file,
-            more,
+            files: CheckedFiles { format, file, more },
         }),
         (Some(format), Some(never), false) => Some(Invocation::CheckNever {
             never,
-            format,
-            file,
-            more,
+            files: CheckedFiles { format, file, more },
         }),
         _ => None,
     }
@@ -240,10 +239,12 @@ fn entries_with<'a>(
 {
     match (version, script, format) {
         (Some(version), Some(script), Some(format)) => Some(Invocation::Entries {
-            version,
-            hex,
-            all,
-            script,
+            dump: EntriesOptions {
+                version,
+                hex,
+                all,
+                script,
+            },
             format,
             file,
         }),
@@ -266,6 +267,23 @@ fn more_files<'a>(matches: &ArgMatches<'a>) -> MoreFiles<'a>
     }
 }
 
+// Returns what the values of `explore` ask for, or None if it doesn't take one of them.
+fn read_explore<'a>(matches: &ArgMatches<'a>) -> Option<Invocation<'a>>
+    ensures { asked_by_some result ≡ read modes.Explore (λ id. first_of id (rows_of (found_of matches.now))) }
+{
+    explore_with(
+        claim_of(
+            value_of(matches, "find"),
+            value_of(matches, "never"),
+            value_of(matches, "always"),
+        ),
+        witness_of(value_of(matches, "witness")),
+        value_of(matches, "has"),
+        states_of(value_of(matches, "states")),
+        value_of(matches, "file"),
+    )
+}
+
 // Returns what the values of a command ask for, or None if the command doesn't take one of them.
 fn read<'a>(mode: Mode, matches: &ArgMatches<'a>) -> Option<Invocation<'a>>
     ensures { asked_by_some result ≡ read mode (λ id. first_of id (rows_of (found_of matches.now))) }
@@ -285,17 +303,7 @@ fn read<'a>(mode: Mode, matches: &ArgMatches<'a>) -> Option<Invocation<'a>>
             is_set(matches, "verbose"),
             file,
         ),
-        Mode::Explore => explore_with(
-            claim_of(
-                value_of(matches, "find"),
-                value_of(matches, "never"),
-                value_of(matches, "always"),
-            ),
-            witness_of(value_of(matches, "witness")),
-            value_of(matches, "has"),
-            states_of(value_of(matches, "states")),
-            file,
-        ),
+        Mode::Explore => read_explore(matches),
         Mode::Policy => list_with(format, is_set(matches, "verbose"), file),
         Mode::Rules => Some(Invocation::Rules { rule: file }),
         Mode::Check => check_with(

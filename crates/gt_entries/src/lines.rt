@@ -7,7 +7,7 @@ ghost use Rattle.gt_entries.specs.Live.{cleared};
 
 use crate::asked::DumpOptions;
 use crate::live::{cleared, push_live};
-use crate::script::push_call;
+use crate::script::{DumpSlot, push_call};
 use crate::showing::push_answer;
 use gt_entry::{Entry, decode};
 use gt_text::{push_number, push_text};
@@ -42,23 +42,21 @@ fn push_answered(
     alloc: Global,
     out: &mut Vec<u8>,
     asked: DumpOptions,
-    gref: usize,
-    bytes: &[u8],
-    plain: Vec<u8>,
+    slot: DumpSlot,
     answer: Result<Entry, Field>,
 ) -> Result<(), AllocError>
-    requires { plain.items ≡ cleared bytes.now }
+    requires { slot.plain.items ≡ cleared slot.bytes.now }
     ensures { OnOk result (out.new.items ≡ out.old.items
-        ++ dump_line_text asked.script asked.version gref bytes.now answer) }
+        ++ dump_line_text asked.script asked.version slot.entry.gref slot.entry.bytes.now answer) }
 {
     let Some(dom) = asked.script else {
-        return push_shown(out, gref, bytes, answer);
+        return push_shown(out, slot.gref, slot.bytes, answer);
     };
     match answer {
-        Ok(entry) => push_call(alloc, out, dom, asked.version, gref, entry, plain, bytes),
+        Ok(entry) => push_call(alloc, out, dom, asked.version, slot, entry),
         Err(field) => {
             push_text(out, "# ")?;
-            push_shown(out, gref, bytes, Err(field))
+            push_shown(out, slot.gref, slot.bytes, Err(field))
         }
     }
 }
@@ -98,5 +96,5 @@ pub fn push_entry_lines(
     }
     let plain = cleared(alloc, bytes)?;
     let answer = answer_of(asked.version, plain.as_slice());
-    push_answered(alloc, out, asked, gref, bytes, plain, answer)
+    push_answered(alloc, out, asked, DumpSlot { gref, bytes, plain }, answer)
 }

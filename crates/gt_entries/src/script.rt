@@ -10,6 +10,14 @@ use gt_text::{push_number, push_part, push_text};
 use gt_types::{DomId, MAX_FRAMES};
 use std::alloc::{AllocError, Global};
 
+/// A slot of a table in a dump: its reference, its bytes, and the same without the live bits.
+#[derive(Drop)]
+pub(crate) struct DumpSlot<'b> {
+    pub gref: usize,
+    pub bytes: &'b [u8],
+    pub plain: Vec<u8>,
+}
+
 // Returns the offset of the frame number in an entry of this version; it extends to the end of the entry.
 fn frame_place(version: u8) -> usize
     ensures { result ≡ frame_place version }
@@ -86,21 +94,20 @@ fn push_hex(
     push_text(out, digits.as_str())
 }
 
-/// Appends the line by which a domain grants the entry; `plain` has its bytes without the live bits. After an Err, part
-/// of it may have been appended.
-pub fn push_call(
+/// Appends the line by which a domain grants an entry, which was decoded from the bytes without the live bits. After an
+/// Err, part of it may have been appended.
+pub(crate) fn push_call(
     alloc: Global,
     out: &mut Vec<u8>,
     dom: DomId,
     version: u8,
-    gref: usize,
+    slot: DumpSlot,
     entry: Entry,
-    plain: Vec<u8>,
-    bytes: &[u8],
 ) -> Result<(), AllocError>
-    ensures { OnOk result (out.new.items ≡ out.old.items
-        ++ bytes_call_text dom version gref entry plain.items (live_text bytes.now)) }
+    ensures { OnOk result (out.new.items ≡ out.old.items ++ bytes_call_text dom version slot.entry.gref entry
+        slot.entry.plain.items (live_text slot.entry.bytes.now)) }
 {
+    let DumpSlot { gref, bytes, plain } = slot;
     push_text(out, "do ")?;
     push_number(out, dom.0)?;
     push_text(out, " bytes ")?;

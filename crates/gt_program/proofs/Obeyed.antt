@@ -22,7 +22,8 @@ use Rattle.gt_commands.specs.Commands.{Sought}
 use Rattle.gt_commands.specs.Commands.{play_with, run_with, list_with, explore_by, explore_for, explore_with, check_with}
 use Rattle.gt_commands.specs.Commands.{why_with}
 use Rattle.gt_commands.specs.Commands.{entries_with}
-use Rattle.gt_commands.specs.Leading.{command_first, is_verbose, leading_word}
+use Rattle.gt_commands.specs.Leading.{command_first, first_or, flag_behind, help_first, is_help, is_verbose}
+use Rattle.gt_commands.specs.Leading.{leading_word, word_behind}
 use Rattle.gt_commands.specs.Letters.{long_flag, long_word, with_long_flags}
 use Rattle.gt_commands.specs.Usage.{Line, Word, asks_help, gives, line, long, mark, plain, short, usage_word}
 use Rattle.gt_commands.specs.Usage.{value_given, wrong}
@@ -341,21 +342,29 @@ module _ (program : List ℕ) where
   first_failed : (word : List ℕ) (rest : List (List ℕ)) → failed_word (first_long (program ∷ (word ∷ rest))) ≡ failed_word (Some word)
   first_failed word rest = ap failed_command (long_mode _ word)
 
-  two_words : (word : List ℕ) (b : Bool) → bytes_eq word (codes "help") ≡ b → failed_word (first_long (command_first (program ∷ (word ∷ [])))) ≡ failed_word (Some word)
-  two_words word true e = rw e (first_failed (codes "--help") [] ∙ ap failed_command (sym (help_mode word e)))
-  two_words word false e = rw e (first_failed word [])
+  help_words : (word : List ℕ) (rest : List (List ℕ)) → is_help word ≡ true → failed_word (first_long (help_first program rest)) ≡ failed_word (first_or word rest)
+  help_words word [] h = first_failed (codes "--help") [] ∙ ap failed_command (sym (help_mode word h))
+  help_words word (next ∷ rest) h = first_failed next (codes "--help" ∷ rest)
 
-  more_words : (word next : List ℕ) (rest : List (List ℕ)) (a b : Bool) → is_verbose word ≡ a → bytes_eq word (codes "help") ≡ b
-      → failed_word (first_long (command_first (program ∷ (word ∷ (next ∷ rest))))) ≡ failed_word (leading_word (program ∷ (word ∷ (next ∷ rest))))
-  more_words word next rest true b v h = rw v (first_failed next (word ∷ rest))
-  more_words word next rest false true v h = rw (v, h) (first_failed next (codes "--help" ∷ rest))
-  more_words word next rest false false v h = rw (v, h) (first_failed word (next ∷ rest))
+  more_words : (word next : List ℕ) (rest : List (List ℕ)) (a b : Bool) → is_verbose word ≡ a → is_help next ≡ b
+      → failed_word (first_long (flag_behind program word (next ∷ rest))) ≡ failed_word (word_behind word (next ∷ rest))
+  more_words word next rest true true v h = rw (v, h) (help_words next rest h)
+  more_words word next rest true false v h = rw (v, h) (first_failed next (word ∷ rest))
+  more_words word next rest false b v h = rw v (first_failed word (next ∷ rest))
+
+  flag_words : (word : List ℕ) (rest : List (List ℕ)) → failed_word (first_long (flag_behind program word rest)) ≡ failed_word (word_behind word rest)
+  flag_words word [] = first_failed word []
+  flag_words word (next ∷ rest) = more_words word next rest (is_verbose word) (is_help next) refl refl
+
+  any_words : (word : List ℕ) (rest : List (List ℕ)) (b : Bool) → is_help word ≡ b
+      → failed_word (first_long (command_first (program ∷ (word ∷ rest)))) ≡ failed_word (leading_word (program ∷ (word ∷ rest)))
+  any_words word rest true h = rw h (help_words word rest h)
+  any_words word rest false h = rw h (flag_words word rest)
 
 leading : (words : List (List ℕ)) → failed_word (first_word (drop 1 (with_long_flags (command_first words)))) ≡ failed_word (leading_word words)
 leading [] = refl
 leading (program ∷ []) = refl
-leading (program ∷ (word ∷ [])) = two_words program word (bytes_eq word (codes "help")) refl
-leading (program ∷ (word ∷ (next ∷ rest))) = more_words program word next rest (is_verbose word) (bytes_eq word (codes "help")) refl refl
+leading (program ∷ (word ∷ rest)) = any_words program word rest (is_help word) refl
 
 -- the same for the words that were made of them
 pub made_first : (words spelled : List (List ℕ)) (failed : Outcome) → failed ≡ failed_word (leading_word words) → spelled ≡ with_long_flags (command_first words) → failed ≡ failed_word (first_word (drop 1 spelled))

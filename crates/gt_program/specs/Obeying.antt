@@ -19,6 +19,8 @@ use Rattle.gt_program.specs.Formats.{CheckedAs, ListedAs, PlayedAs, RanAs, ToldA
 use Rattle.gt_program.specs.declared.failure.Failure.TheVariants as failures
 use Rattle.gt_program.specs.declared.commands.Work.TheVariants as works
 use Rattle.gt_commands.specs.declared.invocation.Mode.TheVariants as modes
+use Rattle.std.specs.declared.io.ErrorKind.{ErrorKind as IoErrorKind}
+use Rattle.std.specs.declared.io.ErrorKind.TheVariants as io_kinds
 
 -- the line for a failure
 abbrev pub failure_text : Failure → List ℕ
@@ -168,7 +170,7 @@ abbrev pub Performs : Work → Doing
 Performs (works.Play audited format) = Plays format audited
 Performs (works.Explore asked) = Searches asked
 Performs (works.List format) = Lists format
-Performs (works.Check kind file form) = Checks kind
+Performs (works.Check kind report) = Checks kind
 Performs (works.Why file question) = Explains file.now question
 Performs (works.Entries asked format) = AnswersEntries format asked
 
@@ -177,7 +179,7 @@ abbrev pub failed_work : Work → Outcome
 failed_work (works.Play audited format) = No
 failed_work (works.Explore asked) = Unknown
 failed_work (works.List format) = No
-failed_work (works.Check kind file form) = Unknown
+failed_work (works.Check kind report) = Unknown
 failed_work (works.Why file question) = Unknown
 failed_work (works.Entries asked format) = Unknown
 
@@ -217,6 +219,11 @@ pub record FitsKind (failed : Outcome) (kind : ErrorKind) (old new : Option (Lis
     pub version : kind ≡ DisplayVersion → IsHelped outcome
     pub wrong : (kind ≡ OutOfMemory → ⊥) → (kind ≡ DisplayHelp → ⊥) → (kind ≡ DisplayVersion → ⊥) → outcome ≡ Unknown
     pub silent : (kind ≡ DisplayHelp → ⊥) → (kind ≡ DisplayVersion → ⊥) → Keeps old new
+
+-- words that could not be read come to no if an allocation failed, and otherwise there is no answer
+abbrev pub FitsUnread : IoErrorKind → Outcome → Type 0
+FitsUnread kind outcome =
+    (kind ≡ io_kinds.OutOfMemory → outcome ≡ No) × ((kind ≡ io_kinds.OutOfMemory → ⊥) → outcome ≡ Unknown)
 
 -- The outcome fits what was done with the named text, if its bytes are known, where a failure comes to `failed`; if an
 -- allocation fails, nothing was written.

@@ -2,7 +2,7 @@
 ghost use Rattle.std.specs.Prelude.{◌≡◌, ◌↔◌, map};
 ghost use Rattle.std.specs.Option.{option_map};
 ghost use Rattle.gt_text.specs.Streams.{OfInput};
-ghost use Rattle.gt_commands.specs.Files.{names_of};
+ghost use Rattle.gt_commands.specs.Files.{name_of, names_of};
 ghost use Rattle.gt_program.specs.Obeying.{known_input, Checks, ChecksAll, ChecksAs, ChecksFiles, ChecksNever, OrNothing};
 ghost use Rattle.gt_program.specs.Obeying.{WithFile, Works, kind_checked};
 
@@ -16,7 +16,7 @@ use crate::reasons::Reasons;
 use crate::style::Style;
 use crate::texts::TextSource;
 use gt_checks::NeverText;
-use gt_commands::{Format, MoreFiles};
+use gt_commands::{CheckedFiles, Format};
 use gt_policy_check::ReportForm;
 use gt_policy_list::policy_text;
 use std::alloc::Global;
@@ -31,6 +31,13 @@ pub enum CheckKind<'w> {
     Script,
     /// A policy, against `neverallow` statements.
     Never(NeverText<'w>),
+}
+
+/// How the findings of a text are reported: the name with which their lines begin, and their form.
+#[derive(Clone, Copy)]
+pub struct ReportSettings<'w> {
+    pub file: &'w str,
+    pub form: ReportForm,
 }
 
 // Returns what is checked by `check`.
@@ -48,8 +55,7 @@ fn kind_of<'w>(script: bool) -> CheckKind<'w>
 fn perform_plain<R: Read, W: Write>(
     alloc: Global,
     script: bool,
-    file: &str,
-    form: ReportForm,
+    report: ReportSettings,
     reader: &mut R,
     out: &mut W,
     reasons: &mut Reasons,
@@ -57,7 +63,7 @@ fn perform_plain<R: Read, W: Write>(
     ensures { OfInput (R.remaining reader.old) (λ input.
         ChecksAs script input (W.contents out.old) (W.contents out.new) result) }
 {
-    match check_explained(alloc, script, file, form, reader, out, reasons) {
+    match check_explained(alloc, script, report, reader, out, reasons) {
         Ok(clean) => Ok(Outcome::of_answer(clean)),
         Err(fault) => Err(Failure::List(fault)),
     }
@@ -67,8 +73,7 @@ fn perform_plain<R: Read, W: Write>(
 fn perform_never<R: Read, W: Write>(
     alloc: Global,
     never: NeverText,
-    file: &str,
-    form: ReportForm,
+    report: ReportSettings,
     reader: &mut R,
     out: &mut W,
     reasons: &mut Reasons,
@@ -76,7 +81,7 @@ fn perform_never<R: Read, W: Write>(
     ensures { OfInput (R.remaining reader.old) (λ input.
         ChecksNever never.entry.text.now input (W.contents out.old) (W.contents out.new) result) }
 {
-    match check_never_explained(alloc, never, file, form, reader, out, reasons) {
+    match check_never_explained(alloc, never, report, reader, out, reasons) {
         Ok(clean) => Ok(Outcome::of_answer(clean)),
         Err(fault) => Err(Failure::Breach(fault)),
     }
@@ -86,8 +91,7 @@ fn perform_never<R: Read, W: Write>(
 pub(crate) fn perform_check<R: Read, W: Write>(
     alloc: Global,
     kind: CheckKind,
-    file: &str,
-    form: ReportForm,
+    report: ReportSettings,
     reader: &mut R,
     out: &mut W,
     reasons: &mut Reasons,
@@ -96,9 +100,9 @@ pub(crate) fn perform_check<R: Read, W: Write>(
         Checks kind.entry input (W.contents out.old) (W.contents out.new) result) }
 {
     match kind {
-        CheckKind::Policy => perform_plain(alloc, false, file, form, reader, out, reasons),
-        CheckKind::Script => perform_plain(alloc, true, file, form, reader, out, reasons),
-        CheckKind::Never(never) => perform_never(alloc, never, file, form, reader, out, reasons),
+        CheckKind::Policy => perform_plain(alloc, false, report, reader, out, reasons),
+        CheckKind::Script => perform_plain(alloc, true, report, reader, out, reasons),
+        CheckKind::Never(never) => perform_never(alloc, never, report, reader, out, reasons),
     }
 }
 
@@ -126,13 +130,12 @@ fn check_one<'a, R, T: TextSource, W: Write, E: Eprint>(
         (known_input (T.file context.now.texts.now) (T.input context.now.texts.now) file.entry)
         (W.contents out.old) (W.contents out.new) result }
 {
-    let work = Work::Check {
-        kind,
+    let report = ReportSettings {
         file: shown_name(file),
         form: form_of(format, context.style),
     };
     reasons.begin(file);
-    work_asked(context, work, file, out, reasons)
+    work_asked(context, Work::Check { kind, report }, file, out, reasons)
 }
 
 // Checks the files of these names, one after the other.
@@ -162,18 +165,16 @@ fn check_more<'a, R, T: TextSource, W: Write, E: Eprint>(
 fn check_all<'a, R, T: TextSource, W: Write, E: Eprint>(
     context: &Context<R, T, E>,
     kind: CheckKind,
-    format: Format,
-    file: Option<&'a str>,
-    more: &MoreFiles<'a>,
+    files: &CheckedFiles<'a>,
     out: &mut W,
     reasons: &mut Reasons<'a>,
 ) -> Outcome
     ensures { ChecksAll (Checks kind.entry) (T.file context.now.texts.now) (T.input context.now.texts.now)
-        (option_map (λ f. f.now) file.entry) (names_of more.now) (W.contents out.old) (W.contents out.new) result }
+        (name_of files.now.file) (names_of files.now.more) (W.contents out.old) (W.contents out.new) result }
 {
-    let one = check_one(context, kind, format, file, out, reasons);
-    let names = more.names();
-    let others = check_more(context, kind, format, names.as_slice(), out, reasons);
+    let one = check_one(context, kind, files.format, files.file, out, reasons);
+    let names = files.more.names();
+    let others = check_more(context, kind, files.format, names.as_slice(), out, reasons);
     worse(one, others)
 }
 
@@ -181,17 +182,15 @@ fn check_all<'a, R, T: TextSource, W: Write, E: Eprint>(
 pub(crate) fn check_files<'a, R, T: TextSource, W: Write, E: Eprint>(
     context: &Context<R, T, E>,
     script: bool,
-    format: Format,
-    file: Option<&'a str>,
-    more: &MoreFiles<'a>,
+    files: &CheckedFiles<'a>,
     out: &mut W,
     reasons: &mut Reasons<'a>,
 ) -> Outcome
     ensures { ChecksAll (ChecksAs script) (T.file context.now.texts.now) (T.input context.now.texts.now)
-        (option_map (λ f. f.now) file.entry) (names_of more.now) (W.contents out.old) (W.contents out.new) result }
+        (name_of files.now.file) (names_of files.now.more) (W.contents out.old) (W.contents out.new) result }
 {
     let kind = kind_of(script);
-    check_all(context, kind, format, file, more, out, reasons)
+    check_all(context, kind, files, out, reasons)
 }
 
 // Checks policies against the `neverallow` statements of these bytes, which the file has.
@@ -199,20 +198,18 @@ fn check_never_bytes<'a, R, T: TextSource, W: Write, E: Eprint>(
     context: &Context<R, T, E>,
     never: &'a str,
     bytes: &[u8],
-    format: Format,
-    file: Option<&'a str>,
-    more: &MoreFiles<'a>,
+    files: &CheckedFiles<'a>,
     out: &mut W,
     reasons: &mut Reasons<'a>,
 ) -> Outcome
     ensures { OrNothing (ChecksAll (ChecksNever bytes.now) (T.file context.now.texts.now)
-        (T.input context.now.texts.now) (option_map (λ f. f.now) file.entry) (names_of more.now))
+        (T.input context.now.texts.now) (name_of files.now.file) (names_of files.now.more))
         (W.contents out.old) (W.contents out.new) result }
 {
     match policy_text(bytes) {
         Ok(text) => {
             let kind = CheckKind::Never(NeverText { file: never, text });
-            check_all(context, kind, format, file, more, out, reasons)
+            check_all(context, kind, files, out, reasons)
         }
         Err(fault) => {
             reasons.add_text(bytes, &fault);
@@ -225,27 +222,16 @@ fn check_never_bytes<'a, R, T: TextSource, W: Write, E: Eprint>(
 pub(crate) fn check_never_files<'a, R, T: TextSource, W: Write, E: Eprint>(
     context: &Context<R, T, E>,
     never: &'a str,
-    format: Format,
-    file: Option<&'a str>,
-    more: &MoreFiles<'a>,
+    files: &CheckedFiles<'a>,
     out: &mut W,
     reasons: &mut Reasons<'a>,
 ) -> Outcome
     ensures { WithFile (T.file context.now.texts.now never.entry.now) (λ given.
         ChecksAll (ChecksNever given) (T.file context.now.texts.now) (T.input context.now.texts.now)
-        (option_map (λ f. f.now) file.entry) (names_of more.now)) (W.contents out.old) (W.contents out.new) result }
+        (name_of files.now.file) (names_of files.now.more)) (W.contents out.old) (W.contents out.new) result }
 {
     match read_given(context, never, reasons) {
-        Some(bytes) => check_never_bytes(
-            context,
-            never,
-            bytes.as_slice(),
-            format,
-            file,
-            more,
-            out,
-            reasons,
-        ),
+        Some(bytes) => check_never_bytes(context, never, bytes.as_slice(), files, out, reasons),
         None => Outcome::Unknown,
     }
 }

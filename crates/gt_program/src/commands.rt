@@ -4,20 +4,21 @@ ghost use Rattle.gt_text.specs.Streams.{OfInput};
 ghost use Rattle.gt_program.specs.Obeying.{failed_work, known_input, Does, Performs, RunsDomains, Works};
 ghost use Rattle.gt_program.specs.declared.outcome.Outcome.TheVariants.{No};
 
-use crate::checking::{CheckKind, perform_check};
+use crate::checking::{CheckKind, ReportSettings, perform_check};
 use crate::explained::{entries_explained, explore_explained, list_with_reasons, why_explained};
 use crate::failure::Failure;
+use crate::formats::RunSettings;
 use crate::obeying::report;
 use crate::outcome::{Outcome, outcome_of};
 use crate::reasons::Reasons;
 use crate::style::Style;
 use crate::texts::{TextSource, read_fault};
-use crate::told::{RunSettings, play_with_reasons, run_with_reasons};
+use crate::told::{play_with_reasons, run_with_reasons};
 use gt_audit::SharedLog;
-use gt_commands::Format;
+use gt_commands::{Format, ScriptOptions};
 use gt_entries::DumpOptions;
 use gt_explore::ExploreOptions as Searched;
-use gt_policy_check::{ReportForm, WhyQuestion};
+use gt_policy_check::WhyQuestion;
 use gt_run::FlagGate;
 use std::alloc::Global;
 use std::io::{Read, Write};
@@ -41,11 +42,9 @@ pub enum Work<'w> {
         format: Format,
     },
     /// Report what is wrong or useless in the policy, or in the script, or which statements break `neverallow` statements.
-    /// The lines begin with the name.
     Check {
         kind: CheckKind<'w>,
-        file: &'w str,
-        form: ReportForm,
+        report: ReportSettings<'w>,
     },
     /// Answer the question about the policy. The lines begin with the name.
     Why {
@@ -99,9 +98,7 @@ fn perform<R: Read, W: Write>(
             Ok(()) => Ok(Outcome::Yes),
             Err(fault) => Err(Failure::List(fault)),
         },
-        Work::Check { kind, file, form } => {
-            perform_check(alloc, kind, file, form, reader, out, reasons)
-        }
+        Work::Check { kind, report } => perform_check(alloc, kind, report, reader, out, reasons),
         Work::Why { file, question } => match why_explained(
             alloc, file, &question, reader, out, reasons,
         ) {
@@ -119,7 +116,7 @@ fn perform<R: Read, W: Write>(
 
 /// The environment of a command: the runtime, memory, the texts, the standard error, and the style of the output.
 #[derive(Drop)]
-pub(crate) struct Context<'c, R, T, E> {
+pub struct Context<'c, R, T, E> {
     pub rt: &'c R,
     pub alloc: Global,
     pub texts: &'c T,
@@ -252,16 +249,21 @@ pub(crate) fn work_asked<R, T: TextSource, W: Write, E: Eprint>(
 /// Runs a script, and returns the outcome.
 pub(crate) fn run_asked<R: Threads + Wait + Sync, T: TextSource, W: Write, E: Eprint>(
     context: &Context<R, T, E>,
-    format: Format,
-    audit: bool,
-    file: Option<&str>,
+    options: ScriptOptions,
     out: &mut W,
     reasons: &mut Reasons,
 ) -> Outcome
-    ensures { Works (RunsDomains format audit) No
-        (known_input (T.file context.now.texts.now) (T.input context.now.texts.now) file.entry)
+    ensures { Works (RunsDomains options.entry.format options.entry.audit) No
+        (known_input (T.file context.now.texts.now) (T.input context.now.texts.now) options.entry.file)
         (W.contents out.old) (W.contents out.new) result }
 {
-    let ending = run_on(context, format, audit, file, out, reasons);
+    let ending = run_on(
+        context,
+        options.format,
+        options.audit,
+        options.file,
+        out,
+        reasons,
+    );
     report(context.err, ending, Outcome::No)
 }

@@ -6,6 +6,7 @@ ghost use Rattle.gt_explore.specs.Exploring.{Explored};
 ghost use Rattle.gt_script.specs.RunScripts.{RunTells};
 ghost use Rattle.gt_program.specs.Formats.{CheckedAs, ListedAs, ToldAs};
 
+use crate::checking::ReportSettings;
 use crate::copying::CopyingReader;
 use crate::formats::{check_as, entries_as, list_as};
 use crate::reasons::Reasons;
@@ -14,7 +15,7 @@ use gt_commands::Format;
 use gt_entries::{DumpFault, DumpOptions};
 use gt_explore::{ExploreFault, ExploreOptions as Searched, explore};
 use gt_explore_verdict::Verdict;
-use gt_policy_check::{ReportForm, WhyQuestion};
+use gt_policy_check::WhyQuestion;
 use gt_policy_list::ListingFault;
 use std::alloc::Global;
 use std::io::{Read, Write};
@@ -64,8 +65,7 @@ pub(crate) fn list_with_reasons<R: Read, W: Write>(
 pub(crate) fn check_explained<R: Read, W: Write>(
     alloc: Global,
     script: bool,
-    file: &str,
-    form: ReportForm,
+    report: ReportSettings,
     reader: &mut R,
     out: &mut W,
     reasons: &mut Reasons,
@@ -74,7 +74,7 @@ pub(crate) fn check_explained<R: Read, W: Write>(
         CheckedAs script input (W.contents out.old) (W.contents out.new) result) }
 {
     let mut input = CopyingReader::new(alloc, reader);
-    let ending = check_as(alloc, script, file, form, &mut input, out);
+    let ending = check_as(alloc, script, report, &mut input, out);
     if let Err(fault) = &ending {
         reasons.add_listing(&input.kept, fault);
     }
@@ -85,8 +85,7 @@ pub(crate) fn check_explained<R: Read, W: Write>(
 pub(crate) fn check_never_explained<R: Read, W: Write>(
     alloc: Global,
     never: NeverText,
-    file: &str,
-    form: ReportForm,
+    report: ReportSettings,
     reader: &mut R,
     out: &mut W,
     reasons: &mut Reasons,
@@ -95,7 +94,7 @@ pub(crate) fn check_never_explained<R: Read, W: Write>(
         CheckedNever never.entry.text.now input (W.contents out.old) (W.contents out.new) result) }
 {
     let mut input = CopyingReader::new(alloc, reader);
-    let ending = check_never(alloc, file, form, never, &mut input, out);
+    let ending = check_never(alloc, report.file, report.form, never, &mut input, out);
     if let Err(fault) = &ending {
         reasons.add_breach(&input.kept, never.file, fault);
     }

@@ -6,11 +6,10 @@ use gt_host::PlayFault;
 use gt_policy_list::ListingFault;
 use gt_run::RunFault;
 use gt_text::{ReadFault, WriteFault};
-use std::error::Error;
 use std::fmt;
 
 /// The failure that ended a command. It prints as one line, without a line end.
-#[derive(Debug, Drop)]
+#[derive(Drop)]
 pub enum Failure {
     /// A script was not played to its end.
     Play(PlayFault),
@@ -55,5 +54,3 @@ impl fmt::Display for Failure {
         }
     }
 }
-
-impl Error for Failure {}

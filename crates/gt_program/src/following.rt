@@ -2,7 +2,8 @@
 ghost use Rattle.std.specs.Prelude.{◌≡◌};
 ghost use Rattle.std.specs.Option.{option_map};
 ghost use Rattle.gt_commands.specs.Commands.{asked_by_plan, sought_told};
-ghost use Rattle.gt_program.specs.Obeying.{known_input, AnswersQuestion, IsRequestFor, Obeys, Seeks, Works, shown_name};
+ghost use Rattle.gt_program.specs.Obeying.{known_input, AnswersDump, AnswersQuestion, IsRequestFor, Obeys, Plays, Seeks};
+ghost use Rattle.gt_program.specs.Obeying.{Works, shown_name};
 
 use crate::checking::{check_files, check_never_files};
 use crate::commands::{Context, Work, run_asked, work_asked};
@@ -13,7 +14,7 @@ use crate::questions::answer_each;
 use crate::reasons::Reasons;
 use crate::rules::tell_rules;
 use crate::texts::TextSource;
-use gt_commands::{Exploration, Invocation};
+use gt_commands::{EntriesOptions, Exploration, Format, Invocation, ScriptOptions};
 use gt_entries::DumpOptions;
 use gt_explore::{ExploreOptions, ExploreRequest};
 use gt_policy_check::WhyQuestion;
@@ -84,6 +85,47 @@ fn answer<'a, R, T: TextSource, W: Write, E: Eprint>(
     work_asked(context, work, file, out, reasons)
 }
 
+// Prints the entries of a dump.
+fn show_entries<R, T: TextSource, W: Write, E: Eprint>(
+    context: &Context<R, T, E>,
+    dump: EntriesOptions,
+    format: Format,
+    file: Option<&str>,
+    out: &mut W,
+    reasons: &mut Reasons,
+) -> Outcome
+    ensures { Works (AnswersDump dump.version dump.hex dump.all dump.script format) Outcome.Unknown
+        (known_input (T.file context.now.texts.now) (T.input context.now.texts.now) file.entry)
+        (W.contents out.old) (W.contents out.new) result }
+{
+    let script = domain(dump.script);
+    let asked = DumpOptions {
+        version: dump.version,
+        hex: dump.hex,
+        all: dump.all,
+        script,
+    };
+    work_asked(context, Work::Entries { asked, format }, file, out, reasons)
+}
+
+// Plays a script.
+fn play<R, T: TextSource, W: Write, E: Eprint>(
+    context: &Context<R, T, E>,
+    options: ScriptOptions,
+    out: &mut W,
+    reasons: &mut Reasons,
+) -> Outcome
+    ensures { Works (Plays options.entry.format options.entry.audit) Outcome.No
+        (known_input (T.file context.now.texts.now) (T.input context.now.texts.now) options.entry.file)
+        (W.contents out.old) (W.contents out.new) result }
+{
+    let work = Work::Play {
+        audit: options.audit,
+        format: options.format,
+    };
+    work_asked(context, work, options.file, out, reasons)
+}
+
 /// Executes the plan.
 pub(crate) fn follow<'a, R: Threads + Wait + Sync, T: TextSource, W: Write, E: Eprint>(
     context: &Context<R, T, E>,
@@ -95,18 +137,8 @@ pub(crate) fn follow<'a, R: Threads + Wait + Sync, T: TextSource, W: Write, E: E
         (W.contents out.old) (W.contents out.new) result }
 {
     match invocation {
-        Invocation::Play {
-            audit,
-            format,
-            file,
-            verbose: _,
-        } => work_asked(context, Work::Play { audit, format }, file, out, reasons),
-        Invocation::Run {
-            audit,
-            format,
-            file,
-            verbose: _,
-        } => run_asked(context, format, audit, file, out, reasons),
+        Invocation::Play(options) => play(context, options, out, reasons),
+        Invocation::Run(options) => run_asked(context, options, out, reasons),
         Invocation::Explore {
             asked,
             states,
@@ -117,26 +149,16 @@ pub(crate) fn follow<'a, R: Threads + Wait + Sync, T: TextSource, W: Write, E: E
             states,
             file,
         } => find_text(context, given, states, file, out, reasons),
-        Invocation::Policy {
-            format,
-            file,
-            verbose: _,
-        } => work_asked(context, Work::List { format }, file, out, reasons),
+        Invocation::Policy { format, file, .. } => {
+            work_asked(context, Work::List { format }, file, out, reasons)
+        }
         Invocation::Rules { rule } => {
             tell_rules(context.alloc, out, context.err, rule, context.style.width)
         }
-        Invocation::Check {
-            script,
-            format,
-            file,
-            more,
-        } => check_files(context, script, format, file, &more, out, reasons),
-        Invocation::CheckNever {
-            never,
-            format,
-            file,
-            more,
-        } => check_never_files(context, never, format, file, &more, out, reasons),
+        Invocation::Check { script, files } => check_files(context, script, &files, out, reasons),
+        Invocation::CheckNever { never, files } => {
+            check_never_files(context, never, &files, out, reasons)
+        }
         Invocation::Why {
             source,
             target,
@@ -151,22 +173,8 @@ pub(crate) fn follow<'a, R: Threads + Wait + Sync, T: TextSource, W: Write, E: E
             answer(context, question, file, out, reasons)
         }
         Invocation::WhyEach { file } => answer_each(context, file, out, reasons),
-        Invocation::Entries {
-            version,
-            hex,
-            all,
-            script: dom,
-            format,
-            file,
-        } => {
-            let script = domain(dom);
-            let asked = DumpOptions {
-                version,
-                hex,
-                all,
-                script,
-            };
-            work_asked(context, Work::Entries { asked, format }, file, out, reasons)
+        Invocation::Entries { dump, format, file } => {
+            show_entries(context, dump, format, file, out, reasons)
         }
     }
 }

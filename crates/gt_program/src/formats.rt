@@ -3,6 +3,7 @@ ghost use Rattle.std.specs.Prelude.{is_some};
 ghost use Rattle.gt_text.specs.Streams.{OfInput};
 ghost use Rattle.gt_program.specs.Formats.{CheckedAs, ListedAs, PlayedAs, RanAs, ToldAs};
 
+use crate::checking::ReportSettings;
 use gt_audit::SharedLog;
 use gt_checks::{check, check_script};
 use gt_commands::Format;
@@ -10,7 +11,6 @@ use gt_entries::{DumpFault, DumpOptions, entries};
 use gt_host::{PlayFault, play};
 use gt_json_commands::{entries_json, play_json, policy_json, run_json};
 use gt_order::run;
-use gt_policy_check::ReportForm;
 use gt_policy_list::{ListingFault, policy};
 use gt_run::{Gate, RunFault};
 use std::alloc::Global;
@@ -35,22 +35,42 @@ pub(crate) fn play_as<R: Read, W: Write>(
     }
 }
 
+/// The settings of a run: its threads, with a log or without, its gate, and the format of its output.
+#[derive(Drop)]
+pub(crate) struct RunSettings<'r, R, G> {
+    pub rt: &'r R,
+    pub alloc: Global,
+    pub format: Format,
+    pub log: Option<&'r SharedLog>,
+    pub gate: &'r G,
+}
+
 /// Runs the script of a reader, its domains in threads.
 pub(crate) fn run_as<R: Threads + Wait + Sync, I: Read, W: Write, G: Gate + Sync>(
-    rt: &R,
-    alloc: Global,
-    format: Format,
+    settings: &RunSettings<R, G>,
     reader: &mut I,
     out: &mut W,
-    log: Option<&SharedLog>,
-    gate: &G,
 ) -> Result<(), RunFault>
     ensures { OfInput (I.remaining reader.old) (λ input.
-        RanAs format (is_some log.entry) input (W.contents out.old) (W.contents out.new) result) }
+        RanAs settings.now.format (is_some settings.now.log) input (W.contents out.old) (W.contents out.new) result) }
 {
-    match format {
-        Format::Text => run(rt, alloc, reader, out, log, gate),
-        Format::Json => run_json(rt, alloc, reader, out, log, gate),
+    match settings.format {
+        Format::Text => run(
+            settings.rt,
+            settings.alloc,
+            reader,
+            out,
+            settings.log,
+            settings.gate,
+        ),
+        Format::Json => run_json(
+            settings.rt,
+            settings.alloc,
+            reader,
+            out,
+            settings.log,
+            settings.gate,
+        ),
     }
 }
 
@@ -91,8 +111,7 @@ pub(crate) fn entries_as<R: Read, W: Write>(
 pub(crate) fn check_as<R: Read, W: Write>(
     alloc: Global,
     script: bool,
-    file: &str,
-    form: ReportForm,
+    report: ReportSettings,
     reader: &mut R,
     out: &mut W,
 ) -> Result<bool, ListingFault>
@@ -100,8 +119,8 @@ pub(crate) fn check_as<R: Read, W: Write>(
         CheckedAs script input (W.contents out.old) (W.contents out.new) result) }
 {
     if script {
-        check_script(alloc, file, form, reader, out)
+        check_script(alloc, report.file, report.form, reader, out)
     } else {
-        check(alloc, file, form, reader, out)
+        check(alloc, report.file, report.form, reader, out)
     }
 }

@@ -31,10 +31,10 @@ mod system;
 mod texts;
 mod told;
 
-pub use checking::CheckKind;
-pub use commands::Work;
+pub use checking::{CheckKind, ReportSettings};
+pub use commands::{Context, Work};
 pub use failure::Failure;
-pub use obeying::obey;
+pub use obeying::{obey, obey_read};
 pub use outcome::{Outcome, outcome_of};
 pub use style::Style;
 pub use system::{System, run};

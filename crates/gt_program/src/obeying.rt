@@ -1,26 +1,27 @@
 //! The execution of a command line.
-ghost use Rattle.std.specs.Prelude.{◌≡◌, IfOk, drop, map, string_bytes};
+ghost use Rattle.std.specs.Prelude.{◌≡◌, IfErr, IfOk, drop, map, string_bytes};
+ghost use Rattle.std.specs.Io.KnownBytes.{Keeps};
 ghost use Rattle.std.specs.Option.{option_map};
 ghost use Rattle.clap.specs.Words.{kind_of};
 ghost use Rattle.gt_commands.specs.Commands.{request_in_words};
 ghost use Rattle.gt_commands.specs.Leading.{command_first, leading_word};
 ghost use Rattle.gt_commands.specs.Letters.{with_long_flags};
 ghost use Rattle.gt_program.specs.Obeying.{failed_mode, failed_word, first_word, outcome_of, shown_name, FitsKind};
-ghost use Rattle.gt_program.specs.Obeying.{IsHelped, Obeys};
+ghost use Rattle.gt_program.specs.Obeying.{FitsUnread, IsHelped, Obeys};
+ghost use Rattle.std.specs.IoError.{error_kind};
 
 use crate::commands::Context;
 use crate::failure::Failure;
 use crate::following::follow;
 use crate::outcome::{Outcome, outcome_of};
 use crate::reasons::Reasons;
-use crate::style::Style;
 use crate::texts::TextSource;
 use clap::Error;
 use clap::error::ErrorKind;
 use gt_commands::{Mode, command_first, leading_word, mode_of, plan, with_long_flags};
 use gt_text::WriteFault;
 use std::alloc::{AllocError, Global};
-use std::io::Write;
+use std::io::{self, Write};
 use std::sync::Wait;
 use std::thread::Threads;
 
@@ -135,37 +136,56 @@ fn plain_words(alloc: Global, words: &[String]) -> Result<Vec<String>, AllocErro
 }
 
 /// Does what the words of a command line, the program's name first, ask for, and returns the outcome. Texts, rules, help
-/// and version go to `out`, rules in lines of the width of `style`, if it has one. A fault goes to `err`, in one line. Of
-/// `play`, `run` and `policy` it is followed by its reasons if they are asked for.
+/// and version go to `out`, rules in lines of the width of the style, if it has one. A fault goes to the standard error
+/// of the context, in one line. Of `play`, `run` and `policy` it is followed by its reasons if they are asked for.
 ///
 /// The outcome is yes for success, no for a fault of `play`, `run` and `policy`, for a policy with an error, for a denied
 /// question and for a word that no text has, and unknown for a fault of another command and if the words ask for nothing
 /// that the program does.
 #[tactic(auto, using(crate::proofs::Obeyed::obeyed_plain, crate::proofs::Obeyed::without_memory))]
 pub fn obey<R: Threads + Wait + Sync, T: TextSource, W: Write, E: Eprint>(
-    rt: &R,
-    alloc: Global,
-    texts: &T,
+    context: &Context<R, T, E>,
     words: &[String],
-    style: Style,
     out: &mut W,
-    err: &E,
 ) -> Outcome
     ensures { Obeys (request_in_words (drop 1 (with_long_flags (command_first (map string_bytes words.now)))))
-        (T.file texts.now) (T.input texts.now) (W.contents out.old) (W.contents out.new) result }
+        (T.file context.now.texts.now) (T.input context.now.texts.now)
+        (W.contents out.old) (W.contents out.new) result }
 {
     let failed = failed_line(words);
-    match plain_words(alloc, words) {
-        Ok(words) => {
-            let context = Context {
-                rt,
-                alloc,
-                texts,
-                err,
-                style,
-            };
-            obey_long(&context, words.as_slice(), failed, out)
-        }
-        Err(_) => report(err, Err(Failure::Memory), failed),
+    match plain_words(context.alloc, words) {
+        Ok(words) => obey_long(context, words.as_slice(), failed, out),
+        Err(_) => report(context.err, Err(Failure::Memory), failed),
+    }
+}
+
+// Reports that the words of a command line could not be read, and returns the outcome.
+fn report_unread<E: Eprint>(err: &E, error: &io::Error) -> Outcome
+    ensures { FitsUnread (error_kind error.now) result }
+{
+    if error.kind() == io::ErrorKind::OutOfMemory {
+        return report(err, Err(Failure::Memory), Outcome::No);
+    }
+    let _ = err.eprintln("error: a word of the command line is not UTF-8");
+    Outcome::Unknown
+}
+
+/// Does what words ask for that were read from the system, as [`obey`] does. If they could not be read, nothing is
+/// written, and the outcome is no if an allocation failed, and unknown for a word that is not UTF-8.
+pub fn obey_read<R: Threads + Wait + Sync, T: TextSource, W: Write, E: Eprint>(
+    context: &Context<R, T, E>,
+    words: io::Result<Vec<String>>,
+    out: &mut W,
+) -> Outcome
+    ensures read { IfOk words (λ all.
+        Obeys (request_in_words (drop 1 (with_long_flags (command_first (map string_bytes all.items)))))
+        (T.file context.now.texts.now) (T.input context.now.texts.now) (W.contents out.old) (W.contents out.new)
+        result) }
+    ensures unread { IfErr words (λ error. FitsUnread (error_kind error) result
+        × Keeps (W.contents out.old) (W.contents out.new)) }
+{
+    match words {
+        Ok(words) => obey(context, words.as_slice(), out),
+        Err(error) => report_unread(context.err, &error),
     }
 }

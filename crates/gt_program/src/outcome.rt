@@ -6,7 +6,7 @@ use crate::failure::Failure;
 use gt_explore_verdict::Verdict;
 
 /// What a command line comes to. It is the exit status of the program.
-#[derive(Clone, Copy, Debug, PartialEq, Eq)]
+#[derive(Clone, Copy)]
 pub enum Outcome {
     /// The command was done, and if it answers a question, the answer is yes.
     Yes,

@@ -23,7 +23,15 @@ use gt_text::{ReadFault, push_text, text_of, write_text};
 use std::alloc::{AllocError, Global};
 use std::io::Write;
 
-// The three words of a question.
+// The three words of a question, as they were read.
+#[derive(Clone, Copy)]
+struct ReadWords<'t> {
+    source: &'t [u8],
+    target: &'t [u8],
+    perm: &'t [u8],
+}
+
+// The same as text.
 #[derive(Clone, Copy)]
 struct AskedWords<'t> {
     source: &'t str,
@@ -32,12 +40,16 @@ struct AskedWords<'t> {
 }
 
 // Returns the words as text, if they are UTF-8.
-fn asked_words<'t>(source: &'t [u8], target: &'t [u8], perm: &'t [u8]) -> Option<AskedWords<'t>>
-    ensures source { IfSome result (λ w. w.source.now ≡ source.entry.now) }
-    ensures target { IfSome result (λ w. w.target.now ≡ target.entry.now) }
-    ensures perm { IfSome result (λ w. w.perm.now ≡ perm.entry.now) }
+fn asked_words<'t>(words: ReadWords<'t>) -> Option<AskedWords<'t>>
+    ensures source { IfSome result (λ w. w.source.now ≡ words.entry.source.now) }
+    ensures target { IfSome result (λ w. w.target.now ≡ words.entry.target.now) }
+    ensures perm { IfSome result (λ w. w.perm.now ≡ words.entry.perm.now) }
 {
-    match (text_of(source), text_of(target), text_of(perm)) {
+    match (
+        text_of(words.source),
+        text_of(words.target),
+        text_of(words.perm),
+    ) {
         (Ok(source), Ok(target), Ok(perm)) => Some(AskedWords {
             source,
             target,
@@ -138,16 +150,14 @@ fn ask<'a, R, T: TextSource, W: Write, E: Eprint>(
 fn ask_words<'a, R, T: TextSource, W: Write, E: Eprint>(
     context: &Context<R, T, E>,
     file: &'a str,
-    source: &[u8],
-    target: &[u8],
-    perm: &[u8],
+    words: ReadWords,
     out: &mut W,
     reasons: &mut Reasons<'a>,
 ) -> Outcome
-    ensures { OrNothing (Asks file.entry.now (T.file context.now.texts.now file.entry.now) source.now
-        target.now perm.now) (W.contents out.old) (W.contents out.new) result }
+    ensures { OrNothing (Asks file.entry.now (T.file context.now.texts.now file.entry.now) words.entry.source.now
+        words.entry.target.now words.entry.perm.now) (W.contents out.old) (W.contents out.new) result }
 {
-    match asked_words(source, target, perm) {
+    match asked_words(words) {
         Some(words) => ask(context, file, &words, out, reasons),
         None => fail(context, Failure::File(ReadFault::Read), reasons),
     }
@@ -182,7 +192,12 @@ fn answer_words<'a, R, T: TextSource, W: Write, E: Eprint>(
         [_] => refuse_line(context, number, reasons),
         [_, _] => refuse_line(context, number, reasons),
         [source, target, perm] => {
-            ask_words(context, file, *source, *target, *perm, out, reasons)
+            let words = ReadWords {
+                source: *source,
+                target: *target,
+                perm: *perm,
+            };
+            ask_words(context, file, words, out, reasons)
         }
         [_, _, _, _, ..] => refuse_line(context, number, reasons),
     }

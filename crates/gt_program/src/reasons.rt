@@ -245,13 +245,13 @@ impl<'a> Reasons<'a> {
     /// Makes an empty collection of the reasons of this command.
     pub(crate) fn of(alloc: Global, invocation: &Invocation<'a>) -> Reasons<'a> {
         let (is_line, file) = match invocation {
-            Invocation::Play { verbose, file, .. } => (false, named(*verbose, *file)),
-            Invocation::Run { verbose, file, .. } => (false, named(*verbose, *file)),
+            Invocation::Play(options) => (false, named(options.verbose, options.file)),
+            Invocation::Run(options) => (false, named(options.verbose, options.file)),
             Invocation::Policy { verbose, file, .. } => (false, named(*verbose, *file)),
             Invocation::Explore { file, .. } => (true, named(true, *file)),
             Invocation::ExploreHas { file, .. } => (true, named(true, *file)),
-            Invocation::Check { file, .. } => (true, named(true, *file)),
-            Invocation::CheckNever { file, .. } => (true, named(true, *file)),
+            Invocation::Check { files, .. } => (true, named(true, files.file)),
+            Invocation::CheckNever { files, .. } => (true, named(true, files.file)),
             Invocation::Why { file, .. } => (true, named(true, *file)),
             Invocation::Entries { file, .. } => (true, named(true, *file)),
             Invocation::WhyEach { file } => (true, Some(*file)),

@@ -1,7 +1,7 @@
 //! The style of the output.
 
 /// The style of the output: on a terminal its width, and whether it has colours.
-#[derive(Clone, Copy, Debug, PartialEq, Eq)]
+#[derive(Clone, Copy)]
 pub struct Style {
     /// The number of columns, or None for an output that is not a terminal.
     pub width: Option<usize>,

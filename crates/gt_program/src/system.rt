@@ -1,12 +1,11 @@
 //! The program over the system's files, words and streams.
-use crate::failure::Failure;
-use crate::obeying::{obey, report};
+use crate::commands::Context;
+use crate::obeying::obey_read;
 use crate::outcome::Outcome;
 use crate::style::Style;
 use crate::texts::TextSource;
-use std::alloc::Global;
 use std::fs::File;
-use std::io::{self, ErrorKind};
+use std::io;
 use std::rt::Runtime;
 use std::sync::Wait;
 use std::thread::Threads;
@@ -71,24 +70,13 @@ fn style_of<R: Runtime + AllocGlobal>(rt: &R, is_terminal: bool) -> Style {
 /// Does what the words of the program's command line ask for, and returns the outcome. `is_terminal` says whether the
 /// standard output is a terminal.
 pub fn run<R: Runtime + AllocGlobal + Threads + Wait + Sync>(rt: &R, is_terminal: bool) -> Outcome {
-    let words = match words_of(rt) {
-        Ok(words) => words,
-        Err(error) if error.kind() == ErrorKind::OutOfMemory => {
-            return report(rt, Err(Failure::Memory), Outcome::No);
-        }
-        Err(_) => {
-            let _ = rt.eprintln("error: a word of the command line is not UTF-8");
-            return Outcome::Unknown;
-        }
-    };
     let texts = System { rt };
-    obey(
+    let context = Context {
         rt,
-        rt.alloc(),
-        &texts,
-        words.as_slice(),
-        style_of(rt, is_terminal),
-        &mut io::writer(rt),
-        rt,
-    )
+        alloc: rt.alloc(),
+        texts: &texts,
+        err: rt,
+        style: style_of(rt, is_terminal),
+    };
+    obey_read(&context, words_of(rt), &mut io::writer(rt))
 }

@@ -4,9 +4,8 @@ ghost use Rattle.gt_text.specs.Streams.{OfInput};
 ghost use Rattle.gt_program.specs.Formats.{PlayedAs, RanAs, Relays};
 
 use crate::copying::CopyingReader;
-use crate::formats::{play_as, run_as};
+use crate::formats::{RunSettings, play_as, run_as};
 use crate::reasons::Reasons;
-use gt_audit::SharedLog;
 use gt_commands::Format;
 use gt_host::PlayFault;
 use gt_run::{Gate, RunFault};
@@ -37,36 +36,6 @@ pub(crate) fn play_with_reasons<R: Read, W: Write>(
     ending
 }
 
-/// The settings of a run: its threads, with a log or without, its gate, and the format of its output.
-#[derive(Drop)]
-pub(crate) struct RunSettings<'r, R, G> {
-    pub rt: &'r R,
-    pub alloc: Global,
-    pub format: Format,
-    pub log: Option<&'r SharedLog>,
-    pub gate: &'r G,
-}
-
-// Runs the script of a reader, its domains in threads.
-fn run_settled<R: Threads + Wait + Sync, I: Read, W: Write, G: Gate + Sync>(
-    settings: &RunSettings<R, G>,
-    reader: &mut I,
-    out: &mut W,
-) -> Result<(), RunFault>
-    ensures { OfInput (I.remaining reader.old) (λ input.
-        RanAs settings.now.format (is_some settings.now.log) input (W.contents out.old) (W.contents out.new) result) }
-{
-    run_as(
-        settings.rt,
-        settings.alloc,
-        settings.format,
-        reader,
-        out,
-        settings.log,
-        settings.gate,
-    )
-}
-
 // Writes the text that a run with this result wrote to memory. A write to memory fails only if an allocation does.
 fn relay<W: Write>(text: &[u8], ending: Result<(), RunFault>, out: &mut W) -> Result<(), RunFault>
     ensures { Relays text.now ending (W.contents out.old) (W.contents out.new) result }
@@ -94,11 +63,11 @@ pub(crate) fn run_with_reasons<R: Threads + Wait + Sync, I: Read, W: Write, G: G
         RanAs settings.now.format (is_some settings.now.log) input (W.contents out.old) (W.contents out.new) result) }
 {
     if !reasons.are_asked() {
-        return run_settled(settings, reader, out);
+        return run_as(settings, reader, out);
     }
     let mut input = CopyingReader::new(settings.alloc, reader);
     let mut text = Vec::new(settings.alloc);
-    let outcome = run_settled(settings, &mut input, &mut text);
+    let outcome = run_as(settings, &mut input, &mut text);
     let ending = relay(text.as_slice(), outcome, out);
     reasons.add_run(&input.kept, text.as_slice(), &ending);
     ending

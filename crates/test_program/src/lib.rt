@@ -5,3 +5,5 @@
 
 #[cfg(test)]
 mod plans;
+#[cfg(test)]
+mod words;

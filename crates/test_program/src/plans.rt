@@ -1,19 +1,10 @@
 //! Command lines, and their plans.
+use crate::words::words_of;
 use gt_commands::{
-    Exploration, Format, Invocation, MoreFiles, command_first, leading_word, plan, with_long_flags,
+    CheckedFiles, EntriesOptions, Exploration, Format, Invocation, MoreFiles, ScriptOptions, plan,
 };
 use gt_explore_verdict::Claim;
-use std::alloc::{AllocError, Global};
 use std::test::Fail;
-
-// Returns the words of a command line.
-fn words_of(alloc: Global, line: &str) -> Result<Vec<String>, AllocError> {
-    let mut words = Vec::new(alloc);
-    for word in line.split(' ') {
-        words.push(String::from_str(alloc, word)?)?;
-    }
-    Ok(words)
-}
 
 // No further FILEs.
 const NO_MORE: MoreFiles<'static> = MoreFiles {
@@ -26,51 +17,56 @@ const NO_MORE: MoreFiles<'static> = MoreFiles {
     eighth: None,
 };
 
-const PLANS: [(&str, Invocation<'static>); 38] = [
-    (
-        "gthost play",
-        Invocation::Play {
-            audit: false,
-            verbose: false,
-            format: Format::Text,
-            file: None,
-        },
-    ),
+// The options without flags, for the standard input.
+const PLAIN: ScriptOptions<'static> = ScriptOptions {
+    audit: false,
+    verbose: false,
+    format: Format::Text,
+    file: None,
+};
+
+const FILES: CheckedFiles<'static> = CheckedFiles {
+    format: Format::Text,
+    file: None,
+    more: NO_MORE,
+};
+
+const DUMP: EntriesOptions = EntriesOptions {
+    version: 1,
+    hex: false,
+    all: false,
+    script: None,
+};
+
+const PLANS: [(&str, Invocation<'static>); 41] = [
+    ("gthost play", Invocation::Play(PLAIN)),
     (
         "gthost play first.gt",
-        Invocation::Play {
-            audit: false,
-            verbose: false,
-            format: Format::Text,
+        Invocation::Play(ScriptOptions {
             file: Some("first.gt"),
-        },
+            ..PLAIN
+        }),
     ),
     (
         "gthost play -",
-        Invocation::Play {
-            audit: false,
-            verbose: false,
-            format: Format::Text,
+        Invocation::Play(ScriptOptions {
             file: Some("-"),
-        },
+            ..PLAIN
+        }),
     ),
     (
         "gthost play -- --help",
-        Invocation::Play {
-            audit: false,
-            verbose: false,
-            format: Format::Text,
+        Invocation::Play(ScriptOptions {
             file: Some("--help"),
-        },
+            ..PLAIN
+        }),
     ),
     (
         "gthost play first.gt --",
-        Invocation::Play {
-            audit: false,
-            verbose: false,
-            format: Format::Text,
+        Invocation::Play(ScriptOptions {
             file: Some("first.gt"),
-        },
+            ..PLAIN
+        }),
     ),
     (
         "gthost policy",
@@ -84,12 +80,14 @@ const PLANS: [(&str, Invocation<'static>); 38] = [
         "gthost check a.te b.te --format json c.te",
         Invocation::Check {
             script: false,
-            format: Format::Json,
-            file: Some("a.te"),
-            more: MoreFiles {
-                second: Some("b.te"),
-                third: Some("c.te"),
-                ..NO_MORE
+            files: CheckedFiles {
+                format: Format::Json,
+                file: Some("a.te"),
+                more: MoreFiles {
+                    second: Some("b.te"),
+                    third: Some("c.te"),
+                    ..NO_MORE
+                },
             },
         },
     ),
@@ -121,75 +119,68 @@ const PLANS: [(&str, Invocation<'static>); 38] = [
     ),
     (
         "gthost play policy",
-        Invocation::Play {
-            audit: false,
-            verbose: false,
-            format: Format::Text,
+        Invocation::Play(ScriptOptions {
             file: Some("policy"),
-        },
+            ..PLAIN
+        }),
     ),
     (
         "gthost play --audit",
-        Invocation::Play {
+        Invocation::Play(ScriptOptions {
             audit: true,
-            verbose: false,
-            format: Format::Text,
-            file: None,
-        },
+            ..PLAIN
+        }),
     ),
     (
         "gthost play --audit a.gt",
-        Invocation::Play {
+        Invocation::Play(ScriptOptions {
             audit: true,
-            verbose: false,
-            format: Format::Text,
             file: Some("a.gt"),
-        },
+            ..PLAIN
+        }),
     ),
     (
         "gthost play a.gt --audit",
-        Invocation::Play {
+        Invocation::Play(ScriptOptions {
             audit: true,
-            verbose: false,
-            format: Format::Text,
             file: Some("a.gt"),
-        },
+            ..PLAIN
+        }),
     ),
     (
         "gthost run a.gt",
-        Invocation::Run {
-            audit: false,
-            verbose: false,
-            format: Format::Text,
+        Invocation::Run(ScriptOptions {
             file: Some("a.gt"),
-        },
+            ..PLAIN
+        }),
     ),
     ("gthost rules N19", Invocation::Rules { rule: Some("N19") }),
     (
         "gthost check",
         Invocation::Check {
             script: false,
-            format: Format::Text,
-            file: None,
-            more: NO_MORE,
+            files: FILES,
         },
     ),
     (
         "gthost check --format json a.te",
         Invocation::Check {
             script: false,
-            format: Format::Json,
-            file: Some("a.te"),
-            more: NO_MORE,
+            files: CheckedFiles {
+                format: Format::Json,
+                file: Some("a.te"),
+                ..FILES
+            },
         },
     ),
     (
         "gthost check a.te --format=text",
         Invocation::Check {
             script: false,
-            format: Format::Text,
-            file: Some("a.te"),
-            more: NO_MORE,
+            files: CheckedFiles {
+                file: Some("a.te"),
+                ..FILES
+            },
         },
     ),
     (
@@ -213,10 +204,7 @@ const PLANS: [(&str, Invocation<'static>); 38] = [
     (
         "gthost entries --version 1",
         Invocation::Entries {
-            version: 1,
-            hex: false,
-            all: false,
-            script: None,
+            dump: DUMP,
             format: Format::Text,
             file: None,
         },
@@ -224,10 +212,12 @@ const PLANS: [(&str, Invocation<'static>); 38] = [
     (
         "gthost entries --hex --version=2 a.hex --all",
         Invocation::Entries {
-            version: 2,
-            hex: true,
-            all: true,
-            script: None,
+            dump: EntriesOptions {
+                version: 2,
+                hex: true,
+                all: true,
+                ..DUMP
+            },
             format: Format::Text,
             file: Some("a.hex"),
         },
@@ -235,10 +225,10 @@ const PLANS: [(&str, Invocation<'static>); 38] = [
     (
         "gthost entries --script 7 --version 1 -- --all",
         Invocation::Entries {
-            version: 1,
-            hex: false,
-            all: false,
-            script: Some(7),
+            dump: EntriesOptions {
+                script: Some(7),
+                ..DUMP
+            },
             format: Format::Text,
             file: Some("--all"),
         },
@@ -246,10 +236,10 @@ const PLANS: [(&str, Invocation<'static>); 38] = [
     (
         "gthost entries --version 1 --script 65535",
         Invocation::Entries {
-            version: 1,
-            hex: false,
-            all: false,
-            script: Some(65_535),
+            dump: EntriesOptions {
+                script: Some(65_535),
+                ..DUMP
+            },
             format: Format::Text,
             file: None,
         },
@@ -257,31 +247,30 @@ const PLANS: [(&str, Invocation<'static>); 38] = [
     (
         "gthost entries --version 1 --script=0 -",
         Invocation::Entries {
-            version: 1,
-            hex: false,
-            all: false,
-            script: Some(0),
+            dump: EntriesOptions {
+                script: Some(0),
+                ..DUMP
+            },
             format: Format::Text,
             file: Some("-"),
         },
     ),
     (
         "gthost play --format json --audit a.gt",
-        Invocation::Play {
+        Invocation::Play(ScriptOptions {
             audit: true,
-            verbose: false,
             format: Format::Json,
             file: Some("a.gt"),
-        },
+            ..PLAIN
+        }),
     ),
     (
         "gthost run a.gt --format=json",
-        Invocation::Run {
-            audit: false,
-            verbose: false,
+        Invocation::Run(ScriptOptions {
             format: Format::Json,
             file: Some("a.gt"),
-        },
+            ..PLAIN
+        }),
     ),
     (
         "gthost policy --format json",
@@ -295,39 +284,36 @@ const PLANS: [(&str, Invocation<'static>); 38] = [
         "gthost check --script a.gt",
         Invocation::Check {
             script: true,
-            format: Format::Text,
-            file: Some("a.gt"),
-            more: NO_MORE,
+            files: CheckedFiles {
+                file: Some("a.gt"),
+                ..FILES
+            },
         },
     ),
     (
         "gthost entries --version 2 --format json",
         Invocation::Entries {
-            version: 2,
-            hex: false,
-            all: false,
-            script: None,
+            dump: EntriesOptions { version: 2, ..DUMP },
             format: Format::Json,
             file: None,
         },
     ),
     (
         "gthost play --verbose a.gt --audit",
-        Invocation::Play {
+        Invocation::Play(ScriptOptions {
             audit: true,
             verbose: true,
-            format: Format::Text,
             file: Some("a.gt"),
-        },
+            ..PLAIN
+        }),
     ),
     (
         "gthost run --format json --verbose",
-        Invocation::Run {
-            audit: false,
+        Invocation::Run(ScriptOptions {
             verbose: true,
             format: Format::Json,
-            file: None,
-        },
+            ..PLAIN
+        }),
     ),
     (
         "gthost explore",
@@ -346,6 +332,35 @@ const PLANS: [(&str, Invocation<'static>); 38] = [
             },
             states: 500,
             file: Some("a.gt"),
+        },
+    ),
+    (
+        "gthost explore --never 12=N19 a.gt",
+        Invocation::Explore {
+            asked: Exploration::Decide {
+                claim: Claim::Never,
+                expression: "12=N19",
+            },
+            states: 100_000,
+            file: Some("a.gt"),
+        },
+    ),
+    (
+        "gthost explore --has seen.text --states 9",
+        Invocation::ExploreHas {
+            given: "seen.text",
+            states: 9,
+            file: None,
+        },
+    ),
+    (
+        "gthost check --never never.te a.te",
+        Invocation::CheckNever {
+            never: "never.te",
+            files: CheckedFiles {
+                file: Some("a.te"),
+                ..FILES
+            },
         },
     ),
     (
@@ -446,54 +461,6 @@ fn help_is_no_fault(rt: HostRuntime) -> Result<(), Fail> {
             Ok(_) => assert!(rt; false),
             Err(error) => assert_eq!(rt; error.use_stderr(), is_fault),
         }
-    }
-    Ok(())
-}
-
-// Lines, and the same with their long flags.
-const SPELLED: [(&str, &str); 5] = [
-    ("gthost play -v a.gt", "gthost play --verbose a.gt"),
-    ("gthost -v run -v", "gthost --verbose run --verbose"),
-    ("gthost play -v -- -v", "gthost play --verbose -- -v"),
-    ("gthost play -vv -V -", "gthost play -vv -V -"),
-    ("gthost rules", "gthost rules"),
-];
-
-#[test]
-fn a_letter_is_a_long_flag_before_the_mark(rt: HostRuntime) -> Result<(), Fail> {
-    let alloc = rt.alloc();
-    for (line, wanted) in SPELLED {
-        let words = words_of(alloc, line)?;
-        let wanted = words_of(alloc, wanted)?;
-        let spelled = with_long_flags(alloc, words.as_slice())?;
-        assert!(rt; spelled == wanted);
-    }
-    Ok(())
-}
-
-// Lines, the same with the command before its flags, and the word where the command is expected.
-const LED: [(&str, &str, &str); 6] = [
-    ("gthost -v play a.gt", "gthost play -v a.gt", "play"),
-    (
-        "gthost --verbose why a b copy",
-        "gthost why --verbose a b copy",
-        "why",
-    ),
-    ("gthost help run", "gthost run --help", "run"),
-    ("gthost help", "gthost --help", "help"),
-    ("gthost -v", "gthost -v", "-v"),
-    ("gthost play -v help", "gthost play -v help", "play"),
-];
-
-#[test]
-fn a_command_comes_before_its_flags(rt: HostRuntime) -> Result<(), Fail> {
-    let alloc = rt.alloc();
-    for (line, wanted, leading) in LED {
-        let words = words_of(alloc, line)?;
-        let wanted = words_of(alloc, wanted)?;
-        let first = command_first(alloc, words.as_slice())?;
-        assert!(rt; first == wanted);
-        assert_eq!(rt; leading_word(words.as_slice()), Some(leading));
     }
     Ok(())
 }

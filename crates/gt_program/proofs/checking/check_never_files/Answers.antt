@@ -8,8 +8,8 @@ use Rattle.gt_program.proofs.checking.check_never_files.Goals as goal
 
 pub returns-in-Some : goal.returns-in-Some
 returns-in-Some g c =
-    with_text _ (λ (given : List ℕ). ChecksAll (ChecksNever given) (g.T.TextSource.file c.args.context.now.texts.now) (g.T.TextSource.input c.args.context.now.texts.now) (option_map (λ f. f.now) c.args.file) (names_of c.args.more.now)) c.in-Some.bytes.items (g.W.Write.contents c.args.out.now) (g.W.Write.contents c.check_never_bytes.new.out) c.check_never_bytes.result c.in-Some.ensures
-    (subst (λ (b : List ℕ). OrNothing (ChecksAll (ChecksNever b) (g.T.TextSource.file c.args.context.now.texts.now) (g.T.TextSource.input c.args.context.now.texts.now) (option_map (λ f. f.now) c.args.file) (names_of c.args.more.now)) (g.W.Write.contents c.args.out.now) (g.W.Write.contents c.check_never_bytes.new.out) c.check_never_bytes.result) c.as_slice.ensures.value c.check_never_bytes.ensures)
+    with_text _ (λ (given : List ℕ). ChecksAll (ChecksNever given) (g.T.TextSource.file c.args.context.now.texts.now) (g.T.TextSource.input c.args.context.now.texts.now) (option_map (λ f. f.now) c.args.files.now.file) (names_of c.args.files.now.more)) c.in-Some.bytes.items (g.W.Write.contents c.args.out.now) (g.W.Write.contents c.check_never_bytes.new.out) c.check_never_bytes.result c.in-Some.ensures
+    (subst (λ (b : List ℕ). OrNothing (ChecksAll (ChecksNever b) (g.T.TextSource.file c.args.context.now.texts.now) (g.T.TextSource.input c.args.context.now.texts.now) (option_map (λ f. f.now) c.args.files.now.file) (names_of c.args.files.now.more)) (g.W.Write.contents c.args.out.now) (g.W.Write.contents c.check_never_bytes.new.out) c.check_never_bytes.result) c.as_slice.ensures.value c.check_never_bytes.ensures)
 
 pub returns-in-None : goal.returns-in-None
-returns-in-None g c = nothing_done _ (λ (given : List ℕ). ChecksAll (ChecksNever given) (g.T.TextSource.file c.args.context.now.texts.now) (g.T.TextSource.input c.args.context.now.texts.now) (option_map (λ f. f.now) c.args.file) (names_of c.args.more.now)) _ _ _ refl (keeps_same _)
+returns-in-None g c = nothing_done _ (λ (given : List ℕ). ChecksAll (ChecksNever given) (g.T.TextSource.file c.args.context.now.texts.now) (g.T.TextSource.input c.args.context.now.texts.now) (option_map (λ f. f.now) c.args.files.now.file) (names_of c.args.files.now.more)) _ _ _ refl (keeps_same _)

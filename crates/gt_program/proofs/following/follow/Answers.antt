@@ -1,9 +1,8 @@
-use Rattle.std.proofs.Common.{refl}
-use Rattle.gt_program.proofs.Obeyed.{as_planned, of_number, told}
+use Rattle.gt_program.proofs.Obeyed.{as_planned}
 use Rattle.gt_program.proofs.following.follow.Goals as goal
 
 pub returns-in-Play : goal.returns-in-Play
-returns-in-Play g c = as_planned _ _ _ _ _ _ _ c.in-Play.is c.work_asked.ensures
+returns-in-Play g c = as_planned _ _ _ _ _ _ _ c.in-Play.is c.play.ensures
 
 pub returns-in-Run : goal.returns-in-Run
 returns-in-Run g c = as_planned _ _ _ _ _ _ _ c.in-Run.is c.run_asked.ensures
@@ -15,7 +14,7 @@ pub returns-in-ExploreHas : goal.returns-in-ExploreHas
 returns-in-ExploreHas g c = as_planned _ _ _ _ _ _ _ c.in-ExploreHas.is c.find_text.ensures
 
 pub returns-in-Policy : goal.returns-in-Policy
-returns-in-Policy g c = as_planned _ _ _ _ _ _ _ c.in-Policy.is c.work_asked-in-Policy.ensures
+returns-in-Policy g c = as_planned _ _ _ _ _ _ _ c.in-Policy.is c.work_asked.ensures
 
 pub returns-in-Check : goal.returns-in-Check
 returns-in-Check g c = as_planned _ _ _ _ _ _ _ c.in-Check.is c.check_files.ensures
@@ -30,6 +29,4 @@ pub returns-in-WhyEach : goal.returns-in-WhyEach
 returns-in-WhyEach g c = as_planned _ _ _ _ _ _ _ c.in-WhyEach.is c.answer_each.ensures
 
 pub returns-in-Entries : goal.returns-in-Entries
-returns-in-Entries g c =
-    as_planned _ _ _ _ _ _ _ c.in-Entries.is
-    (of_number _ _ _ _ _ _ _ _ _ _ c.domain-script.ensures (told _ _ _ _ _ _ _ _ _ _ (refl, refl, refl, refl) c.work_asked-in-Entries.ensures))
+returns-in-Entries g c = as_planned _ _ _ _ _ _ _ c.in-Entries.is c.show_entries.ensures

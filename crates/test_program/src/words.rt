@@ -1,0 +1,63 @@
+//! The words of command lines: flags by their letters, and commands after their flags.
+use gt_commands::{command_first, leading_word, with_long_flags};
+use std::alloc::{AllocError, Global};
+use std::test::Fail;
+
+/// Returns the words of a command line.
+pub(crate) fn words_of(alloc: Global, line: &str) -> Result<Vec<String>, AllocError> {
+    let mut words = Vec::new(alloc);
+    for word in line.split(' ') {
+        words.push(String::from_str(alloc, word)?)?;
+    }
+    Ok(words)
+}
+
+// Lines, and the same with their long flags.
+const SPELLED: [(&str, &str); 5] = [
+    ("gthost play -v a.gt", "gthost play --verbose a.gt"),
+    ("gthost -v run -v", "gthost --verbose run --verbose"),
+    ("gthost play -v -- -v", "gthost play --verbose -- -v"),
+    ("gthost play -vv -V -", "gthost play -vv -V -"),
+    ("gthost rules", "gthost rules"),
+];
+
+#[test]
+fn a_letter_is_a_long_flag_before_the_mark(rt: HostRuntime) -> Result<(), Fail> {
+    let alloc = rt.alloc();
+    for (line, wanted) in SPELLED {
+        let words = words_of(alloc, line)?;
+        let wanted = words_of(alloc, wanted)?;
+        let spelled = with_long_flags(alloc, words.as_slice())?;
+        assert!(rt; spelled == wanted);
+    }
+    Ok(())
+}
+
+// Lines, the same with the command before its flags, and the word where the command is expected.
+const LED: [(&str, &str, &str); 8] = [
+    ("gthost -v play a.gt", "gthost play -v a.gt", "play"),
+    (
+        "gthost --verbose why a b copy",
+        "gthost why --verbose a b copy",
+        "why",
+    ),
+    ("gthost help run", "gthost run --help", "run"),
+    ("gthost help", "gthost --help", "help"),
+    ("gthost -v help", "gthost --help", "help"),
+    ("gthost -v help run", "gthost run --help", "run"),
+    ("gthost -v", "gthost -v", "-v"),
+    ("gthost play -v help", "gthost play -v help", "play"),
+];
+
+#[test]
+fn a_command_comes_before_its_flags(rt: HostRuntime) -> Result<(), Fail> {
+    let alloc = rt.alloc();
+    for (line, wanted, leading) in LED {
+        let words = words_of(alloc, line)?;
+        let wanted = words_of(alloc, wanted)?;
+        let first = command_first(alloc, words.as_slice())?;
+        assert!(rt; first == wanted);
+        assert_eq!(rt; leading_word(words.as_slice()), Some(leading));
+    }
+    Ok(())
+}
