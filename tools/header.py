@@ -5,7 +5,8 @@ It reads the `#[repr(C)]` structs, the exports and the numbers of gt_c and of th
 asserts them again, by the layout rules of C with pointers of 8 bytes: each export with its types, the size of each struct and the offset of each
 field, and the number of each name. A declaration that differs from the header's is an error of the compiler. What the
 one side has and the other has not is an error here, and so is an export of a pointer without a function of the header
-in front of it that tests the pointer. The same is done for the structs and functions of contrib/rust.
+in front of it that tests the pointer. The same is done for the structs and functions of contrib/rust. The lines of the
+rules have to be those of `gthost rules`.
 """
 
 import pathlib
@@ -244,6 +245,15 @@ def compare_versions(header, text):
         raise SystemExit(f"header: the versions of header, library and program differ: {sorted(numbers)}")
 
 
+def compare_rules(text):
+    """The library's lines of the rules are those that `gthost rules` prints (crates/cases_program/stdout)."""
+    made = re.sub(r"\\\n\s*", "", re.search(r"const LINES: .*?= \[(.*?)\];", text, re.S).group(1))
+    printed = (TOP / "crates" / "cases_program" / "stdout").read_text(encoding="utf-8").split("\n")
+    missing = [line for line in re.findall(r'"(N\d+ [^"]*)"', made) if line not in printed]
+    if missing:
+        raise SystemExit(f"header: gthost rules does not print {missing[0]}")
+
+
 def compare_names(what, declared, made):
     if declared != made:
         raise SystemExit(f"header: {what} that one side lacks: {' '.join(sorted(declared ^ made))}")
@@ -261,6 +271,7 @@ def main():
     compare_names("structs", set(re.findall(r"^struct (\w+) \{", header, re.M)), set(STRUCTS.values()))
     compare_names("numbers", set(re.findall(r"\b(GTHOST_\w+) =", header)), set(said) | ZEROS | set(OF_XEN))
     compare_versions(header, text)
+    compare_rules(text)
     compare_order(header, made)
     compare_order(header, rust_made)
     print('#include "gthost.h"\n')
