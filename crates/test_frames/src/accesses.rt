@@ -9,7 +9,7 @@ use gt_frames::{FrameName, Spot};
 use gt_roster::Roster;
 use gt_types::{Allows, Config, Perms, StartFault, TypeId};
 use gt_words::{Seat, Words};
-use std::alloc::Global;
+use std::alloc::{AllocError, Global};
 use std::process::Abort;
 use std::sync::Wait;
 use std::test::Fail;
@@ -108,13 +108,29 @@ fn first_bytes<R: Wait>(
 
 // The two ends of a copy of four bytes, each as frame and offset, whether it is made, and the first bytes of the frame
 // written then.
-const COPIES: [((u64, u16), (u64, u16), bool, &str); 5] = [
-    ((0, 0), (0, 1), true, "[1, 1, 2, 3, 4, 0]"),
-    ((0, 1), (1, 2), true, "[0, 0, 1, 2, 3, 4]"),
-    ((1, 2), (0, 0), true, "[1, 2, 3, 4, 4, 0]"),
-    ((1, 0), (2, 0), false, "none"),
-    ((2, 0), (1, 0), false, "[0, 0, 1, 2, 3, 4]"),
+static COPIES: [((u64, u16), (u64, u16), &str); 5] = [
+    ((0, 0), (0, 1), "true [1, 1, 2, 3, 4, 0]"),
+    ((0, 1), (1, 2), "true [0, 0, 1, 2, 3, 4]"),
+    ((1, 2), (0, 0), "true [1, 2, 3, 4, 4, 0]"),
+    ((1, 0), (2, 0), "false none"),
+    ((2, 0), (1, 0), "false [0, 0, 1, 2, 3, 4]"),
 ];
+
+// Copies four bytes between two of its own frames. Returns whether it did, and how the frame written to then begins.
+fn said<R: Wait>(
+    rt: &R,
+    alloc: Global,
+    run: &AccessContext<'_, Everything>,
+    seat: &mut Seat,
+    from: (u64, u16),
+    to: (u64, u16),
+) -> Result<String, AllocError>
+    requires { IsSeatOf run.now.words.now seat.old }
+    ensures { IsSeatOf run.now.words.now seat.new }
+{
+    let done = copied(rt, run, seat, from, to);
+    text(alloc, done, first_bytes(rt, run, seat, to.0))
+}
 
 #[test]
 fn own_frames_are_written_copied_and_read(rt: HostRuntime) -> Result<(), Fail> {
@@ -127,11 +143,10 @@ fn own_frames_are_written_copied_and_read(rt: HostRuntime) -> Result<(), Fail> {
         config: &roster,
         rights: &Everything,
     };
-    let begun = wrote(&rt, &run, &mut seat, 0);
-    'copies: for (from, to, done, bytes) in COPIES {
-        let answer = copied(&rt, &run, &mut seat, from, to);
-        let text = text(alloc, first_bytes(&rt, &run, &mut seat, to.0))?;
-        assert_eq!(rt; (begun, answer, text.as_str()), (true, done, bytes));
+    assert!(rt; wrote(&rt, &run, &mut seat, 0));
+    'copies: for (from, to, wanted) in COPIES.iter() {
+        let said = said(&rt, alloc, &run, &mut seat, *from, *to)?;
+        assert_eq!(rt; said.as_str(), *wanted);
     }
     Ok(())
 }

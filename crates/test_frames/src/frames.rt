@@ -2,6 +2,7 @@
 use crate::places::{BYTES, at, config, text};
 use gt_frames::{FrameName, Frames, Spot, Writ, WriteBasis};
 use gt_types::{DomId, Range};
+use std::alloc::{AllocError, Global};
 use std::test::Fail;
 use test_rows::spot;
 
@@ -45,41 +46,45 @@ fn first_bytes(frames: &Frames, name: FrameName) -> Option<[u8; 6]> {
 // The two ends of a copy, its length, whether it is made, and the first bytes of the frame written then: two frames of
 // a domain, in both directions, one frame upwards and downwards over itself, and two frames of two domains, in both
 // directions.
-const COPIES: [(Spot, Spot, u16, bool, &str); 11] = [
-    (at!(1, 0, 0), at!(1, 1, 1), 4, true, "[0, 1, 2, 3, 4, 0]"),
-    (at!(1, 1, 1), at!(1, 0, 2), 2, true, "[1, 2, 1, 2, 0, 0]"),
-    (at!(1, 1, 1), at!(1, 1, 2), 4, true, "[0, 1, 1, 2, 3, 4]"),
-    (at!(1, 1, 2), at!(1, 1, 0), 4, true, "[1, 2, 3, 4, 3, 4]"),
-    (at!(1, 1, 0), at!(2, 1, 0), 4096, true, "[1, 2, 3, 4, 3, 4]"),
-    (at!(2, 1, 4), at!(1, 0, 0), 1, true, "[3, 2, 1, 2, 0, 0]"),
-    (at!(2, 0, 0), at!(2, 1, 0), 2, true, "[0, 0, 3, 4, 3, 4]"),
+static COPIES: [(Spot, Spot, u16, &str); 11] = [
+    (at!(1, 0, 0), at!(1, 1, 1), 4, "true [0, 1, 2, 3, 4, 0]"),
+    (at!(1, 1, 1), at!(1, 0, 2), 2, "true [1, 2, 1, 2, 0, 0]"),
+    (at!(1, 1, 1), at!(1, 1, 2), 4, "true [0, 1, 1, 2, 3, 4]"),
+    (at!(1, 1, 2), at!(1, 1, 0), 4, "true [1, 2, 3, 4, 3, 4]"),
+    (at!(1, 1, 0), at!(2, 1, 0), 4096, "true [1, 2, 3, 4, 3, 4]"),
+    (at!(2, 1, 4), at!(1, 0, 0), 1, "true [3, 2, 1, 2, 0, 0]"),
+    (at!(2, 0, 0), at!(2, 1, 0), 2, "true [0, 0, 3, 4, 3, 4]"),
     (
         at!(2, 1, 4096),
         at!(1, 0, 4096),
         0,
-        true,
-        "[3, 2, 1, 2, 0, 0]",
+        "true [3, 2, 1, 2, 0, 0]",
     ),
-    (
-        at!(2, 1, 4096),
-        at!(1, 0, 0),
-        1,
-        false,
-        "[3, 2, 1, 2, 0, 0]",
-    ),
-    (at!(2, 2, 0), at!(1, 0, 0), 1, false, "[3, 2, 1, 2, 0, 0]"),
-    (at!(2, 1, 0), at!(3, 0, 0), 1, false, "none"),
+    (at!(2, 1, 4096), at!(1, 0, 0), 1, "false [3, 2, 1, 2, 0, 0]"),
+    (at!(2, 2, 0), at!(1, 0, 0), 1, "false [3, 2, 1, 2, 0, 0]"),
+    (at!(2, 1, 0), at!(3, 0, 0), 1, "false none"),
 ];
+
+// Copies, and returns whether it did, and how the frame written to then begins.
+fn said(
+    alloc: Global,
+    frames: &mut Frames,
+    from: Spot,
+    to: Spot,
+    len: u16,
+) -> Result<String, AllocError> {
+    let done = copied(frames, from, to, len);
+    text(alloc, done, first_bytes(frames, to.frame))
+}
 
 #[test]
 fn frames_are_copied_by_name(rt: HostRuntime) -> Result<(), Fail> {
     let alloc = rt.alloc();
     let mut frames = Frames::new(alloc, &config(alloc)?)?;
-    let begun = wrote(&mut frames, at!(1, 0, 0), &BYTES);
-    for (from, to, len, done, bytes) in COPIES {
-        let answer = copied(&mut frames, from, to, len);
-        let text = text(alloc, first_bytes(&frames, to.frame))?;
-        assert_eq!(rt; (begun, answer, text.as_str()), (true, done, bytes));
+    assert!(rt; wrote(&mut frames, at!(1, 0, 0), &BYTES));
+    for (from, to, len, wanted) in COPIES.iter() {
+        let said = said(alloc, &mut frames, *from, *to, *len)?;
+        assert_eq!(rt; said.as_str(), *wanted);
     }
     Ok(())
 }

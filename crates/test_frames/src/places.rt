@@ -34,10 +34,10 @@ macro_rules! at {
 
 pub(crate) use at;
 
-/// Returns the bytes that were read as a text, or that there is no such frame.
-pub fn text(alloc: Global, read: Option<[u8; 6]>) -> Result<String, AllocError> {
+/// Returns as a text whether a copy was made, and the bytes that were read, or that there is no such frame.
+pub fn text(alloc: Global, done: bool, read: Option<[u8; 6]>) -> Result<String, AllocError> {
     match read {
-        Some(bytes) => format!(in alloc; "{bytes:?}"),
-        None => format!(in alloc; "none"),
+        Some(bytes) => format!(in alloc; "{done} {bytes:?}"),
+        None => format!(in alloc; "{done} none"),
     }
 }

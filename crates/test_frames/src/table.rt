@@ -7,7 +7,7 @@ use crate::places::{BYTES, at, config, text};
 use gt_frames::{FrameName, Spot, Writ, WriteBasis};
 use gt_types::{DomId, StartFault};
 use gt_words::{Seat, Words};
-use std::alloc::Global;
+use std::alloc::{AllocError, Global};
 use std::process::Abort;
 use std::sync::Wait;
 use std::test::Fail;
@@ -77,25 +77,40 @@ fn copied<R: Wait>(rt: &R, words: &Words, seat: &mut Seat, from: Spot, to: Spot)
 // The two ends of a copy, whether it is made, and the first bytes of the frame written then. Both ends are in one
 // frame, upwards and downwards over itself, in two frames of a domain and of two domains, with the lower slot as
 // source and as destination, and in frames that do not exist.
-const COPIES: [(Spot, Spot, bool, &str); 7] = [
-    (at!(1, 0, 0), at!(1, 0, 1), true, "[1, 1, 2, 3, 4, 0]"),
-    (at!(1, 0, 1), at!(1, 0, 0), true, "[1, 2, 3, 4, 4, 0]"),
-    (at!(1, 0, 0), at!(1, 1, 2), true, "[0, 0, 1, 2, 3, 4]"),
-    (at!(1, 1, 2), at!(2, 1, 0), true, "[1, 2, 3, 4, 0, 0]"),
-    (at!(2, 1, 1), at!(1, 0, 0), true, "[2, 3, 4, 0, 4, 0]"),
-    (at!(1, 0, 0), at!(2, 2, 0), false, "none"),
-    (at!(3, 0, 0), at!(1, 0, 0), false, "[2, 3, 4, 0, 4, 0]"),
+static COPIES: [(Spot, Spot, &str); 7] = [
+    (at!(1, 0, 0), at!(1, 0, 1), "true [1, 1, 2, 3, 4, 0]"),
+    (at!(1, 0, 1), at!(1, 0, 0), "true [1, 2, 3, 4, 4, 0]"),
+    (at!(1, 0, 0), at!(1, 1, 2), "true [0, 0, 1, 2, 3, 4]"),
+    (at!(1, 1, 2), at!(2, 1, 0), "true [1, 2, 3, 4, 0, 0]"),
+    (at!(2, 1, 1), at!(1, 0, 0), "true [2, 3, 4, 0, 4, 0]"),
+    (at!(1, 0, 0), at!(2, 2, 0), "false none"),
+    (at!(3, 0, 0), at!(1, 0, 0), "false [2, 3, 4, 0, 4, 0]"),
 ];
+
+// Copies, and returns whether it did, and how the frame written to then begins.
+fn said<R: Wait>(
+    rt: &R,
+    alloc: Global,
+    words: &Words,
+    seat: &mut Seat,
+    from: Spot,
+    to: Spot,
+) -> Result<String, AllocError>
+    requires { IsSeatOf words.now seat.old }
+    ensures { IsSeatOf words.now seat.new }
+{
+    let done = copied(rt, words, seat, from, to);
+    text(alloc, done, first_bytes(rt, words, seat, to.frame))
+}
 
 #[test]
 fn frames_are_copied_in_the_table(rt: HostRuntime) -> Result<(), Fail> {
     let alloc = rt.alloc();
     let (words, mut seat, _) = start(&rt, alloc)?;
-    let begun = wrote(&rt, &words, &mut seat, HERE.frame);
-    'copies: for (from, to, done, bytes) in COPIES {
-        let answer = copied(&rt, &words, &mut seat, from, to);
-        let text = text(alloc, first_bytes(&rt, &words, &mut seat, to.frame))?;
-        assert_eq!(rt; (begun, answer, text.as_str()), (true, done, bytes));
+    assert!(rt; wrote(&rt, &words, &mut seat, HERE.frame));
+    'copies: for (from, to, wanted) in COPIES.iter() {
+        let said = said(&rt, alloc, &words, &mut seat, *from, *to)?;
+        assert_eq!(rt; said.as_str(), *wanted);
     }
     Ok(())
 }
@@ -142,10 +157,12 @@ fn two_threads_copy_forth_and_back(rt: HostRuntime) -> Result<(), Fail> {
     let begun = wrote(&rt, &words, &mut one, HERE.frame)
         && wrote(&rt, &words, &mut one, THERE.frame);
     let counts = forth_and_back(&rt, &words, &mut one, other);
-    let text = text(alloc, first_bytes(&rt, &words, &mut one, THERE.frame))?;
-    assert_eq!(rt;
-        (begun, counts, text.as_str()),
-        (true, (1000, 1000), "[1, 2, 3, 4, 0, 0]")
-    );
+    assert_eq!(rt; counts, (1000, 1000));
+    let text = text(
+        alloc,
+        begun,
+        first_bytes(&rt, &words, &mut one, THERE.frame),
+    )?;
+    assert_eq!(rt; text.as_str(), "true [1, 2, 3, 4, 0, 0]");
     Ok(())
 }
