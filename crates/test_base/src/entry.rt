@@ -5,8 +5,8 @@ use gt_entry::{
 use gt_types::{Dir, DomId, Field, GrantRef, Range, Use};
 use test_rows::{page, sub, via};
 
-// Page entries for domain 2: with frames 5 and 6, with frame 5 read-only, with the largest frame number of version 1, and
-// with the next one.
+// Page entries for domain 2: with frames 5 and 6, with frame 5 read-only, with the largest frame number of version 1,
+// and with the next one.
 const PAGE: Entry = page!(DomId(2), false, 5);
 
 const PAGE_6: Entry = page!(DomId(2), false, 6);
@@ -105,7 +105,8 @@ fn packs_headers(rt: HostRuntime) {
 // A part of a page that may be written, for domain 2.
 const WRITABLE_SUB: Entry = sub!(DomId(2), 5, 100, 50);
 
-// Ranges: the part itself, one that passes its end by a byte, an empty one at its end, and empty ones beyond either end.
+// Ranges: the part itself, one that passes its end by a byte, an empty one at its end, and empty ones beyond either
+// end.
 static RANGES: [Range; 5] = [
     Range { off: 100, len: 50 },
     Range { off: 149, len: 2 },
