@@ -146,8 +146,8 @@ fn map_and_take<D: Calls>(alloc: Global, domain: &mut D, gref: u32, rounds: u32)
     done
 }
 
-// Returns the copy that a thread makes: from the owner's page to a frame of the thread's domain, or from one page of the
-// owner's to another, through two entries of the middle domain.
+// Returns the copy that a thread makes: from the owner's page to a frame of the thread's domain, or from one page of
+// the owner's to another, through two entries of the middle domain.
 fn copy_of(accesses: Accesses) -> CopyArgs {
     let Accesses { moves, gref, len } = accesses;
     let forwards = matches!(moves, Moves::Forwards);

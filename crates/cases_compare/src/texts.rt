@@ -7,8 +7,8 @@ use gt_script::Text;
 use std::alloc::{AllocError, Global};
 use test_monitor::Calls;
 
-// The records of all domains except the last, next to those of a text: the first domain whose records differ, the number
-// of its records with the lost ones, and the number of those in the text.
+// The records of all domains except the last, next to those of a text: the first domain whose records differ, the
+// number of records with the lost ones, and the number of those in the text.
 #[derive(Clone, Copy)]
 struct Records {
     differs: Option<u16>,

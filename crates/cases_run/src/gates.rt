@@ -25,7 +25,7 @@ fn bit(flag: usize) -> u64 {
 }
 
 // The domains that a gate lets through.
-#[derive(Clone, Copy, PartialEq, Eq)]
+#[derive(Clone, Copy)]
 enum Way {
     /// None, and it returns false at once.
     Closed,
@@ -156,7 +156,7 @@ impl<'l> Gate for Turns<'l> {
     fn pass(&self, flag: usize) -> bool {
         self.note_awaited();
         self.callers.fetch_add(1, Ordering::SeqCst);
-        if self.way == Way::Closed {
+        if matches!(self.way, Way::Closed) {
             return false;
         }
         for _ in 0..TURNS {

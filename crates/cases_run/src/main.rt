@@ -52,7 +52,7 @@ enum Mode {
 }
 
 // The words of command lines, with what they specify.
-const MODES: [(&str, Mode); 14] = [
+static MODES: [(&str, Mode); 14] = [
     ("--run", Mode::Run),
     ("--audit", Mode::Audit),
     ("--failing", Mode::Failing),
@@ -130,7 +130,7 @@ impl Cases for RunCases {
             Mode::Meet(count) => gate_said(rt, alloc, text, &Turns::meeting(count)),
             Mode::Told => records_said(rt, alloc, text, true),
             Mode::Awaited => records_said(rt, alloc, text, false),
-            Mode::Refusing => refusing_said(rt, alloc, text),
+            Mode::Refusing => Ok(refusing_said(rt, alloc, text)?),
             Mode::Made(repetition) => made_said(rt, alloc, text, repetition),
         }
     }

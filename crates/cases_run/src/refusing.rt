@@ -1,13 +1,14 @@
 //! Runs in which threads and allocations fail, each in turn.
 use crate::likeness::{Shortage, lacks};
 use crate::made::push_each;
-use crate::running::RunJob;
+use crate::running::flags_said;
 use crate::scarce::{End, GAP, Place, Scarce, run_scarce};
 use gt_audit::SharedLog;
+use gt_types::Memory;
 use std::alloc::{AllocError, Global};
 use std::sync::{Mutex, Wait};
 use std::thread::Threads;
-use test_cases::{Job, UNLIMITED};
+use test_cases::UNLIMITED;
 use test_flood::Flood;
 
 // More bytes than any worked script prints.
@@ -22,6 +23,10 @@ const FINE: usize = 32_768;
 const PAGE: usize = 4_096;
 
 const TRIES: usize = 4_096;
+
+// The addresses that domains find when lists run, for the memory that is held back and let through. Without them the
+// pieces that an earlier stage left can be too small.
+const SPACE: usize = 16 << 20;
 
 // A stack takes a little less: 8 MiB and its guard. This is kept for each until it is wanted, since a flood that was
 // closed may leave no piece of that size.
@@ -54,9 +59,12 @@ impl Seen {
 
     // Notes the end of a run that wrote nothing. Returns whether it is one of memory or of a thread.
     fn note_start(&mut self, end: End) -> bool {
-        self.memory = self.memory || end == End::Memory;
-        self.thread = self.thread || end == End::Thread;
-        end == End::Memory || end == End::Thread
+        match end {
+            End::Memory => self.memory = true,
+            End::Thread => self.thread = true,
+            _ => return false,
+        }
+        true
     }
 
     // Adds the name of a call.
@@ -70,7 +78,7 @@ impl Seen {
 
     // Adds the result of a run.
     fn add(&mut self, script: &str, end: End, lacked: Shortage) -> Result<(), AllocError> {
-        self.memory = self.memory || end == End::Memory;
+        self.memory = self.memory || matches!(end, End::Memory);
         self.lost = self.lost || lacked.lost > 0;
         match lacked.denied {
             Some(number) => self.add_call(call_of(script, number)),
@@ -113,12 +121,12 @@ fn keep_stacks<R: Threads + Wait + Sync>(
     rt: &R,
     alloc: Global,
     count: usize,
-) -> anyhow::Result<()> {
+) -> Result<(), Memory> {
     let mut script = String::from_str(alloc, "triple a_t a_t query\n")?;
     let end = count.saturating_add(1);
     push_each(&mut script, alloc, "domain @ u:r:a_t 1 1 1\n", "@", 1..end)?;
     script.push_str("tell 1 x\n")?;
-    RunJob.said(rt, alloc, script.as_bytes(), false, UNLIMITED)?;
+    flags_said(rt, alloc, script.as_bytes(), false, UNLIMITED)?;
     Ok(())
 }
 
@@ -157,7 +165,7 @@ struct Trials<'t, R: Wait> {
 
 impl<'t, R: Threads + Wait + Sync> Trials<'t, R> {
     // Makes a run that has only these bytes at a stage.
-    fn try_once(&self, place: Place, left: usize) -> anyhow::Result<Tried> {
+    fn try_once(&self, place: Place, left: usize) -> Result<Tried, Memory> {
         let gate = Scarce::new(self.rt, self.alloc, self.flood, place, left)?;
         let log = SharedLog::new(self.alloc)?;
         let mut text = Vec::with_capacity(self.alloc, ROOM)?;
@@ -173,10 +181,10 @@ impl<'t, R: Threads + Wait + Sync> Trials<'t, R> {
 
     // Refuses each thread in turn: keeps the space of a stack for each at first, and then for one less each time.
     // Returns the number of threads before the first run that did not end with that fault, or that ran a list.
-    fn untold_thread(&self, mut stacks: Vec<Vec<u8>>) -> anyhow::Result<Option<usize>> {
+    fn untold_thread(&self, mut stacks: Vec<Vec<u8>>) -> Result<Option<usize>, Memory> {
         for held in 0..stacks.len() {
             let tried = self.try_once(Place::Start, GAP)?;
-            if tried.end != End::Thread || !tried.is_quiet {
+            if !matches!(tried.end, End::Thread) || !tried.is_quiet {
                 return Ok(Some(held));
             }
             drop(stacks.pop());
@@ -187,7 +195,7 @@ impl<'t, R: Threads + Wait + Sync> Trials<'t, R> {
 
     // Lets memory run out before a script is read. Returns the memory that was left to the first run with a wrong
     // result: a run must end with the fault of memory or of a thread and write nothing, or print its whole text.
-    fn untold_at_start(&self, seen: &mut Seen) -> anyhow::Result<Option<usize>> {
+    fn untold_at_start(&self, seen: &mut Seen) -> Result<Option<usize>, Memory> {
         let mut gate = Scarce::new(self.rt, self.alloc, self.flood, Place::Start, 0)?;
         let log = SharedLog::new(self.alloc)?;
         let mut text = Vec::with_capacity(self.alloc, ROOM)?;
@@ -201,28 +209,31 @@ impl<'t, R: Threads + Wait + Sync> Trials<'t, R> {
             left = left.saturating_add(if left < FINE { STEP } else { PAGE });
         }
         gate.open();
-        let is_whole = end == End::Done && text.as_slice() == self.whole.as_bytes();
+        let is_whole = matches!(end, End::Done) && text.as_slice() == self.whole.as_bytes();
         Ok(if is_whole { None } else { Some(left) })
     }
 
     // Lets memory run out when lists already run. Returns the memory that was left to the first run with a wrong
     // result.
-    fn untold_from(&self, place: Place, seen: &mut Seen) -> anyhow::Result<Option<usize>> {
+    fn untold_from(&self, place: Place, seen: &mut Seen) -> Result<Option<usize>, Memory> {
         let mut left = 0usize;
         for _ in 0..TRIES {
             let Tried { end, text, .. } = self.try_once(place, left)?;
             match judged(self.whole, end, text.as_slice()) {
                 None => break,
-                Some(lacked) if end == End::Done && lacked.is_nothing() => return Ok(None),
+                Some(lacked) if matches!(end, End::Done) && lacked.is_nothing() => return Ok(None),
                 Some(lacked) => seen.add(self.script, end, lacked)?,
             }
-            left = left.saturating_add(if place == Place::Write { STEP } else { PAGE });
+            left = left.saturating_add(match place {
+                Place::Write => STEP,
+                _ => PAGE,
+            });
         }
         Ok(Some(left))
     }
 
     // Does the same at every second flag, the second one first.
-    fn lists_said(&self) -> anyhow::Result<String> {
+    fn lists_said(&self) -> Result<String, Memory> {
         let mut seen = Seen::nothing(self.alloc);
         let mut untold = None;
         for pair in 0..count_of(self.script, "tell ") / 2 {
@@ -235,7 +246,7 @@ impl<'t, R: Threads + Wait + Sync> Trials<'t, R> {
     }
 
     // Returns the result of the runs in which threads are refused.
-    fn threads_said(&self) -> anyhow::Result<String> {
+    fn threads_said(&self) -> Result<String, Memory> {
         let mut stacks = Vec::new(self.alloc);
         for _ in 0..count_of(self.script, "domain ") {
             stacks.push(Vec::with_capacity(self.alloc, STACK)?)?;
@@ -251,48 +262,25 @@ impl<'t, R: Threads + Wait + Sync> Trials<'t, R> {
         })
     }
 
-    fn start_said(&self) -> anyhow::Result<String> {
+    fn start_said(&self) -> Result<String, Memory> {
         let mut seen = Seen::nothing(self.alloc);
         let untold = self.untold_at_start(&mut seen)?;
         Ok(place_said(self.alloc, "before lists run", &seen, untold)?)
     }
 
-    fn write_said(&self) -> anyhow::Result<String> {
+    fn write_said(&self) -> Result<String, Memory> {
         let mut seen = Seen::nothing(self.alloc);
         let untold = self.untold_from(Place::Write, &mut seen)?;
         Ok(place_said(self.alloc, "while it writes", &seen, untold)?)
     }
 
-    // Appends the results of the runs in which memory runs out.
-    fn push_said(&self, out: &mut String) -> anyhow::Result<()> {
+    // Appends the results of the runs in which memory runs out. The space is kept until lists run.
+    fn push_said(&self, space: Vec<u8>, out: &mut String) -> Result<(), Memory> {
         out.push_str(self.start_said()?.as_str())?;
+        drop(space);
         out.push_str(self.lists_said()?.as_str())?;
         Ok(out.push_str(self.write_said()?.as_str())?)
     }
-}
-
-// Appends the results of the runs in which threads are refused, or of those in which memory runs out if the whole text
-// is there.
-fn push_refused<R: Threads + Wait + Sync>(
-    rt: &R,
-    alloc: Global,
-    flood: &Mutex<Flood>,
-    script: &str,
-    whole: &str,
-    out: &mut String,
-) -> anyhow::Result<()> {
-    let trials = Trials {
-        rt,
-        alloc,
-        flood,
-        script,
-        whole,
-    };
-    if whole.is_empty() {
-        out.push_str(trials.threads_said()?.as_str())?;
-        return Ok(());
-    }
-    trials.push_said(out)
 }
 
 /// Returns what a script prints with its records, and what fails when threads and memory run out, at each stage and
@@ -303,21 +291,28 @@ pub fn refusing_said<R: Threads + Wait + Sync>(
     rt: &R,
     alloc: Global,
     script: &[u8],
-) -> anyhow::Result<Vec<u8>> {
-    let text = str::from_utf8(script)?;
+) -> Result<Vec<u8>, Memory> {
+    let text = str::from_utf8(script).unwrap_or("");
+    let space = Vec::with_capacity(alloc, SPACE)?;
     let flood = Mutex::new(Flood::new(alloc)?);
-    let mut said = String::new(alloc);
     // Threads first, before any run leaves its stacks.
-    push_refused(rt, alloc, &flood, text, "", &mut said)?;
-    let mut out = RunJob.said(rt, alloc, script, true, UNLIMITED)?;
-    push_refused(
+    let mut said = Trials {
         rt,
         alloc,
-        &flood,
-        text,
-        str::from_utf8(out.as_slice())?,
-        &mut said,
-    )?;
+        flood: &flood,
+        script: text,
+        whole: "",
+    }
+    .threads_said()?;
+    let mut out = flags_said(rt, alloc, script, true, UNLIMITED)?;
+    Trials {
+        rt,
+        alloc,
+        flood: &flood,
+        script: text,
+        whole: str::from_utf8(out.as_slice()).unwrap_or(""),
+    }
+    .push_said(space, &mut said)?;
     out.extend_from_slice(said.as_bytes())?;
     Ok(out)
 }

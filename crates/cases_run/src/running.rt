@@ -1,6 +1,7 @@
 //! Runs over memory.
 use gt_audit::SharedLog;
 use gt_run::{FlagGate, Gate, RunFault, run};
+use gt_types::Memory;
 use std::alloc::{AllocError, Global};
 use std::sync::Wait;
 use std::thread::Threads;
@@ -51,7 +52,19 @@ pub fn run_said<R: Threads + Wait + Sync, G: Gate + Sync>(
     run_logged(rt, alloc, script, limits, log, gate)
 }
 
-/// A run in which a domain waits for a flag until it is raised.
+/// Runs a script in which a domain waits for a flag until it is raised.
+pub fn flags_said<R: Threads + Wait + Sync>(
+    rt: &R,
+    alloc: Global,
+    script: &[u8],
+    audit: bool,
+    limits: Limits,
+) -> Result<Vec<u8>, Memory> {
+    let gate = FlagGate::new(rt, alloc)?;
+    Ok(run_said(rt, alloc, script, audit, limits, &gate)?)
+}
+
+/// Such a run as a job.
 #[derive(Clone, Copy)]
 pub struct RunJob;
 
@@ -64,7 +77,6 @@ impl Job for RunJob {
         audit: bool,
         limits: Limits,
     ) -> anyhow::Result<Vec<u8>> {
-        let gate = FlagGate::new(rt, alloc)?;
-        Ok(run_said(rt, alloc, text, audit, limits, &gate)?)
+        Ok(flags_said(rt, alloc, text, audit, limits)?)
     }
 }

@@ -18,7 +18,7 @@ pub const GAP: usize = 4_000_000;
 const SMALL_GAP: usize = 262_144;
 
 /// The stage of a run in which memory runs out.
-#[derive(Clone, Copy, PartialEq, Eq)]
+#[derive(Clone, Copy)]
 pub enum Place {
     /// From before the script is read until a domain reaches the gate.
     Start,
@@ -29,7 +29,7 @@ pub enum Place {
 }
 
 /// The end of a run.
-#[derive(Clone, Copy, PartialEq, Eq)]
+#[derive(Clone, Copy)]
 pub enum End {
     Done,
     Thread,
@@ -88,10 +88,9 @@ impl<'r, R: Wait> Scarce<'r, R> {
     // Begins the shortage of memory.
     fn close(&self) {
         let is_closed = self.is_closed.swap(true, Ordering::SeqCst);
-        let gap = if self.place == Place::Start {
-            GAP
-        } else {
-            SMALL_GAP
+        let gap = match self.place {
+            Place::Start => GAP,
+            _ => SMALL_GAP,
         };
         let mut flood = self.flood.lock(self.rt);
         if is_closed && flood.let_through(self.left) {
@@ -102,8 +101,14 @@ impl<'r, R: Wait> Scarce<'r, R> {
         }
     }
 
-    fn comes_to(&self, place: Place) {
-        if self.place == place {
+    fn comes_to_start(&self) {
+        if matches!(self.place, Place::Start) {
+            self.close();
+        }
+    }
+
+    fn comes_to_write(&self) {
+        if matches!(self.place, Place::Write) {
             self.close();
         }
     }
@@ -112,17 +117,17 @@ impl<'r, R: Wait> Scarce<'r, R> {
 impl<'r, R: Wait> Gate for Scarce<'r, R> {
     fn tell(&self, flag: usize) {
         self.callers.fetch_add(1, Ordering::SeqCst);
-        if self.place == Place::Flag(flag) {
-            self.close();
-        } else if self.place != Place::Write {
-            self.open();
+        match self.place {
+            Place::Flag(closed) if closed == flag => self.close(),
+            Place::Write => {}
+            _ => self.open(),
         }
         self.flags.tell(flag);
     }
 
     fn pass(&self, flag: usize) -> bool {
         self.callers.fetch_add(1, Ordering::SeqCst);
-        if self.place == Place::Start {
+        if matches!(self.place, Place::Start) {
             self.open();
         }
         self.flags.pass(flag)
@@ -139,7 +144,7 @@ struct Room<'t, 'g, 'r, R: Wait> {
 impl<'t, 'g, 'r, R: Wait> Write for Room<'t, 'g, 'r, R> {
     fn write(&mut self, buf: &[u8]) -> io::Result<usize> {
         if self.taken.is_empty() {
-            self.gate.comes_to(Place::Write);
+            self.gate.comes_to_write();
         }
         self.taken.extend_from_slice(buf)?;
         Ok(buf.len())
@@ -162,7 +167,7 @@ pub fn run_scarce<R: Threads + Wait + Sync>(
     let mut reader = script.as_bytes();
     text.clear();
     let mut writer = Room { taken: text, gate };
-    gate.comes_to(Place::Start);
+    gate.comes_to_start();
     match run(rt, alloc, &mut reader, &mut writer, Some(log), gate) {
         Ok(()) => End::Done,
         Err(RunFault::Thread) => End::Thread,

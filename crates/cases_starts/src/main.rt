@@ -5,7 +5,8 @@
 //! and again from the last of the larger steps that failed; between them are the long lists of words. A line for each
 //! start states whether all results were right.
 //!
-//! Then each number of domains from 1 to 64 starts with ample memory, as a core, as a monitor and as the words of a run.
+//! Then each number of domains from 1 to 64 starts with ample memory: as a core, as a monitor and as the words of a
+//! run.
 #![tactic(auto)]
 
 mod starting;

@@ -3,59 +3,89 @@ use gt_entry::{
     Control, Entry, Header, decode, decode_v1, decode_v2, encode_v1, encode_v2, status_word,
 };
 use gt_types::{Dir, DomId, Field, GrantRef, Range, Use};
+use test_rows::{page, sub, via};
 
-fn page(ro: bool, frame: u64) -> Entry {
-    Entry::Page {
-        dom: DomId(2),
-        ro,
-        frame,
-    }
-}
+// Page entries for domain 2: with frames 5 and 6, with frame 5 read-only, with the largest frame number of version 1,
+// and with the next one.
+const PAGE: Entry = page!(DomId(2), false, 5);
+
+const PAGE_6: Entry = page!(DomId(2), false, 6);
+
+const READ_ONLY: Entry = page!(DomId(2), true, 5);
+
+const LAST_FRAME: Entry = page!(DomId(2), true, 4_294_967_295);
+
+const PAST_THE_LAST: Entry = page!(DomId(2), true, 4_294_967_296);
+
+// A read-only part of a page, for domain 3, and a transitive entry.
+const SUB: Entry = Entry::Sub {
+    dom: DomId(3),
+    ro: true,
+    frame: 7,
+    off: 100,
+    len: 50,
+};
+
+const VIA: Entry = via!(DomId(2), false, DomId(3), GrantRef(7));
+
+// Entries with their generation, read pins and write pins, and the control word.
+static WORDS: [(Entry, u32, u16, u16, u64); 5] = [
+    (PAGE, 1, 0, 0, 0x0000_1000_2000_0001),
+    (PAGE, 1, 4_095, 1, 0x0000_1000_2001_fff1),
+    (Entry::Invalid, 1, 0, 0, 0x0000_1000_0000_0000),
+    (Entry::Invalid, 1, 0, 1, 0x0000_1000_0001_0000),
+    (PAGE_6, 2, 0, 0, 0x0000_2000_2000_0001),
+];
 
 #[test]
 fn packs_the_words_of_entries(rt: HostRuntime) {
-    for (entry, generation, reads, writes, word) in [
-        (page(false, 5), 1, 0, 0, 0x0000_1000_2000_0001),
-        (page(false, 5), 1, 4_095, 1, 0x0000_1000_2001_fff1),
-        (Entry::Invalid, 1, 0, 0, 0x0000_1000_0000_0000),
-        (Entry::Invalid, 1, 0, 1, 0x0000_1000_0001_0000),
-        (page(false, 6), 2, 0, 0, 0x0000_2000_2000_0001),
-    ] {
-        let control = Control::of_entry(entry, generation, reads, writes);
-        assert_eq!(rt; (control.pack(), Control::unpack(word)), (word, control));
+    for (entry, generation, reads, writes, word) in WORDS.iter() {
+        let control = Control::of_entry(*entry, *generation, *reads, *writes);
+        assert_eq!(rt; (control.pack(), Control::unpack(*word)), (*word, control));
     }
 }
 
 // Returns the control word of a page with this number of pins.
-fn pins(reads: u16, writes: u16) -> Control {
-    Control::of_entry(page(false, 5), 1, reads, writes)
+fn pins(count: (u16, u16)) -> Control {
+    Control::of_entry(PAGE, 1, count.0, count.1)
 }
+
+// Numbers of read and write pins, their status word, and the numbers with one more pin of this kind, if there is room.
+static PINS: [((u16, u16), u16, Dir, Option<(u16, u16)>); 5] = [
+    ((0, 0), 0, Dir::Read, Some((1, 0))),
+    ((1, 0), 0x0008, Dir::Write, Some((1, 1))),
+    ((1, 1), 0x0018, Dir::Write, Some((1, 2))),
+    ((4_095, 1), 0x0018, Dir::Read, None),
+    ((4_095, 1), 0x0018, Dir::Write, Some((4_095, 2))),
+];
 
 #[test]
 fn counts_pins(rt: HostRuntime) {
-    for (control, status, dir, pinned) in [
-        (pins(0, 0), 0, Dir::Read, Some(pins(1, 0))),
-        (pins(1, 0), 0x0008, Dir::Write, Some(pins(1, 1))),
-        (pins(1, 1), 0x0018, Dir::Write, Some(pins(1, 2))),
-        (pins(4_095, 1), 0x0018, Dir::Read, None),
-        (pins(4_095, 1), 0x0018, Dir::Write, Some(pins(4_095, 2))),
-    ] {
-        let told = (status_word(&control), control.pinned(dir), control.idle());
-        assert_eq!(rt; told, (status, pinned, pins(0, 0)));
+    for (before, status, dir, after) in PINS.iter() {
+        let control = pins(*before);
+        let pinned = match after {
+            Some(after) => Some(pins(*after)),
+            None => None,
+        };
+        let told = (status_word(&control), control.pinned(*dir), control.idle());
+        assert_eq!(rt; told, (*status, pinned, pins((0, 0))));
     }
 }
 
+// Entries with their body words.
+static BODIES: [(Entry, u64, u64); 3] = [
+    (READ_ONLY, 5, 0),
+    (SUB, 7, 0x0032_0064),
+    (VIA, 0x0007_0003, 0),
+];
+
 #[test]
 fn spells_every_kind(rt: HostRuntime) {
-    for (entry, first, second) in [
-        (page(true, 5), 5, 0),
-        (sub(), 7, 0x0032_0064),
-        (via(), 0x0007_0003, 0),
-    ] {
-        let control = Control::of_entry(entry, 1, 0, 0);
-        let spelled = Entry::spelled(control, first, second);
+    for (entry, first, second) in BODIES.iter() {
+        let control = Control::of_entry(*entry, 1, 0, 0);
+        let spelled = Entry::spelled(control, *first, *second);
         let told = (entry.first_body(), entry.second_body(), spelled);
-        assert_eq!(rt; told, (first, second, entry));
+        assert_eq!(rt; told, (*first, *second, *entry));
     }
 }
 
@@ -72,145 +102,140 @@ fn packs_headers(rt: HostRuntime) {
     }
 }
 
+// A part of a page that may be written, for domain 2.
+const WRITABLE_SUB: Entry = sub!(DomId(2), 5, 100, 50);
+
+// Ranges: the part itself, one that passes its end by a byte, an empty one at its end, and empty ones beyond either
+// end.
+static RANGES: [Range; 5] = [
+    Range { off: 100, len: 50 },
+    Range { off: 149, len: 2 },
+    Range { off: 150, len: 0 },
+    Range { off: 151, len: 0 },
+    Range { off: 99, len: 0 },
+];
+
+// Entries with the number of a domain and its use, and for each range whether that is permitted.
+static PERMITTED: [(Entry, u16, Dir, Use, [bool; 5]); 5] = [
+    (
+        WRITABLE_SUB,
+        2,
+        Dir::Write,
+        Use::Copy,
+        [true, false, true, false, false],
+    ),
+    (WRITABLE_SUB, 2, Dir::Read, Use::Map, [false; 5]),
+    (WRITABLE_SUB, 3, Dir::Read, Use::Copy, [false; 5]),
+    (READ_ONLY, 2, Dir::Read, Use::Map, [true; 5]),
+    (READ_ONLY, 2, Dir::Write, Use::Map, [false; 5]),
+];
+
 #[test]
 fn permits_inside_a_sub_page(rt: HostRuntime) {
-    let sub = Entry::Sub {
-        dom: DomId(2),
-        ro: false,
-        frame: 5,
-        off: 100,
-        len: 50,
-    };
-    for (entry, dom, dir, purpose, wanted) in [
-        (
-            sub,
-            2,
-            Dir::Write,
-            Use::Copy,
-            [true, false, true, false, false],
-        ),
-        (sub, 2, Dir::Read, Use::Map, [false; 5]),
-        (sub, 3, Dir::Read, Use::Copy, [false; 5]),
-        (page(true, 5), 2, Dir::Read, Use::Map, [true; 5]),
-        (page(true, 5), 2, Dir::Write, Use::Map, [false; 5]),
-    ] {
-        let told = [(100, 50), (149, 2), (150, 0), (151, 0), (99, 0)].map(|(
-            off,
-            len,
-        )| entry.permits(DomId(dom), dir, purpose, Range { off, len }));
-        assert_eq!(rt; told, wanted);
+    for (entry, dom, dir, purpose, wanted) in PERMITTED.iter() {
+        for (range, wanted) in RANGES.iter().zip(wanted.iter()) {
+            let told = entry.permits(DomId(*dom), *dir, *purpose, *range);
+            assert_eq!(rt; told, *wanted);
+        }
     }
 }
 
-fn sub() -> Entry {
-    Entry::Sub {
-        dom: DomId(3),
-        ro: true,
-        frame: 7,
-        off: 100,
-        len: 50,
-    }
-}
-
-fn via() -> Entry {
-    Entry::Via {
-        dom: DomId(2),
-        ro: false,
-        dom2: DomId(3),
-        gref: GrantRef(7),
-    }
-}
+// Bytes of version 1 with the entry that they are, or the field that is refused.
+static OF_VERSION_1: [([u8; 8], Result<Entry, Field>); 9] = [
+    ([9, 0, 2, 0, 5, 0, 0, 0], Err(Field::Reading)),
+    ([1, 0, 2, 0, 5, 0, 0, 0], Ok(PAGE)),
+    ([1, 1, 2, 0, 5, 0, 0, 0], Err(Field::SubPage)),
+    ([3, 0, 2, 0, 5, 0, 0, 0], Err(Field::Kind)),
+    ([0x0b, 1, 2, 0, 5, 0, 0, 0], Err(Field::Kind)),
+    ([0x21, 1, 2, 0, 5, 0, 0, 0], Err(Field::Pwt)),
+    ([3, 1, 2, 0, 5, 0, 0, 0], Err(Field::Kind)),
+    ([1, 2, 2, 0, 5, 0, 0, 0], Err(Field::Reserved)),
+    ([5, 0, 2, 0, 0xff, 0xff, 0xff, 0xff], Ok(LAST_FRAME)),
+];
 
 #[test]
 fn reads_version_1(rt: HostRuntime) {
-    for (bytes, read) in [
-        ([9, 0, 2, 0, 5, 0, 0, 0], Err(Field::Reading)),
-        ([1, 0, 2, 0, 5, 0, 0, 0], Ok(page(false, 5))),
-        ([1, 1, 2, 0, 5, 0, 0, 0], Err(Field::SubPage)),
-        ([3, 0, 2, 0, 5, 0, 0, 0], Err(Field::Kind)),
-        ([0x0b, 1, 2, 0, 5, 0, 0, 0], Err(Field::Kind)),
-        ([0x21, 1, 2, 0, 5, 0, 0, 0], Err(Field::Pwt)),
-        ([3, 1, 2, 0, 5, 0, 0, 0], Err(Field::Kind)),
-        ([1, 2, 2, 0, 5, 0, 0, 0], Err(Field::Reserved)),
-        (
-            [5, 0, 2, 0, 0xff, 0xff, 0xff, 0xff],
-            Ok(page(true, 4_294_967_295)),
-        ),
-    ] {
-        assert_eq!(rt; (decode_v1(&bytes), decode(1, &bytes)), (read, read));
+    for (bytes, read) in OF_VERSION_1.iter() {
+        assert_eq!(rt; (decode_v1(bytes), decode(1, bytes)), (*read, *read));
     }
 }
+
+// The same of version 2.
+static OF_VERSION_2: [([u8; 16], Result<Entry, Field>); 8] = [
+    (SUB_BYTES, Ok(SUB)),
+    ([3, 0, 2, 0, 3, 0, 9, 9, 7, 0, 0, 0, 8, 8, 8, 8], Ok(VIA)),
+    ([1, 0, 2, 0, 9, 9, 9, 9, 5, 0, 0, 0, 0, 0, 0, 0], Ok(PAGE)),
+    (
+        [0x0b, 1, 2, 0, 3, 0, 0, 0, 7, 0, 0, 0, 0, 0, 0, 0],
+        Err(Field::Reading),
+    ),
+    (
+        [0x21, 1, 2, 0, 3, 0, 0, 0, 7, 0, 0, 0, 0, 0, 0, 0],
+        Err(Field::Pwt),
+    ),
+    (
+        [3, 1, 2, 0, 3, 0, 0, 0, 7, 0, 0, 0, 0, 0, 0, 0],
+        Err(Field::SubPage),
+    ),
+    (
+        [1, 2, 2, 0, 3, 0, 0, 0, 7, 0, 0, 0, 0, 0, 0, 0],
+        Err(Field::Reserved),
+    ),
+    (
+        [2, 0, 2, 0, 3, 0, 0, 0, 7, 0, 0, 0, 0, 0, 0, 0],
+        Err(Field::Kind),
+    ),
+];
 
 #[test]
 fn reads_version_2(rt: HostRuntime) {
-    for (bytes, read) in [
-        (
-            [5, 1, 3, 0, 100, 0, 50, 0, 7, 0, 0, 0, 0, 0, 0, 0],
-            Ok(sub()),
-        ),
-        ([3, 0, 2, 0, 3, 0, 9, 9, 7, 0, 0, 0, 8, 8, 8, 8], Ok(via())),
-        (
-            [1, 0, 2, 0, 9, 9, 9, 9, 5, 0, 0, 0, 0, 0, 0, 0],
-            Ok(page(false, 5)),
-        ),
-        (
-            [0x0b, 1, 2, 0, 3, 0, 0, 0, 7, 0, 0, 0, 0, 0, 0, 0],
-            Err(Field::Reading),
-        ),
-        (
-            [0x21, 1, 2, 0, 3, 0, 0, 0, 7, 0, 0, 0, 0, 0, 0, 0],
-            Err(Field::Pwt),
-        ),
-        (
-            [3, 1, 2, 0, 3, 0, 0, 0, 7, 0, 0, 0, 0, 0, 0, 0],
-            Err(Field::SubPage),
-        ),
-        (
-            [1, 2, 2, 0, 3, 0, 0, 0, 7, 0, 0, 0, 0, 0, 0, 0],
-            Err(Field::Reserved),
-        ),
-        (
-            [2, 0, 2, 0, 3, 0, 0, 0, 7, 0, 0, 0, 0, 0, 0, 0],
-            Err(Field::Kind),
-        ),
-    ] {
-        assert_eq!(rt; (decode_v2(&bytes), decode(2, &bytes)), (read, read));
+    for (bytes, read) in OF_VERSION_2.iter() {
+        assert_eq!(rt; (decode_v2(bytes), decode(2, bytes)), (*read, *read));
     }
 }
+
+// Versions with bytes of a length that they don't have.
+static OTHER_LENGTHS: [(u8, &[u8]); 6] = [
+    (1, &[1, 0, 2, 0, 5, 0, 0]),
+    (1, &[0; 16]),
+    (2, &[1, 0, 2, 0, 5, 0, 0, 0]),
+    (0, &[1, 0, 2, 0, 5, 0, 0, 0]),
+    (3, &[1, 0, 2, 0, 5, 0, 0, 0]),
+    (3, &[1, 0, 2, 0, 5, 0, 0, 0, 7, 0, 0, 0, 0, 0, 0, 0]),
+];
 
 #[test]
 fn refuses_other_lengths(rt: HostRuntime) {
-    for (version, bytes) in [
-        (1, [1, 0, 2, 0, 5, 0, 0].as_slice()),
-        (1, [0; 16].as_slice()),
-        (2, [1, 0, 2, 0, 5, 0, 0, 0].as_slice()),
-        (0, [1, 0, 2, 0, 5, 0, 0, 0].as_slice()),
-        (3, [1, 0, 2, 0, 5, 0, 0, 0].as_slice()),
-        (
-            3,
-            [1, 0, 2, 0, 5, 0, 0, 0, 7, 0, 0, 0, 0, 0, 0, 0].as_slice(),
-        ),
-    ] {
-        assert_eq!(rt; decode(version, bytes), Err(Field::Length));
+    for (version, bytes) in OTHER_LENGTHS.iter() {
+        assert_eq!(rt; decode(*version, bytes), Err(Field::Length));
     }
 }
 
+const PAGE_BYTES: [u8; 8] = [1, 0, 2, 0, 5, 0, 0, 0];
+
+// The same page in version 2, and the one whose frame number needs more than 32 bits.
+const LONG_PAGE_BYTES: [u8; 16] = [1, 0, 2, 0, 0, 0, 0, 0, 5, 0, 0, 0, 0, 0, 0, 0];
+
+const PAST_THE_LAST_BYTES: [u8; 16] = [5, 0, 2, 0, 0, 0, 0, 0, 0, 0, 0, 0, 1, 0, 0, 0];
+
+const SUB_BYTES: [u8; 16] = [5, 1, 3, 0, 100, 0, 50, 0, 7, 0, 0, 0, 0, 0, 0, 0];
+
+const VIA_BYTES: [u8; 16] = [3, 0, 2, 0, 3, 0, 0, 0, 7, 0, 0, 0, 0, 0, 0, 0];
+
+// Entries with their bytes in both versions.
+static WRITTEN: [(Entry, Option<[u8; 8]>, Option<[u8; 16]>); 5] = [
+    (PAGE, Some(PAGE_BYTES), Some(LONG_PAGE_BYTES)),
+    (PAST_THE_LAST, None, Some(PAST_THE_LAST_BYTES)),
+    (SUB, None, Some(SUB_BYTES)),
+    (VIA, None, Some(VIA_BYTES)),
+    (Entry::Invalid, None, None),
+];
+
 #[test]
 fn writes_what_it_reads(rt: HostRuntime) {
-    let first = Some([1, 0, 2, 0, 5, 0, 0, 0]);
-    let wide = [5, 0, 2, 0, 0, 0, 0, 0, 0, 0, 0, 0, 1, 0, 0, 0];
-    let narrow = [1, 0, 2, 0, 0, 0, 0, 0, 5, 0, 0, 0, 0, 0, 0, 0];
-    let sub_bytes = [5, 1, 3, 0, 100, 0, 50, 0, 7, 0, 0, 0, 0, 0, 0, 0];
-    let via_bytes = [3, 0, 2, 0, 3, 0, 0, 0, 7, 0, 0, 0, 0, 0, 0, 0];
-    for (entry, bytes_v1, bytes_v2) in [
-        (page(false, 5), first, Some(narrow)),
-        (page(true, 4_294_967_296), None, Some(wide)),
-        (sub(), None, Some(sub_bytes)),
-        (via(), None, Some(via_bytes)),
-        (Entry::Invalid, None, None),
-    ] {
-        let told = (encode_v1(&entry), encode_v2(&entry));
-        assert_eq!(rt; told, (bytes_v1, bytes_v2));
+    for (entry, bytes_v1, bytes_v2) in WRITTEN.iter() {
+        let told = (encode_v1(entry), encode_v2(entry));
+        assert_eq!(rt; told, (*bytes_v1, *bytes_v2));
     }
 }
 

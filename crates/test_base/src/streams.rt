@@ -22,7 +22,9 @@ fn read_behind(
 
 // Returns how many bytes are read of a text of this length.
 fn length_read(alloc: Global, length: usize) -> Result<usize, ReadFault> {
-    let text = vec![in alloc; b' '; length].map_err(|_| ReadFault::Memory)?;
+    let Ok(text) = vec![in alloc; b' '; length] else {
+        return Err(ReadFault::Memory);
+    };
     Ok(read_text(alloc, &mut text.as_slice())?.len())
 }
 
