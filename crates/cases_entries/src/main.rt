@@ -13,14 +13,27 @@ use gt_types::DomId;
 use std::fs::File;
 use std::io;
 
+// Returns whether the case has this word.
+fn has(case: &str, word: &str) -> bool {
+    for it in case.split(' ') {
+        if it == word {
+            return true;
+        }
+    }
+    false
+}
+
 // Returns the options of a case.
 fn asked_of(case: &str) -> DumpOptions {
-    let has = |word: &str| case.split(' ').any(|it| it == word);
     DumpOptions {
         version: if case.starts_with("2") { 2 } else { 1 },
-        hex: has("hex"),
-        all: has("all"),
-        script: if has("script") { Some(DomId(1)) } else { None },
+        hex: has(case, "hex"),
+        all: has(case, "all"),
+        script: if has(case, "script") {
+            Some(DomId(1))
+        } else {
+            None
+        },
     }
 }
 

@@ -9,7 +9,6 @@ use gt_types::{
     Triples, TypeId,
 };
 use std::alloc::{AllocError, Global};
-use std::test::Fail;
 
 pub const OWNER: DomId = DomId(1);
 
@@ -180,6 +179,21 @@ pub enum Doing<'a> {
 /// An action, and its expected result.
 pub type Row = (Doing<'static>, &'static str);
 
+/// Begins a call. A caller that takes the result apart costs less proof without the contract of `Core::begin`.
+pub fn begin(core: &mut Core<Triples>, dom: DomId, request: Request<'_>) -> Result<Begun, Memory> {
+    core.begin(dom, request)
+}
+
+/// Makes the next step of the domain's call.
+pub fn tick(core: &mut Core<Triples>, dom: DomId) -> Result<Ticked, Memory> {
+    core.tick(dom)
+}
+
+/// Returns a view of an owner's entry.
+pub fn show(core: &Core<Triples>, gref: u32) -> Option<EntryView> {
+    core.show(OWNER, GrantRef(gref))
+}
+
 fn word_said(alloc: Global, word: u64) -> Result<String, AllocError> {
     format!(in alloc; " {word:x}")
 }
@@ -240,9 +254,9 @@ fn shown_said(alloc: Global, shown: Option<EntryView>) -> Result<String, AllocEr
 }
 
 // Returns the answer of the open call, if it ends within this number of ticks.
-fn ended(core: &mut Core<Triples>, dom: DomId, ticks: u32) -> Result<Option<Answer>, Fail> {
+fn ended(core: &mut Core<Triples>, dom: DomId, ticks: u32) -> Result<Option<Answer>, Memory> {
     for _ in 0..ticks {
-        if let Ticked::Done(_, _, answer) = core.tick(dom)? {
+        if let Ticked::Done(_, _, answer) = tick(core, dom)? {
             return Ok(Some(answer));
         }
     }
@@ -256,7 +270,7 @@ fn call_said(
     dom: DomId,
     begun: Begun,
     ticks: u32,
-) -> Result<String, Fail> {
+) -> Result<String, Memory> {
     let text = match begun {
         Begun::Done(answer) => answer_said(alloc, &answer)?,
         Begun::Busy => String::from_str(alloc, "busy")?,
@@ -287,8 +301,8 @@ fn push_tick(
     alloc: Global,
     core: &mut Core<Triples>,
     dom: DomId,
-) -> Result<Option<Option<Answer>>, Fail> {
-    match core.tick(dom)? {
+) -> Result<Option<Option<Answer>>, Memory> {
+    match tick(core, dom)? {
         Ticked::Step(step, seen) => {
             push_step(out, alloc, step, seen)?;
             Ok(Some(None))
@@ -302,7 +316,7 @@ fn push_tick(
 }
 
 // Returns the steps of the open call with what each saw, and its answer.
-fn steps_said(alloc: Global, core: &mut Core<Triples>, dom: DomId) -> Result<String, Fail> {
+fn steps_said(alloc: Global, core: &mut Core<Triples>, dom: DomId) -> Result<String, Memory> {
     let mut out = String::new(alloc);
     for _ in 0..MOST_STEPS {
         match push_tick(&mut out, alloc, core, dom)? {
@@ -349,6 +363,31 @@ fn place_said(alloc: Global, place: Spot) -> Result<String, AllocError> {
     )
 }
 
+// Begins a call, and makes this number of ticks or fewer. Returns its answer, or that it is still open.
+fn begun_said(
+    alloc: Global,
+    core: &mut Core<Triples>,
+    dom: DomId,
+    request: Request<'_>,
+    ticks: u32,
+) -> Result<String, Memory> {
+    let begun = begin(core, dom, request)?;
+    call_said(alloc, core, dom, begun, ticks)
+}
+
+// Begins a call. Returns all its steps with what each saw, and its answer.
+fn call_steps_said(
+    alloc: Global,
+    core: &mut Core<Triples>,
+    dom: DomId,
+    request: Request<'_>,
+) -> Result<String, Memory> {
+    match begin(core, dom, request)? {
+        Begun::Open => steps_said(alloc, core, dom),
+        begun => call_said(alloc, core, dom, begun, 0),
+    }
+}
+
 // Returns whether a whole call is answered with the handle of this number.
 fn gives_handle(
     alloc: Global,
@@ -356,9 +395,8 @@ fn gives_handle(
     dom: DomId,
     request: Request<'_>,
     number: u32,
-) -> Result<bool, Fail> {
-    let begun = core.begin(dom, request)?;
-    let text = call_said(alloc, core, dom, begun, MOST_STEPS)?;
+) -> Result<bool, Memory> {
+    let text = begun_said(alloc, core, dom, request, MOST_STEPS)?;
     let wanted = format!(in alloc; "ok {number}.{number}")?;
     Ok(text.as_str() == wanted.as_str())
 }
@@ -370,7 +408,7 @@ fn often_said(
     dom: DomId,
     request: Request<'_>,
     times: u32,
-) -> Result<String, Fail> {
+) -> Result<String, Memory> {
     let mut count = 0u32;
     for number in 0..times {
         if !gives_handle(alloc, core, dom, request, number)? {
@@ -382,23 +420,14 @@ fn often_said(
 }
 
 /// Takes the action, and returns its result as a text.
-pub fn said(alloc: Global, core: &mut Core<Triples>, doing: Doing<'_>) -> Result<String, Fail> {
+pub fn said(alloc: Global, core: &mut Core<Triples>, doing: Doing<'_>) -> Result<String, Memory> {
     match doing {
-        Doing::Do(dom, request) => {
-            let begun = core.begin(dom, request)?;
-            call_said(alloc, core, dom, begun, MOST_STEPS)
-        }
-        Doing::Steps(dom, request) => match core.begin(dom, request)? {
-            Begun::Open => steps_said(alloc, core, dom),
-            begun => call_said(alloc, core, dom, begun, 0),
-        },
+        Doing::Do(dom, request) => begun_said(alloc, core, dom, request, MOST_STEPS),
+        Doing::Steps(dom, request) => call_steps_said(alloc, core, dom, request),
         Doing::Often(dom, request, times) => often_said(alloc, core, dom, request, times),
-        Doing::Begin(dom, request) => {
-            let begun = core.begin(dom, request)?;
-            call_said(alloc, core, dom, begun, 0)
-        }
+        Doing::Begin(dom, request) => begun_said(alloc, core, dom, request, 0),
         Doing::Tick(dom, ticks) => call_said(alloc, core, dom, Begun::Open, ticks),
-        Doing::Show(gref) => Ok(shown_said(alloc, core.show(OWNER, GrantRef(gref)))?),
+        Doing::Show(gref) => Ok(shown_said(alloc, show(core, gref))?),
     }
 }
 

@@ -1,11 +1,13 @@
 //! Runs in which an allocation fails. tools/refused.sh makes each fail in turn: a tick or a beginning that is asked
 //! again is answered as without a failure.
-use crate::doing::{OWNER, PEER, load, peek, poke, rights, start, store, three_domains};
+use crate::doing::{
+    OWNER, PEER, begin, load, peek, poke, rights, show, start, store, three_domains, tick,
+};
 use crate::runs::{FIRST_HANDLE, GRANT, MAP_RO, MAP_RW, REVOKE};
 use gt_core::{
     Answer, Begun, CopyArgs, Core, Element, End, Event, Handle, Item, Request, Ticked, play,
 };
-use gt_types::{DomId, GrantRef, Memory, Rule, StartFault, Triples};
+use gt_types::{DomId, Memory, Rule, StartFault, Triples};
 use std::alloc::Global;
 use std::process::Abort;
 use std::test::Fail;
@@ -27,19 +29,19 @@ fn started(
 }
 
 // Makes the next tick, and again if an allocation failed, which must leave the core unchanged.
-fn ticked(rt: &impl Abort, core: &mut Core<Triples>, dom: DomId) -> Result<Ticked, Fail> {
-    let before = core.show(OWNER, GrantRef(0));
-    match core.tick(dom) {
+fn ticked(rt: &impl Abort, core: &mut Core<Triples>, dom: DomId) -> Result<Ticked, Memory> {
+    let before = show(core, 0);
+    match tick(core, dom) {
         Ok(ticked) => Ok(ticked),
         Err(Memory) => {
-            assert!(rt; core.show(OWNER, GrantRef(0)) == before);
-            Ok(core.tick(dom)?)
+            assert!(rt; show(core, 0) == before);
+            tick(core, dom)
         }
     }
 }
 
 // Returns the answer of the open call, if it has one.
-fn ended(rt: &impl Abort, core: &mut Core<Triples>, dom: DomId) -> Result<Option<Answer>, Fail> {
+fn ended(rt: &impl Abort, core: &mut Core<Triples>, dom: DomId) -> Result<Option<Answer>, Memory> {
     for _ in 0..71 {
         if let Ticked::Done(_, _, answer) = ticked(rt, core, dom)? {
             return Ok(Some(answer));
@@ -48,27 +50,35 @@ fn ended(rt: &impl Abort, core: &mut Core<Triples>, dom: DomId) -> Result<Option
     Ok(None)
 }
 
-// Returns the answer of a whole call in which one allocation may fail, which must leave the core unchanged.
+// Begins a call, and again if an allocation failed, which must leave the core unchanged.
+fn begun(
+    rt: &impl Abort,
+    core: &mut Core<Triples>,
+    dom: DomId,
+    request: Request<'_>,
+) -> Result<Begun, Memory> {
+    let before = show(core, 0);
+    match begin(core, dom, request) {
+        Ok(begun) => Ok(begun),
+        Err(Memory) => {
+            assert!(rt; show(core, 0) == before && matches!(tick(core, dom)?, Ticked::Idle));
+            begin(core, dom, request)
+        }
+    }
+}
+
+// Returns the answer of a whole call in which one allocation may fail, which must leave the core unchanged, or None if
+// the call is still open.
 fn ask(
     rt: &impl Abort,
     core: &mut Core<Triples>,
     dom: DomId,
-    request: Request,
-) -> Result<Answer, Fail> {
-    let before = core.show(OWNER, GrantRef(0));
-    let begun = match core.begin(dom, request) {
-        Ok(begun) => begun,
-        Err(_) => {
-            let is_same = core.show(OWNER, GrantRef(0)) == before;
-            assert!(rt; is_same && matches!(core.tick(dom)?, Ticked::Idle));
-            core.begin(dom, request)?
-        }
-    };
-    if let Begun::Done(answer) = begun {
-        return Ok(answer);
+    request: Request<'_>,
+) -> Result<Option<Answer>, Memory> {
+    match begun(rt, core, dom, request)? {
+        Begun::Done(answer) => Ok(Some(answer)),
+        _ => ended(rt, core, dom),
     }
-    let answer = ended(rt, core, dom)?;
-    Ok(answer.ok_or("the call is still open")?)
 }
 
 // The expected answer of a call.
@@ -96,14 +106,14 @@ fn goes_once(
     dom: DomId,
     request: Request<'_>,
     told: Told<'_>,
-) -> Result<(), Fail> {
+) -> Result<(), Memory> {
     let answer = ask(rt, core, dom, request)?;
-    assert!(rt; is_told(&answer, told));
+    assert!(rt; matches!(&answer, Some(answer) if is_told(answer, told)));
     Ok(())
 }
 
 // Makes whole calls, and compares the answer of each.
-fn goes(rt: &impl Abort, core: &mut Core<Triples>, calls: &[Call]) -> Result<(), Fail> {
+fn goes(rt: &impl Abort, core: &mut Core<Triples>, calls: &[Call]) -> Result<(), Memory> {
     for (dom, request, told) in calls {
         goes_once(rt, core, *dom, *request, *told)?;
     }
@@ -112,7 +122,7 @@ fn goes(rt: &impl Abort, core: &mut Core<Triples>, calls: &[Call]) -> Result<(),
 
 // Counts the read pins of the owner's entry 0.
 fn reads(core: &Core<Triples>) -> Option<u16> {
-    match core.show(OWNER, GrantRef(0)) {
+    match show(core, 0) {
         Some(shown) => Some(shown.reads),
         None => None,
     }
@@ -174,7 +184,7 @@ fn copy(offset: u16) -> Request<'static> {
     Request::Copy(copy!(end!(0, OWNER, 0), end!(3, PEER, offset), 1, 1))
 }
 
-fn map_and_load(rt: &impl Abort, core: &mut Core<Triples>, number: u8) -> Result<(), Fail> {
+fn map_and_load(rt: &impl Abort, core: &mut Core<Triples>, number: u8) -> Result<(), Memory> {
     let handle = Handle {
         serial: u64::from(number),
         key: usize::from(number),
@@ -195,7 +205,7 @@ fn go_round(
     core: &mut Core<Triples>,
     round: Round,
     number: u8,
-) -> Result<(), Fail> {
+) -> Result<(), Memory> {
     let offset = u16::from(number);
     let bytes = [number];
     match round {
@@ -240,7 +250,7 @@ static ALL_REFUSED: [Refused; 3] = [
     ),
 ];
 
-fn goes_refused(rt: &impl Abort, alloc: Global, row: &Refused) -> Result<(), Fail> {
+fn goes_refused(rt: &impl Abort, alloc: Global, row: &Refused) -> Result<(), StartFault> {
     let (pairs, first, (round, from, to), last, pins) = row;
     let mut core = started(rt, alloc, pairs)?;
     goes(rt, &mut core, first)?;

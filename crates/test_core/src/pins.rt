@@ -3,7 +3,7 @@ use crate::doing::Doing::{Do, Often, Show};
 use crate::doing::{OWNER, PEER, Row, add_call, add_ticks, rights, three_domains, trace_said};
 use crate::runs::{DEMOTE, GRANT, GRANT_ANOTHER, MAP_RO, MAP_RW, REVOKE};
 use gt_core::{Event, play};
-use gt_types::Memory;
+use gt_types::{Memory, StartFault};
 use std::alloc::{AllocError, Global};
 use std::test::Fail;
 
@@ -29,9 +29,12 @@ pub const BEHIND_ALL_READ_PINS: [Row; 5] = [
 ];
 
 // Returns the trace of these events on a core of the three domains.
-fn played(alloc: Global, events: &[Event<'_>]) -> Result<String, Fail> {
+fn played(alloc: Global, events: &[Event<'_>]) -> Result<String, StartFault> {
     let trace = play(alloc, three_domains(alloc, 1)?, rights(alloc)?, events)?;
-    Ok(trace_said(alloc, &trace)?)
+    match trace_said(alloc, &trace) {
+        Ok(text) => Ok(text),
+        Err(_) => Err(StartFault::Memory),
+    }
 }
 
 // Returns the events of a grant, as many maps for reading as there can be, one for writing and a demotion.
