@@ -1,4 +1,5 @@
 pub mod GivenLemmas
 pub mod Obeyed
 pub mod QuestionLemmas
+mod RanDomains
 pub mod RelayLemmas
