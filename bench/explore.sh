@@ -100,7 +100,7 @@ try() {
   fault="$("$program" explore "$work/program.gt" 2>&1 >"$work/all")" || true
   case "$fault" in
     '') ;;
-    *stuck) return 1 ;;
+    *' waits for the flag '*) return 1 ;;
     *) wrong "$number" "explore says $fault"; return ;;
   esac
   if grep -q 'not all texts' "$work/all"; then return 1; fi

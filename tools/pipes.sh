@@ -48,16 +48,18 @@ for words in "run $work/short.gt" rules --help; do
   check "$words to a pipe that is closed" "0|$(failed_status "$words")|141" "$(cat "$work/status")" "$closed"
 done
 
-printf 'type t\n' >"$work/missing_semicolon.te"
+printf 'type t\nallow t t:grant copy;\n' >"$work/missing_semicolon.te"
 for words in "play $work/short.gt" "run $work/short.gt" "policy $work/short.te" "check $work/missing_semicolon.te" \
   "why t t copy $work/short.te" 'rules' '--help' '--version' "explore $work/short.gt" "play -v $work/short.gt" \
   "run -v $work/short.gt"; do
   # shellcheck disable=SC2086
   "$program" $words >/dev/full 2>"$work/err"
-  check "$words to a full device" "$(failed_status "$words")" $? 'gthost: write'
+  status=$?
+  check "$words to a full device" "$(failed_status "$words")" "$status" 'gthost: write'
   # shellcheck disable=SC2086
   "$program" $words >&- 2>"$work/err"
-  check "$words to a closed output" "$(failed_status "$words")" $? 'gthost: write'
+  status=$?
+  check "$words to a closed output" "$(failed_status "$words")" "$status" 'gthost: write'
 done
 
 "$program" play <&- >"$work/out" 2>"$work/err"
@@ -78,7 +80,7 @@ done
 for command in explore check 'why t t copy' 'entries --version 1'; do
   # shellcheck disable=SC2086
   "$program" $command "$work" >"$work/out" 2>"$work/err"
-  check "$command of a folder" 2 $? "gthost: $work: is a directory"
+  check "$command of a folder" 2 $? "gthost: $work: (is a directory|Is a directory \\(os error 21\\))"
 done
 for command in play run; do
   "$program" "$command" "$work/long.gt" >"$work/out" 2>"$work/err"
