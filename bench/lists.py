@@ -72,7 +72,7 @@ class List:
 
     def write_bad_domain(self, dom):
         dom, frames, table, version = self.pick(
-            (32752, 8, 1, 1), (dom, 0, 1, 1), (dom, 65, 1, 1), (dom, 8, 0, 1), (dom, 8, 17, 1), (dom, 8, 1, 3), (self.ids[0], 8, 1, 1)
+            (32752, 8, 1, 1), (dom, 0, 1, 1), (dom, 8, 0, 1), (dom, 8, 17, 1), (dom, 8, 1, 3), (self.ids[0], 8, 1, 1)
         )
         self.lines.append(f"domain {dom} u:r:{self.types[0]} {frames} {table} {version}")
 
