@@ -11,7 +11,7 @@ pub enum Stop {
     NotRefused,
     /// A script can't be parsed.
     Fault,
-    /// A line of a script is no whole call.
+    /// A line of a script is not a whole call.
     NoCall,
     /// A line of a script, or its head, names no domain.
     NoDomain,

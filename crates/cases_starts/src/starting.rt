@@ -74,7 +74,7 @@ fn start_words(alloc: Global, config: &Config) -> Came {
     }
 }
 
-/// Starts in what the flood lets through, or in ample memory if there is none.
+/// Starts with as much memory as the flood leaves, or without a flood in ample memory.
 pub fn start(alloc: Global, flood: Option<&mut Flood>, kind: Kind, config: Config) -> Came {
     match kind {
         Kind::Core => start_core(alloc, config),

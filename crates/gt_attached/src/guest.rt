@@ -275,7 +275,7 @@ impl<P: Allows + Drop> AttachedDomain<P> {
     /// Unmaps a mapping, and releases its pin.
     ///
     /// # Errors
-    /// N6 if the domain has no mapping under this handle, or N5. Mappings and pins are unchanged.
+    /// N6 if the handle names no mapping of the domain, or N5. Mappings and pins are unchanged.
     pub fn unmap(&mut self, handle: Handle) -> Result<(), Denial>
         requires idle { self.old.copying ≡ None }
         ensures stays { StaysIdle self.old self.new }

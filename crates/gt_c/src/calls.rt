@@ -77,9 +77,9 @@ pub(crate) fn turned_away(domain: &mut DomainHandle) -> Option<EncodedAnswer>
     None
 }
 
-// Map and unmap are the most frequent calls, so they store their answer where the caller wants it. An answer that is
-// returned has one place for all its values, and each field goes through a register. These three functions store
-// answers that are rare. They are not inlined, so that an Ok has its stores for itself.
+// Map and unmap are the hot path, so they store their answer where the caller wants it. An answer that is returned has
+// one place for all its values, and each field goes through a register. These three functions store rare answers. They
+// are not inlined, so that an Ok has its stores for itself.
 #[cold]
 #[inline(never)]
 fn store_no_domain(answer: &mut EncodedAnswer)

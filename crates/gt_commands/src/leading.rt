@@ -39,7 +39,7 @@ fn joined(alloc: Global, first: &[&str], others: &[String]) -> Result<Vec<String
     Ok(all)
 }
 
-// Returns the words that ask for the help of the first of these, or for that of the program if there is none.
+// Returns the words that ask for help on the command that comes first, or on the program if there are no words.
 fn help_first(alloc: Global, program: &str, words: &[String]) -> Result<Vec<String>, AllocError>
     ensures { IfOk result (λ all. map string_bytes all.items
         ≡ help_first program.now (map string_bytes words.now)) }
@@ -77,7 +77,7 @@ pub fn command_first(alloc: Global, words: &[String]) -> Result<Vec<String>, All
     }
 }
 
-// Returns the first of these words, or the one before them if there is none.
+// Returns the first of the other words, or `word` if there are no others.
 fn first_or<'a>(word: &'a String, others: &'a [String]) -> &'a str
     ensures { Some result.now ≡ first_or (string_bytes word.entry.now) (map string_bytes others.entry.now) }
 {

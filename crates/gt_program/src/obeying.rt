@@ -171,7 +171,7 @@ fn report_unread<E: Eprint>(err: &E, error: &io::Error) -> Outcome
 }
 
 /// Does what words ask for that were read from the system, as [`obey`] does. If they could not be read, nothing is
-/// written, and the outcome is no if an allocation failed, and unknown for a word that is not UTF-8.
+/// written. The outcome is then `No` if an allocation failed, and `Unknown` for a word that is not UTF-8.
 pub fn obey_read<R: Threads + Wait + Sync, T: TextSource, W: Write, E: Eprint>(
     context: &Context<R, T, E>,
     words: io::Result<Vec<String>>,

@@ -116,7 +116,7 @@ static COPIES: [((u64, u16), (u64, u16), &str); 5] = [
     ((2, 0), (1, 0), "false [0, 0, 1, 2, 3, 4]"),
 ];
 
-// Copies four bytes between two of its own frames. Returns whether it did, and how the frame written to then begins.
+// Copies four bytes between two frames of the domain. Returns whether it did, and the first bytes of the destination.
 fn said<R: Wait>(
     rt: &R,
     alloc: Global,

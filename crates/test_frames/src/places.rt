@@ -34,7 +34,7 @@ macro_rules! at {
 
 pub(crate) use at;
 
-/// Returns as a text whether a copy was made, and the bytes that were read, or that there is no such frame.
+/// Returns as a text whether a copy was made, and the bytes that were read, or that the frame does not exist.
 pub fn text(alloc: Global, done: bool, read: Option<[u8; 6]>) -> Result<String, AllocError> {
     match read {
         Some(bytes) => format!(in alloc; "{done} {bytes:?}"),

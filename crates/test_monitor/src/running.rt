@@ -16,7 +16,7 @@ use std::sync::Wait;
 
 /// The calls and the records of a running domain. A mapping is the last one that it made.
 pub trait Calls {
-    /// Publishes an entry of its own.
+    /// Publishes one of the domain's entries.
     fn grant(&mut self, gref: u32, entry: &Entry) -> Result<(), Denial>;
 
     /// Makes its entry invalid, unless it has pins.
@@ -43,7 +43,7 @@ pub trait Calls {
     /// Fills the buffer with bytes, starting at this offset, through the last mapping.
     fn load_into<R: Wait>(&mut self, rt: &R, off: u16, buffer: &mut [u8]) -> Result<(), Denial>;
 
-    /// Fills the buffer with bytes of one of its own frames, starting at this offset.
+    /// Fills the buffer with bytes of one of the domain's frames, starting at this offset.
     fn peek_into<R: Wait>(
         &mut self,
         rt: &R,
