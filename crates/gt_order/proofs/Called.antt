@@ -1,18 +1,21 @@
 -- The contracts of the calls of a domain say that each is a call of a run.
-use Rattle.std.proofs.Common.{[], Ok, Err, refl, inl, inr}
+use Rattle.std.proofs.Common.{[], List, Ok, Err, Result, refl, inl, inr}
 use Rattle.gt_handles.specs.Handles.{HandleMap}
 use Rattle.gt_calls.specs.Asking.{asked}
 use Rattle.gt_calls.specs.declared.action.CallResult.{CallResult}
 use Rattle.gt_calls.specs.declared.action.CallResult.TheVariants.{Refused}
 use Rattle.gt_calls.specs.declared.held.HeldPin.{HeldPin}
+use Rattle.gt_calls.specs.declared.request.Request.{Request}
+use Rattle.gt_calls.specs.declared.request.Request.TheVariants as requests
 use Rattle.gt_calls.specs.declared.request.OpenRequest.{OpenRequest}
 use Rattle.gt_calls.specs.declared.request.OpenRequest.TheVariants.{Release, Unmap}
 use Rattle.gt_live.specs.Domains.{AllowRelation}
 use Rattle.gt_live.specs.Ending.{IsOfMapping}
 use Rattle.gt_live.specs.Mappings.{KeepsMappings}
 use Rattle.gt_live.specs.declared.monitor.Monitor.{Monitor}
-use Rattle.gt_order.specs.Calling.{MapsAreMade, PlainCallsAreMade, ReleasesAreMade, UnmapsAreMade}
-use Rattle.gt_order.specs.Runs.{LeavesMappings}
+use Rattle.gt_order.specs.Calling.{MapsAreMade, PlainCallsAreMade, ReleasesAreMade, StaysOf, UnmapsAreMade, WasMade}
+use Rattle.gt_order.specs.Prelude.{Answered, Denial, Domain, Moment, verdict_of}
+use Rattle.gt_order.specs.Runs.{FitsTypes, KeepsNoPin, LeavesMappings}
 use Rattle.gt_order.specs.Runs.CallOutcome.{Told, Kept, Starved}
 
 pub leaves : (request : OpenRequest) (verdict : CallResult) (old new : HandleMap HeldPin) → (IsOfMapping request → ⊥) → KeepsMappings old new → LeavesMappings request verdict old new
@@ -32,49 +35,31 @@ plain-made may m d e request verdict stays other fits plain answered kept = (
   },
 )
 
-pub unmap-made : {P : Type 0} (may : P → AllowRelation) (m : Monitor P) → UnmapsAreMade may m
-unmap-made may m d e handle (Ok tt) stays answered removed refused = (
+-- a call that drops a mapping, or is refused
+no-pin : (result : Result (Unit {0}) Denial) → KeepsNoPin (verdict_of result)
+no-pin (Ok done) = tt
+no-pin (Err denial) = tt
+
+drop-made : {P : Type 0} (may : P → AllowRelation) (m : Monitor P) (d e : Domain) (request : Request) (result : Result (Unit {0}) Denial) → StaysOf may m d e → FitsTypes request → Answered may m d request (verdict_of result) e
+    → LeavesMappings (asked request) (verdict_of result) d.mappings e.mappings → (steps : List Moment) × WasMade may m request (Told (verdict_of result)) steps d e
+drop-made may m d e request result stays fits answered left = (
   answered.steps,
   record {
     before = stays.before;
     afterwards = stays.afterwards;
     seat = stays.seat;
-    fits = (tt, tt);
-    answered = (tt, (answered, refl), removed);
-  },
-)
-unmap-made may m d e handle (Err denial) stays answered removed refused = (
-  answered.steps,
-  record {
-    before = stays.before;
-    afterwards = stays.afterwards;
-    seat = stays.seat;
-    fits = (tt, tt);
-    answered = (tt, (answered, refl), refused.0);
+    fits = fits;
+    answered = (no-pin result, (answered, refl), left);
   },
 )
 
+pub unmap-made : {P : Type 0} (may : P → AllowRelation) (m : Monitor P) → UnmapsAreMade may m
+unmap-made may m d e handle (Ok tt) stays answered removed refused = drop-made may m d e (requests.Unmap handle) (Ok tt) stays (tt, tt) answered removed
+unmap-made may m d e handle (Err denial) stays answered removed refused = drop-made may m d e (requests.Unmap handle) (Err denial) stays (tt, tt) answered refused.0
+
 pub release-made : {P : Type 0} (may : P → AllowRelation) (m : Monitor P) → ReleasesAreMade may m
-release-made may m d e handle (Ok tt) stays answered removed refused = (
-  answered.steps,
-  record {
-    before = stays.before;
-    afterwards = stays.afterwards;
-    seat = stays.seat;
-    fits = (tt, tt);
-    answered = (tt, (answered, refl), removed);
-  },
-)
-release-made may m d e handle (Err denial) stays answered removed refused = (
-  answered.steps,
-  record {
-    before = stays.before;
-    afterwards = stays.afterwards;
-    seat = stays.seat;
-    fits = (tt, tt);
-    answered = (tt, (answered, refl), refused.0);
-  },
-)
+release-made may m d e handle (Ok tt) stays answered removed refused = drop-made may m d e (requests.Release handle) (Ok tt) stays (tt, tt) answered removed
+release-made may m d e handle (Err denial) stays answered removed refused = drop-made may m d e (requests.Release handle) (Err denial) stays (tt, tt) answered refused.0
 
 pub map-made : {P : Type 0} (may : P → AllowRelation) (m : Monitor P) → MapsAreMade may m
 map-made may m d e dom gref flags (Ok handle) stays answered = (

@@ -32,21 +32,21 @@ PlainCallsAreMade may m =
     → (IsOfMapping (asked request) → ⊥) → FitsTypes request → KeepsNoPin verdict → Answered may m d request verdict e
     → KeepsPinned d e → (steps : List Moment) × WasMade may m request (Told verdict) steps d e
 
+-- a call that drops the mapping of a handle
+abbrev pub DropsAreMade : {P : Type 0} → (P → AllowRelation) → Monitor P → (Handle → Request) → Type 0
+DropsAreMade may m request =
+    (d e : Domain) (handle : Handle) (result : Result (Unit {0}) Denial) → StaysOf may m d e
+    → Answered may m d (request handle) (verdict_of result) e
+    → OnOk result ((p : HeldPin) × Removes d.mappings e.mappings handle p) → OnErr result (KeepsPinned d e)
+    → (steps : List Moment) × WasMade may m (request handle) (Told (verdict_of result)) steps d e
+
 -- an unmap
 abbrev pub UnmapsAreMade : {P : Type 0} → (P → AllowRelation) → Monitor P → Type 0
-UnmapsAreMade may m =
-    (d e : Domain) (handle : Handle) (result : Result (Unit {0}) Denial) → StaysOf may m d e
-    → Answered may m d (requests.Unmap handle) (verdict_of result) e
-    → OnOk result ((p : HeldPin) × Removes d.mappings e.mappings handle p) → OnErr result (KeepsPinned d e)
-    → (steps : List Moment) × WasMade may m (requests.Unmap handle) (Told (verdict_of result)) steps d e
+UnmapsAreMade may m = DropsAreMade may m (λ handle. requests.Unmap handle)
 
 -- a release
 abbrev pub ReleasesAreMade : {P : Type 0} → (P → AllowRelation) → Monitor P → Type 0
-ReleasesAreMade may m =
-    (d e : Domain) (handle : Handle) (result : Result (Unit {0}) Denial) → StaysOf may m d e
-    → Answered may m d (requests.Release handle) (verdict_of result) e
-    → OnOk result ((p : HeldPin) × Removes d.mappings e.mappings handle p) → OnErr result (KeepsPinned d e)
-    → (steps : List Moment) × WasMade may m (requests.Release handle) (Told (verdict_of result)) steps d e
+ReleasesAreMade may m = DropsAreMade may m (λ handle. requests.Release handle)
 
 -- the outcome of a map with this result
 abbrev pub IsOutcomeOf : Result Handle Denial → CallOutcome → Type 0
