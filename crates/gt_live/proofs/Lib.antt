@@ -8,7 +8,6 @@ pub mod ActionsAllowed
 pub mod Advancing
 pub mod RowsKept
 pub mod DomainKept
-mod Dropping
 pub mod Knowing
 pub mod Labels
 pub mod AnsweredAtOnce

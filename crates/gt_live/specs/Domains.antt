@@ -133,6 +133,11 @@ Released k (h ∷ hs) old v new w =
     (m : HeldPin) × (mid : HandleMap HeldPin) × (u : View) × Released k hs old v mid u × Removes mid new h m
     × Unpins k (position_in k.ids m.dom) m.gref.0 m.dir (generation_of m.word) u w
 
+-- the mapping under this handle was dropped, and its pin was released
+abbrev pub Drops : Layout → Handle → HandleMap HeldPin → View → HandleMap HeldPin → View → Type 0
+Drops k h old v new w =
+    (m : HeldPin) × Removes old new h m × Unpins k (position_in k.ids m.dom) m.gref.0 m.dir (generation_of m.word) v w
+
 -- a domain has left: the pin of each of its mappings was released, one after another, each at its moment, and nothing
 -- else was done; its seat has no pin
 pub record HasLeft (k : Layout) (d : Domain) (l : Departed) : Type 0 where

@@ -66,13 +66,15 @@ fn tell_unmap_refusal(
 impl Domain {
     ghost use Rattle.std.specs.Prelude.{◌≡◌, OnOk, OnErr, None, Some};
     ghost use Rattle.gt_live.specs.Domains.{mapping_reply, subject_of, told_of, Answered, BelongsTo};
-    ghost use Rattle.gt_live.specs.Domains.{IsUnsettled, KeepsPinned, MapAnswered};
+    ghost use Rattle.gt_live.specs.Domains.{Drops, IsUnsettled, KeepsPinned, MapAnswered};
     ghost use Rattle.gt_live.specs.Maps.{pin_effect, pin_verdict};
     ghost use Rattle.gt_calls.specs.Path.{path};
     ghost use Rattle.gt_calls.specs.declared.request.Request.{Request};
     ghost use Rattle.gt_calls.specs.Rules.{map_begun, unmap_begun};
     ghost use Rattle.gt_calls.specs.declared.request.OpenRequest.TheVariants as asks;
     ghost use Rattle.gt_live.specs.Domains.{known_on, verdict_of};
+    ghost use Rattle.std.specs.Option.{IsSome};
+    ghost use Rattle.gt_handles.specs.Handles.{value_of};
     ghost use Rattle.gt_live.specs.Mappings.{Removes};
     ghost use Rattle.gt_calls.specs.declared.held.HeldPin.{HeldPin};
 
@@ -192,6 +194,21 @@ impl Domain {
         judge_unmap(&self.known(monitor), self.label(monitor), handle)
     }
 
+    // Drops the mapping that the handle names, and releases its pin.
+    #[inline(always)]
+    fn drop_mapping<P: Allows>(&mut self, monitor: &Monitor<P>, handle: Handle)
+        requires mine { BelongsTo P.may monitor.now self.old }
+        requires there { IsSome (value_of self.old.mappings handle) }
+        ensures mine { BelongsTo P.may monitor.now self.new }
+        ensures seat { IsSameSeat self.old.seat self.new.seat }
+        ensures dropped { Drops monitor.now.words.layout handle self.old.mappings self.old.seat.view
+            self.new.mappings self.new.seat.view }
+        ensures silent { self.new.trail ≡ self.old.trail }
+    {
+        let held = self.mappings.take(handle).unwrap();
+        monitor.words.unpin(&mut self.seat, pin_of(held));
+    }
+
     // Unmaps a mapping, without a record.
     #[inline(always)]
     fn unmap_unrecorded<P: Allows>(
@@ -210,8 +227,7 @@ impl Domain {
         if let Some(verdict) = self.judge_unmap(monitor, handle) {
             return Err(refusal_of(verdict));
         }
-        let held = self.mappings.take(handle).unwrap();
-        monitor.words.unpin(&mut self.seat, pin_of(held));
+        self.drop_mapping(monitor, handle);
         Ok(())
     }
 
@@ -232,8 +248,7 @@ impl Domain {
         if let Some(verdict) = judge_release(&self.mappings, handle) {
             return Err(refusal_of(verdict));
         }
-        let held = self.mappings.take(handle).unwrap();
-        monitor.words.unpin(&mut self.seat, pin_of(held));
+        self.drop_mapping(monitor, handle);
         Ok(())
     }
 

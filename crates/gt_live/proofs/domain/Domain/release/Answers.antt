@@ -1,12 +1,5 @@
-use Rattle.std.proofs.Common.{◌≡◌, ◌∙◌, ◌<◌, sym, subst, refl, Some, None, Option}
-use Rattle.gt_types.specs.declared.limits.TheConstants.{TABLE_ENTRIES}
+use Rattle.std.proofs.Common.{◌≡◌, ◌∙◌, sym, subst, refl, Some, None, Option}
 use Rattle.std.specs.Option.{IsSome}
-use Rattle.gt_handles.specs.Handles.{value_of}
-use Rattle.gt_words.specs.Conditions.{HasDomain, Holds}
-use Rattle.gt_words.specs.Answers.{Unpins}
-use Rattle.gt_word_history.specs.Controls.{generation_of}
-use Rattle.gt_word_history.specs.Rule.{position_in}
-use Rattle.gt_words.specs.declared.words.Pin.{Pin}
 use Rattle.gt_calls.specs.Asking.{begun_of}
 use Rattle.gt_calls.specs.Opening.{opens}
 use Rattle.gt_calls.specs.Rules.{release_begun}
@@ -17,9 +10,7 @@ use Rattle.gt_calls.specs.declared.request.PinHolder.TheVariants.{Mapping as ByH
 use Rattle.gt_calls.specs.declared.request.Request.TheVariants as requests
 use Rattle.gt_live.specs.Domains.{knowledge}
 use Rattle.gt_live.proofs.Accessing.{mapped-way, none-left, refused-called, refuses}
-use Rattle.gt_live.proofs.DomainKept.{some-pins, unmapped}
-use Rattle.gt_live.proofs.Dropping.{taken-out}
-use Rattle.gt_live.proofs.Making.{same_seat-self, still_seat}
+use Rattle.gt_live.proofs.Making.{same_seat-self}
 use Rattle.gt_live.proofs.OneStep.{one-step}
 use Rattle.gt_live.proofs.AnsweredAtOnce.{mapping-refused}
 use Rattle.gt_live.proofs.domain.Domain.release.Goals as goal
@@ -40,43 +31,23 @@ returns-in-Some g c =
       silent = refl;
     }
 
-pub unwrap-held-requires : goal.unwrap-held-requires
-unwrap-held-requires g c =
+pub drop_mapping-requires-clause-there : goal.drop_mapping-requires-clause-there
+drop_mapping-requires-clause-there g c =
     let m = c.args.monitor.now in let d = c.args.self.now in let c0 = knowledge m.config (g.P.Allows.may m.rights) d in
-    let begun : release_begun c0.mapping c.args.handle ≡ None =
-    sym c.judge_release.ensures ∙ none-left c.judge_release.result c.in_default.not-Some in
-    let o = opens c0 d.seat.dom (asks.Release c.args.handle) begun in
-    subst (λ (x : Option HeldPin). IsSome x) (sym (c.take.ensures.value ∙ o.found)) refl
-
-pub unpin-requires-clause-entry : goal.unpin-requires-clause-entry
-unpin-requires-clause-entry g c =
-    let m = c.args.monitor.now in let d = c.args.self.now in let held = c.unwrap-held.result in
-    let there : value_of d.mappings c.args.handle ≡ Some held = sym c.take.ensures.value ∙ c.unwrap-held.ensures in
-    let pin = (c.requires.mine.mapped c.args.handle held there).pin in
-    subst (λ (x : Pin). HasDomain m.words.layout x.dom × (x.gref.0 < TABLE_ENTRIES)) (sym c.pin_of.ensures) (pin.run, pin.inside)
-
-pub unpin-requires-clause-held : goal.unpin-requires-clause-held
-unpin-requires-clause-held g c =
-    let m = c.args.monitor.now in let d = c.args.self.now in let k = m.words.layout in let held = c.unwrap-held.result in
-    let there : value_of d.mappings c.args.handle ≡ Some held = sym c.take.ensures.value ∙ c.unwrap-held.ensures in
-    subst (λ (x : Pin). Holds (position_in k.ids x.dom) x.gref.0 x.dir (generation_of x.word) d.seat.view) (sym c.pin_of.ensures)
-    (some-pins k d.seat.view d.mappings c.requires.mine.pins c.args.handle held there)
+    let begun : release_begun c0.mapping c.args.handle ≡ None = sym c.judge_release.ensures ∙ none-left c.judge_release.result c.in_default.not-Some in
+    subst (λ (x : Option HeldPin). IsSome x) (sym (opens c0 d.seat.dom (asks.Release c.args.handle) begun).found) refl
 
 pub returns : goal.returns
 returns g c =
-    let m = c.args.monitor.now in let d = c.args.self.now in let may = g.P.Allows.may m.rights in let c0 = knowledge m.config may d in
-    let k = m.words.layout in let held = c.unwrap-held.result in let new = c.take.new.self in let seat = c.unpin.new.seat in let t = c.take.ensures in
-    let there : value_of d.mappings c.args.handle ≡ Some held = sym t.value ∙ c.unwrap-held.ensures in
-    let step = subst (λ (p : Pin). Unpins k (position_in k.ids p.dom) p.gref.0 p.dir (generation_of p.word) d.seat.view seat.view) c.pin_of.ensures c.unpin.ensures.step in
-    let taken = taken-out d.mappings new c.args.handle held c.take.result there t.value t.updates t.count t.given in
-    let begun : begun_of c0 d.seat.dom (requests.Release c.args.handle) ≡ None =
-    sym c.judge_release.ensures ∙ none-left c.judge_release.result c.in_default.not-Some in
-    let way = mapped-way c0 d.seat.dom (requests.Release c.args.handle) c.args.handle held (λ (p : HeldPin). steps.Unpin p (ByHandle c.args.handle)) begun there refl in
+    let m = c.args.monitor.now in let d = c.args.self.now in let c0 = knowledge m.config (g.P.Allows.may m.rights) d in
+    let h = c.args.handle in let did = c.drop_mapping.ensures in let held = did.dropped.0 in
+    let begun : begun_of c0 d.seat.dom (requests.Release h) ≡ None = sym c.judge_release.ensures ∙ none-left c.judge_release.result c.in_default.not-Some in
+    let way = mapped-way c0 d.seat.dom (requests.Release h) h held (λ (p : HeldPin). steps.Unpin p (ByHandle h)) begun did.dropped.1.taken.value refl in
     record {
-      mine = unmapped m.words m.config may d (record d { seat = seat; mappings = new }) c.args.handle held c.requires.mine (still_seat m.words d.seat seat c.requires.mine.seat c.unpin.ensures.seat) c.unpin.ensures.seat.dom refl taken step;
-      seat = c.unpin.ensures.seat;
-      answered = one-step k _ (steps.Unpin held (ByHandle c.args.handle)) d.seat.view seat.view way step;
-      removed = (held, record { taken = taken; spent = t.still_spent });
+      mine = did.mine;
+      seat = did.seat;
+      answered = one-step m.words.layout _ (steps.Unpin held (ByHandle h)) d.seat.view c.drop_mapping.new.self.seat.view way did.dropped.2;
+      removed = (held, did.dropped.1);
       refused = tt;
-      silent = refl;
+      silent = did.silent;
     }
