@@ -4,14 +4,14 @@ use Rattle.std.specs.Prelude.{Option, None}
 use Rattle.gt_calls.specs.Prelude.{arith, FRAME_SIZE, LAST_GENERATION, MAX_MAPPINGS, MAX_TABLE_FRAMES, DomId, GrantRef}
 use Rattle.gt_calls.specs.Prelude.{TypeId, Write, Perms, Triple, resolved, Entry, EntryChange, ToReadOnly, ToWritable}
 use Rattle.gt_calls.specs.Prelude.{Handle, OpenRequest, Grant, Revoke, Demote, Promote, Map, Unmap, Release, Load}
-use Rattle.gt_calls.specs.Prelude.{SetVersion, SetupTable, QuerySize, GetVersion, Store, Peek, Poke, Copy, Withdraw}
+use Rattle.gt_calls.specs.Prelude.{SetVersion, SetupTable, QuerySize, GetVersion, Store, Peek, Poke, Copy, Probe, Withdraw}
 use Rattle.gt_calls.specs.Prelude.{HeldPin, CopyArgs, End, Rule, CallResult, SERIAL_LIMIT}
 use Rattle.gt_calls.specs.Rules.{CallerKnowledge, IsOfRun, is_already, cannot_stand, frame_count_of, is_invalid}
 use Rattle.gt_calls.specs.Rules.{size_of}
 use Rattle.gt_calls.specs.Rules.{map_dir, rights_to_map, rights_to_unmap, rights_to_copy, rights_to_setup}
 use Rattle.gt_calls.specs.Rules.{rights_to_query, begun, first, refused_when}
 use Rattle.gt_types.specs.Copies.{is_source_granted, is_dest_granted}
-use Rattle.gt_calls.specs.Rules.{denied, has_valid, ends_named, ends_ranged, ends_owned, ends_framed, is_foreign}
+use Rattle.gt_calls.specs.Rules.{copy_begun, granted_when, has_own_ends, denied, has_valid, ends_named, ends_ranged, ends_owned, ends_framed, is_foreign}
 use Rattle.gt_calls.specs.Rules.{is_past_frames}
 
 -- the policy allows each of these (XSM FLASK)
@@ -97,6 +97,11 @@ pub record OpensCopy (k : CallerKnowledge) (caller : DomId) (c : CopyArgs) : Typ
   pub own_dest : is_dest_granted c ≡ false → IsOwnEnd k caller c.dest
   pub allowed : IsAllowed k.may (rights_to_copy k (resolved caller c.source.domid) (resolved caller c.dest.domid))
 
+-- a probe: its copy may be made, and a reference names one of its ends
+pub record OpensProbe (k : CallerKnowledge) (caller : DomId) (c : CopyArgs) : Type 0 where
+  pub copy : OpensCopy k caller c
+  pub pinned : has_own_ends c ≡ false
+
 -- a new version: it is 1 or 2 and not the table's, and all entries of the table are invalid
 pub record OpensVersion (k : CallerKnowledge) (version : ℕ) : Type 0 where
   pub version_known : (version ≡ 1) ⊎ (version ≡ 2)
@@ -129,6 +134,7 @@ Opens k caller (Store handle off len) = OpensStore k handle off len
 Opens k caller (Peek frame off len) = OpensOwn k caller frame off len
 Opens k caller (Poke frame off len) = OpensOwn k caller frame off len
 Opens k caller (Copy c) = OpensCopy k caller c
+Opens k caller (Probe c) = OpensProbe k caller c
 Opens k caller (SetVersion version) = OpensVersion k version
 Opens k caller (SetupTable frames) = OpensSetup k caller frames
 Opens k caller (QuerySize dom) = OpensQuery k caller dom
@@ -176,8 +182,20 @@ opens-copy k caller c h =
       allowed = grind (arith, allowed);
     }
 
+pub opens-so : (k : CallerKnowledge) (caller : DomId) (c : CopyArgs) → copy_begun k caller c ≡ None → OpensCopy k caller c
+opens-so k caller c h = opens-copy k caller c (none-of _ _ _ _ _ h)
+
+-- neither the rules of a probe's copy nor the test of its ends gives an answer
+neither : (a : Option CallResult) (b : Bool) → first (a ∷ granted_when b ∷ []) ≡ None → (a ≡ None) × (b ≡ false)
+neither a b h = grind arith
+
+opens-probe : (k : CallerKnowledge) (caller : DomId) (c : CopyArgs) → (copy_begun k caller c ≡ None) × (has_own_ends c ≡ false)
+    → OpensProbe k caller c
+opens-probe k caller c h = record { copy = opens-so k caller c h.0; pinned = h.1 }
+
 -- what holds for a call that no rule answers at its beginning
 pub opens : (k : CallerKnowledge) (caller : DomId) (request : OpenRequest) → begun k caller request ≡ None
     → Opens k caller request
-opens k caller (Copy c) h = opens-copy k caller c (none-of _ _ _ _ _ h)
+opens k caller (Copy c) h = opens-so k caller c h
+opens k caller (Probe c) h = opens-probe k caller c (neither _ _ h)
 opens k caller request h = grind (arith, allowed, none-valid)

@@ -38,7 +38,7 @@ pub use Rattle.gt_calls.specs.declared.leg.TheConstants.{MORE_TRIES}
 pub use Rattle.gt_calls.specs.declared.request.OpenRequest.{OpenRequest}
 pub use Rattle.gt_calls.specs.declared.request.OpenRequest.TheVariants.{Copy, Demote, GetVersion, Grant, Load, Map, Peek}
 pub use Rattle.gt_calls.specs.declared.request.OpenRequest.TheVariants.{Poke, Promote, QuerySize, Revoke, SetVersion}
-pub use Rattle.gt_calls.specs.declared.request.OpenRequest.TheVariants.{Release, SetupTable, Store, Unmap, Withdraw}
+pub use Rattle.gt_calls.specs.declared.request.OpenRequest.TheVariants.{Probe, Release, SetupTable, Store, Unmap, Withdraw}
 pub use Rattle.gt_types.specs.declared.copies.CopyArgs.{CopyArgs}
 pub use Rattle.gt_types.specs.declared.copies.End.{End}
 pub use Rattle.gt_calls.specs.declared.request.PinHolder.TheVariants.{Leg as ByLeg, Mapping as ByHandle}

@@ -8,9 +8,9 @@ ghost use Rattle.gt_calls.specs.Rules.{grant_begun};
 
 use crate::action::CallResult;
 use crate::judging::{
-    judge_change, judge_copy, judge_grant, judge_load, judge_map, judge_own_access, judge_query,
-    judge_release, judge_revoke, judge_setup, judge_store, judge_unmap, judge_version, label_of,
-    own_entry,
+    judge_change, judge_copy, judge_grant, judge_load, judge_map, judge_own_access, judge_probe,
+    judge_query, judge_release, judge_revoke, judge_setup, judge_store, judge_unmap, judge_version,
+    label_of, own_entry,
 };
 use crate::known::{CallerState, OwnerEntry};
 use crate::request::{OpenRequest, Request};
@@ -70,6 +70,7 @@ fn judge_beginning<P: Allows>(
             judge_own_access(known.config, caller, frame, off, len)
         }
         OpenRequest::Copy(copy) => judge_copy(known, caller, &copy),
+        OpenRequest::Probe(copy) => judge_probe(known, caller, &copy),
         OpenRequest::SetVersion { version } => judge_version(known.header, known.own, version),
         OpenRequest::SetupTable { frames } => {
             judge_setup(known, label_of(known.config, caller), frames)
@@ -143,6 +144,7 @@ fn plainly_asked(request: Request<'_>) -> OpenRequest
             len: bytes.len(),
         },
         Request::Copy(copy) => OpenRequest::Copy(copy),
+        Request::Probe(copy) => OpenRequest::Probe(copy),
         Request::SetVersion { version } => OpenRequest::SetVersion { version },
         Request::SetupTable { frames } => OpenRequest::SetupTable { frames },
         Request::QuerySize { dom } => OpenRequest::QuerySize { dom },

@@ -5,12 +5,12 @@ ghost use Rattle.gt_handles.specs.Handles.{value_of};
 ghost use Rattle.gt_calls.specs.Rules.{knows};
 ghost use Rattle.gt_calls.specs.Path.{map_leg, idle_word};
 ghost use Rattle.gt_calls.specs.Machine.{ended_as, refused_as, handle_refused, publishing, first_phase, unmap_phase};
-ghost use Rattle.gt_calls.specs.Machine.{load_phase, store_phase, after_store};
+ghost use Rattle.gt_calls.specs.Machine.{load_phase, store_phase, after_store, unaccessed};
 
 use crate::action::{CallResult, CallValue, Step};
 use crate::call::{HeaderQuery, Phase};
 use crate::copying::{PinPurpose, at_source, leg_to};
-use crate::held::{CallPins, HeldPin, NO_PINS};
+use crate::held::{AccessPath, CallPins, HeldPin, NO_PINS};
 use crate::judging::{map_dir, own_entry, resolve};
 use crate::known::CallerState;
 use crate::leg::{Leg, LegPhase, MORE_TRIES, entry_refusal};
@@ -207,6 +207,25 @@ fn begin_copy<P: Allows>(
     *phase = at_source(known, caller, copy);
 }
 
+// Returns the pins of these routes.
+pub(crate) fn by_routes(source: &AccessPath, dest: &AccessPath) -> CallPins
+    ensures { result ≡ record { source = source.now; dest = dest.now } }
+{
+    CallPins {
+        source: *source,
+        dest: *dest,
+    }
+}
+
+// Releases the pins of a copy where it would make its access.
+pub(crate) fn pass_access(phase: &mut Phase)
+    ensures { phase.new ≡ unaccessed phase.old }
+{
+    if let Phase::Accessing { source, dest, .. } = phase {
+        *phase = ending(by_routes(source, dest), CallResult::Granted);
+    }
+}
+
 // Writes the first phase of a call that was not answered at its beginning.
 pub(crate) fn set_first<P: Allows>(
     known: &CallerState<'_, P>,
@@ -241,6 +260,10 @@ pub(crate) fn set_first<P: Allows>(
         OpenRequest::Peek { frame, off, len } => *phase = reading(caller, frame, off, len),
         OpenRequest::Poke { frame, off, len } => *phase = writing(caller, frame, off, len),
         OpenRequest::Copy(copy) => begin_copy(known, caller, copy, phase),
+        OpenRequest::Probe(copy) => {
+            begin_copy(known, caller, copy, phase);
+            pass_access(phase);
+        }
         OpenRequest::SetVersion { version } => {
             *phase = one_step(Step::StoreHeader {
                 version,
