@@ -1,7 +1,7 @@
 -- A call before its first step: what holds for each request.
 use Rattle.gt_calls.proofs.Words.{◌≡◌, ◌≤◌, ℕ, refl, false, inl, inr, List, Observation, [], Option, Some, None, sym, ap, ◌∙◌, subst, arith, DomId}
 use Rattle.gt_calls.proofs.Words.{GrantRef, Request, bytes_of, OpenRequest, Copy, CopyArgs, CallResult, Phase, Ending}
-use Rattle.gt_calls.proofs.Words.{CallerKnowledge, begun, opens, Continuation, path, after_beginning, steps_of, remains}
+use Rattle.gt_calls.proofs.Words.{CallerKnowledge, begun, opens, Continuation, path, after_beginning, steps_of}
 use Rattle.gt_calls.proofs.Words.{first_phase, at_source, action_at, HasShown, held_in, steps_left, IsStepAction}
 use Rattle.gt_calls.{specs.Path.most_steps, proofs.Calls.at-source}
 use Rattle.gt_calls.proofs.Probing.{is-settled, last-quiet, settled-held, settled-left, settled-shown, unaccessed-left, wants}

@@ -1,8 +1,8 @@
 -- A probe follows the path of its copy without the access.
-use Rattle.gt_calls.proofs.Words.{◌≡◌, ◌≤◌, ℕ, refl, Bool, true, false, List, [], ◌∷◌, Option, Some, None, cond, sym}
+use Rattle.gt_calls.proofs.Words.{◌≡◌, ◌≤◌, refl, Bool, true, false, List, [], ◌∷◌, Option, Some, None, cond, sym}
 use Rattle.gt_calls.proofs.Words.{ap, ◌∙◌, subst, inl, inr, arith, DomId, OpenRequest, Copy, CopyArgs, CallResult, Action}
-use Rattle.gt_calls.proofs.Words.{Makes, Observation, Nothing, Word, Taken, Missed, HeldPin, AccessPath, Phase, Accessing, Walking}
-use Rattle.gt_calls.proofs.Words.{Ending, Last, CallerKnowledge, Continuation, accesses, give_back, remains, phase_after}
+use Rattle.gt_calls.proofs.Words.{Observation, Nothing, HeldPin, AccessPath, Phase, Accessing}
+use Rattle.gt_calls.proofs.Words.{CallerKnowledge, Continuation, accesses, give_back, remains, phase_after}
 use Rattle.gt_calls.proofs.Words.{action_at, FitsAction, HoldsNext, HasShown, held_in, steps_left, last_first}
 use Rattle.gt_calls.specs.declared.request.OpenRequest.TheVariants.{Probe}
 use Rattle.gt_calls.specs.declared.action.CallResult.TheVariants.{Granted}

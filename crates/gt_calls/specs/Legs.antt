@@ -1,5 +1,5 @@
 -- What a leg has left to do, by its phase.
-use Rattle.std.specs.Prelude.{◌-◌, ◌==◌, nat_lt, if◌then◌else◌, ℕ, [], Option, Some, None, zero, suc}
+use Rattle.std.specs.Prelude.{◌-◌, ◌==◌, nat_lt, if◌then◌else◌, ℕ, Option, Some, None, zero, suc}
 use Rattle.gt_calls.specs.Prelude.{Rule, N9, N18, HeaderFacts, denial_of, KindSub, control_of, header_of, FirstHalf}
 use Rattle.gt_calls.specs.Prelude.{SecondHalf, Step, LookHeader, LookControl, LookBody, Pin, Observation, Word, Taken, Missed}
 use Rattle.gt_calls.specs.Prelude.{Leg, LegPhase, Header, Look, Body, Second, Pinning, Relook, LegNext, Going}

@@ -1,5 +1,5 @@
 -- The leg that an open call makes is the one that its pins determine.
-use Rattle.gt_core.proofs.Words.{◌≡◌, ◌+◌, ℕ, refl, Bool, true, List, [], ◌∷◌, ◌++◌, map, reverse, Option, Some, None}
+use Rattle.gt_core.proofs.Words.{inl, inr, ◌≡◌, ◌+◌, ℕ, refl, Bool, true, List, [], ◌∷◌, ◌++◌, map, reverse, Option, Some, None}
 use Rattle.gt_core.proofs.Words.{cond, sym, ap, ◌∙◌, false≢true, DomId, Dir, Read, Write, ForCopy, Entry, Page, Sub}
 use Rattle.gt_core.proofs.Words.{Via, permits, OpenRequest, CopyArgs, HeldPin, AccessPath, Direct, Through, PinPurpose, Mapping, Source}
 use Rattle.gt_core.proofs.Words.{Dest, Leg, last_first, pins_so_far, held_by, CallerKnowledge, is_source_granted}
@@ -9,6 +9,7 @@ use Rattle.gt_core.proofs.Words.{History, Setting, known_at, legs_at, LegNow, nu
 use Rattle.gt_core.proofs.Words.{toward_source, from_source, after_source, source_now, dest_now, second_now}
 use Rattle.gt_core.proofs.{Legs.IsLegOf}
 use Rattle.gt_calls.specs.declared.held.AccessPath.TheVariants.{Own}
+use Rattle.gt_calls.specs.Resting.{IsCopyOf}
 
 -- the pair whose right to copy a Via of this leg needs
 abbrev pub pair_of : DomId → PinPurpose → DomId → DomId × DomId
@@ -71,14 +72,19 @@ first-dest (Direct p) None = refl
 first-dest (Through v p) None = refl
 first-dest source via = refl
 
+-- a copy and its probe make the same legs
+copy-leg : (k : CallerKnowledge) (d : DomId) (r : OpenRequest) (c : CopyArgs) (held : List HeldPin) → IsCopyOf r c → leg_now k d r held ≡ copy_now k d c held
+copy-leg k d r c held (inl is) = ap (λ (z : OpenRequest). leg_now k d z held) is
+copy-leg k d r c held (inr is) = ap (λ (z : OpenRequest). leg_now k d z held) is
+
 walks : (k : CallerKnowledge) (d : DomId) (r : OpenRequest) (aim : PinPurpose) (l : Leg) → IsLegFor k d r aim l → leg_now k d r (reverse (last_first (pins_so_far aim))) ≡ Some (record { leg = l; pair = pair_of d aim })
 walks k d r Mapping l is =
     ap (λ (z : OpenRequest). leg_now k d z []) is.of_map ∙ ap (λ (x : Leg). Some (record { leg = x; pair = pair_of d Mapping })) (sym is.leg_is)
 walks k d r (Source c via) l is =
-    ap (λ (z : OpenRequest). leg_now k d z (reverse (last_first (pins_so_far (Source c via))))) is.0
+    copy-leg k d r c (reverse (last_first (pins_so_far (Source c via)))) is.0
     ∙ ap (copy_now k d c) (first-source via) ∙ toward-source k d c via l is.1
 walks k d r (Dest c source via) l is =
-    ap (λ (z : OpenRequest). leg_now k d z (reverse (last_first (pins_so_far (Dest c source via))))) is.0
+    copy-leg k d r c (reverse (last_first (pins_so_far (Dest c source via)))) is.0
     ∙ ap (copy_now k d c) (first-dest source via) ∙ reached-source k d c source (held_by (begun_route via)) is.1 ∙ toward-dest k d c source via l is.2
 
 -- the leg of a call is the one that its steps so far determine

@@ -19,6 +19,7 @@ use Rattle.gt_core.{proofs.WithoutKeys.values-bare, proofs.WithoutKeys.contents-
 use Rattle.gt_core.{proofs.HandlesGiven.CallKnown}
 use Rattle.gt_core.{proofs.HandlesGiven.open-known}
 use Rattle.gt_core.specs.declared.trace.Answer.TheVariants as answers
+use Rattle.gt_calls.specs.declared.request.OpenRequest.TheVariants.{Probe}
 
 -- paths
 
@@ -36,6 +37,7 @@ FindsSame bared found r = Unit {0}
 
 path-bare : (k : CallerKnowledge) (found : Handle → Option HeldPin) (d : DomId) (r : OpenRequest) (vs : List Observation) → FindsSame found k.mapping r
     → option_map bare_action (path (record k { mapping = found }) d (bare_asked r) vs) ≡ option_map bare_action (path k d r vs)
+path-bare k found d (Probe c) vs same = refl
 path-bare k found d r vs same = grind arith
 
 begun-bare : (k : CallerKnowledge) (found : Handle → Option HeldPin) (d : DomId) (q : Request) → FindsSame found k.mapping (asked q) → begun_of (record k { mapping = found }) d (bare_request q) ≡ begun_of k d q

@@ -1,6 +1,6 @@
 -- What holds for each step of an open call: a line for each phase, from the file of the step that it makes.
 use Rattle.gt_core.proofs.Words.{◌≡◌, ◌≢◌, ◌⊎◌, inl, inr, ℕ, refl, false, List, [], ◌∷◌, Option, Some, None, sym, ap}
-use Rattle.gt_core.proofs.Words.{subst, ◌==◌, domain_of, DomId, GrantRef, EntryChange, control_of, OpenRequest, Copy, CopyArgs}
+use Rattle.gt_core.proofs.Words.{subst, ◌==◌, domain_of, DomId, GrantRef, EntryChange, control_of, OpenRequest, CopyArgs}
 use Rattle.gt_core.proofs.Words.{Step, Exchange, Observation, Taken, Missed, Makes, PinPurpose, Mapping, Source, Dest, Phase, Storing}
 use Rattle.gt_core.proofs.Words.{StoringSecond, Exchanging, Looking, Changing, Walking, Accessing, Asking, Last, Ending}
 use Rattle.gt_core.proofs.Words.{Leg, LegPhase, Pinning, LegNext, Going, LegRefused, Pinned, last_first, pins_so_far}
@@ -8,6 +8,7 @@ use Rattle.gt_core.proofs.Words.{CallerKnowledge, begun, path, is_stopped, IsLeg
 use Rattle.gt_core.proofs.Words.{leg_after, leg_step, HasShown, State, History, Setting, word_at, known_at, seen_by}
 use Rattle.gt_core.proofs.Words.{StepsSoFar, PhaseStands, cond_both, Denial, legs_at, numbered, pins_at, reverse}
 use Rattle.gt_core.proofs.Words.{refusal_in, IsClean, LeavesAll, first_at, is_demote, LegStands, Bool, true, eqb-true}
+use Rattle.gt_calls.specs.Resting.{IsCopyOf}
 use Rattle.gt_core.proofs.{Phases.OfAction, Phases.IsHere, Phases.words-of, Phases.by-quiet, Legs.Words, Legs.ComesTo}
 use Rattle.gt_core.proofs.{Legs.IsLegOf, Aims.pair_of, Aims.leg-here, Legs.as-tried, Phases.Judged}
 use Rattle.gt_core.proofs.{Steps.Look.asked-judged, Steps.Look.look-judged, Steps.Exchange.once-judged}
@@ -19,7 +20,7 @@ use Rattle.gt_core.proofs.{Phases.Placed, Steps.Unpin.give-placed, Steps.Pin.mis
 use Rattle.gt_core.proofs.{Steps.Store.IsStore, Steps.Pin.taken-leads, Steps.Look.look-placed}
 
 -- the pins of a leg that ends are those of a copy, or none
-walk-over : (k : CallerKnowledge) (d : DomId) (r : OpenRequest) (aim : PinPurpose) (l : Leg) → IsLegFor k d r aim l → (last_first (pins_so_far aim) ≡ []) ⊎ ((copy : CopyArgs) × (r ≡ Copy copy) × Unit {0})
+walk-over : (k : CallerKnowledge) (d : DomId) (r : OpenRequest) (aim : PinPurpose) (l : Leg) → IsLegFor k d r aim l → (last_first (pins_so_far aim) ≡ []) ⊎ ((copy : CopyArgs) × IsCopyOf r copy × Unit {0})
 walk-over k d r Mapping l is = inl refl
 walk-over k d r (Source c via) l is = inr (c, is.0, tt)
 walk-over k d r (Dest c source via) l is = inr (c, is.0, tt)
@@ -31,10 +32,16 @@ abbrev pub TakesNone : Setting → History → DomId → Leg → LegPhase → Ty
 TakesNone s h d l (Pinning more word body second) = (word_at s h l.dom.0 l.gref.0 == word) ≡ false
 TakesNone s h d l phase = Unit {0}
 
+-- a copy and a probe are no demotions
+no-demote : (r : OpenRequest) (c : CopyArgs) → IsCopyOf r c → is_demote r ≡ false
+no-demote r c (inl is) = ap is_demote is
+no-demote r c (inr is) = ap is_demote is
+
 -- the purpose is not a demotion: a demotion makes no leg
 plain-leg : (k : CallerKnowledge) (d : DomId) (r : OpenRequest) (aim : PinPurpose) (l : Leg) → IsLegFor k d r aim l → is_demote r ≡ false
 plain-leg k d r Mapping l is = ap is_demote is.of_map
-plain-leg k d r aim l is = ap is_demote is.0
+plain-leg k d r (Source c via) l is = no-demote r c is.0
+plain-leg k d r (Dest c source via) l is = no-demote r c is.0
 
 pub walk-comes : (s : Setting) (h : History) (d : DomId) (r : OpenRequest) (so_far : StepsSoFar) (aim : PinPurpose) (l : Leg) (at : LegPhase) → Words s h l → IsLegFor (known_at s h d) d r aim l → IsLegOf s h d r l (pair_of d aim) → LegStands s h l so_far at
     → TakesNone s h d l at → ComesTo s h l ((leg_step l at, seen_by s h d (leg_step l at)) ∷ so_far) (first_at s h d r so_far (leg_step l at)) (leg_after l at (seen_by s h d (leg_step l at)))

@@ -47,6 +47,7 @@ use Rattle.gt_core.proofs.{Rows.state_of-set, Steps.Observers.stepped, Steps.Wri
 use Rattle.gt_core.proofs.{Stepping.Begins, Stepping.tick-does, Ticking.Ticks, Ticking.ticks}
 use Rattle.gt_core.proofs.{Values.call-ends, Beginning.place-at}
 use Rattle.gt_core.proofs.Starting.{starts as domains-start}
+use Rattle.gt_core.proofs.Ticking.{done-from}
 
 -- the state of a domain of the run
 
@@ -201,7 +202,7 @@ module _ (s : Setting) (h : History) (xs : List State) (fs : FrameSet) (x : Stat
   left-by at y was now (Makes z) e end = (set (applied x.id o.step (sees xs x.id o.step) xs) at (with_underway (Some (record { call = call_then s xs x o; step = z })) y), (end, refl))
   left-by at y was now (Done Granted) e (z, is, told) = (set (applied x.id o.step (sees xs x.id o.step) xs) at (with_underway None y), (z, is, closes gs (applied x.id o.step (sees xs x.id o.step) xs) at y o.step z told))
   left-by at y was now (Done (KeptPin held)) e (handle, is, (new, adds)) =
-      let pin : o.step ≡ PinStep held = (call-ends s h xs x.id c.request (values c) (reverse c.steps) ticked.1.stands.phase o.step ticked.1.i (KeptPin held) (sym ticked.1.acts ∙ e)).is in
+      let pin : o.step ≡ PinStep held = (call-ends s h xs x.id c.request (values c) (reverse c.steps) ticked.1.stands.phase o.step ticked.1.i (KeptPin held) (done-from ticked.1 (KeptPin held) e)).is in
       let same : y.mappings ≡ x.mappings = kept-part (λ (z : State). z.mappings) x.id (PinStep held) (sees xs x.id o.step) xs at x y (λ z r n. refl) was
       (subst (λ (z : Step). slice_get (applied x.id z (sees xs x.id o.step) xs) at ≡ Some y) pin now) in
       (set (applied x.id o.step (sees xs x.id o.step) xs) at (with_mapping new y), (Mapped handle, is, (handle, new, refl, subst (λ (m : HandleMap HeldPin). Adds m new handle held) (sym same) adds, refl)))

@@ -16,6 +16,7 @@ pub mod Pins
 pub mod Placed
 pub mod Playing
 pub mod Rows
+pub mod Probes
 pub mod CallsOver
 pub mod Showing
 pub mod Starting

@@ -16,6 +16,7 @@ use Rattle.gt_calls.specs.Following.{IsLeftAlike}
 use Rattle.gt_core.specs.declared.pin_counts.CountsChange.{CountsChange}
 use Rattle.gt_core.specs.declared.pin_counts.CountsChange.TheVariants.{Pinned as PinnedCount}
 use Rattle.gt_core.proofs.{Rows.has_id, Rows.set-state, CallsOver.length-applied, Phases.makes-same}
+use Rattle.gt_calls.specs.Machine.{settled}
 
 -- two changes of states
 
@@ -167,7 +168,7 @@ module _ (domains : List DomainConfig) (first : ℕ) (may : TypeId → TypeId �
 -- an open call has the same phase by what its domain knew before its step and by what it knows after it
 pub left-alike : (s : Setting) (h : History) (xs : List State) (k : ℕ) (d : DomId) (x y : State) (o : OpenCall) (c : Underway) (seen : Observation) → OpenAgrees s h x.id o c → slice_get xs k ≡ Some x → slice_get (applied d o.step seen xs) k ≡ Some y
     → IsLeftAlike (knowledge_of s.domains s.first_generation s.may x.own x.header x.mappings) (knowledge_of s.domains s.first_generation s.may y.own y.header y.mappings) o.call seen
-left-alike s h xs k d x y o c seen a here there = rw a.here (by a.phase a.acts) where
+left-alike s h xs k d x y o c seen a here there = rw a.here (ap (settled o.call.request) (by a.phase a.acts)) where
   Alike : Phase → Type 0
   Alike p = phase_after (knowledge_of s.domains s.first_generation s.may x.own x.header x.mappings) o.call.caller p seen ≡ phase_after (knowledge_of s.domains s.first_generation s.may y.own y.header y.mappings) o.call.caller p seen
 

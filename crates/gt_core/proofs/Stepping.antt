@@ -37,6 +37,7 @@ use Rattle.gt_core.proofs.{Steps.Store.header-fits, Steps.Pin.map-lawful, Steps.
 use Rattle.gt_core.proofs.{Steps.Exchange.exchange-stands, Beginning.agrees-found, Rows.has_id, Rows.found}
 use Rattle.gt_core.proofs.{Rows.state_of-set}
 use Rattle.gt_core.specs.declared.trace.Bytes.{Bytes}
+use Rattle.gt_core.proofs.Ticking.{done-next}
 
 -- the states in which only the actor's call, or its handles or bytes, differ
 abbrev Replaced : List State → List State → State → State → Type 0
@@ -124,7 +125,7 @@ module _ {s : Setting} {h : History} {xs : List State} {x : State} {o : OpenCall
   -- no store ends a call
   store-goes : {v : CallResult} → Ticks s h xs x o c new (Done v) → IsStore o.step → ⊥
   store-goes {v} t store = let k = known_at s h x.id in by-storing s h x.id c.request (path k x.id c.request) (values c) (λ (p : Phase) (z : Step). Done v ≡ action_at x.id (next_of s h x.id p z) → ⊥)
-      (λ g entry. after-granted k x.id g v entry) (λ g entry e. cc) t.stands.phase o.step t.stands.at.has_shown t.stands.acts store t.acts
+      (λ g entry. after-granted k x.id g v entry) (λ g entry e. cc) t.stands.phase o.step t.stands.at.has_shown t.stands.acts store (sym (done-next t))
 
   -- a call that ends
   ends-core : (ys : List State) {v : CallResult} (answer : Answer) (t : Ticks s h xs x o c new (Done v)) → Replaced xs ys x (record x { underway = None }) → IsPlainAnswer answer → ((m : HeldPin) → v ≡ KeptPin m → ⊥)
@@ -138,7 +139,7 @@ module _ {s : Setting} {h : History} {xs : List State} {x : State} {o : OpenCall
 
   given-core : (ys : List State) {value : CallValue} (t : Ticks s h xs x o c new (Done (Given value))) → Replaced xs ys x (record x { underway = None }) → Ticked s h x.id o.step (seen_in t) (Some (answer_with value)) (applied x.id o.step (seen_in t) ys)
   given-core ys {value} t r = let q = by value in ends-core ys (answer_with value) t r q.0 (λ m e. cc) q.1
-      (call-ends s h xs x.id c.request (values c) (reverse c.steps) t.stands.phase o.step t.i (Given value) (sym t.acts))
+      (call-ends s h xs x.id c.request (values c) (reverse c.steps) t.stands.phase o.step t.i (Given value) (done-next t))
     where
       by : (z : CallValue) → IsPlainAnswer (answer_with z) × (refusal_of (answer_with z) ≡ None)
       by (FramesTold n) = (tt, refl)
@@ -148,7 +149,7 @@ module _ {s : Setting} {h : History} {xs : List State} {x : State} {o : OpenCall
   mapped-core : (ys : List State) {held : HeldPin} (handle : Handle) (kept : HandleMap HeldPin) (t : Ticks s h xs x o c new (Done (KeptPin held))) → Replaced xs ys x (record x { mappings = kept; underway = None })
       → Adds x.mappings kept handle held → Ticked s h x.id o.step (seen_in t) (Some (Mapped handle)) (applied x.id o.step (seen_in t) ys)
   mapped-core ys {held} handle kept t r adds = let d = x.id in let answer : Option Answer = Some (Mapped handle) in
-      let m = call-ends s h xs d c.request (values c) (reverse c.steps) t.stands.phase o.step t.i (KeptPin held) (sym t.acts) in
+      let m = call-ends s h xs d c.request (values c) (reverse c.steps) t.stands.phase o.step t.i (KeptPin held) (done-next t) in
       let saw : seen_in t ≡ Taken = ap (seen_by s h d) m.is ∙ ap (λ (b : Bool). cond b Taken (Missed (word_at s h held.dom.0 held.gref.0))) (eq-eqb (word_at s h held.dom.0 held.gref.0) held.word m.taken) in
       let j : IsHere s h xs d c.request (values c) (reverse c.steps) t.stands.phase (PinStep held) = subst (IsHere s h xs d c.request (values c) (reverse c.steps) t.stands.phase) m.is t.i in
       let can : CanPin s h d c.request held = can-pin s h xs d c.request (values c) (reverse c.steps) t.stands.phase held j m.taken in
@@ -188,7 +189,7 @@ module _ {s : Setting} {h : History} {xs : List State} {fs : FrameSet} {x : Stat
 
     over : (step : Step) → o.step ≡ step → (answer ≡ AnswerDone) × (zs ≡ set xs at (with_underway None x)) → ((dom : DomId) (frame off len : ℕ) → step ≡ ReadBytes dom frame off len → ⊥) → Goal answer zs
     over step is (done, left) read = ends AnswerDone done tt refl left
-        (call-ends s h xs x.id c.request (values c) (reverse c.steps) t.stands.phase o.step t.i Granted (sym t.acts) (λ dom frame off len e. read dom frame off len (sym is ∙ e)))
+        (call-ends s h xs x.id c.request (values c) (reverse c.steps) t.stands.phase o.step t.i Granted (done-next t) (λ dom frame off len e. read dom frame off len (sym is ∙ e)))
 
     by : (step : Step) → o.step ≡ step → Closed fs xs at x step answer zs → Goal answer zs
     by (ReadBytes dom frame off len) is (b, done, left, gives) = ends (BytesAnswer b) done tt refl left
@@ -293,7 +294,7 @@ action-core s h fs xs zs at x o c new action answer t fr r settled = by action t
 pub room-asked : (s : Setting) (h : History) (xs : List State) (dom : DomId) (at : ℕ) (x : State) (o : OpenCall) (seen : Observation) (new : Call) (action : Action) → IsLegalHistory s h → DomainsStand s h xs → Begins s xs dom at x o seen new action → IsRoomFor o.call.request action
 room-asked s h xs dom at x o seen new (Done (KeptPin held)) legal st b =
     let n = begun s h xs dom at x o seen new (Done (KeptPin held)) legal st b in let t = n.ticks in
-    let m = call-ends s h xs x.id n.c.request (values n.c) (reverse n.c.steps) t.stands.phase o.step t.i (KeptPin held) (sym t.acts) in
+    let m = call-ends s h xs x.id n.c.request (values n.c) (reverse n.c.steps) t.stands.phase o.step t.i (KeptPin held) (done-next t) in
     subst (λ (q : OpenRequest). IsMapping (Some q)) (sym (t.stands.asks ∙ m.of_map)) tt
 room-asked s h xs dom at x o seen new action legal st b = tt
 
@@ -310,7 +311,7 @@ settled-before fs gs xs new at x d old call step action answer wrote a = a
 
 -- only a pin ends a call with a mapping
 ends-by-pin : (s : Setting) (h : History) (xs : List State) (x : State) (o : OpenCall) (c : Underway) (new : Call) (action : Action) → Ticks s h xs x o c new action → EndsByPin o.step action
-ends-by-pin s h xs x o c new (Done (KeptPin held)) t = (held, (call-ends s h xs x.id c.request (values c) (reverse c.steps) t.stands.phase o.step t.i (KeptPin held) (sym t.acts)).is)
+ends-by-pin s h xs x o c new (Done (KeptPin held)) t = (held, (call-ends s h xs x.id c.request (values c) (reverse c.steps) t.stands.phase o.step t.i (KeptPin held) (done-next t)).is)
 ends-by-pin s h xs x o c new action t = tt
 
 -- What a tick does that returns this step; the frames and states are then those that the call's settling left, which

@@ -31,6 +31,8 @@ use Rattle.gt_core.proofs.{Steps.Exchange.taken-ends, Outcomes.clean-next, Outco
 use Rattle.gt_core.proofs.{EachStep.OfStep, Steps.Store.by-storing, Steps.Store.StoreLeads, Steps.Store.first-leads}
 use Rattle.gt_core.proofs.{Steps.Store.second-leads}
 use Rattle.gt_calls.specs.Following.{Advances}
+use Rattle.gt_calls.specs.Machine.{settled}
+use Rattle.gt_core.proofs.Probes.{done-settled, ends-settled, settled-clean, settled-place, settled-refusal}
 
 -- a call in this phase
 abbrev pub call_at : DomId → OpenRequest → Phase → Call
@@ -43,11 +45,11 @@ pub record Ticks (s : Setting) (h : History) (xs : List State) (x : State) (o : 
   pub call : open_call h x.id.0 ≡ Some c
   pub stands : OpenAgrees s h x.id o c
   pub i : IsHere s h xs x.id c.request (values c) (reverse c.steps) stands.phase o.step
-  pub new_is : new ≡ call_at x.id c.request (next_of s h x.id stands.phase o.step)
-  pub on : Advances (known_at s h x.id) (call_at x.id c.request stands.phase) (call_at x.id c.request (next_of s h x.id stands.phase o.step)) (values c ++ seen_by s h x.id o.step ∷ []) action
-  pub fewer : steps_left (next_of s h x.id stands.phase o.step) < steps_left stands.phase
-  pub acts : action ≡ action_at x.id (next_of s h x.id stands.phase o.step)
-  pub holds : HoldsAfter o.step (seen_by s h x.id o.step) (held_in stands.phase) (held_in (next_of s h x.id stands.phase o.step)) action
+  pub new_is : new ≡ call_at x.id c.request (settled c.request (next_of s h x.id stands.phase o.step))
+  pub on : Advances (known_at s h x.id) (call_at x.id c.request stands.phase) (call_at x.id c.request (settled c.request (next_of s h x.id stands.phase o.step))) (values c ++ seen_by s h x.id o.step ∷ []) action
+  pub fewer : steps_left (settled c.request (next_of s h x.id stands.phase o.step)) < steps_left stands.phase
+  pub acts : action ≡ action_at x.id (settled c.request (next_of s h x.id stands.phase o.step))
+  pub holds : HoldsAfter o.step (seen_by s h x.id o.step) (held_in stands.phase) (held_in (settled c.request (next_of s h x.id stands.phase o.step))) action
 
 pub ticks : (s : Setting) (h : History) (xs : List State) (x : State) (o : OpenCall) (c : Underway) (seen : Observation) (new : Call) (action : Action) → IsLegalHistory s h → DomainsStand s h xs → state_of xs x.id.0 ≡ Some x → StateStands s h x → open_call h x.id.0 ≡ Some c
     → OpenAgrees s h x.id o c → seen ≡ sees xs x.id o.step → new.caller ≡ o.call.caller → new.request ≡ o.call.request
@@ -57,7 +59,7 @@ ticks s h xs x o c seen new action legal st here agrees call a saw caller asks g
     record { legal = legal; st = st; own = λ e. none-some x (sym e ∙ here); at = a.at; acts = a.acts; place = a.place; held = a.held; rests = a.rests; fits = a.fits } in
     let each = each-step s h xs x.id c.request (values c) (reverse c.steps) a.phase o.step i in let step = o.step in
     let same : seen ≡ seen_by s h x.id step = saw ∙ sees-agree s h xs x.id step st each.0 in
-    let next = next_of s h x.id a.phase step in let old : Call = call_at x.id c.request a.phase in
+    let next = settled c.request (next_of s h x.id a.phase step) in let old : Call = call_at x.id c.request a.phase in
     let g : Goes k old (seen_by s h x.id step) new action =
     subst (λ (z : Call). Goes k z (seen_by s h x.id step) new action) (call-is o.call x.id c.request a.phase a.caller a.asks a.here)
     (subst (λ (z : CallerKnowledge). Goes z o.call (seen_by s h x.id step) new action) (known-same s h x agrees)
@@ -141,7 +143,7 @@ module _ {s : Setting} {h : History} {xs : List State} {x : State} {o : OpenCall
   seen_in = seen_by s h x.id o.step
 
   abbrev pub phase_then : Phase
-  phase_then = next_of s h x.id t.stands.phase o.step
+  phase_then = settled c.request (next_of s h x.id t.stands.phase o.step)
 
   -- the history with it
   abbrev pub history_then : Option Answer → History
@@ -155,6 +157,7 @@ module _ {s : Setting} {h : History} {xs : List State} {x : State} {o : OpenCall
   stood-after answer = let i = stepped x.id o.step seen_in answer in
       stood-own s i h ∙ ap (λ (z : Option Denial). option_or z (first_of_item s h i)) t.stands.fair
       ∙ ap (λ (u : Option Underway). option_or (phase_refusal t.stands.phase) (first_in_call s h x.id i.happened u)) t.call ∙ each.2
+      ∙ sym (settled-refusal c.request (next_of s h x.id t.stands.phase o.step))
 
   pin-fact : PinFact h o.step seen_in
   pin-fact p is saw = let i = subst (IsHere s h xs x.id c.request (values c) (reverse c.steps) t.stands.phase) is t.i in
@@ -169,7 +172,7 @@ module _ {s : Setting} {h : History} {xs : List State} {x : State} {o : OpenCall
   legs-after answer m leg unmapped = legs-by h x.id answer (held_in t.stands.phase) (held_in phase_then) action o.step seen_in m leg unmapped t.stands.held t.holds pin-fact last-fact
 
   place-after : PhaseStands s (history_then None) x.id c.request ((o.step, seen_in) ∷ reverse c.steps) phase_then
-  place-after = by o.step refl where
+  place-after = settled-place s (history_then None) x.id c.request ((o.step, seen_in) ∷ reverse c.steps) (next_of s h x.id t.stands.phase o.step) (by o.step refl) where
     k : CallerKnowledge
     k = known_at s h x.id
 
@@ -181,14 +184,26 @@ module _ {s : Setting} {h : History} {xs : List State} {x : State} {o : OpenCall
     by step is = place-stays s (stepped x.id step (seen_by s h x.id step) None) h x.id c.request ((step, seen_by s h x.id step) ∷ reverse c.steps) (next_of s h x.id t.stands.phase step)
         (λ r which. unstored (stepped x.id step (seen_by s h x.id step) None) h x.id.0 r which refl) ((subst (OfStep s h xs x.id c.request (reverse c.steps) t.stands.phase) is each).3 (λ n. n))
 
+-- the phase that the step leads to ends a call that ends
+pub done-from : {s : Setting} {h : History} {xs : List State} {x : State} {o : OpenCall} {c : Underway} {new : Call} {action : Action} (t : Ticks s h xs x o c new action) (v : CallResult) → action ≡ Done v
+    → action_at x.id (next_of s h x.id t.stands.phase o.step) ≡ Done v
+done-from {s} {h} {xs} {x} {o} {c} {new} {action} t v e =
+    let holds : HoldsAfter o.step (seen_by s h x.id o.step) (held_in t.stands.phase) (held_in (settled c.request (next_of s h x.id t.stands.phase o.step))) (Done v) =
+    subst (λ (a : Action). HoldsAfter o.step (seen_by s h x.id o.step) (held_in t.stands.phase) (held_in (settled c.request (next_of s h x.id t.stands.phase o.step))) a) e t.holds in
+    sym (done-settled (known_at s h x.id) x.id c.request t.stands.phase (seen_by s h x.id o.step) o.step (held_in t.stands.phase) v t.stands.at.may_be t.stands.acts holds (sym e ∙ t.acts))
+
+pub done-next : {s : Setting} {h : History} {xs : List State} {x : State} {o : OpenCall} {c : Underway} {new : Call} {v : CallResult} (t : Ticks s h xs x o c new (Done v))
+    → action_at x.id (next_of s h x.id t.stands.phase o.step) ≡ Done v
+done-next {s} {h} {xs} {x} {o} {c} {new} {v} t = done-from t v refl
+
 -- a call that continues
 module _ {s : Setting} {h : History} {xs : List State} {x : State} {o : OpenCall} {c : Underway} {new : Call} {z : Step} (t : Ticks s h xs x o c new (Makes z)) where
   known-after : known_at s (history_then t None) x.id ≡ known_at s h x.id
   known-after = known-by s h x.id o.step (seen_in t)
-      (λ single. let e = single-ends s h x.id c.request (reverse c.steps) t.stands.phase o.step t.stands.acts t.stands.place single in goes-not x.id z _ no_pins e.0 refl t.acts e.1)
+      (λ single. let e = single-ends s h x.id c.request (reverse c.steps) t.stands.phase o.step t.stands.acts t.stands.place single in goes-not x.id z _ no_pins e.0 refl t.acts (ends-settled c.request _ no_pins e.0 e.1))
       (λ gref looked change is saw.
       let e = taken-ends (known_at s h x.id) (path (known_at s h x.id) x.id c.request) x.id c.request (values c) t.stands.phase gref looked change t.stands.at.has_shown (t.stands.acts ∙ ap Makes is) in
-      goes-not x.id z _ no_pins Granted refl t.acts (ap (phase_after (known_at s h x.id) x.id t.stands.phase) saw ∙ e))
+      goes-not x.id z _ no_pins Granted refl t.acts (ends-settled c.request _ no_pins Granted (ap (phase_after (known_at s h x.id) x.id t.stands.phase) saw ∙ e)))
 
   -- it has the phase that this step led to
   pub open-after : OpenAgrees s (history_then t None) x.id (record { call = new; step = z }) (record { request = c.request; given = c.given; steps = c.steps ++ (o.step, seen_in t) ∷ [] })
@@ -208,7 +223,8 @@ module _ {s : Setting} {h : History} {xs : List State} {x : State} {o : OpenCall
         place = subst (λ (so_far : StepsSoFar). PhaseStands s (history_then t None) x.id c.request so_far (phase_then t)) (sym (reverse-append c.steps ((o.step, seen_in t) ∷ []))) (place-after t);
         fair = stood-after t None;
         fits = t.stands.fits;
-        clean = clean-next s h x.id t.stands.phase o.step c.steps t.stands.acts (each t).1 t.stands.clean;
+        clean = settled-clean c.request (next_of s h x.id t.stands.phase o.step) (c.steps ++ (o.step, seen_in t) ∷ [])
+            (clean-next s h x.id t.stands.phase o.step c.steps t.stands.acts (each t).1 t.stands.clean);
         held = legs-after t None refl (λ n. refl) (λ m e. cc);
         few = (omega arith);
       }
@@ -268,7 +284,8 @@ pub ends-right : {s : Setting} {h : History} {xs : List State} {x : State} {o : 
     → legs_at (history_then t (Some answer)) x.id.0 ≡ [] → GivesValue s h x.id c.request (Some o.step) answer → StepsRight s h (stepped x.id o.step (seen_in t) (Some answer)) o.step (seen_in t) c
 ends-right {s} {h} {xs} {x} {o} {c} {new} {v} t answer same legs value = let e = ends-so x.id (phase_then t) v (sym t.acts) in
     let clean : IsClean (Ending e.0 v) (c.steps ++ (o.step, seen_in t) ∷ []) =
-    subst (λ (p : Phase). IsClean p (c.steps ++ (o.step, seen_in t) ∷ [])) e.1 (clean-next s h x.id t.stands.phase o.step c.steps t.stands.acts (each t).1 t.stands.clean) in
+    subst (λ (p : Phase). IsClean p (c.steps ++ (o.step, seen_in t) ∷ [])) e.1 (settled-clean c.request (next_of s h x.id t.stands.phase o.step) (c.steps ++ (o.step, seen_in t) ∷ [])
+    (clean-next s h x.id t.stands.phase o.step c.steps t.stands.acts (each t).1 t.stands.clean)) in
     right t (Some answer) (λ none. cc) (λ some. (by some clean, legs)) (same, same ∙ sym (stood-after t (Some answer) ∙ ap phase_refusal e.1), value) where
       by : refusal_if (Some answer) ≢ None → (refusal_in (Some v) ≡ None) ⊎ All LeavesAll (c.steps ++ (o.step, seen_in t) ∷ []) → All LeavesAll (c.steps ++ (o.step, seen_in t) ∷ [])
       by some (inl none) = absurd (some (same ∙ none))

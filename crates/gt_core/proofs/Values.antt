@@ -18,6 +18,7 @@ use Rattle.gt_core.proofs.{Phases.OfAction, Phases.IsHere, Phases.makes-same, Ea
 use Rattle.gt_core.proofs.{Legs.IsLegOf, Legs.Words, Aims.pair_of, Aims.leg-here, Phases.words-of, Phases.next_of}
 use Rattle.gt_core.proofs.{Outcomes.walk-done, Steps.See.table-fits}
 use Rattle.gt_calls.specs.{declared.action.CallResult.TheVariants.Mapped, Path.place_of}
+use Rattle.gt_calls.specs.Resting.{IsCopyOf}
 
 -- the next phase of a call that queries a header
 abbrev Next : Setting → History → DomId → Phase → Step → CallResult → Type 0
@@ -42,6 +43,10 @@ EndsWith s h d r phase step (Refused denial) = Unit {0}
 
 granted : (s : Setting) (h : History) (d : DomId) (r q : OpenRequest) (step : Step) → r ≡ q → GivesValue s h d q (Some step) AnswerDone → GivesValue s h d r (Some step) AnswerDone
 granted s h d r q step is g = subst (λ (z : OpenRequest). GivesValue s h d z (Some step) AnswerDone) (sym is) g
+
+copied : (s : Setting) (h : History) (d : DomId) (r : OpenRequest) (c : CopyArgs) (step : Step) → IsCopyOf r c → GivesValue s h d r (Some step) AnswerDone
+copied s h d r c step (inl is) = granted s h d r _ step is refl
+copied s h d r c step (inr is) = granted s h d r _ step is refl
 
 -- by its last step
 last-ends : (s : Setting) (h : History) (d : DomId) (r : OpenRequest) (phase : Phase) (last : Step) (verdict : CallResult) → IsQuiet last → RestsOnRequest (known_at s h d) d r last → EndsAfter r last verdict → EndsWith s h d r phase last verdict
@@ -117,10 +122,10 @@ call-ends s h xs d r shown so_far phase step i = subst (OfAction (Led phase)) i.
   walked aim l at v is leg stands (inr x) = let g = pinned-leg s h d r so_far aim l at x.0 (words-of s h xs l i.legal i.st) is leg stands x.2 in let map = of-map k d r aim l is x.3 in subst (EndsWith s h d r (Walking aim l at) (leg_step l at)) (sym x.1)
       (record { is = g.0; taken = g.1; dom = map.0; gref = map.1; flags = map.2; of_map = map.3; none = ap (λ (z : PinPurpose). last_first (pins_so_far z)) x.3 })
 
-  ending : (pins : CallPins) (verdict : CallResult) (held : List HeldPin) → next_to_give held verdict ≡ Makes step → (copy : CopyArgs) × (r ≡ Copy copy) × EndsCopy verdict → Led (Ending pins verdict) step
+  ending : (pins : CallPins) (verdict : CallResult) (held : List HeldPin) → next_to_give held verdict ≡ Makes step → (copy : CopyArgs) × IsCopyOf r copy × EndsCopy verdict → Led (Ending pins verdict) step
   ending pins verdict [] f c = cc
   ending pins verdict (q ∷ qs) f c = let z = Unpin q (ByLeg (length qs)) in let Q = EndsWith s h d r (Ending pins verdict) z in subst (Led (Ending pins verdict)) (makes-same z step f)
-      (led (Ending pins verdict) z (give-end Q (last_first (without_last pins)) verdict (copy-end Q verdict c.2 (λ read. granted s h d r _ z c.1 refl, λ denial. tt))))
+      (led (Ending pins verdict) z (give-end Q (last_first (without_last pins)) verdict (copy-end Q verdict c.2 (λ read. copied s h d r c.0 z c.1, λ denial. tt))))
 
   by : (p : Phase) → HasShown k (path k d r) d r shown p → PhaseStands s h d r so_far p → action_at d p ≡ Makes step → legs_at h d.0 ≡ numbered 0 (reverse (last_first (pins_at p))) → OfAction (Led p) (action_at d p)
   by (Storing gref entry) a b e held = led (Storing gref entry) (StoreBody gref FirstHalf (first_body entry)) (store-end _ k d gref entry)
@@ -134,7 +139,7 @@ call-ends s h xs d r shown so_far phase step i = subst (OfAction (Led phase)) i.
       (λ y. cond_both (nat_lt 0 more) (Looking gref change (more - 1)) (refused_as d gref N18 (w gref)) (λ p. AtEnd Q (action_at d p)) (λ x. tt) (λ x. tt)))
   by (Walking aim l at) a b e held = λ v n. walked aim l at v a.1 (leg-here s h d r aim l a.1 held) b.1 (walk-done k d aim l (leg_after l at (seen_by s h d (leg_step l at))) v n)
   by (Accessing c source dest) a b e held = let z = CopyBytes (place_of d c.source source) (place_of d c.dest dest) c.len in
-      led (Accessing c source dest) z (give-end (EndsWith s h d r (Accessing c source dest) z) (last_first (record { source = source; dest = dest })) Granted (λ read. granted s h d r _ z a.0 refl))
+      led (Accessing c source dest) z (give-end (EndsWith s h d r (Accessing c source dest) z) (last_first (record { source = source; dest = dest })) Granted (λ read. copied s h d r c z a.0))
   by (Asking dom AsksSize) a b e held = let t = header_of (header_word (table_at s h dom)) in led (Asking dom AsksSize) (LookHeader dom)
       (subst (λ (z : OpenRequest). GivesValue s h d z (Some (LookHeader dom)) (Size (record { frames = t.frames; max = MAX_TABLE_FRAMES }))) (sym b.1)
       (ap (λ (x : Header). Size (record { frames = x.frames; max = MAX_TABLE_FRAMES })) (table-fits _ (i.st.tables dom)).1))

@@ -12,6 +12,7 @@ use Rattle.gt_core.specs.Prelude.{dest_pair, entry_refusal}
 use Rattle.gt_calls.specs.declared.held.AccessPath.TheVariants.{Own}
 use Rattle.gt_core.specs.History.{History, Setting, entry_at, table_at, word_at, control_at, reads_at, writes_at}
 use Rattle.gt_core.specs.History.{known_at, Underway, open_call, seen_by, legs_at}
+use Rattle.gt_calls.specs.declared.request.OpenRequest.TheVariants.{Probe}
 
 -- a leg that a call makes, and the pair whose right to copy a Via of it needs, by the domain that it leads to
 pub record LegNow : Type 0 where
@@ -60,6 +61,7 @@ copy_now k d c held = if is_source_granted c then toward_source k d c held else 
 abbrev pub leg_now : CallerKnowledge → DomId → OpenRequest → List HeldPin → Option LegNow
 leg_now k d (Map dom gref flags) held = Some (record { leg = map_leg k d dom gref flags; pair = λ owner. (d, owner) })
 leg_now k d (Copy c) held = copy_now k d c held
+leg_now k d (Probe c) held = copy_now k d c held
 leg_now k d _ held = None
 
 -- the leg that a domain's call makes now

@@ -3,13 +3,14 @@ use Rattle.std.specs.Prelude.{◌≡◌, ◌≢◌, ◌<◌, ◌≤◌, ◌+◌,
 use Rattle.gt_core.specs.Prelude.{domain_of, resolved, DomId, Denial, TABLE_ENTRIES, CopyArgs, OpenRequest, CallResult, Granted}
 use Rattle.gt_core.specs.Prelude.{Given, Refused, Frames, Publish, ToInvalid, FirstHalf, SecondHalf, Observation, Step}
 use Rattle.gt_core.specs.Prelude.{StoreHeader, HeldPin, first_look, first_body, is_kind, control_with, rule_of_try}
-use Rattle.gt_core.specs.Prelude.{MORE_TRIES, entry_of, Rule, Entry, Invalid, Control, KindSub, control_of, Copy}
+use Rattle.gt_core.specs.Prelude.{MORE_TRIES, entry_of, Rule, Entry, Invalid, Control, KindSub, control_of}
 use Rattle.gt_core.specs.Prelude.{SetVersion, SetupTable, QuerySize, GetVersion, last_first, HeaderQuery, AsksSize}
 use Rattle.gt_core.specs.Prelude.{AsksVersion, Leg, LegPhase, AtHeader, Look, Body, Second, Pinning, Relook, Phase}
 use Rattle.gt_core.specs.Prelude.{Storing, StoringSecond, Exchanging, Looking, Changing, Walking, Accessing, Asking}
 use Rattle.gt_core.specs.Prelude.{Last, Ending}
 use Rattle.gt_core.specs.History.{History, Setting, entry_at, generation_at, body_at}
 use Rattle.gt_core.specs.Legal.{LeavesAll, IsSpelled}
+use Rattle.gt_calls.specs.Resting.{IsCopyOf}
 use Rattle.gt_core.specs.FirstRule.{StepsSoFar, misses, looked_at, is_in_body, refusal_in}
 
 -- if the leg's entry still has the generation that was looked at and is valid, this holds for it
@@ -89,7 +90,7 @@ PhaseStands s h d request so_far (Accessing copy source dest) = Unit {0}
 PhaseStands s h d request so_far (Asking dom question) = AsksTable d request dom question
 PhaseStands s h d request so_far (Last step verdict) = EndsAfter request step verdict
 PhaseStands s h d request so_far (Ending pins verdict) =
-    (last_first pins ≡ []) ⊎ ((copy : CopyArgs) × (request ≡ Copy copy) × EndsCopy verdict)
+    (last_first pins ≡ []) ⊎ ((copy : CopyArgs) × IsCopyOf request copy × EndsCopy verdict)
 
 -- the refusal that a call ends with, if it has come to its end
 abbrev pub phase_refusal : Phase → Option Denial

@@ -35,6 +35,9 @@ use Rattle.gt_core.proofs.{Legs.alone, Legs.control-parts, Legs.IsAsTried, Legs.
 use Rattle.gt_core.proofs.{Legs.IsLegOf, Legs.ComesTo, Legs.miss-comes, Aims.pair_of, Aims.leg-here}
 use Rattle.gt_core.specs.declared.pin_counts.CountsChange.TheVariants.{Pinned}
 use Rattle.gt_calls.specs.declared.held.AccessPath.TheVariants.{Own}
+use Rattle.gt_calls.specs.Resting.{IsCopyOf}
+use Rattle.gt_calls.specs.Opening.{OpensCopy}
+use Rattle.gt_calls.specs.declared.request.OpenRequest.TheVariants.{Probe}
 
 -- the pin can be counted
 abbrev pub IsFew : History → Pin → Type 0
@@ -159,6 +162,10 @@ map-lets k d dom gref flags (Page to ro frame) a = (a.0, leb-false (frame_count_
 map-lets k d dom gref flags (Sub to ro frame off len) a = (a.0, leb-false (frame_count_of k.domains (resolved d dom)) frame a.1)
 map-lets k d dom gref flags (Via to ro dom2 r) a = absurd (false≢true a.1)
 
+not-map : (r : OpenRequest) (dom : DomId) (gref : GrantRef) (flags : ℕ) (c : CopyArgs) → r ≡ Map dom gref flags → IsCopyOf r c → ⊥
+not-map r dom gref flags c is (inl a) = let f : Map dom gref flags ≡ Copy c = sym is ∙ a in cc
+not-map r dom gref flags c is (inr a) = let f : Map dom gref flags ≡ Probe c = sym is ∙ a in cc
+
 pub map-lawful : (s : Setting) (h : History) (d : DomId) (r : OpenRequest) (p : HeldPin) (shown : List Observation) (pins : CallPins) → begun (known_at s h d) d r ≡ None → RestsOnTry (known_at s h d) d r pins (path (known_at s h d) d r) shown p
     → (dom : DomId) (gref : GrantRef) (flags : ℕ) → r ≡ Map dom gref flags
     → (permits p.entry d p.dir ForMap 0 0 ≡ true) × MayUse s d p.dom p.dir × (frame_of p.entry < frame_count_of s.domains p.dom) × (domain_of s.domains p.dom ≢ None)
@@ -174,8 +181,8 @@ map-lawful s h d r p shown pins none t dom gref flags is = by t.aim t.aimed wher
       let o = opens k d (Map a.dom a.gref a.flags) (none-of k d r (Map a.dom a.gref a.flags) a.of_map none) in
       let q : held_of l p.word t.body t.second ≡ p = sym (t.pin_is ∙ ap (λ (l : Leg). held_of l p.word t.body t.second) a.leg_is) in
       subst Lawful q (lets.0, o.allowed, lets.1, of-run (domain_of s.domains (resolved d a.dom)) o.of_run)
-  by (Source c via) a = absurd (let f : Map dom gref flags ≡ Copy c = sym is ∙ a.0 in cc)
-  by (Dest c source via) a = absurd (let f : Map dom gref flags ≡ Copy c = sym is ∙ a.0 in cc)
+  by (Source c via) a = absurd (not-map r dom gref flags c is a.0)
+  by (Dest c source via) a = absurd (not-map r dom gref flags c is a.0)
 
 -- what follows a pin, missed or taken
 
@@ -236,25 +243,30 @@ via-ends k pair dom v e = by (is_none (domain_of k.domains dom)) e where
   by true f = subst EndsCopy (same_Some _ _ f) tt
   by false f = denied-ends k.may (rights_to_copy k pair.0 pair.1) v (alone (copy_denied k pair.0 pair.1) ∙ f)
 
+-- what holds for a copy or a probe that no rule answers at its beginning
+copy-opens : (k : CallerKnowledge) (d : DomId) (r : OpenRequest) (c : CopyArgs) → IsCopyOf r c → begun k d r ≡ None → OpensCopy k d c
+copy-opens k d r c (inl is) none = opens k d (Copy c) (subst (λ (z : OpenRequest). begun k d z ≡ None) is none)
+copy-opens k d r c (inr is) none = (opens k d (Probe c) (subst (λ (z : OpenRequest). begun k d z ≡ None) is none)).copy
+
 -- the next leg, the access, or the end
 module _ (s : Setting) (h : History) (d : DomId) (r : OpenRequest) where
-  where-leads : (c : CopyArgs) (now : StepsSoFar) (aim : PinPurpose) (l : Leg) (pair : DomId × DomId) (o : Option CallResult) → r ≡ Copy c → via_judged (known_at s h d) pair l.dom ≡ o
+  where-leads : (c : CopyArgs) (now : StepsSoFar) (aim : PinPurpose) (l : Leg) (pair : DomId × DomId) (o : Option CallResult) → IsCopyOf r c → via_judged (known_at s h d) pair l.dom ≡ o
       → Leads s h d r now (refusal_in o) (where_via o aim l)
   where-leads c now aim l pair None is e = (refl, (of-run (domain_of s.domains l.dom) (holds-first (is_none (domain_of s.domains l.dom)) N1 (copy_denied (known_at s h d) pair.0 pair.1 ∷ []) e), tt))
   where-leads c now aim l pair (Some v) is e = (refl, inr (c, is, via-ends (known_at s h d) pair l.dom v e))
 
-  pub dest-leads : (c : CopyArgs) (source : AccessPath) (now : StepsSoFar) → r ≡ Copy c → begun (known_at s h d) d r ≡ None → Leads s h d r now None (at_dest (known_at s h d) d c source)
+  pub dest-leads : (c : CopyArgs) (source : AccessPath) (now : StepsSoFar) → IsCopyOf r c → begun (known_at s h d) d r ≡ None → Leads s h d r now None (at_dest (known_at s h d) d c source)
   dest-leads c source now is none =
       cond_both (is_dest_granted c) (Walking (Dest c source None) (end_leg (known_at s h d) d c.dest Write c.len) AtHeader) (Accessing c source Own) (Leads s h d r now None)
-      (λ a. (refl, (of-run (domain_of s.domains (resolved d c.dest.domid)) (opens (known_at s h d) d (Copy c) (subst (λ (z : OpenRequest). begun (known_at s h d) d z ≡ None) is none)).dest_of_run, tt))) (λ a. (refl, tt))
+      (λ a. (refl, (of-run (domain_of s.domains (resolved d c.dest.domid)) (copy-opens (known_at s h d) d r c is none).dest_of_run, tt))) (λ a. (refl, tt))
 
-  source-pin-leads : (c : CopyArgs) (l : Leg) (p : HeldPin) (e : Entry) (now : StepsSoFar) → r ≡ Copy c → begun (known_at s h d) d r ≡ None
+  source-pin-leads : (c : CopyArgs) (l : Leg) (p : HeldPin) (e : Entry) (now : StepsSoFar) → IsCopyOf r c → begun (known_at s h d) d r ≡ None
       → Leads s h d r now (rule_at_via (known_at s h d) (Some (record { leg = l; pair = source_pair d c })) e) (after_source_pin (known_at s h d) d c l p e)
   source-pin-leads c l p (Via dom ro dom2 gref) now is none =
       where-leads c now (Source c (Some p)) (second_leg (known_at s h d) l dom2 gref) (source_pair d c dom2) _ is refl
   source-pin-leads c l p e now is none = dest-leads c (Direct p) now is none
 
-  dest-pin-leads : (c : CopyArgs) (source : AccessPath) (l : Leg) (p : HeldPin) (e : Entry) (now : StepsSoFar) → r ≡ Copy c
+  dest-pin-leads : (c : CopyArgs) (source : AccessPath) (l : Leg) (p : HeldPin) (e : Entry) (now : StepsSoFar) → IsCopyOf r c
       → Leads s h d r now (rule_at_via (known_at s h d) (Some (record { leg = l; pair = dest_pair d source })) e) (after_dest_pin (known_at s h d) d c source l p e)
   dest-pin-leads c source l p (Via dom ro dom2 gref) now is =
       where-leads c now (Dest c source (Some p)) (second_leg (known_at s h d) l dom2 gref) (dest_pair d source dom2) _ is refl

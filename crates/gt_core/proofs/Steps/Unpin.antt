@@ -19,6 +19,7 @@ use Rattle.gt_core.proofs.{AgreementKept.slots-stand, AgreementKept.keeps-stands
 use Rattle.gt_core.proofs.{Mappings.mappings-taken, Mappings.mappings-same, Rows.state-changed, Steps.Observers.pins_at}
 use Rattle.gt_core.proofs.{Steps.Pin.pins-fit, Steps.Observers.all-without, Steps.Observers.unpinned-live}
 use Rattle.gt_core.proofs.{Steps.Observers.unpins, Phases.by-giving, Phases.Placed}
+use Rattle.gt_calls.specs.Resting.{IsCopyOf}
 
 -- what an unpin removes from the live pins
 
@@ -162,6 +163,6 @@ then-none None = refl
 then-none (Some d) = refl
 
 pub give-placed : (s : Setting) (h : History) (d : DomId) (r : OpenRequest) (so_far : StepsSoFar) (pins : CallPins) (verdict : CallResult) (step : Step) → next_to_give (last_first pins) verdict ≡ Makes step
-    → (last_first pins ≡ []) ⊎ ((copy : CopyArgs) × (r ≡ Copy copy) × EndsCopy verdict) → Placed s h d r so_far (Ending pins verdict) step
+    → (last_first pins ≡ []) ⊎ ((copy : CopyArgs) × IsCopyOf r copy × EndsCopy verdict) → Placed s h d r so_far (Ending pins verdict) step
 give-placed s h d r so_far pins verdict step e (inl none) = let f : Done verdict ≡ Makes step = sym (ap (λ (l : List HeldPin). next_to_give l verdict) none) ∙ e in cc
 give-placed s h d r so_far pins verdict step e (inr copy) = by-giving (Placed s h d r so_far (Ending pins verdict)) (λ p n. inr copy) (last_first pins) verdict step e
