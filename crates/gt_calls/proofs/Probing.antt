@@ -16,18 +16,18 @@ use Rattle.gt_calls.proofs.{Calls.IsLastQuiet, Calls.goes-on, Calls.wants-action
 -- a path without its access
 
 -- its next action is no access
-here : (f : Continuation) → is_copy_access (f []) ≡ false → without_access f [] ≡ f []
+pub here : (f : Continuation) → is_copy_access (f []) ≡ false → without_access f [] ≡ f []
 unfolding without_access
 here f e = ap (λ (b : Bool). cond b (f (Nothing ∷ [])) (f [])) e
 
 -- and then the same holds of what follows
-on : (f : Continuation) (v : Observation) (vs : List Observation) → is_copy_access (f []) ≡ false
+pub on : (f : Continuation) (v : Observation) (vs : List Observation) → is_copy_access (f []) ≡ false
     → without_access f (v ∷ vs) ≡ without_access (λ (later : List Observation). f (v ∷ later)) vs
 unfolding without_access
 on f v vs e = ap (λ (b : Bool). cond b (f (Nothing ∷ v ∷ vs)) (without_access (λ (later : List Observation). f (v ∷ later)) vs)) e
 
 -- its next action is the access
-past : (f : Continuation) (vs : List Observation) → is_copy_access (f []) ≡ true → without_access f vs ≡ f (Nothing ∷ vs)
+pub past : (f : Continuation) (vs : List Observation) → is_copy_access (f []) ≡ true → without_access f vs ≡ f (Nothing ∷ vs)
 unfolding without_access
 past f [] e = ap (λ (b : Bool). cond b (f (Nothing ∷ [])) (f [])) e
 past f (v ∷ vs) e = ap (λ (b : Bool). cond b (f (Nothing ∷ v ∷ vs)) (without_access (λ (later : List Observation). f (v ∷ later)) vs)) e

@@ -17,7 +17,7 @@ use Rattle.gt_calls.specs.declared.action.CallResult.TheVariants.{Given, Granted
 use Rattle.gt_calls.specs.declared.held.HeldPin.{HeldPin}
 use Rattle.gt_calls.specs.declared.request.OpenRequest.{OpenRequest}
 use Rattle.gt_calls.specs.declared.request.OpenRequest.TheVariants.{Copy, GetVersion, Load, Map, Peek, QuerySize, SetupTable}
-use Rattle.gt_calls.specs.declared.request.OpenRequest.TheVariants.{Release, Store, Unmap}
+use Rattle.gt_calls.specs.declared.request.OpenRequest.TheVariants.{Probe, Release, Store, Unmap}
 use Rattle.gt_calls.specs.declared.request.Request.{Request}
 use Rattle.gt_calls.specs.declared.request.Request.TheVariants as requests
 use Rattle.gt_calls.specs.Asking.{asked, begun_of, bytes_begun, field_refused}
@@ -78,6 +78,7 @@ begins-with k d (Unmap handle) v e = grind (arith, denied-so)
 begins-with k d (QuerySize dom) v e = grind (arith, denied-so)
 begins-with k d (GetVersion dom) v e = grind (arith, denied-so)
 begins-with k d (Copy c) v e = grind (arith, denied-so)
+begins-with k d (Probe c) v e = grind (arith, denied-so)
 begins-with k d r v e = grind arith
 
 refused-so : (b c e : Bool) (f : Option Field) (v : CallResult) → first (refused_when b N9 ∷ refused_when c N20 ∷ refused_when e N22 ∷ field_refused f ∷ []) ≡ Some v → IsRefused v

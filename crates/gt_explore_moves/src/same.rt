@@ -68,7 +68,8 @@ fn same_asked(one: OpenRequest, other: OpenRequest) -> bool
                 len: l,
             },
         ) => frame == f && off == o && len == l,
-        (OpenRequest::Copy(args), OpenRequest::Copy(a)) => args == a,
+        (OpenRequest::Copy(args), OpenRequest::Copy(a))
+        | (OpenRequest::Probe(args), OpenRequest::Probe(a)) => args == a,
         (OpenRequest::SetVersion { version }, OpenRequest::SetVersion { version: v }) => version
             == v,
         (OpenRequest::SetupTable { frames }, OpenRequest::SetupTable { frames: f }) => frames == f,

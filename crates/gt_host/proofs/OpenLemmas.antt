@@ -129,6 +129,7 @@ few_steps (asks.Store handle off len) = omega arith
 few_steps (asks.Peek frame off len) = omega arith
 few_steps (asks.Poke frame off len) = omega arith
 few_steps (asks.Copy c) = omega arith
+few_steps (asks.Probe c) = omega arith
 few_steps (asks.SetVersion version) = omega arith
 few_steps (asks.SetupTable frames) = omega arith
 few_steps (asks.QuerySize dom) = omega arith

@@ -28,6 +28,7 @@ hypercall_of_request subject (asks.Withdraw gref) = None
 hypercall_of_request subject (asks.Demote gref) = None
 hypercall_of_request subject (asks.Promote gref) = None
 hypercall_of_request subject (asks.Release handle) = None
+hypercall_of_request subject (asks.Probe c) = None
 hypercall_of_request subject (asks.Load handle off len) = None
 hypercall_of_request subject (asks.Store handle off len) = None
 hypercall_of_request subject (asks.Peek frame off len) = None

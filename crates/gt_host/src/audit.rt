@@ -49,6 +49,7 @@ fn hypercall_of_request<P: Allows>(
         | Request::Demote { .. }
         | Request::Promote { .. }
         | Request::Release { .. }
+        | Request::Probe(_)
         | Request::Load { .. }
         | Request::Store { .. }
         | Request::Peek { .. }

@@ -6,6 +6,8 @@ ghost use Rattle.gt_types.specs.declared.DomId.{DomId};
 ghost use Rattle.gt_core.specs.History.{History};
 ghost use Rattle.gt_core.specs.Standing.{CoreStands, setting_in};
 ghost use Rattle.gt_host.specs.Printing.{answer_line};
+ghost use Rattle.gt_calls.specs.Asking.{asked};
+ghost use Rattle.gt_calls.specs.Probing.{IsProbe};
 ghost use Rattle.gt_host.specs.Runs.{Named, hex_of_call, call_bytes as bytes_in_call, request_of, handle_given, with_name};
 ghost use Rattle.gt_host.specs.Runs.{label_given, label_said, DoLine, BeginLine, TickLine, RunsLine};
 ghost use Rattle.gt_host.specs.Naming.{AreNamed, NamesMapping};
@@ -55,8 +57,9 @@ pub fn request_of<'a, 'c>(
     bytes: &'c [u8],
     call: &ScriptCall<'a>,
 ) -> Request<'c>
-    ensures { (named : List Named) → AreNamed labels.now named →
+    ensures says { (named : List Named) → AreNamed labels.now named →
         result ≡ request_of named dom bytes.entry call.now }
+    ensures plain { IsProbe (asked result) → ⊥ }
 {
     match call {
         ScriptCall::Grant { gref, entry } => Request::Grant {

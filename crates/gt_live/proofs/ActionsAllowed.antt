@@ -52,8 +52,9 @@ use Rattle.gt_calls.specs.declared.request.PinHolder.TheVariants.{Mapping as ByH
 use Rattle.gt_calls.specs.Changes.{raise_of}
 use Rattle.gt_calls.specs.Holding.{last_first}
 use Rattle.gt_calls.specs.Path.{Continuation, idle_word, is_stopped, path}
+use Rattle.gt_types.specs.declared.copies.CopyArgs.{CopyArgs}
 use Rattle.gt_calls.specs.Resting.{HasSeenTable, HasStored, IsLegFor, IsMapped, IsOfMap, IsOfRun as IsNamed, LookedLast}
-use Rattle.gt_calls.specs.Resting.{Rests, RestsOnGrant, RestsOnTry}
+use Rattle.gt_calls.specs.Resting.{IsCopyOf, Rests, RestsOnGrant, RestsOnTry}
 use Rattle.gt_calls.specs.Opening.{IsAllowed, OpensGrant, OpensTurn, opens}
 use Rattle.gt_calls.specs.Rules.{CallerKnowledge, begun, frame_count_of, is_kind, label_of, map_dir, map_perms, triples}
 use Rattle.gt_entry.specs.Entries.{frame_of, is_invalid}
@@ -129,6 +130,11 @@ pub record Tried (c : CallerKnowledge) (k : Layout) (caller : DomId) (request : 
   pub permitted : permits p.entry caller p.dir ForMap 0 0 ≡ true
   pub in_frames : nat_le (frame_count_of c.domains p.dom) (frame_of p.entry) ≡ false
 
+-- neither a copy nor a probe waits for nobody
+no-copy : (request : OpenRequest) (copy : CopyArgs) → IsCopyOf request copy → WaitsForNobody request → ⊥
+no-copy request copy (inl is) waits = subst (λ (x : OpenRequest). WaitsForNobody x) is waits
+no-copy request copy (inr is) waits = subst (λ (x : OpenRequest). WaitsForNobody x) is waits
+
 module _ (c : CallerKnowledge) (k : Layout) (caller : DomId) (v : View) (knows : Knows c k caller v) where
   pub named-run : (d : DomId) → IsNamed c d → HasDomain k d
   named-run d is = let there = is-there (domain_of c.domains d) is in knows.run d there.0 there.1
@@ -177,8 +183,8 @@ module _ (c : CallerKnowledge) (k : Layout) (caller : DomId) (v : View) (knows :
 
       by : (aim : PinPurpose) → IsLegFor c caller request aim r.leg → Tried c k caller request p (view_after steps v)
       by Mapping is = of-map is
-      by (Source copy via) is = absurd (subst (λ (x : OpenRequest). WaitsForNobody x) is.0 waits)
-      by (Dest copy source via) is = absurd (subst (λ (x : OpenRequest). WaitsForNobody x) is.0 waits)
+      by (Source copy via) is = absurd (no-copy request copy is.0 waits)
+      by (Dest copy source via) is = absurd (no-copy request copy is.0 waits)
 
   -- the pin that a mapping has is held still
   still-held : (w : View) (p : HeldPin) → IsSame v w → HasPin k v p → Holds (position_in k.ids p.dom) p.gref.0 p.dir (generation_of p.word) w

@@ -415,6 +415,7 @@ module _ (caller : DomId) where
     steps-sound (asks.Peek frame off len) w = absurd w
     steps-sound (asks.Poke frame off len) w = absurd w
     steps-sound (asks.Copy c) w = absurd w
+    steps-sound (asks.Probe c) w = absurd w
 
     -- a call that was not answered at its beginning
     pub path-sound : (request : OpenRequest) → WaitsForNobody request → begun k caller request ≡ None → Sound (IsAnswerTo request) (path k caller request)

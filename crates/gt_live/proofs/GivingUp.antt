@@ -68,8 +68,9 @@ use Rattle.gt_calls.specs.Path.{reads_body, reads_second, refused_at, refused_ho
 use Rattle.gt_calls.specs.Path.{source_pair, steps_of, to_dest, tries, try_pin, turn, turns}
 use Rattle.gt_calls.specs.Path.{unless_refused}
 use Rattle.gt_calls.specs.Rules.{CallerKnowledge, before_pin, begun, denied, first, first_look}
-use Rattle.gt_calls.specs.Rules.{refused_when, stands, via_judged, is_invalid}
+use Rattle.gt_calls.specs.Rules.{copy_begun, granted_when, has_own_ends, refused_when, stands, via_judged, is_invalid}
 use Rattle.gt_types.specs.Copies.{is_dest_granted, is_source_granted}
+use Rattle.gt_calls.specs.Probing.{IsProbe}
 use Rattle.gt_live.specs.Tries.{AreReads, AreUnpins, BeginsTries, FourTriesWereMissed, FoundAnother, GaveUp}
 use Rattle.gt_live.specs.Tries.{IsMissedTry, MissedTries, in_order}
 use Rattle.gt_live.specs.Walks.{IsWalk, Made, MakesStep, view_after, all_shown, shown_by, seen_in_step}
@@ -108,7 +109,18 @@ not-field (Some f) = λ den e is. let same : denial_of N25 (facts.Field f) ≡ d
 not-via : (c : CallerKnowledge) (pair : DomId × DomId) (dom : DomId) → Not18 (via_judged c pair dom)
 not-via c pair dom den e is = grind (arith, not-denied)
 
+not-copy : (c : CallerKnowledge) (caller : DomId) (args : CopyArgs) → Not18 (copy_begun c caller args)
+not-copy c caller args den e is = grind (arith, not-denied)
+
+-- a probe that is refused at its beginning is refused as its copy
+refused-first : (o : Option CallResult) (b : Bool) (den : Denial) → first (o ∷ granted_when b ∷ []) ≡ Some (Refused den) → o ≡ Some (Refused den)
+refused-first (Some verdict) b den e = e
+refused-first None true den e = cc
+refused-first None false den e = cc
+
 not-begun : (c : CallerKnowledge) (caller : DomId) (request : OpenRequest) → Not18 (begun c caller request)
+not-begun c caller (asks.Copy args) den e is = not-copy c caller args den e is
+not-begun c caller (asks.Probe args) den e is = not-copy c caller args den (refused-first (copy_begun c caller args) (has_own_ends args) den e) is
 not-begun c caller request den e is = grind (arith, not-denied)
 
 plain-rule : (rule : Rule) → rule ≢ N18 → Not18 (Some (Refused (denial_of rule facts.None)))
@@ -561,28 +573,29 @@ module _ (k : Layout) (p : ℕ) where
     abbrev Found : DomId → List SeatStep → Type 0
     Found caller ys = LegTried ys ⊎ ((gref : GrantRef) × Tried caller gref (position_in k.ids caller) 4 ys)
 
-    found : (c : CallerKnowledge) (caller : DomId) (request : OpenRequest) → p ≡ position_in k.ids caller → (ys : List SeatStep) → Ends (steps_of c caller request) ys → Found caller ys
-    found c caller (asks.Grant gref entry) stands ys e = absurd (never-makes _ _ (never-grants c caller gref entry entry) ys e.1)
-    found c caller (asks.Revoke gref) stands ys e = absurd (never-once caller gref _ _ ys e.1)
-    found c caller (asks.Withdraw gref) stands ys e = inr (gref, turns-found caller gref stands ToWithdrawn MORE_TRIES ys e)
-    found c caller (asks.Demote gref) stands ys e = inr (gref, turns-found caller gref stands ToReadOnly MORE_TRIES ys e)
-    found c caller (asks.Promote gref) stands ys e = inr (gref, turns-found caller gref stands ToWritable MORE_TRIES ys e)
-    found c caller (asks.Map dom gref flags) stands ys e = inl (map-found c caller dom gref flags ys e)
-    found c caller (asks.Unmap handle) stands ys e = absurd (never-mapping (c.mapping handle) _ ys e.1)
-    found c caller (asks.Release handle) stands ys e = absurd (never-mapping (c.mapping handle) _ ys e.1)
-    found c caller (asks.Load handle off len) stands ys e = absurd (never-mapping (c.mapping handle) _ ys e.1)
-    found c caller (asks.Store handle off len) stands ys e = absurd (never-mapping (c.mapping handle) _ ys e.1)
-    found c caller (asks.Peek frame off len) stands ys e = absurd (never-makes _ _ (never-ended Granted granted-never) ys e.1)
-    found c caller (asks.Poke frame off len) stands ys e = absurd (never-makes _ _ (never-ended Granted granted-never) ys e.1)
-    found c caller (asks.Copy a) stands ys e = inl (copy-found c caller a ys e)
-    found c caller (asks.SetVersion version) stands ys e = absurd (never-makes _ _ (never-ended Granted granted-never) ys e.1)
-    found c caller (asks.SetupTable frames) stands ys e = absurd (never-makes _ _ (never-ended _ (λ q. cc)) ys e.1)
-    found c caller (asks.QuerySize dom) stands ys e = absurd (never-looks _ _ (λ w. never-ended _ (λ q. cc)) ys e.1)
-    found c caller (asks.GetVersion dom) stands ys e = absurd (never-looks _ _ (λ w. never-ended _ (λ q. cc)) ys e.1)
+    found : (c : CallerKnowledge) (caller : DomId) (request : OpenRequest) → (IsProbe request → ⊥) → p ≡ position_in k.ids caller → (ys : List SeatStep) → Ends (steps_of c caller request) ys → Found caller ys
+    found c caller (asks.Grant gref entry) plain stands ys e = absurd (never-makes _ _ (never-grants c caller gref entry entry) ys e.1)
+    found c caller (asks.Revoke gref) plain stands ys e = absurd (never-once caller gref _ _ ys e.1)
+    found c caller (asks.Withdraw gref) plain stands ys e = inr (gref, turns-found caller gref stands ToWithdrawn MORE_TRIES ys e)
+    found c caller (asks.Demote gref) plain stands ys e = inr (gref, turns-found caller gref stands ToReadOnly MORE_TRIES ys e)
+    found c caller (asks.Promote gref) plain stands ys e = inr (gref, turns-found caller gref stands ToWritable MORE_TRIES ys e)
+    found c caller (asks.Map dom gref flags) plain stands ys e = inl (map-found c caller dom gref flags ys e)
+    found c caller (asks.Unmap handle) plain stands ys e = absurd (never-mapping (c.mapping handle) _ ys e.1)
+    found c caller (asks.Release handle) plain stands ys e = absurd (never-mapping (c.mapping handle) _ ys e.1)
+    found c caller (asks.Load handle off len) plain stands ys e = absurd (never-mapping (c.mapping handle) _ ys e.1)
+    found c caller (asks.Store handle off len) plain stands ys e = absurd (never-mapping (c.mapping handle) _ ys e.1)
+    found c caller (asks.Peek frame off len) plain stands ys e = absurd (never-makes _ _ (never-ended Granted granted-never) ys e.1)
+    found c caller (asks.Poke frame off len) plain stands ys e = absurd (never-makes _ _ (never-ended Granted granted-never) ys e.1)
+    found c caller (asks.Copy a) plain stands ys e = inl (copy-found c caller a ys e)
+    found c caller (asks.Probe a) plain stands ys e = absurd (plain tt)
+    found c caller (asks.SetVersion version) plain stands ys e = absurd (never-makes _ _ (never-ended Granted granted-never) ys e.1)
+    found c caller (asks.SetupTable frames) plain stands ys e = absurd (never-makes _ _ (never-ended _ (λ q. cc)) ys e.1)
+    found c caller (asks.QuerySize dom) plain stands ys e = absurd (never-looks _ _ (λ w. never-ended _ (λ q. cc)) ys e.1)
+    found c caller (asks.GetVersion dom) plain stands ys e = absurd (never-looks _ _ (λ w. never-ended _ (λ q. cc)) ys e.1)
 
-    found-of : (c : CallerKnowledge) (caller : DomId) (request : Request) → p ≡ position_in k.ids caller → (ys : List SeatStep) (o : Option CallResult) → begun_of c caller request ≡ o → Ends (after_beginning o (steps_of c caller (asked request))) ys → Found caller ys
-    found-of c caller request stands ys None is e = found c caller (asked request) stands ys e
-    found-of c caller request stands ys (Some verdict) is e =
+    found-of : (c : CallerKnowledge) (caller : DomId) (request : Request) → (IsProbe (asked request) → ⊥) → p ≡ position_in k.ids caller → (ys : List SeatStep) (o : Option CallResult) → begun_of c caller request ≡ o → Ends (after_beginning o (steps_of c caller (asked request))) ys → Found caller ys
+    found-of c caller request plain stands ys None is e = found c caller (asked request) plain stands ys e
+    found-of c caller request plain stands ys (Some verdict) is e =
         absurd (never-ended verdict (λ q. not-begun-by c caller request (bytes_of request) d (is ∙ ap (λ (v : CallResult). Some v) q) is18) ys e.1)
 
     -- the four words
@@ -614,6 +627,6 @@ module _ (k : Layout) (p : ℕ) where
     told-so caller ys (inr g) = (caller, g.0, last_word g.1.words, g.1.denial, gives-up caller g.0 [] ys ys refl (inl refl) g.1)
 
 pub four-missed : FourTriesWereMissed
-four-missed k c caller request denial v w at called is18 = let p : ℕ = v.position in let way : Continuation = path_of c caller request in let ys : List SeatStep = in_order called.steps in
+four-missed k c caller request denial v w plain at called is18 = let p : ℕ = v.position in let way : Continuation = path_of c caller request in let ys : List SeatStep = in_order called.steps in
     told-so k p denial is18 caller ys
-    (found-of k p denial is18 c caller request at ys (begun_of c caller request) refl (goes k p way v called.steps refl called.walked, ap way (sym (shown-in-order called.steps)) ∙ called.answered))
+    (found-of k p denial is18 c caller request plain at ys (begun_of c caller request) refl (goes k p way v called.steps refl called.walked, ap way (sym (shown-in-order called.steps)) ∙ called.answered))

@@ -1,10 +1,10 @@
 -- A call whose steps are written out: each step leads to the phase that follows it.
-use Rattle.std.proofs.Common.{◌≡◌, refl, sym, subst, Option, None, Some}
+use Rattle.std.proofs.Common.{◌≡◌, ◌∙◌, refl, sym, subst, Option, None, Some}
 use Rattle.gt_types.specs.declared.DomId.{DomId}
 use Rattle.gt_word_history.specs.Rule.{Layout}
 use Rattle.gt_word_history.specs.declared.view.View.{View}
 use Rattle.gt_calls.specs.Following.{Goes, GoesByPhase, IsStepAction as BeginsSo}
-use Rattle.gt_calls.specs.Machine.{action_at, ended_as, first_phase, phase_after}
+use Rattle.gt_calls.specs.Machine.{action_at, ended_as, first_phase, phase_after, settled}
 use Rattle.gt_calls.specs.Rules.{CallerKnowledge, begun}
 use Rattle.gt_calls.specs.Standing.{IsFreshCall}
 use Rattle.gt_calls.specs.declared.action.Action.{Action}
@@ -16,6 +16,7 @@ use Rattle.gt_calls.specs.declared.action.CallResult.{CallResult}
 use Rattle.gt_calls.specs.declared.call.Call.{Call}
 use Rattle.gt_calls.specs.declared.call.Phase.{Phase}
 use Rattle.gt_calls.specs.declared.request.OpenRequest.{OpenRequest}
+use Rattle.gt_calls.specs.declared.request.OpenRequest.TheVariants.{Probe}
 use Rattle.gt_live.specs.declared.driving.Effect.{Effect}
 use Rattle.gt_live.specs.declared.driving.Effect.TheVariants.{Nothing}
 use Rattle.gt_live.specs.Driving.{CanMake, Going, Knows}
@@ -35,6 +36,11 @@ call_in caller request phase = record { caller = caller; request = request; phas
 -- the same before its first step
 abbrev pub fresh_call : DomId → OpenRequest → Call
 fresh_call caller request = record { caller = caller; request = request; phase = None }
+
+-- no call of a domain is a probe
+unsettled : (request : OpenRequest) (p : Phase) → WaitsForNobody request → settled request p ≡ p
+unsettled (Probe c) p waits = absurd waits
+unsettled request p waits = refl
 
 -- a call that goes on has only looked, whatever its last step was
 looked-on : (c : CallerKnowledge) (k : Layout) (effect : Effect) (v w : View) (call : Call) (s : Step)
@@ -64,12 +70,12 @@ module _ (c : CallerKnowledge) (law : PhaseLaw c) (k : Layout) (v : View) (calle
       (subst (λ (p : Phase). Goes c (fresh_call caller request) Unseen (call_in caller request p) (action_at caller p)) is
       (law (fresh_call caller request) Unseen))
 
-  next-goes : (phase : Phase) (x : Observation) (next : Phase) (action : Action) → phase_after c caller phase x ≡ next
+  next-goes : WaitsForNobody request → (phase : Phase) (x : Observation) (next : Phase) (action : Action) → phase_after c caller phase x ≡ next
       → action_at caller next ≡ action → Goes c (call_in caller request phase) x (call_in caller request next) action
-  next-goes phase x next action is acts =
+  next-goes waits phase x next action is acts =
       subst (λ (a : Action). Goes c (call_in caller request phase) x (call_in caller request next) a) acts
-      (subst (λ (p : Phase). Goes c (call_in caller request phase) x (call_in caller request p) (action_at caller p)) is
-      (law (call_in caller request phase) x))
+      (subst (λ (p : Phase). Goes c (call_in caller request phase) x (call_in caller request p) (action_at caller p))
+      (unsettled request (phase_after c caller phase x) waits ∙ is) (law (call_in caller request phase) x))
 
   -- a call that no rule answered at its beginning, before its first step
   pub starts : (phase : Phase) (s : Step) → begun c caller request ≡ None → first_phase c caller request ≡ phase
@@ -87,7 +93,7 @@ module _ (c : CallerKnowledge) (law : PhaseLaw c) (k : Layout) (v : View) (calle
   further phase s x next n u w knows waits g made is acts =
       looked-on c k (effect_of s x) v w (call_in caller request next) n
       (advance c k Nothing v u w (call_in caller request phase) (call_in caller request next) (Makes n) s x knows waits g
-      made refl refl (next-goes phase x next (Makes n) is acts)).0
+      made refl refl (next-goes waits phase x next (Makes n) is acts)).0
 
   -- its last step
   pub over : (phase : Phase) (s : Step) (x : Observation) (verdict : CallResult) (u w : View) → Knows c k caller v
@@ -96,7 +102,7 @@ module _ (c : CallerKnowledge) (law : PhaseLaw c) (k : Layout) (v : View) (calle
   over phase s x verdict u w knows waits g made is =
       ends c k (effect_of s x) v w (call_in caller request (ended_as verdict)) verdict caller request waits
       (advance c k Nothing v u w (call_in caller request phase) (call_in caller request (ended_as verdict)) (Done verdict)
-      s x knows waits g made refl refl (next-goes phase x (ended_as verdict) (Done verdict) is refl)).0 refl refl
+      s x knows waits g made refl refl (next-goes waits phase x (ended_as verdict) (Done verdict) is refl)).0 refl refl
 
   -- a call of one step
   pub can-only : (phase : Phase) (s : Step) → Knows c k caller v → WaitsForNobody request → begun c caller request ≡ None

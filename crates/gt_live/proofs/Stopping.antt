@@ -37,7 +37,7 @@ use Rattle.gt_calls.specs.Following.{FitsNext, Goes}
 use Rattle.gt_calls.specs.Holding.{last_first}
 use Rattle.gt_calls.specs.Machine.{action_at, at_dest, at_source, first_phase, next_to_give, phase_after}
 use Rattle.gt_calls.specs.Legs.{leg_step}
-use Rattle.gt_calls.specs.Machine.{standing_after}
+use Rattle.gt_calls.specs.Machine.{remains_of, settled, standing_after}
 use Rattle.gt_calls.specs.Path.{end_leg, give_back, path}
 use Rattle.gt_calls.specs.Resting.{Rests}
 use Rattle.gt_calls.specs.Rules.{CallerKnowledge}
@@ -100,6 +100,10 @@ makes-copy c k v w call s knows u other =
     (subst (λ (h : CallPins). HasTaken k (last_first h) v (view_after u.steps v)) (sym held) (subst (λ (z : View). HasTaken k (held_in u.phase) v z) u.view u.stands.taken))
     (subst (λ (h : CallPins). AreOfRun k (last_first h)) (sym held) u.stands.of_run) u.rests other)
 
+-- a copy is no probe
+copy-settled : (r : OpenRequest) (copy : CopyArgs) (p : Phase) → r ≡ asks.Copy copy → settled r p ≡ p
+copy-settled r copy p is = ap (λ (q : OpenRequest). settled q p) is
+
 -- after a step that was made it goes on, and has fewer to come
 pub goes-on : (c : CallerKnowledge) (k : Layout) (v w w' : View) (call call' : Call) (action : Action) (s : Step) (x : Observation) → Knows c k call.caller v → IsUnderway c k v w call (Makes s) → Made k s x w w' → call'.caller ≡ call.caller → call'.request ≡ call.request
     → Goes c call x call' action → IsUnderway c k v w' call' action × (steps_to_come call' < steps_to_come call)
@@ -130,8 +134,8 @@ goes-on c k v w w' call call' action s x knows u m callers requests goes =
       copy = u.copy;
       of_copy = u.of_copy;
       phase = phase_after c t u.phase x;
-      there = goes.moves ∙ ap (λ (o : Option Phase). Some (standing_after c t r o x)) u.there;
-      acts = goes.acts ∙ ap (λ (o : Option Phase). action_at t (standing_after c t r o x)) u.there;
+      there = goes.moves ∙ (ap (λ (o : Option Phase). Some (standing_after c t r o x)) u.there ∙ ap (λ (p : Phase). Some p) (copy-settled r u.copy (phase_after c t u.phase x) u.of_copy));
+      acts = goes.acts ∙ (ap (λ (o : Option Phase). action_at t (standing_after c t r o x)) u.there ∙ ap (action_at t) (copy-settled r u.copy (phase_after c t u.phase x) u.of_copy));
       stands = step-stands c k t v knows mid w' u.steps well.taken.seen well.taken.position u.phase s x u.acts well m1 tries;
     } in
     (subst (λ (z : Call). IsUnderway c k v w' z action) same here, on.2)
@@ -190,7 +194,8 @@ comes-there c k v w call from to len u = by u.phase u.there u.acts u.stands
         let held : pins_by_call call ≡ record { source = source; dest = dest } = held-there call (Accessing copy source dest) there in
         let at : IsAt c (record call { phase = Some (Accessing copy source dest) }) (all_shown u.steps) = subst (λ (o : Option Phase). IsAt c (record call { phase = o }) (all_shown u.steps)) there u.at in
         let leads : (vs : List Observation) → way ((all_shown u.steps ++ Nothing ∷ []) ++ vs) ≡ give_back (last_first (record { source = source; dest = dest })) Granted vs =
-        λ vs. ap way (append_assoc (all_shown u.steps) (Nothing ∷ []) vs) ∙ at.leads (Nothing ∷ vs) in
+        λ vs. ap way (append_assoc (all_shown u.steps) (Nothing ∷ []) vs) ∙ (at.leads (Nothing ∷ vs)
+        ∙ ap (λ (q : OpenRequest). remains_of c t q (Accessing copy source dest) (Nothing ∷ vs)) u.of_copy) in
         record {
           comes = record { steps = u.steps; view = u.view; walked = u.walked; moments = walk-moments k way v u.steps u.walked; next = u.goes; is_access = tt };
           copy = copy;

@@ -7,13 +7,14 @@ use Rattle.gt_calls.specs.declared.action.CallValue.TheVariants as values
 use Rattle.gt_calls.specs.declared.action.CallResult.{CallResult}
 use Rattle.gt_calls.specs.declared.action.CallResult.TheVariants.{Granted, Given, Mapped, Refused}
 
--- all steps of the request are on the words
+-- a domain of the running monitor makes the request, and all its steps are on the words
 abbrev pub WaitsForNobody : OpenRequest → Type 0
 WaitsForNobody (asks.Load handle off len) = ⊥
 WaitsForNobody (asks.Store handle off len) = ⊥
 WaitsForNobody (asks.Peek frame off len) = ⊥
 WaitsForNobody (asks.Poke frame off len) = ⊥
 WaitsForNobody (asks.Copy c) = ⊥
+WaitsForNobody (asks.Probe c) = ⊥
 WaitsForNobody request = Unit {0}
 
 -- one of the steps of the request is an access to bytes

@@ -7,6 +7,8 @@ use Rattle.gt_live.specs.Prelude.{path_of, refused_at, tries, try_pin, turn, tur
 use Rattle.gt_word_history.specs.declared.view.EntryStep.TheVariants.{Unpinned}
 use Rattle.gt_word_history.specs.declared.view.HeaderStep.TheVariants as header
 use Rattle.gt_live.specs.Walks.{Called}
+use Rattle.gt_calls.specs.Asking.{asked}
+use Rattle.gt_calls.specs.Probing.{IsProbe}
 
 -- a leg makes at most four tries: a missed one leads to the next, and the fourth to N18 with the word that it found
 abbrev pub LegsMakeFourTries : Type 0
@@ -84,12 +86,12 @@ pub record GaveUp (k : Layout) (dom : DomId) (gref : GrantRef) (word : ℕ) (ste
   pub missed : MissedTries (position_in k.ids dom) gref.0 (first ∷ second ∷ third ∷ word ∷ []) tries
   pub given_back : AreUnpins back
 
--- a call that is refused by N18 made exactly four tries at the end, each of which was missed, and carries the word that
+-- a call of a domain that is refused by N18 made exactly four tries at the end, each of which was missed, and carries the word that
 -- the fourth found
 abbrev pub FourTriesWereMissed : Type 0
 FourTriesWereMissed =
     (k : Layout) (c : CallerKnowledge) (caller : DomId) (request : Request) (denial : Denial) (v w : View)
-    → v.position ≡ position_in k.ids caller → (called : Called k (path_of c caller request) (Refused denial) v w)
-    → denial.rule ≡ N18
+    → (IsProbe (asked request) → ⊥) → v.position ≡ position_in k.ids caller
+    → (called : Called k (path_of c caller request) (Refused denial) v w) → denial.rule ≡ N18
     → (dom : DomId) × (gref : GrantRef) × (word : ℕ) × (denial ≡ entry_refusal dom gref N18 word)
     × GaveUp k dom gref word (in_order called.steps)

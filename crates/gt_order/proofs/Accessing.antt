@@ -35,11 +35,11 @@ use Rattle.gt_order.specs.Runs.CallOutcome.{Read, Wrote}
 
 -- walks one after another
 
-view-append : (xs ys : List Moment) (v : View) → view_after (xs ++ ys) v ≡ view_after xs (view_after ys v)
+pub view-append : (xs ys : List Moment) (v : View) → view_after (xs ++ ys) v ≡ view_after xs (view_after ys v)
 view-append [] ys v = refl
 view-append (x ∷ xs) ys v = ap (with_step x.0 x.1) (view-append xs ys v)
 
-shown-append : (xs ys : List Moment) → all_shown (xs ++ ys) ≡ all_shown ys ++ all_shown xs
+pub shown-append : (xs ys : List Moment) → all_shown (xs ++ ys) ≡ all_shown ys ++ all_shown xs
 shown-append [] ys = sym (none (all_shown ys))
   where
     none : (vs : List Observation) → vs ++ [] ≡ vs
@@ -174,13 +174,13 @@ no-step k (CopyBytes from to len) Nothing u w is made = absurd made
 no-step k step seen u w is made = absurd is
 
 -- no step on the words is made after these values
-abbrev MakesNone : Layout → Continuation → List Observation → Type 0
+abbrev pub MakesNone : Layout → Continuation → List Observation → Type 0
 MakesNone k way vs = (seen : Observation) (u w : View) → MakesStep k (way vs) seen u w → ⊥
 
-abbrev IsOneAccess : Layout → Continuation → Type 0
+abbrev pub IsOneAccess : Layout → Continuation → Type 0
 IsOneAccess k way = MakesNone k way [] × MakesNone k way (Nothing ∷ [])
 
-one-access : (k : Layout) (step : Step) → IsAccess step → IsOneAccess k (makes step (ended Granted))
+pub one-access : (k : Layout) (step : Step) → IsAccess step → IsOneAccess k (makes step (ended Granted))
 one-access k step is = (λ seen u w made. no-step k step seen u w is made, λ seen u w made. made)
 
 by-mapping : (k : Layout) (o : Option HeldPin) (step : HeldPin → Step) → ((m : HeldPin) → IsAccess (step m)) → IsOneAccess k (by_mapping o step)
@@ -213,13 +213,13 @@ fits-single (requests.Peek frame off len) is = (tt, tt)
 fits-single request is = absurd is
 
 -- a call of one access made no step on the words
-record IsAlone (k : Layout) (way : Continuation) (access : Step) (does : View → View → Type 0) (v w : View) (a : Accessed k way access does v w) : Type 0 where
-  first : a.comes.steps ≡ []
-  last : a.ends.steps ≡ []
-  at : a.at ≡ v
-  end : w ≡ a.after
+pub record IsAlone (k : Layout) (way : Continuation) (access : Step) (does : View → View → Type 0) (v w : View) (a : Accessed k way access does v w) : Type 0 where
+  pub first : a.comes.steps ≡ []
+  pub last : a.ends.steps ≡ []
+  pub at : a.at ≡ v
+  pub end : w ≡ a.after
 
-alone : (k : Layout) (way : Continuation) (access : Step) (does : View → View → Type 0) (v w : View) → IsOneAccess k way → (a : Accessed k way access does v w) → IsAlone k way access does v w a
+pub alone : (k : Layout) (way : Continuation) (access : Step) (does : View → View → Type 0) (v w : View) → IsOneAccess k way → (a : Accessed k way access does v w) → IsAlone k way access does v w a
 alone k way access does v w one a =
     let first = no-walk k way v a.comes.steps one.0 a.comes.walked in
     let none : MakesNone k (onward way (all_shown a.comes.steps ++ Nothing ∷ [])) [] =

@@ -1,5 +1,5 @@
 -- A call of a list that was answered is a call of a run.
-use Rattle.std.proofs.Common.{Bor, ◌≡◌, inl, inr, ℕ, List, []}
+use Rattle.std.proofs.Common.{◌≡◌, ◌⊎◌, inl, inr, ℕ, List, []}
 use Rattle.std.proofs.Common.{Result, Ok, Err, refl, sym, ap, ◌∙◌, subst}
 use Rattle.gt_types.specs.declared.DomId.{DomId}
 use Rattle.gt_types.specs.declared.Size.{Size}
@@ -16,7 +16,7 @@ use Rattle.gt_core.specs.declared.trace.Bytes.{Bytes}
 use Rattle.gt_core.specs.declared.trace.Answer.TheVariants as answers
 use Rattle.gt_frames.specs.Receipts.{Copying, Reading, Writing}
 use Rattle.gt_types.specs.declared.copies.CopyArgs.{CopyArgs}
-use Rattle.gt_calls.specs.declared.action.CallResult.TheVariants.{Refused}
+use Rattle.gt_calls.specs.declared.action.CallResult.TheVariants.{Granted, Refused}
 use Rattle.gt_calls.specs.Path.{path_of}
 use Rattle.gt_calls.specs.declared.action.Step.{Step}
 use Rattle.gt_types.specs.declared.GrantRef.{GrantRef}
@@ -29,6 +29,7 @@ use Rattle.gt_live.specs.declared.domain.Domain.{Domain}
 use Rattle.gt_live.specs.declared.monitor.Monitor.{Monitor}
 use Rattle.gt_order.proofs.Called.{map-made, plain-made, release-made, unmap-made}
 use Rattle.gt_order.proofs.Accessing.{copies-made, lost-made, reads-made, writes-made}
+use Rattle.gt_order.proofs.Probed.{lost-copies}
 use Rattle.gt_order.specs.Calling.{IsLoading, IsOutcomeOf, IsSingle, IsStoring, StaysOf, WasMade}
 use Rattle.gt_order.specs.Runs.{FitsTypes, KeepsNoPin}
 use Rattle.gt_order.specs.Runs.{CallOutcome}
@@ -41,32 +42,7 @@ use Rattle.gt_run.specs.Asking.{mapped_answer, plain_answer, size_answer}
 use Rattle.gt_run.specs.Asking.{version_answer}
 use Rattle.gt_order.proofs.KeptFrames.{MakesOne, never-missing}
 use Rattle.gt_order.specs.Printed.{IsAllocating}
-use Rattle.gt_order.specs.Texts.{IsLost, IsMadeWhole, OutcomeGivesAnswer}
-
--- a copy with this answer did not reach its access without making it
-abbrev pub NotLost : {P : Type 0} → Monitor P → Request → Answer → Type 0
-NotLost m (requests.Copy args) answer = (denial : Denial) → answer ≡ answers.Denied denial → IsLost m denial → ⊥
-NotLost m request answer = Unit {0}
-
-pub whole-request : {P : Type 0} (m : Monitor P) (named : List Named) (dom : DomId) (bytes : Bor (List ℕ)) (call : ScriptCall) (answer : Answer) → IsMadeWhole m call answer → NotLost m (request_of named dom bytes call) answer
-unfolding request_of
-whole-request m named dom bytes (calls.Grant gref entry) answer q = tt
-whole-request m named dom bytes (calls.GrantBytes gref hex) answer q = tt
-whole-request m named dom bytes (calls.Revoke gref) answer q = tt
-whole-request m named dom bytes (calls.Withdraw gref) answer q = tt
-whole-request m named dom bytes (calls.Demote gref) answer q = tt
-whole-request m named dom bytes (calls.Promote gref) answer q = tt
-whole-request m named dom bytes (calls.Map label to gref flags) answer q = tt
-whole-request m named dom bytes (calls.Unmap label) answer q = tt
-whole-request m named dom bytes (calls.Load label off len) answer q = tt
-whole-request m named dom bytes (calls.Store label off hex) answer q = tt
-whole-request m named dom bytes (calls.Peek frame off len) answer q = tt
-whole-request m named dom bytes (calls.Poke frame off hex) answer q = tt
-whole-request m named dom bytes (calls.Copy c) answer q = q
-whole-request m named dom bytes (calls.SetVersion version) answer q = tt
-whole-request m named dom bytes (calls.SetupTable frames) answer q = tt
-whole-request m named dom bytes (calls.QuerySize to) answer q = tt
-whole-request m named dom bytes (calls.GetVersion to) answer q = tt
+use Rattle.gt_order.specs.Texts.{IsLost, OutcomeGivesAnswer}
 
 -- what is printed is what the call answered
 
@@ -145,6 +121,16 @@ module _ {P : Type 0} (may : P → AllowRelation) (m : Monitor P) where
   abbrev pub IsMade : Request → Answer → Domain → Domain → Type 0
   IsMade request answer d e = (outcome : CallOutcome) × (steps : List Moment) × OutcomeGivesAnswer m outcome answer × WasMade may m request outcome steps d e × IsStarvedOnly outcome request
 
+  -- a copy that was answered so could not make its access, and its probe is a call of a run
+  abbrev pub IsLostAs : Request → Answer → Domain → Domain → Type 0
+  IsLostAs request answer d e =
+      (args : CopyArgs) × (request ≡ requests.Copy args) × (denial : Denial) × (answer ≡ answers.Denied denial) × IsLost m denial
+      × ((steps : List Moment) × WasMade may m (requests.Probe args) (Told Granted) steps d e)
+
+  abbrev IsNoCopy : Request → Type 0
+  IsNoCopy (requests.Copy args) = ⊥
+  IsNoCopy request = Unit {0}
+
   module _ (d e : Domain) (stays : StaysOf may m d e) where
     -- an access that could not be made was refused with N26, or a frame is missing
     lost-is : (request : Request) → MakesOne request → (access : Step) (denial : Denial) (v w : View) → Accessed m.words.layout (path_of (known_on may m d) d.seat.dom request) access IsUnmade v w → HasCause m.words access denial
@@ -176,29 +162,35 @@ module _ {P : Type 0} (may : P → AllowRelation) (m : Monitor P) where
     loading request is one other fits answer (Err denial) told (inr lost) kept = (Starved, [], (denial, told, lost-is request (single-one request one) lost.0 denial _ _ lost.1 lost.3 lost.2), lost-made may m d e request lost.0 stays one lost.1 kept, single-allocates request one)
 
     -- a copy
-    copying : (args : CopyArgs) (answer : Answer) → NotLost m (requests.Copy args) answer → FitsTypes (requests.Copy args) → (r : Result Copying Denial) → answer ≡ plain_answer r
-        → Accesses may m d (requests.Copy args) (IsCopiedBy m.words.layout d.seat.dom) r e → KeepsPinned d e → IsMade (requests.Copy args) answer d e
-    copying args answer whole fits (Ok r) told accessed kept = let z = copies-made may m d e args r stays fits accessed kept in (Wrote, z.0, told, z.1, tt)
-    copying args answer whole fits (Err denial) told (inl called) kept = plain (requests.Copy args) (Refused denial) (answers.Denied denial) answer (λ q. q) fits tt refl told called kept
-    copying args answer whole fits (Err denial) told (inr lost) kept = absurd (whole denial told (lost-is (requests.Copy args) tt lost.0 denial _ _ lost.1 lost.3 lost.2))
+    copying : (args : CopyArgs) (answer : Answer) → FitsTypes (requests.Copy args) → (r : Result Copying Denial) → answer ≡ plain_answer r
+        → Accesses may m d (requests.Copy args) (IsCopiedBy m.words.layout d.seat.dom) r e → KeepsPinned d e → IsMade (requests.Copy args) answer d e ⊎ IsLostAs (requests.Copy args) answer d e
+    copying args answer fits (Ok r) told accessed kept = let z = copies-made may m d e args r stays fits accessed kept in inl (Wrote, z.0, told, z.1, tt)
+    copying args answer fits (Err denial) told (inl called) kept = inl (plain (requests.Copy args) (Refused denial) (answers.Denied denial) answer (λ q. q) fits tt refl told called kept)
+    copying args answer fits (Err denial) told (inr lost) kept =
+        inr (args, refl, denial, told, lost-is (requests.Copy args) tt lost.0 denial _ _ lost.1 lost.3 lost.2, lost-copies may m d e args lost.0 stays lost.1 kept)
 
-    pub is-made : (request : Request) (answer : Answer) → NotLost m request answer → FitsTypes request → AnswersCall may m d request answer e → IsMade request answer d e
-    is-made (requests.Map dom gref flags) answer quiet fits x = let z = map-made may m d e dom gref flags x.0 stays x.2 in
+    made-plainly : (request : Request) (answer : Answer) → IsNoCopy request → FitsTypes request → AnswersCall may m d request answer e → IsMade request answer d e
+    made-plainly (requests.Map dom gref flags) answer quiet fits x = let z = map-made may m d e dom gref flags x.0 stays x.2 in
         (z.0, z.2.0, subst (OutcomeGivesAnswer m z.0) (sym x.1) (map-same m x.0 z.0 z.1), z.2.1, map-only dom gref flags z.0)
-    is-made (requests.Unmap handle) answer quiet fits x = let z = unmap-made may m d e handle x.0 stays x.2 x.3 x.4 in (Told (verdict_of x.0), z.0, x.1 ∙ plain-same x.0, z.1, tt)
-    is-made (requests.Release handle) answer quiet fits x = let z = release-made may m d e handle x.0 stays x.2 x.3 x.4 in (Told (verdict_of x.0), z.0, x.1 ∙ plain-same x.0, z.1, tt)
-    is-made (requests.SetVersion version) answer quiet fits x = plain (requests.SetVersion version) (verdict_of x.0) (plain_answer x.0) answer (λ q. q) fits (plain-pin x.0) (plain-same x.0) x.1 x.2.0 x.2.1
-    is-made (requests.SetupTable frames) answer quiet fits x = plain (requests.SetupTable frames) (verdict_of_frames x.0) (frames_answer x.0) answer (λ q. q) fits (frames-pin x.0) (frames-same x.0) x.1 x.2.0 x.2.1
-    is-made (requests.QuerySize dom) answer quiet fits x = plain (requests.QuerySize dom) (verdict_of_size x.0) (size_answer x.0) answer (λ q. q) fits (size-pin x.0) (size-same x.0) x.1 x.2.0 x.2.1
-    is-made (requests.GetVersion dom) answer quiet fits x = plain (requests.GetVersion dom) (verdict_of_version x.0) (version_answer x.0) answer (λ q. q) fits (version-pin x.0) (version-same x.0) x.1 x.2.0 x.2.1
-    is-made (requests.Load handle off len) answer quiet fits x = loading (requests.Load handle off len) tt tt (λ q. q) fits answer x.0 x.1 x.2.0 x.2.1
-    is-made (requests.Peek frame off len) answer quiet fits x = loading (requests.Peek frame off len) tt tt (λ q. q) fits answer x.0 x.1 x.2.0 x.2.1
-    is-made (requests.Store handle off bytes) answer quiet fits x = storing (requests.Store handle off bytes) tt tt (λ q. q) fits answer x.0 x.1 x.2.0 x.2.1
-    is-made (requests.Poke frame off bytes) answer quiet fits x = storing (requests.Poke frame off bytes) tt tt (λ q. q) fits answer x.0 x.1 x.2.0 x.2.1
-    is-made (requests.Copy args) answer quiet fits x = copying args answer quiet fits x.0 x.1 x.2 x.3
-    is-made (requests.Grant gref entry) answer quiet fits x = plain (requests.Grant gref entry) (verdict_of x.0) (plain_answer x.0) answer (λ q. q) fits (plain-pin x.0) (plain-same x.0) x.1 x.2.0 x.2.1
-    is-made (requests.GrantBytes gref bytes) answer quiet fits x = plain (requests.GrantBytes gref bytes) (verdict_of x.0) (plain_answer x.0) answer (λ q. q) fits (plain-pin x.0) (plain-same x.0) x.1 x.2.0 x.2.1
-    is-made (requests.Revoke gref) answer quiet fits x = plain (requests.Revoke gref) (verdict_of x.0) (plain_answer x.0) answer (λ q. q) fits (plain-pin x.0) (plain-same x.0) x.1 x.2.0 x.2.1
-    is-made (requests.Withdraw gref) answer quiet fits x = plain (requests.Withdraw gref) (verdict_of x.0) (plain_answer x.0) answer (λ q. q) fits (plain-pin x.0) (plain-same x.0) x.1 x.2.0 x.2.1
-    is-made (requests.Demote gref) answer quiet fits x = plain (requests.Demote gref) (verdict_of x.0) (plain_answer x.0) answer (λ q. q) fits (plain-pin x.0) (plain-same x.0) x.1 x.2.0 x.2.1
-    is-made (requests.Promote gref) answer quiet fits x = plain (requests.Promote gref) (verdict_of x.0) (plain_answer x.0) answer (λ q. q) fits (plain-pin x.0) (plain-same x.0) x.1 x.2.0 x.2.1
+    made-plainly (requests.Unmap handle) answer quiet fits x = let z = unmap-made may m d e handle x.0 stays x.2 x.3 x.4 in (Told (verdict_of x.0), z.0, x.1 ∙ plain-same x.0, z.1, tt)
+    made-plainly (requests.Release handle) answer quiet fits x = let z = release-made may m d e handle x.0 stays x.2 x.3 x.4 in (Told (verdict_of x.0), z.0, x.1 ∙ plain-same x.0, z.1, tt)
+    made-plainly (requests.SetVersion version) answer quiet fits x = plain (requests.SetVersion version) (verdict_of x.0) (plain_answer x.0) answer (λ q. q) fits (plain-pin x.0) (plain-same x.0) x.1 x.2.0 x.2.1
+    made-plainly (requests.SetupTable frames) answer quiet fits x = plain (requests.SetupTable frames) (verdict_of_frames x.0) (frames_answer x.0) answer (λ q. q) fits (frames-pin x.0) (frames-same x.0) x.1 x.2.0 x.2.1
+    made-plainly (requests.QuerySize dom) answer quiet fits x = plain (requests.QuerySize dom) (verdict_of_size x.0) (size_answer x.0) answer (λ q. q) fits (size-pin x.0) (size-same x.0) x.1 x.2.0 x.2.1
+    made-plainly (requests.GetVersion dom) answer quiet fits x = plain (requests.GetVersion dom) (verdict_of_version x.0) (version_answer x.0) answer (λ q. q) fits (version-pin x.0) (version-same x.0) x.1 x.2.0 x.2.1
+    made-plainly (requests.Load handle off len) answer quiet fits x = loading (requests.Load handle off len) tt tt (λ q. q) fits answer x.0 x.1 x.2.0 x.2.1
+    made-plainly (requests.Peek frame off len) answer quiet fits x = loading (requests.Peek frame off len) tt tt (λ q. q) fits answer x.0 x.1 x.2.0 x.2.1
+    made-plainly (requests.Store handle off bytes) answer quiet fits x = storing (requests.Store handle off bytes) tt tt (λ q. q) fits answer x.0 x.1 x.2.0 x.2.1
+    made-plainly (requests.Poke frame off bytes) answer quiet fits x = storing (requests.Poke frame off bytes) tt tt (λ q. q) fits answer x.0 x.1 x.2.0 x.2.1
+    made-plainly (requests.Copy args) answer quiet fits x = absurd quiet
+    made-plainly (requests.Probe args) answer quiet fits x = plain (requests.Probe args) (verdict_of x.0) (plain_answer x.0) answer (λ q. q) fits (plain-pin x.0) (plain-same x.0) x.1 x.2.0 x.2.1
+    made-plainly (requests.Grant gref entry) answer quiet fits x = plain (requests.Grant gref entry) (verdict_of x.0) (plain_answer x.0) answer (λ q. q) fits (plain-pin x.0) (plain-same x.0) x.1 x.2.0 x.2.1
+    made-plainly (requests.GrantBytes gref bytes) answer quiet fits x = plain (requests.GrantBytes gref bytes) (verdict_of x.0) (plain_answer x.0) answer (λ q. q) fits (plain-pin x.0) (plain-same x.0) x.1 x.2.0 x.2.1
+    made-plainly (requests.Revoke gref) answer quiet fits x = plain (requests.Revoke gref) (verdict_of x.0) (plain_answer x.0) answer (λ q. q) fits (plain-pin x.0) (plain-same x.0) x.1 x.2.0 x.2.1
+    made-plainly (requests.Withdraw gref) answer quiet fits x = plain (requests.Withdraw gref) (verdict_of x.0) (plain_answer x.0) answer (λ q. q) fits (plain-pin x.0) (plain-same x.0) x.1 x.2.0 x.2.1
+    made-plainly (requests.Demote gref) answer quiet fits x = plain (requests.Demote gref) (verdict_of x.0) (plain_answer x.0) answer (λ q. q) fits (plain-pin x.0) (plain-same x.0) x.1 x.2.0 x.2.1
+    made-plainly (requests.Promote gref) answer quiet fits x = plain (requests.Promote gref) (verdict_of x.0) (plain_answer x.0) answer (λ q. q) fits (plain-pin x.0) (plain-same x.0) x.1 x.2.0 x.2.1
+
+    pub is-made : (request : Request) (answer : Answer) → FitsTypes request → AnswersCall may m d request answer e → IsMade request answer d e ⊎ IsLostAs request answer d e
+    is-made (requests.Copy args) answer fits x = copying args answer fits x.0 x.1 x.2 x.3
+    is-made request answer fits x = inl (made-plainly request answer tt fits x)

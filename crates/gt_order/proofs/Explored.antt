@@ -43,9 +43,7 @@ use Rattle.gt_run.specs.Serving.{ListOutcome, answer_lines}
 use Rattle.gt_order.proofs.Served.{Serves, end-part, follows-list, part-in, prints-list, start-part}
 use Rattle.gt_order.specs.Explored.{EndsAtNoGate, HasNoneLost, IsStarved, RunsAreExplored}
 use Rattle.gt_order.specs.Ordering.{events_of, items_in, own_in}
-use Rattle.gt_order.specs.Printed.{AllPrint, CopiesGetMemory, HasPart, MayPrint, PrintsList, RunsArePrinted, no_memory}
-use Rattle.gt_order.specs.Running.{CopiesHaveMemory}
-use Rattle.gt_order.specs.Texts.{HasAllFrames, HasWholeCopies, IsMadeWhole}
+use Rattle.gt_order.specs.Printed.{AllPrint, MayPrint, PrintsList, RunsArePrinted}
 
 -- each domain follows its list
 all-follow : (c : RunContents) (hs : List Happening) (ds : List DomainConfig) (all : List (Served ScriptRights)) → length ds ≡ length all
@@ -67,31 +65,10 @@ all-print c hs (d ∷ ds) [] same each = absurd (omega (arith, same))
 all-print c hs (d ∷ ds) (s ∷ all) same each =
     (s.text, (texts_in all, refl, all-print c hs ds all (omega (arith, same)) (λ i e t inside. each (suc i) e t (omega (arith, inside)))), each 0 d s (omega arith))
 
--- copies that got memory reached and made their accesses, since no frame is missing
-copies-whole : (s : Served ScriptRights) → HasAllFrames s.duty.monitor.now → CopiesGetMemory s → HasWholeCopies s
-copies-whole s frames gets task call o is-in does among line = by call does
-  where
-    by : (z : ScriptCall) → task.deed ≡ Do z → IsMadeWhole s.duty.monitor.now z o.answer
-    by (calls.Copy a) does =
-        λ denial e lost. ⊎_elim (λ (n26 : denial ≡ denial_of N26 NoFacts). gets task (calls.Copy a) o is-in does among line tt (e ∙ ap (λ (d : Denial). answers.Denied d) n26))
-        (λ (missing : (denial ≡ denial_of N16 NoFacts) × (HasAllFrames s.duty.monitor.now → ⊥)). missing.1 frames) lost
-    by z does = tt
-
 all-among : {A : Type 0} (Is : A → Type 0) (xs : List A) → All Is xs → (x : A) → IsAmong x xs → Is x
 all-among Is [] all x is = absurd is
 all-among Is (y ∷ ys) all x (inl e) = subst Is (sym e) (All-head Is y ys all)
 all-among Is (y ∷ ys) all x (inr is) = all-among Is ys (All-tail Is y ys all) x is
-
-among-get : {A : Type 0} (xs : List A) (i : ℕ) (d : A) → i < length xs → IsAmong (get_or xs i d) xs
-among-get [] i d l = absurd (omega (arith, l))
-among-get (x ∷ xs) zero d l = inl refl
-among-get (x ∷ xs) (suc i) d l = inr (among-get xs i d (omega (arith, l)))
-
--- what one of the elements gives is in what all give
-flat-part : {A : Type 0} (f : A → List ℕ) (xs : List A) (x : A) → IsAmong x xs → HasPart (f x) (flat_map f xs)
-flat-part f [] x is = absurd is
-flat-part f (y ∷ ys) x (inl e) = subst (λ z. HasPart (f z) (flat_map f (y ∷ ys))) (sym e) ([], flat_map f ys, refl)
-flat-part f (y ∷ ys) x (inr is) = end-part (f x) (flat_map f ys) (flat_map f (y ∷ ys)) (f y, refl) (flat-part f ys x is)
 
 module _ (c : RunContents) (logged : Bool) (x : Served ScriptRights) (xs : List (Served ScriptRights)) (of : AreOf c logged (duties_in (x ∷ xs))) where
   abbrev m : Monitor ScriptRights
@@ -148,36 +125,9 @@ module _ (c : RunContents) (logged : Bool) (x : Served ScriptRights) (xs : List 
       others (y ∷ ys) zero l = refl
       others (y ∷ ys) (suc n) l = others ys n (omega (arith, l))
 
-  -- a line of the text shows each call of a list that got no memory
-  starved-shows : (i : ℕ) → i < length (x ∷ xs) → AreServed may_by (x ∷ xs) → (o : ListOutcome) → IsAmong o (lists i).outcomes → IsStarved o
-      → HasPart (answer_line (type_names c.head) o.line (lists i).duty.part.dom no_memory) (texts_in (x ∷ xs))
-  starved-shows i l are o among starved =
-      let was = All-get_or (WasServed may_by) (x ∷ xs) i x l are in
-      let names = (lists i).duty.part.types.now in let dom = (lists i).duty.part.dom in
-      let line : HasPart (answer_line names o.line dom o.answer) (answer_lines names dom (lists i).outcomes) = flat-part (λ (z : ListOutcome). answer_line names z.line dom z.answer) (lists i).outcomes o among in
-      let mine : HasPart (answer_line names o.line dom o.answer) (lists i).text = start-part (answer_line names o.line dom o.answer) (answer_lines names dom (lists i).outcomes) was.last (lists i).text was.prints line in
-      let whole : HasPart (answer_line names o.line dom o.answer) (texts_in (x ∷ xs)) = part-in (answer_line names o.line dom o.answer) (lists i).text (texts_in (x ∷ xs)) mine (flat-part (λ (s : Served ScriptRights). s.text) (x ∷ xs) (lists i) (among-get (x ∷ xs) i x l)) in
-      subst (λ (a : Answer). HasPart (answer_line (type_names c.head) o.line dom a) (texts_in (x ∷ xs))) starved
-      (subst (λ (ts : List (List ℕ)). HasPart (answer_line ts o.line dom o.answer) (texts_in (x ∷ xs))) (over-at i l).1 whole)
-
-  pub copies-get-by : AreServed may_by (x ∷ xs) → CopiesHaveMemory c (texts_in (x ∷ xs)) → All CopiesGetMemory (x ∷ xs)
-  copies-get-by are have i s l = subst CopiesGetMemory (same-list x s i l) mine
-    where
-      mine : CopiesGetMemory (lists i)
-      mine task call o is-in does among line copy starved =
-          have task call (lists i).duty.part.dom (subst (IsAmong task) (over-at i l).0 is-in) does copy
-          (subst (λ (n : ℕ). HasPart (answer_line (type_names c.head) n (lists i).duty.part.dom no_memory) (texts_in (x ∷ xs))) line (starved-shows i l are o among starved))
-
-  module _ (are : AreServed may_by (x ∷ xs)) (one : ShowOneState (x ∷ xs)) (gets : All CopiesGetMemory (x ∷ xs)) where
-    copies : All HasWholeCopies (x ∷ xs)
-    copies i s l =
-        let inside : i < length (duties_in (x ∷ xs)) = let e = length-map (x ∷ xs) (λ (t : Served ScriptRights). t.duty) in omega (arith, l, e) in
-        let here : (get_or (x ∷ xs) i s).duty.monitor.now ≡ m = subst (λ (d : ThreadJob ScriptRights). d.monitor.now ≡ m) (get_or-map (λ (t : Served ScriptRights). t.duty) (x ∷ xs) i s s.duty l)
-        (All-get_or (λ (d : ThreadJob ScriptRights). d.monitor.now ≡ m) (duties_in (x ∷ xs)) i s.duty inside on) in
-        copies-whole (get_or (x ∷ xs) i s) (subst (λ (n : Monitor ScriptRights). HasAllFrames n) (sym here) of.frames) (gets i s l)
-
-    all : FollowsAll may_by m x xs on ids are one copies
-    all = follows-all may_by m x xs on ids are one copies of.limits
+  module _ (are : AreServed may_by (x ∷ xs)) (one : ShowOneState (x ∷ xs)) where
+    all : FollowsAll may_by m x xs on ids are one
+    all = follows-all may_by m x xs on ids are one of.limits
 
     numbered : AreFlagsOf m c.tasks
     numbered task is = all-among (λ (t : RunTask). IsBelow m.words.flags t.deed) c.tasks of.flags task is
@@ -224,10 +174,6 @@ module _ (c : RunContents) (logged : Bool) (x : Served ScriptRights) (xs : List 
             (λ starved. whole i x l starved.0 starved.1 starved.2) (λ stopped. passes i x l stopped.0 stopped.1 stopped.2)
             (list_of c.tasks (get_or c.head.domains i d).id) [] [] _ (lists i).text (serves-at i d inside))
 
--- a list without N26 has no copy without memory
-copies-get : (served : List (Served ScriptRights)) → All HasNoneLost served → All CopiesGetMemory served
-copies-get served whole i s l task call o is-in does among line copy starved = whole i s l o among starved
-
 -- a run of a script has a domain
 none-run : (c : RunContents) (logged : Bool) (duties : List (ThreadJob ScriptRights)) (of : AreOf c logged duties) → [] ≡ duties → ⊥
 none-run c logged duties of same = none (ap (map (λ (d : ThreadJob ScriptRights). d.part)) same ∙ of.duties_are.0)
@@ -254,11 +200,11 @@ runs-explored c logged duties old new of wrote passes whole = by wrote.0 wrote.1
   where
     by : (all : List (Served ScriptRights)) → duties_in all ≡ duties → AreServed may_by all → ShowOneState all → All EndsAtNoGate all → All HasNoneLost all → MayGive c (texts_in all)
     by [] same are one passes whole = absurd (none-run c logged duties of same)
-    by (x ∷ xs) same are one passes whole = explored c logged x xs (of-lists c logged duties (x ∷ xs) same of) are one (copies-get (x ∷ xs) whole) passes whole
+    by (x ∷ xs) same are one passes whole = explored c logged x xs (of-lists c logged duties (x ∷ xs) same of) are one passes whole
 
 pub runs-printed : RunsArePrinted
-runs-printed c logged duties old new of wrote gets = by wrote.0 wrote.1 wrote.2 wrote.3 gets
+runs-printed c logged duties old new of wrote = by wrote.0 wrote.1 wrote.2 wrote.3
   where
-    by : (all : List (Served ScriptRights)) → duties_in all ≡ duties → AreServed may_by all → ShowOneState all → All CopiesGetMemory all → MayPrint c (texts_in all)
-    by [] same are one gets = absurd (none-run c logged duties of same)
-    by (x ∷ xs) same are one gets = printed c logged x xs (of-lists c logged duties (x ∷ xs) same of) are one gets
+    by : (all : List (Served ScriptRights)) → duties_in all ≡ duties → AreServed may_by all → ShowOneState all → MayPrint c (texts_in all)
+    by [] same are one = absurd (none-run c logged duties of same)
+    by (x ∷ xs) same are one = printed c logged x xs (of-lists c logged duties (x ∷ xs) same of) are one

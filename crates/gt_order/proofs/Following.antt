@@ -31,8 +31,9 @@ use Rattle.gt_order.proofs.Happenings.{call-happens, happening_of, happenings, h
 use Rattle.gt_order.proofs.Held.{Keeps, keeps-less, keeps-more, keeps-same}
 use Rattle.gt_order.proofs.Answering.{IsStarvedOnly}
 use Rattle.gt_order.proofs.Served.{Serves}
-use Rattle.gt_order.specs.Printed.{GetsNoMemory, IsAllocating, no_memory}
-use Rattle.gt_order.specs.Texts.{HasAllFrames, OutcomeGivesAnswer}
+use Rattle.gt_types.specs.declared.copies.CopyArgs.{CopyArgs}
+use Rattle.gt_order.specs.Printed.{GetsNoMemory, IsAllocating, Starves, no_memory}
+use Rattle.gt_order.specs.Texts.{HasAllFrames, IsLost, OutcomeGivesAnswer}
 use Rattle.gt_types.specs.Denial.{denial_of}
 use Rattle.gt_types.specs.declared.denial.Facts.TheVariants.{None as NoFacts}
 use Rattle.gt_types.specs.declared.denial.Rule.TheVariants.{N26}
@@ -98,6 +99,7 @@ module _ {P : Type 0} (may : P → AllowRelation) (m : Monitor P) (d e : Domain)
   answered-keeps (requests.Store handle off bytes) answer (r, is, (accessed, kept, silent)) = told-so answer (plain_answer r) is (plain-held held r) kept.0
   answered-keeps (requests.Poke frame off bytes) answer (r, is, (accessed, kept, silent)) = told-so answer (plain_answer r) is (plain-held held r) kept.0
   answered-keeps (requests.Copy args) answer (r, is, accessed, kept, told) = told-so answer (plain_answer r) is (plain-held held r) kept.0
+  answered-keeps (requests.Probe args) answer (r, is, (answered, kept, silent)) = told-so answer (plain_answer r) is (plain-held held r) kept.0
   answered-keeps (requests.Grant gref entry) answer (r, is, (answered, kept, silent)) = told-so answer (plain_answer r) is (plain-held held r) kept.0
   answered-keeps (requests.GrantBytes gref bytes) answer (r, is, (answered, kept, silent)) = told-so answer (plain_answer r) is (plain-held held r) kept.0
   answered-keeps (requests.Revoke gref) answer (r, is, (answered, kept, silent)) = told-so answer (plain_answer r) is (plain-held held r) kept.0
@@ -115,11 +117,20 @@ held-none : (held : List Handle) (lost : Option Handle) (denial : Denial) → he
 held-none held None denial = refl
 held-none held (Some handle) denial = refl
 
+-- a call that makes no step before it has its memory
+starves-plainly : (dom : DomId) (request : Request) (Rest : List Happening → Type 0) (hs : List Happening) → IsAllocating request → Rest hs → Starves dom request Rest hs
+starves-plainly dom (requests.Copy args) Rest hs is rest = absurd is
+starves-plainly dom request Rest hs is rest = (is, rest)
+
 module _ {P : Type 0} (m : Monitor P) (all : HasAllFrames m) where
+  -- what was lost was refused with N26
+  pub lost-memory : (answer : Answer) (denial : Denial) → answer ≡ answers.Denied denial → IsLost m denial → answer ≡ no_memory
+  lost-memory answer denial is (inl e) = is ∙ ap (λ (d : Denial). answers.Denied d) e
+  lost-memory answer denial is (inr e) = absurd (e.1 all)
+
   -- a call without memory answered N26
   pub starved-answer : (answer : Answer) → OutcomeGivesAnswer m Starved answer → answer ≡ no_memory
-  starved-answer answer (denial, is, inl e) = is ∙ ap (λ (d : Denial). answers.Denied d) e
-  starved-answer answer (denial, is, inr e) = absurd (e.1 all)
+  starved-answer answer (denial, is, lost) = lost-memory answer denial is lost
 
 module _ (Lost Stopped : Type 0) (c : Config) (may : AllowRelation) (types : List (List ℕ)) (dom : DomId) where
   -- whatever follows these deeds follows the lines of the list that did them
@@ -189,7 +200,39 @@ module _ (Lost Stopped : Type 0) (c : Config) (may : AllowRelation) (types : Lis
       then = subst (λ (q : List Named × List Handle). NextOf q.0 q.1 more text) (λ j. (named-none named dom (label_given call) j, held-none held (given_up m.request) (denial_of N26 NoFacts) j)) f
 
       gets : GetsNoMemory types dom named held task.line task.deed NextOf more (line ++ text)
-      gets = subst (λ (x : RunAction). GetsNoMemory types dom named held task.line x NextOf more (line ++ text)) (sym is) (m.request, says, allocates, (text, refl, then))
+      gets = subst (λ (x : RunAction). GetsNoMemory types dom named held task.line x NextOf more (line ++ text)) (sym is) (m.request, says, starves-plainly dom m.request (λ hs. Prints line (NextOf named held hs) (line ++ text)) more allocates (text, refl, then))
+
+  -- a copy that got no memory at its access
+  pub follows-lost : (named : List Named) (held : List Handle) (done : List RunTask) (made : List Deed) (printed : List ℕ) (task : RunTask) (call : ScriptCall) (m : CallMade) (args : CopyArgs)
+      → Follows named held done made printed → task.deed ≡ Do call → SaysRequest named dom call (requests.Copy args) → m.request ≡ requests.Probe args → m.outcome ≡ Told Granted → Lost
+      → Follows (with_name named dom (label_given call) None) held (done ++ task ∷ []) (Call m ∷ made) (printed ++ answer_line types task.line dom no_memory)
+  follows-lost named held done made printed task call m args before is says probe outcome lost rest more text f =
+      follows-on done made printed task mine line rest more text (before (task ∷ rest) (happenings mine ++ more) (line ++ text) (inr (inl (lost, gets))))
+    where
+      mine : RunOrder
+      mine = of_core (items_by_outcome dom (way_of c may m) m.request m.outcome m.steps)
+
+      line : List ℕ
+      line = answer_line types task.line dom no_memory
+
+      NextOf : List Named → List Handle → List Happening → List ℕ → Type 0
+      NextOf names holds hs left = Serves Lost Stopped types dom names holds rest hs left
+
+      then : NextOf named held more text
+      then = subst (λ (names : List Named). NextOf names held more text) (named-none named dom (label_given call)) f
+
+      After : Answer → List Happening → Type 0
+      After a hs = (a ≡ answers.Done) × Prints line (NextOf named held hs) (line ++ text)
+
+      same : items_by_outcome dom (way_of c may m) m.request m.outcome m.steps ≡ items_of_call dom (way_of c may m) (requests.Probe args) (Some answers.Done) m.steps
+      same = λ j. items_by_outcome dom (way_of c may m) (probe j) (outcome j) m.steps
+
+      happens : CallHappens dom (requests.Probe args) After (happenings mine ++ more)
+      happens = subst (λ g. CallHappens dom (requests.Probe args) After (happenings (of_core g) ++ more)) (sym same)
+          (call-happens dom (way_of c may m) (requests.Probe args) answers.Done m.steps After more (refl, (text, refl, then)))
+
+      gets : GetsNoMemory types dom named held task.line task.deed NextOf (happenings mine ++ more) (line ++ text)
+      gets = subst (λ (x : RunAction). GetsNoMemory types dom named held task.line x NextOf (happenings mine ++ more) (line ++ text)) (sym is) (requests.Copy args, says, happens)
 
   module _ {P : Type 0} (mon : Monitor P) (all : HasAllFrames mon) where
     pub follows-more : (named : List Named) (held : List Handle) (done : List RunTask) (made : List Deed) (printed : List ℕ) (task : RunTask) (call : ScriptCall) (m : CallMade) (answer : Answer)

@@ -66,15 +66,15 @@ use Rattle.gt_live.specs.declared.monitor.Monitor.{Monitor}
 
 -- paths whose accesses are to frames of the run
 
-module _ (k : CallerKnowledge) where
+module _ (k : CallerKnowledge) (reads : Bool) where
   -- the domain has this frame
   abbrev pub Has : DomId → ℕ → Type 0
   Has dom frame = frame < frame_count_of k.domains dom
 
-  -- the frames of an access are of the run
+  -- the frames of an access are of the run; it may be other than a copy only if `reads`
   abbrev pub IsToFrames : Step → Type 0
-  IsToFrames (ReadBytes dom frame off len) = Has dom frame
-  IsToFrames (WriteBytes dom frame off len) = Has dom frame
+  IsToFrames (ReadBytes dom frame off len) = (reads ≡ true) × Has dom frame
+  IsToFrames (WriteBytes dom frame off len) = (reads ≡ true) × Has dom frame
   IsToFrames (CopyBytes from to len) = Has from.frame.owner from.frame.number × Has to.frame.owner to.frame.number
   IsToFrames step = Unit {0}
 
@@ -270,9 +270,9 @@ module _ {P : Type 0} (may : P → AllowRelation) (m : Monitor P) (all : m.words
       (at-position m.config.domains.items name.owner name.number has))
 
   -- an access to frames of the run was not refused with N16
-  not-missing : (k : CallerKnowledge) → k.domains ≡ m.config.domains.items → (access : Step) (denial : Denial) → IsToFrames k access → HasCause m.words access denial → denial ≡ denial_of N16 NoFacts → IsAccess access → ⊥
-  not-missing k same (ReadBytes dom frame off len) denial has cause is a = cause is (kept (frame_named dom frame) (subst (λ (ds : List DomainConfig). frame < frame_count_of ds dom) same has))
-  not-missing k same (WriteBytes dom frame off len) denial has cause is a = cause is (kept (frame_named dom frame) (subst (λ (ds : List DomainConfig). frame < frame_count_of ds dom) same has))
+  not-missing : (k : CallerKnowledge) → k.domains ≡ m.config.domains.items → (access : Step) (denial : Denial) → IsToFrames k true access → HasCause m.words access denial → denial ≡ denial_of N16 NoFacts → IsAccess access → ⊥
+  not-missing k same (ReadBytes dom frame off len) denial has cause is a = cause is (kept (frame_named dom frame) (subst (λ (ds : List DomainConfig). frame < frame_count_of ds dom) same has.1))
+  not-missing k same (WriteBytes dom frame off len) denial has cause is a = cause is (kept (frame_named dom frame) (subst (λ (ds : List DomainConfig). frame < frame_count_of ds dom) same has.1))
   not-missing k same (CopyBytes from to len) denial has cause is a =
       cause is (kept from.frame (subst (λ (ds : List DomainConfig). from.frame.number < frame_count_of ds from.frame.owner) same has.0)) (kept to.frame (subst (λ (ds : List DomainConfig). to.frame.number < frame_count_of ds to.frame.owner) same has.1))
   not-missing k same access denial has cause is a = absurd a
@@ -284,16 +284,16 @@ module _ {P : Type 0} (may : P → AllowRelation) (m : Monitor P) (all : m.words
     mapped : (handle : Handle) (p : HeldPin) → value_of d.mappings handle ≡ Some p → frame_of p.entry < frame_count_of m.config.domains.items p.dom
     mapped handle p is = below know (frame_of p.entry) (frame_count_of m.config.domains.items p.dom) (mine.mapped handle p is).in_frames
 
-    path-so : (request : Request) → MakesOne request → AreToFrames know (path_of know d.seat.dom request)
-    path-so (requests.Load handle off len) one = begun-so know (begun_of know d.seat.dom (requests.Load handle off len)) _
-        (λ none. mapped-so know (know.mapping handle) (λ p. ReadBytes p.dom (frame_of p.entry) off len) (λ p is. mapped handle p is))
-    path-so (requests.Store handle off bytes) one = begun-so know (begun_of know d.seat.dom (requests.Store handle off bytes)) _
-        (λ none. mapped-so know (know.mapping handle) (λ p. WriteBytes p.dom (frame_of p.entry) off (length bytes.now)) (λ p is. mapped handle p is))
-    path-so (requests.Peek frame off len) one = begun-so know (begun_of know d.seat.dom (requests.Peek frame off len)) _
-        (λ none. let o : OpensOwn know d.seat.dom frame off len = opens know d.seat.dom (asks.Peek frame off len) none in makes-so know (ReadBytes d.seat.dom frame off len) (ended Granted) o.framed (ended-so know Granted))
-    path-so (requests.Poke frame off bytes) one = begun-so know (begun_of know d.seat.dom (requests.Poke frame off bytes)) _
-        (λ none. let o : OpensOwn know d.seat.dom frame off (length bytes.now) = opens know d.seat.dom (asks.Poke frame off (length bytes.now)) none in makes-so know (WriteBytes d.seat.dom frame off (length bytes.now)) (ended Granted) o.framed (ended-so know Granted))
-    path-so (requests.Copy args) one = begun-so know (begun_of know d.seat.dom (requests.Copy args)) _ (λ none. copies-so know d.seat.dom args none)
+    path-so : (request : Request) → MakesOne request → AreToFrames know true (path_of know d.seat.dom request)
+    path-so (requests.Load handle off len) one = begun-so know true (begun_of know d.seat.dom (requests.Load handle off len)) _
+        (λ none. mapped-so know true (know.mapping handle) (λ p. ReadBytes p.dom (frame_of p.entry) off len) (λ p is. (refl, mapped handle p is)))
+    path-so (requests.Store handle off bytes) one = begun-so know true (begun_of know d.seat.dom (requests.Store handle off bytes)) _
+        (λ none. mapped-so know true (know.mapping handle) (λ p. WriteBytes p.dom (frame_of p.entry) off (length bytes.now)) (λ p is. (refl, mapped handle p is)))
+    path-so (requests.Peek frame off len) one = begun-so know true (begun_of know d.seat.dom (requests.Peek frame off len)) _
+        (λ none. let o : OpensOwn know d.seat.dom frame off len = opens know d.seat.dom (asks.Peek frame off len) none in makes-so know true (ReadBytes d.seat.dom frame off len) (ended Granted) (refl, o.framed) (ended-so know true Granted))
+    path-so (requests.Poke frame off bytes) one = begun-so know true (begun_of know d.seat.dom (requests.Poke frame off bytes)) _
+        (λ none. let o : OpensOwn know d.seat.dom frame off (length bytes.now) = opens know d.seat.dom (asks.Poke frame off (length bytes.now)) none in makes-so know true (WriteBytes d.seat.dom frame off (length bytes.now)) (ended Granted) (refl, o.framed) (ended-so know true Granted))
+    path-so (requests.Copy args) one = begun-so know true (begun_of know d.seat.dom (requests.Copy args)) _ (λ none. copies-so know true d.seat.dom args none)
     path-so request one = absurd one
 
     -- an access of the domain's call that was not made was not refused with N16, since the table has all frames

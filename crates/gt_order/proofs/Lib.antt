@@ -22,6 +22,7 @@ pub mod NextItem
 pub mod NextStage
 pub mod Order
 pub mod Places
+pub mod Probed
 pub mod Said
 pub mod Seeing
 pub mod Served

@@ -31,7 +31,8 @@ use Rattle.gt_live.specs.Domains.{AllowRelation, HasLeft, BelongsTo}
 use Rattle.gt_live.specs.Starting.{IsNewDomain}
 use Rattle.gt_live.specs.declared.domain.Domain.{Domain}
 use Rattle.gt_live.specs.declared.monitor.Monitor.{Monitor}
-use Rattle.gt_order.proofs.Following.{Follows, answered-keeps, deeds-both, follows-flag, follows-more, follows-none, gives-back}
+use Rattle.gt_order.proofs.Following.{Follows, answered-keeps, deeds-both, follows-flag, follows-lost, follows-more, follows-none}
+use Rattle.gt_order.proofs.Following.{gives-back, lost-memory}
 use Rattle.gt_order.proofs.Happenings.{happening_of, happenings, happenings-both}
 use Rattle.gt_order.proofs.Held.{Keeps, keeps-new, keeps-none}
 use Rattle.gt_order.proofs.Leaving.{leaving}
@@ -59,11 +60,21 @@ use Rattle.gt_run.specs.Printing.{AreServed, HasViewIn, Served, ShowOneState, Wa
 use Rattle.gt_run.specs.Serving.{DoesDeed, DoesWhere, EndsList, ListLeadsTo, MakesCall, ListOutcome, ListProgress}
 use Rattle.gt_run.specs.Serving.{answer_lines, gate_line, list_start}
 use Rattle.gt_run.specs.declared.lists.ThreadJob.{ThreadJob}
-use Rattle.gt_order.specs.Texts.{AreDeedsOf, IsFlagStepOf, AreDeedsOfList, AreMadeWhole, AreOfALegalOrder, HasList}
+use Rattle.gt_order.specs.Texts.{AreDeedsOf, IsDoneFor, IsFlagStepOf, AreDeedsOfList, AreOfALegalOrder, HasList}
 use Rattle.gt_types.specs.Config.{IsWithinLimits}
-use Rattle.gt_order.specs.Texts.{AreOfOneOrder, HasAllFrames, HasWholeCopies, IsMadeWhole, IsViewOf, OutcomeGivesAnswer, RunsWriteALegalOrder}
+use Rattle.gt_order.specs.Texts.{AreOfOneOrder, HasAllFrames, IsViewOf, RunsWriteALegalOrder}
 use Rattle.gt_order.specs.Texts.{TextsAreOfALegalOrder}
-use Rattle.gt_order.proofs.Answering.{NotLost, is-made, whole-request}
+use Rattle.gt_order.proofs.Answering.{IsLostAs, IsMade, is-made}
+use Rattle.gt_order.specs.Calling.{WasMade}
+use Rattle.gt_order.specs.Runs.{CallOutcome}
+use Rattle.gt_order.specs.Runs.CallOutcome.{Told}
+use Rattle.gt_calls.specs.declared.action.CallResult.TheVariants.{Granted}
+use Rattle.gt_calls.specs.declared.request.Request.TheVariants as requests
+use Rattle.gt_core.specs.declared.trace.Answer.{Answer}
+use Rattle.gt_types.specs.declared.copies.CopyArgs.{CopyArgs}
+use Rattle.gt_host.specs.Runs.{SaysRequest, handle_given, label_given, with_name}
+use Rattle.gt_word_history.specs.History.{Moment}
+use Rattle.std.proofs.Common.{◌⊎◌}
 
 module _ {A : Type 0} where
   in-left : (x : A) (xs ys : List A) → IsAmong x xs → IsAmong x (xs ++ ys)
@@ -92,7 +103,7 @@ not-below i n e l = grind (arith, nat_tests)
 
 module _ {P : Type 0} (may : P → AllowRelation) (m : Monitor P) where
   -- a list, as far as it has come
-  module _ (duty : ThreadJob P) (over : duty.monitor.now ≡ m) (final : List ListOutcome) (whole : AreMadeWhole duty final) (first : Domain) (Stopped : Type 0) where
+  module _ (duty : ThreadJob P) (over : duty.monitor.now ≡ m) (final : List ListOutcome) (first : Domain) (Stopped : Type 0) where
     -- the outcomes so far stay among those at the end
     abbrev AreFinal : ListProgress → Type 0
     AreFinal p = (o : ListOutcome) → IsAmong o p.outcomes → IsAmong o final
@@ -128,14 +139,15 @@ module _ {P : Type 0} (may : P → AllowRelation) (m : Monitor P) where
       keeps : Keeps p.domain.mappings held
       follows : IsFollowed → Follows (HasStarved final) Stopped m.config (may m.rights) duty.part.types.now duty.part.dom p.named held done made (answer_lines duty.part.types.now duty.part.dom p.outcomes)
 
-    one-call : (task : RunTask) (call : ScriptCall) (done : List RunTask) (p q : ListProgress) → task.deed ≡ Do call
-        → (x : MakesCall may duty task.line call p q) → IsMadeWhole m call x.answer → (x.answer ≡ no_memory → HasStarved final) → Come done p → Come (done ++ task ∷ []) q
-    one-call task call done p q deed x made-whole starves come =
-        let says = x.says in
+    -- one more call of the list, which is this one of the run
+    call-comes : (task : RunTask) (call : ScriptCall) (done : List RunTask) (p q : ListProgress) (x : MakesCall may duty task.line call p q) (come : Come done p) (request : Request) (outcome : CallOutcome) (steps : List Moment)
+        → WasMade may m request outcome steps p.domain q.domain → IsDoneFor m (record { request = request; outcome = outcome; steps = steps; old = p.domain; new = q.domain }) x.request x.answer
+        → (IsFollowed → Follows (HasStarved final) Stopped m.config (may m.rights) duty.part.types.now duty.part.dom (with_name p.named duty.part.dom (label_given call) (handle_given x.answer)) (held_after come.held (given_up x.request) x.answer) (done ++ task ∷ [])
+        (Call (record { request = request; outcome = outcome; steps = steps; old = p.domain; new = q.domain }) ∷ come.made) (answer_lines duty.part.types.now duty.part.dom p.outcomes ++ answer_line duty.part.types.now task.line duty.part.dom x.answer))
+        → Come (done ++ task ∷ []) q
+    call-comes task call done p q x come request outcome steps made for follows =
         let asks : Asks may m p.domain x.request x.answer q.domain = subst (λ (y : Monitor P). Asks may y p.domain x.request x.answer q.domain) over x.asks in
-        let not-lost : NotLost m x.request x.answer = subst (λ (z : Request). NotLost m z x.answer) (sym says.2) (whole-request m p.named duty.part.dom says.0 call x.answer made-whole) in
-        let z = is-made may m p.domain q.domain (record { before = come.mine; afterwards = asks.2.0; seat = asks.2.1 }) x.request x.answer not-lost (said-fits call p.named duty.part.dom x.request x.fits says) asks.1 in
-        let m' : CallMade = record { request = x.request; outcome = z.0; steps = z.1; old = p.domain; new = q.domain } in
+        let m' : CallMade = record { request = request; outcome = outcome; steps = steps; old = p.domain; new = q.domain } in
         let o : ListOutcome = record { line = task.line; answer = x.answer; told = x.told; lost = x.lost } in
         let types = duty.part.types.now in let dom = duty.part.dom in
         let printed : answer_lines types dom q.outcomes ≡ answer_lines types dom p.outcomes ++ answer_line types task.line dom x.answer =
@@ -144,17 +156,52 @@ module _ {P : Type 0} (may : P → AllowRelation) (m : Monitor P) where
         let later : List Handle = held_after come.held (given_up x.request) x.answer in
         record {
           made = Call m' ∷ come.made;
-          deeds_are = (z.3, subst (λ (y : Domain). IsAtRest y p.domain) (sym come.now) (record { seat = refl; own = refl; mappings = refl }), come.deeds_are);
+          deeds_are = (made, subst (λ (y : Domain). IsAtRest y p.domain) (sym come.now) (record { seat = refl; own = refl; mappings = refl }), come.deeds_are);
           now = refl;
-          lines = (p.outcomes, o, x.outcomes, record { call = call; before = p; afterwards = q; made = x; request = refl; old = refl; new = refl; answer = refl; answered = subst (λ (y : Monitor P). OutcomeGivesAnswer y z.0 x.answer) (sym over) z.2 }, come.lines);
+          lines = (p.outcomes, o, x.outcomes, record { call = call; before = p; afterwards = q; made = x; old = refl; new = refl; answer = refl; done_for = subst (λ (y : Monitor P). IsDoneFor y m' x.request x.answer) (sym over) for }, come.lines);
           mine = asks.2.0;
           held = later;
           keeps = answered-keeps may m p.domain q.domain come.held come.keeps x.request x.answer asks.1;
           follows = λ followed.
-              let f = follows-more (HasStarved final) Stopped m.config (may m.rights) types dom m followed.1 p.named come.held done come.made (answer_lines types dom p.outcomes) task call m' x.answer (come.follows followed) deed says z.2 z.4 starves in
               subst (Follows (HasStarved final) Stopped m.config (may m.rights) types dom q.named later (done ++ task ∷ []) (Call m' ∷ come.made)) (sym printed)
-              (subst (λ (named : List Named). Follows (HasStarved final) Stopped m.config (may m.rights) types dom named later (done ++ task ∷ []) (Call m' ∷ come.made) (answer_lines types dom p.outcomes ++ answer_line types task.line dom x.answer)) (sym x.named) f);
+              (subst (λ (named : List Named). Follows (HasStarved final) Stopped m.config (may m.rights) types dom named later (done ++ task ∷ []) (Call m' ∷ come.made) (answer_lines types dom p.outcomes ++ answer_line types task.line dom x.answer)) (sym x.named) (follows followed));
         }
+
+    one-call : (task : RunTask) (call : ScriptCall) (done : List RunTask) (p q : ListProgress) → task.deed ≡ Do call
+        → (x : MakesCall may duty task.line call p q) → (x.answer ≡ no_memory → HasStarved final) → Come done p → Come (done ++ task ∷ []) q
+    one-call task call done p q deed x starves come = by (is-made may m p.domain q.domain (record { before = come.mine; afterwards = asks.2.0; seat = asks.2.1 }) x.request x.answer (said-fits call p.named duty.part.dom x.request x.fits x.says) asks.1)
+      where
+        asks : Asks may m p.domain x.request x.answer q.domain
+        asks = subst (λ (y : Monitor P). Asks may y p.domain x.request x.answer q.domain) over x.asks
+
+        types : List (List ℕ)
+        types = duty.part.types.now
+
+        dom : DomId
+        dom = duty.part.dom
+
+        -- the handles and the line of an answer without memory
+        without : (answer : Answer) (request : Request) (args : CopyArgs) (m' : CallMade) → answer ≡ no_memory → request ≡ requests.Copy args
+            → Follows (HasStarved final) Stopped m.config (may m.rights) types dom (with_name p.named dom (label_given call) None) come.held (done ++ task ∷ []) (Call m' ∷ come.made) (answer_lines types dom p.outcomes ++ answer_line types task.line dom no_memory)
+            → Follows (HasStarved final) Stopped m.config (may m.rights) types dom (with_name p.named dom (label_given call) (handle_given answer)) (held_after come.held (given_up request) answer) (done ++ task ∷ []) (Call m' ∷ come.made) (answer_lines types dom p.outcomes ++ answer_line types task.line dom answer)
+        without answer request args m' is copy f =
+            subst (λ (q : Answer × Request). Follows (HasStarved final) Stopped m.config (may m.rights) types dom (with_name p.named dom (label_given call) (handle_given q.0)) (held_after come.held (given_up q.1) q.0) (done ++ task ∷ []) (Call m' ∷ come.made) (answer_lines types dom p.outcomes ++ answer_line types task.line dom q.0))
+            (λ j. (sym is j, sym copy j)) f
+
+        by : IsMade may m x.request x.answer p.domain q.domain ⊎ IsLostAs may m x.request x.answer p.domain q.domain → Come (done ++ task ∷ []) q
+        by (inl z) =
+            call-comes task call done p q x come x.request z.0 z.1 z.3 (inl (refl, z.2))
+            (λ followed. follows-more (HasStarved final) Stopped m.config (may m.rights) types dom m followed.1 p.named come.held done come.made (answer_lines types dom p.outcomes) task call (record { request = x.request; outcome = z.0; steps = z.1; old = p.domain; new = q.domain }) x.answer
+            (come.follows followed) deed x.says z.2 z.4 starves)
+        by (inr (args, copy, denial, refused, lost, steps, made)) =
+            let m' : CallMade = record { request = requests.Probe args; outcome = Told Granted; steps = steps; old = p.domain; new = q.domain } in
+            call-comes task call done p q x come (requests.Probe args) (Told Granted) steps made
+            (inr (record { args = args; copy = copy; probe = refl; outcome = refl; denial = denial; refused = refused; lost = lost }))
+            (λ followed.
+            let none : x.answer ≡ no_memory = lost-memory m followed.1 x.answer denial refused lost in
+            without x.answer x.request args m' none copy
+            (follows-lost (HasStarved final) Stopped m.config (may m.rights) types dom p.named come.held done come.made (answer_lines types dom p.outcomes) task call m' args
+            (come.follows followed) deed (subst (SaysRequest p.named dom call) copy x.says) refl refl (starves none)))
 
     -- a line that made a step on a flag
     one-flag : (task : RunTask) → IsAmong task duty.part.tasks.now → (flag : ℕ) (step : FlagStep) → IsFlagStepOf task.deed flag step → (done : List RunTask) (p q : ListProgress) → q ≡ record p { domain = q.domain } → MakesFlagStep may duty.monitor.now flag step p.domain q.domain
@@ -206,7 +253,7 @@ module _ {P : Type 0} (may : P → AllowRelation) (m : Monitor P) where
     one-deed task is-in own (Do call) is done p q does all come =
         let o : ListOutcome = record { line = task.line; answer = does.answer; told = does.told; lost = does.lost } in
         let there = all o (subst (IsAmong o) (sym does.outcomes) (in-last o p.outcomes)) in
-        one-call task call done p q is does (subst (λ (y : Monitor P). IsMadeWhole y call does.answer) over (whole task call o is-in is there refl)) (λ none. (o, there, none)) come
+        one-call task call done p q is does (λ none. (o, there, none)) come
     one-deed task is-in own (Tell flag) is done p q does all come = raising task is-in flag is done p q does.0 does.1 come
     one-deed task is-in own (Await flag) is done p q does all come =
         one-flag task is-in flag Passed (subst (λ (a : RunAction). IsFlagStepOf a flag Passed) (sym is) refl) done p q does.0 does.1 (λ types dom named held Next more text f. subst (λ (a : RunAction). DeedHappens types dom named held task.line a Next (passed dom flag ∷ more) text) (sym is) (more, refl, f)) come
@@ -280,8 +327,8 @@ module _ {P : Type 0} (may : P → AllowRelation) (m : Monitor P) where
     starts : IsNewDomain m.words m.config (may m.rights) i l.served.domain
     starts = subst (λ (p : ℕ). IsNewDomain m.words m.config (may m.rights) p l.served.domain) (stands-at i l.served.first.position l.served.domain inside fresh (l.served.first.own ∙ l.dom)) fresh
 
-    come : Come s.duty l.monitor s.outcomes l.whole l.served.domain (IsStopped s) (list_of (take l.served.number s.duty.part.tasks.now) s.duty.part.dom) l.served.left
-    come = comes s.duty l.monitor s.outcomes l.whole l.served.domain (IsStopped s) (take l.served.number s.duty.part.tasks.now) (λ t is. take-in l.served.number s.duty.part.tasks.now t is) [] (list_start l.served.domain) l.served.left l.served.leads (λ o is. subst (IsAmong o) l.served.came is)
+    come : Come s.duty l.monitor s.outcomes l.served.domain (IsStopped s) (list_of (take l.served.number s.duty.part.tasks.now) s.duty.part.dom) l.served.left
+    come = comes s.duty l.monitor s.outcomes l.served.domain (IsStopped s) (take l.served.number s.duty.part.tasks.now) (λ t is. take-in l.served.number s.duty.part.tasks.now t is) [] (list_start l.served.domain) l.served.left l.served.leads (λ o is. subst (IsAmong o) l.served.came is)
         (record {
           made = [];
           deeds_are = tt;
@@ -419,8 +466,7 @@ stays-at b c may i first (OnFlag x ∷ us) at calls = calls.0.kept.seat.position
 
 -- what a run wrote is the text of a legal order
 module _ {P : Type 0} (may : P → AllowRelation) (m : Monitor P) (x : Served P) (xs : List (Served P)) (on : All (λ (d : ThreadJob P). d.monitor.now ≡ m) (duties_in (x ∷ xs)))
-    (ids : map (λ (d : ThreadJob P). d.part.dom) (duties_in (x ∷ xs)) ≡ map (λ (d : DomainConfig). d.id) m.config.domains.items) (are : AreServed may (x ∷ xs)) (one : ShowOneState (x ∷ xs))
-    (copies : All HasWholeCopies (x ∷ xs)) where
+    (ids : map (λ (d : ThreadJob P). d.part.dom) (duties_in (x ∷ xs)) ≡ map (λ (d : DomainConfig). d.id) m.config.domains.items) (are : AreServed may (x ∷ xs)) (one : ShowOneState (x ∷ xs)) where
   abbrev lists : ℕ → Served P
   lists i = get_or (x ∷ xs) i x
 
@@ -440,7 +486,6 @@ module _ {P : Type 0} (may : P → AllowRelation) (m : Monitor P) (x : Served P)
         dom = ap (λ (d : ThreadJob P). d.part.dom) (sym (duty-at i l)) ∙ sym (get_or-map (λ (d : ThreadJob P). d.part.dom) (duties_in (x ∷ xs)) i x.duty (record { 0 = 0 }) inside)
             ∙ ap (λ (ys : List DomId). id_at ys i) (ids ∙ sym (ap (λ (k : Layout). k.ids) m.same_run));
         served = All-get_or (WasServed may) (x ∷ xs) i x (within i l) are;
-        whole = All-get_or HasWholeCopies (x ∷ xs) i x (within i l) copies;
       }
 
   left-at : (i : ℕ) (l : i < length m.config.domains.items) → IsViewOf m.words m.config (may m.rights) (list-at i l).served.left.domain (lists i).departed.seat.view
@@ -487,13 +532,13 @@ module _ {P : Type 0} (may : P → AllowRelation) (m : Monitor P) (x : Served P)
       }
 
 pub runs-legal : {P : Type 0} (may : P → AllowRelation) (m : Monitor P) → RunsWriteALegalOrder may m
-runs-legal {P} may m duties old new limits of wrote copies = by wrote.0 wrote.1 wrote.2 wrote.3 copies
+runs-legal {P} may m duties old new limits of wrote = by wrote.0 wrote.1 wrote.2 wrote.3
   where
-    by : (all : List (Served P)) → duties_in all ≡ duties → AreServed may all → ShowOneState all → All HasWholeCopies all → AreOfOneOrder may m all
-    by [] same are one copies =
+    by : (all : List (Served P)) → duties_in all ≡ duties → AreServed may all → ShowOneState all → AreOfOneOrder may m all
+    by [] same are one =
         absurd (none (ap length (ap (map (λ (d : ThreadJob P). d.part.dom)) same ∙ of.1)))
       where
         none : 0 ≡ length (map (λ (d : DomainConfig). d.id) m.config.domains.items) → ⊥
         none e = let l = length-map m.config.domains.items (λ (d : DomainConfig). d.id) in let some = limits.some in omega (arith, e, l, some)
-    by (x ∷ xs) same are one copies =
-        one-order may m x xs (subst (All (λ (d : ThreadJob P). d.monitor.now ≡ m)) (sym same) of.0) (ap (map (λ (d : ThreadJob P). d.part.dom)) same ∙ of.1) are one copies limits
+    by (x ∷ xs) same are one =
+        one-order may m x xs (subst (All (λ (d : ThreadJob P). d.monitor.now ≡ m)) (sym same) of.0) (ap (map (λ (d : ThreadJob P). d.part.dom)) same ∙ of.1) are one limits

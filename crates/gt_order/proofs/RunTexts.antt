@@ -13,30 +13,26 @@ use Rattle.gt_run.specs.Serving.{counted}
 use Rattle.gt_run.specs.declared.fault.RunFault.{RunFault}
 use Rattle.gt_run.specs.declared.lists.ThreadJob.{ThreadJob}
 use Rattle.gt_explore_replay.specs.Orders.{MayGive}
-use Rattle.gt_order.proofs.Explored.{copies-get-by, of-lists, runs-printed}
+use Rattle.gt_order.proofs.Explored.{runs-printed}
 use Rattle.gt_order.proofs.Served.{printed-given}
 use Rattle.gt_order.proofs.Unlogged.{unlogged-text}
-use Rattle.gt_order.specs.Printed.{CopiesGetMemory, IsUndisturbed, MayPrint}
-use Rattle.gt_order.specs.Running.{AppendsText, CopiesHaveMemory, RanInOrder, WroteIfOk, WroteText}
+use Rattle.gt_order.specs.Printed.{MayPrint}
+use Rattle.gt_order.specs.Running.{AppendsText, RanInOrder, WroteIfOk, WroteText}
 
 appended : (c : RunContents) (logged : Bool) (old new : Option (List ℕ)) (wrote : WritesScript c logged old new) → AppendsText logged old new (texts_in wrote.2.0)
 appended c false old new wrote = unlogged-text c old new wrote
 appended c true old new wrote = (audits_in wrote.2.0 ++ lost_text (counted (all_lost wrote.2.0)), wrote.2.4)
-
-have-memory : (c : RunContents) (logged : Bool) (duties : List (ThreadJob ScriptRights)) (all : List (Served ScriptRights)) → duties_in all ≡ duties → AreOf c logged duties → AreServed may_by all → CopiesHaveMemory c (texts_in all) → All CopiesGetMemory all
-have-memory c logged duties [] same of are have = λ i s l. absurd (omega (arith, l))
-have-memory c logged duties (x ∷ xs) same of are have = copies-get-by c logged x xs (of-lists c logged duties (x ∷ xs) same of) are have
 
 pub wrote-text : (c : RunContents) (logged : Bool) (old new : Option (List ℕ)) → WritesScript c logged old new → WroteText c logged old new
 wrote-text c logged old new wrote = record {
   text = texts_in wrote.2.0;
   appends = appended c logged old new wrote;
   printed = printed;
-  given = λ none. printed-given c (texts_in wrote.2.0) (printed (λ task call dom is does copy part. none.memory task.line dom part)) none;
+  given = printed-given c (texts_in wrote.2.0) printed;
 }
   where
-    printed : CopiesHaveMemory c (texts_in wrote.2.0) → MayPrint c (texts_in wrote.2.0)
-    printed have = runs-printed c logged wrote.0 old new wrote.1 wrote.2 (have-memory c logged wrote.0 wrote.2.0 wrote.2.1 wrote.1 wrote.2.2 have)
+    printed : MayPrint c (texts_in wrote.2.0)
+    printed = runs-printed c logged wrote.0 old new wrote.1 wrote.2
 
 wrote-if-ok : (logged : Bool) (Told : Result RunContents Wrong → Type 0) (old new : Option (List ℕ)) (r : Result (Unit {0}) RunFault) → Ran logged Told old new r → WroteIfOk logged Told old new r
 wrote-if-ok logged Told old new (Ok done) (c, told, wrote) = (c, told, wrote-text c logged old new wrote)

@@ -13,9 +13,11 @@ use Rattle.gt_script.specs.RunContents.{RunContents}
 use Rattle.gt_script.specs.RunScripts.{list_of}
 use Rattle.gt_script.specs.declared.tasks.RunActionBy.TheVariants.{Await, Do, Tell}
 use Rattle.gt_run.specs.Serving.{gate_line}
-use Rattle.gt_explore_replay.specs.Orders.{AllFollow, DeedHappens, FollowsList, Happening}
+use Rattle.gt_calls.specs.declared.request.Request.{Request}
+use Rattle.gt_calls.specs.declared.request.Request.TheVariants as requests
+use Rattle.gt_explore_replay.specs.Orders.{AllFollow, DeedHappens, FollowsList, Happening, Prints}
 use Rattle.gt_order.specs.Printed.{AllPrint, GetsNoMemory, GivenTextsArePrinted, HasPart, Leaves, PrintedTextsAreGiven}
-use Rattle.gt_order.specs.Printed.{PrintsList, StopsAtGate}
+use Rattle.gt_order.specs.Printed.{PrintsList, Starves, StopsAtGate}
 use Rattle.gt_order.specs.Printed.{IsUndisturbed, no_memory}
 
 -- what follows a line
@@ -42,12 +44,22 @@ deed-map types dom named held line (Await flag) N M hs text f d = (d.0, d.1, f n
 deed-map types dom named held line (Do call) N M hs text f (request, says, (first, trace, answer, more, is, ends, (rest, printed, then))) =
     (request, says, (first, trace, answer, more, is, ends, (rest, printed, f _ _ more rest (answer_line types line dom answer, printed) then)))
 
+-- a call that got no memory, and what follows it
+starves-map : (dom : DomId) (request : Request) (R S : List Happening → Type 0) (hs : List Happening) → ((more : List Happening) → R more → S more) → Starves dom request R hs → Starves dom request S hs
+starves-map dom (requests.Copy args) R S hs f (first, trace, answer, more, is, ends, (done, rest)) = (first, trace, answer, more, is, ends, (done, f more rest))
+starves-map dom request R S hs f (is, rest) = (is, f hs rest)
+
+starves-rest : (dom : DomId) (request : Request) (R : List Happening → Type 0) (hs : List Happening) → Starves dom request R hs → (more : List Happening) × R more
+starves-rest dom (requests.Copy args) R hs (first, trace, answer, more, is, ends, (done, rest)) = (more, rest)
+starves-rest dom request R hs (is, rest) = (hs, rest)
+
 lost-map : (types : List (List ℕ)) (dom : DomId) (named : List Named) (held : List Handle) (line : ℕ) (action : RunAction) (N M : Next) (hs : List Happening) (text : List ℕ)
     → ((names : List Named) (holds : List Handle) (more : List Happening) (rest : List ℕ) → N names holds more rest → M names holds more rest)
     → GetsNoMemory types dom named held line action N hs text → GetsNoMemory types dom named held line action M hs text
 lost-map types dom named held line (Tell flag) N M hs text f d = d
 lost-map types dom named held line (Await flag) N M hs text f d = d
-lost-map types dom named held line (Do call) N M hs text f (request, says, is, (rest, printed, then)) = (request, says, is, (rest, printed, f named held hs rest then))
+lost-map types dom named held line (Do call) N M hs text f (request, says, starves) =
+    (request, says, starves-map dom request _ _ hs (λ more (rest, printed, then). (rest, printed, f named held more rest then)) starves)
 
 module _ (Lost Stopped : Type 0) (types : List (List ℕ)) (dom : DomId) where
   -- the list is one that a run may print
@@ -92,7 +104,8 @@ start-tells types one rest text is none = record {
 lost-line : (types : List (List ℕ)) (dom : DomId) (named : List Named) (held : List Handle) (line : ℕ) (action : RunAction) (N : Next) (hs : List Happening) (text : List ℕ) → GetsNoMemory types dom named held line action N hs text → HasPart (answer_line types line dom no_memory) text
 lost-line types dom named held line (Tell flag) N hs text d = absurd d
 lost-line types dom named held line (Await flag) N hs text d = absurd d
-lost-line types dom named held line (Do call) N hs text (request, says, is, (rest, printed, then)) = ([], rest, printed)
+lost-line types dom named held line (Do call) N hs text (request, says, starves) =
+    let s = starves-rest dom request (λ more. Prints (answer_line types line dom no_memory) (N named held more) text) hs starves in ([], s.1.0, s.1.1)
 
 append-none : (xs : List ℕ) → xs ++ [] ≡ xs
 append-none [] = refl

@@ -78,5 +78,5 @@ unlogged-text c old new wrote =
     subst (Appends old new) (run-text all (quiet-run all wrote.2.2 unlogged)) wrote.2.4
 
 pub unlogged-print : UnloggedRunsPrint
-unlogged-print c old new wrote gets =
-    (texts_in wrote.2.0, runs-printed c false wrote.0 old new wrote.1 wrote.2 gets, unlogged-text c old new wrote)
+unlogged-print c old new wrote =
+    (texts_in wrote.2.0, runs-printed c false wrote.0 old new wrote.1 wrote.2, unlogged-text c old new wrote)

@@ -7,6 +7,7 @@ use Rattle.gt_order.specs.Prelude.{verdict_of}
 use Rattle.gt_order.specs.Prelude.{IsOfMapping, Removes, Domain, Monitor}
 use Rattle.gt_order.specs.Prelude.{Bytes, Copying, IsCopiedBy, IsReadBy, IsUnmade, Reading, bytes_given_by}
 use Rattle.gt_types.specs.declared.copies.CopyArgs.{CopyArgs}
+use Rattle.gt_calls.specs.declared.action.CallResult.TheVariants.{Granted}
 use Rattle.gt_calls.specs.declared.request.Request.TheVariants as requests
 use Rattle.gt_order.specs.Runs.{FitsTypes, IsCall, KeepsNoPin, CallOutcome}
 use Rattle.gt_order.specs.Runs.CallOutcome.{Told, Kept, Starved, Read, Wrote}
@@ -103,6 +104,14 @@ ReadsAreMade may m =
     (d e : Domain) (request : Request) (r : Reading) (bytes : Bytes) → StaysOf may m d e → IsLoading request
     → bytes.bytes.items ≡ r.bytes → Accesses may m d request (IsReadBy m.words.layout) (Ok r) e → KeepsPinned d e
     → (steps : List Moment) × WasMade may m request (Read bytes) steps d e
+
+-- a copy that reached its access and could not make it: it made the steps of its probe, and counts as the probe
+abbrev pub LostCopiesAreMade : {P : Type 0} → (P → AllowRelation) → Monitor P → Type 0
+LostCopiesAreMade may m =
+    (d e : Domain) (args : CopyArgs) (access : Step) → StaysOf may m d e
+    → Accessed m.words.layout (path_of (known_on may m d) d.seat.dom (requests.Copy args)) access IsUnmade d.seat.view
+    e.seat.view
+    → KeepsPinned d e → (steps : List Moment) × WasMade may m (requests.Probe args) (Told Granted) steps d e
 
 -- a load, a peek, a store or a poke that reached its access and could not make it: it made no step, and counts as never
 -- asked

@@ -9,7 +9,6 @@ use Rattle.gt_order.specs.RunNames.{Answer, Do, IsAmong, ListOutcome, Named, Run
 use Rattle.gt_order.specs.RunNames.{ScriptCall, Served, ThreadJob, WritesAll}
 use Rattle.gt_calls.specs.declared.request.Request.TheVariants as requests
 use Rattle.gt_core.specs.declared.trace.Answer.TheVariants as answers
-use Rattle.gt_script_lines.specs.declared.calls.ScriptCall.TheVariants as calls
 use Rattle.gt_script.specs.Contents.{type_names}
 use Rattle.gt_script.specs.RunContents.{RunContents}
 use Rattle.gt_script.specs.RunScripts.{list_of}
@@ -20,9 +19,8 @@ use Rattle.gt_host.specs.declared.rights.ScriptPolicy.{ScriptPolicy as ScriptRig
 use Rattle.gt_run.specs.Printing.{texts_in}
 use Rattle.gt_run.specs.Runs.{AreOf, WritesScript}
 use Rattle.gt_run.specs.Serving.{IsAwait, gate_line}
-use Rattle.gt_explore_replay.specs.Orders.{DeedHappens, FlagsAreRaised, GivesMappingsBack, Happening, MayGive, Prints}
+use Rattle.gt_explore_replay.specs.Orders.{CallHappens, DeedHappens, FlagsAreRaised, GivesMappingsBack, Happening, MayGive, Prints}
 use Rattle.gt_explore_replay.specs.Orders.{doer, events_in, own_happenings, trace_in}
-use Rattle.gt_order.specs.Explored.{IsStarved}
 
 -- the answer of a call that got no memory
 abbrev pub no_memory : Answer
@@ -37,13 +35,19 @@ IsAllocating (requests.Peek frame off len) = Unit {0}
 IsAllocating (requests.Poke frame off bytes) = Unit {0}
 IsAllocating request = ⊥
 
--- the call of a line got no memory: it prints N26, no event happens, and the rest follows, with the same labels and
--- handles
+-- a call of this request gets no memory, and the rest follows. A copy gets none at its access: what happened is its
+-- probe, which is Ok. Of any other call no event happens
+abbrev pub Starves : DomId → Request → (List Happening → Type 0) → List Happening → Type 0
+Starves dom (requests.Copy c) Rest hs =
+    CallHappens dom (requests.Probe c) (λ answer more. (answer ≡ answers.Done) × Rest more) hs
+Starves dom request Rest hs = IsAllocating request × Rest hs
+
+-- the call of a line got no memory: it prints N26, and the rest follows, with the same labels and handles
 abbrev pub GetsNoMemory : List (List ℕ) → DomId → List Named → List Handle → ℕ → RunAction
     → (List Named → List Handle → List Happening → List ℕ → Type 0) → List Happening → List ℕ → Type 0
 GetsNoMemory types dom named held line (Do call) Next hs text =
-    (request : Request) × SaysRequest named dom call request × IsAllocating request
-    × Prints (answer_line types line dom no_memory) (Next named held hs) text
+    (request : Request) × SaysRequest named dom call request
+    × Starves dom request (λ more. Prints (answer_line types line dom no_memory) (Next named held more) text) hs
 GetsNoMemory types dom named held line action Next hs text = ⊥
 
 -- a domain at the end of its list releases all its mappings
@@ -85,29 +89,16 @@ pub record IsRunOf (c : RunContents) (hs : List Happening) (text : List ℕ) : T
 abbrev pub MayPrint : RunContents → List ℕ → Type 0
 MayPrint c text = (hs : List Happening) × IsRunOf c hs text
 
--- the call is a copy
-abbrev pub IsCopy : ScriptCall → Type 0
-IsCopy (calls.Copy c) = Unit {0}
-IsCopy call = ⊥
-
--- no copy of the list got no memory at its access
-abbrev pub CopiesGetMemory : {P : Type 0} → Served P → Type 0
-CopiesGetMemory s =
-    (task : RunTask) (call : ScriptCall) (o : ListOutcome) → IsAmong task s.duty.part.tasks.now → task.deed ≡ Do call
-    → IsAmong o s.outcomes → o.line ≡ task.line → IsCopy call → IsStarved o → ⊥
-
--- what a run of a script writes is a text that a run of it may print, if no copy got no memory at its access
+-- what a run of a script writes is a text that a run of it may print
 abbrev pub RunsArePrinted : Type 0
 RunsArePrinted =
     (c : RunContents) (logged : Bool) (duties : List (ThreadJob ScriptRights)) (old new : Option (List ℕ))
-    → (of : AreOf c logged duties) → (wrote : WritesAll may_by duties old new)
-    → All CopiesGetMemory wrote.0 → MayPrint c (texts_in wrote.0)
+    → (of : AreOf c logged duties) → (wrote : WritesAll may_by duties old new) → MayPrint c (texts_in wrote.0)
 
--- without a log, what `run` appends is a text that a run of the script may print, under the same condition
+-- without a log, what `run` appends is a text that a run of the script may print
 abbrev pub UnloggedRunsPrint : Type 0
 UnloggedRunsPrint =
-    (c : RunContents) (old new : Option (List ℕ)) → (wrote : WritesScript c false old new)
-    → All CopiesGetMemory wrote.2.0
+    (c : RunContents) (old new : Option (List ℕ)) → WritesScript c false old new
     → (text : List ℕ) × MayPrint c text × Appends old new text
 
 -- a text that `explore` lists is one that a run may print

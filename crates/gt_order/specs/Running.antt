@@ -1,34 +1,25 @@
 -- What `run` appends: a text that a run of the script may print, and one that `explore` lists.
 use Rattle.std.specs.Prelude.{◌≡◌, ◌++◌, ℕ, Bool, true, false, List, Option, Result, Ok, Err}
 use Rattle.std.specs.Io.KnownBytes.{Appends}
-use Rattle.gt_order.specs.Prelude.{DomId}
-use Rattle.gt_order.specs.RunNames.{Do, IsAmong, RunTask, ScriptCall}
 use Rattle.gt_script.specs.Contents.{type_names}
 use Rattle.gt_script.specs.RunContents.{RunContents}
 use Rattle.gt_script.specs.Script.{Wrong}
-use Rattle.gt_host.specs.Printing.{answer_line}
 use Rattle.gt_run.specs.Runs.{OfScript, Ran}
 use Rattle.gt_run.specs.declared.fault.RunFault.{RunFault}
 use Rattle.gt_explore_replay.specs.Orders.{MayGive}
-use Rattle.gt_order.specs.Printed.{HasPart, IsCopy, IsUndisturbed, MayPrint, no_memory}
+use Rattle.gt_order.specs.Printed.{IsUndisturbed, MayPrint}
 
 -- without a log the text was appended, and with one the text, the audit lines and the number of lost records
 abbrev pub AppendsText : Bool → Option (List ℕ) → Option (List ℕ) → List ℕ → Type 0
 AppendsText false old new text = Appends old new text
 AppendsText true old new text = (audit : List ℕ) × Appends old new (text ++ audit)
 
--- the text has no line in which a copy of the script is answered N26
-abbrev pub CopiesHaveMemory : RunContents → List ℕ → Type 0
-CopiesHaveMemory c text =
-    (task : RunTask) (call : ScriptCall) (dom : DomId) → IsAmong task c.tasks → task.deed ≡ Do call → IsCopy call
-    → HasPart (answer_line (type_names c.head) task.line dom no_memory) text → ⊥
-
--- a run of the script wrote its text: one that a run of it may print, if no copy is answered N26; and one that the
--- script may give, so one that `explore` lists, if it has neither a line with N26 nor the line of a gate
+-- a run of the script wrote its text: one that a run of it may print; and one that the script may give, so one that
+-- `explore` lists, if it has neither a line with N26 nor the line of a gate
 pub record WroteText (c : RunContents) (logged : Bool) (old new : Option (List ℕ)) : Type 0 where
   pub text : List ℕ
   pub appends : AppendsText logged old new text
-  pub printed : CopiesHaveMemory c text → MayPrint c text
+  pub printed : MayPrint c text
   pub given : IsUndisturbed (type_names c.head) text → MayGive c text
 
 -- the same of the script that these bytes mean, if the run is Ok

@@ -14,7 +14,10 @@ use Rattle.gt_order.specs.RunNames.{ListOutcome, ListProgress}
 use Rattle.gt_core.specs.declared.trace.Answer.TheVariants as answers
 use Rattle.gt_shared_table.specs.Words.{frames_kept}
 use Rattle.gt_types.specs.declared.denial.Rule.TheVariants.{N16}
-use Rattle.gt_script_lines.specs.declared.calls.ScriptCall.TheVariants as calls
+use Rattle.gt_calls.specs.declared.action.CallResult.TheVariants.{Granted}
+use Rattle.gt_calls.specs.declared.request.Request.{Request}
+use Rattle.gt_calls.specs.declared.request.Request.TheVariants as requests
+use Rattle.gt_types.specs.declared.copies.CopyArgs.{CopyArgs}
 
 -- the table of the monitor has all frames of its configuration
 abbrev pub HasAllFrames : {P : Type 0} → Monitor P → Type 0
@@ -25,17 +28,6 @@ abbrev pub IsLost : {P : Type 0} → Monitor P → Denial → Type 0
 IsLost m denial =
     (denial ≡ denial_of N26 NoFacts) ⊎ ((denial ≡ denial_of N16 NoFacts) × (HasAllFrames m → ⊥))
 
--- the answer to a copy is not the refusal of an access that could not be made
-abbrev pub IsMadeWhole : {P : Type 0} → Monitor P → ScriptCall → Answer → Type 0
-IsMadeWhole m (calls.Copy c) answer = (denial : Denial) → answer ≡ answers.Denied denial → IsLost m denial → ⊥
-IsMadeWhole m call answer = Unit {0}
-
--- no copy of the job's list reached its access without making it
-abbrev pub AreMadeWhole : {P : Type 0} → ThreadJob P → List ListOutcome → Type 0
-AreMadeWhole duty outcomes =
-    (task : RunTask) (call : ScriptCall) (o : ListOutcome) → IsAmong task duty.part.tasks.now → task.deed ≡ Do call
-    → IsAmong o outcomes → o.line ≡ task.line → IsMadeWhole duty.monitor.now call o.answer
-
 -- a call with this outcome has this answer
 abbrev pub OutcomeGivesAnswer : {P : Type 0} → Monitor P → CallOutcome → Answer → Type 0
 OutcomeGivesAnswer m (Told verdict) answer = answer ≡ answer_of verdict
@@ -43,6 +35,21 @@ OutcomeGivesAnswer m (Kept handle p) answer = answer ≡ answers.Mapped handle
 OutcomeGivesAnswer m Starved answer = (denial : Denial) × (answer ≡ answers.Denied denial) × IsLost m denial
 OutcomeGivesAnswer m (Read bytes) answer = answer ≡ answers.Bytes bytes
 OutcomeGivesAnswer m Wrote answer = answer ≡ answers.Done
+
+-- a copy that reached its access and could not make it: the call of the run is its probe, and the line prints the refusal
+pub record IsLostCopy {P : Type 0} (monitor : Monitor P) (m : CallMade) (request : Request) (answer : Answer) : Type 0 where
+  pub args : CopyArgs
+  pub copy : request ≡ requests.Copy args
+  pub probe : m.request ≡ requests.Probe args
+  pub outcome : m.outcome ≡ Told Granted
+  pub denial : Denial
+  pub refused : answer ≡ answers.Denied denial
+  pub lost : IsLost monitor denial
+
+-- the call m of a run is what the domain did for this request, which got this answer
+abbrev pub IsDoneFor : {P : Type 0} → Monitor P → CallMade → Request → Answer → Type 0
+IsDoneFor monitor m request answer =
+    ((m.request ≡ request) × OutcomeGivesAnswer monitor m.outcome answer) ⊎ IsLostCopy monitor m request answer
 
 -- the call m of a run is the one that a line of the job's list made, with its outcome: the domain was asked what the
 -- line encodes, with the handles that its labels named then, and the answer is the one that the line prints
@@ -52,11 +59,10 @@ pub record IsCallOf {P : Type 0} (may : P → AllowRelation) (duty : ThreadJob P
   pub before : ListProgress
   pub afterwards : ListProgress
   pub made : MakesCall may duty o.line call before afterwards
-  pub request : m.request ≡ made.request
   pub old : m.old ≡ before.domain
   pub new : m.new ≡ afterwards.domain
   pub answer : o.answer ≡ made.answer
-  pub answered : OutcomeGivesAnswer duty.monitor.now m.outcome o.answer
+  pub done_for : IsDoneFor duty.monitor.now m made.request o.answer
 
 -- the action raises the flag, or awaits it, by this step
 abbrev pub IsFlagStepOf : RunAction → ℕ → FlagStep → Type 0
@@ -77,12 +83,11 @@ AreDeedsOf may duty (Call m ∷ ms) outcomes =
     × AreDeedsOf may duty ms before
 AreDeedsOf may duty (OnFlag x ∷ ms) outcomes = IsOfFlagLine duty x × AreDeedsOf may duty ms outcomes
 
--- the list of the domain at the position i was served, and no copy of it reached its access without making it
+-- the list of the domain at the position i was served
 pub record HasList {P : Type 0} (may : P → AllowRelation) (m : Monitor P) (i : ℕ) (s : Served P) : Type 0 where
   pub monitor : s.duty.monitor.now ≡ m
   pub dom : s.duty.part.dom ≡ id_at m.words.layout.ids i
   pub served : WasServed may s
-  pub whole : AreMadeWhole s.duty s.outcomes
 
 -- the view is the domain's at the end of its list, or the domain has left since
 abbrev pub IsViewOf : Board → Config → AllowRelation → Domain → View → Type 0
@@ -107,19 +112,15 @@ pub record AreOfALegalOrder {P : Type 0} (may : P → AllowRelation) (m : Monito
   pub legal : IsLegalOrder m.config (may m.rights) m.words.layout h seats order
   pub each : (i : ℕ) → i < length m.config.domains.items → AreDeedsOfList may (lists i) (seats i).deeds
 
--- if the configuration is within the limits of the core, each domain's list was served, no copy reached its access
--- without making it, and words and views show a state in which each domain has the view with which its list ended or it
--- left, then the text of the lists is that of a legal order
+-- if the configuration is within the limits of the core, each domain's list was served, and words and views show a
+-- state in which each domain has the view with which its list ended or it left, then the text of the lists is that of a
+-- legal order
 abbrev pub TextsAreOfALegalOrder : {P : Type 0} → (P → AllowRelation) → Monitor P → Type 0
 TextsAreOfALegalOrder {P} may m =
     (lists : ℕ → Served P) (s : State (Unit {0}) View) (ends : ℕ → View) → IsWithinLimits m.config
     → ((i : ℕ) → i < length m.config.domains.items → (l : HasList may m i (lists i))
     × IsViewOf m.words m.config (may m.rights) l.served.left.domain (ends i) × (get_elem? s.views i ≡ some (ends i)))
     → (shown : Shows m.words.layout s) → AreOfALegalOrder may m shown.history lists
-
--- no copy of the list reached its access without making it
-abbrev pub HasWholeCopies : {P : Type 0} → Served P → Type 0
-HasWholeCopies s = AreMadeWhole s.duty s.outcomes
 
 -- the jobs are those of the monitor's domains, in their order
 abbrev pub AreOfDomains : {P : Type 0} → Monitor P → List (ThreadJob P) → Type 0
@@ -136,5 +137,4 @@ AreOfOneOrder {P} may m all =
 abbrev pub RunsWriteALegalOrder : {P : Type 0} → (P → AllowRelation) → Monitor P → Type 0
 RunsWriteALegalOrder {P} may m =
     (duties : List (ThreadJob P)) (old new : Option (List ℕ)) → IsWithinLimits m.config → AreOfDomains m duties
-    → (wrote : WritesAll may duties old new) → All HasWholeCopies wrote.0
-    → AreOfOneOrder may m wrote.0
+    → (wrote : WritesAll may duties old new) → AreOfOneOrder may m wrote.0

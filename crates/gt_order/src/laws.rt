@@ -1,5 +1,6 @@
 //! Consequences of the definitions. Each law is a function that does nothing; its contract is the law.
-ghost use Rattle.gt_order.specs.Calling.{CopiesAreMade, LostAccessesAreMade, MapsAreMade, PlainCallsAreMade};
+ghost use Rattle.gt_order.specs.Calling.{CopiesAreMade, LostAccessesAreMade, LostCopiesAreMade, MapsAreMade};
+ghost use Rattle.gt_order.specs.Calling.{PlainCallsAreMade};
 ghost use Rattle.gt_order.specs.Calling.{ReadsAreMade, ReleasesAreMade, UnmapsAreMade, WritesAreMade};
 ghost use Rattle.gt_order.specs.Explored.{RunsAreExplored};
 ghost use Rattle.gt_order.specs.Printed.{GivenTextsArePrinted, PrintedTextsAreGiven, RunsArePrinted};
@@ -23,8 +24,8 @@ pub fn steps_keep_agreement()
     ensures { StepsKeepAgreement }
 {}
 
-/// A law: the contracts of a domain's calls make each of them a call of a run, bytes and all, except a copy that
-/// reached its access and could not make it. Nothing beyond the clauses of those contracts is needed.
+/// A law: the contracts of a domain's calls make each of them a call of a run, bytes and all. A copy that reached its
+/// access and could not make it is the call of its probe. Nothing beyond the clauses of those contracts is needed.
 pub fn calls_of_domains_are_made<P: Allows>(monitor: &Monitor<P>)
     ensures plain { PlainCallsAreMade P.may monitor.now }
     ensures unmaps { UnmapsAreMade P.may monitor.now }
@@ -34,6 +35,7 @@ pub fn calls_of_domains_are_made<P: Allows>(monitor: &Monitor<P>)
     ensures reads { ReadsAreMade P.may monitor.now }
     ensures copies { CopiesAreMade P.may monitor.now }
     ensures lost { LostAccessesAreMade P.may monitor.now }
+    ensures lost_copies { LostCopiesAreMade P.may monitor.now }
 {}
 
 /// A law: each run of the monitor whose calls are all finished is one legal interleaving of the core's events, in which
@@ -47,14 +49,13 @@ pub fn leaving_is_releasing()
     ensures { LeavingIsReleasing }
 {}
 
-/// A law: the lists of a run print the answers of one legal interleaving of their calls, bytes and all, if no copy was
-/// refused at its access.
+/// A law: the lists of a run print the answers of one legal interleaving of their calls, bytes and all.
 pub fn every_text_is_of_a_legal_order<P: Allows>(monitor: &Monitor<P>)
     ensures { TextsAreOfALegalOrder P.may monitor.now }
 {}
 
 /// A law: what a run wrote, by the contract of `run`, is the text of one legal interleaving of its calls, bytes and
-/// all, if no copy was refused at its access.
+/// all.
 pub fn every_run_writes_a_legal_order<P: Allows>(monitor: &Monitor<P>)
     ensures { RunsWriteALegalOrder P.may monitor.now }
 {}
@@ -66,8 +67,8 @@ pub fn every_run_is_explored()
 {}
 
 /// A law: what a run writes, but for its audit lines, is a text that a run of the script may print, bytes and all: that
-/// of one legal order of its calls, with N26 for a call that got no memory and made no step, and with the line of a
-/// gate that stopped a list. No copy may have answered N26.
+/// of one legal order of its calls, with N26 for a call that got no memory, and with the line of a gate that stopped a
+/// list. Of a copy that got no memory the order has the probe.
 pub fn every_run_is_printed()
     ensures { RunsArePrinted }
 {}

@@ -62,6 +62,7 @@ adds_record may m d (requests.Poke frame off bytes) answer e (r, is, (accessed, 
 adds_record may m d (requests.Copy args) answer e (Ok copied, is, accessed, kept, told) = adds d e (requests.Copy args) answer _ is told
 adds_record may m d (requests.Copy args) answer e (Err denial, is, accessed, kept, told) = adds d e (requests.Copy args) answer _ is told
 adds_record may m d (requests.Grant gref entry) answer e (r, is, (answered, kept, silent)) = silent
+adds_record may m d (requests.Probe args) answer e (r, is, (answered, kept, silent)) = silent
 adds_record may m d (requests.GrantBytes gref bytes) answer e (r, is, (answered, kept, silent)) = silent
 adds_record may m d (requests.Revoke gref) answer e (r, is, (answered, kept, silent)) = silent
 adds_record may m d (requests.Withdraw gref) answer e (r, is, (answered, kept, silent)) = silent

@@ -80,6 +80,8 @@ impl<'m, P: Allows> RunningDomain<'m, P> {
     ghost use Rattle.gt_live.specs.Domains.{BelongsTo, HasLeft};
     ghost use Rattle.std.specs.Prelude.{MatchBool};
     ghost use Rattle.gt_word_history.specs.declared.view.FlagStep.TheVariants.{Passed};
+    ghost use Rattle.gt_calls.specs.Asking.{asked};
+    ghost use Rattle.gt_calls.specs.Probing.{IsProbe};
     ghost use Rattle.gt_run.specs.Asking.{Asks, IsSameStand, MakesFlagStep, RaisesFlag};
 
     /// Pairs a domain with its monitor.
@@ -126,8 +128,9 @@ impl<'m, P: Allows> RunningDomain<'m, P> {
         self.monitor.has_flag(flag) && self.domain.pass_flag(self.monitor, flag)
     }
 
-    /// Makes the call that is requested, and returns its answer.
+    /// Makes the call that is requested, and returns its answer. A running domain makes no probe.
     pub fn ask<R: Wait>(&mut self, rt: &R, request: Request<'_>) -> Answer
+        requires { IsProbe (asked request.entry) → ⊥ }
         ensures monitor { self.new.monitor ≡ self.old.monitor }
         ensures asked { Asks P.may self.old.monitor self.old.domain request.entry result self.new.domain }
     {
@@ -172,6 +175,7 @@ impl<'m, P: Allows> RunningDomain<'m, P> {
                 written(self.domain.poke(rt, self.monitor, frame, off, bytes))
             }
             Request::Copy(args) => copied(self.domain.copy(rt, self.monitor, &args)),
+            Request::Probe(_) => unreachable!(),
         }
     }
 }
