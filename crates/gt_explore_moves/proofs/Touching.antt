@@ -48,7 +48,7 @@ use Rattle.gt_calls.specs.declared.request.OpenRequest.TheVariants.{Copy, Demote
 use Rattle.gt_calls.specs.declared.request.OpenRequest.TheVariants.{Poke}
 use Rattle.gt_calls.specs.declared.request.OpenRequest.TheVariants.{Promote, QuerySize, Revoke, SetVersion}
 use Rattle.gt_calls.specs.declared.request.OpenRequest.TheVariants.{SetupTable, Store}
-use Rattle.gt_calls.specs.declared.request.OpenRequest.TheVariants.{Unmap, Release, Withdraw}
+use Rattle.gt_calls.specs.declared.request.OpenRequest.TheVariants.{Probe, Unmap, Release, Withdraw}
 use Rattle.gt_calls.specs.declared.request.PinHolder.TheVariants.{Mapping as ByHandle, Leg as ByLeg}
 use Rattle.gt_calls.specs.declared.request.Request.{Request}
 use Rattle.gt_entry.specs.Entries.{frame_of}
@@ -238,6 +238,7 @@ RequestTouches A uses d (Store handle off len) = uses.stores ≡ true
 RequestTouches A uses d (Peek frame off len) = A (Reads d frame)
 RequestTouches A uses d (Poke frame off len) = A (Writes d frame)
 RequestTouches A uses d (Copy c) = ⊥
+RequestTouches A uses d (Probe c) = ⊥
 RequestTouches A uses d (SetVersion version) = A (StoresHeader d)
 RequestTouches A uses d (SetupTable frames) = A (StoresHeader d)
 RequestTouches A uses d (QuerySize dom) = A (LooksHeader (resolved d dom))
@@ -309,6 +310,7 @@ module _ (A : Touch → Type 0) (uses : MappingUse) (k : CallerKnowledge) (d : D
   each-step (Poke frame off len) t = each-makes Good (WriteBytes d frame off len) _ (t, tt, tt)
       (each-ended Good Granted)
   each-step (Copy c) t = absurd t
+  each-step (Probe c) t = absurd t
   each-step (SetVersion version) t = each-makes Good (StoreHeader version k.header.frames) _ (t, tt, tt)
       (each-ended Good Granted)
   each-step (SetupTable frames) t = each-makes Good (StoreHeader k.header.version frames) _ (t, tt, tt)

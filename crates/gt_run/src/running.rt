@@ -130,7 +130,7 @@ impl<'m, P: Allows> RunningDomain<'m, P> {
 
     /// Makes the call that is requested, and returns its answer. A running domain makes no probe.
     pub fn ask<R: Wait>(&mut self, rt: &R, request: Request<'_>) -> Answer
-        requires { IsProbe (asked request.entry) → ⊥ }
+        requires { IsProbe (asked request) → ⊥ }
         ensures monitor { self.new.monitor ≡ self.old.monitor }
         ensures asked { Asks P.may self.old.monitor self.old.domain request.entry result self.new.domain }
     {

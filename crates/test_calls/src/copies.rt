@@ -1,7 +1,7 @@
 //! Copies: the requests, and the parts of each call.
 use crate::script::Part::{Body, Control, Header, Leg, LongLeg, Refused, RefusedAt, Try, Unpin};
 use crate::script::{CALLER, GRANTED, HEADER, MIDDLE, OWNER, Part, Row, pin, unseen};
-use gt_calls::Request::Copy;
+use gt_calls::Request::{Copy, Probe};
 use gt_calls::{CopyArgs, End, HeldPin, Observation, Request, Spot, Step as CallStep};
 use gt_entry::Entry;
 use gt_types::{Dir, DomId, Facts, FrameName, GrantRef, Perms, Rule, TypeId};
@@ -133,7 +133,7 @@ pub const PAIRS: [(DomId, DomId); 7] = [
 ];
 
 /// Copies that all these pairs may make.
-pub const COPIES: [Row; 15] = [
+pub const COPIES: [Row; 18] = [
     // Entries are copied.
     (
         CALLER,
@@ -145,6 +145,26 @@ pub const COPIES: [Row; 15] = [
             Unpin(&[READ_ONLY_PAGE]),
             GRANTED,
         ],
+    ),
+    // A probe makes no access.
+    (
+        CALLER,
+        Probe(copy!(OWNER_0, end!(3, CALLER, 0), 4, 1)),
+        6,
+        &[Leg(READ_ONLY_PAGE), Unpin(&[READ_ONLY_PAGE]), GRANTED],
+    ),
+    (
+        CALLER,
+        Probe(copy!(OWNER_0, FRAME_3, 4, 4)),
+        1,
+        &[Refused(Rule::N2, Facts::None)],
+    ),
+    // Between own frames it has nothing to do.
+    (
+        CALLER,
+        Probe(copy!(end!(3, CALLER, 0), FRAME_4, 4, 0)),
+        1,
+        &[GRANTED],
     ),
     // Own frames need no leg.
     (

@@ -9,7 +9,7 @@ use gt_core::{Answer, Bytes};
 use gt_entry::Entry;
 use gt_frames::Read;
 use gt_live::{Departed, Domain, Monitor};
-use gt_types::{Allows, Denial, DomId, GrantRef, Memory, Size};
+use gt_types::{Allows, Denial, DomId, Facts, GrantRef, Memory, Rule, Size};
 use std::alloc::Global;
 use std::marker::Model;
 use std::sync::Wait;
@@ -371,6 +371,8 @@ impl<'m, P: Allows> Calls for TestDomain<'m, P> {
             Request::Peek { frame, off, len } => self.peek(rt, frame, off, len),
             Request::Poke { frame, off, bytes } => self.poke(rt, frame, off, bytes),
             Request::Copy(args) => done(self.copy(rt, &args)),
+            // No domain of the monitor makes a probe, and no list has one.
+            Request::Probe(_) => TestReply::Denied(Denial::new(Rule::N26, Facts::None)),
         };
         answer_of(said)
     }

@@ -7,7 +7,7 @@ use super::via::{
 use super::{GRANTED, GRANTED_RO, REVOKE, Run};
 use crate::doing::Doing::{Do, Steps};
 use crate::doing::{OTHER, OWNER, PEER, Row, grant, peek, poke};
-use gt_core::Request::Copy;
+use gt_core::Request::{Copy, Probe};
 use gt_core::{CopyArgs, End, Request};
 use gt_entry::Entry;
 use gt_types::{DomId, GrantRef};
@@ -81,6 +81,21 @@ const READ_ONLY_DEST: [Row; 3] = [
     (Do(OWNER, REVOKE), "ok"),
 ];
 
+// A probe makes the steps of its copy without the access.
+const PROBED: [Row; 5] = [
+    (Do(OWNER, poke!(5, 0, &[1, 2, 3, 4])), "ok"),
+    (
+        Steps(PEER, Probe(copy!(OWNER_0, FRAME_3, 4, SOURCE))),
+        "H 1 5; C 1 0 100020000001; B 1 0 First 5; P 1 0 Read taken; U 1 0 Read -; ok",
+    ),
+    (
+        Do(PEER, Probe(copy!(FRAME_0, FRAME_3, 4, NONE))),
+        "ok",
+    ),
+    (Do(PEER, peek!(3, 0, 4)), "ok [0, 0, 0, 0]"),
+    (Do(OWNER, REVOKE), "ok"),
+];
+
 // The check for an unknown domain comes before the one for unknown flags.
 const FLAGS: [Row; 2] = [
     (Do(PEER, Copy(copy!(OWNER_0, FRAME_3, 1, 4))), "N2"),
@@ -120,8 +135,9 @@ const ALL: [(DomId, DomId); 9] = [
 ];
 
 /// All runs with copies.
-pub static COPIES: [Run; 12] = [
+pub static COPIES: [Run; 13] = [
     (1, &ALL, &GRANTED, &PAGE),
+    (1, &ALL, &GRANTED, &PROBED),
     (2, &ALL, &[], &SUB_PAGE),
     (1, &ALL, &GRANTED_RO, &READ_ONLY_DEST),
     (1, &ALL, &[], &FLAGS),
