@@ -34,9 +34,6 @@ use Rattle.gt_order.specs.Calling.{IsLoading, IsOutcomeOf, IsSingle, IsStoring, 
 use Rattle.gt_order.specs.Runs.{FitsTypes, KeepsNoPin}
 use Rattle.gt_order.specs.Runs.{CallOutcome}
 use Rattle.gt_order.specs.Runs.CallOutcome.{Told, Kept, Starved, Read, Wrote}
-use Rattle.gt_script_lines.specs.declared.calls.ScriptCall.{ScriptCall}
-use Rattle.gt_script_lines.specs.declared.calls.ScriptCall.TheVariants as calls
-use Rattle.gt_host.specs.Runs.{Named, request_of}
 use Rattle.gt_run.specs.Asking.{AnswersCall, HasBytes, IsReadAnswer, frames_answer}
 use Rattle.gt_run.specs.Asking.{mapped_answer, plain_answer, size_answer}
 use Rattle.gt_run.specs.Asking.{version_answer}

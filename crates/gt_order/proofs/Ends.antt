@@ -16,7 +16,7 @@ use Rattle.gt_core.proofs.Words.{Ending, path, known_at, action_at, Setting, Und
 use Rattle.gt_core.proofs.Words.{IsClean, IsRight, StepsRightIn, LeavesAll, Rests, pins_at, PhaseStands, next_to_give}
 use Rattle.gt_core.proofs.Words.{mapping_of, mappings_at, maps_answered_at, MappingsAgree, one_if_mapped, header_stored}
 use Rattle.gt_core.proofs.Words.{change_at, handle_taken, gather, mapping_named, seen_by, word_at, answer_of, FitsStep}
-use Rattle.gt_core.proofs.Words.{HandleSlot}
+use Rattle.gt_core.proofs.Words.{HandleSlot, last_first}
 use Rattle.gt_core.proofs.Words.{after_beginning, same_handle, Denial, holder_after, FitsNext, eq-eqb, State}
 use Rattle.gt_calls.specs.declared.action.CallValue.TheVariants.{Frames, Size as SizeTold, Version as VersionTold}
 use Rattle.gt_calls.specs.declared.action.Action.{Action}
@@ -45,6 +45,11 @@ use Rattle.gt_live.specs.Mappings.{KeepsMappings, Removes}
 use Rattle.gt_order.proofs.AgreementKept.{KeepsWords, live-kept}
 use Rattle.gt_order.proofs.Stepping.{StandsHere, open-there, state-there}
 use Rattle.gt_order.specs.Runs.{LeavesMappings}
+use Rattle.gt_calls.specs.Machine.{settled}
+use Rattle.gt_calls.specs.Resting.{IsCopyOf}
+use Rattle.gt_calls.specs.declared.call.Phase.TheVariants.{Accessing}
+use Rattle.gt_calls.specs.declared.request.OpenRequest.TheVariants.{Probe}
+use Rattle.gt_types.specs.declared.copies.CopyArgs.{CopyArgs}
 
 -- where the core stands at an open call
 
@@ -72,13 +77,18 @@ stands-open s g d c (core, st) named call =
       },
     )
 
+-- neither a copy nor a probe waits for nobody
+no-copy : (request : OpenRequest) (copy : CopyArgs) → IsCopyOf request copy → WaitsForNobody request → ⊥
+no-copy request copy (inl is) waits = subst WaitsForNobody is waits
+no-copy request copy (inr is) waits = subst WaitsForNobody is waits
+
 -- an open call without accesses has left all as it was
 pub clean-steps : (s : Setting) (g : Items) (d : DomId) (c : Underway) (step : Step) → StandsHere s g d c step → WaitsForNobody c.request → All LeavesAll c.steps
 clean-steps s g d c step here waits = by here.phase here.here.acts here.here.place here.clean
   where
     by : (p : Phase) → action_at d p ≡ Makes step → PhaseStands s g d c.request (reverse c.steps) p → IsClean p c.steps → All LeavesAll c.steps
     by (Ending pins verdict) e (inl none) a = let f : Done verdict ≡ Makes step = sym (ap (λ (l : List HeldPin). next_to_give l verdict) none) ∙ e in absurd (cc)
-    by (Ending pins verdict) e (inr copy) a = absurd (subst WaitsForNobody copy.1 waits)
+    by (Ending pins verdict) e (inr copy) a = absurd (no-copy c.request copy.0 copy.1 waits)
     by p e b a = a
 
 pub last-leaves : (xs : List (Step × Observation)) (x : Step × Observation) → All LeavesAll (xs ++ x ∷ []) → LeavesAll x
@@ -295,6 +305,16 @@ module _ (s : Setting) (g : Items) (d : DomId) (cl : Underway) (vs : List Observ
       by (WriteBytes dom frame off len) e r n ok = absurd (subst IsOnWords e quiet)
       by (CopyBytes from to len) e r n ok = absurd (subst IsOnWords e quiet)
 
+-- no probe keeps a pin
+kept-settled : (d : DomId) (request : OpenRequest) (p : Phase) (held : HeldPin) → action_at d (settled request p) ≡ Done (KeptPin held) → action_at d p ≡ Done (KeptPin held)
+kept-settled d (Probe c) (Accessing a source dest) held e = absurd (by (last_first (record { source = source; dest = dest })) e)
+  where
+    by : (ps : List HeldPin) → next_to_give ps Granted ≡ Done (KeptPin held) → ⊥
+    by [] e = cc
+    by (q ∷ qs) e = cc
+kept-settled d (Probe c) p held e = e
+kept-settled d request p held e = e
+
 -- the last step of a map that keeps its pin
 pub kept-maps : (s : Setting) (g : Items) (d : DomId) (cl : Underway) (step : Step) (p : HeldPin) (handle : Handle) (old new : HandleMap HeldPin) (here : StandsHere s g d cl step) → FitsStep step (seen_by s g d step)
     → path (known_at s g d) d cl.request (values cl) ≡ Some (Makes step) → path (known_at s g d) d cl.request (values cl ++ seen_by s g d step ∷ []) ≡ Some (Done (KeptPin p)) → Adds old new handle p
@@ -303,7 +323,8 @@ pub kept-maps : (s : Setting) (g : Items) (d : DomId) (cl : Underway) (step : St
 kept-maps s g d cl step p handle old new here fits next last adds a =
     let k = known_at s g d in let seen = seen_by s g d step in
     let on = stands-on k d cl.request (values cl) here.phase seen here.here.at (subst (λ (o : Option Action). FitsNext o seen) (sym next) fits) in
-    let acts : action_at d (next_of s g d here.phase step) ≡ Done (KeptPin p) = same_Some _ _ (sym (leads-here k d cl.request (values cl ++ seen ∷ []) (next_of s g d here.phase step) on) ∙ last) in
+    let acts : action_at d (next_of s g d here.phase step) ≡ Done (KeptPin p) = kept-settled d cl.request (next_of s g d here.phase step) p
+    (same_Some _ _ (sym (leads-here k d cl.request (values cl ++ seen ∷ []) (settled cl.request (next_of s g d here.phase step)) on) ∙ last)) in
     let ends : MapEnds s g d cl.request here.phase step p = call-ends s g here.core.domains d cl.request (values cl) (reverse cl.steps) here.phase step here.here (KeptPin p) acts in
     let sees : seen_by s g d (PinStep p) ≡ Taken = ap (λ (b : Bool). cond b Taken (Missed (word_at s g p.dom.0 p.gref.0))) (eq-eqb (word_at s g p.dom.0 p.gref.0) p.word ends.taken) in
     let can = can-pin s g here.core.domains d cl.request (values cl) (reverse cl.steps) here.phase p (subst (IsHere s g here.core.domains d cl.request (values cl) (reverse cl.steps) here.phase) ends.is here.here) ends.taken in

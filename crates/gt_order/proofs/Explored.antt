@@ -1,11 +1,7 @@
 -- What a run of a script writes is a text that it may print, and one that the script may give if no call got no memory
 -- and no gate stopped a list.
 use Rattle.std.proofs.Common.{◌≡◌, ◌≢◌, ◌<◌, ℕ, zero, suc, Bool, List, [], ◌∷◌, All, get_or, length, map, None, refl, sym, ap}
-use Rattle.std.proofs.Common.{◌∙◌, subst, arith, inl, inr, ⊎_elim}
-use Rattle.gt_types.specs.Denial.{denial_of}
-use Rattle.gt_types.specs.declared.denial.Facts.TheVariants.{None as NoFacts}
-use Rattle.gt_types.specs.declared.denial.Rule.TheVariants.{N16, N26}
-use Rattle.std.specs.List.{flat_map}
+use Rattle.std.proofs.Common.{◌∙◌, subst, arith, inl, inr}
 use Rattle.std.specs.Prelude.{is_some}
 use Rattle.std.proofs.lemmas.List.{get_or-map, length-map}
 use Rattle.std.proofs.lemmas.List.Elements.{All-get_or, All-head, All-tail, All-weaker}
@@ -15,14 +11,7 @@ use Rattle.gt_types.specs.declared.config.DomainConfig.{DomainConfig}
 use Rattle.gt_core.specs.Acting.{setting_of}
 use Rattle.gt_core.specs.History.{Setting}
 use Rattle.gt_core.specs.Legal.{Legal}
-use Rattle.gt_core.specs.declared.trace.Answer.{Answer}
-use Rattle.gt_core.specs.declared.trace.Answer.TheVariants as answers
-use Rattle.gt_types.specs.declared.denial.Denial.{Denial}
-use Rattle.gt_script.specs.declared.tasks.RunActionBy.TheVariants.{Do}
-use Rattle.gt_script_lines.specs.declared.calls.ScriptCall.{ScriptCall}
-use Rattle.gt_script_lines.specs.declared.calls.ScriptCall.TheVariants as calls
 use Rattle.gt_host.specs.Playing.{setting_of_script}
-use Rattle.gt_host.specs.Printing.{answer_line}
 use Rattle.gt_host.specs.Rights.{may_by}
 use Rattle.gt_host.specs.declared.rights.ScriptPolicy.{ScriptPolicy as ScriptRights}
 use Rattle.gt_script.specs.Contents.{type_names}
@@ -33,15 +22,14 @@ use Rattle.gt_script.specs.RunContents.{RunContents}
 use Rattle.gt_script.specs.RunScripts.{list_of}
 use Rattle.gt_explore_replay.specs.Orders.{AllFollow, FollowsList, Happening, MayGive, doer, events_in, own_happenings, trace_in}
 use Rattle.gt_live.specs.declared.monitor.Monitor.{Monitor}
-use Rattle.gt_run.specs.Printing.{AreDuties, AreServed, Served, ShowOneState, WasServed, duties_in, texts_in}
+use Rattle.gt_run.specs.Printing.{AreDuties, AreServed, Served, ShowOneState, duties_in, texts_in}
 use Rattle.gt_run.specs.Runs.{AreOf, IsOver}
 use Rattle.gt_run.specs.declared.lists.DomainPart.{DomainPart}
 use Rattle.gt_run.specs.declared.lists.ThreadJob.{ThreadJob}
 use Rattle.gt_order.proofs.Happenings.{events-are, happenings, order-known, order-raised, own-are, trace-is}
 use Rattle.gt_order.proofs.Listed.{AreFlagsOf, FollowsAll, HasStarved, IsStopped, follows-all}
-use Rattle.gt_run.specs.Serving.{ListOutcome, answer_lines}
-use Rattle.gt_order.proofs.Served.{Serves, end-part, follows-list, part-in, prints-list, start-part}
-use Rattle.gt_order.specs.Explored.{EndsAtNoGate, HasNoneLost, IsStarved, RunsAreExplored}
+use Rattle.gt_order.proofs.Served.{Serves, follows-list, prints-list}
+use Rattle.gt_order.specs.Explored.{EndsAtNoGate, HasNoneLost, RunsAreExplored}
 use Rattle.gt_order.specs.Ordering.{events_of, items_in, own_in}
 use Rattle.gt_order.specs.Printed.{AllPrint, MayPrint, PrintsList, RunsArePrinted}
 

@@ -282,7 +282,7 @@ module _ {P : Type 0} (may : P → AllowRelation) (m : Monitor P) (all : m.words
     know = known_on may m d
 
     mapped : (handle : Handle) (p : HeldPin) → value_of d.mappings handle ≡ Some p → frame_of p.entry < frame_count_of m.config.domains.items p.dom
-    mapped handle p is = below know (frame_of p.entry) (frame_count_of m.config.domains.items p.dom) (mine.mapped handle p is).in_frames
+    mapped handle p is = below know true (frame_of p.entry) (frame_count_of m.config.domains.items p.dom) (mine.mapped handle p is).in_frames
 
     path-so : (request : Request) → MakesOne request → AreToFrames know true (path_of know d.seat.dom request)
     path-so (requests.Load handle off len) one = begun-so know true (begun_of know d.seat.dom (requests.Load handle off len)) _

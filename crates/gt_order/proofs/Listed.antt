@@ -193,7 +193,7 @@ module _ {P : Type 0} (may : P → AllowRelation) (m : Monitor P) where
             call-comes task call done p q x come x.request z.0 z.1 z.3 (inl (refl, z.2))
             (λ followed. follows-more (HasStarved final) Stopped m.config (may m.rights) types dom m followed.1 p.named come.held done come.made (answer_lines types dom p.outcomes) task call (record { request = x.request; outcome = z.0; steps = z.1; old = p.domain; new = q.domain }) x.answer
             (come.follows followed) deed x.says z.2 z.4 starves)
-        by (inr (args, copy, denial, refused, lost, steps, made)) =
+        by (inr (args, copy, denial, refused, lost, (steps, made))) =
             let m' : CallMade = record { request = requests.Probe args; outcome = Told Granted; steps = steps; old = p.domain; new = q.domain } in
             call-comes task call done p q x come (requests.Probe args) (Told Granted) steps made
             (inr (record { args = args; copy = copy; probe = refl; outcome = refl; denial = denial; refused = refused; lost = lost }))

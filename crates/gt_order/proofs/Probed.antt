@@ -1,7 +1,7 @@
 -- A copy that reached its access and could not make it made the steps of its probe.
 use Rattle.std.proofs.Common.{◌≡◌, ℕ, Bool, true, false, not, ◌&&◌, List, [], ◌∷◌, ◌++◌, Option, Some, None, refl, sym, ap, ◌∙◌, subst}
 use Rattle.std.proofs.Common.{append_assoc}
-use Rattle.std.proofs.Common.{false≢true}
+use Rattle.std.proofs.lemmas.Bool.{false≢true}
 use Rattle.std.proofs.lemmas.List.{append-nil}
 use Rattle.gt_types.specs.declared.places.Spot.{Spot}
 use Rattle.gt_calls.specs.declared.request.OpenRequest.TheVariants as asks
@@ -9,7 +9,8 @@ use Rattle.gt_types.specs.Copies.{is_dest_granted, is_source_granted}
 use Rattle.gt_types.specs.declared.DomId.{DomId}
 use Rattle.gt_types.specs.declared.Dir.TheVariants.{Read as ForReading, Write as ForWriting}
 use Rattle.gt_types.specs.declared.copies.CopyArgs.{CopyArgs}
-use Rattle.gt_word_history.specs.History.{Moment, TookPlace, part_of}
+use Rattle.gt_word_history.specs.Events.{TookPlace}
+use Rattle.gt_word_history.specs.History.{Moment, part_of}
 use Rattle.gt_word_history.specs.Rule.{Layout}
 use Rattle.gt_word_history.specs.Views.{with_step}
 use Rattle.gt_word_history.specs.declared.view.View.{View}
@@ -31,7 +32,7 @@ use Rattle.gt_calls.specs.declared.request.Request.TheVariants as requests
 use Rattle.gt_calls.proofs.Probing.{here, on, past, same}
 use Rattle.gt_live.specs.Accesses.{Accessed, IsAccess, IsUnmade, onward}
 use Rattle.gt_live.specs.Domains.{AllowRelation, knowledge}
-use Rattle.gt_live.specs.Walks.{AreMoments, Called, IsWalk, Made, MakesStep, all_shown, shown_by, view_after}
+use Rattle.gt_live.specs.Walks.{AreMoments, Called, IsWalk, MakesStep, all_shown, shown_by, view_after}
 use Rattle.gt_live.specs.declared.monitor.Monitor.{Monitor}
 use Rattle.gt_live.proofs.Walking.{after-position}
 use Rattle.gt_order.proofs.Accessing.{IsOneAccess, alone, one-access, shown-append, view-append}

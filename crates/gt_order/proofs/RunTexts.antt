@@ -1,18 +1,13 @@
 -- What `run` appends is a text that a run of the script may print, and one that the script may give.
-use Rattle.std.proofs.Common.{◌≡◌, ◌++◌, ◌<◌, ℕ, Bool, true, false, List, [], ◌∷◌, All, Option, Some, None, Result, Ok, Err, arith}
+use Rattle.std.proofs.Common.{◌++◌, ℕ, Bool, true, false, List, Option, Some, None, Result, Ok, Err}
 use Rattle.gt_audit.specs.Lines.{lost_text}
-use Rattle.gt_script.specs.Contents.{type_names}
 use Rattle.gt_script.specs.RunContents.{RunContents}
 use Rattle.gt_script.specs.Script.{Wrong}
-use Rattle.gt_host.specs.Rights.{may_by}
-use Rattle.gt_host.specs.declared.rights.ScriptPolicy.{ScriptPolicy as ScriptRights}
 use Rattle.gt_text.specs.Streams.{OfInput}
-use Rattle.gt_run.specs.Printing.{AreServed, Served, all_lost, audits_in, duties_in, texts_in}
-use Rattle.gt_run.specs.Runs.{AreOf, Ran, WritesScript}
+use Rattle.gt_run.specs.Printing.{all_lost, audits_in, texts_in}
+use Rattle.gt_run.specs.Runs.{Ran, WritesScript}
 use Rattle.gt_run.specs.Serving.{counted}
 use Rattle.gt_run.specs.declared.fault.RunFault.{RunFault}
-use Rattle.gt_run.specs.declared.lists.ThreadJob.{ThreadJob}
-use Rattle.gt_explore_replay.specs.Orders.{MayGive}
 use Rattle.gt_order.proofs.Explored.{runs-printed}
 use Rattle.gt_order.proofs.Served.{printed-given}
 use Rattle.gt_order.proofs.Unlogged.{unlogged-text}

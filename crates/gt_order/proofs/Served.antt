@@ -46,12 +46,12 @@ deed-map types dom named held line (Do call) N M hs text f (request, says, (firs
 
 -- a call that got no memory, and what follows it
 starves-map : (dom : DomId) (request : Request) (R S : List Happening → Type 0) (hs : List Happening) → ((more : List Happening) → R more → S more) → Starves dom request R hs → Starves dom request S hs
-starves-map dom (requests.Copy args) R S hs f (first, trace, answer, more, is, ends, (done, rest)) = (first, trace, answer, more, is, ends, (done, f more rest))
-starves-map dom request R S hs f (is, rest) = (is, f hs rest)
+starves-map dom (requests.Copy args) R S hs f s = (s.0, s.1, s.2, s.3, s.4, s.5, (s.6.0, f s.3 s.6.1))
+starves-map dom request R S hs f s = (s.0, f hs s.1)
 
 starves-rest : (dom : DomId) (request : Request) (R : List Happening → Type 0) (hs : List Happening) → Starves dom request R hs → (more : List Happening) × R more
-starves-rest dom (requests.Copy args) R hs (first, trace, answer, more, is, ends, (done, rest)) = (more, rest)
-starves-rest dom request R hs (is, rest) = (hs, rest)
+starves-rest dom (requests.Copy args) R hs s = (s.3, s.6.1)
+starves-rest dom request R hs s = (hs, s.1)
 
 lost-map : (types : List (List ℕ)) (dom : DomId) (named : List Named) (held : List Handle) (line : ℕ) (action : RunAction) (N M : Next) (hs : List Happening) (text : List ℕ)
     → ((names : List Named) (holds : List Handle) (more : List Happening) (rest : List ℕ) → N names holds more rest → M names holds more rest)

@@ -5,8 +5,8 @@ use Rattle.std.specs.Io.KnownBytes.{Appends}
 use Rattle.gt_types.specs.Names.{domain_of}
 use Rattle.gt_types.specs.declared.config.DomainConfig.{DomainConfig}
 use Rattle.gt_order.specs.Prelude.{DomId, Handle, Legal, N26, NoFacts, Request, denial_of}
-use Rattle.gt_order.specs.RunNames.{Answer, Do, IsAmong, ListOutcome, Named, RunAction, RunTask, SaysRequest}
-use Rattle.gt_order.specs.RunNames.{ScriptCall, Served, ThreadJob, WritesAll}
+use Rattle.gt_order.specs.RunNames.{Answer, Do, Named, RunAction, RunTask, SaysRequest}
+use Rattle.gt_order.specs.RunNames.{ThreadJob, WritesAll}
 use Rattle.gt_calls.specs.declared.request.Request.TheVariants as requests
 use Rattle.gt_core.specs.declared.trace.Answer.TheVariants as answers
 use Rattle.gt_script.specs.Contents.{type_names}

@@ -1,5 +1,5 @@
 -- What `run` appends: a text that a run of the script may print, and one that `explore` lists.
-use Rattle.std.specs.Prelude.{◌≡◌, ◌++◌, ℕ, Bool, true, false, List, Option, Result, Ok, Err}
+use Rattle.std.specs.Prelude.{◌++◌, ℕ, Bool, true, false, List, Option, Result, Ok, Err}
 use Rattle.std.specs.Io.KnownBytes.{Appends}
 use Rattle.gt_script.specs.Contents.{type_names}
 use Rattle.gt_script.specs.RunContents.{RunContents}
