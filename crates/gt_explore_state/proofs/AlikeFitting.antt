@@ -5,6 +5,7 @@ use Rattle.gt_core.proofs.Words.{ap, ◌∙◌, arith, subst, ◌==◌, eqb-true
 use Rattle.gt_core.proofs.Words.{count_by, sum_by-cons, option_map, DomId, Dir, Handle, HeldPin, PinHolder, ByMapping, ByLeg}
 use Rattle.gt_core.proofs.Words.{Observation, Taken, Missed}
 use Rattle.gt_core.proofs.Words.{Makes, CallResult, Step, PinStep, Unpin, StoreHeader, Exchange, ReadBytes, State}
+use Rattle.gt_calls.specs.declared.request.OpenRequest.TheVariants.{Probe}
 use Rattle.gt_core.proofs.Words.{inl, inr, state_of, OpenRequest, Release, Unmap}
 use Rattle.gt_core.proofs.Words.{History, Setting, Pin, Underway, live, open_call, values, word_at, seen_by, known_at}
 use Rattle.gt_core.proofs.Words.{legs_at, numbered, without}
@@ -44,6 +45,7 @@ FindsSame bared found r = Unit {0}
 
 path-bare : (k : CallerKnowledge) (found : Handle → Option HeldPin) (d : DomId) (r : OpenRequest) (vs : List Observation) → FindsSame found k.mapping r
     → option_map bare_action (path (record k { mapping = found }) d (bare_asked r) vs) ≡ option_map bare_action (path k d r vs)
+path-bare k found d (Probe c) vs same = refl
 path-bare k found d r vs same = grind arith
 
 pub finds-same : (s : Setting) (h : History) (d : DomId) (r : OpenRequest) → IsRun s h → AsksKnown h d.0 r → FindsSame (mapping_of (mappings_at (bare h) d.0)) (mapping_of (mappings_at h d.0)) r

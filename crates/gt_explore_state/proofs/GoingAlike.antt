@@ -62,6 +62,7 @@ use Rattle.gt_explore_state.specs.Likeness.{AsksFit, LikeReachedGoesOn, LikeReac
 use Rattle.gt_explore_state.specs.Shows.{IsInRun}
 use Rattle.gt_explore_state.proofs.Showing.{item-is}
 use Rattle.gt_explore_state.proofs.AlikeFitting.{same-bare, path-at, finds-same, FindsSame}
+use Rattle.gt_core.proofs.Ticking.{done-from}
 
 -- one more mapping
 
@@ -279,7 +280,7 @@ module _ (s : Setting) (h g : History) (alike : AreAlike s h g) (reached : CanBe
   on-access access = let nothing = saw-nothing s g x.id o.step access in
       let ends : path (known_at s g x.id) x.id w.request (values w ++ Nothing ∷ []) ≡ Some (action_then s reached.0.domains x o) = ap (λ (v : Observation). path (known_at s g x.id) x.id w.request (values w ++ v ∷ [])) (sym nothing) ∙ next in
       let only : (v : CallResult) → action_then s reached.0.domains x o ≡ Done v → v ≡ Granted = λ v e. access-granted s g x.id w.request (reverse w.steps) ticked.1.stands.phase o.step v access ticked.1.stands.acts ticked.1.stands.place
-      (ap (λ (u : Observation). action_at x.id (phase_after (known_at s g x.id) x.id ticked.1.stands.phase u)) (sym nothing) ∙ sym ticked.1.acts ∙ e) in
+      (ap (λ (u : Observation). action_at x.id (phase_after (known_at s g x.id) x.id ticked.1.stands.phase u)) (sym nothing) ∙ done-from ticked.1 v e) in
       let so = access-so (action_then s reached.0.domains x o) access ends only in
       joined so.0 (open-calls-can-access s g x.id w o.step (action_then s reached.0.domains x o) so.0 reached named call_g b.follows access ends so.1)
 
