@@ -37,6 +37,12 @@ use Rattle.gt_explore_state.specs.Likeness.{IsLikeReached}
 use Rattle.gt_explore_state.specs.Shows.{IsInRun}
 use Rattle.gt_explore_state.proofs.AlikeFitting.{path-at, same-bare}
 use Rattle.gt_explore_moves.specs.Ticking.{TellsEnd}
+use Rattle.gt_calls.specs.Holding.{no_pins}
+use Rattle.gt_calls.specs.Machine.{next_to_give, settled}
+use Rattle.gt_calls.specs.Following.{Goes, HoldsAfter}
+use Rattle.gt_calls.specs.Standing.{held_in}
+use Rattle.gt_core.proofs.Probes.{done-settled, ends-settled}
+use Rattle.gt_core.proofs.Outcomes.{ends-so}
 
 -- without keys
 
@@ -218,11 +224,24 @@ module _ (s : Setting) (h g : History) (alike : AreAlike s h g) (reached : CanBe
       ∙ sym (seen-bare s h x.id o.step) ∙ ap (seen_by s h x.id) (sym same-step) ∙ seen-bare s h x.id z ∙ sym right.sees
 
   abbrev there : Action
-  there = action_at x.id (next_of s g x.id b.phase o.step)
+  there = action_at x.id (settled w.request (next_of s g x.id b.phase o.step))
+
+  goes-there : Goes (known_at s g x.id) (record { caller = x.id; request = w.request; phase = Some b.phase }) (seen_by s g x.id o.step)
+      (record { caller = x.id; request = w.request; phase = Some (settled w.request (next_of s g x.id b.phase o.step)) }) there
+  goes-there = continues (known_at s g x.id) x.id w.request (Some b.phase) (seen_by s g x.id o.step) (Some (settled w.request (next_of s g x.id b.phase o.step))) there refl refl
+
+  fits-there : FitsNext (path (known_at s g x.id) x.id w.request (values w)) (seen_by s g x.id o.step)
+  fits-there = subst (λ (p : Option Action). FitsNext p (seen_by s g x.id o.step)) (sym b.follows) (seen-fits s g x.id o.step)
 
   next-there : path (known_at s g x.id) x.id w.request (values w ++ seen_by s g x.id o.step ∷ []) ≡ Some there
-  next-there = ((continues (known_at s g x.id) x.id w.request (Some b.phase) (seen_by s g x.id o.step) (Some (next_of s g x.id b.phase o.step)) there refl refl).later (values w) b.at
-      (subst (λ (p : Option Action). FitsNext p (seen_by s g x.id o.step)) (sym b.follows) (seen-fits s g x.id o.step))).0.follows
+  next-there = (goes-there.later (values w) b.at fits-there).0.follows
+
+  -- if it ends there, its phase is an end
+  next-over : (v : CallResult) → there ≡ Done v → action_at x.id (next_of s g x.id b.phase o.step) ≡ Done v
+  next-over v e =
+      let holds : HoldsAfter o.step (seen_by s g x.id o.step) (held_in b.phase) (held_in (settled w.request (next_of s g x.id b.phase o.step))) (Done v) =
+      subst (λ (a : Action). HoldsAfter o.step (seen_by s g x.id o.step) (held_in b.phase) (held_in (settled w.request (next_of s g x.id b.phase o.step))) a) e ((goes-there.later (values w) b.at fits-there).1 (Makes o.step) b.follows) in
+      sym (done-settled (known_at s g x.id) x.id w.request b.phase (seen_by s g x.id o.step) o.step (held_in b.phase) v b.at.may_be b.acts holds (sym e))
 
   -- what follows in both is the same but for keys
   next-same : option_map bare_action (next_in s h x.id c seen) ≡ Some (bare_action there)
@@ -243,13 +262,15 @@ module _ (s : Setting) (h g : History) (alike : AreAlike s h g) (reached : CanBe
   no-single : (y : Step) → next_in s h x.id c seen ≡ Some (Makes y) → IsSingle z → ⊥
   no-single y e single =
       let r = single-ends s g x.id w.request (reverse w.steps) b.phase o.step b.acts b.place (from-single o.step (subst IsSingle same-step (to-single z single))) in
-      not-over y r.0 e (ap (action_at x.id) r.1)
+      not-over y r.0 e (ap (action_at x.id) (ends-settled w.request _ no_pins r.0 r.1))
 
   no-taken : (y : Step) → next_in s h x.id c seen ≡ Some (Makes y) → (gref : GrantRef) (looked : ℕ) (change : EntryChange) → z ≡ Exchange gref looked change → seen ≡ Taken → ⊥
   no-taken y e gref looked change is taken =
       let made : o.step ≡ Exchange gref looked change = no-key o.step (Exchange gref looked change) tt (ap bare_step (sym is) ∙ same-step) in
       let r = taken-ends (known_at s g x.id) (path (known_at s g x.id) x.id w.request) x.id w.request (values w) b.phase gref looked change b.at.has_shown (b.acts ∙ ap (λ (q : Step). Makes q) made) in
-      not-over y r.0 e (ap (λ (v : Observation). action_at x.id (phase_after (known_at s g x.id) x.id b.phase v)) (saw ∙ taken) ∙ r.1)
+      let done = ap (λ (v : Observation). action_at x.id (phase_after (known_at s g x.id) x.id b.phase v)) (saw ∙ taken) ∙ r.1 in
+      let ends = ends-so x.id (next_of s g x.id b.phase o.step) r.0 done in
+      not-over y r.0 e (ap (action_at x.id) (ends-settled w.request _ ends.0 r.0 ends.1) ∙ ap (λ (l : List HeldPin). next_to_give l r.0) ends.2)
 
   same-table : (t : DomId) → table_at s g t ≡ table_at s h t
   same-table t = sym ((bared g).table s t) ∙ ap (λ (l : History). table_at s l t) (sym bares) ∙ (bared h).table s t
@@ -309,7 +330,7 @@ module _ (s : Setting) (h g : History) (alike : AreAlike s h g) (reached : CanBe
     going = λ y e. (none-answered s h x.id c.request z _ (verdict_in (next_in s h x.id c seen)) answer _ (ap verdict_in e) right.answered, no-single y e, no-taken y e);
     ending = λ v e. let against = stood s (stepped x.id z seen answer ∷ h) x.id.0 in let giving = gives_back (next_in s h x.id c seen) in
         let r = some-answered s h x.id c.request z giving v answer against (subst (λ (u : Option CallResult). AnsweredBy s h x.id c.request (Some z) giving u answer against) (ap verdict_in e) right.answered) in
-        (r.0, r.1, ended-here v r.0 (call-ends s g reached.0.domains x.id w.request (values w) (reverse w.steps) b.phase o.step stands v (over v e)) r.2 r.3);
+        (r.0, r.1, ended-here v r.0 (call-ends s g reached.0.domains x.id w.request (values w) (reverse w.steps) b.phase o.step stands v (next-over v (over v e))) r.2 r.3);
     writing = writing-here;
   }
 

@@ -44,6 +44,7 @@ use Rattle.gt_explore_moves.specs.Calls.{known_in, no_mappings}
 use Rattle.gt_explore_moves.specs.Continuing.{GoesOnAsRun, StillKnows}
 use Rattle.gt_explore_moves.specs.declared.scene.SearchContext.{SearchContext}
 use Rattle.gt_explore_state.specs.declared.table.SparseTable.{SparseTable}
+use Rattle.gt_calls.specs.Machine.{settled}
 
 -- what steps see
 
@@ -77,7 +78,7 @@ pub is-left : (k l : CallerKnowledge) (call : Call) (shown : List Observation) (
 is-left k l call shown seen at domains may own = by call.phase refl at where
   by : (o : Option Phase) → call.phase ≡ o → IsAt k (record call { phase = o }) shown → IsLeftAlike k l call seen
   by None e at = absurd at
-  by (Some p) e at = subst (λ (o : Option Phase). IsLeftAlike k l (record call { phase = o }) seen) (sym e) (sym (left-alike k l call.caller p seen domains may (own p e)))
+  by (Some p) e at = subst (λ (o : Option Phase). IsLeftAlike k l (record call { phase = o }) seen) (sym e) (ap (settled call.request) (sym (left-alike k l call.caller p seen domains may (own p e))))
 
 -- the path of the run
 
