@@ -66,7 +66,7 @@ same_page_on : (a b c : SparsePage) → SamePage a b → SamePage b c → SamePa
 same_page_on a b c f g = record { owner = g.owner ∙ f.owner; frame = g.frame ∙ f.frame; bytes = g.bytes ∙ f.bytes }
 
 -- what is the same as a part that is the same is so too
-same_part_on : (p q r : StatePart) → SamePart p q → SamePart q r → SamePart p r
+pub same_part_on : (p q r : StatePart) → SamePart p q → SamePart q r → SamePart p r
 same_part_on (Flag a) (Flag b) (Flag c) f g = g ∙ f
 same_part_on (Domain a) (Domain b) (Domain c) f g = same_actor_on a b c f g
 same_part_on (Table a) (Table b) (Table c) f g = same_table_on a b c f g

@@ -29,7 +29,8 @@ fn mix_entries(digest: &mut Digest, first_gen: u32, table: &SparseTable) {
 
 fn mix_table(digest: &mut Digest, first_gen: u32, table: &SparseTable) {
     let header = table.header;
-    digest.mix(u64::from(header.version) + u64::from(header.frames) * 256);
+    digest.mix(u64::from(header.version));
+    digest.mix(u64::from(header.frames));
     mix_entries(digest, first_gen, table)
 }
 

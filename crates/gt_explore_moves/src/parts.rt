@@ -75,10 +75,7 @@ fn push_tables<'a>(
 }
 
 // Appends pages to these parts.
-fn push_pages<'a>(
-    parts: &mut Vec<StatePart<'a>>,
-    pages: Vec<SparsePage>,
-) -> Result<(), AllocError>
+fn push_pages<'a>(parts: &mut Vec<StatePart<'a>>, pages: Vec<SparsePage>) -> Result<(), AllocError>
     ensures { OnOk result (parts.new.items ≡ parts.old.items ++ map Page pages.items) }
 {
     'pages: for page in pages {

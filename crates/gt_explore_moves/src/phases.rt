@@ -11,7 +11,9 @@ pub struct Digest {
 impl Digest {
     /// Makes a digest of nothing.
     pub fn new() -> Digest {
-        Digest { value: 0xcbf2_9ce4_8422_2325 }
+        Digest {
+            value: 0xcbf2_9ce4_8422_2325,
+        }
     }
 
     /// Mixes a number into it.

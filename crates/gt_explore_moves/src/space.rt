@@ -1,6 +1,11 @@
 //! A search context as a transition system.
+ghost use Rattle.std.specs.Prelude.{List, IfOk};
+ghost use Rattle.gt_explore_search.specs.Parts.{Pairwise};
+ghost use Rattle.gt_explore_search.specs.Ways.{IsShownSo};
 ghost use Rattle.gt_explore_moves.specs.Parts.{splitting};
 ghost use Rattle.gt_explore_moves.specs.Spaces.{scene_ways};
+ghost use Rattle.gt_explore_moves.specs.declared.parts.StatePart.{StatePart};
+ghost use Rattle.gt_explore_moves.specs.declared.scene.SearchState.{SearchState};
 
 use crate::parts::StatePart;
 use crate::same::same_parts;
@@ -11,6 +16,7 @@ use std::alloc::AllocError;
 
 impl<'s> TransitionSystem for SearchContext<'s, 's> {
     type State = SearchState<'s>;
+
     type Part = StatePart<'s>;
 
     ghost ways = { scene_ways };
@@ -41,7 +47,10 @@ impl<'s> TransitionSystem for SearchContext<'s, 's> {
         state.split(self.alloc)
     }
 
-    fn join(&self, made: Vec<StatePart<'s>>) -> Result<SearchState<'s>, AllocError> {
+    fn join(&self, made: Vec<StatePart<'s>>) -> Result<SearchState<'s>, AllocError>
+        ensures { (w : SearchState) (ps : List StatePart) → splitting.has w ps →
+            Pairwise splitting.same ps made.entry.items → IfOk result (IsShownSo (scene_ways self.now) w) }
+    {
         SearchState::join(self.alloc, made)
     }
 

@@ -88,9 +88,13 @@ kept-last parts old new p q n last is same = (q, ap (λ (i : ℕ). slice_get new
 -- the state with this number is made of copies of its parts
 pub state-at : {W P : Type 0} (ways : Ways W) (parts : Splitting W P) (old all : List P) (states : List (Vec ℕ)) (n : ℕ) (k : Vec ℕ) (made : List P) (v : W) → slice_get states n ≡ Some k → Extends old all
     → Pairwise (IsCopyOf parts old) k.items made → ((w : W) (ps : List P) → parts.has w ps → Pairwise parts.same ps made → IsShownSo ways w v) → IsStateAt ways parts all states n v
-state-at ways parts old all states n k made v at more copies joins = (k, at, λ p shows.
-    let has = shows.1.0 in
-    joins shows.0 has shows.1.1 (copied parts old all has k.items made more shows.1.2 copies) p shows.2)
+state-at ways parts old all states n k made v at more copies joins = (
+  k,
+  at,
+  λ p shows.
+      let has = shows.1.0 in
+      joins shows.0 has shows.1.1 (copied parts old all has k.items made more shows.1.2 copies) p shows.2,
+)
 
 last-place : {X : Type 0} (test : X → Bool) (xs : List X) → list_any test xs ≡ false → position_or_len test xs ≡ length xs
 last-place test [] none = refl

@@ -34,12 +34,7 @@ impl<P: Drop> PartIndex<P> {
     }
 
     // Returns the number of the part with this digest that is the same.
-    fn find<S: TransitionSystem<Part = P>>(
-        &self,
-        space: &S,
-        digest: u64,
-        part: &P,
-    ) -> Option<u32>
+    fn find<S: TransitionSystem<Part = P>>(&self, space: &S, digest: u64, part: &P) -> Option<u32>
         ensures { IfSome result (HasNumber (S.parts space.now) self.now.kept.items part.now) }
     {
         let numbers = self.digests.get(&digest)?;

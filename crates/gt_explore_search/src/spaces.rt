@@ -23,6 +23,7 @@ pub enum TurnResult {
 /// and a state as a list of the numbers of its parts.
 pub trait TransitionSystem {
     type State: Drop;
+
     type Part: Drop;
 
     // The runs that the states show.

@@ -30,7 +30,7 @@ pub returns-clause-steps : goal.returns-clause-steps
 returns-clause-steps g c = λ all more holds visit at.
     let grown = subst (λ s. Extends s.parts.kept.items all) c.in_ok-gather.ensures.states more in
     let first = extends-on c.args.self.now.states.parts.kept.items c.number.new.self.parts.kept.items all
-        (grown-between c.args.self.now.states c.line.new.self.states c.number.new.self c.number.new.self c.in_ok-line.ensures.states c.in_ok-state.ensures.grows refl) grown in
+    (grown-between c.args.self.now.states c.line.new.self.states c.number.new.self c.number.new.self c.in_ok-line.ensures.states c.in_ok-state.ensures.grows refl) grown in
     let here = c.in_ok-world.ensures all first in
     let numbered = c.in_ok-state.ensures.number all grown in
     steps_on (by_numbers (g.S.TransitionSystem.ways c.args.space.now) (g.S.TransitionSystem.parts c.args.space.now) all) c.args.self.now c.line.new.self c.number.new.self c.args.visit.now c.args.turn here.0 here.0 numbered.0 c.in_ok-led.led c.in_ok-line.line

@@ -6,8 +6,7 @@ use Rattle.gt_explore_search.proofs.parts.PartIndex.copies.Goals as goal
 
 pub numbers-preserved : goal.numbers-preserved
 numbers-preserved g c = pair-step (IsCopyOf (g.S.TransitionSystem.parts c.args.space.now) c.args.self.now.kept.items) c.args.numbers.now c.numbers.made.items c.push.new.self.items c.numbers.number-index
-    (get_or c.args.numbers.now c.numbers.number-index 0) 0 c.in_ok-copy.field-0 c.numbers-test.true c.numbers.invariant refl
-    (
+    (get_or c.args.numbers.now c.numbers.number-index 0) 0 c.in_ok-copy.field-0 c.numbers-test.true c.numbers.invariant refl (
       c.in-Some.part.now,
       sym c.part.ensures ∙ ap (option_map (λ w. w.now)) c.in-Some.is,
       c.in_ok-copy.ensures,

@@ -10,8 +10,7 @@ pub returns-clause-number : goal.returns-clause-number
 returns-clause-number g c = λ all more.
     let parts = g.S.TransitionSystem.parts c.args.space.now in
     let numbers = numbers-grown (g.S.TransitionSystem.parts c.args.space.now) c.numbers.new.self.kept.items all c.in_ok-parts.parts.items c.in_ok-numbers.numbers.items more
-        (subst (λ (l : List _). Pairwise (HasNumber (g.S.TransitionSystem.parts c.args.space.now) c.numbers.new.self.kept.items) l c.in_ok-numbers.numbers.items) c.as_slice.ensures.value c.in_ok-numbers.ensures.numbers) in
-    (
+    (subst (λ (l : List _). Pairwise (HasNumber (g.S.TransitionSystem.parts c.args.space.now) c.numbers.new.self.kept.items) l c.in_ok-numbers.numbers.items) c.as_slice.ensures.value c.in_ok-numbers.ensures.numbers) in (
       c.in_ok-numbers.numbers,
       (c.in_ok-parts.parts.items, c.in_ok-parts.ensures, numbers),
       is-numbered (g.S.TransitionSystem.ways c.args.space.now) (g.S.TransitionSystem.parts c.args.space.now) all (λ x y. pointwise nat_eq x.items y.items) c.args.self.now.met.keys c.insert_full.new.self.keys c.in_ok-numbers.numbers _
