@@ -1,5 +1,9 @@
 //! Two independent counters, as a space with fewer turns.
+ghost use Rattle.std.specs.Prelude.{ℕ, List, IfOk};
+ghost use Rattle.gt_explore_search.specs.Parts.{Pairwise};
+ghost use Rattle.gt_explore_search.specs.Ways.{IsShownSo};
 ghost use Rattle.test_explore_search.specs.Apart.{apart_parts, apart_ways};
+ghost use Rattle.test_explore_search.specs.declared.apart.Place.{Place};
 
 use gt_explore_replay::Turn;
 use gt_explore_search::{SearchFault, TransitionSystem, TurnResult};
@@ -21,6 +25,7 @@ pub struct Place {
 
 impl TransitionSystem for Apart {
     type State = Place;
+
     type Part = u8;
 
     ghost ways = { apart_ways };
@@ -75,10 +80,13 @@ impl TransitionSystem for Apart {
     }
 
     fn split(&self, state: Place) -> Result<Vec<u8>, AllocError> {
-        vec![in self.alloc; state.first, state.second]
+        Ok(vec![in self.alloc; state.first, state.second]?)
     }
 
-    fn join(&self, made: Vec<u8>) -> Result<Place, AllocError> {
+    fn join(&self, made: Vec<u8>) -> Result<Place, AllocError>
+        ensures { (w : Place) (ps : List ℕ) → (apart_parts self.now).has w ps →
+            Pairwise (apart_parts self.now).same ps made.items → IfOk result (IsShownSo (apart_ways self.now) w) }
+    {
         let first = made.get(0).copied().unwrap_or(0);
         let second = made.get(1).copied().unwrap_or(0);
         Ok(Place { first, second })

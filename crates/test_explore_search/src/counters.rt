@@ -1,5 +1,9 @@
 //! Two counters as a space.
+ghost use Rattle.std.specs.Prelude.{ℕ, List, IfOk};
+ghost use Rattle.gt_explore_search.specs.Parts.{Pairwise};
+ghost use Rattle.gt_explore_search.specs.Ways.{IsShownSo};
 ghost use Rattle.test_explore_search.specs.Counters.{counters_parts, counters_ways};
+ghost use Rattle.test_explore_search.specs.declared.counters.Tally.{Tally};
 
 use gt_explore_replay::Turn;
 use gt_explore_search::{SearchFault, TransitionSystem, TurnResult};
@@ -21,6 +25,7 @@ pub struct Tally {
 
 impl TransitionSystem for Counters {
     type State = Tally;
+
     type Part = u8;
 
     ghost ways = { counters_ways };
@@ -70,10 +75,13 @@ impl TransitionSystem for Counters {
     }
 
     fn split(&self, state: Tally) -> Result<Vec<u8>, AllocError> {
-        vec![in self.alloc; state.first, state.second]
+        Ok(vec![in self.alloc; state.first, state.second]?)
     }
 
-    fn join(&self, made: Vec<u8>) -> Result<Tally, AllocError> {
+    fn join(&self, made: Vec<u8>) -> Result<Tally, AllocError>
+        ensures { (w : Tally) (ps : List ℕ) → (counters_parts self.now).has w ps →
+            Pairwise (counters_parts self.now).same ps made.items → IfOk result (IsShownSo (counters_ways self.now) w) }
+    {
         let first = made.get(0).copied().unwrap_or(0);
         let second = made.get(1).copied().unwrap_or(0);
         Ok(Tally { first, second })
