@@ -11,6 +11,7 @@ pub mod FlagLines
 pub mod GivingBack
 pub mod GoingOn
 pub mod HandlesAnswered
+pub mod Joining
 pub mod LeftAlike
 pub mod LikeCore
 pub mod LineBegins

@@ -23,11 +23,6 @@ use Rattle.gt_explore_moves.specs.declared.scene.SearchContext.{SearchContext}
 use Rattle.gt_explore_moves.specs.declared.scene.SearchState.{SearchState}
 use Rattle.gt_explore_search.specs.Ways.{IsShownSo}
 use Rattle.gt_explore_state.proofs.Copying.{pages-shown-again, tables-shown-again}
-use Rattle.gt_explore_moves.proofs.Copying.{actors-step}
-
--- a loop's step
-pub both-actors : (xs ys : List Actor) (i : ℕ) (x y : Actor) → i < length xs → i < length ys → SameActors (take i xs) (take i ys) → x ≡ get_or xs i x → y ≡ get_or ys i y → SameActor x y → SameActors (take (i + 1) xs) (take (i + 1) ys)
-both-actors xs ys i x y within also a is be b = actors-step xs (take i ys) (take (i + 1) ys) i x y within a is b (take_more ys i y also ∙ ap (λ (z : Actor). take i ys ++ z ∷ []) (sym be))
 
 same-many : (xs ys : List Actor) → SameActors xs ys → length ys ≡ length xs
 same-many [] [] a = refl

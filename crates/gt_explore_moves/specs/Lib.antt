@@ -4,6 +4,7 @@ pub mod Continuing
 pub mod Copies
 pub mod Ends
 pub mod Mappings
+pub mod Parts
 pub mod Placing
 pub mod Prelude
 pub mod Renaming

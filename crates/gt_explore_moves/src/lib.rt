@@ -15,10 +15,11 @@
 
 mod actor;
 mod calls;
-mod keys;
+mod digests;
 mod moves;
 mod names;
 mod partial;
+mod parts;
 mod phases;
 mod same;
 mod same_steps;

@@ -1,72 +1,84 @@
-//! The bytes of a key for the phase of an open call.
+//! The digest of the phase of an open call.
 use gt_calls::{AccessPath, CallPins, CallResult, HeldPin, Leg, LegPhase, Phase, PinPurpose};
-use gt_script_lines::Text;
-use gt_text::push_denial;
 use gt_types::{Dir, Facts};
-use std::alloc::AllocError;
 
-/// Appends a number as eight bytes, little-endian.
-pub fn push(key: &mut Vec<u8>, number: u64) -> Result<(), AllocError> {
-    key.extend_from_slice(&number.to_le_bytes())
+/// A digest of the numbers that were mixed into it (FNV-1a), so that different parts rarely share one.
+#[derive(Drop)]
+pub struct Digest {
+    pub value: u64,
 }
 
-/// Appends a pin: its entry and direction, the bodies of that entry, and the word from which it was taken.
-pub fn push_held(key: &mut Vec<u8>, held: &HeldPin) -> Result<(), AllocError> {
+impl Digest {
+    /// Makes a digest of nothing.
+    pub fn new() -> Digest {
+        Digest {
+            value: 0xcbf2_9ce4_8422_2325,
+        }
+    }
+
+    /// Mixes a number into it.
+    pub fn mix(&mut self, number: u64) {
+        self.value = (self.value ^ number).wrapping_mul(0x0000_0100_0000_01b3);
+    }
+}
+
+/// Mixes in a pin: its entry and direction, the bodies of that entry, and the word from which it was taken.
+pub fn mix_held(digest: &mut Digest, held: &HeldPin) {
     let writes = matches!(held.dir, Dir::Write);
-    push(key, u64::from(held.dom.0) * 2 + u64::from(writes))?;
-    push(key, u64::from(held.gref.0))?;
-    push(key, held.entry.first_body())?;
-    push(key, held.entry.second_body())?;
-    push(key, held.word)
+    digest.mix(u64::from(held.dom.0) * 2 + u64::from(writes));
+    digest.mix(u64::from(held.gref.0));
+    digest.mix(held.entry.first_body());
+    digest.mix(held.entry.second_body());
+    digest.mix(held.word)
 }
 
-fn push_via(key: &mut Vec<u8>, via: Option<&HeldPin>) -> Result<(), AllocError> {
+fn mix_via(digest: &mut Digest, via: Option<&HeldPin>) {
     match via {
-        None => push(key, 0),
+        None => digest.mix(0),
         Some(held) => {
-            push(key, 1)?;
-            push_held(key, held)
+            digest.mix(1);
+            mix_held(digest, held)
         }
     }
 }
 
-fn push_route(key: &mut Vec<u8>, route: &AccessPath) -> Result<(), AllocError> {
+fn mix_route(digest: &mut Digest, route: &AccessPath) {
     match route {
-        AccessPath::Own => push(key, 0),
+        AccessPath::Own => digest.mix(0),
         AccessPath::Direct(held) => {
-            push(key, 1)?;
-            push_held(key, held)
+            digest.mix(1);
+            mix_held(digest, held)
         }
         AccessPath::Through { via, held } => {
-            push(key, 2)?;
-            push_held(key, via)?;
-            push_held(key, held)
+            digest.mix(2);
+            mix_held(digest, via);
+            mix_held(digest, held)
         }
     }
 }
 
-fn push_pins(key: &mut Vec<u8>, pins: &CallPins) -> Result<(), AllocError> {
-    push_route(key, &pins.source)?;
-    push_route(key, &pins.dest)
+fn mix_pins(digest: &mut Digest, pins: &CallPins) {
+    mix_route(digest, &pins.source);
+    mix_route(digest, &pins.dest)
 }
 
-// Appends a phase of this number, with this number of tries left.
-fn push_try(key: &mut Vec<u8>, number: u8, more: u8) -> Result<(), AllocError> {
-    push(key, u64::from(number) * 256 + u64::from(more))
+// Mixes in a phase of this number, with this number of tries left.
+fn mix_try(digest: &mut Digest, number: u8, more: u8) {
+    digest.mix(u64::from(number) * 256 + u64::from(more))
 }
 
-fn push_leg_phase(key: &mut Vec<u8>, at: &LegPhase) -> Result<(), AllocError> {
+fn mix_leg_phase(digest: &mut Digest, at: &LegPhase) {
     match at {
-        LegPhase::Header => push(key, 0),
-        LegPhase::Look { more } => push_try(key, 1, *more),
+        LegPhase::Header => digest.mix(0),
+        LegPhase::Look { more } => mix_try(digest, 1, *more),
         LegPhase::Body { more, word } => {
-            push_try(key, 2, *more)?;
-            push(key, *word)
+            mix_try(digest, 2, *more);
+            digest.mix(*word)
         }
         LegPhase::Second { more, word, body } => {
-            push_try(key, 3, *more)?;
-            push(key, *word)?;
-            push(key, *body)
+            mix_try(digest, 3, *more);
+            digest.mix(*word);
+            digest.mix(*body)
         }
         LegPhase::Pinning {
             more,
@@ -74,93 +86,90 @@ fn push_leg_phase(key: &mut Vec<u8>, at: &LegPhase) -> Result<(), AllocError> {
             body,
             second,
         } => {
-            push_try(key, 4, *more)?;
-            push(key, *word)?;
-            push(key, *body)?;
-            push(key, *second)
+            mix_try(digest, 4, *more);
+            digest.mix(*word);
+            digest.mix(*body);
+            digest.mix(*second)
         }
         LegPhase::Relook { more, word, rule } => {
-            push_try(key, 5, *more)?;
-            push(key, *word)?;
-            push(key, u64::from(rule.number()))
+            mix_try(digest, 5, *more);
+            digest.mix(*word);
+            digest.mix(u64::from(rule.number()))
         }
     }
 }
 
-fn push_aim(key: &mut Vec<u8>, aim: &PinPurpose) -> Result<(), AllocError> {
+fn mix_aim(digest: &mut Digest, aim: &PinPurpose) {
     match aim {
-        PinPurpose::Mapping => push(key, 0),
+        PinPurpose::Mapping => digest.mix(0),
         PinPurpose::Source { via, .. } => {
-            push(key, 1)?;
-            push_via(key, via.as_ref())
+            digest.mix(1);
+            mix_via(digest, via.as_ref())
         }
         PinPurpose::Dest { source, via, .. } => {
-            push(key, 2)?;
-            push_route(key, source)?;
-            push_via(key, via.as_ref())
+            digest.mix(2);
+            mix_route(digest, source);
+            mix_via(digest, via.as_ref())
         }
     }
 }
 
-fn push_leg(key: &mut Vec<u8>, leg: &Leg) -> Result<(), AllocError> {
-    push(key, u64::from(leg.grantee.0))?;
-    push(key, u64::from(leg.dom.0))?;
-    push(key, u64::from(leg.gref.0))
+fn mix_leg(digest: &mut Digest, leg: &Leg) {
+    digest.mix(u64::from(leg.grantee.0));
+    digest.mix(u64::from(leg.dom.0));
+    digest.mix(u64::from(leg.gref.0))
 }
 
-// Appends the types that a refusal by the policy is about.
-fn push_types(key: &mut Vec<u8>, facts: Facts) -> Result<(), AllocError> {
+// Mixes in the types that a refusal by the policy is about.
+fn mix_types(digest: &mut Digest, facts: Facts) {
     match facts {
         Facts::Policy { source, target, .. } => {
-            push(key, u64::from(source.0) + 1)?;
-            push(key, u64::from(target.0))
+            digest.mix(u64::from(source.0) + 1);
+            digest.mix(u64::from(target.0))
         }
-        _ => push(key, 0),
+        _ => digest.mix(0),
     }
 }
 
-// Appends the verdict with which a call will end, if it is a refusal.
-fn push_verdict(key: &mut Vec<u8>, verdict: CallResult) -> Result<(), AllocError> {
-    let names: &[Text] = &[];
+// Mixes in the verdict with which a call will end, if it is a refusal.
+fn mix_verdict(digest: &mut Digest, verdict: CallResult) {
     match verdict {
         CallResult::Refused(denial) => {
-            push(key, 1)?;
-            push_types(key, denial.facts)?;
-            push_denial(key, names, denial)?;
-            push(key, 0)
+            digest.mix(u64::from(denial.rule.number()));
+            mix_types(digest, denial.facts)
         }
-        _ => push(key, 0),
+        _ => digest.mix(0),
     }
 }
 
-/// Appends what an open call has left to do. What follows from its line is left out.
-pub fn push_phase(key: &mut Vec<u8>, phase: &Phase) -> Result<(), AllocError> {
+/// Mixes in what an open call has left to do. What follows from its line is left out.
+pub fn mix_phase(digest: &mut Digest, phase: &Phase) {
     match phase {
-        Phase::Storing { .. } => push(key, 1),
-        Phase::StoringSecond { .. } => push(key, 2),
-        Phase::Exchanging { .. } => push(key, 3),
-        Phase::Looking { more, .. } => push_try(key, 4, *more),
+        Phase::Storing { .. } => digest.mix(1),
+        Phase::StoringSecond { .. } => digest.mix(2),
+        Phase::Exchanging { .. } => digest.mix(3),
+        Phase::Looking { more, .. } => mix_try(digest, 4, *more),
         Phase::Changing { more, looked, .. } => {
-            push_try(key, 5, *more)?;
-            push(key, *looked)
+            mix_try(digest, 5, *more);
+            digest.mix(*looked)
         }
         Phase::Walking { aim, leg, at } => {
-            push(key, 6)?;
-            push_aim(key, aim)?;
-            push_leg(key, leg)?;
-            push_leg_phase(key, at)
+            digest.mix(6);
+            mix_aim(digest, aim);
+            mix_leg(digest, leg);
+            mix_leg_phase(digest, at)
         }
         Phase::Accessing { source, dest, .. } => {
-            push(key, 7)?;
-            push_route(key, source)?;
-            push_route(key, dest)
+            digest.mix(7);
+            mix_route(digest, source);
+            mix_route(digest, dest)
         }
-        Phase::Asking { .. } => push(key, 8),
-        Phase::Last { .. } => push(key, 9),
+        Phase::Asking { .. } => digest.mix(8),
+        Phase::Last { .. } => digest.mix(9),
         Phase::Ending { pins, verdict } => {
-            push(key, 10)?;
-            push_pins(key, pins)?;
-            push_verdict(key, *verdict)
+            digest.mix(10);
+            mix_pins(digest, pins);
+            mix_verdict(digest, *verdict)
         }
     }
 }

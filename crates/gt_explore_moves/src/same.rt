@@ -1,14 +1,15 @@
-//! Equality of states.
+//! Equality of parts of states.
 //!
-//! Each function here returns true only for equal values, and may return false for them: the search then visits a state
-//! again.
+//! Each function here returns true only for equal values, and may return false for them: the search then keeps a part
+//! twice.
 ghost use Rattle.std.specs.Prelude.{◌≡◌, IsTrue};
-ghost use Rattle.gt_explore_moves.specs.Copies.{SameActor, SameActors, SameWorld};
+ghost use Rattle.gt_explore_moves.specs.Copies.{SameActor};
+ghost use Rattle.gt_explore_moves.specs.Parts.{SamePart};
 ghost use Rattle.gt_explore_moves.specs.Mappings.{labels_of, mapping_pins, label_bytes};
 
 use crate::actor::{Actor, ActorCall, LabelledMapping};
+use crate::parts::StatePart;
 use crate::same_steps::same_step;
-use crate::scene::SearchState;
 use gt_calls::{
     AccessPath, Call, CallPins, CallResult, CallValue, HeaderQuery, HeldPin, Leg, LegPhase,
     OpenRequest, Phase, PinPurpose,
@@ -395,39 +396,15 @@ fn same_actor(one: &Actor, other: &Actor) -> bool
         && same_open(one.open, other.open)
 }
 
-fn same_actors(one: &[Actor], other: &[Actor]) -> bool
-    ensures { IsTrue result → SameActors one.now other.now }
+/// Returns whether the parts are the same.
+pub fn same_parts(one: &StatePart, other: &StatePart) -> bool
+    ensures { IsTrue result → SamePart one.now other.now }
 {
-    if one.len() != other.len() {
-        return false;
+    match (one, other) {
+        (StatePart::Flag(is_raised), StatePart::Flag(raised)) => is_raised == raised,
+        (StatePart::Domain(actor), StatePart::Domain(a)) => same_actor(actor, a),
+        (StatePart::Table(table), StatePart::Table(t)) => table.is_same(t),
+        (StatePart::Page(page), StatePart::Page(p)) => page.is_same(p),
+        _ => false,
     }
-    'actors: for at in 0..one.len() {
-        if !same_actor(&one[at], &other[at]) {
-            return false;
-        }
-    }
-    true
-}
-
-fn same_flags(one: &[bool], other: &[bool]) -> bool
-    ensures { IsTrue result → other.now ≡ one.now }
-{
-    if one.len() != other.len() {
-        return false;
-    }
-    'flags: for at in 0..one.len() {
-        if one[at] != other[at] {
-            return false;
-        }
-    }
-    true
-}
-
-/// Returns whether the states are the same.
-pub fn same_worlds(one: &SearchState, other: &SearchState) -> bool
-    ensures { IsTrue result → SameWorld one.now other.now }
-{
-    same_flags(one.told.as_slice(), other.told.as_slice())
-        && same_actors(one.actors.as_slice(), other.actors.as_slice())
-        && one.ground.is_same(&other.ground)
 }

@@ -3,7 +3,7 @@ ghost use Rattle.std.specs.Prelude.{◌≡◌, false, replicate, map, length, Al
 ghost use Rattle.gt_host.specs.Playing.{setting_of_script};
 ghost use Rattle.gt_script.specs.Contents.{contents_told};
 ghost use Rattle.gt_script.specs.RunScripts.{CanConfigure, list_of};
-ghost use Rattle.gt_explore_moves.specs.Copies.{IsFirstActor, SameActors};
+ghost use Rattle.gt_explore_moves.specs.Copies.{IsFirstActor};
 ghost use Rattle.gt_types.specs.Config.{IsWithinLimits};
 ghost use Rattle.gt_explore_state.specs.Shows.{IsSettingOf};
 
@@ -37,36 +37,6 @@ pub struct SearchState<'a> {
     pub ground: SparseState,
     /// For each flag, whether it was raised.
     pub told: Vec<bool>,
-}
-
-// Copies these domains.
-fn copy_actors<'a>(alloc: Global, actors: &[Actor<'a>]) -> Result<Vec<Actor<'a>>, AllocError>
-    ensures { IfOk result (λ v. SameActors actors.now v.items) }
-{
-    let mut copies = Vec::new(alloc);
-    'actors: for actor in actors {
-        copies.push(actor.copy(alloc)?)?;
-    }
-    Ok(copies)
-}
-
-impl<'a> SearchState<'a> {
-    ghost use Rattle.std.specs.Prelude.{IfOk};
-    ghost use Rattle.gt_explore_moves.specs.Copies.{SameWorld};
-
-    /// Copies the state.
-    pub fn copy(&self, alloc: Global) -> Result<SearchState<'a>, AllocError>
-        ensures { IfOk result (SameWorld self.now) }
-    {
-        let actors = copy_actors(alloc, self.actors.as_slice())?;
-        let ground = self.ground.copy(alloc)?;
-        let told = Vec::from_slice(alloc, self.told.as_slice())?;
-        Ok(SearchState {
-            actors,
-            ground,
-            told,
-        })
-    }
 }
 
 // Returns the domains of a script, with an index by their numbers.

@@ -97,10 +97,10 @@ pub among_noted : {W : Type 0} (ways : Ways W) (s : AnswerLists) (v : OpenNode) 
 among_noted ways s v e w p q notes (list, end, has, prints) = (list, end_more v e w list notes.ends end, has, prints)
 
 -- a list that there is was noted
-pub visit_noted : {W : Type 0} (ways : Ways W) (ex : Explorer W) (v : OpenNode) (e : ReachedList) (w : OpenNode) → Notes v e w → HasListAt ex.suffixes e.list → VisitHolds ways ex v → VisitHolds ways ex w
+pub visit_noted : {P : Type 0} (ways : Ways (Vec ℕ)) (ex : Explorer P) (v : OpenNode) (e : ReachedList) (w : OpenNode) → Notes v e w → HasListAt ex.suffixes e.list → VisitHolds ways ex v → VisitHolds ways ex w
 visit_noted ways ex v e w notes has holds = record {
   world = holds.world;
-  there = ap (λ (n : ℕ). slice_get ex.states.worlds.items n) notes.state ∙ holds.there;
+  there = ap (λ (n : ℕ). slice_get ex.states.met.keys n) notes.state ∙ holds.there;
   turns = subst (λ (t : Vec Turn). HasEnoughTurns ways holds.world t.items) (sym notes.turns) holds.turns;
   tried = λ at turn lt there p m turns q shows next goes.
       among_noted ways ex.suffixes v e w p q notes
@@ -124,7 +124,7 @@ visit_noted ways ex v e w notes has holds = record {
 among_same : {W : Type 0} (ways : Ways W) (s : AnswerLists) (ends : List ReachedList) (p r q : ways.Point) → PrintsSame ways q r → IsAmongEnds ways s ends p r → IsAmongEnds ways s ends p q
 among_same ways s ends p r q same (list, end, has, prints) = (list, end, has, λ at. sym (same at) ∙ prints at)
 
-all_found : {W : Type 0} (ways : Ways W) (ex : Explorer W) (v : OpenNode) (holds : VisitHolds ways ex v) → length v.turns.items ≤ v.next
+all_found : {P : Type 0} (ways : Ways (Vec ℕ)) (ex : Explorer P) (v : OpenNode) (holds : VisitHolds ways ex v) → length v.turns.items ≤ v.next
     → (p : ways.Point) (turns : List Turn) (q : ways.Point) → ways.shows holds.world p → GoesTo ways p turns q → IsAmongEnds ways ex.suffixes v.ends.items p q
 all_found ways ex v holds all p [] q shows goes = subst (λ (l : ways.Point). IsAmongEnds ways ex.suffixes v.ends.items p l) goes.0 (holds.over p shows goes.1)
 all_found ways ex v holds all p (turn ∷ turns) q shows goes =
@@ -136,14 +136,14 @@ all_found ways ex v holds all p (turn ∷ turns) q shows goes =
 abbrev pub node_of : OpenNode → Node
 node_of v = record { state = v.state; ends = v.ends }
 
-grew_done : {W : Type 0} (old new : Explorer W) (n : Node) → new.states ≡ old.states → new.suffixes ≡ old.suffixes → new.nodes.items ≡ old.nodes.items ++ n ∷ [] → Grew old new
+grew_done : {P : Type 0} (old new : Explorer P) (n : Node) → new.states ≡ old.states → new.suffixes ≡ old.suffixes → new.nodes.items ≡ old.nodes.items ++ n ∷ [] → Grew old new
 grew_done old new n states suffixes nodes = record {
-  worlds = no_more old.states.worlds.items new.states.worlds.items (ap (λ s. s.worlds.items) states);
+  worlds = no_more old.states.met.keys new.states.met.keys (ap (λ s. s.met.keys) states);
   nodes = (n ∷ [], nodes);
   suffixes = subst (λ (s : AnswerLists). GrowsInto old.suffixes s) (sym suffixes) (grows_same old.suffixes);
 }
 
-pub holds_done : {W : Type 0} (ways : Ways W) (old new : Explorer W) (v : OpenNode) → SearchHolds ways old → VisitHolds ways old v → length v.turns.items ≤ v.next → new.states ≡ old.states
+pub holds_done : {P : Type 0} (ways : Ways (Vec ℕ)) (old new : Explorer P) (v : OpenNode) → SearchHolds ways old → VisitHolds ways old v → length v.turns.items ≤ v.next → new.states ≡ old.states
     → new.suffixes ≡ old.suffixes → new.nodes.items ≡ old.nodes.items ++ node_of v ∷ []
     → ((state i : ℕ) → slice_get new.done.items state ≡ Some (Some i) → (slice_get old.done.items state ≡ Some (Some i)) ⊎ ((state ≡ v.state) × (i ≡ length old.nodes.items)))
     → SearchHolds ways new × Grew old new

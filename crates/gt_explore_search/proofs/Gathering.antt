@@ -3,6 +3,7 @@ use Rattle.std.proofs.Common.{◌≡◌, ◌⊎◌, ◌<◌, ◌≤◌, ℕ, zer
 use Rattle.std.proofs.Common.{arith, inl, inr}
 use Rattle.std.proofs.Common.{Option, Some, slice_get, append_assoc}
 use Rattle.std.proofs.lemmas.Option.{same_Some, slice_get_within}
+use Rattle.std.specs.Global.{Vec}
 use Rattle.gt_explore_search.specs.Lists.{HasListAt, AreWhole, GrowsInto, HasItsLine, IsLonger, line_by, rest_by}
 use Rattle.gt_explore_search.specs.Ways.{Ways, PrintsTo}
 use Rattle.gt_explore_search.specs.Exploring.{HasEnd, AllByTurn, NodeHolds, SearchHolds, Grew, VisitHolds, Notes, TurnLeads}
@@ -20,7 +21,7 @@ use Rattle.gt_explore_search.proofs.Growing.{get_grown, no_more, grew_same, grew
 use Rattle.gt_explore_search.proofs.Finding.{end_more, visit_noted}
 
 -- the ways on to the first of the lists that the other state leads to are gathered
-pub record IsGathering {W : Type 0} (ways : Ways W) (old : Explorer W) (v : OpenNode) (turn : Turn) (line : Option AnswerLine) (done : Node) (ex : Explorer W) (w : OpenNode) (i : ℕ) : Type 0 where
+pub record IsGathering {P : Type 0} (ways : Ways (Vec ℕ)) (old : Explorer P) (v : OpenNode) (turn : Turn) (line : Option AnswerLine) (done : Node) (ex : Explorer P) (w : OpenNode) (i : ℕ) : Type 0 where
   pub holds : SearchHolds ways ex
   pub grew : Grew old ex
   pub visit : VisitHolds ways ex w
@@ -30,7 +31,7 @@ pub record IsGathering {W : Type 0} (ways : Ways W) (old : Explorer W) (v : Open
   pub found : (at : ℕ) (e : ReachedList) → at < i → slice_get done.ends.items at ≡ Some e
       → (list : ℕ) × HasEnd w.ends.items list × HasListAt ex.suffixes list × IsLonger ex.suffixes line e.list list
 
-pub gathers_first : {W : Type 0} (ways : Ways W) (old : Explorer W) (v : OpenNode) (turn : Turn) (line : Option AnswerLine) (done : Node) → SearchHolds ways old → VisitHolds ways old v → IsGathering ways old v turn line done old v 0
+pub gathers_first : {P : Type 0} (ways : Ways (Vec ℕ)) (old : Explorer P) (v : OpenNode) (turn : Turn) (line : Option AnswerLine) (done : Node) → SearchHolds ways old → VisitHolds ways old v → IsGathering ways old v turn line done old v 0
 gathers_first ways old v turn line done holds visit = record {
   holds = holds;
   grew = grew_same old;
@@ -42,17 +43,17 @@ gathers_first ways old v turn line done holds visit = record {
 }
 
 -- what the turn leads to, when the search has come on
-leads_on : {W : Type 0} (ways : Ways W) (old : Explorer W) (v : OpenNode) (turn : Turn) (node : ℕ) (line : Option AnswerLine) (done : Node) (ex : Explorer W) → SearchHolds ways old → VisitHolds ways old v
+leads_on : {P : Type 0} (ways : Ways (Vec ℕ)) (old : Explorer P) (v : OpenNode) (turn : Turn) (node : ℕ) (line : Option AnswerLine) (done : Node) (ex : Explorer P) → SearchHolds ways old → VisitHolds ways old v
     → TurnLeads ways old v turn node line → slice_get old.nodes.items node ≡ Some done → Grew old ex → HasItsLine old.suffixes line
-    → (w u : W) → slice_get ex.states.worlds.items v.state ≡ Some w → slice_get ex.states.worlds.items done.state ≡ Some u
+    → (w u : Vec ℕ) → slice_get ex.states.met.keys v.state ≡ Some w → slice_get ex.states.met.keys done.state ≡ Some u
     → (p m : ways.Point) → ways.shows w p → ways.next p turn m
     → ways.shows u m × PrintsTo ways (line_by ex.suffixes line) p m
 leads_on ways old v turn node line done ex holds visit leads is grew has w u here there p m shows next =
     let one : leads.done ≡ done = same_Some leads.done done (sym leads.there ∙ is) in
     let it = holds.nodes node done is in
-    let same : visit.world ≡ w = same_Some visit.world w (sym (get_grown old.states.worlds.items ex.states.worlds.items v.state visit.world grew.worlds visit.there) ∙ here) in
-    let other : it.world ≡ u = same_Some it.world u (sym (get_grown old.states.worlds.items ex.states.worlds.items done.state it.world grew.worlds it.there) ∙ there) in
-    let led = leads.leads visit.world it.world visit.there (ap (λ (n : Node). slice_get old.states.worlds.items n.state) one ∙ it.there) p m
+    let same : visit.world ≡ w = same_Some visit.world w (sym (get_grown old.states.met.keys ex.states.met.keys v.state visit.world grew.worlds visit.there) ∙ here) in
+    let other : it.world ≡ u = same_Some it.world u (sym (get_grown old.states.met.keys ex.states.met.keys done.state it.world grew.worlds it.there) ∙ there) in
+    let led = leads.leads visit.world it.world visit.there (ap (λ (n : Node). slice_get old.states.met.keys n.state) one ∙ it.there) p m
     (subst (λ i. ways.shows i p) (sym same) shows) next in (
       subst (λ i. ways.shows i m) other led.0,
       λ at. led.1 at ∙ ap (λ (i : List ℕ). ways.printed p at ++ i) (sym (line_kept old.suffixes ex.suffixes line at grew.suffixes has)),
@@ -74,14 +75,14 @@ less_or (suc at) (suc i) lt = by (less_or at i (omega (arith, lt)))
     by (inl less) = inl (omega (arith, less))
     by (inr same) = inr (ap suc same)
 
-abbrev with_suffixes : {W : Type 0} → Explorer W → AnswerLists → Explorer W
+abbrev with_suffixes : {P : Type 0} → Explorer P → AnswerLists → Explorer P
 with_suffixes ex t = record ex { suffixes = t }
 
 abbrev noted_of : ℕ → Option FirstTurn → ReachedList
 noted_of list onward = record { list = list; onward = onward }
 
 -- the next list was gathered
-pub gathers_more : {W : Type 0} (ways : Ways W) (old : Explorer W) (v : OpenNode) (turn : Turn) (node : ℕ) (line : Option AnswerLine) (done : Node) (ex : Explorer W) (w : OpenNode) (i : ℕ) (e : ReachedList)
+pub gathers_more : {P : Type 0} (ways : Ways (Vec ℕ)) (old : Explorer P) (v : OpenNode) (turn : Turn) (node : ℕ) (line : Option AnswerLine) (done : Node) (ex : Explorer P) (w : OpenNode) (i : ℕ) (e : ReachedList)
     (t : AnswerLists) (list : ℕ) (onward : Option FirstTurn) (u : OpenNode)
     → slice_get old.nodes.items node ≡ Some done → HasItsLine ex.suffixes line → IsGathering ways old v turn line done ex w i → slice_get done.ends.items i ≡ Some e → GrowsInto ex.suffixes t → (HasListAt ex.suffixes e.list → HasListAt t list)
     → (AreWhole ex.suffixes → HasListAt ex.suffixes e.list → IsLonger t line e.list list)
@@ -99,7 +100,7 @@ gathers_more ways old v turn node line done ex w i e t list onward u is line_on 
   where
     on : Grew ex (with_suffixes ex t)
     on = record {
-      worlds = no_more ex.states.worlds.items _ refl;
+      worlds = no_more ex.states.met.keys _ refl;
       nodes = no_more ex.nodes.items _ refl;
       suffixes = grows;
     }
@@ -149,7 +150,7 @@ gathers_more ways old v turn node line done ex w i e t list onward u is line_on 
             )
 
 -- all were gathered
-pub gathers_all : {W : Type 0} (ways : Ways W) (old : Explorer W) (v : OpenNode) (turn : Turn) (node : ℕ) (line : Option AnswerLine) (done : Node) (ex : Explorer W) (w : OpenNode) (i : ℕ)
+pub gathers_all : {P : Type 0} (ways : Ways (Vec ℕ)) (old : Explorer P) (v : OpenNode) (turn : Turn) (node : ℕ) (line : Option AnswerLine) (done : Node) (ex : Explorer P) (w : OpenNode) (i : ℕ)
     → SearchHolds ways old → VisitHolds ways old v → TurnLeads ways old v turn node line → slice_get old.nodes.items node ≡ Some done → HasItsLine old.suffixes line
     → length done.ends.items ≤ i → IsGathering ways old v turn line done ex w i → Gathered ways old v turn ex w
 gathers_all ways old v turn node line done ex w i first visit leads is line_is all gathers = record {
@@ -167,7 +168,7 @@ gathers_all ways old v turn node line done ex w i first visit leads is line_is a
     found : AllByTurn ways ex.suffixes gathers.visit.world w.ends.items turn
     found = λ p m turns q shows next goes.
         let led = leads_on ways old v turn node line done ex first visit leads is gathers.grew line_is gathers.visit.world it.world
-        (ap (λ (n : ℕ). slice_get ex.states.worlds.items n) (sym gathers.state) ∙ gathers.visit.there) it.there p m shows next in
+        (ap (λ (n : ℕ). slice_get ex.states.met.keys n) (sym gathers.state) ∙ gathers.visit.there) it.there p m shows next in
         let (old_list, (at, e, there, same), has, prints) = it.finds m turns q led.0 goes in
         let within = slice_get_within done.ends.items at e there in
         let (list, end, also, longer) = gathers.found at e (omega (arith, within, all)) there in (

@@ -2,5 +2,6 @@ pub mod Finding
 pub mod Gathering
 pub mod Growing
 pub mod Listing
+pub mod Numbering
 pub mod Trying
 pub mod Partial

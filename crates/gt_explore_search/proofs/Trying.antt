@@ -33,24 +33,24 @@ use Rattle.gt_explore_search.proofs.Growing.{get_kept, get_grown, no_more, grew_
 
 -- stacks
 
-pub each_on : {W : Type 0} (ways : Ways W) (old new : Explorer W) (stack : List OpenNode) → AreWhole old.suffixes → Grew old new → EachVisitHolds ways old stack → EachVisitHolds ways new stack
+pub each_on : {P : Type 0} (ways : Ways (Vec ℕ)) (old new : Explorer P) (stack : List OpenNode) → AreWhole old.suffixes → Grew old new → EachVisitHolds ways old stack → EachVisitHolds ways new stack
 each_on ways old new stack whole grew each = λ i v there. visit_on ways old new v whole grew (each i v there)
 
-pub each_push : {W : Type 0} (ways : Ways W) (ex : Explorer W) (stack new : List OpenNode) (v : OpenNode) → new ≡ stack ++ v ∷ [] → EachVisitHolds ways ex stack → VisitHolds ways ex v → EachVisitHolds ways ex new
+pub each_push : {P : Type 0} (ways : Ways (Vec ℕ)) (ex : Explorer P) (stack new : List OpenNode) (v : OpenNode) → new ≡ stack ++ v ∷ [] → EachVisitHolds ways ex stack → VisitHolds ways ex v → EachVisitHolds ways ex new
 each_push ways ex stack new v is each holds = λ i w there. by i w (last_or stack v w i (ap (λ (l : List OpenNode). slice_get l i) (sym is) ∙ there))
   where
     by : (i : ℕ) (w : OpenNode) → (slice_get stack i ≡ Some w) ⊎ ((w ≡ v) × (i ≡ length stack)) → VisitHolds ways ex w
     by i w (inl was) = each i w was
     by i w (inr (one, place)) = subst (λ (u : OpenNode). VisitHolds ways ex u) (sym one) holds
 
-pub each_pop : {W : Type 0} (ways : Ways W) (ex : Explorer W) (old new : List OpenNode) (v : OpenNode) → old ≡ new ++ v ∷ [] → EachVisitHolds ways ex old → EachVisitHolds ways ex new × VisitHolds ways ex v
+pub each_pop : {P : Type 0} (ways : Ways (Vec ℕ)) (ex : Explorer P) (old new : List OpenNode) (v : OpenNode) → old ≡ new ++ v ∷ [] → EachVisitHolds ways ex old → EachVisitHolds ways ex new × VisitHolds ways ex v
 each_pop ways ex old new v is each = (
   λ i w there. each i w (ap (λ (l : List OpenNode). slice_get l i) is ∙ get_kept new (v ∷ []) i w there),
   each (length new) v (ap (λ (l : List OpenNode). slice_get l (length new)) is ∙ at_last new v),
 )
 
 -- a turn more was tried
-pub tries_more : {W : Type 0} (ways : Ways W) (ex : Explorer W) (v : OpenNode) (turn : Turn) (next : ℕ) (holds : VisitHolds ways ex v) → next ≤ v.next + 1 → slice_get v.turns.items v.next ≡ Some turn
+pub tries_more : {P : Type 0} (ways : Ways (Vec ℕ)) (ex : Explorer P) (v : OpenNode) (turn : Turn) (next : ℕ) (holds : VisitHolds ways ex v) → next ≤ v.next + 1 → slice_get v.turns.items v.next ≡ Some turn
     → AllByTurn ways ex.suffixes holds.world v.ends.items turn → VisitHolds ways ex (record v { next = next })
 tries_more ways ex v turn next holds le there found = record {
   world = holds.world;
@@ -71,8 +71,8 @@ tries_more ways ex v turn next holds le there found = record {
 -- a move
 
 -- it leads nowhere, so the domain has no move
-pub steps_nowhere : {W : Type 0} (ways : Ways W) (ex : Explorer W) (v : OpenNode) (turn : Turn) (here copied moved : W) (led : TurnResult) (next : ℕ) → SearchHolds ways ex → VisitHolds ways ex v
-    → slice_get v.turns.items v.next ≡ Some turn → slice_get ex.states.worlds.items v.state ≡ Some here → IsShownSo ways here copied → MovesTo ways copied turn led moved → led ≡ leds.Nowhere
+pub steps_nowhere : {P : Type 0} (ways : Ways (Vec ℕ)) (ex : Explorer P) (v : OpenNode) (turn : Turn) (here copied moved : Vec ℕ) (led : TurnResult) (next : ℕ) → SearchHolds ways ex → VisitHolds ways ex v
+    → slice_get v.turns.items v.next ≡ Some turn → slice_get ex.states.met.keys v.state ≡ Some here → IsShownSo ways here copied → MovesTo ways copied turn led moved → led ≡ leds.Nowhere
     → next ≤ v.next + 1 → Stepped ways ex (record v { next = next }) None ex
 steps_nowhere ways ex v turn here copied moved led next holds visit at there copies moves nowhere le = record {
   holds = holds;
@@ -84,31 +84,31 @@ steps_nowhere ways ex v turn here copied moved led next holds visit at there cop
 }
 
 -- the search after the line of a move was numbered
-line_on : {W : Type 0} (ways : Ways W) (old new : Explorer W) (place : ℕ) (led : TurnResult) (line : Option AnswerLine) → IsLineOf old place led line new → SearchHolds ways old → SearchHolds ways new × Grew old new
+line_on : {P : Type 0} (ways : Ways (Vec ℕ)) (old new : Explorer P) (place : ℕ) (led : TurnResult) (line : Option AnswerLine) → IsLineOf old place led line new → SearchHolds ways old → SearchHolds ways new × Grew old new
 line_on ways old new place led line is holds = (holds_on ways old new grew (ap (λ n. n.items) is.nodes) (λ state i so. ap (λ d. slice_get d.items state) (sym is.done) ∙ so) holds, grew)
   where
     grew : Grew old new
     grew = record {
-      worlds = no_more old.states.worlds.items new.states.worlds.items (ap (λ s. s.worlds.items) is.states);
+      worlds = no_more old.states.met.keys new.states.met.keys (ap (λ s. s.met.keys) is.states);
       nodes = no_more old.nodes.items new.nodes.items (ap (λ n. n.items) is.nodes);
       suffixes = is.suffixes;
     }
 
 -- the search after a state was numbered
-abbrev pub with_states : {W : Type 0} → Explorer W → StateIndex W → Explorer W
+abbrev pub with_states : {P : Type 0} → Explorer P → StateIndex P → Explorer P
 with_states ex states = record ex { states = states }
 
 numbered_more : {W : Type 0} (ways : Ways W) (old : List W) (w : W) (n : ℕ) (new : List W) → IsNumbered ways old w n new → (more : List W) × (new ≡ old ++ more)
 numbered_more ways old w n new (inl was) = no_more old new was.0
 numbered_more ways old w n new (inr next) = (w ∷ [], next.1)
 
-numbered_on : {W : Type 0} (ways : Ways W) (old : Explorer W) (states : StateIndex W) (w : W) (n : ℕ) → IsNumbered ways old.states.worlds.items w n states.worlds.items → SearchHolds ways old
+numbered_on : {P : Type 0} (ways : Ways (Vec ℕ)) (old : Explorer P) (states : StateIndex P) (w : Vec ℕ) (n : ℕ) → IsNumbered ways old.states.met.keys w n states.met.keys → SearchHolds ways old
     → SearchHolds ways (with_states old states) × Grew old (with_states old states)
 numbered_on ways old states w n is holds = (holds_on ways old (with_states old states) grew refl (λ state i so. so) holds, grew)
   where
     grew : Grew old (with_states old states)
     grew = record {
-      worlds = numbered_more ways old.states.worlds.items w n states.worlds.items is;
+      worlds = numbered_more ways old.states.met.keys w n states.met.keys is;
       nodes = no_more old.nodes.items _ refl;
       suffixes = grows_same old.suffixes;
     }
@@ -133,8 +133,8 @@ fits_prints ways leds.On place p q fits = λ at. fits at ∙ ap (λ (l : List �
 fits_prints ways (leds.Answered line) place p q fits = fits
 
 -- it leads to a state that is new
-pub steps_new : {W : Type 0} (ways : Ways W) (old mid : Explorer W) (states : StateIndex W) (v : OpenNode) (turn : Turn) (moved : W) (led : TurnResult) (line : Option AnswerLine) (state : ℕ) (new : Explorer W) (deeper : OpenNode)
-    → SearchHolds ways old → VisitHolds ways old v → IsLineOf old turn.place led line mid → IsNumbered ways mid.states.worlds.items moved state states.worlds.items
+pub steps_new : {P : Type 0} (ways : Ways (Vec ℕ)) (old mid : Explorer P) (states : StateIndex P) (v : OpenNode) (turn : Turn) (moved : Vec ℕ) (led : TurnResult) (line : Option AnswerLine) (state : ℕ) (new : Explorer P) (deeper : OpenNode)
+    → SearchHolds ways old → VisitHolds ways old v → IsLineOf old turn.place led line mid → IsNumbered ways mid.states.met.keys moved state states.met.keys
     → (SearchHolds ways (with_states mid states) → SearchHolds ways new × Grew (with_states mid states) new × VisitHolds ways new deeper) → Stepped ways old v (Some deeper) new
 steps_new ways old mid states v turn moved led line state new deeper holds visit lines numbers visits =
     let first = line_on ways old mid turn.place led line lines holds in
@@ -144,10 +144,10 @@ steps_new ways old mid states v turn moved led line state new deeper holds visit
     record { holds = third.0; grew = grew; visit = visit_on ways old new v holds.whole grew visit; deeper = third.2 }
 
 -- it leads to a state that is done
-pub steps_on : {W : Type 0} (ways : Ways W) (old mid : Explorer W) (states : StateIndex W) (v : OpenNode) (turn : Turn) (here copied moved : W) (led : TurnResult) (line : Option AnswerLine) (state node : ℕ) (new : Explorer W)
+pub steps_on : {P : Type 0} (ways : Ways (Vec ℕ)) (old mid : Explorer P) (states : StateIndex P) (v : OpenNode) (turn : Turn) (here copied moved : Vec ℕ) (led : TurnResult) (line : Option AnswerLine) (state node : ℕ) (new : Explorer P)
     (w : OpenNode) (next : ℕ)
-    → SearchHolds ways old → VisitHolds ways old v → slice_get v.turns.items v.next ≡ Some turn → slice_get old.states.worlds.items v.state ≡ Some here → IsShownSo ways here copied
-    → MovesTo ways copied turn led moved → IsLineOf old turn.place led line mid → IsNumbered ways mid.states.worlds.items moved state states.worlds.items
+    → SearchHolds ways old → VisitHolds ways old v → slice_get v.turns.items v.next ≡ Some turn → slice_get old.states.met.keys v.state ≡ Some here → IsShownSo ways here copied
+    → MovesTo ways copied turn led moved → IsLineOf old turn.place led line mid → IsNumbered ways mid.states.met.keys moved state states.met.keys
     → slice_get mid.done.items state ≡ Some (Some node)
     → (SearchHolds ways (with_states mid states) → VisitHolds ways (with_states mid states) v → TurnLeads ways (with_states mid states) v turn node line
     → Gathered ways (with_states mid states) v turn new w)
@@ -183,10 +183,10 @@ steps_on ways old mid states v turn here copied moved led line state node new w 
           done = it.0;
           there = it.1;
           leads = λ own other first_there other_there p m shows comes.
-              let same : own ≡ here = same_Some own here (sym first_there ∙ get_grown old.states.worlds.items states.worlds.items v.state here both.worlds there) in
+              let same : own ≡ here = same_Some own here (sym first_there ∙ get_grown old.states.met.keys states.met.keys v.state here both.worlds there) in
               let moved_so = moves p m (copies p (subst (λ i. ways.shows i p) same shows)) comes in (
-                shown_at ways mid.states.worlds.items moved state states.worlds.items other numbers
-                    (ap (λ (n : ℕ). slice_get states.worlds.items n) (sym it.2) ∙ other_there) m moved_so.1,
+                shown_at ways mid.states.met.keys moved state states.met.keys other numbers
+                    (ap (λ (n : ℕ). slice_get states.met.keys n) (sym it.2) ∙ other_there) m moved_so.1,
                 λ at. fits_prints ways led turn.place p m moved_so.0 at ∙ ap (λ (l : List ℕ). ways.printed p at ++ l) (sym (lines.printed at)),
               );
         }
@@ -194,15 +194,15 @@ steps_on ways old mid states v turn here copied moved led line state node new w 
 -- a new state
 
 -- the search after one more state is not done
-abbrev pub with_done : {W : Type 0} → Explorer W → Vec (Option ℕ) → Explorer W
+abbrev pub with_done : {P : Type 0} → Explorer P → Vec (Option ℕ) → Explorer P
 with_done ex done = record ex { done = done }
 
-done_on : {W : Type 0} (ways : Ways W) (old : Explorer W) (done : Vec (Option ℕ)) → done.items ≡ old.done.items ++ None ∷ [] → SearchHolds ways old → SearchHolds ways (with_done old done) × Grew old (with_done old done)
+done_on : {P : Type 0} (ways : Ways (Vec ℕ)) (old : Explorer P) (done : Vec (Option ℕ)) → done.items ≡ old.done.items ++ None ∷ [] → SearchHolds ways old → SearchHolds ways (with_done old done) × Grew old (with_done old done)
 done_on ways old done is holds = (holds_on ways old (with_done old done) grew refl (λ state i so. by state i (last_or old.done.items None (Some i) state (ap (λ (l : List (Option ℕ)). slice_get l state) (sym is) ∙ so))) holds, grew)
   where
     grew : Grew old (with_done old done)
     grew = record {
-      worlds = no_more old.states.worlds.items _ refl;
+      worlds = no_more old.states.met.keys _ refl;
       nodes = no_more old.nodes.items _ refl;
       suffixes = grows_same old.suffixes;
     }
@@ -218,7 +218,7 @@ below_none : (at next : ℕ) → next ≡ 0 → at < next → ⊥
 below_none at next is lt = omega (arith, is, lt)
 
 -- no domain ends there
-pub visits_on : {W : Type 0} (ways : Ways W) (old : Explorer W) (done : Vec (Option ℕ)) (v : OpenNode) (world : W) → done.items ≡ old.done.items ++ None ∷ [] → slice_get old.states.worlds.items v.state ≡ Some world
+pub visits_on : {P : Type 0} (ways : Ways (Vec ℕ)) (old : Explorer P) (done : Vec (Option ℕ)) (v : OpenNode) (world : Vec ℕ) → done.items ≡ old.done.items ++ None ∷ [] → slice_get old.states.met.keys v.state ≡ Some world
     → HasEnoughTurns ways world v.turns.items → v.next ≡ 0 → v.ends.items ≡ [] → v.lists.keys ≡ []
     → (MayEnd ways world → ⊥)
     → SearchHolds ways old → SearchHolds ways (with_done old done) × Grew old (with_done old done) × VisitHolds ways (with_done old done) v
@@ -241,8 +241,8 @@ prints_none : {W : Type 0} (ways : Ways W) (rest : ℕ → List ℕ) (p : ways.P
 prints_none ways rest p none = λ at. sym (append-nil (ways.printed p at)) ∙ ap (λ (i : List ℕ). ways.printed p at ++ i) (sym (none at))
 
 -- they may end there: the empty list was noted
-pub visits_end : {W : Type 0} (ways : Ways W) (old : Explorer W) (done : Vec (Option ℕ)) (v w : OpenNode) (onward : Option FirstTurn) (world : W) → done.items ≡ old.done.items ++ None ∷ []
-    → slice_get old.states.worlds.items v.state ≡ Some world → HasEnoughTurns ways world v.turns.items → v.next ≡ 0 → v.ends.items ≡ [] → v.lists.keys ≡ []
+pub visits_end : {P : Type 0} (ways : Ways (Vec ℕ)) (old : Explorer P) (done : Vec (Option ℕ)) (v w : OpenNode) (onward : Option FirstTurn) (world : Vec ℕ) → done.items ≡ old.done.items ++ None ∷ []
+    → slice_get old.states.met.keys v.state ≡ Some world → HasEnoughTurns ways world v.turns.items → v.next ≡ 0 → v.ends.items ≡ [] → v.lists.keys ≡ []
     → Notes v (record { list = 0; onward = onward }) w → SearchHolds ways old → SearchHolds ways (with_done old done) × Grew old (with_done old done) × VisitHolds ways (with_done old done) w
 visits_end ways old done v w onward world more there turns none ends keys notes holds =
     let it = done_on ways old done more holds in (
@@ -250,7 +250,7 @@ visits_end ways old done v w onward world more there turns none ends keys notes 
       it.1,
       record {
         world = world;
-        there = ap (λ (n : ℕ). slice_get old.states.worlds.items n) notes.state ∙ there;
+        there = ap (λ (n : ℕ). slice_get old.states.met.keys n) notes.state ∙ there;
         turns = subst (λ (t : Vec Turn). HasEnoughTurns ways world t.items) (sym notes.turns) turns;
         tried = λ at turn lt is p m more q shows comes on. absurd (below_none at w.next (notes.next ∙ none) lt);
         over = λ p shows over. (0, notes.has numbers, holds.empty.0, prints_none ways (rest_by old.suffixes 0) p holds.empty.1);
@@ -277,7 +277,7 @@ pub on_ok : {A E P Q : Type 0} (r : Result A E) → (P → Q) → OnOk r P → O
 on_ok (Ok x) so holds = so holds
 on_ok (Err e) so holds = holds
 
-pub each_first : {W : Type 0} (ways : Ways W) (ex : Explorer W) (stack new : List OpenNode) (v : OpenNode) → stack ≡ [] → new ≡ stack ++ v ∷ [] → VisitHolds ways ex v → EachVisitHolds ways ex new
+pub each_first : {P : Type 0} (ways : Ways (Vec ℕ)) (ex : Explorer P) (stack new : List OpenNode) (v : OpenNode) → stack ≡ [] → new ≡ stack ++ v ∷ [] → VisitHolds ways ex v → EachVisitHolds ways ex new
 each_first ways ex stack new v none is holds = each_push ways ex stack new v is (λ i w there. absurd (none_there stack i w none there)) holds
 
 -- the beginning of the search
@@ -286,17 +286,17 @@ first_there : {W : Type 0} (ways : Ways W) (old : List W) (w : W) (n : ℕ) (new
 first_there ways old w n new none (inl (same, (v, at, shows))) = absurd (none_there old n v none at)
 first_there ways old w n new none (inr (next, more)) = ap (λ l. slice_get l 0) (more ∙ ap (λ l. l ++ w ∷ []) none)
 
-pub starts_on : {W : Type 0} (ways : Ways W) (old : Explorer W) (states : StateIndex W) (w : W) (n : ℕ) → SearchStarts ways old → IsNumbered ways old.states.worlds.items w n states.worlds.items
-    → SearchHolds ways (with_states old states) × (slice_get states.worlds.items 0 ≡ Some w)
+pub starts_on : {P : Type 0} (ways : Ways (Vec ℕ)) (old : Explorer P) (states : StateIndex P) (w : Vec ℕ) (n : ℕ) → SearchStarts ways old → IsNumbered ways old.states.met.keys w n states.met.keys
+    → SearchHolds ways (with_states old states) × (slice_get states.met.keys 0 ≡ Some w)
 starts_on ways old states w n starts numbers =
-    ((numbered_on ways old states w n numbers starts.holds).0, first_there ways old.states.worlds.items w n states.worlds.items starts.none numbers)
+    ((numbered_on ways old states w n numbers starts.holds).0, first_there ways old.states.met.keys w n states.met.keys starts.none numbers)
 
-pub finishes_on : {W : Type 0} (ways : Ways W) (old mid new : Explorer W) (w : W) → slice_get old.states.worlds.items 0 ≡ Some w → ShowsFirst ways w → Grew old mid → SearchHolds ways new × Grew mid new
+pub finishes_on : {P : Type 0} (ways : Ways (Vec ℕ)) (old mid new : Explorer P) (w : Vec ℕ) → slice_get old.states.met.keys 0 ≡ Some w → ShowsFirst ways w → Grew old mid → SearchHolds ways new × Grew mid new
     → SearchFinishes ways new
 finishes_on ways old mid new w there shows grew on = record {
   holds = on.0;
   first = w;
-  there = get_grown old.states.worlds.items new.states.worlds.items 0 w (grew_on old mid new grew on.1).worlds there;
+  there = get_grown old.states.met.keys new.states.met.keys 0 w (grew_on old mid new grew on.1).worlds there;
   shows = shows;
 }
 
@@ -311,7 +311,7 @@ whole_text : {W : Type 0} (ways : Ways W) (rest : ℕ → List ℕ) (p q : ways.
 whole_text ways rest p q begins prints =
     same_texts (ways.printed q) rest 0 ways.domains (λ at. prints at ∙ ap (λ (i : List ℕ). i ++ rest at) (ways.blank p begins at))
 
-pub text_found : {W : Type 0} (ways : Ways W) (ex : Explorer W) (over : SearchFinishes ways ex) (node : ℕ) (found : SearchResult) → slice_get ex.done.items 0 ≡ Some (Some node)
+pub text_found : {P : Type 0} (ways : Ways (Vec ℕ)) (ex : Explorer P) (over : SearchFinishes ways ex) (node : ℕ) (found : SearchResult) → slice_get ex.done.items 0 ≡ Some (Some node)
     → ((n : Node) (at : ℕ) (e : ReachedList) → slice_get ex.nodes.items node ≡ Some n → slice_get n.ends.items at ≡ Some e → HasListAt ex.suffixes e.list
     → (o : FoundText) × (slice_get found.orders.items at ≡ Some o) × (o.text.items ≡ flat_map (rest_by ex.suffixes e.list) (range_with_len 0 ways.domains)))
     → AllTextsFound ways found
@@ -319,7 +319,7 @@ text_found ways ex over node found first orders = λ p turns q begins goes.
     let it = over.holds.done 0 node first in
     let n = it.0 in
     let holds = over.holds.nodes node n it.1 in
-    let same : holds.world ≡ over.first = same_Some holds.world over.first (sym holds.there ∙ ap (λ (i : ℕ). slice_get ex.states.worlds.items i) it.2 ∙ over.there) in
+    let same : holds.world ≡ over.first = same_Some holds.world over.first (sym holds.there ∙ ap (λ (i : ℕ). slice_get ex.states.met.keys i) it.2 ∙ over.there) in
     let (list, (at, e, there, is), has, prints) = holds.finds p turns q (subst (λ i. ways.shows i p) (sym same) (over.shows p begins)) goes in
     let o = orders n at e it.1 there (holds.lists at e there) in (
       at,

@@ -1,7 +1,9 @@
 -- The knowledge of a search about the states that it has met.
 use Rattle.std.specs.Prelude.{◌≡◌, ◌⊎◌, ◌++◌, ◌<◌, ℕ, List, [], ◌∷◌, map, length, Option, Some, slice_get, IfSome}
+use Rattle.std.specs.Global.{Vec}
 use Rattle.gt_explore_replay.specs.declared.replay.Turn.{Turn}
 use Rattle.gt_explore_search.specs.Lists.{HasListAt, AreWhole, GrowsInto, IsEmptyList, HasItsLine, line_by, rest_by}
+use Rattle.gt_explore_search.specs.Parts.{Extends}
 use Rattle.gt_explore_search.specs.Ways.{Ways, GoesTo, HasEnoughTurns, IsShownSo, PrintsTo, ShowsFirst, only_at, text_at, text_led}
 use Rattle.gt_explore_search.specs.declared.exploring.ReachedList.{ReachedList}
 use Rattle.gt_explore_search.specs.declared.exploring.Explorer.{Explorer}
@@ -53,14 +55,14 @@ AllHaveLists s ends = (at : ℕ) (e : ReachedList) → slice_get ends at ≡ Som
 -- searches
 
 -- a state is done: the runs onward from it are found
-pub record NodeHolds {W : Type 0} (ways : Ways W) (ex : Explorer W) (n : Node) : Type 0 where
-  pub world : W
-  pub there : slice_get ex.states.worlds.items n.state ≡ Some world
+pub record NodeHolds {P : Type 0} (ways : Ways (Vec ℕ)) (ex : Explorer P) (n : Node) : Type 0 where
+  pub world : Vec ℕ
+  pub there : slice_get ex.states.met.keys n.state ≡ Some world
   pub finds : AllAreFound ways ex.suffixes world n.ends.items
   pub lists : AllHaveLists ex.suffixes n.ends.items
 
 -- the invariant of a search
-pub record SearchHolds {W : Type 0} (ways : Ways W) (ex : Explorer W) : Type 0 where
+pub record SearchHolds {P : Type 0} (ways : Ways (Vec ℕ)) (ex : Explorer P) : Type 0 where
   pub whole : AreWhole ex.suffixes
   pub empty : IsEmptyList ex.suffixes 0
   pub nodes : (i : ℕ) (n : Node) → slice_get ex.nodes.items i ≡ Some n → NodeHolds ways ex n
@@ -68,15 +70,19 @@ pub record SearchHolds {W : Type 0} (ways : Ways W) (ex : Explorer W) : Type 0 w
       → (n : Node) × (slice_get ex.nodes.items i ≡ Some n) × (n.state ≡ state)
 
 -- a search has advanced: what there was is still there
-pub record Grew {W : Type 0} (old new : Explorer W) : Type 0 where
-  pub worlds : (more : List W) × (new.states.worlds.items ≡ old.states.worlds.items ++ more)
+pub record Grew {P : Type 0} (old new : Explorer P) : Type 0 where
+  pub worlds : (more : List (Vec ℕ)) × (new.states.met.keys ≡ old.states.met.keys ++ more)
   pub nodes : (more : List Node) × (new.nodes.items ≡ old.nodes.items ++ more)
   pub suffixes : GrowsInto old.suffixes new.suffixes
 
+-- there may be more parts now; the earlier ones are unchanged
+abbrev pub PartsGrew : {P : Type 0} → Explorer P → Explorer P → Type 0
+PartsGrew old new = Extends old.states.parts.kept.items new.states.parts.kept.items
+
 -- a state's moves are being tried: its runs onward by the turns tried so far are found
-pub record VisitHolds {W : Type 0} (ways : Ways W) (ex : Explorer W) (v : OpenNode) : Type 0 where
-  pub world : W
-  pub there : slice_get ex.states.worlds.items v.state ≡ Some world
+pub record VisitHolds {P : Type 0} (ways : Ways (Vec ℕ)) (ex : Explorer P) (v : OpenNode) : Type 0 where
+  pub world : Vec ℕ
+  pub there : slice_get ex.states.met.keys v.state ≡ Some world
   pub turns : HasEnoughTurns ways world v.turns.items
   pub tried : (at : ℕ) (turn : Turn) → at < v.next → slice_get v.turns.items at ≡ Some turn
       → AllByTurn ways ex.suffixes world v.ends.items turn
@@ -85,7 +91,7 @@ pub record VisitHolds {W : Type 0} (ways : Ways W) (ex : Explorer W) (v : OpenNo
   pub numbers : map (λ e. e.list) v.ends.items ≡ v.lists.keys
 
 -- the moves of each of these states are being tried
-abbrev pub EachVisitHolds : {W : Type 0} → Ways W → Explorer W → List OpenNode → Type 0
+abbrev pub EachVisitHolds : {P : Type 0} → Ways (Vec ℕ) → Explorer P → List OpenNode → Type 0
 EachVisitHolds ways ex stack = (i : ℕ) (v : OpenNode) → slice_get stack i ≡ Some v → VisitHolds ways ex v
 
 -- the end was noted, unless it was there
@@ -98,7 +104,7 @@ pub record Notes (v : OpenNode) (e : ReachedList) (w : OpenNode) : Type 0 where
   pub numbers : map (λ e. e.list) v.ends.items ≡ v.lists.keys → map (λ e. e.list) w.ends.items ≡ w.lists.keys
 
 -- the line is that of the answer that a move of the domain at this position gave
-pub record IsLineOf {W : Type 0} (old : Explorer W) (place : ℕ) (led : TurnResult) (made : Option AnswerLine) (new : Explorer W)
+pub record IsLineOf {P : Type 0} (old : Explorer P) (place : ℕ) (led : TurnResult) (made : Option AnswerLine) (new : Explorer P)
     : Type 0 where
   pub states : new.states ≡ old.states
   pub done : new.done ≡ old.done
@@ -108,16 +114,16 @@ pub record IsLineOf {W : Type 0} (old : Explorer W) (place : ℕ) (led : TurnRes
   pub printed : (at : ℕ) → line_by new.suffixes made at ≡ only_at place (text_led led) at
 
 -- by this turn, which prints this line, the state leads to that of this node
-pub record TurnLeads {W : Type 0} (ways : Ways W) (ex : Explorer W) (v : OpenNode) (turn : Turn) (node : ℕ)
+pub record TurnLeads {P : Type 0} (ways : Ways (Vec ℕ)) (ex : Explorer P) (v : OpenNode) (turn : Turn) (node : ℕ)
     (line : Option AnswerLine) : Type 0 where
   pub done : Node
   pub there : slice_get ex.nodes.items node ≡ Some done
-  pub leads : (w u : W) → slice_get ex.states.worlds.items v.state ≡ Some w
-      → slice_get ex.states.worlds.items done.state ≡ Some u → (p m : ways.Point) → ways.shows w p → ways.next p turn m
+  pub leads : (w u : Vec ℕ) → slice_get ex.states.met.keys v.state ≡ Some w
+      → slice_get ex.states.met.keys done.state ≡ Some u → (p m : ways.Point) → ways.shows w p → ways.next p turn m
       → ways.shows u m × PrintsTo ways (line_by ex.suffixes line) p m
 
 -- the runs onward by this turn were gathered
-pub record Gathered {W : Type 0} (ways : Ways W) (old : Explorer W) (v : OpenNode) (turn : Turn) (new : Explorer W)
+pub record Gathered {P : Type 0} (ways : Ways (Vec ℕ)) (old : Explorer P) (v : OpenNode) (turn : Turn) (new : Explorer P)
     (w : OpenNode) : Type 0 where
   pub holds : SearchHolds ways new
   pub grew : Grew old new
@@ -127,7 +133,7 @@ pub record Gathered {W : Type 0} (ways : Ways W) (old : Explorer W) (v : OpenNod
   pub found : AllByTurn ways new.suffixes visit.world w.ends.items turn
 
 -- a turn was tried, or leads to a state that is new
-pub record Stepped {W : Type 0} (ways : Ways W) (old : Explorer W) (v : OpenNode) (other : Option OpenNode) (new : Explorer W)
+pub record Stepped {P : Type 0} (ways : Ways (Vec ℕ)) (old : Explorer P) (v : OpenNode) (other : Option OpenNode) (new : Explorer P)
     : Type 0 where
   pub holds : SearchHolds ways new
   pub grew : Grew old new
@@ -137,15 +143,15 @@ pub record Stepped {W : Type 0} (ways : Ways W) (old : Explorer W) (v : OpenNode
 -- the whole search
 
 -- the search begins
-pub record SearchStarts {W : Type 0} (ways : Ways W) (ex : Explorer W) : Type 0 where
+pub record SearchStarts {P : Type 0} (ways : Ways (Vec ℕ)) (ex : Explorer P) : Type 0 where
   pub holds : SearchHolds ways ex
-  pub none : ex.states.worlds.items ≡ []
+  pub none : ex.states.met.keys ≡ []
 
 -- the search is over: the first state shows the runs that begin
-pub record SearchFinishes {W : Type 0} (ways : Ways W) (ex : Explorer W) : Type 0 where
+pub record SearchFinishes {P : Type 0} (ways : Ways (Vec ℕ)) (ex : Explorer P) : Type 0 where
   pub holds : SearchHolds ways ex
-  pub first : W
-  pub there : slice_get ex.states.worlds.items 0 ≡ Some first
+  pub first : Vec ℕ
+  pub there : slice_get ex.states.met.keys 0 ≡ Some first
   pub shows : ShowsFirst ways first
 
 -- for each run from its beginning to its end an order with the same text was found

@@ -1,3 +1,4 @@
 pub mod Exploring
 pub mod Lists
+pub mod Parts
 pub mod Ways

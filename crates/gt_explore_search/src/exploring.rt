@@ -1,7 +1,8 @@
 //! The depth-first search over the states of a space.
-ghost use Rattle.std.specs.Prelude.{◌≡◌, ◌⊎◌, ℕ, IfOk, IsTrue, slice_get, Some};
+ghost use Rattle.std.specs.Prelude.{◌≡◌, ◌⊎◌, ℕ, List, IfOk, IsTrue, slice_get, Some};
 ghost use Rattle.std.specs.Option.{option_map};
 ghost use Rattle.gt_explore_search.specs.Exploring.{AllTextsFound, SearchStarts};
+ghost use Rattle.gt_explore_search.specs.Parts.{by_numbers};
 
 use crate::fault::SearchFault;
 use crate::spaces::{TransitionSystem, TurnResult};
@@ -64,10 +65,10 @@ pub struct OpenNode {
 
 /// A search in progress. `done` has the number of the node of each state that is done.
 #[derive(Drop)]
-pub struct Explorer<W> {
+pub struct Explorer<P> {
     pub alloc: Global,
     pub limit: usize,
-    pub states: StateIndex<W>,
+    pub states: StateIndex<P>,
     pub done: Vec<Option<usize>>,
     pub nodes: Vec<Node>,
     pub suffixes: AnswerLists,
@@ -128,12 +129,13 @@ fn leads_nowhere(led: &TurnResult) -> bool
     }
 }
 
-impl<W: Drop> Explorer<W> {
-    ghost use Rattle.std.specs.Prelude.{◌≡◌, ◌≤◌, Some, IfOk, IfSome, OnOk, length, slice_get};
+impl<P: Drop> Explorer<P> {
+    ghost use Rattle.std.specs.Prelude.{◌≡◌, ◌≤◌, List, Some, IfOk, IfSome, OnOk, length, slice_get};
     ghost use Rattle.gt_explore_search.specs.Lists.{HasItsLine};
     ghost use Rattle.gt_explore_search.specs.Exploring.{SearchHolds, EachVisitHolds, VisitHolds, Grew, TurnLeads, Gathered};
     ghost use Rattle.gt_explore_search.specs.Exploring.{Stepped};
-    ghost use Rattle.gt_explore_search.specs.Exploring.{AllTextsFound, IsLineOf, SearchStarts, SearchFinishes};
+    ghost use Rattle.gt_explore_search.specs.Exploring.{AllTextsFound, IsLineOf, PartsGrew, SearchStarts, SearchFinishes};
+    ghost use Rattle.gt_explore_search.specs.Parts.{Extends, by_numbers};
 
     // Returns the number of the node of a state, if the state is done.
     fn node_of(&self, state: usize) -> Option<usize>
@@ -146,18 +148,18 @@ impl<W: Drop> Explorer<W> {
     }
 
     // Opens a state that is met for the first time. Its moves are to be tried.
-    fn visit<S: TransitionSystem<State = W>>(
+    fn visit<S: TransitionSystem<Part = P>>(
         &mut self,
         space: &S,
         state: usize,
     ) -> Result<OpenNode, SearchFault>
-        ensures holds { SearchHolds (S.ways space.now) self.old → IfOk result (λ v.
-            SearchHolds (S.ways space.now) self.new × Grew self.old self.new
-            × VisitHolds (S.ways space.now) self.new v) }
+        ensures states { OnOk result (self.new.states ≡ self.old.states) }
+        ensures holds { (all : List P) → Extends self.old.states.parts.kept.items all →
+            let ways = by_numbers (S.ways space.now) (S.parts space.now) all in
+            SearchHolds ways self.old → IfOk result (λ v.
+            SearchHolds ways self.new × Grew self.old self.new × VisitHolds ways self.new v) }
     {
-        let Some(world) = self.states.world(state) else {
-            return Err(SearchFault::States);
-        };
+        let world = self.states.state(space, state)?;
         if self.states.len() > self.limit {
             return Err(SearchFault::States);
         }
@@ -165,12 +167,12 @@ impl<W: Drop> Explorer<W> {
         self.done.push(None)?;
         let mut visit = OpenNode {
             state,
-            turns: space.turns(world)?,
+            turns: space.turns(&world)?,
             next: 0,
             lists: IndexSet::new(alloc),
             ends: Vec::new(alloc),
         };
-        if !space.is_finished(world) {
+        if !space.is_finished(&world) {
             return Ok(visit);
         }
         visit.note(0, None)?;
@@ -191,7 +193,7 @@ impl<W: Drop> Explorer<W> {
     }
 
     // Gathers the ends of a turn that led to a state that is done, and printed this line.
-    fn gather<S: TransitionSystem<State = W>>(
+    fn gather<S: TransitionSystem<Part = P>>(
         &mut self,
         _space: &S,
         visit: &mut OpenNode,
@@ -200,9 +202,11 @@ impl<W: Drop> Explorer<W> {
         line: Option<AnswerLine>,
     ) -> Result<(), AllocError>
         requires { HasItsLine self.old.suffixes line }
-        ensures { SearchHolds (S.ways _space.now) self.old → VisitHolds (S.ways _space.now) self.old visit.old →
-            TurnLeads (S.ways _space.now) self.old visit.old turn node line →
-            OnOk result (Gathered (S.ways _space.now) self.old visit.old turn self.new visit.new) }
+        ensures states { OnOk result (self.new.states ≡ self.old.states) }
+        ensures gathered { (all : List P) → let ways = by_numbers (S.ways _space.now) (S.parts _space.now) all in
+            SearchHolds ways self.old → VisitHolds ways self.old visit.old →
+            TurnLeads ways self.old visit.old turn node line →
+            OnOk result (Gathered ways self.old visit.old turn self.new visit.new) }
     {
         let Some(done) = node_at(self.nodes.as_slice(), node) else {
             return Ok(());
@@ -224,29 +228,28 @@ impl<W: Drop> Explorer<W> {
 
     // Tries this turn of the state. Returns the state that it leads to, if that is new. The turn is then tried again
     // when that state is done.
-    fn step<S: TransitionSystem<State = W>>(
+    fn step<S: TransitionSystem<Part = P>>(
         &mut self,
         space: &S,
         visit: &mut OpenNode,
         turn: Turn,
     ) -> Result<Option<OpenNode>, SearchFault>
-        ensures { SearchHolds (S.ways space.now) self.old → VisitHolds (S.ways space.now) self.old visit.old →
+        ensures grows { OnOk result (PartsGrew self.old self.new) }
+        ensures steps { (all : List P) → Extends self.new.states.parts.kept.items all →
+            let ways = by_numbers (S.ways space.now) (S.parts space.now) all in
+            SearchHolds ways self.old → VisitHolds ways self.old visit.old →
             slice_get visit.old.turns.items visit.old.next ≡ Some turn →
-            IfOk result (λ deeper. Stepped (S.ways space.now) self.old visit.new deeper self.new) }
+            IfOk result (λ deeper. Stepped ways self.old visit.new deeper self.new) }
     {
-        let Some(world) = self.states.world(visit.state) else {
-            return Err(SearchFault::States);
-        };
-        let mut world = space.copy(world)?;
+        let mut world = self.states.state(space, visit.state)?;
         let led = space.advance(&mut world, turn)?;
         if leads_nowhere(&led) {
             visit.next = visit.next.saturating_add(1);
             return Ok(None);
         }
         let line = self.line(turn.place, led)?;
-        let key = space.key(&world)?;
         let met = self.states.len();
-        let state = self.states.number(space, key, world)?;
+        let state = self.states.number(space, world)?;
         if state == met {
             return Ok(Some(self.visit(space, state)?));
         }
@@ -259,14 +262,16 @@ impl<W: Drop> Explorer<W> {
     }
 
     // Finishes a state whose moves have all been tried.
-    fn finish<S: TransitionSystem<State = W>>(
+    fn finish<S: TransitionSystem<Part = P>>(
         &mut self,
         _space: &S,
         visit: OpenNode,
     ) -> Result<(), AllocError>
-        ensures { SearchHolds (S.ways _space.now) self.old → VisitHolds (S.ways _space.now) self.old visit →
+        ensures states { OnOk result (self.new.states ≡ self.old.states) }
+        ensures holds { (all : List P) → let ways = by_numbers (S.ways _space.now) (S.parts _space.now) all in
+            SearchHolds ways self.old → VisitHolds ways self.old visit →
             length visit.turns.items ≤ visit.next →
-            OnOk result (SearchHolds (S.ways _space.now) self.new × Grew self.old self.new) }
+            OnOk result (SearchHolds ways self.new × Grew self.old self.new) }
     {
         let node = self.nodes.as_slice().len();
         let state = visit.state;
@@ -277,14 +282,17 @@ impl<W: Drop> Explorer<W> {
     }
 
     // Continues with the last of these states. Returns whether there was one.
-    fn try_next<S: TransitionSystem<State = W>>(
+    fn try_next<S: TransitionSystem<Part = P>>(
         &mut self,
         space: &S,
         stack: &mut Vec<OpenNode>,
     ) -> Result<bool, SearchFault>
-        ensures { SearchHolds (S.ways space.now) self.old → EachVisitHolds (S.ways space.now) self.old stack.old.items →
-            OnOk result (SearchHolds (S.ways space.now) self.new × Grew self.old self.new
-            × EachVisitHolds (S.ways space.now) self.new stack.new.items) }
+        ensures grows { OnOk result (PartsGrew self.old self.new) }
+        ensures holds { (all : List P) → Extends self.new.states.parts.kept.items all →
+            let ways = by_numbers (S.ways space.now) (S.parts space.now) all in
+            SearchHolds ways self.old → EachVisitHolds ways self.old stack.old.items →
+            OnOk result (SearchHolds ways self.new × Grew self.old self.new
+            × EachVisitHolds ways self.new stack.new.items) }
     {
         let Some(mut visit) = stack.pop() else {
             return Ok(false);
@@ -302,13 +310,16 @@ impl<W: Drop> Explorer<W> {
     }
 
     // Visits all states that can be reached from this one.
-    fn walk<S: TransitionSystem<State = W>>(
+    fn walk<S: TransitionSystem<Part = P>>(
         &mut self,
         space: &S,
         first: OpenNode,
     ) -> Result<(), SearchFault>
-        ensures { SearchHolds (S.ways space.now) self.old → VisitHolds (S.ways space.now) self.old first →
-            OnOk result (SearchHolds (S.ways space.now) self.new × Grew self.old self.new) }
+        ensures grows { OnOk result (PartsGrew self.old self.new) }
+        ensures holds { (all : List P) → Extends self.new.states.parts.kept.items all →
+            let ways = by_numbers (S.ways space.now) (S.parts space.now) all in
+            SearchHolds ways self.old → VisitHolds ways self.old first →
+            OnOk result (SearchHolds ways self.new × Grew self.old self.new) }
     {
         let mut stack = Vec::new(self.alloc);
         stack.push(first)?;
@@ -341,19 +352,21 @@ impl<W: Drop> Explorer<W> {
     }
 
     // Visits all states of the space.
-    fn run<S: TransitionSystem<State = W>>(&mut self, space: &S) -> Result<(), SearchFault>
-        ensures { SearchStarts (S.ways space.now) self.old → OnOk result (SearchFinishes (S.ways space.now) self.new) }
+    fn run<S: TransitionSystem<Part = P>>(&mut self, space: &S) -> Result<(), SearchFault>
+        ensures { (all : List P) → Extends self.new.states.parts.kept.items all →
+            let ways = by_numbers (S.ways space.now) (S.parts space.now) all in
+            SearchStarts ways self.old → OnOk result (SearchFinishes ways self.new) }
     {
         let world = space.start()?;
-        let key = space.key(&world)?;
-        let state = self.states.number(space, key, world)?;
+        let state = self.states.number(space, world)?;
         let first = self.visit(space, state)?;
         self.walk(space, first)
     }
 
     // Returns an order for each list of answers that the first state leads to.
-    fn found<S: TransitionSystem<State = W>>(&self, space: &S) -> Result<SearchResult, SearchFault>
-        ensures { SearchFinishes (S.ways space.now) self.now → IfOk result (AllTextsFound (S.ways space.now)) }
+    fn found<S: TransitionSystem<Part = P>>(&self, space: &S) -> Result<SearchResult, SearchFault>
+        ensures { (all : List P) → SearchFinishes (by_numbers (S.ways space.now) (S.parts space.now) all) self.now →
+            IfOk result (AllTextsFound (S.ways space.now)) }
     {
         let Some(first) = self.node_of(0) else {
             return Err(SearchFault::Circle);
@@ -378,8 +391,8 @@ fn new_explorer<S: TransitionSystem>(
     alloc: Global,
     space: &S,
     limit: usize,
-) -> Result<Explorer<S::State>, AllocError>
-    ensures { IfOk result (SearchStarts (S.ways space.now)) }
+) -> Result<Explorer<S::Part>, AllocError>
+    ensures { (all : List S.Part) → IfOk result (SearchStarts (by_numbers (S.ways space.now) (S.parts space.now) all)) }
 {
     Ok(Explorer {
         alloc,

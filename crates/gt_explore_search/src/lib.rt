@@ -12,6 +12,7 @@
 
 mod exploring;
 mod fault;
+mod parts;
 mod spaces;
 mod states;
 mod suffixes;

@@ -1,5 +1,6 @@
 //! Transition systems.
-ghost use Rattle.std.specs.Prelude.{◌≡◌, IfOk, IsTrue};
+ghost use Rattle.std.specs.Prelude.{◌≡◌, List, IfOk, IsTrue};
+ghost use Rattle.gt_explore_search.specs.Parts.{Pairwise, Splitting};
 ghost use Rattle.gt_explore_search.specs.Ways.{Ways, HasEnoughTurns, IsShownSo, MayEnd, MovesTo, ShowsFirst};
 
 use crate::fault::SearchFault;
@@ -18,12 +19,18 @@ pub enum TurnResult {
 }
 
 /// The states that runs can reach, and the turns that lead from one to another. A state must show all that a run that
-/// has reached it can still do. It may show many runs.
+/// has reached it can still do. It may show many runs. A state is split into parts. The search keeps each part once,
+/// and a state as a list of the numbers of its parts.
 pub trait TransitionSystem {
     type State: Drop;
 
+    type Part: Drop;
+
     // The runs that the states show.
     ghost ways: { Self → Ways Self.State };
+
+    // The parts that the states have.
+    ghost parts: { Self → Splitting Self.State Self.Part };
 
     /// Returns the number of domains.
     fn domains(&self) -> usize
@@ -32,9 +39,6 @@ pub trait TransitionSystem {
     /// Returns the state in which runs begin.
     fn start(&self) -> Result<Self::State, SearchFault>
         ensures { IfOk result (ShowsFirst (ways self.now)) };
-
-    /// Returns bytes that are equal for states that are the same.
-    fn key(&self, state: &Self::State) -> Result<Vec<u8>, AllocError>;
 
     /// Returns the turns to try. They must be enough to find each text.
     fn turns(&self, state: &Self::State) -> Result<Vec<Turn>, SearchFault>
@@ -48,11 +52,23 @@ pub trait TransitionSystem {
     fn is_finished(&self, state: &Self::State) -> bool
         ensures { MayEnd (ways self.now) state.now → IsTrue result };
 
-    /// Returns whether the other state shows each run that the one shows.
-    fn is_same(&self, one: &Self::State, other: &Self::State) -> bool
-        ensures { IsTrue result → IsShownSo (ways self.now) one.now other.now };
+    /// Returns the parts of a state.
+    fn split(&self, state: Self::State) -> Result<Vec<Self::Part>, AllocError>
+        ensures { IfOk result (λ made. (parts self.now).has state made.items) };
 
-    /// Copies the state.
-    fn copy(&self, state: &Self::State) -> Result<Self::State, AllocError>
-        ensures { IfOk result (IsShownSo (ways self.now) state.now) };
+    /// Returns a state that shows each run that a state with the same parts shows.
+    fn join(&self, made: Vec<Self::Part>) -> Result<Self::State, AllocError>
+        ensures { (w : Self.State) (ps : List Self.Part) → (parts self.now).has w ps →
+            Pairwise (parts self.now).same ps made.items → IfOk result (IsShownSo (ways self.now) w) };
+
+    /// Returns a number that is equal for parts that are the same, and rarely for others.
+    fn digest(&self, part: &Self::Part) -> u64;
+
+    /// Returns whether the parts are the same.
+    fn is_same(&self, one: &Self::Part, other: &Self::Part) -> bool
+        ensures { IsTrue result → (parts self.now).same one.now other.now };
+
+    /// Copies a part.
+    fn copy(&self, part: &Self::Part) -> Result<Self::Part, AllocError>
+        ensures { IfOk result ((parts self.now).same part.now) };
 }

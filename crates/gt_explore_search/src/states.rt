@@ -1,91 +1,76 @@
 //! The states that a search has met.
-ghost use Rattle.std.specs.Prelude.{◌≡◌, [], length, slice_get, IfOk, IfSome};
-ghost use Rattle.std.specs.Option.{option_map};
-ghost use Rattle.gt_explore_search.specs.Exploring.{IsNumbered, IsShownAt};
+ghost use Rattle.std.specs.Prelude.{◌≡◌, [], ℕ, List, OnOk, length, IfOk};
+ghost use Rattle.std.specs.Global.{Vec};
+ghost use Rattle.gt_explore_search.specs.Exploring.{IsNumbered};
+ghost use Rattle.gt_explore_search.specs.Parts.{Extends, HasNumbers, IsStateAt, by_numbers};
 
+use crate::fault::SearchFault;
+use crate::parts::PartIndex;
 use crate::spaces::TransitionSystem;
-use std::alloc::{AllocError, Global};
-use std::collections::HashMap;
+use indexmap::IndexSet;
+use std::alloc::Global;
 
-/// The states that were met, each with a number. Only those that have a key in common are compared.
+/// The states that were met, each with a number. A state is kept as the numbers of its parts.
 #[derive(Drop)]
-pub struct StateIndex<W> {
-    alloc: Global,
-    keys: HashMap<Vec<u8>, Vec<usize>>,
-    worlds: Vec<W>,
+pub struct StateIndex<P> {
+    parts: PartIndex<P>,
+    met: IndexSet<Vec<u32>>,
 }
 
-impl<W: Drop> StateIndex<W> {
+impl<P: Drop> StateIndex<P> {
     /// Makes an empty index.
-    pub fn new(alloc: Global) -> StateIndex<W>
-        ensures { result.worlds.items ≡ [] }
+    pub fn new(alloc: Global) -> StateIndex<P>
+        ensures { result.met.keys ≡ [] }
     {
         StateIndex {
-            alloc,
-            keys: HashMap::new(alloc),
-            worlds: Vec::new(alloc),
+            parts: PartIndex::new(alloc),
+            met: IndexSet::new(alloc),
         }
     }
 
     /// Returns the number of states.
     pub fn len(&self) -> usize
-        ensures { result ≡ length self.now.worlds.items }
+        ensures { result ≡ length self.now.met.keys }
     {
-        self.worlds.len()
+        self.met.len()
     }
 
     /// Returns the state with this number.
-    pub fn world(&self, state: usize) -> Option<&W>
-        ensures { option_map (λ w. w.now) result ≡ slice_get self.now.worlds.items state }
-    {
-        self.worlds.get(state)
-    }
-
-    // Returns the number of the state with this key that is the same.
-    fn find<S: TransitionSystem<State = W>>(
+    ///
+    /// # Errors
+    /// `Memory`, or `States` if there is no such state.
+    pub fn state<S: TransitionSystem<Part = P>>(
         &self,
         space: &S,
-        key: &Vec<u8>,
-        world: &W,
-    ) -> Option<usize>
-        ensures { IfSome result (λ n. IsShownAt (S.ways space.now) self.now.worlds.items n world.now) }
+        number: usize,
+    ) -> Result<S::State, SearchFault>
+        ensures { (all : List P) → Extends self.now.parts.kept.items all →
+            IfOk result (IsStateAt (S.ways space.now) (S.parts space.now) all self.now.met.keys number) }
     {
-        let numbers = self.keys.get(key)?;
-        'numbers: for number in numbers.as_slice() {
-            if let Some(other) = self.world(*number) {
-                if space.is_same(world, other) {
-                    return Some(*number);
-                }
-            }
-        }
-        None
+        let Some(numbers) = self.met.get_index(number) else {
+            return Err(SearchFault::States);
+        };
+        let parts = self.parts.copies(space, numbers.as_slice())?;
+        Ok(space.join(parts)?)
     }
 
-    // Files the number of a new state under its key.
-    fn keep(&mut self, key: Vec<u8>, number: usize) -> Result<(), AllocError>
-        ensures { self.new.worlds ≡ self.old.worlds }
-    {
-        let numbers = self.keys.entry(key)?.or_insert(Vec::new(self.alloc));
-        numbers.push(number)?;
-        Ok(())
-    }
-
-    /// Returns the number of a state with this key, which is the next one if the state is new.
-    pub fn number<S: TransitionSystem<State = W>>(
+    /// Returns the number of a state, which is the next one if the state is new.
+    ///
+    /// # Errors
+    /// `Memory`, or `States` if there are too many parts.
+    pub fn number<S: TransitionSystem<Part = P>>(
         &mut self,
         space: &S,
-        key: Vec<u8>,
-        world: W,
-    ) -> Result<usize, AllocError>
-        ensures { IfOk result (λ n.
-            IsNumbered (S.ways space.now) self.old.worlds.items world n self.new.worlds.items) }
+        state: S::State,
+    ) -> Result<usize, SearchFault>
+        ensures grows { OnOk result (Extends self.old.parts.kept.items self.new.parts.kept.items) }
+        ensures number { (all : List P) → Extends self.new.parts.kept.items all → IfOk result (λ n. (k : Vec ℕ)
+            × HasNumbers (S.parts space.now) all state k.items
+            × IsNumbered (by_numbers (S.ways space.now) (S.parts space.now) all) self.old.met.keys k n self.new.met.keys) }
     {
-        if let Some(number) = self.find(space, &key, &world) {
-            return Ok(number);
-        }
-        let number = self.len();
-        self.keep(key, number)?;
-        self.worlds.push(world)?;
+        let parts = space.split(state)?;
+        let numbers = self.parts.numbers(space, parts.as_slice())?;
+        let (number, _) = self.met.insert_full(numbers)?;
         Ok(number)
     }
 }

@@ -51,18 +51,6 @@ pages-more (v ∷ ps) [] p q a b = absurd a
 pub first-step : (ds : List DomainConfig) (ts new : List SparseTable) (i : ℕ) (d : DomainConfig) (t : SparseTable) → i < length ds → AreTablesOf (take i ds) ts → IsTableOf (get_or ds i d) t → new ≡ ts ++ t ∷ [] → AreTablesOf (take (i + 1) ds) new
 first-step ds ts new i d t within a b e = subst (AreTablesOf (take (i + 1) ds)) (sym e) (subst (λ (l : List DomainConfig). AreTablesOf l (ts ++ t ∷ [])) (sym (take_more ds i d within)) (first-more (take i ds) ts (get_or ds i d) t a b))
 
-pub tables-step : (ts us new : List SparseTable) (i : ℕ) (t u : SparseTable) → i < length ts → SameTables (take i ts) us → t ≡ get_or ts i t → SameTable t u → new ≡ us ++ u ∷ [] → SameTables (take (i + 1) ts) new
-tables-step ts us new i t u within a is b e = subst (SameTables (take (i + 1) ts)) (sym e) (subst (λ (l : List SparseTable). SameTables l (us ++ u ∷ [])) (sym (take_more ts i t within)) (tables-more (take i ts) us (get_or ts i t) u a (subst (λ (z : SparseTable). SameTable z u) is b)))
-
-pub pages-step : (ps qs new : List SparsePage) (i : ℕ) (p q : SparsePage) → i < length ps → SamePages (take i ps) qs → p ≡ get_or ps i p → SamePage p q → new ≡ qs ++ q ∷ [] → SamePages (take (i + 1) ps) new
-pages-step ps qs new i p q within a is b e = subst (SamePages (take (i + 1) ps)) (sym e) (subst (λ (l : List SparsePage). SamePages l (qs ++ q ∷ [])) (sym (take_more ps i p within)) (pages-more (take i ps) qs (get_or ps i p) q a (subst (λ (z : SparsePage). SamePage z q) is b)))
-
-pub both-tables : (ts us : List SparseTable) (i : ℕ) (t u : SparseTable) → i < length ts → i < length us → SameTables (take i ts) (take i us) → t ≡ get_or ts i t → u ≡ get_or us i u → SameTable t u → SameTables (take (i + 1) ts) (take (i + 1) us)
-both-tables ts us i t u within also a is be b = tables-step ts (take i us) (take (i + 1) us) i t u within a is b (take_more us i u also ∙ ap (λ (z : SparseTable). take i us ++ z ∷ []) (sym be))
-
-pub both-pages : (ps qs : List SparsePage) (i : ℕ) (p q : SparsePage) → i < length ps → i < length qs → SamePages (take i ps) (take i qs) → p ≡ get_or ps i p → q ≡ get_or qs i q → SamePage p q → SamePages (take (i + 1) ps) (take (i + 1) qs)
-both-pages ps qs i p q within also a is be b = pages-step ps (take i qs) (take (i + 1) qs) i p q within a is b (take_more qs i q also ∙ ap (λ (z : SparsePage). take i qs ++ z ∷ []) (sym be))
-
 -- what copies show
 
 same-many : (ts us : List SparseTable) → SameTables ts us → length us ≡ length ts

@@ -1,8 +1,7 @@
-//! Initial and copied tables and pages.
+//! Initial tables.
 ghost use Rattle.std.specs.Prelude.{IfOk};
-ghost use Rattle.gt_explore_state.specs.Copies.{AreTablesOf, IsTableOf, SamePages, SameTables};
+ghost use Rattle.gt_explore_state.specs.Copies.{AreTablesOf, IsTableOf};
 
-use crate::pages::SparsePage;
 use crate::table::SparseTable;
 use gt_entry::Header;
 use gt_types::DomainConfig;
@@ -28,26 +27,4 @@ pub fn first_tables(alloc: Global, domains: &[DomainConfig]) -> Result<Vec<Spars
         tables.push(first_table(alloc, domain))?;
     }
     Ok(tables)
-}
-
-/// Copies the tables.
-pub fn copy_tables(alloc: Global, tables: &[SparseTable]) -> Result<Vec<SparseTable>, AllocError>
-    ensures { IfOk result (λ v. SameTables tables.now v.items) }
-{
-    let mut copies = Vec::new(alloc);
-    'tables: for table in tables {
-        copies.push(table.copy(alloc)?)?;
-    }
-    Ok(copies)
-}
-
-/// Copies the pages.
-pub fn copy_pages(alloc: Global, pages: &[SparsePage]) -> Result<Vec<SparsePage>, AllocError>
-    ensures { IfOk result (λ v. SamePages pages.now v.items) }
-{
-    let mut copies = Vec::new(alloc);
-    'pages: for page in pages {
-        copies.push(page.copy(alloc)?)?;
-    }
-    Ok(copies)
 }

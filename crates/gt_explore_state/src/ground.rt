@@ -1,8 +1,7 @@
 //! The tables and pages of a state.
-use crate::copies::{copy_pages, copy_tables, first_tables};
+use crate::copies::first_tables;
 use crate::effects::apply_to;
 use crate::pages::{SparsePage, read};
-use crate::same::{same_pages, same_tables};
 use crate::sight::see_in;
 use crate::table::SparseTable;
 use crate::writing::write_to;
@@ -19,10 +18,9 @@ pub struct SparseState {
 }
 
 impl SparseState {
-    ghost use Rattle.std.specs.Prelude.{◌≡◌, ◌+◌, ◌≤◌, ◌∷◌, [], ℕ, IfOk, OnOk, IsTrue, take, drop};
+    ghost use Rattle.std.specs.Prelude.{◌≡◌, ◌+◌, ◌≤◌, ◌∷◌, [], ℕ, IfOk, OnOk, take, drop};
     ghost use Rattle.gt_types.specs.Config.{IsWithinLimits};
     ghost use Rattle.gt_types.specs.declared.config.Config.{Config};
-    ghost use Rattle.gt_explore_state.specs.Copies.{SamePages, SameTables};
     ghost use Rattle.gt_types.specs.declared.limits.TheConstants.{FRAME_SIZE};
     ghost use Rattle.gt_core.specs.declared.trace.Item.{Item};
     ghost use Rattle.gt_core.specs.History.{History, Setting, contents_at, seen_by};
@@ -41,36 +39,6 @@ impl SparseState {
         let tables = first_tables(alloc, domains)?;
         let pages = Vec::new(alloc);
         Ok(SparseState { tables, pages })
-    }
-
-    /// Copies the tables and pages.
-    ///
-    /// # Errors
-    /// `AllocError` if an allocation fails.
-    pub fn copy(&self, alloc: Global) -> Result<SparseState, AllocError>
-        ensures tables { IfOk result (λ g. SameTables self.now.tables.items g.tables.items) }
-        ensures pages { IfOk result (λ g. SamePages self.now.pages.items g.pages.items) }
-        ensures tables_show { (s : Setting) (h : History) → TablesShow s h self.now.tables.items →
-            IfOk result (λ g. TablesShow s h g.tables.items) }
-        ensures pages_show { (h : History) → PagesShow h self.now.pages.items →
-            IfOk result (λ g. PagesShow h g.pages.items) }
-    {
-        let tables = copy_tables(alloc, self.tables.as_slice())?;
-        let pages = copy_pages(alloc, self.pages.as_slice())?;
-        Ok(SparseState { tables, pages })
-    }
-
-    /// Returns whether the tables and pages are the same.
-    pub fn is_same(&self, other: &SparseState) -> bool
-        ensures tables { IsTrue result → SameTables self.now.tables.items other.now.tables.items }
-        ensures pages { IsTrue result → SamePages self.now.pages.items other.now.pages.items }
-        ensures tables_show { (s : Setting) (h : History) → IsTrue result → TablesShow s h self.now.tables.items →
-            TablesShow s h other.now.tables.items }
-        ensures pages_show { (h : History) → IsTrue result → PagesShow h self.now.pages.items →
-            PagesShow h other.now.pages.items }
-    {
-        same_tables(self.tables.as_slice(), other.tables.as_slice())
-            && same_pages(self.pages.as_slice(), other.pages.as_slice())
     }
 
     /// Returns what a step of the domain sees.

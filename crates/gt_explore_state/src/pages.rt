@@ -18,13 +18,12 @@ pub struct SparsePage {
 
 impl SparsePage {
     ghost use Rattle.std.specs.Prelude.{◌≡◌, ◌==◌, ◌&&◌, IfOk};
+    ghost use Rattle.gt_explore_state.specs.Copies.{SamePage};
     ghost use Rattle.gt_explore_state.specs.Pages.{is_page_of};
 
     /// Copies the page.
     pub fn copy(&self, alloc: Global) -> Result<SparsePage, AllocError>
-        ensures owner { IfOk result (λ p. p.owner ≡ self.now.owner) }
-        ensures frame { IfOk result (λ p. p.frame ≡ self.now.frame) }
-        ensures bytes { IfOk result (λ p. p.bytes.items ≡ self.now.bytes.items) }
+        ensures { IfOk result (SamePage self.now) }
     {
         Ok(SparsePage {
             owner: self.owner,

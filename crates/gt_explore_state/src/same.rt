@@ -1,7 +1,5 @@
 //! Equality of tables and pages.
 ghost use Rattle.std.specs.Prelude.{◌≡◌, IsTrue};
-ghost use Rattle.gt_explore_state.specs.Copies.{SamePage, SamePages, SameTables};
-ghost use Rattle.gt_explore_state.specs.Tables.{SameTable};
 
 use crate::pages::SparsePage;
 use crate::table::SparseTable;
@@ -51,48 +49,30 @@ fn same_counts(one: &[PinCounts], other: &[PinCounts]) -> bool
     true
 }
 
-fn same_table(one: &SparseTable, other: &SparseTable) -> bool
-    ensures { IsTrue result → SameTable one.now other.now }
-{
-    one.header == other.header
-        && same_own(one.own.as_slice(), other.own.as_slice())
-        && same_counts(one.counts.as_slice(), other.counts.as_slice())
+impl SparseTable {
+    ghost use Rattle.std.specs.Prelude.{IsTrue};
+    ghost use Rattle.gt_explore_state.specs.Tables.{SameTable};
+
+    /// Returns whether the tables are the same.
+    pub fn is_same(&self, other: &SparseTable) -> bool
+        ensures { IsTrue result → SameTable self.now other.now }
+    {
+        self.header == other.header
+            && same_own(self.own.as_slice(), other.own.as_slice())
+            && same_counts(self.counts.as_slice(), other.counts.as_slice())
+    }
 }
 
-fn same_page(one: &SparsePage, other: &SparsePage) -> bool
-    ensures { IsTrue result → SamePage one.now other.now }
-{
-    one.owner == other.owner
-        && one.frame == other.frame
-        && one.bytes.as_slice() == other.bytes.as_slice()
-}
+impl SparsePage {
+    ghost use Rattle.std.specs.Prelude.{IsTrue};
+    ghost use Rattle.gt_explore_state.specs.Copies.{SamePage};
 
-/// Returns whether the tables are the same, each at its position.
-pub fn same_tables(one: &[SparseTable], other: &[SparseTable]) -> bool
-    ensures { IsTrue result → SameTables one.now other.now }
-{
-    if one.len() != other.len() {
-        return false;
+    /// Returns whether the pages are the same.
+    pub fn is_same(&self, other: &SparsePage) -> bool
+        ensures { IsTrue result → SamePage self.now other.now }
+    {
+        self.owner == other.owner
+            && self.frame == other.frame
+            && self.bytes.as_slice() == other.bytes.as_slice()
     }
-    'tables: for at in 0..one.len() {
-        if !same_table(&one[at], &other[at]) {
-            return false;
-        }
-    }
-    true
-}
-
-/// Returns whether the pages are the same, each at its index.
-pub fn same_pages(one: &[SparsePage], other: &[SparsePage]) -> bool
-    ensures { IsTrue result → SamePages one.now other.now }
-{
-    if one.len() != other.len() {
-        return false;
-    }
-    'pages: for at in 0..one.len() {
-        if !same_page(&one[at], &other[at]) {
-            return false;
-        }
-    }
-    true
 }

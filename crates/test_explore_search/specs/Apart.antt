@@ -1,6 +1,8 @@
 -- The runs of two independent counters.
 use Rattle.std.specs.Prelude.{◌≡◌, ◌⊎◌, ◌++◌, ◌<◌, ◌+◌, ℕ, zero, suc, List, [], ◌∷◌, refl}
+use mathlib.Core.Path.{◌∙◌}
 use Rattle.gt_explore_replay.specs.declared.replay.Turn.{Turn}
+use Rattle.gt_explore_search.specs.Parts.{Splitting}
 use Rattle.gt_explore_search.specs.Ways.{Ways}
 use Rattle.test_explore_search.specs.declared.apart.Apart.{Apart}
 use Rattle.test_explore_search.specs.declared.apart.Place.{Place}
@@ -59,4 +61,12 @@ apart_ways counters = record {
   printed = printed_at;
   shows = λ tally p. (tally.first ≡ p.first) × (tally.second ≡ p.second);
   blank = blank_at;
+}
+
+-- the parts of a state: the values of both
+abbrev pub apart_parts : Apart → Splitting Place ℕ
+apart_parts counters = record {
+  has = λ tally ps. ps ≡ tally.first ∷ tally.second ∷ [];
+  same = λ p q. q ≡ p;
+  same_on = λ p q r first second. second ∙ first;
 }

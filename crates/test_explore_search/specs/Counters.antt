@@ -1,6 +1,8 @@
 -- The runs of two counters.
 use Rattle.std.specs.Prelude.{◌≡◌, ◌⊎◌, ◌++◌, ◌<◌, ◌+◌, ℕ, zero, suc, List, [], ◌∷◌, refl}
+use mathlib.Core.Path.{◌∙◌}
 use Rattle.gt_explore_replay.specs.declared.replay.Turn.{Turn}
+use Rattle.gt_explore_search.specs.Parts.{Splitting}
 use Rattle.gt_explore_search.specs.Ways.{Ways}
 use Rattle.test_explore_search.specs.declared.counters.Counters.{Counters}
 use Rattle.test_explore_search.specs.declared.counters.Tally.{Tally}
@@ -44,4 +46,12 @@ counters_ways counters = record {
   printed = printed_at;
   shows = λ tally p. (tally.first ≡ p.first) × (tally.second ≡ p.second);
   blank = blank_at;
+}
+
+-- the parts of a state: the values of both
+abbrev pub counters_parts : Counters → Splitting Tally ℕ
+counters_parts counters = record {
+  has = λ tally ps. ps ≡ tally.first ∷ tally.second ∷ [];
+  same = λ p q. q ≡ p;
+  same_on = λ p q r first second. second ∙ first;
 }

@@ -1,5 +1,9 @@
 //! Two independent counters, as a space with fewer turns.
-ghost use Rattle.test_explore_search.specs.Apart.{apart_ways};
+ghost use Rattle.std.specs.Prelude.{ℕ, List, IfOk};
+ghost use Rattle.gt_explore_search.specs.Parts.{Pairwise};
+ghost use Rattle.gt_explore_search.specs.Ways.{IsShownSo};
+ghost use Rattle.test_explore_search.specs.Apart.{apart_parts, apart_ways};
+ghost use Rattle.test_explore_search.specs.declared.apart.Place.{Place};
 
 use gt_explore_replay::Turn;
 use gt_explore_search::{SearchFault, TransitionSystem, TurnResult};
@@ -22,7 +26,11 @@ pub struct Place {
 impl TransitionSystem for Apart {
     type State = Place;
 
+    type Part = u8;
+
     ghost ways = { apart_ways };
+
+    ghost parts = { apart_parts };
 
     fn domains(&self) -> usize {
         2
@@ -33,12 +41,6 @@ impl TransitionSystem for Apart {
             first: 0,
             second: 0,
         })
-    }
-
-    fn key(&self, state: &Place) -> Result<Vec<u8>, AllocError> {
-        let mut key = Vec::new(self.alloc);
-        key.push(state.first)?;
-        Ok(key)
     }
 
     fn turns(&self, state: &Place) -> Result<Vec<Turn>, SearchFault> {
@@ -77,14 +79,28 @@ impl TransitionSystem for Apart {
         state.first == self.limit && state.second == self.limit
     }
 
-    fn is_same(&self, one: &Place, other: &Place) -> bool {
-        one.first == other.first && one.second == other.second
+    fn split(&self, state: Place) -> Result<Vec<u8>, AllocError> {
+        Ok(vec![in self.alloc; state.first, state.second]?)
     }
 
-    fn copy(&self, state: &Place) -> Result<Place, AllocError> {
-        Ok(Place {
-            first: state.first,
-            second: state.second,
-        })
+    fn join(&self, made: Vec<u8>) -> Result<Place, AllocError>
+        ensures { (w : Place) (ps : List ℕ) → (apart_parts self.now).has w ps →
+            Pairwise (apart_parts self.now).same ps made.items → IfOk result (IsShownSo (apart_ways self.now) w) }
+    {
+        let first = made.get(0).copied().unwrap_or(0);
+        let second = made.get(1).copied().unwrap_or(0);
+        Ok(Place { first, second })
+    }
+
+    fn digest(&self, part: &u8) -> u64 {
+        u64::from(*part % 2)
+    }
+
+    fn is_same(&self, one: &u8, other: &u8) -> bool {
+        *one == *other
+    }
+
+    fn copy(&self, part: &u8) -> Result<u8, AllocError> {
+        Ok(*part)
     }
 }

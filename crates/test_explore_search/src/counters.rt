@@ -1,5 +1,9 @@
 //! Two counters as a space.
-ghost use Rattle.test_explore_search.specs.Counters.{counters_ways};
+ghost use Rattle.std.specs.Prelude.{ℕ, List, IfOk};
+ghost use Rattle.gt_explore_search.specs.Parts.{Pairwise};
+ghost use Rattle.gt_explore_search.specs.Ways.{IsShownSo};
+ghost use Rattle.test_explore_search.specs.Counters.{counters_parts, counters_ways};
+ghost use Rattle.test_explore_search.specs.declared.counters.Tally.{Tally};
 
 use gt_explore_replay::Turn;
 use gt_explore_search::{SearchFault, TransitionSystem, TurnResult};
@@ -22,7 +26,11 @@ pub struct Tally {
 impl TransitionSystem for Counters {
     type State = Tally;
 
+    type Part = u8;
+
     ghost ways = { counters_ways };
+
+    ghost parts = { counters_parts };
 
     fn domains(&self) -> usize {
         2
@@ -33,12 +41,6 @@ impl TransitionSystem for Counters {
             first: 0,
             second: 0,
         })
-    }
-
-    fn key(&self, state: &Tally) -> Result<Vec<u8>, AllocError> {
-        let mut key = Vec::new(self.alloc);
-        key.push(state.first)?;
-        Ok(key)
     }
 
     fn turns(&self, _state: &Tally) -> Result<Vec<Turn>, SearchFault> {
@@ -72,14 +74,28 @@ impl TransitionSystem for Counters {
         state.first == self.limit && state.second == self.limit
     }
 
-    fn is_same(&self, one: &Tally, other: &Tally) -> bool {
-        one.first == other.first && one.second == other.second
+    fn split(&self, state: Tally) -> Result<Vec<u8>, AllocError> {
+        Ok(vec![in self.alloc; state.first, state.second]?)
     }
 
-    fn copy(&self, state: &Tally) -> Result<Tally, AllocError> {
-        Ok(Tally {
-            first: state.first,
-            second: state.second,
-        })
+    fn join(&self, made: Vec<u8>) -> Result<Tally, AllocError>
+        ensures { (w : Tally) (ps : List ℕ) → (counters_parts self.now).has w ps →
+            Pairwise (counters_parts self.now).same ps made.items → IfOk result (IsShownSo (counters_ways self.now) w) }
+    {
+        let first = made.get(0).copied().unwrap_or(0);
+        let second = made.get(1).copied().unwrap_or(0);
+        Ok(Tally { first, second })
+    }
+
+    fn digest(&self, part: &u8) -> u64 {
+        u64::from(*part % 2)
+    }
+
+    fn is_same(&self, one: &u8, other: &u8) -> bool {
+        *one == *other
+    }
+
+    fn copy(&self, part: &u8) -> Result<u8, AllocError> {
+        Ok(*part)
     }
 }

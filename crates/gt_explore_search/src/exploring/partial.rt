@@ -16,20 +16,24 @@ pub struct PartialResult {
     pub depth: usize,
 }
 
-impl<W: Drop> Explorer<W> {
-    ghost use Rattle.std.specs.Prelude.{◌≡◌, false, IfOk, IfNone};
-    ghost use Rattle.gt_explore_search.specs.Exploring.{SearchHolds, VisitHolds, Grew, SearchStarts, SearchFinishes};
+impl<P: Drop> Explorer<P> {
+    ghost use Rattle.std.specs.Prelude.{◌≡◌, false, List, IfOk, IfNone, OnOk};
+    ghost use Rattle.gt_explore_search.specs.Exploring.{SearchHolds, VisitHolds, Grew, PartsGrew, SearchStarts, SearchFinishes};
+    ghost use Rattle.gt_explore_search.specs.Parts.{Extends, by_numbers};
 
     // Visits all states that can be reached from this one, if there are no more than the limit. Otherwise returns the
     // states whose moves are being tried.
-    fn walk_within<S: TransitionSystem<State = W>>(
+    fn walk_within<S: TransitionSystem<Part = P>>(
         &mut self,
         space: &S,
         first: OpenNode,
         limit: usize,
     ) -> Result<Option<Vec<OpenNode>>, SearchFault>
-        ensures { SearchHolds (S.ways space.now) self.old → VisitHolds (S.ways space.now) self.old first →
-            IfOk result (λ left. IfNone left (SearchHolds (S.ways space.now) self.new × Grew self.old self.new)) }
+        ensures grows { OnOk result (PartsGrew self.old self.new) }
+        ensures holds { (all : List P) → Extends self.new.states.parts.kept.items all →
+            let ways = by_numbers (S.ways space.now) (S.parts space.now) all in
+            SearchHolds ways self.old → VisitHolds ways self.old first →
+            IfOk result (λ left. IfNone left (SearchHolds ways self.new × Grew self.old self.new)) }
     {
         let mut stack = Vec::new(self.alloc);
         stack.push(first)?;
@@ -46,23 +50,23 @@ impl<W: Drop> Explorer<W> {
 
     // Visits the states of the space, if there are no more than the limit. Otherwise returns the states whose moves are
     // being tried.
-    fn run_within<S: TransitionSystem<State = W>>(
+    fn run_within<S: TransitionSystem<Part = P>>(
         &mut self,
         space: &S,
         limit: usize,
     ) -> Result<Option<Vec<OpenNode>>, SearchFault>
-        ensures { SearchStarts (S.ways space.now) self.old →
-            IfOk result (λ left. IfNone left (SearchFinishes (S.ways space.now) self.new)) }
+        ensures { (all : List P) → Extends self.new.states.parts.kept.items all →
+            let ways = by_numbers (S.ways space.now) (S.parts space.now) all in
+            SearchStarts ways self.old → IfOk result (λ left. IfNone left (SearchFinishes ways self.new)) }
     {
         let world = space.start()?;
-        let key = space.key(&world)?;
-        let state = self.states.number(space, key, world)?;
+        let state = self.states.number(space, world)?;
         let first = self.visit(space, state)?;
         self.walk_within(space, first, limit)
     }
 
     // Gathers the ends of the turn that is being tried, if it leads to a state that is done.
-    fn gather_turn<S: TransitionSystem<State = W>>(
+    fn gather_turn<S: TransitionSystem<Part = P>>(
         &mut self,
         space: &S,
         visit: &mut OpenNode,
@@ -70,17 +74,13 @@ impl<W: Drop> Explorer<W> {
         let Some(turn) = visit.turn() else {
             return Ok(());
         };
-        let Some(world) = self.states.world(visit.state) else {
-            return Ok(());
-        };
-        let mut world = space.copy(world)?;
+        let mut world = self.states.state(space, visit.state)?;
         let led = space.advance(&mut world, turn)?;
         if leads_nowhere(&led) {
             return Ok(());
         }
         let line = self.line(turn.place, led)?;
-        let key = space.key(&world)?;
-        let state = self.states.number(space, key, world)?;
+        let state = self.states.number(space, world)?;
         let Some(node) = self.node_of(state) else {
             return Ok(());
         };
@@ -89,7 +89,7 @@ impl<W: Drop> Explorer<W> {
     }
 
     // Finishes these states with the ends found so far, the last one first.
-    fn unwind<S: TransitionSystem<State = W>>(
+    fn unwind<S: TransitionSystem<Part = P>>(
         &mut self,
         space: &S,
         mut stack: Vec<OpenNode>,
@@ -105,7 +105,7 @@ impl<W: Drop> Explorer<W> {
     }
 
     // Returns what was found when these states were being tried.
-    fn found_until<S: TransitionSystem<State = W>>(
+    fn found_until<S: TransitionSystem<Part = P>>(
         &mut self,
         space: &S,
         stack: Vec<OpenNode>,

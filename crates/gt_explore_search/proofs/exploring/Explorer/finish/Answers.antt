@@ -1,10 +1,11 @@
 use Rattle.std.proofs.Common.{refl, ap, subst, ◌≡◌, ◌⊎◌, ℕ, Some, slice_get, length, List}
+use Rattle.gt_explore_search.specs.Parts.{by_numbers}
 use Rattle.gt_explore_search.proofs.Finding.{holds_done}
 use Rattle.gt_explore_search.specs.declared.exploring.Node.{Node}
 use Rattle.gt_explore_search.proofs.exploring.Explorer.finish.Goals as goal
 
-pub returns : goal.returns
-returns g c = λ holds visit all.
+pub returns-clause-holds : goal.returns-clause-holds
+returns-clause-holds g c = λ all holds visit past.
     let node : length c.as_slice-node.result.now ≡ length c.args.self.now.nodes.items = ap (λ (l : List Node). length l) c.as_slice-node.ensures.value in
-    holds_done (g.S.TransitionSystem.ways c.args._space.now) c.args.self.now _ c.args.visit holds visit all refl refl c.in_ok-push.ensures.items
+    holds_done (by_numbers (g.S.TransitionSystem.ways c.args._space.now) (g.S.TransitionSystem.parts c.args._space.now) all) c.args.self.now _ c.args.visit holds visit past refl refl c.in_ok-push.ensures.items
     (λ state i is. subst (λ (n : ℕ). (slice_get c.args.self.now.done.items state ≡ Some (Some i)) ⊎ ((state ≡ c.args.visit.state) × (i ≡ n))) node (c.set_done.ensures state i is))

@@ -3,6 +3,7 @@ use Rattle.std.proofs.lemmas.Option.{same_Some, slice_get_within, slice_get-get_
 use Rattle.std.specs.List.{flat_map, range_with_len}
 use Rattle.std.specs.Option.{option_map}
 use Rattle.gt_explore_search.specs.Lists.{rest_by}
+use Rattle.gt_explore_search.specs.Parts.{by_numbers}
 use Rattle.gt_explore_search.specs.declared.exploring.ReachedList.{ReachedList}
 use Rattle.gt_explore_search.specs.declared.exploring.Node.{Node}
 use Rattle.gt_explore_search.proofs.Trying.{length_more, text_found, texts_more}
@@ -19,15 +20,15 @@ ends-preserved g c = record {
 }
 
 pub returns : goal.returns
-returns g c = λ over.
+returns g c = λ all over.
     let there : slice_get c.args.self.now.nodes.items c.in-Some.first ≡ Some c.in-Some-node_at.done.now =
     ap (λ (l : List Node). slice_get l c.in-Some.first) (sym c.as_slice.ensures.value) ∙ sym c.node_at.ensures ∙ ap (option_map (λ (n : Bor Node). n.now)) c.in-Some-node_at.is in
-    let all : length c.as_slice-end-items.result.now ≤ c.ends.end-index = omega (arith, c.ends-test.false) in
-    text_found (g.S.TransitionSystem.ways c.args.space.now) c.args.self.now over c.in-Some.first (record { orders = c.ends.orders; states = c.len-states.result }) c.in-Some.ensures (λ n at e here is has.
+    let past : length c.as_slice-end-items.result.now ≤ c.ends.end-index = omega (arith, c.ends-test.false) in
+    text_found (by_numbers (g.S.TransitionSystem.ways c.args.space.now) (g.S.TransitionSystem.parts c.args.space.now) all) c.args.self.now over c.in-Some.first (record { orders = c.ends.orders; states = c.len-states.result }) c.in-Some.ensures (λ n at e here is has.
     let same : n.ends.items ≡ c.as_slice-end-items.result.now =
     ap (λ (m : Node). m.ends.items) (same_Some n c.in-Some-node_at.done.now (sym here ∙ there)) ∙ sym c.as_slice-end-items.ensures.value in
     let now : slice_get c.as_slice-end-items.result.now at ≡ Some e = ap (λ (l : List ReachedList). slice_get l at) (sym same) ∙ is in
     let within = slice_get_within c.as_slice-end-items.result.now at e now in
-    let less : at < c.ends.end-index = omega (arith, within, all) in
+    let less : at < c.ends.end-index = omega (arith, within, past) in
     let o = c.ends.invariant.each at e less now has in
     (o.0, o.1, o.2 ∙ ap (λ (m : ℕ). flat_map (rest_by c.args.self.now.suffixes e.list) (range_with_len 0 m)) c.domains-domains.ensures))

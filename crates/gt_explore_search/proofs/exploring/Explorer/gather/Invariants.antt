@@ -1,6 +1,7 @@
-use Rattle.std.proofs.Common.{◌≡◌, Some, slice_get}
+use Rattle.std.proofs.Common.{◌≡◌, List, Some, slice_get}
 use Rattle.gt_explore_search.specs.Lists.{HasItsLine}
 use Rattle.gt_explore_search.specs.Exploring.{SearchHolds, TurnLeads, VisitHolds}
+use Rattle.gt_explore_search.specs.Parts.{by_numbers}
 use Rattle.gt_explore_search.specs.declared.exploring.Node.{Node}
 use Rattle.gt_explore_search.proofs.Gathering.{IsGathering}
 use Rattle.gt_explore_search.proofs.exploring.Explorer.gather.Given as goal
@@ -8,7 +9,7 @@ use Rattle.gt_explore_search.proofs.exploring.Explorer.gather.Given as goal
 abbrev pub invariant-ends : goal.invariant-ends
 invariant-ends g l = record {
   line : HasItsLine l.suffixes l.line;
-  gathers : (n : Node) → SearchHolds (g.S.TransitionSystem.ways l._space) l.fn.self → VisitHolds (g.S.TransitionSystem.ways l._space) l.fn.self l.fn.visit → TurnLeads (g.S.TransitionSystem.ways l._space) l.fn.self l.fn.visit l.turn l.node l.line
+  gathers : (all : List _) (n : Node) → SearchHolds (by_numbers (g.S.TransitionSystem.ways l._space) (g.S.TransitionSystem.parts l._space) all) l.fn.self → VisitHolds (by_numbers (g.S.TransitionSystem.ways l._space) (g.S.TransitionSystem.parts l._space) all) l.fn.self l.fn.visit → TurnLeads (by_numbers (g.S.TransitionSystem.ways l._space) (g.S.TransitionSystem.parts l._space) all) l.fn.self l.fn.visit l.turn l.node l.line
       → slice_get l.fn.self.nodes.items l.node ≡ Some n → n.ends.items ≡ l.end-items
-      → IsGathering (g.S.TransitionSystem.ways l._space) l.fn.self l.fn.visit l.turn l.line n (record l.fn.self { suffixes = l.suffixes }) l.visit l.end-index;
+      → IsGathering (by_numbers (g.S.TransitionSystem.ways l._space) (g.S.TransitionSystem.parts l._space) all) l.fn.self l.fn.visit l.turn l.line n (record l.fn.self { suffixes = l.suffixes }) l.visit l.end-index;
 }

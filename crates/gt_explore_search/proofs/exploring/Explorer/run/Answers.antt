@@ -1,9 +1,14 @@
+use Rattle.gt_explore_search.specs.Parts.{by_numbers}
+use Rattle.gt_explore_search.proofs.Numbering.{first, if_ok, run-grows}
 use Rattle.gt_explore_search.proofs.Trying.{finishes_on, on_ok, starts_on, with_states}
 use Rattle.gt_explore_search.proofs.exploring.Explorer.run.Goals as goal
 
 pub returns : goal.returns
-returns g c = λ starts.
-    let s = starts_on (g.S.TransitionSystem.ways c.args.space.now) c.args.self.now c.number.new.self c.in_ok-world.world c.in_ok-state.state starts c.in_ok-state.ensures in
-    let v = c.in_ok-first.ensures.holds s.0 in
-    on_ok c.walk.result (finishes_on (g.S.TransitionSystem.ways c.args.space.now) (with_states c.args.self.now c.number.new.self) c.visit.new.self c.walk.new.self c.in_ok-world.world s.1 c.in_ok-world.ensures v.1)
-    (c.walk.ensures v.0 v.2)
+returns g c = λ all more starts. if_ok _ c.walk.result c.walk.ensures.grows (λ grows.
+    let grown = run-grows c.number.new.self c.visit.new.self.states c.walk.new.self.states all c.in_ok-first.ensures.states grows more in
+    let numbered = c.in_ok-state.ensures.number all grown in
+    let s = starts_on (by_numbers (g.S.TransitionSystem.ways c.args.space.now) (g.S.TransitionSystem.parts c.args.space.now) all) c.args.self.now c.number.new.self numbered.0 c.in_ok-state.state starts numbered.2 in
+    let v = c.in_ok-first.ensures.holds all grown s.0 in
+    on_ok c.walk.result (finishes_on (by_numbers (g.S.TransitionSystem.ways c.args.space.now) (g.S.TransitionSystem.parts c.args.space.now) all) (with_states c.args.self.now c.number.new.self) c.visit.new.self c.walk.new.self numbered.0 s.1
+    (first (g.S.TransitionSystem.ways c.args.space.now) (g.S.TransitionSystem.parts c.args.space.now) all numbered.0 c.in_ok-world.world c.in_ok-world.ensures numbered.1) v.1)
+    (c.walk.ensures.holds all more v.0 v.2))

@@ -1,0 +1,108 @@
+-- A state with the same parts is the same.
+use Rattle.std.proofs.Common.{◌≡◌, refl, List, [], ◌∷◌, ◌++◌, Bool, map, ap, sym, ◌∙◌, subst, append_assoc}
+use Rattle.std.proofs.lemmas.List.{append-nil}
+use Rattle.gt_explore_search.specs.Parts.{Pairwise}
+use Rattle.gt_explore_state.specs.Copies.{SamePages, SameTables}
+use Rattle.gt_explore_state.specs.declared.pages.SparsePage.{SparsePage}
+use Rattle.gt_explore_state.specs.declared.table.SparseTable.{SparseTable}
+use Rattle.gt_explore_state.proofs.Copying.{pages-more, tables-more}
+use Rattle.gt_explore_moves.specs.Copies.{SameActors, SameWorld}
+use Rattle.gt_explore_moves.specs.Parts.{PartLists, SamePart, lists_in, no_parts, with_part, with_parts}
+use Rattle.gt_explore_moves.specs.declared.actor.Actor.{Actor}
+use Rattle.gt_explore_moves.specs.declared.parts.StatePart.{StatePart}
+use Rattle.gt_explore_moves.specs.declared.parts.StatePart.TheVariants.{Domain, Flag, Page, Table}
+use Rattle.gt_explore_moves.specs.declared.scene.SearchState.{SearchState}
+use Rattle.gt_explore_moves.proofs.Copying.{actors-more}
+
+-- lists of parts
+
+with-both : (l : PartLists) (xs ys : List StatePart) → with_parts l (xs ++ ys) ≡ with_parts (with_parts l xs) ys
+with-both l [] ys = refl
+with-both l (x ∷ xs) ys = with-both (with_part l x) xs ys
+
+-- a loop's step
+pub with-more : (l old new : PartLists) (xs ys : List StatePart) (p : StatePart) → old ≡ with_parts l xs → new ≡ with_part old p → ys ≡ xs ++ p ∷ [] → new ≡ with_parts l ys
+with-more l old new xs ys p was is more = is ∙ ap (λ (m : PartLists). with_part m p) was ∙ sym (with-both l xs (p ∷ [])) ∙ ap (with_parts l) (sym more)
+
+with-flags : (l : PartLists) (xs : List Bool) → with_parts l (map Flag xs) ≡ record l { flags = l.flags ++ xs }
+with-flags l [] = ap (λ (f : List Bool). record l { flags = f }) (sym (append-nil l.flags))
+with-flags l (x ∷ xs) = with-flags (with_part l (Flag x)) xs ∙ ap (λ (f : List Bool). record l { flags = f }) (append_assoc l.flags (x ∷ []) xs)
+
+with-domains : (l : PartLists) (xs : List Actor) → with_parts l (map Domain xs) ≡ record l { actors = l.actors ++ xs }
+with-domains l [] = ap (λ (f : List Actor). record l { actors = f }) (sym (append-nil l.actors))
+with-domains l (x ∷ xs) = with-domains (with_part l (Domain x)) xs ∙ ap (λ (f : List Actor). record l { actors = f }) (append_assoc l.actors (x ∷ []) xs)
+
+with-tables : (l : PartLists) (xs : List SparseTable) → with_parts l (map Table xs) ≡ record l { tables = l.tables ++ xs }
+with-tables l [] = ap (λ (f : List SparseTable). record l { tables = f }) (sym (append-nil l.tables))
+with-tables l (x ∷ xs) = with-tables (with_part l (Table x)) xs ∙ ap (λ (f : List SparseTable). record l { tables = f }) (append_assoc l.tables (x ∷ []) xs)
+
+with-pages : (l : PartLists) (xs : List SparsePage) → with_parts l (map Page xs) ≡ record l { pages = l.pages ++ xs }
+with-pages l [] = ap (λ (f : List SparsePage). record l { pages = f }) (sym (append-nil l.pages))
+with-pages l (x ∷ xs) = with-pages (with_part l (Page x)) xs ∙ ap (λ (f : List SparsePage). record l { pages = f }) (append_assoc l.pages (x ∷ []) xs)
+
+-- the parts of a state that was split
+pub split-whole : (flags : List Bool) (actors : List Actor) (tables : List SparseTable) (pages : List SparsePage) (none first second third all : List StatePart) → none ≡ [] → first ≡ none ++ map Flag flags
+    → second ≡ first ++ map Domain actors → third ≡ second ++ map Table tables → all ≡ third ++ map Page pages → record { flags = flags; actors = actors; tables = tables; pages = pages } ≡ with_parts no_parts all
+split-whole flags actors tables pages none first second third all empty one two three four = sym d
+  where
+    a : with_parts no_parts first ≡ record no_parts { flags = flags }
+    a = ap (with_parts no_parts) (one ∙ ap (λ (l : List StatePart). l ++ map Flag flags) empty) ∙ with-flags no_parts flags
+
+    b : with_parts no_parts second ≡ record no_parts { flags = flags; actors = actors }
+    b = ap (with_parts no_parts) two ∙ with-both no_parts first (map Domain actors) ∙ ap (λ (l : PartLists). with_parts l (map Domain actors)) a ∙ with-domains (record no_parts { flags = flags }) actors
+
+    c : with_parts no_parts third ≡ record { flags = flags; actors = actors; tables = tables; pages = [] }
+    c = ap (with_parts no_parts) three ∙ with-both no_parts second (map Table tables) ∙ ap (λ (l : PartLists). with_parts l (map Table tables)) b ∙ with-tables (record no_parts { flags = flags; actors = actors }) tables
+
+    d : with_parts no_parts all ≡ record { flags = flags; actors = actors; tables = tables; pages = pages }
+    d = ap (with_parts no_parts) four ∙ with-both no_parts third (map Page pages) ∙ ap (λ (l : PartLists). with_parts l (map Page pages)) c ∙ with-pages (record { flags = flags; actors = actors; tables = tables; pages = [] }) pages
+
+-- states with the same parts
+
+record SameLists (l m : PartLists) : Type 0 where
+  pub flags : m.flags ≡ l.flags
+  pub actors : SameActors l.actors m.actors
+  pub tables : SameTables l.tables m.tables
+  pub pages : SamePages l.pages m.pages
+
+same-with : (p q : StatePart) (l m : PartLists) → SamePart p q → SameLists l m → SameLists (with_part l p) (with_part m q)
+same-with (Flag b) (Flag c) l m is same = record {
+  flags = ap (λ (x : Bool). m.flags ++ x ∷ []) is ∙ ap (λ (f : List Bool). f ++ b ∷ []) same.flags;
+  actors = same.actors;
+  tables = same.tables;
+  pages = same.pages;
+}
+same-with (Domain a) (Domain b) l m is same = record {
+  flags = same.flags;
+  actors = actors-more l.actors m.actors a b same.actors is;
+  tables = same.tables;
+  pages = same.pages;
+}
+same-with (Table t) (Table u) l m is same = record {
+  flags = same.flags;
+  actors = same.actors;
+  tables = tables-more l.tables m.tables t u same.tables is;
+  pages = same.pages;
+}
+same-with (Page p) (Page q) l m is same = record {
+  flags = same.flags;
+  actors = same.actors;
+  tables = same.tables;
+  pages = pages-more l.pages m.pages p q same.pages is;
+}
+same-with p q l m is same = absurd is
+
+same-lists : (ps qs : List StatePart) (l m : PartLists) → Pairwise SamePart ps qs → SameLists l m → SameLists (with_parts l ps) (with_parts m qs)
+same-lists [] [] l m each same = same
+same-lists (p ∷ ps) (q ∷ qs) l m each same = same-lists ps qs (with_part l p) (with_part m q) each.1 (same-with p q l m each.0 same)
+same-lists [] (q ∷ qs) l m each same = absurd each
+same-lists (p ∷ ps) [] l m each same = absurd each
+
+pub joined-same : (w v : SearchState) (ps qs : List StatePart) → lists_in w ≡ with_parts no_parts ps → lists_in v ≡ with_parts no_parts qs → Pairwise SamePart ps qs → SameWorld w v
+joined-same w v ps qs has made each = record { actors = same.actors; tables = same.tables; pages = same.pages; told = same.flags }
+  where
+    none : SameLists no_parts no_parts
+    none = record { flags = refl; actors = tt; tables = tt; pages = tt }
+
+    same : SameLists (lists_in w) (lists_in v)
+    same = subst (λ (m : PartLists). SameLists (lists_in w) m) (sym made) (subst (λ (l : PartLists). SameLists l (with_parts no_parts qs)) (sym has) (same-lists ps qs no_parts no_parts each none))

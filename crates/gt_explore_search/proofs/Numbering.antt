@@ -1,0 +1,147 @@
+-- States as lists of numbers of their parts.
+use Rattle.std.proofs.Common.{◌≡◌, ◌<◌, ◌+◌, ℕ, zero, suc, List, [], ◌∷◌, ◌++◌, length, take, get_or, ap, sym, ◌∙◌, refl}
+use Rattle.std.proofs.Common.{arith, subst, inl, inr, Result, Ok, Err, OnOk, IfOk, Bool, true, false, Some, slice_get, not, if◌then◌else◌, ◌||◌, cond, append_assoc}
+use Rattle.std.proofs.lemmas.List.{append-nil, take_more}
+use Rattle.std.proofs.lemmas.Option.{same_Some}
+use Rattle.std.specs.Global.{Vec}
+use Rattle.std.specs.List.{list_any, position_or_len}
+use Rattle.gt_explore_replay.specs.declared.replay.Turn.{Turn}
+use Rattle.gt_explore_search.specs.Exploring.{IsNumbered}
+use Rattle.gt_explore_search.specs.Parts.{Extends, HasNumber, HasNumbers, IsCopyOf, IsJoined, IsStateAt, Pairwise, Splitting}
+use Rattle.gt_explore_search.specs.Parts.{by_numbers}
+use Rattle.gt_explore_search.specs.Ways.{Ways, HasEnoughTurns, IsShownSo, LedFits, MayEnd, MovesTo, ShowsFirst}
+use Rattle.gt_explore_search.specs.declared.spaces.TurnResult.{TurnResult}
+use Rattle.gt_explore_search.specs.declared.states.StateIndex.{StateIndex}
+use Rattle.gt_explore_search.specs.declared.spaces.TurnResult.TheVariants as leds
+use Rattle.gt_explore_search.proofs.Finding.{at_last}
+use Rattle.gt_explore_search.proofs.Growing.{get_grown}
+
+-- lists that grow
+
+pub extends-self : {X : Type 0} (xs : List X) → Extends xs xs
+extends-self xs = ([], sym (append-nil xs))
+
+pub extends-on : {X : Type 0} (xs ys zs : List X) → Extends xs ys → Extends ys zs → Extends xs zs
+extends-on xs ys zs (a, first) (b, second) = (a ++ b, second ∙ ap (λ l. l ++ b) first ∙ append_assoc xs a b)
+
+-- the parts of an index that grew, between two that are the same
+pub grown-between : {P : Type 0} (a b d e : StateIndex P) → b ≡ a → Extends b.parts.kept.items d.parts.kept.items → e ≡ d → Extends a.parts.kept.items e.parts.kept.items
+grown-between a b d e first grows last = subst (λ s. Extends s.parts.kept.items e.parts.kept.items) first (subst (λ s. Extends b.parts.kept.items s.parts.kept.items) (sym last) grows)
+
+pub run-grows : {P : Type 0} (a b d : StateIndex P) (all : List P) → b ≡ a → Extends b.parts.kept.items d.parts.kept.items → Extends d.parts.kept.items all → Extends a.parts.kept.items all
+run-grows a b d all same grows more = extends-on a.parts.kept.items d.parts.kept.items all (subst (λ s. Extends s.parts.kept.items d.parts.kept.items) same grows) more
+
+-- pairs
+
+pair-more : {X Y : Type 0} (R : X → Y → Type 0) (xs : List X) (ys : List Y) (x : X) (y : Y) → Pairwise R xs ys → R x y → Pairwise R (xs ++ x ∷ []) (ys ++ y ∷ [])
+pair-more R [] [] x y a b = (b, tt)
+pair-more R (v ∷ xs) (w ∷ ys) x y a b = (a.0, pair-more R xs ys x y a.1 b)
+pair-more R [] (w ∷ ys) x y a b = absurd a
+pair-more R (v ∷ xs) [] x y a b = absurd a
+
+-- a loop's step
+pub pair-step : {X Y : Type 0} (R : X → Y → Type 0) (xs : List X) (ys new : List Y) (i : ℕ) (x d : X) (y : Y) → i < length xs → Pairwise R (take i xs) ys → x ≡ get_or xs i d → R x y → new ≡ ys ++ y ∷ [] → Pairwise R (take (i + 1) xs) new
+pair-step {X} {Y} R xs ys new i x d y within a is b e = subst (Pairwise R (take (i + 1) xs)) (sym e)
+    (subst (λ (l : List X). Pairwise R l (ys ++ y ∷ [])) (sym (take_more xs i d within)) (pair-more R (take i xs) ys (get_or xs i d) y a (subst (λ (z : X). R z y) is b)))
+
+pair-on : {X Y : Type 0} (R S : X → Y → Type 0) → ((x : X) (y : Y) → R x y → S x y) → (xs : List X) (ys : List Y) → Pairwise R xs ys → Pairwise S xs ys
+pair-on R S so [] [] a = tt
+pair-on R S so (x ∷ xs) (y ∷ ys) a = (so x y a.0, pair-on R S so xs ys a.1)
+pair-on R S so [] (y ∷ ys) a = absurd a
+pair-on R S so (x ∷ xs) [] a = absurd a
+
+-- parts
+
+pub number-grown : {W P : Type 0} (parts : Splitting W P) (old new : List P) (p : P) (n : ℕ) → Extends old new → HasNumber parts old p n → HasNumber parts new p n
+number-grown parts old new p n more (q, there, same) = (q, get_grown old new n q more there, same)
+
+pub numbers-grown : {W P : Type 0} (parts : Splitting W P) (old new : List P) (ps : List P) (ns : List ℕ) → Extends old new → Pairwise (HasNumber parts old) ps ns → Pairwise (HasNumber parts new) ps ns
+numbers-grown parts old new ps ns more a = pair-on (HasNumber parts old) (HasNumber parts new) (λ p n has. number-grown parts old new p n more has) ps ns a
+
+-- a loop's step
+pub number-step : {W P : Type 0} (parts : Splitting W P) (old new ps : List P) (ns more : List ℕ) (i : ℕ) (p : P) (n : ℕ) → i < length ps → Pairwise (HasNumber parts old) (take i ps) ns → p ≡ get_or ps i p → HasNumber parts new p n → Extends old new → more ≡ ns ++ n ∷ [] → Pairwise (HasNumber parts new) (take (i + 1) ps) more
+number-step parts old new ps ns more i p n within each is has grows e = pair-step (HasNumber parts new) ps ns more i p p n within (numbers-grown parts old new (take i ps) ns grows each) is has e
+
+-- a copy of the part with a number is the same as each part with this number
+one-copied : {W P : Type 0} (parts : Splitting W P) (old all : List P) (p : P) (n : ℕ) (s : P) → Extends old all → HasNumber parts all p n → IsCopyOf parts old n s → parts.same p s
+one-copied parts old all p n s more (q, there, same) (r, here, like) =
+    let is : q ≡ r = same_Some q r (sym there ∙ get_grown old all n r more here) in
+    parts.same_on p q s same (subst (λ x. parts.same x s) (sym is) like)
+
+copied : {W P : Type 0} (parts : Splitting W P) (old all ps : List P) (ns : List ℕ) (qs : List P) → Extends old all → Pairwise (HasNumber parts all) ps ns → Pairwise (IsCopyOf parts old) ns qs → Pairwise parts.same ps qs
+copied parts old all [] [] [] more a b = tt
+copied parts old all (p ∷ ps) (n ∷ ns) (q ∷ qs) more a b = (one-copied parts old all p n q more a.0 b.0, copied parts old all ps ns qs more a.1 b.1)
+copied parts old all [] [] (q ∷ qs) more a b = absurd b
+copied parts old all (p ∷ ps) (n ∷ ns) [] more a b = absurd b
+copied parts old all [] (n ∷ ns) qs more a b = absurd a
+copied parts old all (p ∷ ps) [] qs more a b = absurd a
+
+-- a part that is appended
+pub kept-more : {X : Type 0} (xs new : List X) (x : X) → new ≡ xs ++ x ∷ [] → Extends xs new
+kept-more xs new x is = (x ∷ [], is)
+
+pub kept-last : {W P : Type 0} (parts : Splitting W P) (old new : List P) (p q : P) (n : ℕ) → n ≡ length old → new ≡ old ++ q ∷ [] → parts.same p q → HasNumber parts new p n
+kept-last parts old new p q n last is same = (q, ap (λ (i : ℕ). slice_get new i) last ∙ ap (λ l. slice_get l (length old)) is ∙ at_last old q, same)
+
+-- states
+
+-- the state with this number is made of copies of its parts
+pub state-at : {W P : Type 0} (ways : Ways W) (parts : Splitting W P) (old all : List P) (states : List (Vec ℕ)) (n : ℕ) (k : Vec ℕ) (made : List P) (v : W) → slice_get states n ≡ Some k → Extends old all
+    → Pairwise (IsCopyOf parts old) k.items made → ((w : W) (ps : List P) → parts.has w ps → Pairwise parts.same ps made → IsShownSo ways w v) → IsStateAt ways parts all states n v
+state-at ways parts old all states n k made v at more copies joins = (
+  k,
+  at,
+  λ p shows.
+      let has = shows.1.0 in
+      joins shows.0 has shows.1.1 (copied parts old all has k.items made more shows.1.2 copies) p shows.2,
+)
+
+last-place : {X : Type 0} (test : X → Bool) (xs : List X) → list_any test xs ≡ false → position_or_len test xs ≡ length xs
+last-place test [] none = refl
+last-place test (x ∷ xs) none = by (test x) refl none (last-place test xs)
+  where
+    by : (b : Bool) → test x ≡ b → (b || list_any test xs) ≡ false → (list_any test xs ≡ false → position_or_len test xs ≡ length xs) → cond (not (test x)) (1 + position_or_len test xs) 0 ≡ suc (length xs)
+    by true e no_one rest = absurd (cc)
+    by false e no_one rest = let next : 1 + length xs ≡ suc (length xs) = omega arith in
+        ap (λ (b : Bool). cond (not b) (1 + position_or_len test xs) 0) e ∙ ap (λ (n : ℕ). 1 + n) (rest no_one) ∙ next
+
+-- numbers that are inserted
+pub is-numbered : {W P : Type 0} (ways : Ways W) (parts : Splitting W P) (all : List P) (eq : Vec ℕ → Vec ℕ → Bool) (old new : List (Vec ℕ)) (k : Vec ℕ) (n : ℕ) → ((x y : Vec ℕ) → eq x y ≡ true → x.items ≡ y.items)
+    → new ≡ (if list_any (eq k) old then old else old ++ k ∷ []) → n ≡ position_or_len (eq k) old → (s : Vec ℕ) × (slice_get new n ≡ Some s) × (eq k s ≡ true) → IsNumbered (by_numbers ways parts all) old k n new
+is-numbered {W} {P} ways parts all eq old new k n items keys index (s, there, same) = by (list_any (eq k) old) refl keys
+  where
+    shows-same : (p : ways.Point) → (w : W) × HasNumbers parts all w k.items × ways.shows w p → (w : W) × HasNumbers parts all w s.items × ways.shows w p
+    shows-same p (w, has, shows) = (w, subst (HasNumbers parts all w) (items k s same) has, shows)
+
+    by : (b : Bool) → list_any (eq k) old ≡ b → new ≡ (if b then old else old ++ k ∷ []) → IsNumbered (by_numbers ways parts all) old k n new
+    by true e is = inl (is, (s, ap (λ l. slice_get l n) (sym is) ∙ there, shows-same))
+    by false e is = inr (index ∙ last-place (eq k) old e, is)
+
+-- the space of numbers
+
+module _ {W P : Type 0} (ways : Ways W) (parts : Splitting W P) (all : List P) where
+  pub enough : (k : Vec ℕ) (w : W) (turns : List Turn) → IsJoined ways parts all k w → HasEnoughTurns ways w turns → HasEnoughTurns (by_numbers ways parts all) k turns
+  enough k w turns joined each p turn m more q shows next goes = each p turn m more q (joined p shows) next goes
+
+  pub may-end : (k : Vec ℕ) (w : W) → IsJoined ways parts all k w → MayEnd (by_numbers ways parts all) k → MayEnd ways w
+  may-end k w joined (p, shows, over) = (p, joined p shows, over)
+
+  pub moves : (k l : Vec ℕ) (w v : W) (turn : Turn) (led : TurnResult) → IsJoined ways parts all k w → MovesTo ways w turn led v → HasNumbers parts all v l.items → MovesTo (by_numbers ways parts all) k turn led l
+  moves k l w v turn led joined led_so has p q shows next = let moved = led_so p q (joined p shows) next in (moved.0, (v, has, moved.1))
+
+  -- a move that leads nowhere
+  pub moves-nowhere : (k : Vec ℕ) (w v : W) (turn : Turn) (led : TurnResult) (l : Vec ℕ) → IsJoined ways parts all k w → MovesTo ways w turn led v → led ≡ leds.Nowhere → MovesTo (by_numbers ways parts all) k turn led l
+  moves-nowhere k w v turn led l joined led_so nowhere p q shows next = absurd (subst (λ (r : TurnResult). LedFits ways r turn.place p q) nowhere (led_so p q (joined p shows) next).0)
+
+  pub first : (k : Vec ℕ) (w : W) → ShowsFirst ways w → HasNumbers parts all w k.items → ShowsFirst (by_numbers ways parts all) k
+  first k w shows has p begins = (w, has, shows p begins)
+
+-- results
+
+pub if_ok : {A E P : Type 0} (Q : Type 0) (r : Result A E) → OnOk r P → (P → OnOk r Q) → OnOk r Q
+if_ok Q (Ok x) holds so = so holds
+if_ok Q (Err e) holds so = holds
+
+pub if_ok_so : {A E P : Type 0} (Q : A → Type 0) (r : Result A E) → OnOk r P → (P → IfOk r Q) → IfOk r Q
+if_ok_so Q (Ok x) holds so = so holds
+if_ok_so Q (Err e) holds so = holds

@@ -1,4 +1,0 @@
-use Rattle.gt_explore_search.proofs.states.StateIndex.find.Given as goal
-
-abbrev pub invariant-numbers : goal.invariant-numbers
-invariant-numbers g l = Unit {0}

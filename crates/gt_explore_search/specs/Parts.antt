@@ -1,0 +1,57 @@
+-- States as lists of numbers of their parts.
+use Rattle.std.specs.Prelude.{◌≡◌, ◌++◌, ℕ, List, [], ◌∷◌, Some, slice_get}
+use Rattle.std.specs.Global.{Vec}
+use Rattle.gt_explore_search.specs.Ways.{Ways}
+
+-- how the states of a space are split into parts
+pub record Splitting (State Part : Type 0) : Type 1 where
+  -- the state has these parts
+  pub has : State → List Part → Type 0
+  -- the other part is the same
+  pub same : Part → Part → Type 0
+  pub same_on : (p q r : Part) → same p q → same q r → same p r
+
+-- each item of the one list is so related to that of the other one at its index, and there are as many of both
+abbrev pub Pairwise : {X Y : Type 0} → (X → Y → Type 0) → List X → List Y → Type 0
+Pairwise R [] [] = Unit {0}
+Pairwise R (x ∷ xs) (y ∷ ys) = R x y × Pairwise R xs ys
+Pairwise R [] (y ∷ ys) = ⊥
+Pairwise R (x ∷ xs) [] = ⊥
+
+-- the part is the same as the one with this number
+abbrev pub HasNumber : {W P : Type 0} → Splitting W P → List P → P → ℕ → Type 0
+HasNumber {W} {P} parts all p n = (q : P) × (slice_get all n ≡ Some q) × parts.same p q
+
+-- the part is the same as the one with the number before it
+abbrev pub IsCopyOf : {W P : Type 0} → Splitting W P → List P → ℕ → P → Type 0
+IsCopyOf {W} {P} parts all n p = (q : P) × (slice_get all n ≡ Some q) × parts.same q p
+
+-- the new list is the old one with more at its end
+abbrev pub Extends : {X : Type 0} → List X → List X → Type 0
+Extends {X} old new = (more : List X) × (new ≡ old ++ more)
+
+-- the state has parts with these numbers
+abbrev pub HasNumbers : {W P : Type 0} → Splitting W P → List P → W → List ℕ → Type 0
+HasNumbers {W} {P} parts all w numbers = (ps : List P) × parts.has w ps × Pairwise (HasNumber parts all) ps numbers
+
+-- the runs of a space with the numbers of parts as its states, if all parts are these: such a state shows what is shown
+-- by the states with these parts
+abbrev pub by_numbers : {W P : Type 0} → Ways W → Splitting W P → List P → Ways (Vec ℕ)
+by_numbers {W} {P} ways parts all = record {
+  Point = ways.Point;
+  domains = ways.domains;
+  begins = ways.begins;
+  next = ways.next;
+  ends = ways.ends;
+  printed = ways.printed;
+  shows = λ k p. (w : W) × HasNumbers parts all w k.items × ways.shows w p;
+  blank = ways.blank;
+}
+
+-- the state shows all that these numbers show
+abbrev pub IsJoined : {W P : Type 0} → Ways W → Splitting W P → List P → Vec ℕ → W → Type 0
+IsJoined ways parts all k w = (p : ways.Point) → (by_numbers ways parts all).shows k p → ways.shows w p
+
+-- the state shows all that the numbers at this index show
+abbrev pub IsStateAt : {W P : Type 0} → Ways W → Splitting W P → List P → List (Vec ℕ) → ℕ → W → Type 0
+IsStateAt ways parts all states n w = (k : Vec ℕ) × (slice_get states n ≡ Some k) × IsJoined ways parts all k w

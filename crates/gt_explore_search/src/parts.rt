@@ -1,0 +1,124 @@
+//! The parts of the states that a search has met, each kept once.
+ghost use Rattle.std.specs.Prelude.{◌≡◌, slice_get, IfOk, IfSome, OnOk};
+ghost use Rattle.std.specs.Option.{option_map};
+ghost use Rattle.gt_explore_search.specs.Parts.{Extends, HasNumber, IsCopyOf, Pairwise};
+
+use crate::fault::SearchFault;
+use crate::spaces::TransitionSystem;
+use std::alloc::{AllocError, Global};
+use std::collections::HashMap;
+
+/// The parts that were met, each with a number. Only those that have a digest in common are compared.
+#[derive(Drop)]
+pub struct PartIndex<P> {
+    alloc: Global,
+    digests: HashMap<u64, Vec<u32>>,
+    kept: Vec<P>,
+}
+
+impl<P: Drop> PartIndex<P> {
+    /// Makes an empty index.
+    pub fn new(alloc: Global) -> PartIndex<P> {
+        PartIndex {
+            alloc,
+            digests: HashMap::new(alloc),
+            kept: Vec::new(alloc),
+        }
+    }
+
+    // Returns the part with this number.
+    fn part(&self, number: u32) -> Option<&P>
+        ensures { option_map (λ p. p.now) result ≡ slice_get self.now.kept.items number }
+    {
+        self.kept.get(number as usize)
+    }
+
+    // Returns the number of the part with this digest that is the same.
+    fn find<S: TransitionSystem<Part = P>>(&self, space: &S, digest: u64, part: &P) -> Option<u32>
+        ensures { IfSome result (HasNumber (S.parts space.now) self.now.kept.items part.now) }
+    {
+        let numbers = self.digests.get(&digest)?;
+        'numbers: for number in numbers.as_slice() {
+            if let Some(other) = self.part(*number) {
+                if space.is_same(part, other) {
+                    return Some(*number);
+                }
+            }
+        }
+        None
+    }
+
+    // Files the number of a new part under its digest.
+    fn file(&mut self, digest: u64, number: u32) -> Result<(), AllocError>
+        ensures { self.new.kept ≡ self.old.kept }
+    {
+        let numbers = self.digests.entry(digest)?.or_insert(Vec::new(self.alloc));
+        numbers.push(number)?;
+        Ok(())
+    }
+
+    // Returns the number of a part, which is the next one if the part is new.
+    fn number<S: TransitionSystem<Part = P>>(
+        &mut self,
+        space: &S,
+        part: &P,
+    ) -> Result<u32, SearchFault>
+        ensures number { IfOk result (HasNumber (S.parts space.now) self.new.kept.items part.now) }
+        ensures grows { OnOk result (Extends self.old.kept.items self.new.kept.items) }
+    {
+        let digest = space.digest(part);
+        if let Some(number) = self.find(space, digest, part) {
+            return Ok(number);
+        }
+        let at = self.kept.len();
+        if at >= 4_294_967_296 {
+            return Err(SearchFault::States);
+        }
+        let number = at as u32;
+        self.file(digest, number)?;
+        self.kept.push(space.copy(part)?)?;
+        Ok(number)
+    }
+
+    /// Returns the numbers of these parts.
+    ///
+    /// # Errors
+    /// `Memory`, or `States` if there are too many parts for numbers of 32 bits.
+    pub fn numbers<S: TransitionSystem<Part = P>>(
+        &mut self,
+        space: &S,
+        parts: &[P],
+    ) -> Result<Vec<u32>, SearchFault>
+        ensures numbers { IfOk result (λ numbers.
+            Pairwise (HasNumber (S.parts space.now) self.new.kept.items) parts.now numbers.items) }
+        ensures grows { OnOk result (Extends self.old.kept.items self.new.kept.items) }
+    {
+        let mut numbers = Vec::with_capacity(self.alloc, parts.len())?;
+        'parts: for part in parts {
+            numbers.push(self.number(space, part)?)?;
+        }
+        Ok(numbers)
+    }
+
+    /// Returns copies of the parts with these numbers.
+    ///
+    /// # Errors
+    /// `Memory`, or `States` if there is no part with one of the numbers.
+    pub fn copies<S: TransitionSystem<Part = P>>(
+        &self,
+        space: &S,
+        numbers: &[u32],
+    ) -> Result<Vec<P>, SearchFault>
+        ensures { IfOk result (λ made.
+            Pairwise (IsCopyOf (S.parts space.now) self.now.kept.items) numbers.now made.items) }
+    {
+        let mut made = Vec::with_capacity(self.alloc, numbers.len())?;
+        'numbers: for number in numbers {
+            let Some(part) = self.part(*number) else {
+                return Err(SearchFault::States);
+            };
+            made.push(space.copy(part)?)?;
+        }
+        Ok(made)
+    }
+}

@@ -1,6 +1,0 @@
-use Rattle.std.proofs.Common.{take}
-use Rattle.gt_explore_state.specs.Copies.{SamePages}
-use Rattle.gt_explore_state.proofs.copies.copy_pages.Given as goal
-
-abbrev pub invariant-pages : goal.invariant-pages
-invariant-pages l = SamePages (take l.page-index l.pages) l.copies.items

@@ -1,6 +1,0 @@
-use Rattle.std.proofs.Common.{take}
-use Rattle.gt_explore_state.specs.Copies.{SameTables}
-use Rattle.gt_explore_state.proofs.copies.copy_tables.Given as goal
-
-abbrev pub invariant-tables : goal.invariant-tables
-invariant-tables l = SameTables (take l.table-index l.tables) l.copies.items
