@@ -132,9 +132,28 @@ all_found ways ex v holds all p (turn ∷ turns) q shows goes =
     let within = slice_get_within v.turns.items at.0 first at.1 in
     among_same ways ex.suffixes v.ends.items p r q same (holds.tried at.0 first (omega (arith, within, all)) at.1 p n rest r shows next on)
 
--- the node of a state that is done
-abbrev pub node_of : OpenNode → Node
-node_of v = record { state = v.state; ends = v.ends }
+-- lists of ends
+
+end_there : (ends : List ReachedList) (at : ℕ) (e : ReachedList) → slice_get ends at ≡ Some e → slice_get (map (λ (i : ReachedList). i.list) ends) at ≡ Some e.list
+end_there [] at e is = absurd (none-some e is)
+end_there (d ∷ ends) zero e is = ap (λ (i : ReachedList). Some i.list) (same_Some d e is)
+end_there (d ∷ ends) (suc at) e is = end_there ends at e is
+
+-- ends with the same lists
+ends_alike : (one other : List ReachedList) (list : ℕ) → map (λ (i : ReachedList). i.list) other ≡ map (λ (i : ReachedList). i.list) one → HasEnd one list → HasEnd other list
+ends_alike one other list same (at, e, there, is) =
+    let back = end_back other at e.list (ap (λ (l : List ℕ). slice_get l at) same ∙ end_there one at e there) in
+    (at, back.0, back.1, back.2 ∙ is)
+
+among_alike : {W : Type 0} (ways : Ways W) (s : AnswerLists) (one other : List ReachedList) (p q : ways.Point) → map (λ (i : ReachedList). i.list) other ≡ map (λ (i : ReachedList). i.list) one → IsAmongEnds ways s one p q → IsAmongEnds ways s other p q
+among_alike ways s one other p q same (list, end, has, prints) = (list, ends_alike one other list same end, has, prints)
+
+lists_alike : (s : AnswerLists) (one other : List ReachedList) → map (λ (i : ReachedList). i.list) other ≡ map (λ (i : ReachedList). i.list) one → AllHaveLists s one → AllHaveLists s other
+lists_alike s one other same lists at e there =
+    let back = end_back one at e.list (ap (λ (l : List ℕ). slice_get l at) (sym same) ∙ end_there other at e there) in
+    subst (HasListAt s) back.2 (lists at back.0 back.1)
+
+-- a state that is done
 
 grew_done : {P : Type 0} (old new : Explorer P) (n : Node) → new.states ≡ old.states → new.suffixes ≡ old.suffixes → new.nodes.items ≡ old.nodes.items ++ n ∷ [] → Grew old new
 grew_done old new n states suffixes nodes = record {
@@ -143,42 +162,42 @@ grew_done old new n states suffixes nodes = record {
   suffixes = subst (λ (s : AnswerLists). GrowsInto old.suffixes s) (sym suffixes) (grows_same old.suffixes);
 }
 
-pub holds_done : {P : Type 0} (ways : Ways (Vec ℕ)) (old new : Explorer P) (v : OpenNode) → SearchHolds ways old → VisitHolds ways old v → length v.turns.items ≤ v.next → new.states ≡ old.states
-    → new.suffixes ≡ old.suffixes → new.nodes.items ≡ old.nodes.items ++ node_of v ∷ []
+pub holds_done : {P : Type 0} (ways : Ways (Vec ℕ)) (old new : Explorer P) (v : OpenNode) (made : Node) → made.state ≡ v.state → map (λ (i : ReachedList). i.list) made.ends.value.items ≡ map (λ (i : ReachedList). i.list) v.ends.items → SearchHolds ways old → VisitHolds ways old v → length v.turns.items ≤ v.next → new.states ≡ old.states
+    → new.suffixes ≡ old.suffixes → new.nodes.items ≡ old.nodes.items ++ made ∷ []
     → ((state i : ℕ) → slice_get new.done.items state ≡ Some (Some i) → (slice_get old.done.items state ≡ Some (Some i)) ⊎ ((state ≡ v.state) × (i ≡ length old.nodes.items)))
     → SearchHolds ways new × Grew old new
-holds_done ways old new v holds visit all states suffixes nodes done = (
+holds_done ways old new v made of_state alike holds visit all states suffixes nodes done = (
   record {
     whole = subst AreWhole (sym suffixes) holds.whole;
     empty = subst (λ (s : AnswerLists). IsEmptyList s 0) (sym suffixes) holds.empty;
-    nodes = λ i n there. each i n (last_or old.nodes.items (node_of v) n i (ap (λ (l : List Node). slice_get l i) (sym nodes) ∙ there));
+    nodes = λ i n there. each i n (last_or old.nodes.items made n i (ap (λ (l : List Node). slice_get l i) (sym nodes) ∙ there));
     done = λ state i is. numbered state i (done state i is);
   },
   grew,
 )
   where
     grew : Grew old new
-    grew = grew_done old new (node_of v) states suffixes nodes
+    grew = grew_done old new made states suffixes nodes
 
-    own : NodeHolds ways old (node_of v)
+    own : NodeHolds ways old made
     own = record {
       world = visit.world;
-      there = visit.there;
-      finds = λ p turns q shows goes. all_found ways old v visit all p turns q shows goes;
-      lists = visit.lists;
+      there = ap (λ (n : ℕ). slice_get old.states.met.keys n) of_state ∙ visit.there;
+      finds = λ p turns q shows goes. among_alike ways old.suffixes v.ends.items made.ends.value.items p q alike (all_found ways old v visit all p turns q shows goes);
+      lists = lists_alike old.suffixes v.ends.items made.ends.value.items alike visit.lists;
     }
 
-    each : (i : ℕ) (n : Node) → (slice_get old.nodes.items i ≡ Some n) ⊎ ((n ≡ node_of v) × (i ≡ length old.nodes.items)) → NodeHolds ways new n
+    each : (i : ℕ) (n : Node) → (slice_get old.nodes.items i ≡ Some n) ⊎ ((n ≡ made) × (i ≡ length old.nodes.items)) → NodeHolds ways new n
     each i n (inl was) = node_on ways old new n holds.whole grew (holds.nodes i n was)
-    each i n (inr (one, place)) = subst (λ (m : Node). NodeHolds ways new m) (sym one) (node_on ways old new (node_of v) holds.whole grew own)
+    each i n (inr (one, place)) = subst (λ (m : Node). NodeHolds ways new m) (sym one) (node_on ways old new made holds.whole grew own)
 
     numbered : (state i : ℕ) → (slice_get old.done.items state ≡ Some (Some i)) ⊎ ((state ≡ v.state) × (i ≡ length old.nodes.items))
         → (n : Node) × (slice_get new.nodes.items i ≡ Some n) × (n.state ≡ state)
     numbered state i (inl was) =
         let it = holds.done state i was in
-        (it.0, ap (λ (l : List Node). slice_get l i) nodes ∙ get_kept old.nodes.items (node_of v ∷ []) i it.0 it.1, it.2)
+        (it.0, ap (λ (l : List Node). slice_get l i) nodes ∙ get_kept old.nodes.items (made ∷ []) i it.0 it.1, it.2)
     numbered state i (inr (one, place)) =
-        (node_of v, ap (λ (l : List Node). slice_get l i) nodes ∙ ap (λ (j : ℕ). slice_get (old.nodes.items ++ node_of v ∷ []) j) place ∙ at_last old.nodes.items (node_of v), sym one)
+        (made, ap (λ (l : List Node). slice_get l i) nodes ∙ ap (λ (j : ℕ). slice_get (old.nodes.items ++ made ∷ []) j) place ∙ at_last old.nodes.items made, of_state ∙ sym one)
 
 -- turns
 

@@ -28,7 +28,7 @@ pub record IsGathering {P : Type 0} (ways : Ways (Vec ℕ)) (old : Explorer P) (
   pub next : w.next ≡ v.next
   pub turns : w.turns ≡ v.turns
   pub state : w.state ≡ v.state
-  pub found : (at : ℕ) (e : ReachedList) → at < i → slice_get done.ends.items at ≡ Some e
+  pub found : (at : ℕ) (e : ReachedList) → at < i → slice_get done.ends.value.items at ≡ Some e
       → (list : ℕ) × HasEnd w.ends.items list × HasListAt ex.suffixes list × IsLonger ex.suffixes line e.list list
 
 pub gathers_first : {P : Type 0} (ways : Ways (Vec ℕ)) (old : Explorer P) (v : OpenNode) (turn : Turn) (line : Option AnswerLine) (done : Node) → SearchHolds ways old → VisitHolds ways old v → IsGathering ways old v turn line done old v 0
@@ -84,7 +84,7 @@ noted_of list onward = record { list = list; onward = onward }
 -- the next list was gathered
 pub gathers_more : {P : Type 0} (ways : Ways (Vec ℕ)) (old : Explorer P) (v : OpenNode) (turn : Turn) (node : ℕ) (line : Option AnswerLine) (done : Node) (ex : Explorer P) (w : OpenNode) (i : ℕ) (e : ReachedList)
     (t : AnswerLists) (list : ℕ) (onward : Option FirstTurn) (u : OpenNode)
-    → slice_get old.nodes.items node ≡ Some done → HasItsLine ex.suffixes line → IsGathering ways old v turn line done ex w i → slice_get done.ends.items i ≡ Some e → GrowsInto ex.suffixes t → (HasListAt ex.suffixes e.list → HasListAt t list)
+    → slice_get old.nodes.items node ≡ Some done → HasItsLine ex.suffixes line → IsGathering ways old v turn line done ex w i → slice_get done.ends.value.items i ≡ Some e → GrowsInto ex.suffixes t → (HasListAt ex.suffixes e.list → HasListAt t list)
     → (AreWhole ex.suffixes → HasListAt ex.suffixes e.list → IsLonger t line e.list list)
     → Notes w (record { list = list; onward = onward }) u
     → IsGathering ways old v turn line done (record ex { suffixes = t }) u (i + 1)
@@ -129,7 +129,7 @@ gathers_more ways old v turn node line done ex w i e t list onward u is line_on 
     longer : IsLonger t line e.list list
     longer = longers gathers.holds.whole was
 
-    found : (at : ℕ) (d : ReachedList) → at < i + 1 → slice_get done.ends.items at ≡ Some d
+    found : (at : ℕ) (d : ReachedList) → at < i + 1 → slice_get done.ends.value.items at ≡ Some d
         → (n : ℕ) × HasEnd u.ends.items n × HasListAt t n × IsLonger t line d.list n
     found at d lt so = by (less_or at i lt)
       where
@@ -142,7 +142,7 @@ gathers_more ways old v turn node line done ex w i e t list onward u is line_on 
               longer_on ex.suffixes t line d.list f.0 gathers.holds.whole grows line_on (it.lists at d so) f.2 f.3,
             )
         by (inr same) =
-            let one : d ≡ e = same_Some d e (sym so ∙ ap (λ (n : ℕ). slice_get done.ends.items n) same ∙ there) in (
+            let one : d ≡ e = same_Some d e (sym so ∙ ap (λ (n : ℕ). slice_get done.ends.value.items n) same ∙ there) in (
               list,
               notes.has gathers.visit.numbers,
               has,
@@ -152,7 +152,7 @@ gathers_more ways old v turn node line done ex w i e t list onward u is line_on 
 -- all were gathered
 pub gathers_all : {P : Type 0} (ways : Ways (Vec ℕ)) (old : Explorer P) (v : OpenNode) (turn : Turn) (node : ℕ) (line : Option AnswerLine) (done : Node) (ex : Explorer P) (w : OpenNode) (i : ℕ)
     → SearchHolds ways old → VisitHolds ways old v → TurnLeads ways old v turn node line → slice_get old.nodes.items node ≡ Some done → HasItsLine old.suffixes line
-    → length done.ends.items ≤ i → IsGathering ways old v turn line done ex w i → Gathered ways old v turn ex w
+    → length done.ends.value.items ≤ i → IsGathering ways old v turn line done ex w i → Gathered ways old v turn ex w
 gathers_all ways old v turn node line done ex w i first visit leads is line_is all gathers = record {
   holds = gathers.holds;
   grew = gathers.grew;
@@ -170,7 +170,7 @@ gathers_all ways old v turn node line done ex w i first visit leads is line_is a
         let led = leads_on ways old v turn node line done ex first visit leads is gathers.grew line_is gathers.visit.world it.world
         (ap (λ (n : ℕ). slice_get ex.states.met.keys n) (sym gathers.state) ∙ gathers.visit.there) it.there p m shows next in
         let (old_list, (at, e, there, same), has, prints) = it.finds m turns q led.0 goes in
-        let within = slice_get_within done.ends.items at e there in
+        let within = slice_get_within done.ends.value.items at e there in
         let (list, end, also, longer) = gathers.found at e (omega (arith, within, all)) there in (
           list,
           end,

@@ -61,8 +61,8 @@ pub node_on : {P : Type 0} (ways : Ways (Vec ℕ)) (old new : Explorer P) (n : N
 node_on ways old new n whole grew holds = record {
   world = holds.world;
   there = get_grown old.states.met.keys new.states.met.keys n.state holds.world grew.worlds holds.there;
-  finds = λ p turns q shows goes. among_grown ways old.suffixes new.suffixes n.ends.items p q whole grew.suffixes (holds.finds p turns q shows goes);
-  lists = lists_grown old.suffixes new.suffixes n.ends.items grew.suffixes holds.lists;
+  finds = λ p turns q shows goes. among_grown ways old.suffixes new.suffixes n.ends.value.items p q whole grew.suffixes (holds.finds p turns q shows goes);
+  lists = lists_grown old.suffixes new.suffixes n.ends.value.items grew.suffixes holds.lists;
 }
 
 pub visit_on : {P : Type 0} (ways : Ways (Vec ℕ)) (old new : Explorer P) (v : OpenNode) → AreWhole old.suffixes → Grew old new → VisitHolds ways old v → VisitHolds ways new v

@@ -312,7 +312,7 @@ whole_text ways rest p q begins prints =
     same_texts (ways.printed q) rest 0 ways.domains (λ at. prints at ∙ ap (λ (i : List ℕ). i ++ rest at) (ways.blank p begins at))
 
 pub text_found : {P : Type 0} (ways : Ways (Vec ℕ)) (ex : Explorer P) (over : SearchFinishes ways ex) (node : ℕ) (found : SearchResult) → slice_get ex.done.items 0 ≡ Some (Some node)
-    → ((n : Node) (at : ℕ) (e : ReachedList) → slice_get ex.nodes.items node ≡ Some n → slice_get n.ends.items at ≡ Some e → HasListAt ex.suffixes e.list
+    → ((n : Node) (at : ℕ) (e : ReachedList) → slice_get ex.nodes.items node ≡ Some n → slice_get n.ends.value.items at ≡ Some e → HasListAt ex.suffixes e.list
     → (o : FoundText) × (slice_get found.orders.items at ≡ Some o) × (o.text.items ≡ flat_map (rest_by ex.suffixes e.list) (range_with_len 0 ways.domains)))
     → AllTextsFound ways found
 text_found ways ex over node found first orders = λ p turns q begins goes.

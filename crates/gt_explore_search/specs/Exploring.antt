@@ -58,8 +58,8 @@ AllHaveLists s ends = (at : ℕ) (e : ReachedList) → slice_get ends at ≡ Som
 pub record NodeHolds {P : Type 0} (ways : Ways (Vec ℕ)) (ex : Explorer P) (n : Node) : Type 0 where
   pub world : Vec ℕ
   pub there : slice_get ex.states.met.keys n.state ≡ Some world
-  pub finds : AllAreFound ways ex.suffixes world n.ends.items
-  pub lists : AllHaveLists ex.suffixes n.ends.items
+  pub finds : AllAreFound ways ex.suffixes world n.ends.value.items
+  pub lists : AllHaveLists ex.suffixes n.ends.value.items
 
 -- the invariant of a search
 pub record SearchHolds {P : Type 0} (ways : Ways (Vec ℕ)) (ex : Explorer P) : Type 0 where

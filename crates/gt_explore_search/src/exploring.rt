@@ -1,5 +1,5 @@
 //! The depth-first search over the states of a space.
-ghost use Rattle.std.specs.Prelude.{◌≡◌, ◌⊎◌, ℕ, List, IfOk, IsTrue, slice_get, Some};
+ghost use Rattle.std.specs.Prelude.{◌≡◌, ◌⊎◌, ℕ, List, IfOk, IsTrue, map, slice_get, Some};
 ghost use Rattle.std.specs.Option.{option_map};
 ghost use Rattle.gt_explore_search.specs.Exploring.{AllTextsFound, SearchStarts};
 ghost use Rattle.gt_explore_search.specs.Parts.{by_numbers};
@@ -11,6 +11,7 @@ use crate::suffixes::{AnswerLine, AnswerLists};
 use gt_explore_replay::Turn;
 use indexmap::IndexSet;
 use std::alloc::{AllocError, Global};
+use std::rc::Rc;
 
 mod partial;
 
@@ -46,11 +47,21 @@ pub struct ReachedList {
     pub onward: Option<FirstTurn>,
 }
 
-/// A state whose moves have all been tried, and the lists of answers that it leads to.
+/// The turn by which a state leads to a node whose ends are its own, each at the same index.
+#[derive(Clone, Copy)]
+pub struct NextNode {
+    pub place: u32,
+    pub choice: u32,
+    pub node: u32,
+}
+
+/// A state whose moves have all been tried, and the lists of answers that it leads to. It shares them with the next node
+/// if they are the same.
 #[derive(Drop)]
 pub struct Node {
     pub state: usize,
-    pub ends: Vec<ReachedList>,
+    pub ends: Rc<Vec<ReachedList>>,
+    pub next: Option<NextNode>,
 }
 
 /// A state whose moves are being tried.
@@ -69,7 +80,7 @@ pub struct Explorer<P> {
     pub alloc: Global,
     pub limit: usize,
     pub states: StateIndex<P>,
-    pub done: Vec<Option<usize>>,
+    pub done: Vec<Option<u32>>,
     pub nodes: Vec<Node>,
     pub suffixes: AnswerLists,
 }
@@ -109,14 +120,56 @@ fn node_at(nodes: &[Node], node: usize) -> Option<&Node>
 }
 
 // Records that the state with this number has this node.
-fn set_done(done: &mut Vec<Option<usize>>, state: usize, node: usize)
+fn set_done(done: &mut Vec<Option<u32>>, state: usize, node: usize)
     ensures { (s i : ℕ) → slice_get done.new.items s ≡ Some (Some i) →
         (slice_get done.old.items s ≡ Some (Some i)) ⊎ ((s ≡ state) × (i ≡ node)) }
 {
-    if state >= done.len() {
+    if state >= done.len() || node >= 4_294_967_296 {
         return;
     }
-    done[state] = Some(node);
+    done[state] = Some(node as u32);
+}
+
+// Returns the node to which each of these ends leads by one turn, if it is at the same index there.
+fn next_of(ends: &[ReachedList]) -> Option<NextNode> {
+    let first = ends.first()?.onward?;
+    for (at, end) in ends.iter().enumerate() {
+        let onward = end.onward?;
+        let by = onward.turn;
+        let is_alike = by.place == first.turn.place && by.choice == first.turn.choice;
+        if !is_alike || onward.node != first.node || onward.end != at {
+            return None;
+        }
+    }
+    Some(NextNode {
+        place: u32::try_from(first.turn.place).ok()?,
+        choice: u32::try_from(first.turn.choice).ok()?,
+        node: u32::try_from(first.node).ok()?,
+    })
+}
+
+// Returns the turn to the next node, and to the end at this index.
+fn turn_to(next: NextNode, end: usize) -> FirstTurn {
+    let place = next.place as usize;
+    let choice = next.choice as usize;
+    let node = next.node as usize;
+    let turn = Turn { place, choice };
+    FirstTurn { turn, node, end }
+}
+
+// Returns whether both have the same lists, in the same order.
+fn same_lists(one: &[ReachedList], other: &[ReachedList]) -> bool
+    ensures { IsTrue result → map (λ e. e.list) other.now ≡ map (λ e. e.list) one.now }
+{
+    if one.len() != other.len() {
+        return false;
+    }
+    'ends: for at in 0..one.len() {
+        if one[at].list != other[at].list {
+            return false;
+        }
+    }
+    true
 }
 
 // Returns whether the move led nowhere.
@@ -130,7 +183,7 @@ fn leads_nowhere(led: &TurnResult) -> bool
 }
 
 impl<P: Drop> Explorer<P> {
-    ghost use Rattle.std.specs.Prelude.{◌≡◌, ◌≤◌, List, Some, IfOk, IfSome, OnOk, length, slice_get};
+    ghost use Rattle.std.specs.Prelude.{◌≡◌, ◌≤◌, List, Some, IfOk, IfSome, OnOk, length, map, slice_get};
     ghost use Rattle.gt_explore_search.specs.Lists.{HasItsLine};
     ghost use Rattle.gt_explore_search.specs.Exploring.{SearchHolds, EachVisitHolds, VisitHolds, Grew, TurnLeads, Gathered};
     ghost use Rattle.gt_explore_search.specs.Exploring.{Stepped};
@@ -144,7 +197,10 @@ impl<P: Drop> Explorer<P> {
         if state >= self.done.len() {
             return None;
         }
-        self.done[state]
+        match self.done[state] {
+            Some(node) => Some(node as usize),
+            None => None,
+        }
     }
 
     // Opens a state that is met for the first time. Its moves are to be tried.
@@ -261,6 +317,34 @@ impl<P: Drop> Explorer<P> {
         Ok(None)
     }
 
+    // Returns the ends of this node, if their lists are those of these ends.
+    fn shared(&self, next: NextNode, ends: &[ReachedList]) -> Option<&Rc<Vec<ReachedList>>>
+        ensures { IfSome result (λ kept. map (λ e. e.list) kept.now.value.items ≡ map (λ e. e.list) ends.now) }
+    {
+        let done = node_at(self.nodes.as_slice(), next.node as usize)?;
+        if same_lists(ends, done.ends.as_slice()) {
+            Some(&done.ends)
+        } else {
+            None
+        }
+    }
+
+    // Keeps these ends, or shares those of the next node.
+    fn kept(
+        &self,
+        ends: &[ReachedList],
+    ) -> Result<(Rc<Vec<ReachedList>>, Option<NextNode>), AllocError>
+        ensures { IfOk result (λ made. map (λ e. e.list) made.0.value.items ≡ map (λ e. e.list) ends.now) }
+    {
+        if let Some(next) = next_of(ends) {
+            if let Some(kept) = self.shared(next, ends) {
+                return Ok((kept.clone()?, Some(next)));
+            }
+        }
+        let own = Vec::from_slice(self.alloc, ends)?;
+        Ok((Rc::new(self.alloc, own)?, None))
+    }
+
     // Finishes a state whose moves have all been tried.
     fn finish<S: TransitionSystem<Part = P>>(
         &mut self,
@@ -275,8 +359,8 @@ impl<P: Drop> Explorer<P> {
     {
         let node = self.nodes.as_slice().len();
         let state = visit.state;
-        let ends = visit.ends;
-        self.nodes.push(Node { state, ends })?;
+        let (ends, next) = self.kept(visit.ends.as_slice())?;
+        self.nodes.push(Node { state, ends, next })?;
         set_done(&mut self.done, state, node);
         Ok(())
     }
@@ -334,7 +418,10 @@ impl<P: Drop> Explorer<P> {
     // Returns the first turn from a state that is done to the end at this index.
     fn onward(&self, node: usize, end: usize) -> Option<FirstTurn> {
         let done = self.nodes.get(node)?;
-        done.ends.get(end)?.onward
+        match done.next {
+            None => done.ends.get(end)?.onward,
+            Some(next) => Some(turn_to(next, end)),
+        }
     }
 
     // Returns the turns that lead from a state that is done to the end at this index.

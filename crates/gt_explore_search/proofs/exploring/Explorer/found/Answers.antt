@@ -1,6 +1,7 @@
 use Rattle.std.proofs.Common.{sym, ◌∙◌, ap, ◌≡◌, ◌<◌, ◌≤◌, List, ℕ, length, Some, None, slice_get, get_or, Bor, arith}
 use Rattle.std.proofs.lemmas.Option.{same_Some, slice_get_within, slice_get-get_or}
 use Rattle.std.specs.List.{flat_map, range_with_len}
+use Rattle.std.specs.Global.{Vec}
 use Rattle.std.specs.Option.{option_map}
 use Rattle.gt_explore_search.specs.Lists.{rest_by}
 use Rattle.gt_explore_search.specs.Parts.{by_numbers}
@@ -25,8 +26,8 @@ returns g c = λ all over.
     ap (λ (l : List Node). slice_get l c.in-Some.first) (sym c.as_slice.ensures.value) ∙ sym c.node_at.ensures ∙ ap (option_map (λ (n : Bor Node). n.now)) c.in-Some-node_at.is in
     let past : length c.as_slice-end-items.result.now ≤ c.ends.end-index = omega (arith, c.ends-test.false) in
     text_found (by_numbers (g.S.TransitionSystem.ways c.args.space.now) (g.S.TransitionSystem.parts c.args.space.now) all) c.args.self.now over c.in-Some.first (record { orders = c.ends.orders; states = c.len-states.result }) c.in-Some.ensures (λ n at e here is has.
-    let same : n.ends.items ≡ c.as_slice-end-items.result.now =
-    ap (λ (m : Node). m.ends.items) (same_Some n c.in-Some-node_at.done.now (sym here ∙ there)) ∙ sym c.as_slice-end-items.ensures.value in
+    let same : n.ends.value.items ≡ c.as_slice-end-items.result.now =
+    ap (λ (m : Node). m.ends.value.items) (same_Some n c.in-Some-node_at.done.now (sym here ∙ there)) ∙ ap (λ (l : Vec ReachedList). l.items) (sym c.deref.ensures) ∙ sym c.as_slice-end-items.ensures.value in
     let now : slice_get c.as_slice-end-items.result.now at ≡ Some e = ap (λ (l : List ReachedList). slice_get l at) (sym same) ∙ is in
     let within = slice_get_within c.as_slice-end-items.result.now at e now in
     let less : at < c.ends.end-index = omega (arith, within, past) in

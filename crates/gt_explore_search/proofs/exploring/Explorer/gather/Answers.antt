@@ -1,5 +1,6 @@
 use Rattle.std.proofs.Common.{sym, ◌∙◌, ap, ◌≡◌, ◌≤◌, List, length, Some, None, slice_get, get_or, Bor, subst, arith}
 use Rattle.std.proofs.lemmas.Option.{slice_get-get_or}
+use Rattle.std.specs.Global.{Vec}
 use Rattle.std.specs.Option.{option_map}
 use Rattle.gt_explore_search.specs.declared.exploring.ReachedList.{ReachedList}
 use Rattle.gt_explore_search.specs.declared.exploring.Node.{Node}
@@ -29,7 +30,7 @@ pub returns-clause-gathered : goal.returns-clause-gathered
 returns-clause-gathered g c = λ all holds visit leads.
     let there : slice_get c.args.self.now.nodes.items c.args.node ≡ Some c.in-Some.done.now =
     ap (λ (l : List Node). slice_get l c.args.node) (sym c.as_slice.ensures.value) ∙ sym c.node_at.ensures ∙ ap (option_map (λ (n : Bor Node). n.now)) c.in-Some.is in
-    let same : c.in-Some.done.now.ends.items ≡ c.as_slice-end-items.result.now = sym c.as_slice-end-items.ensures.value in
+    let same : c.in-Some.done.now.ends.value.items ≡ c.as_slice-end-items.result.now = ap (λ (l : Vec ReachedList). l.items) (sym c.deref.ensures) ∙ sym c.as_slice-end-items.ensures.value in
     let past : length c.as_slice-end-items.result.now ≤ c.ends.end-index = omega (arith, c.ends-test.false) in
     gathers_all (by_numbers (g.S.TransitionSystem.ways c.args._space.now) (g.S.TransitionSystem.parts c.args._space.now) all) c.args.self.now c.args.visit.now c.args.turn c.args.node c.args.line c.in-Some.done.now (record c.args.self.now { suffixes = c.ends.suffixes }) c.ends.visit c.ends.end-index
     holds visit leads there c.requires (subst (λ (l : List ReachedList). length l ≤ c.ends.end-index) (sym same) past)
