@@ -118,7 +118,13 @@ fn take_out(cells: &Cells, seat: &mut CellSeat, slot: FrameSlot, last: bool) -> 
 }
 
 // Reads a frame that is out into all of `out`, and frees it.
-pub(crate) fn read_out(cells: &Cells, seat: &mut CellSeat, slot: FrameSlot, off: u16, out: &mut [u8]) -> Filled
+pub(crate) fn read_out(
+    cells: &Cells,
+    seat: &mut CellSeat,
+    slot: FrameSlot,
+    off: u16,
+    out: &mut [u8],
+) -> Filled
     requires mine { (seat.old.table_id ≡ cells.now.table_id) × (seat.old.me.0.own.gone ≡ false) }
     requires slot { IsSlotOf (places_of cells.now.key) cells.now.table_id slot }
     requires out { (x : FrameState) × IsOut (layout_of cells.now.key) slot true x seat.old.me }
