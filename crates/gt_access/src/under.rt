@@ -2,7 +2,7 @@
 ghost use Rattle.std.specs.Prelude.{◌≡◌, ◌+◌, ◌≤◌, length, IfErr, IfNone, IfOk, IfSome, OnErr, OnOk};
 ghost use Rattle.gt_types.specs.declared.Dir.TheVariants as dirs;
 ghost use Rattle.gt_types.specs.declared.Use.TheVariants as uses;
-ghost use Rattle.gt_word_history.specs.declared.view.FrameStep.TheVariants as access;
+ghost use Rattle.gt_word_history.specs.declared.view.FrameStep.TheVariants as steps;
 ghost use Rattle.gt_words.specs.Conditions.{IsSameSeat, IsSeatOf, position_at};
 ghost use Rattle.gt_words.specs.Frames.{AccessesFrame, CopiesFrames, IsCopyFault, IsFaultAt, IsReadOf, KeepsFrame};
 ghost use Rattle.gt_words.specs.Frames.{copying_at, writing_at};
@@ -11,7 +11,7 @@ ghost use Rattle.gt_access.specs.Routes.{MayAccessBy, MayCopyBy, ReachesBy, writ
 use gt_calls::{AccessPath, CallPins};
 use gt_frames::{Copied, Filled, Writ, WriteBasis, Written};
 use gt_roster::Roster;
-use gt_types::{Allows, DomId, FRAME_SIZE, FrameName, Spot};
+use gt_types::{Allows, DomId, FRAME_SIZE, Spot};
 use gt_words::{AccessFault, Seat, Words};
 use std::sync::Wait;
 
@@ -30,6 +30,22 @@ impl<P> Drop for AccessContext<'_, P> {
             rights: _,
         } = self;
     }
+}
+
+/// An access to a frame: the route by which the caller reaches it, and the position of the first byte.
+#[derive(Clone, Copy)]
+pub struct Access<'r> {
+    pub route: &'r AccessPath,
+    pub at: Spot,
+}
+
+/// The access of a copy: the routes to its ends, the position of the first byte of each, and the number of bytes.
+#[derive(Clone, Copy)]
+pub struct CopyAccess<'r> {
+    pub routes: &'r CallPins,
+    pub from: Spot,
+    pub to: Spot,
+    pub len: u16,
 }
 
 /// Returns the writ of a domain that writes by this route.
@@ -51,36 +67,38 @@ pub fn writ_by(caller: DomId, route: &AccessPath) -> Writ
     }
 }
 
-/// Reads the frame of this name, starting at `off`, into all of `out`. Waits while another seat has the frame. Returns
+/// Reads into all of `out`, starting at the position of the access. Waits while another seat has the frame. Returns
 /// `None`, with `out` unchanged, if the run keeps no such frame.
+#[inline(always)]
 pub fn read_under<R: Wait, P: Allows>(
     rt: &R,
     run: &AccessContext<'_, P>,
     seat: &mut Seat,
-    route: &AccessPath,
-    name: FrameName,
-    off: u16,
+    access: &Access<'_>,
     out: &mut [u8],
 ) -> Option<Filled>
     requires seat { IsSeatOf run.now.words.now seat.old }
     requires reached { ReachesBy run.now.words.now.layout seat.old dirs.Read uses.Map
-        name off (length out.old) route.now }
-    requires may { MayAccessBy run.now.config.now.domains.items (P.may run.now.rights.now) seat.old.dom route.now }
-    requires range { off + length out.old ≤ FRAME_SIZE }
+        access.now.at.frame access.now.at.off (length out.old) access.now.route.now }
+    requires may { MayAccessBy run.now.config.now.domains.items (P.may run.now.rights.now)
+        seat.old.dom access.now.route.now }
+    requires range { access.now.at.off + length out.old ≤ FRAME_SIZE }
     ensures seat { IsSameSeat seat.old seat.new }
     ensures fits { IsSeatOf run.now.words.now seat.new }
     ensures step { IfSome result (λ r. AccessesFrame run.now.words.now.layout
-        (position_at run.now.words.now name.owner) name.number (access.Read off r.bytes) seat.old.view seat.new.view) }
-    ensures receipt { IfSome result (λ r. IsReadOf r name off (length out.old)) }
+        (position_at run.now.words.now access.now.at.frame.owner) access.now.at.frame.number
+        (steps.Read access.now.at.off r.bytes) seat.old.view seat.new.view) }
+    ensures receipt { IfSome result (λ r. IsReadOf r access.now.at.frame access.now.at.off (length out.old)) }
     ensures filled { IfSome result (λ r. out.new ≡ r.bytes) }
-    ensures none { IfNone result (KeepsFrame run.now.words.now name → ⊥) }
+    ensures none { IfNone result (KeepsFrame run.now.words.now access.now.at.frame → ⊥) }
     ensures kept { IfNone result ((out.new ≡ out.old) × (seat.new.view ≡ seat.old.view)) }
 {
-    run.words.read_frame(rt, seat, name, off, out)
+    let Spot { frame, off } = access.at;
+    run.words.read_frame(rt, seat, frame, off, out)
 }
 
-/// Writes `bytes` to the frame of this name, starting at `off`, by the writ of the route. Waits while another seat has
-/// the frame.
+/// Writes `bytes`, starting at the position of the access, by the writ of its route. Waits while another seat has the
+/// frame.
 ///
 /// # Errors
 /// [`AccessFault`]. No step was made.
@@ -89,32 +107,36 @@ pub fn write_under<'a, R: Wait, P: Allows>(
     rt: &R,
     run: &AccessContext<'_, P>,
     seat: &mut Seat,
-    route: &AccessPath,
-    name: FrameName,
-    off: u16,
+    access: &Access<'_>,
     bytes: &'a [u8],
 ) -> Result<Written<'a>, AccessFault>
     requires seat { IsSeatOf run.now.words.now seat.old }
     requires reached { ReachesBy run.now.words.now.layout seat.old dirs.Write uses.Map
-        name off (length bytes.now) route.now }
-    requires may { MayAccessBy run.now.config.now.domains.items (P.may run.now.rights.now) seat.old.dom route.now }
-    requires range { off + length bytes.now ≤ FRAME_SIZE }
+        access.now.at.frame access.now.at.off (length bytes.now) access.now.route.now }
+    requires may { MayAccessBy run.now.config.now.domains.items (P.may run.now.rights.now)
+        seat.old.dom access.now.route.now }
+    requires range { access.now.at.off + length bytes.now ≤ FRAME_SIZE }
     ensures seat { IsSameSeat seat.old seat.new }
     ensures fits { IsSeatOf run.now.words.now seat.new }
     ensures step { OnOk result (AccessesFrame run.now.words.now.layout
-        (position_at run.now.words.now name.owner) name.number
-        (access.Wrote (record { writ = writ_by seat.old.dom route.now; off = off; bytes = bytes.now }))
-        seat.old.view seat.new.view) }
-    ensures receipt { IfOk result (λ r. r ≡ writing_at name off bytes.now seat.old.dom) }
-    ensures fault { IfErr result (IsFaultAt run.now.words.now name) }
+        (position_at run.now.words.now access.now.at.frame.owner) access.now.at.frame.number
+        (steps.Wrote (record {
+          writ = writ_by seat.old.dom access.now.route.now;
+          off = access.now.at.off;
+          bytes = bytes.now;
+        })) seat.old.view seat.new.view) }
+    ensures receipt { IfOk result (λ r.
+        r ≡ writing_at access.now.at.frame access.now.at.off bytes.now seat.old.dom) }
+    ensures fault { IfErr result (IsFaultAt run.now.words.now access.now.at.frame) }
     ensures refused { OnErr result (seat.new.view ≡ seat.old.view) }
 {
-    let writ = writ_by(seat.dom(), route);
-    run.words.write_frame(rt, seat, name, &writ, off, bytes)
+    let Spot { frame, off } = access.at;
+    let writ = writ_by(seat.dom(), access.route);
+    run.words.write_frame(rt, seat, frame, &writ, off, bytes)
 }
 
-/// Copies `len` bytes from one place to another, in one frame or between two, by the writ of the route to the
-/// destination. Waits while another seat has one of the frames.
+/// Copies bytes from one position to another, in one frame or between two, by the writ of the route to the destination.
+/// Waits while another seat has one of the frames.
 ///
 /// # Errors
 /// [`AccessFault`]. No step was made.
@@ -123,27 +145,31 @@ pub fn copy_under<R: Wait, P: Allows>(
     rt: &R,
     run: &AccessContext<'_, P>,
     seat: &mut Seat,
-    routes: &CallPins,
-    from: Spot,
-    to: Spot,
-    len: u16,
+    copy: &CopyAccess<'_>,
 ) -> Result<Copied, AccessFault>
     requires seat { IsSeatOf run.now.words.now seat.old }
     requires source { ReachesBy run.now.words.now.layout seat.old dirs.Read uses.Copy
-        from.frame from.off len routes.now.source }
+        copy.now.from.frame copy.now.from.off copy.now.len copy.now.routes.now.source }
     requires dest { ReachesBy run.now.words.now.layout seat.old dirs.Write uses.Copy
-        to.frame to.off len routes.now.dest }
-    requires may { MayCopyBy run.now.config.now.domains.items (P.may run.now.rights.now) seat.old.dom routes.now }
-    requires source_range { from.off + len ≤ FRAME_SIZE }
-    requires dest_range { to.off + len ≤ FRAME_SIZE }
+        copy.now.to.frame copy.now.to.off copy.now.len copy.now.routes.now.dest }
+    requires may { MayCopyBy run.now.config.now.domains.items (P.may run.now.rights.now)
+        seat.old.dom copy.now.routes.now }
+    requires source_range { copy.now.from.off + copy.now.len ≤ FRAME_SIZE }
+    requires dest_range { copy.now.to.off + copy.now.len ≤ FRAME_SIZE }
     ensures seat { IsSameSeat seat.old seat.new }
     ensures fits { IsSeatOf run.now.words.now seat.new }
-    ensures step { OnOk result (CopiesFrames run.now.words.now.layout from to len
-        (writ_by seat.old.dom routes.now.dest) seat.old.view seat.new.view) }
-    ensures receipt { IfOk result (λ r. r ≡ copying_at from to len seat.old.dom) }
-    ensures fault { IfErr result (IsCopyFault run.now.words.now from to) }
+    ensures step { OnOk result (CopiesFrames run.now.words.now.layout copy.now.from copy.now.to copy.now.len
+        (writ_by seat.old.dom copy.now.routes.now.dest) seat.old.view seat.new.view) }
+    ensures receipt { IfOk result (λ r. r ≡ copying_at copy.now.from copy.now.to copy.now.len seat.old.dom) }
+    ensures fault { IfErr result (IsCopyFault run.now.words.now copy.now.from copy.now.to) }
     ensures refused { OnErr result (seat.new.view ≡ seat.old.view) }
 {
+    let CopyAccess {
+        routes,
+        from,
+        to,
+        len,
+    } = *copy;
     let writ = writ_by(seat.dom(), &routes.dest);
     run.words.copy_frames(rt, seat, from, to, len, &writ)
 }

@@ -5,6 +5,7 @@ use Rattle.std.proofs.lemmas.List.{length-replicate}
 use Rattle.std.proofs.lemmas.Bool.Decides.{nat_tests}
 use Rattle.gt_types.specs.declared.limits.TheConstants.{FRAME_SIZE}
 use Rattle.gt_types.specs.declared.DomId.{DomId}
+use Rattle.gt_frames.specs.declared.frame.FrameParts.{FrameParts}
 use Rattle.gt_frames.specs.declared.writ.Writ.{Writ}
 use Rattle.gt_frames.specs.declared.writ.WriteRecord.{WriteRecord}
 use Rattle.gt_frames.specs.Bytes.{overlay, zeros, replay, written, IsLaidOver}
@@ -92,3 +93,11 @@ new_sound owner number bytes journal fill none =
       len = ap (λ (l : List ℕ). length l) fill ∙ length-replicate {A = ℕ} FRAME_SIZE 0;
       rightful = subst (λ (rs : List WriteRecord). IsTrue (all_rightful owner number rs)) (sym none) refl;
     }
+
+-- what contracts see of a frame with these parts
+abbrev pub seen : FrameParts → FrameState
+seen p = record { owner = p.owner; number = p.number; journal = p.journal }
+
+-- the parts are sound
+abbrev pub IsSoundIn : FrameParts → Type 0
+IsSoundIn p = IsSound p.owner p.number p.bytes p.journal

@@ -6,6 +6,7 @@ ghost use Rattle.gt_frames.specs.Bytes.{overlay};
 ghost use Rattle.gt_frames.specs.Frames.{recorded};
 ghost use Rattle.gt_frames.specs.Writers.{KnowsWriters};
 
+use crate::frame_bytes::Contents;
 use crate::journal::Journal;
 use crate::receipts::CopiedEnd;
 use crate::writers::Writers;
@@ -15,14 +16,21 @@ use std::alloc::Global;
 use std::marker::Model;
 use std::snapshot::Snapshot;
 
-/// A frame of 4,096 bytes, with all writes made to it.
+// What a frame keeps.
 #[derive(Drop)]
-pub struct Frame {
+struct FrameParts {
     owner: DomId,
     number: u64,
-    bytes: Vec<u8>,
+    bytes: Contents,
     writers: Writers,
     journal: Journal,
+}
+
+/// A frame of 4,096 bytes, with all writes made to it. All of it is in one block of the heap, so moving a frame moves
+/// one word.
+#[derive(Drop)]
+pub struct Frame {
+    parts: Box<FrameParts>,
 }
 
 impl Model for Frame {
@@ -31,9 +39,15 @@ impl Model for Frame {
 
     ghost Value = { FrameState };
 
-    ghost view = { λ f. record { owner = f.owner; number = f.number; journal = f.journal } };
+    ghost view = { λ f. record {
+      owner = f.parts.value.owner;
+      number = f.parts.value.number;
+      journal = f.parts.value.journal;
+    } };
 
-    ghost invariant = { λ f. IsSound f.owner f.number f.bytes.items f.journal × KnowsWriters f.writers f.journal };
+    ghost invariant = { λ f.
+        IsSound f.parts.value.owner f.parts.value.number f.parts.value.bytes f.parts.value.journal
+        × KnowsWriters f.parts.value.writers f.parts.value.journal };
 }
 
 // Lays the bytes over the contents, and keeps by which writ they were written. Fails only if there is no room for a
@@ -42,19 +56,19 @@ impl Model for Frame {
 fn store(
     writers: &mut Writers,
     journal: &mut Journal,
-    contents: &mut Vec<u8>,
+    contents: &mut Contents,
     writ: &Writ,
     off: u16,
     bytes: &[u8],
 ) -> Result<(), Memory>
-    requires size { vec_len contents.old ≡ FRAME_SIZE }
+    requires size { length contents.old ≡ FRAME_SIZE }
     requires range { off + length bytes.now ≤ FRAME_SIZE }
     requires knows { KnowsWriters writers.old journal.old }
     ensures knows { KnowsWriters writers.new journal.new }
     ensures journal { OnOk result (journal.new ≡ recorded journal.old writ.now off bytes.now) }
-    ensures contents { OnOk result (contents.new.items ≡ overlay contents.old.items off bytes.now) }
+    ensures contents { OnOk result (contents.new ≡ overlay contents.old off bytes.now) }
     ensures journal_kept { OnErr result (journal.new ≡ journal.old) }
-    ensures contents_kept { OnErr result (contents.new.items ≡ contents.old.items) }
+    ensures contents_kept { OnErr result (contents.new ≡ contents.old) }
 {
     let start = usize::from(off);
     match writers.number_of(writ) {
@@ -83,22 +97,22 @@ fn range_of(bytes: &[u8], range: Range) -> &[u8]
 fn store_own(
     writers: &mut Writers,
     journal: &mut Journal,
-    contents: &mut Vec<u8>,
+    contents: &mut Contents,
     writ: &Writ,
     range: Range,
     to_off: u16,
 ) -> Result<(), Memory>
-    requires size { vec_len contents.old ≡ FRAME_SIZE }
+    requires size { length contents.old ≡ FRAME_SIZE }
     requires source { range.off + range.len ≤ FRAME_SIZE }
     requires range { to_off + range.len ≤ FRAME_SIZE }
     requires knows { KnowsWriters writers.old journal.old }
     ensures knows { KnowsWriters writers.new journal.new }
     ensures journal { OnOk result (journal.new
-        ≡ recorded journal.old writ.now to_off (slice_range contents.old.items range.off (range.off + range.len))) }
-    ensures contents { OnOk result (contents.new.items
-        ≡ overlay contents.old.items to_off (slice_range contents.old.items range.off (range.off + range.len))) }
+        ≡ recorded journal.old writ.now to_off (slice_range contents.old range.off (range.off + range.len))) }
+    ensures contents { OnOk result (contents.new
+        ≡ overlay contents.old to_off (slice_range contents.old range.off (range.off + range.len))) }
     ensures journal_kept { OnErr result (journal.new ≡ journal.old) }
-    ensures contents_kept { OnErr result (contents.new.items ≡ contents.old.items) }
+    ensures contents_kept { OnErr result (contents.new ≡ contents.old) }
 {
     let mut room = [0; FRAME_SIZE as usize];
     let taken = &mut room[..usize::from(range.len)];
@@ -116,12 +130,15 @@ impl Frame {
     pub fn new(alloc: Global, owner: DomId, number: u64) -> Result<Self, Memory>
         ensures { IfOk result (λ f. f ≡ record { owner = owner; number = number; journal = [] }) }
     {
-        Ok(Frame {
+        let parts = FrameParts {
             owner,
             number,
-            bytes: vec![in alloc; 0; FRAME_SIZE as usize]?,
+            bytes: [0; FRAME_SIZE as usize],
             writers: Writers::new(alloc),
             journal: Journal::new(),
+        };
+        Ok(Frame {
+            parts: Box::new(alloc, parts)?,
         })
     }
 
@@ -131,21 +148,21 @@ impl Frame {
         ensures kept { IsKept self.now }
         ensures len { length (contents self.now) ≡ FRAME_SIZE }
     {
-        self.owner
+        self.parts.owner
     }
 
     /// Returns the frame's number among the owner's frames.
     pub fn number(&self) -> u64
         ensures { result ≡ self.now.number }
     {
-        self.number
+        self.parts.number
     }
 
     /// Returns the writ by which a byte was last written; `None` if it never was.
     pub fn last_writ(&self, at: u16) -> Option<Writ>
         ensures { result ≡ last_writ self.now.journal at None }
     {
-        self.writers.last_writ(usize::from(at))
+        self.parts.writers.last_writ(usize::from(at))
     }
 
     /// Reads over all of `out`, starting at offset `off`. The length of `out` is the length of the range. It does
@@ -169,10 +186,10 @@ impl Frame {
         ensures len { length result.bytes ≡ len }
     {
         let start = usize::from(off);
-        let _ = room.extend_from_slice(&self.bytes[start..start + len]);
+        let _ = room.extend_from_slice(&self.parts.bytes[start..start + len]);
         Read {
-            owner: self.owner,
-            number: self.number,
+            owner: self.parts.owner,
+            number: self.parts.number,
             off,
             bytes: FrameBytes::from(room),
         }
@@ -187,13 +204,13 @@ impl Frame {
         ensures filled { out.new ≡ result.bytes }
     {
         let (start, len) = (usize::from(off), out.len());
-        out.copy_from_slice(&self.bytes[start..start + len]);
+        out.copy_from_slice(&self.parts.bytes[start..start + len]);
         Filled {
-            owner: self.owner,
-            number: self.number,
+            owner: self.parts.owner,
+            number: self.parts.number,
             off,
             len,
-            contents: Snapshot::of(&self.bytes),
+            contents: Snapshot::of(&self.parts.bytes),
         }
     }
 
@@ -215,17 +232,18 @@ impl Frame {
         ensures receipt { IfOk result (λ r. r ≡ writing_of self.old off bytes.now writ.now.writer) }
         ensures refused { OnErr result (self.new ≡ self.old) }
     {
+        let parts: &mut FrameParts = &mut self.parts;
         store(
-            &mut self.writers,
-            &mut self.journal,
-            &mut self.bytes,
+            &mut parts.writers,
+            &mut parts.journal,
+            &mut parts.bytes,
             writ,
             off,
             bytes,
         )?;
         Ok(Written {
-            owner: self.owner,
-            number: self.number,
+            owner: self.parts.owner,
+            number: self.parts.number,
             off,
             bytes,
             writer: writ.writer,
@@ -247,11 +265,12 @@ impl Frame {
         requires { CanCopy writ.now to.old range to_off }
         ensures { IsCopy from.now to.old to.new writ.now range to_off result }
     {
-        let bytes = range_of(&from.bytes, range);
+        let bytes = range_of(&from.parts.bytes, range);
+        let parts: &mut FrameParts = &mut to.parts;
         store(
-            &mut to.writers,
-            &mut to.journal,
-            &mut to.bytes,
+            &mut parts.writers,
+            &mut parts.journal,
+            &mut parts.bytes,
             writ,
             to_off,
             bytes,
@@ -274,11 +293,11 @@ impl Frame {
         requires { CanCopy writ.now self.old range to_off }
         ensures { IsCopy self.old self.old self.new writ.now range to_off result }
     {
-        let contents = &mut self.bytes;
+        let parts: &mut FrameParts = &mut self.parts;
         store_own(
-            &mut self.writers,
-            &mut self.journal,
-            contents,
+            &mut parts.writers,
+            &mut parts.journal,
+            &mut parts.bytes,
             writ,
             range,
             to_off,
@@ -297,8 +316,8 @@ impl Frame {
         ensures off { result.off ≡ off }
     {
         CopiedEnd {
-            owner: self.owner,
-            number: self.number,
+            owner: self.parts.owner,
+            number: self.parts.number,
             off,
         }
     }

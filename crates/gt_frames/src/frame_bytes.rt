@@ -1,7 +1,11 @@
 //! Bytes that a contract sees as a list.
 ghost use Rattle.std.specs.Prelude.{◌≡◌};
 
+use gt_types::FRAME_SIZE;
 use std::marker::Model;
+
+/// The bytes of a frame.
+pub(crate) type Contents = [u8; FRAME_SIZE as usize];
 
 /// Bytes on the heap, which contracts see as a list.
 #[derive(Drop)]

@@ -3,6 +3,7 @@ ghost use Rattle.std.specs.Prelude.{◌≡◌, ◌+◌, [], slice_range};
 ghost use Rattle.gt_frames.specs.Frames.{recorded};
 
 use crate::Writ;
+use crate::frame_bytes::Contents;
 use crate::history::History;
 use std::marker::Model;
 
@@ -18,7 +19,7 @@ struct WrittenRange {
 #[derive(Drop)]
 pub(crate) struct Journal {
     // For each write, its range and the bytes of the frame after it.
-    history: History<WrittenRange, Vec<u8>>,
+    history: History<WrittenRange, Contents>,
 }
 
 impl Model for Journal {
@@ -30,7 +31,7 @@ impl Model for Journal {
     ghost view = { λ j. map (λ p. record {
       writ = p.0.writ;
       off = p.0.off;
-      bytes = slice_range p.1.items p.0.off (p.0.off + p.0.len);
+      bytes = slice_range p.1 p.0.off (p.0.off + p.0.len);
     }) j.history.items };
 }
 
@@ -48,8 +49,8 @@ impl Journal {
     }
 
     /// Appends a write of `len` bytes, starting at offset `off`. The frame then has the bytes `contents`.
-    pub(crate) fn add(&mut self, writ: &Writ, off: u16, len: usize, contents: &Vec<u8>)
-        ensures { self.new ≡ recorded self.old writ.now off (slice_range contents.now.items off (off + len)) }
+    pub(crate) fn add(&mut self, writ: &Writ, off: u16, len: usize, contents: &Contents)
+        ensures { self.new ≡ recorded self.old writ.now off (slice_range contents.now off (off + len)) }
     {
         let placed = WrittenRange {
             writ: *writ,

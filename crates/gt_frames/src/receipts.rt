@@ -2,6 +2,7 @@
 ghost use Rattle.std.specs.Prelude.{◌≡◌};
 
 use crate::FrameBytes;
+use crate::frame_bytes::Contents;
 use gt_types::DomId;
 use std::marker::Model;
 use std::snapshot::Snapshot;
@@ -41,7 +42,7 @@ pub struct Filled {
     pub(crate) off: u16,
     pub(crate) len: usize,
     // All bytes of the frame at the read.
-    pub(crate) contents: Snapshot<Vec<u8>>,
+    pub(crate) contents: Snapshot<Contents>,
 }
 
 impl Model for Filled {
@@ -54,7 +55,7 @@ impl Model for Filled {
       owner = f.owner;
       number = f.number;
       off = f.off;
-      bytes = slice_range f.contents.value.items f.off (f.off + f.len);
+      bytes = slice_range f.contents.value f.off (f.off + f.len);
     } };
 }
 

@@ -1,7 +1,7 @@
 //! The steps of calls on the words, and a map driven along its path.
 ghost use Rattle.std.specs.Prelude.{◌≡◌, None, Some, [], ◌∷◌, MatchResult};
 ghost use Rattle.gt_calls.specs.Rules.{knows, map_begun};
-ghost use Rattle.gt_calls.specs.Path.{path};
+ghost use Rattle.gt_calls.specs.Path.{map_leg, path};
 ghost use Rattle.gt_words.specs.Conditions.{IsSeatOf, IsSameSeat, position_at};
 ghost use Rattle.gt_live.specs.Walks.{Made, Called, ReadsBody};
 ghost use Rattle.gt_live.specs.Driving.{CanMake, Knows, Leaves};
@@ -11,8 +11,7 @@ ghost use Rattle.gt_calls.specs.declared.request.OpenRequest.TheVariants as asks
 
 use gt_calls::{
     BodyWord, CallerState, HeldPin, Leg, MORE_TRIES, Observation, Step, entry_refusal,
-    every_call_goes_on_by_its_phase, has_entry, header_refusal, judge_control, judge_words,
-    map_leg, pinned,
+    every_call_goes_on_by_its_phase, has_entry, header_refusal, judge_control, judge_words, pinned,
 };
 use gt_entry::{Control, EntryChange, EntryKind};
 use gt_handles::Handle;
@@ -197,27 +196,35 @@ fn walk_leg_at(words: &Words, seat: &mut Seat, leg: &Leg, at: usize) -> Result<H
     }
 }
 
-// Drives a map to its end, and returns the pin that it took, or its refusal. Requires that it is not decided at its
+/// What a map names: the owner of the entry, the entry, and the flags.
+#[derive(Clone, Copy)]
+pub(crate) struct MapArgs {
+    pub dom: DomId,
+    pub gref: GrantRef,
+    pub flags: u32,
+}
+
+// Drives a map to its end, by this leg, and returns the pin that it took, or its refusal. Requires that it is not decided at its
 // beginning.
 pub(crate) fn drive_map<P: Allows>(
     words: &Words,
     known: &CallerState<'_, P>,
     seat: &mut Seat,
     caller: DomId,
-    dom: DomId,
-    gref: GrantRef,
-    flags: u32,
+    map: MapArgs,
+    leg: &Leg,
 ) -> Result<HeldPin, Denial>
     requires seat { IsSeatOf words.now seat.old }
-    requires unanswered { map_begun (knows P.may known.now) caller dom flags ≡ None }
+    requires leg { leg.now ≡ map_leg (knows P.may known.now) caller map.dom map.gref map.flags }
+    requires unanswered { map_begun (knows P.may known.now) caller map.dom map.flags ≡ None }
     requires knows { Knows (knows P.may known.now) words.now.layout caller seat.old.view }
     ensures seat { IsSameSeat seat.old seat.new }
-    ensures called { Called words.now.layout (path (knows P.may known.now) caller (asks.Map dom gref flags))
+    ensures called { Called words.now.layout
+        (path (knows P.may known.now) caller (asks.Map map.dom map.gref map.flags))
         (pin_verdict result) seat.old.view seat.new.view }
-    ensures leaves { Leaves (knows P.may known.now) words.now.layout caller (asks.Map dom gref flags)
+    ensures leaves { Leaves (knows P.may known.now) words.now.layout caller (asks.Map map.dom map.gref map.flags)
         seat.old.view seat.new.view (pin_effect result) }
 {
     every_call_goes_on_by_its_phase();
-    let leg = map_leg(known, caller, dom, gref, flags);
-    walk_leg(words, seat, &leg)
+    walk_leg(words, seat, leg)
 }

@@ -19,6 +19,13 @@ use gt_entry::{Control, Entry, EntryChange};
 use gt_types::{Allows, Denial, DomId, GrantRef, Rule};
 use gt_words::{Seat, Words};
 
+/// One of the caller's entries, and the owner's word of it with no pins.
+#[derive(Clone, Copy)]
+pub(crate) struct IdleEntry {
+    pub gref: GrantRef,
+    pub word: u64,
+}
+
 // Returns the result of a change of the entry with this row, if it is decided at its beginning.
 #[inline(always)]
 pub(crate) fn judge_own<P: Allows>(
@@ -70,18 +77,17 @@ fn change_once(
     words: &Words,
     seat: &mut Seat,
     caller: DomId,
-    gref: GrantRef,
-    looked: u64,
+    idle: IdleEntry,
     change: EntryChange,
 ) -> Result<(), Denial>
     requires seat { IsSeatOf words.now seat.old }
-    requires can { CanMake words.now.layout seat.old.view (Step.Exchange gref looked change) }
+    requires can { CanMake words.now.layout seat.old.view (Step.Exchange idle.gref idle.word change) }
     ensures seat { IsSameSeat seat.old seat.new }
-    ensures made { ChangesOnce words.now.layout caller gref looked change result seat.old.view seat.new.view }
+    ensures made { ChangesOnce words.now.layout caller idle.gref idle.word change result seat.old.view seat.new.view }
 {
-    match try_change(words, seat, gref, looked, change) {
+    match try_change(words, seat, idle.gref, idle.word, change) {
         Ok(()) => Ok(()),
-        Err(found) => Err(entry_refusal(caller, gref, Rule::N19, found)),
+        Err(found) => Err(entry_refusal(caller, idle.gref, Rule::N19, found)),
     }
 }
 
@@ -103,21 +109,20 @@ fn drive_revoke<P: Allows>(
     known: &CallerState<'_, P>,
     seat: &mut Seat,
     caller: DomId,
-    gref: GrantRef,
-    looked: u64,
+    idle: IdleEntry,
 ) -> Result<(), Denial>
     requires seat { IsSeatOf words.now seat.old }
-    requires unanswered { begun (knows P.may known.now) caller (asks.Revoke gref) ≡ None }
-    requires looked { looked ≡ idle_word (knows P.may known.now) gref }
+    requires unanswered { begun (knows P.may known.now) caller (asks.Revoke idle.gref) ≡ None }
+    requires looked { idle.word ≡ idle_word (knows P.may known.now) idle.gref }
     requires knows { Knows (knows P.may known.now) words.now.layout caller seat.old.view }
     ensures seat { IsSameSeat seat.old seat.new }
-    ensures called { Called words.now.layout (path (knows P.may known.now) caller (asks.Revoke gref))
+    ensures called { Called words.now.layout (path (knows P.may known.now) caller (asks.Revoke idle.gref))
         (verdict_of result) seat.old.view seat.new.view }
-    ensures leaves { Leaves (knows P.may known.now) words.now.layout caller (asks.Revoke gref)
-        seat.old.view seat.new.view (change_effect gref EntryChange.Revoke result) }
+    ensures leaves { Leaves (knows P.may known.now) words.now.layout caller (asks.Revoke idle.gref)
+        seat.old.view seat.new.view (change_effect idle.gref EntryChange.Revoke result) }
 {
     every_call_goes_on_by_its_phase();
-    change_once(words, seat, caller, gref, looked, EntryChange::Revoke)
+    change_once(words, seat, caller, idle, EntryChange::Revoke)
 }
 
 // Drives a grant to its end. Requires that it is not decided at its beginning.
@@ -127,42 +132,33 @@ fn drive_grant<P: Allows>(
     known: &CallerState<'_, P>,
     seat: &mut Seat,
     caller: DomId,
-    gref: GrantRef,
-    looked: u64,
+    idle: IdleEntry,
     entry: Entry,
 ) -> Result<(), Denial>
     requires seat { IsSeatOf words.now seat.old }
-    requires unanswered { begun (knows P.may known.now) caller (asks.Grant gref entry) ≡ None }
-    requires looked { looked ≡ idle_word (knows P.may known.now) gref }
+    requires unanswered { begun (knows P.may known.now) caller (asks.Grant idle.gref entry) ≡ None }
+    requires looked { idle.word ≡ idle_word (knows P.may known.now) idle.gref }
     requires knows { Knows (knows P.may known.now) words.now.layout caller seat.old.view }
     ensures seat { IsSameSeat seat.old seat.new }
-    ensures called { Called words.now.layout (path (knows P.may known.now) caller (asks.Grant gref entry))
+    ensures called { Called words.now.layout (path (knows P.may known.now) caller (asks.Grant idle.gref entry))
         (verdict_of result) seat.old.view seat.new.view }
-    ensures leaves { Leaves (knows P.may known.now) words.now.layout caller (asks.Grant gref entry)
-        seat.old.view seat.new.view (change_effect gref (EntryChange.Publish entry) result) }
+    ensures leaves { Leaves (knows P.may known.now) words.now.layout caller (asks.Grant idle.gref entry)
+        seat.old.view seat.new.view (change_effect idle.gref (EntryChange.Publish entry) result) }
 {
     every_call_goes_on_by_its_phase();
-    store_half(words, seat, gref, BodyWord::First, entry.first_body());
+    store_half(words, seat, idle.gref, BodyWord::First, entry.first_body());
     match entry {
         Entry::Sub { .. } => {
-            store_half(words, seat, gref, BodyWord::Second, entry.second_body());
-            change_once(
+            store_half(
                 words,
                 seat,
-                caller,
-                gref,
-                looked,
-                EntryChange::Publish(entry),
-            )
+                idle.gref,
+                BodyWord::Second,
+                entry.second_body(),
+            );
+            change_once(words, seat, caller, idle, EntryChange::Publish(entry))
         }
-        _ => change_once(
-            words,
-            seat,
-            caller,
-            gref,
-            looked,
-            EntryChange::Publish(entry),
-        ),
+        _ => change_once(words, seat, caller, idle, EntryChange::Publish(entry)),
     }
 }
 
@@ -212,31 +208,30 @@ fn drive_turns<P: Allows>(
     }
 }
 
-// Drives a change to its end. Requires that the change is not decided at its beginning. `looked` is the owner's word of
-// the entry with no pins.
+// Drives a change to its end. Requires that the change is not decided at its beginning.
 #[inline(always)]
 pub(crate) fn drive_change<P: Allows>(
     words: &Words,
     known: &CallerState<'_, P>,
     seat: &mut Seat,
     caller: DomId,
-    gref: GrantRef,
-    looked: u64,
+    idle: IdleEntry,
     change: EntryChange,
 ) -> Result<(), Denial>
     requires seat { IsSeatOf words.now seat.old }
-    requires unanswered { begun (knows P.may known.now) caller (asks_change gref change) ≡ None }
-    requires looked { looked ≡ idle_word (knows P.may known.now) gref }
+    requires unanswered { begun (knows P.may known.now) caller (asks_change idle.gref change) ≡ None }
+    requires looked { idle.word ≡ idle_word (knows P.may known.now) idle.gref }
     requires knows { Knows (knows P.may known.now) words.now.layout caller seat.old.view }
     ensures seat { IsSameSeat seat.old seat.new }
-    ensures called { Called words.now.layout (path (knows P.may known.now) caller (asks_change gref change))
+    ensures called { Called words.now.layout (path (knows P.may known.now) caller (asks_change idle.gref change))
         (verdict_of result) seat.old.view seat.new.view }
-    ensures leaves { Leaves (knows P.may known.now) words.now.layout caller (asks_change gref change)
-        seat.old.view seat.new.view (change_effect gref change result) }
+    ensures leaves { Leaves (knows P.may known.now) words.now.layout caller (asks_change idle.gref change)
+        seat.old.view seat.new.view (change_effect idle.gref change result) }
 {
+    let gref = idle.gref;
     match change {
-        EntryChange::Publish(entry) => drive_grant(words, known, seat, caller, gref, looked, entry),
-        EntryChange::Revoke => drive_revoke(words, known, seat, caller, gref, looked),
+        EntryChange::Publish(entry) => drive_grant(words, known, seat, caller, idle, entry),
+        EntryChange::Revoke => drive_revoke(words, known, seat, caller, idle),
         EntryChange::Withdraw => drive_turns(
             words,
             known,

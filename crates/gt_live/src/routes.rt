@@ -36,33 +36,39 @@ fn give_pin_back(words: &Words, seat: &mut Seat, held: &HeldPin)
     words.unpin(seat, pin_of(*held));
 }
 
-// Continues from the pin of a Via to the entry `gref` of the domain `dom`: checks the pair that it asks for, and walks
-// the second leg. Releases the pin of the Via if either refuses.
+// Where a Via leads: the pair that it asks for, and the entry.
+#[derive(Clone, Copy)]
+struct BeyondVia {
+    pair: (DomId, DomId),
+    dom: DomId,
+    gref: GrantRef,
+}
+
+// Continues from the pin of a Via to the entry that it leads to: checks the pair that it asks for, and walks the second
+// leg. Releases the pin of the Via if either refuses.
 fn go_through<P: Allows>(
     words: &Words,
     known: &CallerState<'_, P>,
     seat: &mut Seat,
     first: &Leg,
     via: &HeldPin,
-    pair: (DomId, DomId),
-    dom: DomId,
-    gref: GrantRef,
+    to: BeyondVia,
 ) -> Result<HeldPin, Denial>
     requires seat { IsSeatOf words.now seat.old }
     requires can { (caller : DomId) × (aim : PinPurpose) × IsLastOf via.now aim
         × CanRun (knows P.may known.now) words.now.layout caller
-        (through_via (knows P.may known.now) aim first.now pair dom gref) seat.old.view }
+        (through_via (knows P.may known.now) aim first.now to.pair to.dom to.gref) seat.old.view }
     ensures seat { IsSameSeat seat.old seat.new }
     ensures goes { (caller : DomId) (aim : PinPurpose) → IsLastOf via.now aim
         → Runs (knows P.may known.now) words.now.layout caller
-        (through_via (knows P.may known.now) aim first.now pair dom gref) seat.old.view
-        (after_through (knows P.may known.now) caller aim first.now dom gref result) seat.new.view }
+        (through_via (knows P.may known.now) aim first.now to.pair to.dom to.gref) seat.old.view
+        (after_through (knows P.may known.now) caller aim first.now to.dom to.gref result) seat.new.view }
 {
-    if let Some(verdict) = judge_via(known, pair, dom) {
+    if let Some(verdict) = judge_via(known, to.pair, to.dom) {
         give_pin_back(words, seat, via);
         return Err(refusal_of(verdict));
     }
-    let second = second_leg(known, *first, dom, gref);
+    let second = second_leg(known, *first, to.dom, to.gref);
     match walk_leg(words, seat, &second) {
         Ok(held) => Ok(held),
         Err(denial) => {
@@ -98,8 +104,12 @@ fn reach_source<P: Allows>(
     match first.entry {
         Entry::Via { dom2, gref, .. } => {
             let named = resolve(caller, copy.dest.domid);
-            let pair = (dom2, named);
-            match go_through(words, known, seat, &leg, &first, pair, dom2, gref) {
+            let to = BeyondVia {
+                pair: (dom2, named),
+                dom: dom2,
+                gref,
+            };
+            match go_through(words, known, seat, &leg, &first, to) {
                 Ok(held) => {
                     *route = AccessPath::Through { via: first, held };
                     Ok(())
@@ -114,7 +124,7 @@ fn reach_source<P: Allows>(
     }
 }
 
-// Walks to the destination of a copy, after its source, and writes the route whose pins were taken.
+// Walks to the destination of a copy, after its source, and writes the route to it, whose pins were taken.
 #[inline(never)]
 fn reach_dest<P: Allows>(
     words: &Words,
@@ -122,16 +132,16 @@ fn reach_dest<P: Allows>(
     seat: &mut Seat,
     caller: DomId,
     copy: &CopyArgs,
-    source: &AccessPath,
-    route: &mut AccessPath,
+    pins: &mut CallPins,
 ) -> Result<(), Denial>
     requires seat { IsSeatOf words.now seat.old }
     requires can { CanRun (knows P.may known.now) words.now.layout caller
-        (dest_leg (knows P.may known.now) caller copy.now source.now) seat.old.view }
+        (dest_leg (knows P.may known.now) caller copy.now pins.old.source) seat.old.view }
     ensures seat { IsSameSeat seat.old seat.new }
+    ensures source { pins.new.source ≡ pins.old.source }
     ensures goes { Runs (knows P.may known.now) words.now.layout caller
-        (dest_leg (knows P.may known.now) caller copy.now source.now) seat.old.view
-        (after_dest copy.now source.now (filled result route.new)) seat.new.view }
+        (dest_leg (knows P.may known.now) caller copy.now pins.old.source) seat.old.view
+        (after_dest copy.now pins.old.source (filled result pins.new.dest)) seat.new.view }
 {
     let leg = end_leg(known, caller, copy.dest, Dir::Write, copy.len);
     let first = match walk_leg(words, seat, &leg) {
@@ -140,18 +150,22 @@ fn reach_dest<P: Allows>(
     };
     match first.entry {
         Entry::Via { dom2, gref, .. } => {
-            let from = source.owner(caller);
-            let pair = (from, dom2);
-            match go_through(words, known, seat, &leg, &first, pair, dom2, gref) {
+            let from = pins.source.owner(caller);
+            let to = BeyondVia {
+                pair: (from, dom2),
+                dom: dom2,
+                gref,
+            };
+            match go_through(words, known, seat, &leg, &first, to) {
                 Ok(held) => {
-                    *route = AccessPath::Through { via: first, held };
+                    pins.dest = AccessPath::Through { via: first, held };
                     Ok(())
                 }
                 Err(denial) => Err(denial),
             }
         }
         _ => {
-            *route = AccessPath::Direct(first);
+            pins.dest = AccessPath::Direct(first);
             Ok(())
         }
     }
@@ -179,11 +193,10 @@ fn walk_to_dest<P: Allows>(
     if !copy.is_dest_granted() {
         return Ok(());
     }
-    let CallPins { source, dest } = pins;
-    match reach_dest(words, known, seat, caller, copy, source, dest) {
+    match reach_dest(words, known, seat, caller, copy, pins) {
         Ok(()) => Ok(()),
         Err(denial) => {
-            give_back_route(words, seat, source);
+            give_back_route(words, seat, &pins.source);
             Err(denial)
         }
     }

@@ -1,7 +1,7 @@
 //! Accesses to frames. Each locks a frame, works on it in its slot and frees its lock. A copy takes its source out of
 //! its slot meanwhile.
 ghost use Rattle.std.specs.Prelude.{◌≡◌, ◌≢◌, ◌+◌, ◌≤◌, [], ◌∷◌, Bool, false, length, IfOk};
-ghost use Rattle.std.specs.Prelude.{IsTrue, OnOk, OnErr, Some, None};
+ghost use Rattle.std.specs.Prelude.{IsTrue, OnOk, OnErr, Some, None, nat_lt, true};
 ghost use Rattle.atomic_table.specs.Table.{Allows, rest};
 ghost use Rattle.gt_frames.specs.Frames.{FrameState, bytes_at, covers};
 ghost use Rattle.gt_types.specs.declared.limits.TheConstants.{FRAME_SIZE};
@@ -19,15 +19,24 @@ use gt_types::{Memory, Range};
 use std::marker::Brand;
 use std::sync::Wait;
 
+/// Bytes to be written to a frame, starting at `off`, by this writ.
+#[derive(Clone, Copy)]
+pub struct FrameWrite<'w, 'b> {
+    pub writ: &'w Writ,
+    pub off: u16,
+    pub bytes: &'b [u8],
+}
+
+/// A copy to be made by this writ: the range of the source, and the offset in the destination.
+#[derive(Clone, Copy)]
+pub struct FrameCopy<'w> {
+    pub writ: &'w Writ,
+    pub range: Range,
+    pub to_off: u16,
+}
+
 // Frees a frame that was read. Only the proof uses the arguments after `slot`.
-fn free_read<J: OfAccess>(
-    cells: &Cells,
-    seat: &mut CellSeat,
-    slot: FrameSlot,
-    last: bool,
-    off: u16,
-    out: &[u8],
-)
+fn free_read<J: OfAccess>(cells: &Cells, seat: &mut CellSeat, slot: FrameSlot, off: u16, out: &[u8])
     requires fits { (seat.old.table_id ≡ cells.now.table_id)
         × IsSlotOf (places_of cells.now.key) cells.now.table_id slot }
     requires allowed { Allows (HoldsAll (places_of cells.now.key)) cells.now.table_id.slots seat.old.id seat.old.me
@@ -35,21 +44,17 @@ fn free_read<J: OfAccess>(
     ensures seat { (seat.new.table_id ≡ seat.old.table_id) × (seat.new.id ≡ seat.old.id) }
     ensures frees { Frees J.places J.name J.access J.left seat.old.me seat.new.me }
 {
-    let _ = last;
     let _ = off;
     let _ = out;
     free_lock::<J>(cells, seat, slot);
 }
 
-// Frees a frame that was written. Only the proof uses the arguments after `slot`.
+// Frees a frame that was written. Only the proof uses `write`.
 fn free_written<J: OfAccess>(
     cells: &Cells,
     seat: &mut CellSeat,
     slot: FrameSlot,
-    last: bool,
-    writ: &Writ,
-    off: u16,
-    bytes: &[u8],
+    write: FrameWrite<'_, '_>,
 )
     requires fits { (seat.old.table_id ≡ cells.now.table_id)
         × IsSlotOf (places_of cells.now.key) cells.now.table_id slot }
@@ -58,10 +63,7 @@ fn free_written<J: OfAccess>(
     ensures seat { (seat.new.table_id ≡ seat.old.table_id) × (seat.new.id ≡ seat.old.id) }
     ensures frees { Frees J.places J.name J.access J.left seat.old.me seat.new.me }
 {
-    let _ = last;
-    let _ = writ;
-    let _ = off;
-    let _ = bytes;
+    let _ = write;
     free_lock::<J>(cells, seat, slot);
 }
 
@@ -70,12 +72,9 @@ fn free_copied<J: OfAccess>(
     cells: &Cells,
     seat: &mut CellSeat,
     slot: FrameSlot,
-    last: bool,
     source: FrameSlot,
     from: &Frame,
-    writ: &Writ,
-    range: Range,
-    to_off: u16,
+    copy: FrameCopy<'_>,
 )
     requires fits { (seat.old.table_id ≡ cells.now.table_id)
         × IsSlotOf (places_of cells.now.key) cells.now.table_id slot }
@@ -84,12 +83,9 @@ fn free_copied<J: OfAccess>(
     ensures seat { (seat.new.table_id ≡ seat.old.table_id) × (seat.new.id ≡ seat.old.id) }
     ensures frees { Frees J.places J.name J.access J.left seat.old.me seat.new.me }
 {
-    let _ = last;
     let _ = source;
     let _ = from;
-    let _ = writ;
-    let _ = range;
-    let _ = to_off;
+    let _ = copy;
     free_lock::<J>(cells, seat, slot);
 }
 
@@ -122,21 +118,20 @@ fn take_out(cells: &Cells, seat: &mut CellSeat, slot: FrameSlot, last: bool) -> 
 }
 
 // Reads a frame that is out into all of `out`, and frees it.
-fn read_out(
+pub(crate) fn read_out(
     cells: &Cells,
     seat: &mut CellSeat,
     slot: FrameSlot,
-    last: bool,
     off: u16,
     out: &mut [u8],
 ) -> Filled
     requires mine { (seat.old.table_id ≡ cells.now.table_id) × (seat.old.me.0.own.gone ≡ false) }
     requires slot { IsSlotOf (places_of cells.now.key) cells.now.table_id slot }
-    requires out { (x : FrameState) × IsOut (layout_of cells.now.key) slot last x seat.old.me }
+    requires out { (x : FrameState) × IsOut (layout_of cells.now.key) slot true x seat.old.me }
     requires range { off + length out.old ≤ FRAME_SIZE }
     ensures seat { (seat.new.table_id ≡ seat.old.table_id) × (seat.new.id ≡ seat.old.id) }
     ensures read { Frees (places_of cells.now.key) (name_of slot) (access.Read off result.bytes)
-        (left_by last seat.old.me.0.held) seat.old.me seat.new.me }
+        (left_by true seat.old.me.0.held) seat.old.me seat.new.me }
     ensures filled { (out.new ≡ result.bytes) × (length result.bytes ≡ length out.old) }
     ensures receipt { IsReadIn (layout_of cells.now.key) (name_of slot) off result }
 {
@@ -144,44 +139,42 @@ fn read_out(
         Some(frame) => frame.read_into(off, out),
         None => unreachable!(),
     };
-    free_read::<Brand>(cells, seat, slot, last, off, out);
+    free_read::<Brand>(cells, seat, slot, off, out);
     filled
 }
 
 // Writes to a frame that is out, and frees it. If allocation fails, the frame returns to its slot unchanged.
-fn write_out<'a>(
+pub(crate) fn write_out<'a>(
     cells: &Cells,
     seat: &mut CellSeat,
     slot: FrameSlot,
-    last: bool,
-    writ: &Writ,
-    off: u16,
-    bytes: &'a [u8],
+    write: FrameWrite<'_, 'a>,
 ) -> Result<Written<'a>, Memory>
     requires mine { (seat.old.table_id ≡ cells.now.table_id) × (seat.old.me.0.own.gone ≡ false) }
     requires slot { IsSlotOf (places_of cells.now.key) cells.now.table_id slot }
-    requires out { (x : FrameState) × IsOut (layout_of cells.now.key) slot last x seat.old.me }
-    requires range { off + length bytes.now ≤ FRAME_SIZE }
-    requires right { IsTrue (covers writ.now (id_at (layout_of cells.now.key).ids slot.owner) slot.number off
-        (length bytes.now)) }
+    requires out { (x : FrameState) × IsOut (layout_of cells.now.key) slot true x seat.old.me }
+    requires range { write.off + length write.bytes.now ≤ FRAME_SIZE }
+    requires right { IsTrue (covers write.writ.now (id_at (layout_of cells.now.key).ids slot.owner) slot.number
+        write.off (length write.bytes.now)) }
     ensures seat { (seat.new.table_id ≡ seat.old.table_id) × (seat.new.id ≡ seat.old.id) }
     ensures wrote { OnOk result (Frees (places_of cells.now.key) (name_of slot)
-        (access.Wrote (record { writ = writ.now; off = off; bytes = bytes.now }))
-        (left_by last seat.old.me.0.held) seat.old.me seat.new.me) }
-    ensures receipt { IfOk result (λ r. r ≡ written_in (layout_of cells.now.key) (name_of slot) writ.now off bytes.now) }
-    ensures refused { OnErr result (Returns (left_by last seat.old.me.0.held) seat.old.me seat.new.me) }
+        (access.Wrote (record { writ = write.entry.writ.now; off = write.entry.off; bytes = write.entry.bytes.now }))
+        (left_by true seat.old.me.0.held) seat.old.me seat.new.me) }
+    ensures receipt { IfOk result (λ r. r ≡ written_in (layout_of cells.now.key) (name_of slot)
+        write.entry.writ.now write.entry.off write.entry.bytes.now) }
+    ensures refused { OnErr result (Returns (left_by true seat.old.me.0.held) seat.old.me seat.new.me) }
 {
     let written = match seat.slot_mut(cells, slot.index) {
-        Some(frame) => frame.write(writ, off, bytes),
+        Some(frame) => frame.write(write.writ, write.off, write.bytes),
         None => unreachable!(),
     };
     match written {
         Ok(written) => {
-            free_written::<Brand>(cells, seat, slot, last, writ, off, bytes);
+            free_written::<Brand>(cells, seat, slot, write);
             Ok(written)
         }
         Err(refused) => {
-            return_as_taken::<Brand>(cells, seat, slot, last);
+            return_as_taken::<Brand>(cells, seat, slot, true);
             Err(refused)
         }
     }
@@ -195,95 +188,49 @@ fn copy_out(
     source: FrameSlot,
     from: &Frame,
     slot: FrameSlot,
-    last: bool,
-    writ: &Writ,
-    range: Range,
-    to_off: u16,
+    copy: FrameCopy<'_>,
 ) -> Result<Copied, Memory>
     requires mine { (seat.old.table_id ≡ cells.now.table_id) × (seat.old.me.0.own.gone ≡ false) }
     requires slot { IsSlotOf (places_of cells.now.key) cells.now.table_id slot }
-    requires out { (x : FrameState) × IsOut (layout_of cells.now.key) slot last x seat.old.me }
+    requires out { (x : FrameState) × IsOut (layout_of cells.now.key) slot
+        (nat_lt source.index slot.index) x seat.old.me }
     requires source { IsAmong (source.index, from.now) seat.old.me.0.held
         × IsNamed (places_of cells.now.key) source.index (name_of source) }
     requires named { (from.now.owner ≡ id_at (layout_of cells.now.key).ids source.owner)
         × (from.now.number ≡ source.number) }
-    requires ranges { (range.off + range.len ≤ FRAME_SIZE) × (to_off + range.len ≤ FRAME_SIZE) }
-    requires right { IsTrue (covers writ.now (id_at (layout_of cells.now.key).ids slot.owner) slot.number to_off
-        range.len) }
+    requires ranges { (copy.range.off + copy.range.len ≤ FRAME_SIZE)
+        × (copy.to_off + copy.range.len ≤ FRAME_SIZE) }
+    requires right { IsTrue (covers copy.writ.now (id_at (layout_of cells.now.key).ids slot.owner) slot.number
+        copy.to_off copy.range.len) }
     ensures seat { (seat.new.table_id ≡ seat.old.table_id) × (seat.new.id ≡ seat.old.id) }
     ensures copied { OnOk result (Frees (places_of cells.now.key) (name_of slot)
-        (access.Copied source.owner source.number range.off
-        (record { writ = writ.now; off = to_off; bytes = bytes_at from.now range.off range.len }))
-        (left_by last seat.old.me.0.held) seat.old.me seat.new.me) }
+        (access.Copied source.owner source.number copy.entry.range.off (record {
+          writ = copy.entry.writ.now;
+          off = copy.entry.to_off;
+          bytes = bytes_at from.now copy.entry.range.off copy.entry.range.len;
+        }))
+        (left_by (nat_lt source.index slot.index) seat.old.me.0.held) seat.old.me seat.new.me) }
     ensures receipt { IfOk result (λ r. r ≡ copied_in (layout_of cells.now.key) (name_of source) (name_of slot)
-        writ.now range to_off) }
-    ensures refused { OnErr result (Returns (left_by last seat.old.me.0.held) seat.old.me seat.new.me) }
+        copy.entry.writ.now copy.entry.range copy.entry.to_off) }
+    ensures refused { OnErr result (Returns (left_by (nat_lt source.index slot.index) seat.old.me.0.held)
+        seat.old.me seat.new.me) }
 {
     let _owner = from.owner();
     let copied = match seat.slot_mut(cells, slot.index) {
-        Some(to) => Frame::copy_between(from, to, writ, range, to_off),
+        Some(to) => Frame::copy_between(from, to, copy.writ, copy.range, copy.to_off),
         None => unreachable!(),
     };
     match copied {
         Ok(copied) => {
-            free_copied::<Brand>(cells, seat, slot, last, source, from, writ, range, to_off);
+            free_copied::<Brand>(cells, seat, slot, source, from, copy);
             Ok(copied)
         }
         Err(refused) => {
+            let last = source.index < slot.index;
             return_as_taken::<Brand>(cells, seat, slot, last);
             Err(refused)
         }
     }
-}
-
-// Reads a frame, starting at `off`, into all of `out`. Waits while another seat has the frame. It is one step of the
-// history.
-pub(crate) fn read<R: Wait>(
-    rt: &R,
-    cells: &Cells,
-    seat: &mut CellSeat,
-    slot: FrameSlot,
-    off: u16,
-    out: &mut [u8],
-) -> Filled
-    requires mine { (seat.old.table_id ≡ cells.now.table_id) × (seat.old.me.0.own.gone ≡ false) }
-    requires slot { IsSlotOf (places_of cells.now.key) cells.now.table_id slot }
-    requires range { off + length out.old ≤ FRAME_SIZE }
-    ensures seat { (seat.new.table_id ≡ seat.old.table_id) × (seat.new.id ≡ seat.old.id) }
-    ensures read { Accessed (layout_of cells.now.key) (name_of slot) (access.Read off result.bytes)
-        seat.old.me seat.new.me }
-    ensures filled { (out.new ≡ result.bytes) × (length result.bytes ≡ length out.old) }
-    ensures receipt { IsReadIn (layout_of cells.now.key) (name_of slot) off result }
-{
-    lock(rt, cells, seat, slot);
-    read_out(cells, seat, slot, true, off, out)
-}
-
-// Writes `bytes` to a frame by this writ, starting at `off`. Waits while another seat has the frame. It is one step of
-// the history.
-// After `Memory`, the frame is unchanged and no step was made.
-pub(crate) fn write<'a, R: Wait>(
-    rt: &R,
-    cells: &Cells,
-    seat: &mut CellSeat,
-    slot: FrameSlot,
-    writ: &Writ,
-    off: u16,
-    bytes: &'a [u8],
-) -> Result<Written<'a>, Memory>
-    requires mine { (seat.old.table_id ≡ cells.now.table_id) × (seat.old.me.0.own.gone ≡ false) }
-    requires slot { IsSlotOf (places_of cells.now.key) cells.now.table_id slot }
-    requires range { off + length bytes.now ≤ FRAME_SIZE }
-    requires right { IsTrue (covers writ.now (id_at (layout_of cells.now.key).ids slot.owner) slot.number off
-        (length bytes.now)) }
-    ensures seat { (seat.new.table_id ≡ seat.old.table_id) × (seat.new.id ≡ seat.old.id) }
-    ensures wrote { OnOk result (Accessed (layout_of cells.now.key) (name_of slot)
-        (access.Wrote (record { writ = writ.now; off = off; bytes = bytes.now })) seat.old.me seat.new.me) }
-    ensures receipt { IfOk result (λ r. r ≡ written_in (layout_of cells.now.key) (name_of slot) writ.now off bytes.now) }
-    ensures refused { OnErr result (seat.new.me ≡ seat.old.me) }
-{
-    lock(rt, cells, seat, slot);
-    write_out(cells, seat, slot, true, writ, off, bytes)
 }
 
 // Takes two frames, the one with the lower slot first, and moves the source out of its slot.
@@ -327,9 +274,9 @@ fn return_source(cells: &Cells, seat: &mut CellSeat, slot: FrameSlot, frame: Fra
     return_as_taken::<Brand>(cells, seat, slot, true);
 }
 
-// Copies a range of one frame to another by this writ, starting at `to_off`. Takes both frames, the one with the lower
-// slot first, and waits while another seat has one of them. It is one step of the history, made when the destination
-// is freed and while the source is still held.
+// Copies a range of one frame to another. Takes both frames, the one with the lower slot first, and waits while another
+// seat has one of them. It is one step of the history, made when the destination is freed and while the source is still
+// held.
 // After `Memory`, both frames are unchanged and no step was made.
 pub(crate) fn copy<R: Wait>(
     rt: &R,
@@ -337,39 +284,35 @@ pub(crate) fn copy<R: Wait>(
     seat: &mut CellSeat,
     source: FrameSlot,
     dest: FrameSlot,
-    writ: &Writ,
-    range: Range,
-    to_off: u16,
+    copy: FrameCopy<'_>,
 ) -> Result<Copied, Memory>
     requires mine { (seat.old.table_id ≡ cells.now.table_id) × (seat.old.me.0.own.gone ≡ false) }
     requires slots { IsSlotOf (places_of cells.now.key) cells.now.table_id source
         × IsSlotOf (places_of cells.now.key) cells.now.table_id dest × (source.index ≢ dest.index) }
     requires free { (seat.old.me.1 ≡ []) × (seat.old.me.0.held ≡ []) }
-    requires ranges { (range.off + range.len ≤ FRAME_SIZE) × (to_off + range.len ≤ FRAME_SIZE) }
-    requires right { IsTrue (covers writ.now (id_at (layout_of cells.now.key).ids dest.owner) dest.number to_off
-        range.len) }
+    requires ranges { (copy.range.off + copy.range.len ≤ FRAME_SIZE)
+        × (copy.to_off + copy.range.len ≤ FRAME_SIZE) }
+    requires right { IsTrue (covers copy.writ.now (id_at (layout_of cells.now.key).ids dest.owner) dest.number
+        copy.to_off copy.range.len) }
     ensures seat { (seat.new.table_id ≡ seat.old.table_id) × (seat.new.id ≡ seat.old.id) }
-    ensures copied { OnOk result (CopiedBy (layout_of cells.now.key) (name_of source) (name_of dest) writ.now range
-        to_off seat.old.me seat.new.me) }
+    ensures copied { OnOk result (CopiedBy (layout_of cells.now.key) (name_of source) (name_of dest) copy.entry.writ.now
+        copy.entry.range copy.entry.to_off seat.old.me seat.new.me) }
     ensures receipt { IfOk result (λ r. r ≡ copied_in (layout_of cells.now.key) (name_of source) (name_of dest)
-        writ.now range to_off) }
+        copy.entry.writ.now copy.entry.range copy.entry.to_off) }
     ensures refused { OnErr result (seat.new.me ≡ seat.old.me) }
 {
-    let last = source.index < dest.index;
     let frame = lock_both(rt, cells, seat, source, dest);
-    let copied = copy_out(cells, seat, source, &frame, dest, last, writ, range, to_off);
+    let copied = copy_out(cells, seat, source, &frame, dest, copy);
     return_source(cells, seat, source, frame);
     copied
 }
 
-// Frees a frame in which a range was copied. Only the proof uses the arguments after `slot`.
+// Frees a frame in which a range was copied. Only the proof uses `copy`.
 fn free_copied_within<J: OfAccess>(
     cells: &Cells,
     seat: &mut CellSeat,
     slot: FrameSlot,
-    writ: &Writ,
-    range: Range,
-    to_off: u16,
+    copy: FrameCopy<'_>,
 )
     requires fits { (seat.old.table_id ≡ cells.now.table_id)
         × IsSlotOf (places_of cells.now.key) cells.now.table_id slot }
@@ -378,48 +321,44 @@ fn free_copied_within<J: OfAccess>(
     ensures seat { (seat.new.table_id ≡ seat.old.table_id) × (seat.new.id ≡ seat.old.id) }
     ensures frees { Frees J.places J.name J.access J.left seat.old.me seat.new.me }
 {
-    let _ = writ;
-    let _ = range;
-    let _ = to_off;
+    let _ = copy;
     free_lock::<J>(cells, seat, slot);
 }
 
-// Copies a range of a frame to another place in it by this writ, starting at `to_off`. The ranges may overlap: the
-// bytes written are those that the source range held before. Waits while another seat has the frame. It is one step of
-// the history.
+// Copies a range of a frame to another place in it. The ranges may overlap: the bytes written are those that the source
+// range held before. Waits while another seat has the frame. It is one step of the history.
 // After `Memory`, the frame is unchanged and no step was made.
 pub(crate) fn copy_within<R: Wait>(
     rt: &R,
     cells: &Cells,
     seat: &mut CellSeat,
     slot: FrameSlot,
-    writ: &Writ,
-    range: Range,
-    to_off: u16,
+    copy: FrameCopy<'_>,
 ) -> Result<Copied, Memory>
     requires mine { (seat.old.table_id ≡ cells.now.table_id) × (seat.old.me.0.own.gone ≡ false) }
     requires slot { IsSlotOf (places_of cells.now.key) cells.now.table_id slot }
-    requires ranges { (range.off + range.len ≤ FRAME_SIZE) × (to_off + range.len ≤ FRAME_SIZE) }
-    requires right { IsTrue (covers writ.now (id_at (layout_of cells.now.key).ids slot.owner) slot.number to_off
-        range.len) }
+    requires ranges { (copy.range.off + copy.range.len ≤ FRAME_SIZE)
+        × (copy.to_off + copy.range.len ≤ FRAME_SIZE) }
+    requires right { IsTrue (covers copy.writ.now (id_at (layout_of cells.now.key).ids slot.owner) slot.number
+        copy.to_off copy.range.len) }
     ensures seat { (seat.new.table_id ≡ seat.old.table_id) × (seat.new.id ≡ seat.old.id) }
-    ensures copied { OnOk result (CopiedBy (layout_of cells.now.key) (name_of slot) (name_of slot) writ.now range
-        to_off seat.old.me seat.new.me) }
+    ensures copied { OnOk result (CopiedBy (layout_of cells.now.key) (name_of slot) (name_of slot) copy.entry.writ.now
+        copy.entry.range copy.entry.to_off seat.old.me seat.new.me) }
     ensures receipt { IfOk result (λ r. r ≡ copied_in (layout_of cells.now.key) (name_of slot) (name_of slot)
-        writ.now range to_off) }
+        copy.entry.writ.now copy.entry.range copy.entry.to_off) }
     ensures refused { OnErr result (seat.new.me ≡ seat.old.me) }
 {
     lock(rt, cells, seat, slot);
     let copied = match seat.slot_mut(cells, slot.index) {
         Some(frame) => {
             let _owner = frame.owner();
-            frame.copy_within(writ, range, to_off)
+            frame.copy_within(copy.writ, copy.range, copy.to_off)
         }
         None => unreachable!(),
     };
     match copied {
         Ok(copied) => {
-            free_copied_within::<Brand>(cells, seat, slot, writ, range, to_off);
+            free_copied_within::<Brand>(cells, seat, slot, copy);
             Ok(copied)
         }
         Err(refused) => {

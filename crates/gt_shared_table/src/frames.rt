@@ -7,11 +7,12 @@ ghost use Rattle.gt_word_history.specs.declared.view.FrameStep.TheVariants as ac
 ghost use Rattle.gt_shared_table.specs.Accesses.{IsReadIn, TakesAccess, TakesCopy, copied_in, written_in};
 ghost use Rattle.gt_shared_table.specs.Words.{HasFrame, named_at};
 
-use crate::accesses::{copy, copy_within, read, write};
+use crate::accesses::{FrameCopy, FrameWrite, copy, copy_within, read_out, write_out};
+use crate::locks::lock;
 use crate::slots::slot_at;
 use crate::table::{FrameIndex, SharedTable, TableSeat};
-use gt_frames::{Copied, Filled, Writ, Written};
-use gt_types::{Memory, Range};
+use gt_frames::{Copied, Filled, Written};
+use gt_types::Memory;
 use std::sync::Wait;
 
 impl SharedTable {
@@ -47,10 +48,11 @@ impl SharedTable {
     {
         let cells = &self.table.shared;
         let slot = slot_at(cells, &self.firsts, frame);
-        read(rt, cells, &mut seat.seat, slot, off, out)
+        lock(rt, cells, &mut seat.seat, slot);
+        read_out(cells, &mut seat.seat, slot, off, out)
     }
 
-    /// Writes `bytes` to a frame by this writ, starting at `off`. Waits while another seat has the frame.
+    /// Writes to a frame. Waits while another seat has the frame.
     ///
     /// # Errors
     /// `Memory`. The frame is unchanged, and no step was made.
@@ -59,30 +61,31 @@ impl SharedTable {
         rt: &R,
         seat: &mut TableSeat,
         frame: FrameIndex,
-        writ: &Writ,
-        off: u16,
-        bytes: &'a [u8],
+        args: FrameWrite<'_, 'a>,
     ) -> Result<Written<'a>, Memory>
         requires table { seat.old.table ≡ self.now.table }
         requires inside { HasFrame self.now frame }
-        requires range { off + length bytes.now ≤ FRAME_SIZE }
-        requires right { IsTrue (covers writ.now (id_at self.now.layout.ids frame.position) frame.number off
-            (length bytes.now)) }
+        requires range { args.off + length args.bytes.now ≤ FRAME_SIZE }
+        requires right { IsTrue (covers args.writ.now (id_at self.now.layout.ids frame.position) frame.number
+            args.off (length args.bytes.now)) }
         ensures table { seat.new.table ≡ seat.old.table }
         ensures step { OnOk result (TakesAccess self.now.layout (named_at frame)
-            (access.Wrote (record { writ = writ.now; off = off; bytes = bytes.now })) seat.old.view seat.new.view) }
-        ensures receipt { IfOk result (λ r. r ≡ written_in self.now.layout (named_at frame) writ.now off bytes.now) }
+            (access.Wrote (record { writ = args.entry.writ.now; off = args.entry.off; bytes = args.entry.bytes.now }))
+            seat.old.view seat.new.view) }
+        ensures receipt { IfOk result (λ r. r ≡ written_in self.now.layout (named_at frame)
+            args.entry.writ.now args.entry.off args.entry.bytes.now) }
         ensures refused { OnErr result (seat.new.view ≡ seat.old.view) }
     {
         let cells = &self.table.shared;
         let slot = slot_at(cells, &self.firsts, frame);
-        write(rt, cells, &mut seat.seat, slot, writ, off, bytes)
+        lock(rt, cells, &mut seat.seat, slot);
+        write_out(cells, &mut seat.seat, slot, args)
     }
 
-    /// Copies a range of one frame to another by this writ, or to another place of the same frame, starting at `to_off`.
-    /// Ranges of one frame may overlap: the bytes written are those that the source range held before. Takes both
-    /// frames, the one with the lower slot first, and waits while another seat has one of them. It is one step, in
-    /// which the source is read and the destination written.
+    /// Copies a range of one frame to another, or to another place of the same frame. Ranges of one frame may overlap:
+    /// the bytes written are those that the source range held before. Takes both frames, the one with the lower slot
+    /// first, and waits while another seat has one of them. It is one step, in which the source is read and the
+    /// destination written.
     ///
     /// # Errors
     /// `Memory`. Both frames are unchanged, and no step was made.
@@ -92,30 +95,29 @@ impl SharedTable {
         seat: &mut TableSeat,
         source: FrameIndex,
         dest: FrameIndex,
-        writ: &Writ,
-        range: Range,
-        to_off: u16,
+        args: FrameCopy<'_>,
     ) -> Result<Copied, Memory>
         requires table { seat.old.table ≡ self.now.table }
         requires source { HasFrame self.now source }
         requires dest { HasFrame self.now dest }
-        requires ranges { (range.off + range.len ≤ FRAME_SIZE) × (to_off + range.len ≤ FRAME_SIZE) }
-        requires right { IsTrue (covers writ.now (id_at self.now.layout.ids dest.position) dest.number to_off
-            range.len) }
+        requires ranges { (args.range.off + args.range.len ≤ FRAME_SIZE)
+            × (args.to_off + args.range.len ≤ FRAME_SIZE) }
+        requires right { IsTrue (covers args.writ.now (id_at self.now.layout.ids dest.position) dest.number args.to_off
+            args.range.len) }
         ensures table { seat.new.table ≡ seat.old.table }
-        ensures step { OnOk result (TakesCopy self.now.layout (named_at source) (named_at dest) writ.now range to_off
-            seat.old.view seat.new.view) }
+        ensures step { OnOk result (TakesCopy self.now.layout (named_at source) (named_at dest) args.entry.writ.now
+            args.entry.range args.entry.to_off seat.old.view seat.new.view) }
         ensures receipt { IfOk result (λ r. r ≡ copied_in self.now.layout (named_at source) (named_at dest)
-            writ.now range to_off) }
+            args.entry.writ.now args.entry.range args.entry.to_off) }
         ensures refused { OnErr result (seat.new.view ≡ seat.old.view) }
     {
         let cells = &self.table.shared;
         let from = slot_at(cells, &self.firsts, source);
         let to = slot_at(cells, &self.firsts, dest);
         if from.index == to.index {
-            copy_within(rt, cells, &mut seat.seat, to, writ, range, to_off)
+            copy_within(rt, cells, &mut seat.seat, to, args)
         } else {
-            copy(rt, cells, &mut seat.seat, from, to, writ, range, to_off)
+            copy(rt, cells, &mut seat.seat, from, to, args)
         }
     }
 }

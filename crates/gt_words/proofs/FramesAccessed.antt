@@ -1,11 +1,10 @@
 -- What an access to a frame, and a step on a flag, leave of what its seat knew.
-use Rattle.std.proofs.Common.{◌≡◌, ℕ, ◌<◌, Bool, true, false, List, [], ◌∷◌, refl, sym, ap, ◌∙◌, subst, arith, length}
+use Rattle.std.proofs.Common.{◌≡◌, ℕ, ◌<◌, Bool, true, false, [], ◌∷◌, refl, sym, ap, subst, arith}
 use Rattle.std.specs.Prelude.{MatchBool, Result, Ok, Err, OnOk, OnErr}
 use Rattle.gt_frames.specs.declared.writ.Writ.{Writ}
 use Rattle.gt_types.specs.declared.Range.{Range}
 use Rattle.gt_shared_table.specs.Accesses.{TakesAccess, TakesCopy, TakesFlagStep}
 use Rattle.gt_shared_table.specs.Rule.{FrameAt}
-use Rattle.gt_word_history.specs.Events.{TookPlace}
 use Rattle.gt_word_history.specs.History.{Layout, StepHistory}
 use Rattle.gt_word_history.specs.Places.{IsSamePlace, SeatAt}
 use Rattle.gt_word_history.specs.Views.{own_header, with_step}

@@ -4,7 +4,7 @@ use Rattle.std.specs.Prelude.{[], ◌∷◌, ◌++◌, map, length, zero, suc, O
 use Rattle.std.specs.Prelude.{IsSome, slice_index}
 use Rattle.gt_words.specs.Prelude.{arith, inl, inr, ⊎_elim, get_or, eq-eqb, ne_eqb, refl, sym, ap, ◌∙◌, subst}
 use Rattle.gt_words.specs.Prelude.{position_or_len, lt-ltb, nat_tests, position-Some, some, get_elem?}
-use Rattle.gt_words.specs.Prelude.{State, keeps, stepped, at_map, Entry, Invalid, IsWithinLimits, domain_of, DomId}
+use Rattle.gt_words.specs.Prelude.{State, keeps, stepped, at_map, Entry, Invalid, domain_of, DomId}
 use Rattle.gt_words.specs.Prelude.{Config, DomainConfig, TABLE_ENTRIES, Dir, EntryRecord, EntryStep, Pinned, SeatStep}
 use Rattle.gt_words.specs.Prelude.{View}
 use Rattle.gt_words.specs.Conditions.{Board, HasDomain, IsSeatOf, SeatOf, position_at}

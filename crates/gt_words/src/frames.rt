@@ -14,7 +14,7 @@ ghost use Rattle.gt_words.specs.Frames.{copying_at, index_of, writing_at};
 
 use crate::words::{Seat, Words};
 use gt_frames::{Copied, Filled, Writ, Written};
-use gt_shared_table::{FrameIndex, SharedTable, TableSeat};
+use gt_shared_table::{FrameCopy, FrameIndex, FrameWrite, SharedTable, TableSeat};
 use gt_types::{FrameName, Memory, Range, Spot};
 use std::sync::Wait;
 
@@ -55,23 +55,23 @@ fn write_at<'a, R: Wait>(
     words: &SharedTable,
     seat: &mut TableSeat,
     frame: FrameIndex,
-    writ: &Writ,
-    off: u16,
-    bytes: &'a [u8],
+    write: FrameWrite<'_, 'a>,
 ) -> Result<Written<'a>, Memory>
     requires table { seat.old.table ≡ words.now.table }
     requires inside { HasFrame words.now frame }
-    requires range { off + length bytes.now ≤ FRAME_SIZE }
-    requires right { IsTrue (covers writ.now (id_at words.now.layout.ids frame.position) frame.number off
-        (length bytes.now)) }
+    requires range { write.off + length write.bytes.now ≤ FRAME_SIZE }
+    requires right { IsTrue (covers write.writ.now (id_at words.now.layout.ids frame.position) frame.number write.off
+        (length write.bytes.now)) }
     ensures seat { IsSamePlace seat.old seat.new }
     ensures step { OnOk result (AccessesFrame words.now.layout frame.position frame.number
-        (access.Wrote (record { writ = writ.now; off = off; bytes = bytes.now })) seat.old.view seat.new.view) }
+        (access.Wrote (record { writ = write.entry.writ.now; off = write.entry.off; bytes = write.entry.bytes.now }))
+        seat.old.view seat.new.view) }
     ensures header { own_header seat.new.view ≡ own_header seat.old.view }
-    ensures receipt { IfOk result (λ r. r ≡ written_in words.now.layout (named_at frame) writ.now off bytes.now) }
+    ensures receipt { IfOk result (λ r. r ≡ written_in words.now.layout (named_at frame)
+        write.entry.writ.now write.entry.off write.entry.bytes.now) }
     ensures refused { OnErr result (seat.new.view ≡ seat.old.view) }
 {
-    words.write_frame(rt, seat, frame, writ, off, bytes)
+    words.write_frame(rt, seat, frame, write)
 }
 
 // Copies between frames of the table.
@@ -81,24 +81,24 @@ fn copy_at<R: Wait>(
     seat: &mut TableSeat,
     source: FrameIndex,
     dest: FrameIndex,
-    writ: &Writ,
-    range: Range,
-    to_off: u16,
+    copy: FrameCopy<'_>,
 ) -> Result<Copied, Memory>
     requires table { seat.old.table ≡ words.now.table }
     requires source { HasFrame words.now source }
     requires dest { HasFrame words.now dest }
-    requires ranges { (range.off + range.len ≤ FRAME_SIZE) × (to_off + range.len ≤ FRAME_SIZE) }
-    requires right { IsTrue (covers writ.now (id_at words.now.layout.ids dest.position) dest.number to_off range.len) }
+    requires ranges { (copy.range.off + copy.range.len ≤ FRAME_SIZE)
+        × (copy.to_off + copy.range.len ≤ FRAME_SIZE) }
+    requires right { IsTrue (covers copy.writ.now (id_at words.now.layout.ids dest.position) dest.number copy.to_off
+        copy.range.len) }
     ensures seat { IsSamePlace seat.old seat.new }
-    ensures step { OnOk result (CopiesAt words.now.layout (named_at source) (named_at dest) writ.now range to_off
-        seat.old.view seat.new.view) }
+    ensures step { OnOk result (CopiesAt words.now.layout (named_at source) (named_at dest) copy.entry.writ.now
+        copy.entry.range copy.entry.to_off seat.old.view seat.new.view) }
     ensures header { own_header seat.new.view ≡ own_header seat.old.view }
     ensures receipt { IfOk result (λ r. r ≡ copied_in words.now.layout (named_at source) (named_at dest)
-        writ.now range to_off) }
+        copy.entry.writ.now copy.entry.range copy.entry.to_off) }
     ensures refused { OnErr result (seat.new.view ≡ seat.old.view) }
 {
-    words.copy_frames(rt, seat, source, dest, writ, range, to_off)
+    words.copy_frames(rt, seat, source, dest, copy)
 }
 
 impl Words {
@@ -174,7 +174,8 @@ impl Words {
         let Some(frame) = self.frame_at(seat, name) else {
             return Err(AccessFault::Gone);
         };
-        match write_at(rt, &self.words, &mut seat.place, frame, writ, off, bytes) {
+        let write = FrameWrite { writ, off, bytes };
+        match write_at(rt, &self.words, &mut seat.place, frame, write) {
             Ok(written) => Ok(written),
             Err(Memory) => Err(AccessFault::Memory),
         }
@@ -211,17 +212,12 @@ impl Words {
         let Some(dest) = self.frame_at(seat, to.frame) else {
             return Err(AccessFault::Gone);
         };
-        let range = Range { off: from.off, len };
-        match copy_at(
-            rt,
-            &self.words,
-            &mut seat.place,
-            source,
-            dest,
+        let copy = FrameCopy {
             writ,
-            range,
-            to.off,
-        ) {
+            range: Range { off: from.off, len },
+            to_off: to.off,
+        };
+        match copy_at(rt, &self.words, &mut seat.place, source, dest, copy) {
             Ok(copied) => Ok(copied),
             Err(Memory) => Err(AccessFault::Memory),
         }

@@ -3,7 +3,7 @@ ghost use Rattle.std.specs.Prelude.{◌≡◌, IfOk};
 ghost use Rattle.gt_words.specs.Conditions.{IsSameSeat, IsSeatOf};
 
 use crate::places::{BYTES, config, text};
-use gt_access::{AccessContext, copy_under, read_under, write_under};
+use gt_access::{Access, AccessContext, CopyAccess, copy_under, read_under, write_under};
 use gt_calls::{AccessPath, CallPins};
 use gt_frames::{FrameName, Spot};
 use gt_roster::Roster;
@@ -44,11 +44,11 @@ fn wrote<R: Wait>(rt: &R, run: &AccessContext<'_, Everything>, seat: &mut Seat, 
     requires { IsSeatOf run.now.words.now seat.old }
     ensures { IsSeatOf run.now.words.now seat.new }
 {
-    let name = FrameName {
-        owner: seat.dom(),
-        number,
+    let access = Access {
+        route: &AccessPath::Own,
+        at: own(seat, (number, 0)),
     };
-    write_under(rt, run, seat, &AccessPath::Own, name, 0, &BYTES).is_ok()
+    write_under(rt, run, seat, &access, &BYTES).is_ok()
 }
 
 // Returns the spot with this number and offset in one of its own frames.
@@ -80,9 +80,13 @@ fn copied<R: Wait>(
         source: AccessPath::Own,
         dest: AccessPath::Own,
     };
-    source.off <= 4092
-        && dest.off <= 4092
-        && copy_under(rt, run, seat, &routes, source, dest, 4).is_ok()
+    let copy = CopyAccess {
+        routes: &routes,
+        from: source,
+        to: dest,
+        len: 4,
+    };
+    source.off <= 4092 && dest.off <= 4092 && copy_under(rt, run, seat, &copy).is_ok()
 }
 
 // Returns the first six bytes of one of its own frames.
@@ -95,12 +99,12 @@ fn first_bytes<R: Wait>(
     requires { IsSeatOf run.now.words.now seat.old }
     ensures { IsSeatOf run.now.words.now seat.new }
 {
-    let name = FrameName {
-        owner: seat.dom(),
-        number,
+    let access = Access {
+        route: &AccessPath::Own,
+        at: own(seat, (number, 0)),
     };
     let mut out = [7; 6];
-    match read_under(rt, run, seat, &AccessPath::Own, name, 0, &mut out) {
+    match read_under(rt, run, seat, &access, &mut out) {
         Some(_) => Some(out),
         None => None,
     }

@@ -12,10 +12,10 @@ ghost use Rattle.gt_live.specs.Driving.{IsSame};
 
 use super::{Domain, refusal_of};
 use crate::monitor::Monitor;
-use gt_access::{AccessContext, AccessFault, read_under, write_under};
+use gt_access::{Access, AccessContext, AccessFault, read_under, write_under};
 use gt_calls::{AccessPath, Handle, judge_load, judge_own_access, judge_store};
 use gt_frames::{Filled, Read, Written};
-use gt_types::{Allows, Denial, FRAME_SIZE, Facts, FrameName, Rule};
+use gt_types::{Allows, Denial, FRAME_SIZE, Facts, FrameName, Rule, Spot};
 use gt_words::Seat;
 use std::alloc::Global;
 use std::sync::Wait;
@@ -43,95 +43,95 @@ pub(super) fn run_of<P: Allows>(monitor: &Monitor<P>) -> AccessContext<'_, P>
     }
 }
 
-// Reads bytes of the frame that this route reaches into all of `out`.
+// Reads bytes of the frame that this access reaches into all of `out`.
+#[inline(always)]
 #[tactic(auto, using(crate::proofs::Making::accessed_same, crate::proofs::Making::viewed_same))]
 fn fill_through<R: Wait, P: Allows>(
     rt: &R,
     monitor: &Monitor<P>,
     seat: &mut Seat,
-    route: &AccessPath,
-    name: FrameName,
-    off: u16,
+    access: &Access<'_>,
     out: &mut [u8],
 ) -> Result<Filled, Denial>
     requires seat { IsSeatOf monitor.now.words seat.old }
     requires reached { ReachesBy monitor.now.words.layout seat.old dirs.Read uses.Map
-        name off (length out.old) route.now }
-    requires may { MayAccessBy monitor.now.config.domains.items (P.may monitor.now.rights) seat.old.dom route.now }
-    requires range { off + length out.old ≤ FRAME_SIZE }
+        access.now.at.frame access.now.at.off (length out.old) access.now.route.now }
+    requires may { MayAccessBy monitor.now.config.domains.items (P.may monitor.now.rights)
+        seat.old.dom access.now.route.now }
+    requires range { access.now.at.off + length out.old ≤ FRAME_SIZE }
     ensures seat { IsSameSeat seat.old seat.new }
-    ensures read { IfOk result (λ r. ReadsFrame monitor.now.words.layout name off (length out.old) r
-        seat.old.view seat.new.view) }
+    ensures read { IfOk result (λ r. ReadsFrame monitor.now.words.layout access.now.at.frame access.now.at.off
+        (length out.old) r seat.old.view seat.new.view) }
     ensures refused { IfErr result IsOfAccess }
-    ensures cause { IfErr result (IsIfMissing monitor.now.words name) }
+    ensures cause { IfErr result (IsIfMissing monitor.now.words access.now.at.frame) }
     ensures unmade { OnErr result (seat.new.view ≡ seat.old.view) }
     ensures same { IsSame seat.old.view seat.new.view }
     ensures filled { Fills result out.old out.new }
 {
     let run = run_of(monitor);
-    match read_under(rt, &run, seat, route, name, off, out) {
+    match read_under(rt, &run, seat, access, out) {
         Some(filled) => Ok(filled),
         None => Err(not_made(AccessFault::Gone)),
     }
 }
 
-// Reads a range of the frame that this route reaches.
+// Reads `len` bytes of the frame that this access reaches.
 fn read_through<R: Wait, P: Allows>(
     rt: &R,
     monitor: &Monitor<P>,
     alloc: Global,
     seat: &mut Seat,
-    route: &AccessPath,
-    name: FrameName,
-    off: u16,
+    access: &Access<'_>,
     len: u16,
 ) -> Result<Read, Denial>
     requires seat { IsSeatOf monitor.now.words seat.old }
-    requires reached { ReachesBy monitor.now.words.layout seat.old dirs.Read uses.Map name off len route.now }
-    requires may { MayAccessBy monitor.now.config.domains.items (P.may monitor.now.rights) seat.old.dom route.now }
-    requires range { off + len ≤ FRAME_SIZE }
+    requires reached { ReachesBy monitor.now.words.layout seat.old dirs.Read uses.Map
+        access.now.at.frame access.now.at.off len access.now.route.now }
+    requires may { MayAccessBy monitor.now.config.domains.items (P.may monitor.now.rights)
+        seat.old.dom access.now.route.now }
+    requires range { access.now.at.off + len ≤ FRAME_SIZE }
     ensures seat { IsSameSeat seat.old seat.new }
-    ensures read { IfOk result (λ r. ReadsFrame monitor.now.words.layout name off len r seat.old.view seat.new.view) }
+    ensures read { IfOk result (λ r. ReadsFrame monitor.now.words.layout access.now.at.frame access.now.at.off len r
+        seat.old.view seat.new.view) }
     ensures refused { IfErr result IsOfAccess }
-    ensures cause { IfErr result (IsIfMissing monitor.now.words name) }
+    ensures cause { IfErr result (IsIfMissing monitor.now.words access.now.at.frame) }
     ensures unmade { OnErr result (seat.new.view ≡ seat.old.view) }
     ensures same { IsSame seat.old.view seat.new.view }
 {
     let Ok(mut bytes) = vec![in alloc; 0; usize::from(len)] else {
         return Err(not_made(AccessFault::Memory));
     };
-    match fill_through(rt, monitor, seat, route, name, off, &mut bytes) {
+    match fill_through(rt, monitor, seat, access, &mut bytes) {
         Ok(filled) => Ok(filled.with_bytes(bytes)),
         Err(denial) => Err(denial),
     }
 }
 
-// Writes bytes to the frame that this route reaches.
+// Writes bytes to the frame that this access reaches.
 #[tactic(auto, using(crate::proofs::Making::accessed_same, crate::proofs::Making::viewed_same))]
 fn write_through<'a, R: Wait, P: Allows>(
     rt: &R,
     monitor: &Monitor<P>,
     seat: &mut Seat,
-    route: &AccessPath,
-    name: FrameName,
-    off: u16,
+    access: &Access<'_>,
     bytes: &'a [u8],
 ) -> Result<Written<'a>, Denial>
     requires seat { IsSeatOf monitor.now.words seat.old }
     requires reached { ReachesBy monitor.now.words.layout seat.old dirs.Write uses.Map
-        name off (length bytes.now) route.now }
-    requires may { MayAccessBy monitor.now.config.domains.items (P.may monitor.now.rights) seat.old.dom route.now }
-    requires range { off + length bytes.now ≤ FRAME_SIZE }
+        access.now.at.frame access.now.at.off (length bytes.now) access.now.route.now }
+    requires may { MayAccessBy monitor.now.config.domains.items (P.may monitor.now.rights)
+        seat.old.dom access.now.route.now }
+    requires range { access.now.at.off + length bytes.now ≤ FRAME_SIZE }
     ensures seat { IsSameSeat seat.old seat.new }
-    ensures written { IfOk result (λ r. WritesFrame monitor.now.words.layout name off bytes.entry.now seat.old.dom r
-        seat.old.view seat.new.view) }
+    ensures written { IfOk result (λ r. WritesFrame monitor.now.words.layout access.now.at.frame access.now.at.off
+        bytes.entry.now seat.old.dom r seat.old.view seat.new.view) }
     ensures refused { IfErr result IsOfAccess }
-    ensures cause { IfErr result (IsIfMissing monitor.now.words name) }
+    ensures cause { IfErr result (IsIfMissing monitor.now.words access.now.at.frame) }
     ensures unmade { OnErr result (seat.new.view ≡ seat.old.view) }
     ensures same { IsSame seat.old.view seat.new.view }
 {
     let run = run_of(monitor);
-    match write_under(rt, &run, seat, route, name, off, bytes) {
+    match write_under(rt, &run, seat, access, bytes) {
         Ok(written) => Ok(written),
         Err(refused) => Err(not_made(refused)),
     }
@@ -163,9 +163,12 @@ impl Domain {
             owner: held.dom,
             number: held.entry.frame(),
         };
-        let way = AccessPath::Direct(held);
-        let seat = &mut self.seat;
-        read_through(rt, monitor, self.alloc, seat, &way, name, off, len)
+        let route = AccessPath::Direct(held);
+        let access = Access {
+            route: &route,
+            at: Spot { frame: name, off },
+        };
+        read_through(rt, monitor, self.alloc, &mut self.seat, &access, len)
     }
 
     /// Reads into all of `buffer` through a mapping, starting at the offset `off`. Waits for the frame's lock, and does
@@ -196,8 +199,11 @@ impl Domain {
             number: held.entry.frame(),
         };
         let route = AccessPath::Direct(held);
-        let seat = &mut self.seat;
-        fill_through(rt, monitor, seat, &route, name, off, buffer)
+        let access = Access {
+            route: &route,
+            at: Spot { frame: name, off },
+        };
+        fill_through(rt, monitor, &mut self.seat, &access, buffer)
     }
 
     /// Reads `len` bytes of one of the domain's own frames, starting at the offset `off`. Waits for the frame's lock.
@@ -226,17 +232,11 @@ impl Domain {
             owner: caller,
             number: frame,
         };
-        let seat = &mut self.seat;
-        read_through(
-            rt,
-            monitor,
-            self.alloc,
-            seat,
-            &AccessPath::Own,
-            name,
-            off,
-            len,
-        )
+        let own = Access {
+            route: &AccessPath::Own,
+            at: Spot { frame: name, off },
+        };
+        read_through(rt, monitor, self.alloc, &mut self.seat, &own, len)
     }
 
     /// Reads into all of `buffer` from one of the domain's own frames, starting at the offset `off`. Waits for the
@@ -267,8 +267,11 @@ impl Domain {
             owner: caller,
             number: frame,
         };
-        let seat = &mut self.seat;
-        fill_through(rt, monitor, seat, &AccessPath::Own, name, off, buffer)
+        let own = Access {
+            route: &AccessPath::Own,
+            at: Spot { frame: name, off },
+        };
+        fill_through(rt, monitor, &mut self.seat, &own, buffer)
     }
 
     /// Writes `bytes` through a mapping, starting at the offset `off`. Waits for the frame's lock.
@@ -298,8 +301,11 @@ impl Domain {
             number: held.entry.frame(),
         };
         let route = AccessPath::Direct(held);
-        let seat = &mut self.seat;
-        write_through(rt, monitor, seat, &route, name, off, bytes)
+        let access = Access {
+            route: &route,
+            at: Spot { frame: name, off },
+        };
+        write_through(rt, monitor, &mut self.seat, &access, bytes)
     }
 
     /// Writes `bytes` to one of the domain's own frames, starting at the offset `off`. Waits for the frame's lock.
@@ -329,7 +335,10 @@ impl Domain {
             owner: caller,
             number: frame,
         };
-        let seat = &mut self.seat;
-        write_through(rt, monitor, seat, &AccessPath::Own, name, off, bytes)
+        let own = Access {
+            route: &AccessPath::Own,
+            at: Spot { frame: name, off },
+        };
+        write_through(rt, monitor, &mut self.seat, &own, bytes)
     }
 }

@@ -23,7 +23,7 @@ use super::bytes::{not_made, run_of};
 use super::{Domain, known_with, refusal_of, tell_done, tell_refusal};
 use crate::monitor::Monitor;
 use crate::routes::{drive_copy, give_back};
-use gt_access::copy_under;
+use gt_access::{CopyAccess, copy_under};
 use gt_audit::{Hypercall, Record, Reply};
 use gt_calls::{
     AccessPath, Call, CallPins, CallResult, CopyArgs, OpenRequest, Phase, Spot, judge_copy,
@@ -34,35 +34,33 @@ use gt_types::{Allows, Denial, DomId, FRAME_SIZE};
 use gt_words::Seat;
 use std::sync::Wait;
 
-// Copies between the places that these routes reach.
+// Copies between the positions that the routes of the access reach.
 #[tactic(auto, using(crate::proofs::Making::accessed_same, crate::proofs::Making::viewed_same))]
 fn copy_through<R: Wait, P: Allows>(
     rt: &R,
     monitor: &Monitor<P>,
     seat: &mut Seat,
-    routes: &CallPins,
-    from: Spot,
-    to: Spot,
-    len: u16,
+    access: &CopyAccess<'_>,
 ) -> Result<Copied, Denial>
     requires seat { IsSeatOf monitor.now.words seat.old }
     requires source { ReachesBy monitor.now.words.layout seat.old dirs.Read uses.Copy
-        from.frame from.off len routes.now.source }
+        access.now.from.frame access.now.from.off access.now.len access.now.routes.now.source }
     requires dest { ReachesBy monitor.now.words.layout seat.old dirs.Write uses.Copy
-        to.frame to.off len routes.now.dest }
-    requires may { MayCopyBy monitor.now.config.domains.items (P.may monitor.now.rights) seat.old.dom routes.now }
-    requires source_range { from.off + len ≤ FRAME_SIZE }
-    requires dest_range { to.off + len ≤ FRAME_SIZE }
+        access.now.to.frame access.now.to.off access.now.len access.now.routes.now.dest }
+    requires may { MayCopyBy monitor.now.config.domains.items (P.may monitor.now.rights)
+        seat.old.dom access.now.routes.now }
+    requires source_range { access.now.from.off + access.now.len ≤ FRAME_SIZE }
+    requires dest_range { access.now.to.off + access.now.len ≤ FRAME_SIZE }
     ensures seat { IsSameSeat seat.old seat.new }
-    ensures copied { IfOk result (λ r. CopiesBetween monitor.now.words.layout from to len seat.old.dom r
-        seat.old.view seat.new.view) }
+    ensures copied { IfOk result (λ r. CopiesBetween monitor.now.words.layout access.now.from access.now.to
+        access.now.len seat.old.dom r seat.old.view seat.new.view) }
     ensures refused { IfErr result IsOfAccess }
-    ensures cause { IfErr result (IsIfOneMissing monitor.now.words from.frame to.frame) }
+    ensures cause { IfErr result (IsIfOneMissing monitor.now.words access.now.from.frame access.now.to.frame) }
     ensures unmade { OnErr result (seat.new.view ≡ seat.old.view) }
     ensures same { IsSame seat.old.view seat.new.view }
 {
     let run = run_of(monitor);
-    match copy_under(rt, &run, seat, routes, from, to, len) {
+    match copy_under(rt, &run, seat, access) {
         Ok(copied) => Ok(copied),
         Err(refused) => Err(not_made(refused)),
     }
@@ -190,7 +188,13 @@ impl Domain {
         let caller = self.seat.dom();
         let from = place_of(caller, copy.source, pins.source);
         let to = place_of(caller, copy.dest, pins.dest);
-        let copied = copy_through(rt, monitor, &mut self.seat, &pins, from, to, copy.len);
+        let access = CopyAccess {
+            routes: &pins,
+            from,
+            to,
+            len: copy.len,
+        };
+        let copied = copy_through(rt, monitor, &mut self.seat, &access);
         self.give_back(monitor, &pins);
         copied
     }

@@ -4,15 +4,15 @@ ghost use Rattle.gt_live.specs.Walks.{Called};
 ghost use Rattle.gt_live.specs.Driving.{Leaves};
 ghost use Rattle.gt_audit.specs.Telling.{Tells};
 
-use super::{Domain, known_with, refusal_of, tell_done, tell_refusal};
-use crate::driving::{drive_map, pin_of};
+use super::{Domain, known_with, refusal_of, tell_done};
+use crate::driving::{MapArgs, drive_map, pin_of};
 use crate::monitor::Monitor;
 use gt_audit::{Hypercall, Record, Reply, Trail};
-use gt_calls::{CallResult, Handle, HeldPin, judge_map, judge_release, judge_unmap};
+use gt_calls::{CallResult, Handle, HeldPin, Leg, judge_map, judge_release, judge_unmap, map_leg};
 use gt_types::{Allows, Denial, DomId, Facts, GrantRef, Rule};
 
-// Records a map that was Ok. The record of a refused one is made in another function, so that a map that is Ok makes
-// neither it nor room for it.
+// Records a map that was Ok. The record of a refused one is made elsewhere, so that a map that is Ok makes neither it nor
+// room for it.
 #[inline(always)]
 fn tell_map(trail: &mut Trail, caller: DomId, dom: DomId, gref: GrantRef, flags: u32)
     ensures { Tells trail.old (record { dom = caller; call = Hypercall.Map dom gref flags; reply = Reply.Done })
@@ -21,8 +21,7 @@ fn tell_map(trail: &mut Trail, caller: DomId, dom: DomId, gref: GrantRef, flags:
     tell_done(trail, caller, Hypercall::Map { dom, gref, flags });
 }
 
-#[cold]
-#[inline(never)]
+#[inline(always)]
 fn tell_map_refusal(
     trail: &mut Trail,
     caller: DomId,
@@ -34,7 +33,13 @@ fn tell_map_refusal(
     ensures { Tells trail.old
         (record { dom = caller; call = Hypercall.Map dom gref flags; reply = Reply.Denied denial }) trail.new }
 {
-    tell_refusal(trail, caller, Hypercall::Map { dom, gref, flags }, denial);
+    let call = Hypercall::Map { dom, gref, flags };
+    let reply = Reply::Denied(denial);
+    trail.push(Record {
+        dom: caller,
+        call,
+        reply,
+    });
 }
 
 // Records an unmap that was Ok.
@@ -68,7 +73,7 @@ impl Domain {
     ghost use Rattle.gt_live.specs.Domains.{mapping_reply, subject_of, told_of, Answered, BelongsTo};
     ghost use Rattle.gt_live.specs.Domains.{Drops, IsUnsettled, KeepsPinned, MapAnswered};
     ghost use Rattle.gt_live.specs.Maps.{pin_effect, pin_verdict};
-    ghost use Rattle.gt_calls.specs.Path.{path};
+    ghost use Rattle.gt_calls.specs.Path.{map_leg, path};
     ghost use Rattle.gt_calls.specs.declared.request.Request.{Request};
     ghost use Rattle.gt_calls.specs.Rules.{map_begun, unmap_begun};
     ghost use Rattle.gt_calls.specs.declared.request.OpenRequest.TheVariants as asks;
@@ -78,38 +83,48 @@ impl Domain {
     ghost use Rattle.gt_live.specs.Mappings.{Removes};
     ghost use Rattle.gt_calls.specs.declared.held.HeldPin.{HeldPin};
 
+    // Builds the leg of a map.
+    #[inline(always)]
+    fn map_leg<P: Allows>(&self, monitor: &Monitor<P>, map: MapArgs) -> Leg
+        ensures { result ≡ map_leg (known_on P.may monitor.now self.now) self.now.seat.dom
+            map.dom map.gref map.flags }
+    {
+        map_leg(
+            &self.known(monitor),
+            self.seat.dom(),
+            map.dom,
+            map.gref,
+            map.flags,
+        )
+    }
+
     // Drives a map to its end. Requires that it is not decided at its beginning.
     #[inline(always)]
     fn drive_map<P: Allows>(
         &mut self,
         monitor: &Monitor<P>,
-        dom: DomId,
-        gref: GrantRef,
-        flags: u32,
+        map: MapArgs,
+        leg: &Leg,
     ) -> Result<HeldPin, Denial>
         requires mine { BelongsTo P.may monitor.now self.old }
-        requires unanswered { map_begun (known_on P.may monitor.now self.old) self.old.seat.dom dom flags ≡ None }
+        requires unanswered { map_begun (known_on P.may monitor.now self.old) self.old.seat.dom map.dom map.flags
+            ≡ None }
+        requires leg { leg.now ≡ map_leg (known_on P.may monitor.now self.old) self.old.seat.dom
+            map.dom map.gref map.flags }
         ensures kept { IsUnsettled self.old self.new }
         ensures called { Called monitor.now.words.layout
-            (path (known_on P.may monitor.now self.old) self.old.seat.dom (asks.Map dom gref flags))
+            (path (known_on P.may monitor.now self.old) self.old.seat.dom (asks.Map map.dom map.gref map.flags))
             (pin_verdict result) self.old.seat.view self.new.seat.view }
-        ensures leaves { Leaves (known_on P.may monitor.now self.old) monitor.now.words.layout
-            self.old.seat.dom (asks.Map dom gref flags) self.old.seat.view self.new.seat.view (pin_effect result) }
+        ensures leaves { Leaves (known_on P.may monitor.now self.old) monitor.now.words.layout self.old.seat.dom
+            (asks.Map map.dom map.gref map.flags) self.old.seat.view self.new.seat.view (pin_effect result) }
     {
         let known = known_with(monitor, &self.seat, &self.own, &self.mappings);
         let caller = self.seat.dom();
-        drive_map(
-            &monitor.words,
-            &known,
-            &mut self.seat,
-            caller,
-            dom,
-            gref,
-            flags,
-        )
+        drive_map(&monitor.words, &known, &mut self.seat, caller, map, leg)
     }
 
-    // Maps an entry, without a record.
+    // Maps an entry, without a record. Its leg is built before room is made, since an allocation would make it look the
+    // owner up again.
     #[inline(always)]
     fn make_mapping<P: Allows>(
         &mut self,
@@ -127,10 +142,12 @@ impl Domain {
         if let Some(verdict) = self.judge_map(monitor, dom, flags) {
             return Err(refusal_of(verdict));
         }
+        let map = MapArgs { dom, gref, flags };
+        let leg = self.map_leg(monitor, map);
         if self.mappings.reserve().is_err() {
             return Err(Denial::new(Rule::N26, Facts::None));
         }
-        match self.drive_map(monitor, dom, gref, flags) {
+        match self.drive_map(monitor, map, &leg) {
             Ok(held) => Ok(self.mappings.insert(held)),
             Err(denial) => Err(denial),
         }
@@ -252,6 +269,37 @@ impl Domain {
         Ok(())
     }
 
+    // Unmaps a mapping of this entry, and records the call.
+    #[inline(always)]
+    fn unmap_of<P: Allows>(
+        &mut self,
+        monitor: &Monitor<P>,
+        handle: Handle,
+        subject: Option<(DomId, GrantRef)>,
+    ) -> Result<(), Denial>
+        requires mine { BelongsTo P.may monitor.now self.old }
+        requires subject { subject ≡ subject_of self.old handle }
+        ensures mine { BelongsTo P.may monitor.now self.new }
+        ensures seat { IsSameSeat self.old.seat self.new.seat }
+        ensures answered { Answered P.may monitor.now self.old (Request.Unmap handle) (verdict_of result) self.new }
+        ensures removed { OnOk result ((p : HeldPin) × Removes self.old.mappings self.new.mappings handle p) }
+        ensures refused { OnErr result (KeepsPinned self.old self.new) }
+        ensures told { Tells self.old.trail
+            (told_of self.old (Hypercall.Unmap (subject_of self.old handle)) (verdict_of result)) self.new.trail }
+    {
+        let caller = self.seat.dom();
+        match self.unmap_unrecorded(monitor, handle) {
+            Ok(()) => {
+                tell_unmap(&mut self.trail, caller, subject);
+                Ok(())
+            }
+            Err(denial) => {
+                tell_unmap_refusal(&mut self.trail, caller, subject, denial);
+                Err(denial)
+            }
+        }
+    }
+
     /// Unmaps a mapping, and releases its pin.
     ///
     /// # Errors
@@ -266,17 +314,10 @@ impl Domain {
         ensures told { Tells self.old.trail
             (told_of self.old (Hypercall.Unmap (subject_of self.old handle)) (verdict_of result)) self.new.trail }
     {
-        let caller = self.seat.dom();
-        let subject = self.subject(handle);
-        match self.unmap_unrecorded(monitor, handle) {
-            Ok(()) => {
-                tell_unmap(&mut self.trail, caller, subject);
-                Ok(())
-            }
-            Err(denial) => {
-                tell_unmap_refusal(&mut self.trail, caller, subject, denial);
-                Err(denial)
-            }
+        // Each arm has its own copy of the call, so a handle with a mapping is looked up only once.
+        match self.subject(handle) {
+            Some(subject) => self.unmap_of(monitor, handle, Some(subject)),
+            None => self.unmap_of(monitor, handle, None),
         }
     }
 }

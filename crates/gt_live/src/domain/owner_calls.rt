@@ -5,7 +5,7 @@ ghost use Rattle.gt_live.specs.Driving.{Leaves};
 
 use super::{Domain, change_row, done, known_with};
 use crate::monitor::Monitor;
-use crate::owning::{drive_change, judge_own};
+use crate::owning::{IdleEntry, drive_change, judge_own};
 use gt_calls::{CallResult, OwnerEntry, judge_bytes, own_entry};
 use gt_entry::{Entry, EntryChange};
 use gt_types::{Allows, Denial, GrantRef};
@@ -65,15 +65,8 @@ impl Domain {
     {
         let known = known_with(monitor, &self.seat, &self.own, &self.mappings);
         let caller = self.seat.dom();
-        drive_change(
-            &monitor.words,
-            &known,
-            &mut self.seat,
-            caller,
-            gref,
-            looked,
-            change,
-        )
+        let idle = IdleEntry { gref, word: looked };
+        drive_change(&monitor.words, &known, &mut self.seat, caller, idle, change)
     }
 
     // Makes a change of the entry with this row, and keeps it in the row. Requires that it is not decided at its

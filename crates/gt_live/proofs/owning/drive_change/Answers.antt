@@ -10,13 +10,13 @@ use Rattle.gt_live.proofs.owning.drive_change.Goals as goal
 pub returns-in-Publish-clause-called : goal.returns-in-Publish-clause-called
 returns-in-Publish-clause-called g c =
     subst (λ (x : EntryChange). Called c.args.words.now.layout
-    (path (knows g.P.Allows.may c.args.known.now) c.args.caller (asks_change c.args.gref x))
+    (path (knows g.P.Allows.may c.args.known.now) c.args.caller (asks_change c.args.idle.gref x))
     (verdict_of c.drive_grant.result) c.args.seat.now.view c.drive_grant.new.seat.view) (sym c.in-Publish.is)
     c.drive_grant.ensures.called
 
 pub returns-in-Revoke-clause-called : goal.returns-in-Revoke-clause-called
 returns-in-Revoke-clause-called g c =
     subst (λ (x : EntryChange). Called c.args.words.now.layout
-    (path (knows g.P.Allows.may c.args.known.now) c.args.caller (asks_change c.args.gref x))
+    (path (knows g.P.Allows.may c.args.known.now) c.args.caller (asks_change c.args.idle.gref x))
     (verdict_of c.drive_revoke.result) c.args.seat.now.view c.drive_revoke.new.seat.view) (sym c.in-Revoke.is)
     c.drive_revoke.ensures.called

@@ -14,21 +14,21 @@ use Rattle.gt_live.proofs.routes.reach_dest.Goals as goal
 pub walk_leg-requires-clause-can : goal.walk_leg-requires-clause-can
 walk_leg-requires-clause-can g c =
     let known = knows g.P.Allows.may c.args.known.now in let k = c.args.words.now.layout in
-    let caller = c.args.caller in let copy = c.args.copy.now in let source = c.args.source.now in let v = c.args.seat.now.view in
+    let caller = c.args.caller in let copy = c.args.copy.now in let source = c.args.pins.now.source in let v = c.args.seat.now.view in
     let leg = c.end_leg-leg.result in let is = c.end_leg-leg.ensures in
     dest-can known k caller copy source leg is v c.requires.can
 
 pub returns-in-Err-clause-goes : goal.returns-in-Err-clause-goes
 returns-in-Err-clause-goes g c =
     let known = knows g.P.Allows.may c.args.known.now in let k = c.args.words.now.layout in
-    let caller = c.args.caller in let copy = c.args.copy.now in let source = c.args.source.now in let v = c.args.seat.now.view in
+    let caller = c.args.caller in let copy = c.args.copy.now in let source = c.args.pins.now.source in let v = c.args.seat.now.view in
     let leg = c.end_leg-leg.result in let is = c.end_leg-leg.ensures in
     dest-refused known k caller copy source leg is v c.walk_leg.new.seat.view c.in-Err.denial c.in-Err.ensures.walked
 
 pub go_through-requires-clause-can : goal.go_through-requires-clause-can
 go_through-requires-clause-can g c =
     let known = knows g.P.Allows.may c.args.known.now in let k = c.args.words.now.layout in
-    let caller = c.args.caller in let copy = c.args.copy.now in let source = c.args.source.now in let v = c.args.seat.now.view in
+    let caller = c.args.caller in let copy = c.args.copy.now in let source = c.args.pins.now.source in let v = c.args.seat.now.view in
     let leg = c.end_leg-leg.result in let is = c.end_leg-leg.ensures in
     let p = c.in-Ok.held in let w = c.walk_leg.new.seat.view in let pair : DomId × DomId = (c.owner-from.result, c.in-Via.dom2) in
     let aim = (Dest copy source (Some p)) in let there = through_via known aim leg pair c.in-Via.dom2 c.in-Via.gref in
@@ -39,7 +39,7 @@ go_through-requires-clause-can g c =
 pub returns-in-Ok-go_through-clause-goes : goal.returns-in-Ok-go_through-clause-goes
 returns-in-Ok-go_through-clause-goes g c =
     let known = knows g.P.Allows.may c.args.known.now in let k = c.args.words.now.layout in
-    let caller = c.args.caller in let copy = c.args.copy.now in let source = c.args.source.now in let v = c.args.seat.now.view in
+    let caller = c.args.caller in let copy = c.args.copy.now in let source = c.args.pins.now.source in let v = c.args.seat.now.view in
     let leg = c.end_leg-leg.result in let is = c.end_leg-leg.ensures in
     let p = c.in-Ok.held in let w = c.walk_leg.new.seat.view in let pair : DomId × DomId = (c.owner-from.result, c.in-Via.dom2) in
     let aim = (Dest copy source (Some p)) in let there = through_via known aim leg pair c.in-Via.dom2 c.in-Via.gref in
@@ -52,7 +52,7 @@ returns-in-Ok-go_through-clause-goes g c =
 pub returns-in-Err-go_through-clause-goes : goal.returns-in-Err-go_through-clause-goes
 returns-in-Err-go_through-clause-goes g c =
     let known = knows g.P.Allows.may c.args.known.now in let k = c.args.words.now.layout in
-    let caller = c.args.caller in let copy = c.args.copy.now in let source = c.args.source.now in let v = c.args.seat.now.view in
+    let caller = c.args.caller in let copy = c.args.copy.now in let source = c.args.pins.now.source in let v = c.args.seat.now.view in
     let leg = c.end_leg-leg.result in let is = c.end_leg-leg.ensures in
     let p = c.in-Ok.held in let w = c.walk_leg.new.seat.view in let pair : DomId × DomId = (c.owner-from.result, c.in-Via.dom2) in
     let aim = (Dest copy source (Some p)) in let there = through_via known aim leg pair c.in-Via.dom2 c.in-Via.gref in
@@ -65,10 +65,11 @@ returns-in-Err-go_through-clause-goes g c =
 pub returns-in_default : goal.returns-in_default
 returns-in_default g c =
     let known = knows g.P.Allows.may c.args.known.now in let k = c.args.words.now.layout in
-    let caller = c.args.caller in let copy = c.args.copy.now in let source = c.args.source.now in let v = c.args.seat.now.view in
+    let caller = c.args.caller in let copy = c.args.copy.now in let source = c.args.pins.now.source in let v = c.args.seat.now.view in
     let leg = c.end_leg-leg.result in let is = c.end_leg-leg.ensures in
     record {
       seat = c.walk_leg.ensures.seat;
+      source = refl;
       goes = dest-reached known k caller copy source leg is v c.walk_leg.new.seat.view c.in-Ok.held c.in-Ok.ensures.walked
           (no-via c.in-Ok.held.entry c.in_default.not-Via);
     }

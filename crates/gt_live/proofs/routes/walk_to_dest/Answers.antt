@@ -1,11 +1,13 @@
-use Rattle.std.proofs.Common.{◌∙◌, ap, sym}
+use Rattle.std.proofs.Common.{◌∙◌, ap, subst, sym}
 use Rattle.std.specs.Prelude.{Err}
 use Rattle.gt_calls.specs.declared.action.CallResult.TheVariants.{Refused}
 use Rattle.gt_calls.specs.declared.call.Phase.TheVariants.{Accessing, Ending}
 use Rattle.gt_calls.specs.declared.held.AccessPath.{AccessPath}
 use Rattle.gt_calls.specs.Machine.{at_dest}
 use Rattle.gt_calls.specs.Rules.{knows}
-use Rattle.gt_live.specs.Copies.{after_copy, dest_leg}
+use Rattle.gt_calls.specs.Holding.{held_by}
+use Rattle.gt_live.specs.Copies.{CanGiveBack, IsGivenBack, after_copy, dest_leg}
+use Rattle.gt_live.specs.Phases.{Runs}
 use Rattle.gt_live.proofs.GivingBack.{can-give-source, only_source, source-given}
 use Rattle.gt_live.proofs.Phases.{can-from, can-then, runs-from, runs-none, runs-then, runs-to}
 use Rattle.gt_live.proofs.Reaching.{dest-own, dest-walked}
@@ -25,11 +27,12 @@ give_back_route-requires-clause-can g c =
     let caller = c.args.caller in let copy = c.args.copy.now in let source = c.args.pins.now.source in
     let v = c.args.seat.now.view in let u = c.reach_dest.new.seat.view in let denial = c.in-Err.denial in
     let walked = dest-walked known k caller copy source (sym c.is_dest_granted.ensures ∙ c.if-not-is_dest_granted.false) in
-    can-give-source k known caller denial source u
+    subst (λ (r : AccessPath). CanGiveBack k (held_by r) u) (sym c.reach_dest.ensures.source)
+    (can-give-source k known caller denial source u
     (can-then known k caller (dest_leg known caller copy source) (Ending (only_source k source) (Refused denial)) v u
     (can-from known k caller (at_dest known caller copy source) (dest_leg known caller copy source) v walked
     c.requires.can)
-    c.in-Err.ensures.goes)
+    c.in-Err.ensures.goes))
 
 pub returns-in-Err-clause-goes : goal.returns-in-Err-clause-goes
 returns-in-Err-clause-goes g c =
@@ -42,7 +45,8 @@ returns-in-Err-clause-goes g c =
     runs-from known k caller (dest_leg known caller copy source) (at_dest known caller copy source) end v w (sym walked)
     (runs-then known k caller (dest_leg known caller copy source) (Ending (only_source k source) (Refused denial)) end v
     u w c.in-Err.ensures.goes
-    (source-given k known caller denial source u w c.give_back_route.ensures.given))
+    (source-given k known caller denial source u w
+    (subst (λ (r : AccessPath). IsGivenBack k (held_by r) u w) c.reach_dest.ensures.source c.give_back_route.ensures.given)))
 
 pub returns-then-not-is_dest_granted-clause-goes : goal.returns-then-not-is_dest_granted-clause-goes
 returns-then-not-is_dest_granted-clause-goes g c =
@@ -60,5 +64,8 @@ returns-in-Ok-clause-goes g c =
     let caller = c.args.caller in let copy = c.args.copy.now in let source = c.args.pins.now.source in
     let v = c.args.seat.now.view in let w = c.reach_dest.new.seat.view in
     let walked = dest-walked known k caller copy source (sym c.is_dest_granted.ensures ∙ c.if-not-is_dest_granted.false) in
-    runs-from known k caller (dest_leg known caller copy source) (at_dest known caller copy source)
-    (Accessing copy source c.reach_dest.new.route) v w (sym walked) c.in-Ok.ensures.goes
+    let dest = c.reach_dest.new.pins.dest in
+    subst (λ (r : AccessPath). Runs known k caller (at_dest known caller copy source) v (Accessing copy r dest) w)
+    (sym c.reach_dest.ensures.source)
+    (runs-from known k caller (dest_leg known caller copy source) (at_dest known caller copy source)
+    (Accessing copy source dest) v w (sym walked) c.in-Ok.ensures.goes)

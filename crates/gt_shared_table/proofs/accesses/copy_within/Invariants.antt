@@ -6,7 +6,7 @@ use Rattle.gt_word_history.specs.declared.view.FrameStep.TheVariants.{Copied, Re
 use Rattle.gt_shared_table.proofs.accesses.copy_within.Given as goal
 
 abbrev pub ghosts-free_copied_within : goal.ghosts-free_copied_within
-ghosts-free_copied_within g a = record { places = places_of a.cells.now.key; name = name_of a.slot; access = Copied a.slot.owner a.slot.number a.range.off (record { writ = a.writ.now; off = a.to_off; bytes = bytes_at (held_first a.seat.now.me.0.held) a.range.off a.range.len }); left = left_by true a.seat.now.me.0.held }
+ghosts-free_copied_within g a = record { places = places_of a.cells.now.key; name = name_of a.slot; access = Copied a.slot.owner a.slot.number a.copy.range.off (record { writ = a.copy.writ.now; off = a.copy.to_off; bytes = bytes_at (held_first a.seat.now.me.0.held) a.copy.range.off a.copy.range.len }); left = left_by true a.seat.now.me.0.held }
 
 abbrev pub ghosts-return_as_taken : goal.ghosts-return_as_taken
 ghosts-return_as_taken g a = record { places = places_of a.cells.now.key; name = name_of a.slot; access = Read 0 []; left = left_by a.last a.seat.now.me.0.held }

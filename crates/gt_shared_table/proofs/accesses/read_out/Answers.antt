@@ -1,4 +1,4 @@
-use Rattle.std.proofs.Common.{refl, ap}
+use Rattle.std.proofs.Common.{refl, ap, true}
 use Rattle.gt_frames.specs.Receipts.{Reading}
 use Rattle.gt_word_history.specs.declared.view.FrameStep.TheVariants.{Read}
 use Rattle.gt_shared_table.specs.Rule.{places_of}
@@ -8,7 +8,7 @@ use Rattle.gt_shared_table.proofs.accesses.read_out.Goals as goal
 
 pub free_read-requires-clause-allowed : goal.free_read-requires-clause-allowed
 free_read-requires-clause-allowed c = let r = c.read_into-filled in let b = places_of c.args.cells.now.key in let z = c.args.cells.now.table_id in let me = c.args.seat.now.me in let x = c.in-Some.frame in
-    let out : IsOut b.layout c.args.slot c.args.last x me = moved_out b.layout c.args.slot c.args.last c.requires.out.0 me c.requires.out.1 c.slot_mut.result.now x c.slot_mut.ensures.value c.in-Some.is in
-    frees_out b z.slots c.args.seat.now.id z c.args.slot c.args.last x x me c.requires.slot out (Read c.args.off r.new.out) refl
+    let out : IsOut b.layout c.args.slot true x me = moved_out b.layout c.args.slot true c.requires.out.0 me c.requires.out.1 c.slot_mut.result.now x c.slot_mut.ensures.value c.in-Some.is in
+    frees_out b z.slots c.args.seat.now.id z c.args.slot true x x me c.requires.slot out (Read c.args.off r.new.out) refl
     (bytes_are x x c.args.off _ r.new.out r.result.bytes refl r.ensures.filled (ap (λ (d : Reading). d.bytes) r.ensures.read) r.ensures.len)
     c.requires.mine.1

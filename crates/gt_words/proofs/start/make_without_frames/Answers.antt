@@ -1,5 +1,3 @@
-use Rattle.std.proofs.Common.{◌≡◌, ℕ, subst}
-use Rattle.std.specs.Prelude.{IfOk}
 use Rattle.gt_words.proofs.WithoutFrames.{has_table, keeps_none, same_layout}
 use Rattle.gt_words.proofs.start.make_without_frames.Goals as goal
 

@@ -4,7 +4,7 @@ use Rattle.std.specs.Result.{is_err}
 use Rattle.gt_handles.specs.Handles.{HandleMap, KeepsSpent}
 use Rattle.gt_handles.specs.Listing.{IsInserted}
 use Rattle.gt_calls.specs.Asking.{begun_of}
-use Rattle.gt_calls.specs.Path.{path}
+use Rattle.gt_calls.specs.Path.{map_leg, path}
 use Rattle.gt_calls.specs.Rules.{CallerKnowledge, map_begun}
 use Rattle.gt_calls.specs.declared.held.HeldPin.{HeldPin}
 use Rattle.gt_calls.specs.declared.request.OpenRequest.TheVariants as asks
@@ -126,3 +126,9 @@ returns-in-Ok g c =
       );
       silent = e.trail;
     }
+
+pub drive_map-requires-clause-leg : goal.drive_map-requires-clause-leg
+drive_map-requires-clause-leg g c =
+    let m = c.args.monitor.now in let d = c.args.self.now in let may = g.P.Allows.may m.rights in
+    subst (λ (z : HandleMap HeldPin). c.map_leg-leg.result ≡ map_leg (knowledge m.config may (record d { mappings = z })) d.seat.dom c.args.dom c.args.gref c.args.flags)
+    (sym c.reserve.ensures.kept) c.map_leg-leg.ensures

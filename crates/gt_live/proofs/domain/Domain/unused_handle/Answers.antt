@@ -1,4 +1,4 @@
-use Rattle.std.proofs.Common.{◌≡◌, ℕ, ◌<◌, subst, sym, arith, refl, Option, Some, None}
+use Rattle.std.proofs.Common.{◌≡◌, arith, refl, Option, Some, None}
 use Rattle.gt_calls.specs.declared.held.HeldPin.{HeldPin}
 use Rattle.gt_handles.specs.Handles.{HandleMap, HasSoundHandles, value_of}
 use Rattle.gt_handles.specs.declared.handles.Handle.{Handle}

@@ -17,5 +17,5 @@ caused b from to Memory denial is missing = λ same. absurd (let e : N26 ≡ N16
 
 pub returns-clause-cause : goal.returns-clause-cause
 returns-clause-cause g c = let m = c.args.monitor.now in
-    caused m.words c.args.from c.args.to c.in-Err.refused c.not_made.result c.not_made.ensures
-    (subst (λ (b : Board). IsCopyFault b c.args.from c.args.to c.in-Err.refused) c.run_of-run.ensures.words c.in-Err.ensures.fault)
+    caused m.words c.args.access.now.from c.args.access.now.to c.in-Err.refused c.not_made.result c.not_made.ensures
+    (subst (λ (b : Board). IsCopyFault b c.args.access.now.from c.args.access.now.to c.in-Err.refused) c.run_of-run.ensures.words c.in-Err.ensures.fault)

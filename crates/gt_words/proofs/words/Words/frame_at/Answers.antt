@@ -1,4 +1,4 @@
-use Rattle.std.proofs.Common.{◌≡◌, ℕ, ◌<◌, ap, ◌∙◌, refl, subst}
+use Rattle.std.proofs.Common.{ℕ, ◌<◌, ap, ◌∙◌, refl, subst}
 use Rattle.gt_word_history.specs.Places.{Board}
 use Rattle.gt_word_history.specs.Rule.{id_at}
 use Rattle.gt_words.specs.Conditions.{IsOfRun}
