@@ -1,5 +1,5 @@
 -- States as lists of numbers of their parts.
-use Rattle.std.proofs.Common.{◌≡◌, ◌<◌, ◌+◌, ℕ, zero, suc, List, [], ◌∷◌, ◌++◌, length, take, get_or, ap, sym, ◌∙◌, refl}
+use Rattle.std.proofs.Common.{◌≡◌, ◌<◌, ◌+◌, ℕ, suc, List, [], ◌∷◌, ◌++◌, length, take, get_or, ap, sym, ◌∙◌, refl}
 use Rattle.std.proofs.Common.{arith, subst, inl, inr, Result, Ok, Err, OnOk, IfOk, Bool, true, false, Some, slice_get, not, if◌then◌else◌, ◌||◌, cond, append_assoc}
 use Rattle.std.proofs.lemmas.List.{append-nil, take_more}
 use Rattle.std.proofs.lemmas.Option.{same_Some}

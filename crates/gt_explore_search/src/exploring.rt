@@ -1,10 +1,11 @@
 //! The depth-first search over the states of a space.
-ghost use Rattle.std.specs.Prelude.{◌≡◌, ◌⊎◌, ℕ, List, IfOk, IsTrue, map, slice_get, Some};
+ghost use Rattle.std.specs.Prelude.{◌≡◌, ◌⊎◌, ℕ, List, IfOk, IsTrue, slice_get, Some};
 ghost use Rattle.std.specs.Option.{option_map};
 ghost use Rattle.gt_explore_search.specs.Exploring.{AllTextsFound, SearchStarts};
 ghost use Rattle.gt_explore_search.specs.Parts.{by_numbers};
 
 use crate::fault::SearchFault;
+use crate::sharing::{NextNode, next_of, same_lists, turn_to};
 use crate::spaces::{TransitionSystem, TurnResult};
 use crate::states::StateIndex;
 use crate::suffixes::{AnswerLine, AnswerLists};
@@ -45,14 +46,6 @@ pub struct FirstTurn {
 pub struct ReachedList {
     pub list: usize,
     pub onward: Option<FirstTurn>,
-}
-
-/// The turn by which a state leads to a node whose ends are its own, each at the same index.
-#[derive(Clone, Copy)]
-pub struct NextNode {
-    pub place: u32,
-    pub choice: u32,
-    pub node: u32,
 }
 
 /// A state whose moves have all been tried, and the lists of answers that it leads to. It shares them with the next node
@@ -128,48 +121,6 @@ fn set_done(done: &mut Vec<Option<u32>>, state: usize, node: usize)
         return;
     }
     done[state] = Some(node as u32);
-}
-
-// Returns the node to which each of these ends leads by one turn, if it is at the same index there.
-fn next_of(ends: &[ReachedList]) -> Option<NextNode> {
-    let first = ends.first()?.onward?;
-    for (at, end) in ends.iter().enumerate() {
-        let onward = end.onward?;
-        let by = onward.turn;
-        let is_alike = by.place == first.turn.place && by.choice == first.turn.choice;
-        if !is_alike || onward.node != first.node || onward.end != at {
-            return None;
-        }
-    }
-    Some(NextNode {
-        place: u32::try_from(first.turn.place).ok()?,
-        choice: u32::try_from(first.turn.choice).ok()?,
-        node: u32::try_from(first.node).ok()?,
-    })
-}
-
-// Returns the turn to the next node, and to the end at this index.
-fn turn_to(next: NextNode, end: usize) -> FirstTurn {
-    let place = next.place as usize;
-    let choice = next.choice as usize;
-    let node = next.node as usize;
-    let turn = Turn { place, choice };
-    FirstTurn { turn, node, end }
-}
-
-// Returns whether both have the same lists, in the same order.
-fn same_lists(one: &[ReachedList], other: &[ReachedList]) -> bool
-    ensures { IsTrue result → map (λ e. e.list) other.now ≡ map (λ e. e.list) one.now }
-{
-    if one.len() != other.len() {
-        return false;
-    }
-    'ends: for at in 0..one.len() {
-        if one[at].list != other[at].list {
-            return false;
-        }
-    }
-    true
 }
 
 // Returns whether the move led nowhere.

@@ -13,6 +13,7 @@
 mod exploring;
 mod fault;
 mod parts;
+mod sharing;
 mod spaces;
 mod states;
 mod suffixes;

@@ -1,6 +1,6 @@
-use Rattle.std.proofs.Common.{sym, ◌∙◌, ap, refl, subst, List, [], ℕ, take, get_or, slice_get}
+use Rattle.std.proofs.Common.{sym, ◌∙◌, ap, refl, get_or}
 use Rattle.std.specs.Option.{option_map}
-use Rattle.gt_explore_search.specs.Parts.{IsCopyOf, Pairwise}
+use Rattle.gt_explore_search.specs.Parts.{IsCopyOf}
 use Rattle.gt_explore_search.proofs.Numbering.{pair-step}
 use Rattle.gt_explore_search.proofs.parts.PartIndex.copies.Goals as goal
 

@@ -1,4 +1,4 @@
-use Rattle.std.proofs.Common.{List, ℕ, subst, nat_eq, rules}
+use Rattle.std.proofs.Common.{List, subst, nat_eq}
 use lib.Pointwise.{pointwise}
 use Rattle.gt_explore_search.specs.Parts.{HasNumber, Pairwise}
 use Rattle.gt_explore_search.proofs.Listing.{same_items}
