@@ -36,6 +36,25 @@ such a run.
 
 A lock round the words of an entry can't be written as an edit: taking one asks for a bound \`Wait\`, and
 no call of \`gt_words\` on words has it.
+
+## Planted by hand
+
+Before these edits some 150 bodies were planted in the crates below \`explore\`, and changed together with what
+only repeats them: private contracts and private definitions. What nothing refused then has a clause or a test
+now. The table has the bodies that were planted since, in the other crates. Most of those that a contract
+refuses are among the edits.
+
+| Crate | Planted | Refused by a contract | By a test | By nothing |
+|---|---|---|---|---|
+| \`gt_explore_search\` | 20 | 15 | 5 | 0 |
+| \`gt_explore_replay\` | 15 | 15 | 0 | 0 |
+| \`gt_explore_moves\` | 15 | 15 | 0 | 0 |
+| \`gt_explore\` | 11 | 11 | 0 | 0 |
+| \`gt_neverallow\` | 11 | 11 | 0 | 0 |
+| all | 72 | 67 | 5 | 0 |
+
+Of the bodies that a test refuses, one passed all tests at first: a search that gives up at its limit and forgets the
+turn that it is trying. \`test_explore_search\` now compares how many texts are found within each number of states.
 END
   for crate in $(crates); do
     for folder in must-fail wrong-bodies; do

@@ -41,7 +41,10 @@ fn one_state_less_is_too_few(rt: HostRuntime) -> Result<(), Fail> {
     Ok(())
 }
 
-// With one state less, some of the six texts are found, and each that is found is one of them.
+// What a search finds that gives up at a number of states: so many texts, and so many states on the way to the last.
+const WITHIN: [(usize, usize, usize); 5] = [(8, 6, 3), (7, 5, 2), (5, 2, 3), (4, 1, 5), (3, 0, 4)];
+
+// Within fewer states some of the six texts are found, and each that is found is one of them.
 #[test]
 fn some_texts_are_found_within_fewer_states(rt: HostRuntime) -> Result<(), Fail> {
     let alloc = rt.alloc();
@@ -51,16 +54,17 @@ fn some_texts_are_found_within_fewer_states(rt: HostRuntime) -> Result<(), Fail>
         return Ok(());
     };
     assert!(rt; all.whole);
-    assert_eq!(rt; all.found.orders.len(), 6);
-    let Ok(some) = search_within(alloc, &counters, 8) else {
-        assert!(rt; false);
-        return Ok(());
-    };
-    assert!(rt; !some.whole);
-    assert_eq!(rt; some.found.states, 8);
-    assert!(rt; !some.found.orders.is_empty());
-    for order in some.found.orders.as_slice() {
-        assert!(rt; has(&all.found, order.text.as_slice()));
+    assert_eq!(rt; (all.found.orders.len(), all.depth), (6, 0));
+    for (limit, texts, depth) in WITHIN {
+        let Ok(some) = search_within(alloc, &counters, limit) else {
+            assert!(rt; false);
+            return Ok(());
+        };
+        assert_eq!(rt; (some.whole, some.found.states), (false, limit));
+        assert_eq!(rt; (some.found.orders.len(), some.depth), (texts, depth));
+        for order in some.found.orders.as_slice() {
+            assert!(rt; has(&all.found, order.text.as_slice()));
+        }
     }
     Ok(())
 }
