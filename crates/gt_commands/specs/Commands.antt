@@ -16,6 +16,8 @@ use Rattle.gt_commands.specs.Rules.{command_app}
 use Rattle.gt_commands.specs.Usage.{Usage, Given, Line, gives, asks_help, wrong, Word, mark, long, short, plain}
 use Rattle.gt_commands.specs.Usage.{usage_word, line, is_true, value_given}
 use Rattle.gt_commands.specs.declared.invocation.Invocation.TheVariants as plans
+use Rattle.gt_commands.specs.declared.values.ExploreForm.{ExploreForm}
+use Rattle.gt_commands.specs.declared.values.ExploreForm.TheVariants as forms
 
 -- ---- the commands
 
@@ -54,7 +56,8 @@ abbrev pub usage_of : Mode → Usage
 usage_of Play = runner_usage
 usage_of Run = runner_usage
 usage_of Explore = record common_usage {
-  options = codes "find" ∷ codes "never" ∷ codes "always" ∷ codes "has" ∷ codes "witness" ∷ codes "states" ∷ [];
+  options = codes "find" ∷ codes "never" ∷ codes "always" ∷ codes "has" ∷ codes "witness" ∷ codes "trace"
+      ∷ codes "states" ∷ codes "format" ∷ [];
 }
 usage_of Policy = record common_usage { options = one (codes "format") }
 usage_of Rules = common_usage
@@ -103,12 +106,15 @@ gthost_app = with_mode (with_mode (with_mode listers_app Check) Why) Entries
 
 -- ---- requests
 
--- what an exploration seeks: all texts, the verdict on a claim, a script for the text of a number, or one for each
+-- what an exploration seeks: all texts, the verdict on a claim, a script for the text of a number, one for each, or the
+-- moves that lead to the text of a number, as lines or as a diagram
 pub data Sought : Type 0 where
   all_texts : Sought
   a_claim : Claim → Text → Sought
   one_script : ℕ → Sought
   all_scripts : Sought
+  one_trace : ℕ → Sought
+  one_diagram : ℕ → Sought
 
 -- To play a script, to run one, to explore one, to find the text of a file among its texts, to list a policy, to list
 -- the rules, to check a policy or a script, to check a policy against the neverallow statements of a file, to explain
@@ -119,8 +125,8 @@ pub data Sought : Type 0 where
 pub data Request : Type 0 where
   to_play : Bool → Bool → Format → Option Text → Request
   to_run : Bool → Bool → Format → Option Text → Request
-  to_explore : Sought → ℕ → Option Text → Request
-  to_find_text : Text → ℕ → Option Text → Request
+  to_explore : Sought → Format → ℕ → Option Text → Request
+  to_find_text : Text → Format → ℕ → Option Text → Request
   to_list : Bool → Format → Option Text → Request
   to_tell_rules : Option Text → Request
   to_check : Bool → Format → Option Text → List (Option Text) → Request
@@ -169,6 +175,11 @@ witness_of (Some word) =
     if bytes_eq word (codes "all") then Some (Some all_scripts)
     else option_map (λ n. Some (one_script n)) (number_up_to 18446744073709551615 word)
 
+-- `--trace N`, a number of 64 bits, if it is given
+abbrev pub trace_of : Option Text → Option (Option Sought)
+trace_of None = Some None
+trace_of (Some word) = option_map (λ n. Some (one_trace n)) (number_up_to 18446744073709551615 word)
+
 -- `--find EXPR`, `--never EXPR` or `--always EXPR`, of which only one may be given
 abbrev pub claim_of : Option Text → Option Text → Option Text → Option (Option Sought)
 claim_of None None None = Some None
@@ -192,26 +203,64 @@ abbrev pub run_with : Option Format → Bool → Bool → Option Text → Reques
 run_with None audit verbose file = nothing
 run_with (Some format) audit verbose file = to_run audit verbose format file
 
--- a claim or scripts for texts, not both, or the texts
-abbrev pub explore_by : Option Sought → Option Sought → ℕ → Option Text → Request
-explore_by None None states file = to_explore all_texts states file
-explore_by (Some claim) None states file = to_explore claim states file
-explore_by None (Some scripts) states file = to_explore scripts states file
-explore_by (Some claim) (Some scripts) states file = nothing
+-- the one of a claim, scripts for texts and a trace that is given, if one is; nothing if there is more than one
+abbrev pub sought_of : Option Sought → Option Sought → Option Sought → Option (Option Sought)
+sought_of None None None = Some None
+sought_of (Some claim) None None = Some (Some claim)
+sought_of None (Some scripts) None = Some (Some scripts)
+sought_of None None (Some trace) = Some (Some trace)
+sought_of (Some claim) (Some scripts) trace = None
+sought_of (Some claim) None (Some trace) = None
+sought_of None (Some scripts) (Some trace) = None
 
--- the same, or whether the text of a file is one of the texts, not both
-abbrev pub explore_for : Option Sought → Option Sought → Option Text → ℕ → Option Text → Request
-explore_for claim witness None states file = explore_by claim witness states file
-explore_for None None (Some given) states file = to_find_text given states file
-explore_for (Some claim) witness (Some given) states file = nothing
-explore_for None (Some scripts) (Some given) states file = nothing
+-- the same of values, each of which has to be one that its option takes
+abbrev pub one_sought : Option (Option Sought) → Option (Option Sought) → Option (Option Sought)
+    → Option (Option Sought)
+one_sought None witness trace = None
+one_sought (Some claim) None trace = None
+one_sought (Some claim) (Some witness) None = None
+one_sought (Some claim) (Some witness) (Some trace) = sought_of claim witness trace
 
-abbrev pub explore_with : Option (Option Sought) → Option (Option Sought) → Option Text → Option ℕ → Option Text
-    → Request
-explore_with None witness given states file = nothing
-explore_with (Some claim) None given states file = nothing
-explore_with (Some claim) (Some witness) given None file = nothing
-explore_with (Some claim) (Some witness) given (Some states) file = explore_for claim witness given states file
+-- `--format text`, `--format json` or `--format mermaid` of `explore`; text if it is left out
+abbrev pub form_of : Option Text → Option ExploreForm
+form_of None = Some forms.Text
+form_of (Some word) = if bytes_eq word (codes "text") then Some forms.Text
+    else (if bytes_eq word (codes "json") then Some forms.Json
+    else (if bytes_eq word (codes "mermaid") then Some forms.Mermaid else None))
+
+-- a trace as a diagram; nothing else is one
+abbrev pub diagram_of : Option Sought → Option (Option Sought × Format)
+diagram_of (Some (one_trace number)) = Some (Some (one_diagram number), Plain)
+diagram_of None = None
+diagram_of (Some all_texts) = None
+diagram_of (Some (a_claim claim expression)) = None
+diagram_of (Some (one_script number)) = None
+diagram_of (Some all_scripts) = None
+diagram_of (Some (one_diagram number)) = None
+
+-- what is sought in a form, with its format
+abbrev pub formed : ExploreForm → Option Sought → Option (Option Sought × Format)
+formed forms.Text sought = Some (sought, Plain)
+formed forms.Json sought = Some (sought, Json)
+formed forms.Mermaid sought = diagram_of sought
+
+-- the same of values, each of which has to be one that its option takes
+abbrev pub formed_of : Option (Option Sought) → Option ExploreForm → Option (Option Sought × Format)
+formed_of None form = None
+formed_of (Some sought) None = None
+formed_of (Some sought) (Some form) = formed form sought
+
+-- what is sought of the texts, or whether the text of a file is one of them, not both
+abbrev pub explore_for : Option Sought → Option Text → Format → ℕ → Option Text → Request
+explore_for None None format states file = to_explore all_texts format states file
+explore_for (Some sought) None format states file = to_explore sought format states file
+explore_for None (Some given) format states file = to_find_text given format states file
+explore_for (Some sought) (Some given) format states file = nothing
+
+abbrev pub explore_with : Option (Option Sought × Format) → Option Text → Option ℕ → Option Text → Request
+explore_with None given states file = nothing
+explore_with (Some sought) given None file = nothing
+explore_with (Some sought) given (Some states) file = explore_for sought.0 given sought.1 states file
 
 abbrev pub list_with : Option Format → Bool → Option Text → Request
 list_with None verbose file = nothing
@@ -247,8 +296,11 @@ read Play value = play_with (format_of (value (codes "format"))) (is_true (value
     (is_true (value (codes "verbose"))) (value (codes "file"))
 read Run value = run_with (format_of (value (codes "format"))) (is_true (value (codes "audit")))
     (is_true (value (codes "verbose"))) (value (codes "file"))
-read Explore value = explore_with (claim_of (value (codes "find")) (value (codes "never")) (value (codes "always")))
-    (witness_of (value (codes "witness"))) (value (codes "has"))
+read Explore value = explore_with
+    (formed_of
+    (one_sought (claim_of (value (codes "find")) (value (codes "never")) (value (codes "always")))
+    (witness_of (value (codes "witness"))) (trace_of (value (codes "trace"))))
+    (form_of (value (codes "format")))) (value (codes "has"))
     (states_of (value (codes "states"))) (value (codes "file"))
 read Policy value = list_with (format_of (value (codes "format"))) (is_true (value (codes "verbose")))
     (value (codes "file"))
@@ -307,14 +359,17 @@ sought_told explores.Texts = all_texts
 sought_told (explores.Decide claim expression) = a_claim claim expression.now
 sought_told (explores.Witness number) = one_script number
 sought_told explores.Witnesses = all_scripts
+sought_told (explores.Trace number) = one_trace number
+sought_told (explores.Diagram number) = one_diagram number
 
 -- what a plan asks for
 abbrev pub asked_by_plan : Invocation → Request
 asked_by_plan (plans.Play o) = to_play o.audit o.verbose o.format (option_map (λ f. f.now) o.file)
 asked_by_plan (plans.Run o) = to_run o.audit o.verbose o.format (option_map (λ f. f.now) o.file)
-asked_by_plan (plans.Explore asked states file) =
-    to_explore (sought_told asked) states (option_map (λ f. f.now) file)
-asked_by_plan (plans.ExploreHas given states file) = to_find_text given.now states (option_map (λ f. f.now) file)
+asked_by_plan (plans.Explore asked o) =
+    to_explore (sought_told asked) o.format o.states (option_map (λ f. f.now) o.file)
+asked_by_plan (plans.ExploreHas given o) =
+    to_find_text given.now o.format o.states (option_map (λ f. f.now) o.file)
 asked_by_plan (plans.Policy verbose format file) = to_list verbose format (option_map (λ f. f.now) file)
 asked_by_plan (plans.Rules rule) = to_tell_rules (option_map (λ f. f.now) rule)
 asked_by_plan (plans.Check script files) =

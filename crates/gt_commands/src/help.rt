@@ -82,7 +82,9 @@ Options:
       --always <EXPR>    Claim that each output satisfies EXPR
       --has <TEXT>       Print the number of the output in the file TEXT
       --witness <N|all>  Print a script for `play` that gives output N, or each
+      --trace <N>        Print the steps that lead to output N, a line each
       --states <N>       Stop after N states [default: 100000]
+      --format <FORM>    Print text, json, or mermaid (--trace) [default: text]
   -h, --help             Print help
 
 EXPR is terms joined by `&`: WORD (an answer has it), LINE=ANSWER (the answer to

@@ -42,6 +42,20 @@ pub enum Exploration<'a> {
     Witness(usize),
     /// A script for each text.
     Witnesses,
+    /// The moves that lead to the text of this number.
+    Trace(usize),
+    /// The same as a sequence diagram.
+    Diagram(usize),
+}
+
+/// The options of `explore` beside what it is asked for.
+#[derive(Clone, Copy, PartialEq, Eq)]
+pub struct SearchOptions<'a> {
+    /// The maximum number of states.
+    pub states: usize,
+    pub format: Format,
+    /// The script, or None for the standard input.
+    pub file: Option<&'a str>,
 }
 
 /// The FILEs of `check` after the first.
@@ -120,17 +134,15 @@ pub enum Invocation<'a> {
     Play(ScriptOptions<'a>),
     /// Run a script's domains in threads.
     Run(ScriptOptions<'a>),
-    /// `states`: the maximum number of states.
+    /// Find the texts that a script may give.
     Explore {
         asked: Exploration<'a>,
-        states: usize,
-        file: Option<&'a str>,
+        options: SearchOptions<'a>,
     },
     /// Whether the text of the file `given` is one of those of the script.
     ExploreHas {
         given: &'a str,
-        states: usize,
-        file: Option<&'a str>,
+        options: SearchOptions<'a>,
     },
     /// `verbose`: print the reason of a fault.
     Policy {

@@ -9,6 +9,7 @@
 //! result, for any flags, options and words. The crate uses `clap`, and the claims of `gt_explore_verdict`.
 #![tactic(auto)]
 
+mod exploring;
 mod help;
 mod invocation;
 mod leading;
@@ -19,6 +20,7 @@ mod values;
 
 pub use invocation::{
     CheckedFiles, EntriesOptions, Exploration, Format, Invocation, Mode, MoreFiles, ScriptOptions,
+    SearchOptions,
 };
 pub use leading::{command_first, leading_word};
 pub use letters::with_long_flags;

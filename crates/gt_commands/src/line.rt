@@ -122,7 +122,9 @@ fn explore_command<'a>(alloc: Global) -> Result<Command<'a>, AllocError>
 {
     explore_of_claims(alloc)?
         .arg(free_option(alloc, "witness", "N|all"))?
-        .arg(free_option(alloc, "states", "N"))
+        .arg(free_option(alloc, "trace", "N"))?
+        .arg(free_option(alloc, "states", "N"))?
+        .arg(free_option(alloc, "format", "FORM"))
 }
 
 fn policy_command<'a>(alloc: Global) -> Result<Command<'a>, AllocError>

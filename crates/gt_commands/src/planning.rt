@@ -6,16 +6,18 @@ ghost use Rattle.clap.specs.declared.error.kind.ErrorKind.TheVariants.{InvalidVa
 ghost use Rattle.gt_commands.specs.Files.{names_of};
 ghost use Rattle.gt_commands.specs.Usage.{is_true};
 ghost use Rattle.gt_commands.specs.Commands.{request_in_words, asked_by_some, asked_named, check_with, entries_with};
-ghost use Rattle.gt_commands.specs.Commands.{sought_told};
-ghost use Rattle.gt_commands.specs.Commands.{explore_by, explore_for, explore_with, IsInvocationOf, IsPlanOf, gthost_app, list_with};
+ghost use Rattle.gt_commands.specs.Commands.{IsInvocationOf, IsPlanOf, gthost_app, list_with};
 ghost use Rattle.gt_commands.specs.Commands.{mode_of, more_files, play_with, read, run_with, why_with};
 ghost use Rattle.gt_commands.specs.declared.invocation.Mode.TheVariants as modes;
 
+use crate::exploring::{explore_with, formed_of, one_sought};
 use crate::invocation::{
-    CheckedFiles, EntriesOptions, Exploration, Format, Invocation, Mode, MoreFiles, ScriptOptions,
+    CheckedFiles, EntriesOptions, Format, Invocation, Mode, MoreFiles, ScriptOptions,
 };
 use crate::line::gthost_command;
-use crate::values::{claim_of, format_of, script_of, states_of, type_of, version_of, witness_of};
+use crate::values::{
+    claim_of, form_of, format_of, script_of, states_of, trace_of, type_of, version_of, witness_of,
+};
 use clap::error::ErrorKind;
 use clap::{ArgMatches, Error};
 use std::alloc::{AllocError, Global};
@@ -97,70 +99,6 @@ fn run_with<'a>(
             file,
         })),
         None => None,
-    }
-}
-
-// Plans a claim about the texts, or scripts for them, but not both.
-fn explore_by<'a>(
-    claim: Option<Exploration<'a>>,
-    witness: Option<Exploration<'a>>,
-    states: usize,
-    file: Option<&'a str>,
-) -> Option<Invocation<'a>>
-    ensures { asked_by_some result ≡ explore_by (option_map sought_told claim.entry)
-        (option_map sought_told witness.entry) states (option_map (λ v. v.now) file.entry) }
-{
-    let asked = match (claim, witness) {
-        (None, None) => Exploration::Texts,
-        (Some(asked), None) | (None, Some(asked)) => asked,
-        (Some(_), Some(_)) => return None,
-    };
-    Some(Invocation::Explore {
-        asked,
-        states,
-        file,
-    })
-}
-
-// Plans the same, or the question whether a given text is one of the texts, but not both.
-fn explore_for<'a>(
-    claim: Option<Exploration<'a>>,
-    witness: Option<Exploration<'a>>,
-    given: Option<&'a str>,
-    states: usize,
-    file: Option<&'a str>,
-) -> Option<Invocation<'a>>
-    ensures { asked_by_some result ≡ explore_for (option_map sought_told claim.entry)
-        (option_map sought_told witness.entry) (option_map (λ v. v.now) given.entry) states
-        (option_map (λ v. v.now) file.entry) }
-{
-    match (claim, witness, given) {
-        (claim, witness, None) => explore_by(claim, witness, states, file),
-        (None, None, Some(given)) => Some(Invocation::ExploreHas {
-            given,
-            states,
-            file,
-        }),
-        _ => None,
-    }
-}
-
-fn explore_with<'a>(
-    claim: Option<Option<Exploration<'a>>>,
-    witness: Option<Option<Exploration<'a>>>,
-    given: Option<&'a str>,
-    states: Option<usize>,
-    file: Option<&'a str>,
-) -> Option<Invocation<'a>>
-    ensures { asked_by_some result ≡ explore_with (option_map (option_map sought_told) claim.entry)
-        (option_map (option_map sought_told) witness.entry) (option_map (λ v. v.now) given.entry) states
-        (option_map (λ v. v.now) file.entry) }
-{
-    match (claim, witness, states) {
-        (Some(claim), Some(witness), Some(states)) => {
-            explore_for(claim, witness, given, states, file)
-        }
-        _ => None,
     }
 }
 
@@ -271,13 +209,16 @@ fn more_files<'a>(matches: &ArgMatches<'a>) -> MoreFiles<'a>
 fn read_explore<'a>(matches: &ArgMatches<'a>) -> Option<Invocation<'a>>
     ensures { asked_by_some result ≡ read modes.Explore (λ id. first_of id (rows_of (found_of matches.now))) }
 {
+    let claim = claim_of(
+        value_of(matches, "find"),
+        value_of(matches, "never"),
+        value_of(matches, "always"),
+    );
+    let witness = witness_of(value_of(matches, "witness"));
+    let trace = trace_of(value_of(matches, "trace"));
+    let form = form_of(value_of(matches, "format"));
     explore_with(
-        claim_of(
-            value_of(matches, "find"),
-            value_of(matches, "never"),
-            value_of(matches, "always"),
-        ),
-        witness_of(value_of(matches, "witness")),
+        formed_of(one_sought(claim, witness, trace), form),
         value_of(matches, "has"),
         states_of(value_of(matches, "states")),
         value_of(matches, "file"),
@@ -367,25 +308,40 @@ fn usage_text(name: &str) -> &'static str {
     }
 }
 
+// Returns what the option of `explore` takes whose value is refused, and the value.
+fn refused_by_explore<'a>(matches: &ArgMatches<'a>) -> (&'static str, Option<&'a str>) {
+    let witness = value_of(matches, "witness");
+    let trace = value_of(matches, "trace");
+    let states = value_of(matches, "states");
+    let format = value_of(matches, "format");
+    if witness_of(witness).is_none() {
+        ("--witness takes a number or all", witness)
+    } else if trace_of(trace).is_none() {
+        ("--trace takes a number", trace)
+    } else if states_of(states).is_none() {
+        ("--states takes a number", states)
+    } else if form_of(format).is_none() {
+        ("--format takes text, json or mermaid", format)
+    } else if format == Some("mermaid") && trace.is_none() {
+        ("--format mermaid is only for --trace", None)
+    } else {
+        (
+            "only one of --find, --never, --always, --has, --witness and --trace can be given",
+            None,
+        )
+    }
+}
+
 // Returns what the option takes whose value the command of this name refuses, and the value.
 fn refused_value<'a>(name: &str, matches: &ArgMatches<'a>) -> (&'static str, Option<&'a str>) {
     let version = value_of(matches, "version");
     let script = value_of(matches, "script");
-    let witness = value_of(matches, "witness");
-    let states = value_of(matches, "states");
-    if name == "entries" && version_of(version).is_none() {
+    if name == "explore" {
+        refused_by_explore(matches)
+    } else if name == "entries" && version_of(version).is_none() {
         ("--version takes 1 or 2", version)
     } else if name == "entries" && script_of(script).is_none() {
         ("--script takes the number of a domain, below 65536", script)
-    } else if witness_of(witness).is_none() {
-        ("--witness takes a number or all", witness)
-    } else if states_of(states).is_none() {
-        ("--states takes a number", states)
-    } else if name == "explore" {
-        (
-            "only one of --find, --never, --always, --has and --witness can be given",
-            None,
-        )
     } else if name == "check" && is_set(matches, "script") && value_of(matches, "never").is_some() {
         ("only one of --script and --never can be given", None)
     } else if name == "why" {

@@ -1,8 +1,8 @@
 //! The values of options.
 ghost use Rattle.std.specs.Prelude.{◌≡◌};
 ghost use Rattle.std.specs.Option.{option_map};
-ghost use Rattle.gt_commands.specs.Commands.{format_of, domain_number, number_up_to, script_of, states_of, type_of};
-ghost use Rattle.gt_commands.specs.Commands.{claim_of, sought_told, version_of, witness_of};
+ghost use Rattle.gt_commands.specs.Commands.{diagram_of, form_of, format_of, formed, domain_number, number_up_to, script_of, states_of, type_of};
+ghost use Rattle.gt_commands.specs.Commands.{claim_of, sought_of, sought_told, trace_of, version_of, witness_of};
 
 use crate::invocation::{Exploration, Format};
 use gt_explore_verdict::Claim;
@@ -16,6 +16,59 @@ pub(crate) fn format_of(value: Option<&str>) -> Option<Format>
         Some("text") => Some(Format::Text),
         Some("json") => Some(Format::Json),
         Some(_) => None,
+    }
+}
+
+/// The form of the output of `explore`.
+#[derive(Clone, Copy, PartialEq, Eq)]
+pub(crate) enum ExploreForm {
+    Text,
+    Json,
+    /// A sequence diagram.
+    Mermaid,
+}
+
+/// Returns the form of this name, or text if none is given.
+pub(crate) fn form_of(value: Option<&str>) -> Option<ExploreForm>
+    ensures { result ≡ form_of (option_map (λ v. v.now) value.entry) }
+{
+    match value {
+        None => Some(ExploreForm::Text),
+        Some("text") => Some(ExploreForm::Text),
+        Some("json") => Some(ExploreForm::Json),
+        Some("mermaid") => Some(ExploreForm::Mermaid),
+        Some(_) => None,
+    }
+}
+
+// Returns a trace as a diagram, with its format. Nothing else is one.
+fn diagram_of<'a>(sought: Option<Exploration<'a>>) -> Option<(Option<Exploration<'a>>, Format)>
+    ensures { option_map (λ p. (option_map sought_told p.0, p.1)) result
+        ≡ diagram_of (option_map sought_told sought.entry) }
+{
+    match sought {
+        Some(Exploration::Trace(number)) => {
+            Some((Some(Exploration::Diagram(number)), Format::Text))
+        }
+        None => None,
+        Some(Exploration::Texts | Exploration::Witnesses) => None,
+        Some(Exploration::Decide { .. }) => None,
+        Some(Exploration::Witness(_) | Exploration::Diagram(_)) => None,
+    }
+}
+
+/// Returns what is asked for in this form, with its format. Only a trace can be a diagram.
+pub(crate) fn formed<'a>(
+    form: ExploreForm,
+    sought: Option<Exploration<'a>>,
+) -> Option<(Option<Exploration<'a>>, Format)>
+    ensures { option_map (λ p. (option_map sought_told p.0, p.1)) result
+        ≡ formed form (option_map sought_told sought.entry) }
+{
+    match form {
+        ExploreForm::Text => Some((sought, Format::Text)),
+        ExploreForm::Json => Some((sought, Format::Json)),
+        ExploreForm::Mermaid => diagram_of(sought),
     }
 }
 
@@ -76,6 +129,35 @@ pub(crate) fn witness_of<'a>(value: Option<&'a str>) -> Option<Option<Exploratio
         None => Some(None),
         Some("all") => Some(Some(Exploration::Witnesses)),
         Some(word) => Some(Some(Exploration::Witness(number_of(word)?))),
+    }
+}
+
+/// Returns what `--trace` asks for, if it is given. The outer result is None if the value is not a number of 64 bits.
+pub(crate) fn trace_of<'a>(value: Option<&'a str>) -> Option<Option<Exploration<'a>>>
+    ensures { option_map (option_map sought_told) result ≡ trace_of (option_map (λ v. v.now) value.entry) }
+{
+    match value {
+        None => Some(None),
+        Some(word) => Some(Some(Exploration::Trace(number_of(word)?))),
+    }
+}
+
+/// Returns the one of a claim, scripts and a trace that is asked for, if one is. The outer result is None if there is
+/// more than one.
+pub(crate) fn sought_of<'a>(
+    claim: Option<Exploration<'a>>,
+    witness: Option<Exploration<'a>>,
+    trace: Option<Exploration<'a>>,
+) -> Option<Option<Exploration<'a>>>
+    ensures { option_map (option_map sought_told) result ≡ sought_of (option_map sought_told claim.entry)
+        (option_map sought_told witness.entry) (option_map sought_told trace.entry) }
+{
+    match (claim, witness, trace) {
+        (None, None, None) => Some(None),
+        (Some(asked), None, None) => Some(Some(asked)),
+        (None, Some(asked), None) => Some(Some(asked)),
+        (None, None, Some(asked)) => Some(Some(asked)),
+        _ => None,
     }
 }
 

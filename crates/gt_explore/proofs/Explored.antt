@@ -14,7 +14,7 @@ use Rattle.gt_text.specs.Streams.{OfInput}
 use Rattle.gt_text.specs.declared.fault.ReadFault.{ReadFault}
 use Rattle.gt_text.specs.declared.fault.ReadFault.TheVariants as reads
 use Rattle.gt_explore_verdict.specs.declared.judging.Verdict.{Verdict}
-use Rattle.gt_explore.specs.Exploring.{Explored, Explores}
+use Rattle.gt_explore.specs.Writing.{Explored, Explores}
 use Rattle.gt_explore.specs.declared.exploring.ExploreOptions.{ExploreOptions}
 use Rattle.gt_explore.specs.declared.fault.ExploreFault.{ExploreFault}
 use Rattle.gt_explore.specs.declared.fault.ExploreFault.TheVariants.{Play, Texts}

@@ -23,6 +23,7 @@ use Rattle.gt_explore_verdict.specs.declared.judging.Verdict.{Verdict}
 use Rattle.gt_explore_verdict.specs.declared.judging.Verdict.TheVariants.{Holds, Fails, Undecided}
 use Rattle.gt_explore.specs.Adding.{AreDifferentTexts, IsTextAmong}
 use Rattle.gt_explore.specs.Telling.{Found, counterexample_comment, heading, states_line, texts_told, witness_comment}
+use Rattle.gt_explore.specs.Tracing.{IsDiagram, IsTrace}
 use Rattle.gt_explore.specs.Witness.{IsWitness, ShowsAfter}
 use Rattle.gt_explore.specs.declared.exploring.ExploreOptions.{ExploreOptions}
 use Rattle.gt_explore.specs.declared.exploring.ExploreRequest.{ExploreRequest}
@@ -137,6 +138,16 @@ abbrev pub GivesWitnesses : RunContents → List ℕ → Verdict → Type 0
 GivesWitnesses c text verdict =
     (f : Found) × AreTextsOf c f × TellsWitnesses c f 0 f.texts text × (verdict ≡ verdict_of_all f.whole)
 
+-- the moves of an order that gives the text of a number
+abbrev pub GivesTrace : RunContents → ℕ → List ℕ → Verdict → Type 0
+GivesTrace c number text verdict =
+    (f : Found) × AreTextsOf c f × IsTrace c f number text × (verdict ≡ verdict_of_all f.whole)
+
+-- the moves of such an order as a sequence diagram
+abbrev pub GivesDiagram : RunContents → ℕ → List ℕ → Verdict → Type 0
+GivesDiagram c number text verdict =
+    (f : Found) × AreTextsOf c f × IsDiagram c f number text × (verdict ≡ verdict_of_all f.whole)
+
 -- the output for a script and the verdict, by the request
 abbrev pub IsMadeBy : RunContents → ExploreRequest → List ℕ → Verdict → Type 0
 IsMadeBy c requests.Texts text verdict = GivesTexts c text verdict
@@ -144,31 +155,5 @@ IsMadeBy c (requests.Decide claim expression) text verdict = DecidesClaim c clai
 IsMadeBy c (requests.Has given) text verdict = NumbersText c given.now text verdict
 IsMadeBy c (requests.Witness number) text verdict = GivesWitness c number text verdict
 IsMadeBy c requests.Witnesses text verdict = GivesWitnesses c text verdict
-
-abbrev pub IsMade : RunContents → ExploreOptions → List ℕ → Verdict → Type 0
-IsMade c asked text verdict = IsMadeBy c asked.request text verdict
-
--- what was written for a script, by the result
-abbrev pub Explores : RunContents → ExploreOptions → Option (List ℕ) → Option (List ℕ) → Result Verdict ExploreFault → Type 0
-Explores c asked old new (Ok verdict) = (text : List ℕ) × IsMade c asked text verdict × Appends old new text
-Explores c asked old new (Err (Texts fault)) = Keeps old new
-Explores c asked old new (Err (Play Write)) =
-    (text : List ℕ) × (verdict : Verdict) × IsMade c asked text verdict × AppendsBeginning old new text
-Explores c asked old new (Err (Play Memory)) = ⊥
-Explores c asked old new (Err (Play Read)) = ⊥
-Explores c asked old new (Err (Play (Script fault))) = ⊥
-Explores c asked old new (Err (Play (Policy fault))) = ⊥
-
--- what was written for bytes that mean this: at Ok a whole text of the script, after a failed write a prefix of one,
--- and otherwise nothing; a fault of the script is its first
-abbrev pub Explored : ExploreOptions → (Result RunContents Wrong → Type 0) → Option (List ℕ) → Option (List ℕ)
-    → Result Verdict ExploreFault → Type 0
-Explored asked Told old new (Ok verdict) = (c : RunContents) × Told (Ok c) × Explores c asked old new (Ok verdict)
-Explored asked Told old new (Err (Texts fault)) = Keeps old new
-Explored asked Told old new (Err (Play Write)) =
-    (c : RunContents) × Told (Ok c) × Explores c asked old new (Err (Play Write))
-Explored asked Told old new (Err (Play Memory)) = Keeps old new
-Explored asked Told old new (Err (Play Read)) = Keeps old new
-Explored asked Told old new (Err (Play (Script fault))) = Told (Err (in_script fault)) × Keeps old new
-Explored asked Told old new (Err (Play (Policy fault))) =
-    (g : policy.TokenFault) × (block_fault_shown fault ≡ Some g) × Told (Err (in_policy g)) × Keeps old new
+IsMadeBy c (requests.Trace number) text verdict = GivesTrace c number text verdict
+IsMadeBy c (requests.Diagram number) text verdict = GivesDiagram c number text verdict

@@ -12,7 +12,9 @@ ghost use Rattle.gt_explore.specs.Adding.{texts_of_orders};
 ghost use Rattle.gt_explore_verdict.specs.Judging.{judged, verdict_at};
 ghost use Rattle.gt_explore_verdict.specs.declared.judging.Claim.TheVariants.{Find};
 ghost use Rattle.gt_explore_verdict.specs.declared.judging.Verdict.{Verdict};
-ghost use Rattle.gt_explore.specs.Exploring.{DecidesClaim, GivesTexts, GivesWitness, GivesWitnesses, IsMade, NumbersText};
+ghost use Rattle.gt_explore.specs.Exploring.{DecidesClaim, GivesDiagram, GivesTexts, GivesTrace, GivesWitness};
+ghost use Rattle.gt_explore.specs.Exploring.{GivesWitnesses, IsMadeBy};
+ghost use Rattle.gt_explore.specs.Exploring.{NumbersText};
 ghost use Rattle.gt_explore.specs.Exploring.{TellsClaim, TellsClaimBy, TellsVerdict, TellsWitnesses};
 ghost use Rattle.gt_explore.specs.Exploring.{satisfied as satisfied_in};
 ghost use Rattle.gt_explore.specs.Exploring.{verdict_of_all};
@@ -21,7 +23,7 @@ ghost use Rattle.gt_explore.specs.Witness.{IsWitness, SaysUnplayable, ShowsAfter
 
 use crate::checked::gives_answers;
 use crate::conditions::{conditions_for, satisfied};
-use crate::exploring::{ExploreOptions, ExploreRequest};
+use crate::exploring::ExploreRequest;
 use crate::fault::TextsFault;
 use crate::leaving::may_not_unmap;
 use crate::telling::{
@@ -29,6 +31,7 @@ use crate::telling::{
     push_witness_comment,
 };
 use crate::texts::{FoundTexts, texts_within};
+use crate::tracing::{diagram_of, trace_of};
 use crate::witness::witness_of;
 use gt_explore_search::FoundText;
 use gt_explore_verdict::{Claim, Condition, Judgement, Verdict, judge, verdict_at};
@@ -44,8 +47,8 @@ pub struct ExploreOutput {
     pub verdict: Verdict,
 }
 
-// Returns the verdict on all texts, if there is nothing to decide.
-fn verdict_of_all(whole: bool) -> Verdict
+/// Returns the verdict on all texts, if there is nothing to decide.
+pub fn verdict_of_all(whole: bool) -> Verdict
     ensures { result ≡ verdict_of_all whole }
 {
     if whole {
@@ -113,8 +116,11 @@ fn script_after(
     }
 }
 
-// Returns a script for `play` that gives the text of an order, or the line in its place.
-fn script_of(
+/// Returns a script for `play` that gives the text of an order, or the line in its place.
+///
+/// # Errors
+/// `Astray` if the script does not give the text and no domain leaves with a mapping that it may not unmap, and `Memory`.
+pub fn script_of(
     alloc: Global,
     source: &[u8],
     script: &RunScript,
@@ -265,8 +271,8 @@ fn all_texts(alloc: Global, script: &RunScript, states: usize) -> Result<Explore
     Ok(ExploreOutput { text, verdict })
 }
 
-// Returns the index of a text among those of these orders.
-fn place_of(orders: &[FoundText], text: &[u8]) -> Option<usize>
+/// Returns the index of a text among those of these orders.
+pub fn place_of(orders: &[FoundText], text: &[u8]) -> Option<usize>
     ensures place { result ≡ position (λ o. bytes_eq o.text.items text.now) orders.now }
     ensures within { IfSome result (λ at. at < length orders.now) }
 {
@@ -275,8 +281,8 @@ fn place_of(orders: &[FoundText], text: &[u8]) -> Option<usize>
         .position(|order| order.text.as_slice() == text)
 }
 
-// Returns the verdict on a text, by its index among those that were found.
-fn verdict_on(place: Option<usize>, whole: bool) -> Verdict
+/// Returns the verdict on a text, by its index among those that were found.
+pub fn verdict_on(place: Option<usize>, whole: bool) -> Verdict
     ensures { result ≡ verdict_at Find (is_some place) whole }
 {
     verdict_at(Claim::Find, place.is_some(), whole)
@@ -382,22 +388,59 @@ fn witnesses(
     Ok(ExploreOutput { text, verdict })
 }
 
+// Returns the moves that lead to the text of this number.
+fn trace(
+    alloc: Global,
+    script: &RunScript,
+    states: usize,
+    number: usize,
+) -> Result<ExploreOutput, TextsFault>
+    requires fits { CanConfigure (contents_told script.now.head) }
+    requires numbered { AreNumbered script.now.flags script.now.tasks }
+    ensures { IfOk result (λ made. GivesTrace (run_told script.now) number made.text.items made.verdict) }
+{
+    let found = texts_within(alloc, script, states)?;
+    let text = trace_of(alloc, script, &found, number)?;
+    let verdict = verdict_of_all(found.whole);
+    Ok(ExploreOutput { text, verdict })
+}
+
+/// Returns the moves that lead to the text of this number as a sequence diagram.
+///
+/// # Errors
+/// A fault of the search, that no text has this number, or `Memory`.
+pub fn diagram(
+    alloc: Global,
+    script: &RunScript,
+    states: usize,
+    number: usize,
+) -> Result<ExploreOutput, TextsFault>
+    requires fits { CanConfigure (contents_told script.now.head) }
+    requires numbered { AreNumbered script.now.flags script.now.tasks }
+    ensures { IfOk result (λ made. GivesDiagram (run_told script.now) number made.text.items made.verdict) }
+{
+    let found = texts_within(alloc, script, states)?;
+    let text = diagram_of(alloc, script, &found, number)?;
+    let verdict = verdict_of_all(found.whole);
+    Ok(ExploreOutput { text, verdict })
+}
+
 /// Returns the answer to a request about a script.
 ///
 /// # Errors
-/// A fault of the search or of the expression, that no text has the number of the witness, or `Memory`.
+/// A fault of the search or of the expression, that no text has the number of the witness or of the trace, or `Memory`.
 pub fn made_of(
     alloc: Global,
-    asked: &ExploreOptions,
+    request: ExploreRequest<'_>,
+    states: usize,
     source: &[u8],
     script: &RunScript,
 ) -> Result<ExploreOutput, TextsFault>
     requires fits { CanConfigure (contents_told script.now.head) }
     requires numbered { AreNumbered script.now.flags script.now.tasks }
-    ensures { IfOk result (λ made. IsMade (run_told script.now) asked.now made.text.items made.verdict) }
+    ensures { IfOk result (λ made. IsMadeBy (run_told script.now) request.entry made.text.items made.verdict) }
 {
-    let states = asked.states;
-    match asked.request {
+    match request {
         ExploreRequest::Texts => all_texts(alloc, script, states),
         ExploreRequest::Decide { claim, expression } => {
             decided(alloc, source, script, states, claim, expression)
@@ -405,5 +448,7 @@ pub fn made_of(
         ExploreRequest::Has(text) => number_of(alloc, script, states, text),
         ExploreRequest::Witness(number) => witness(alloc, source, script, states, number),
         ExploreRequest::Witnesses => witnesses(alloc, source, script, states),
+        ExploreRequest::Trace(number) => trace(alloc, script, states, number),
+        ExploreRequest::Diagram(number) => diagram(alloc, script, states, number),
     }
 }

@@ -6,10 +6,11 @@ ghost use Rattle.gt_script.specs.RunScripts.{CanConfigure, RunTells};
 ghost use Rattle.gt_text.specs.Streams.{ConsumesAtMost, OfInput};
 ghost use Rattle.gt_text.specs.declared.streams.TheConstants.{READ_LIMIT};
 ghost use Rattle.gt_script.specs.Stuck.{AreNumbered};
-ghost use Rattle.gt_explore.specs.Exploring.{Explored, Explores, IsMade};
+ghost use Rattle.gt_explore.specs.Writing.{Explored, Explores, IsMade};
 
 use crate::answering::{ExploreOutput, made_of};
-use crate::fault::ExploreFault;
+use crate::fault::{ExploreFault, TextsFault};
+use crate::json::made_of_objects;
 use gt_explore_verdict::{Claim, Verdict};
 use gt_host::PlayFault;
 use gt_script::{RunScript, parse_run};
@@ -31,13 +32,46 @@ pub enum ExploreRequest<'w> {
     Witness(usize),
     /// Print such a script for each text.
     Witnesses,
+    /// Print the moves that lead to the text of this number, a line each.
+    Trace(usize),
+    /// Print these moves as a sequence diagram of mermaid.
+    Diagram(usize),
 }
 
-/// The options of `explore`: the request, and the largest number of states that the search may meet.
+/// The format of the output of `explore`.
+#[derive(Clone, Copy, Debug, PartialEq, Eq)]
+pub enum ExploreFormat {
+    /// Lines of text, and scripts for `play`.
+    Text,
+    /// A JSON object a line: one for each text that is shown, and one at the end. A sequence diagram is the same in both
+    /// formats.
+    Json,
+}
+
+/// The options of `explore`: the request, the largest number of states that the search may meet, and the format of the
+/// output.
 #[derive(Clone, Copy)]
 pub struct ExploreOptions<'w> {
     pub request: ExploreRequest<'w>,
     pub states: usize,
+    pub format: ExploreFormat,
+}
+
+// Returns the answer to a request about a script, in its format.
+fn made_as(
+    alloc: Global,
+    asked: &ExploreOptions,
+    source: &[u8],
+    script: &RunScript,
+) -> Result<ExploreOutput, TextsFault>
+    requires fits { CanConfigure (contents_told script.now.head) }
+    requires numbered { AreNumbered script.now.flags script.now.tasks }
+    ensures { IfOk result (λ made. IsMade (run_told script.now) asked.now made.text.items made.verdict) }
+{
+    match asked.format {
+        ExploreFormat::Text => made_of(alloc, asked.request, asked.states, source, script),
+        ExploreFormat::Json => made_of_objects(alloc, asked.request, asked.states, source, script),
+    }
 }
 
 // Explores a script that was parsed.
@@ -52,7 +86,7 @@ fn explore_script<W: Write>(
     requires numbered { AreNumbered script.now.flags script.now.tasks }
     ensures { Explores (run_told script.now) asked.now (W.contents writer.old) (W.contents writer.new) result }
 {
-    match made_of(alloc, asked, source, script) {
+    match made_as(alloc, asked, source, script) {
         Err(fault) => Err(ExploreFault::Texts(fault)),
         Ok(made) => match write_text(writer, made.text.as_slice()) {
             Ok(()) => Ok(made.verdict),

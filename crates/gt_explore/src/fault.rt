@@ -17,7 +17,7 @@ pub enum TextsFault {
     /// The search found an order that the core does not follow to its text, a run that returned to a state, or a
     /// witness that does not give its text.
     Astray,
-    /// No text has the number of the witness.
+    /// No text has the number of the witness or of the trace.
     Witness,
     /// A term of the expression is not a condition, or names a line or a domain that the script does not have.
     Expression(ExpressionFault),

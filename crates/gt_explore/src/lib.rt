@@ -2,7 +2,7 @@
 //!
 //! [`texts_of`] searches for orders (`gt_explore_moves`) and replays each of them on the core (`gt_explore_replay`).
 //! [`explore`] reads a script and writes these texts, each with its number, or the lines of a script for `play` that
-//! gives one of them.
+//! gives one of them, or the moves that lead to one.
 //!
 //! The texts returned or written are exactly those that the script may give (`MayGive` of `gt_explore_replay`): each of
 //! them once. A script for `play` that is written gives the answers of its text: it was played before, and the answers
@@ -14,12 +14,15 @@ mod checked;
 mod conditions;
 mod exploring;
 mod fault;
+mod json;
 mod leaving;
 mod naming;
+mod objects;
 mod telling;
 mod texts;
+mod tracing;
 mod witness;
 
-pub use exploring::{ExploreOptions, ExploreRequest, explore};
+pub use exploring::{ExploreFormat, ExploreOptions, ExploreRequest, explore};
 pub use fault::{ExploreFault, TextsFault};
 pub use texts::{FoundTexts, texts_of, texts_within};

@@ -22,8 +22,8 @@ fn of_count(whole: bool) -> &'static str
     if whole { " of " } else { " of at least " }
 }
 
-// Appends the number of a text, and how many there are.
-fn push_heading(
+/// Appends the number of a text, and how many there are.
+pub fn push_heading(
     out: &mut Vec<u8>,
     whole: bool,
     count: usize,
@@ -105,8 +105,8 @@ fn push_states(out: &mut Vec<u8>, found: &FoundTexts) -> Result<(), AllocError>
     push_limit(out, found)
 }
 
-// Appends the last line.
-fn push_states_line(out: &mut Vec<u8>, found: &FoundTexts) -> Result<(), AllocError>
+/// Appends the last line.
+pub fn push_states_line(out: &mut Vec<u8>, found: &FoundTexts) -> Result<(), AllocError>
     ensures { OnOk result (out.new.items ≡ out.old.items ++ states_line (found_told found.now)) }
 {
     push_states(out, found)?;

@@ -8,10 +8,11 @@ use Rattle.std.proofs.lemmas.List.{append-nil}
 use Rattle.std.proofs.lemmas.List.Elements.{All-push, filter-append}
 use Rattle.std.proofs.lemmas.Option.{none-some, same_Some, slice_get_within, slice_get-map, get_or_from_slice_get}
 use Rattle.std.specs.Option.{option_map}
-use Rattle.std.specs.Prelude.{◌==◌, slice_get, All, AllPairs, IfOk, IsSome, Result, Ok, Err}
+use Rattle.std.specs.Prelude.{◌==◌, slice_get, All, AllPairs, IfOk, IfSome, IsSome, Result, Ok, Err}
 use Rattle.gt_types.specs.declared.config.Config.{Config}
 use Rattle.gt_host.specs.declared.rights.ScriptPolicy.{ScriptPolicy}
 use Rattle.gt_explore_replay.specs.declared.replay.Moved.{Moved}
+use Rattle.gt_explore_replay.specs.declared.replay.Moved.TheVariants as made
 use Rattle.gt_types.specs.Names.{domain_of}
 use Rattle.gt_types.specs.declared.DomId.{DomId}
 use Rattle.gt_types.specs.declared.config.DomainConfig.{DomainConfig}
@@ -29,7 +30,7 @@ use Rattle.gt_host.specs.Rights.{may_by}
 use Rattle.gt_explore_replay.specs.Orders.{Happening, did, raised, passed, doer, own_happenings, events_in, trace_in}
 use Rattle.gt_explore_replay.specs.Orders.{IsRaisedBefore}
 use Rattle.gt_explore_replay.specs.Orders.{FlagsAreRaised, FollowsList}
-use Rattle.gt_explore_replay.specs.Walking.{WalksTo, Moves, HasFollowed, HasWalked, ComesOn}
+use Rattle.gt_explore_replay.specs.Walking.{WalksTo, Moves, HasFollowed, HasWalked, ComesOn, IsShownBy}
 use Rattle.gt_explore_replay.specs.declared.replay.Replay.{Replay}
 use Rattle.gt_explore_replay.specs.declared.walker.Walker.{Walker}
 use Rattle.gt_explore_replay.proofs.Places.{get_left, get_end, get_cases, get_set}
@@ -190,14 +191,18 @@ followed_still c hs x u other (named, names, follows) = (
 All_end : (P : Happening → Type 0) (hs : List Happening) (x : Happening) → All P hs → P x → All P (hs ++ x ∷ [])
 All_end P hs x all here = All-push P hs x all here
 
-comes : (c : RunContents) (hs : List Happening) (r q : Replay) (x : Happening) (place : ℕ) (v w : Walker) → HasWalked c hs r → slice_get r.walkers.items place ≡ Some v → Moves (type_names c.head) v x w
+comes : (c : RunContents) (hs : List Happening) (r q : Replay) (x : Happening) (place : ℕ) (moved : Moved) (v w : Walker) → HasWalked c hs r → slice_get r.walkers.items place ≡ Some v → IsShownBy moved x → Moves (type_names c.head) v x w
     → setting_in may_by q.core ≡ setting_in may_by r.core → q.types.items ≡ r.types.items → q.walkers.items ≡ set r.walkers.items place w
     → Legal (setting_of_script c.head) (events_in (hs ++ x ∷ [])) (trace_in (hs ++ x ∷ [])) → CoreStands (setting_of_script c.head) (history_after [] (trace_in (hs ++ x ∷ []))) q.core.state
     → FlagsAreRaised (hs ++ x ∷ []) → ((flag : ℕ) → get_or q.told.items flag false ≡ true → IsRaisedBefore (length (hs ++ x ∷ [])) flag (hs ++ x ∷ []))
-    → ComesOn c hs q
-comes c hs r q x place v w come at moves setting types walkers legal stands flags told = (
-  x,
-  record {
+    → ComesOn c hs place moved q
+comes c hs r q x place moved v w come at shown moves setting types walkers legal stands flags told = record {
+  happened = x;
+  shown = shown;
+  own_move =
+      let d = domain_at r.walkers.items c.head.domains place v come.domains at in
+      ap (option_map (λ (e : DomainConfig). e.id)) d.1 ∙ ap Some (d.2 ∙ sym moves.own_move);
+  walked = record {
     setting = setting ∙ come.setting;
     types = types ∙ come.types;
     legal = legal;
@@ -213,20 +218,20 @@ comes c hs r q x place v w come at moves setting types walkers legal stands flag
       | inl (here, same) ↦ subst (HasFollowed c (hs ++ x ∷ [])) same (followed_on c hs x v w moves (come.followed place v at))
       | inr (other, was) ↦ followed_still c hs x u (λ e. walkers_apart c hs r place k v u come at was (λ s. other (sym s)) (ap (λ (d : DomId). d.0) (sym moves.own_move) ∙ e)) (come.followed k u was)
     ];
-  },
-)
+  };
+}
 
 -- a domain made an event of the core
-pub comes_by : (c : RunContents) (hs : List Happening) (r q : Replay) (place : ℕ) (v w : Walker) → HasWalked c hs r → slice_get r.walkers.items place ≡ Some v
-    → WalksTo (setting_in may_by r.core) r.types.items r.core.state v q.core.state w
+pub comes_by : (c : RunContents) (hs : List Happening) (r q : Replay) (place : ℕ) (moved : Moved) (v w : Walker) → HasWalked c hs r → slice_get r.walkers.items place ≡ Some v
+    → WalksTo (setting_in may_by r.core) r.types.items r.core.state v moved q.core.state w
     → setting_in may_by q.core ≡ setting_in may_by r.core → q.types.items ≡ r.types.items → q.walkers.items ≡ set r.walkers.items place w → q.told.items ≡ r.told.items
-    → ComesOn c hs q
-comes_by c hs r q place v w come at makes setting types walkers told =
-    let known = subst (λ (s : Setting). WalksTo s r.types.items r.core.state v q.core.state w) come.setting makes in
-    let (e, x, may, stands, moves) = known (history_after [] (trace_in hs)) come.stands in
+    → ComesOn c hs place moved q
+comes_by c hs r q place moved v w come at makes setting types walkers told =
+    let known = subst (λ (s : Setting). WalksTo s r.types.items r.core.state v moved q.core.state w) come.setting makes in
+    let (e, x, may, stands, shown, moves) = known (history_after [] (trace_in hs)) come.stands in
     let typed = subst (λ (names : List (List ℕ)). Moves names v (did e x) w) come.types moves in
     let legal = legal_one (setting_of_script c.head) [] (events_in hs) (trace_in hs) e x come.legal may in
-    comes c hs r q (did e x) place v w come at typed setting types walkers
+    comes c hs r q (did e x) place moved v w come at shown typed setting types walkers
     (subst (λ (es : List Event). Legal (setting_of_script c.head) es (trace_in (hs ++ did e x ∷ []))) (sym (events_more hs e x))
     (subst (λ (xs : List Element). Legal (setting_of_script c.head) (events_in hs ++ e ∷ []) xs) (sym (trace_more hs e x)) legal))
     (subst (λ (xs : List Element). CoreStands (setting_of_script c.head) (history_after [] xs) q.core.state) (sym (trace_more hs e x))
@@ -235,13 +240,13 @@ comes_by c hs r q place v w come at makes setting types walkers told =
     (λ flag is. raised_later flag hs (did e x) (come.told flag (ap (λ (l : List Bool). get_or l flag false) (sym told) ∙ is)))
 
 -- a domain raised or passed a flag, by which the core does nothing
-quiet : (c : RunContents) (hs : List Happening) (r q : Replay) (x : Happening) (place : ℕ) (v w : Walker) → IsQuiet x → HasWalked c hs r → slice_get r.walkers.items place ≡ Some v → Moves r.types.items v x w
+quiet : (c : RunContents) (hs : List Happening) (r q : Replay) (x : Happening) (place : ℕ) (moved : Moved) (v w : Walker) → IsQuiet x → HasWalked c hs r → slice_get r.walkers.items place ≡ Some v → IsShownBy moved x → Moves r.types.items v x w
     → q.core ≡ r.core → q.types.items ≡ r.types.items → q.walkers.items ≡ set r.walkers.items place w
     → ((d : DomId) (flag : ℕ) → x ≡ passed d flag → IsRaisedBefore (length hs) flag hs)
     → ((flag : ℕ) → get_or q.told.items flag false ≡ true → IsRaisedBefore (length (hs ++ x ∷ [])) flag (hs ++ x ∷ []))
-    → ComesOn c hs q
-quiet c hs r q x place v w still come at moves core types walkers passes told =
-    comes c hs r q x place v w come at (subst (λ (names : List (List ℕ)). Moves names v x w) come.types moves) (ap (setting_in may_by) core) types walkers
+    → ComesOn c hs place moved q
+quiet c hs r q x place moved v w still come at shown moves core types walkers passes told =
+    comes c hs r q x place moved v w come at shown (subst (λ (names : List (List ℕ)). Moves names v x w) come.types moves) (ap (setting_in may_by) core) types walkers
     (subst (λ (es : List Event). Legal (setting_of_script c.head) es (trace_in (hs ++ x ∷ []))) (sym (events_same hs x still))
     (subst (λ (xs : List Element). Legal (setting_of_script c.head) (events_in hs) xs) (sym (trace_same hs x still)) come.legal))
     (subst (λ (xs : List Element). CoreStands (setting_of_script c.head) (history_after [] xs) q.core.state) (sym (trace_same hs x still))
@@ -258,9 +263,9 @@ set_true (b ∷ told) (suc at) (suc flag) is = elim (set_true told at flag is) [
 
 pub comes_raised : (c : RunContents) (hs : List Happening) (r q : Replay) (place flag : ℕ) (v w : Walker) → HasWalked c hs r → slice_get r.walkers.items place ≡ Some v → Moves r.types.items v (raised v.dom flag) w
     → q.core ≡ r.core → q.types.items ≡ r.types.items → q.walkers.items ≡ set r.walkers.items place w → q.told.items ≡ set r.told.items flag true
-    → ComesOn c hs q
+    → ComesOn c hs place made.Raised q
 comes_raised c hs r q place flag v w come at moves core types walkers told =
-    quiet c hs r q (raised v.dom flag) place v w (tells v.dom flag) come at moves core types walkers (λ d f same. cc) (λ f is.
+    quiet c hs r q (raised v.dom flag) place made.Raised v w (tells v.dom flag) come at (v.dom, flag, refl) moves core types walkers (λ d f same. cc) (λ f is.
     elim (set_true r.told.items flag f (ap (λ (l : List Bool). get_or l f false) (sym told) ∙ is)) [
       | inl same ↦ subst (λ (n : ℕ). IsRaisedBefore (length (hs ++ raised v.dom flag ∷ [])) n (hs ++ raised v.dom flag ∷ [])) (sym same) (raised_now v.dom flag hs)
       | inr was ↦ raised_later f hs (raised v.dom flag) (come.told f was)
@@ -269,17 +274,23 @@ comes_raised c hs r q place flag v w come at moves core types walkers told =
 pub comes_passed : (c : RunContents) (hs : List Happening) (r q : Replay) (place flag : ℕ) (v w : Walker) → HasWalked c hs r → slice_get r.walkers.items place ≡ Some v → Moves r.types.items v (passed v.dom flag) w
     → get_or r.told.items flag false ≡ true
     → q.core ≡ r.core → q.types.items ≡ r.types.items → q.walkers.items ≡ set r.walkers.items place w → q.told.items ≡ r.told.items
-    → ComesOn c hs q
+    → ComesOn c hs place made.Passed q
 comes_passed c hs r q place flag v w come at moves is core types walkers told =
-    quiet c hs r q (passed v.dom flag) place v w (waits v.dom flag) come at moves core types walkers
+    quiet c hs r q (passed v.dom flag) place made.Passed v w (waits v.dom flag) come at (v.dom, flag, refl) moves core types walkers
     (λ d f same. let e : flag ≡ f = cc in subst (λ (n : ℕ). IsRaisedBefore (length hs) n hs) e (come.told flag is))
     (λ f told_f. raised_later f hs (passed v.dom flag) (come.told f (ap (λ (l : List Bool). get_or l f false) (sym told) ∙ told_f)))
 
 -- what a domain made, if it made a move
 pub comes_made : {E : Type 0} (c : RunContents) (hs : List Happening) (r q : Replay) (place : ℕ) (v w : Walker) (names : List (List ℕ)) (res : Result (Option Moved) E) → HasWalked c hs r → slice_get r.walkers.items place ≡ Some v → names ≡ r.types.items
     → q.core.config ≡ r.core.config → q.core.rights ≡ r.core.rights → q.types.items ≡ r.types.items → q.walkers.items ≡ set r.walkers.items place w → q.told.items ≡ r.told.items
-    → IfOk res (λ m. IsSome m → WalksTo (setting_in may_by r.core) names r.core.state v q.core.state w) → IfOk res (λ m. IsSome m → ComesOn c hs q)
-comes_made c hs r q place v w names (Err e) come at typed config rights types walkers told made = tt
-comes_made c hs r q place v w names (Ok m) come at typed config rights types walkers told made = λ some.
-    comes_by c hs r q place v w come at (subst (λ (l : List (List ℕ)). WalksTo (setting_in may_by r.core) l r.core.state v q.core.state w) typed (made some))
+    → IfOk res (λ m. IfSome m (λ moved. WalksTo (setting_in may_by r.core) names r.core.state v moved q.core.state w)) → IfOk res (λ m. IfSome m (λ moved. ComesOn c hs place moved q))
+comes_made c hs r q place v w names (Err e) come at typed config rights types walkers told walks = tt
+comes_made c hs r q place v w names (Ok None) come at typed config rights types walkers told walks = tt
+comes_made c hs r q place v w names (Ok (Some moved)) come at typed config rights types walkers told walks =
+    comes_by c hs r q place moved v w come at (subst (λ (l : List (List ℕ)). WalksTo (setting_in may_by r.core) l r.core.state v moved q.core.state w) typed walks)
     (ap (λ (x : Config). setting_of x (may_by q.core.rights)) config ∙ ap (λ (x : ScriptPolicy). setting_of r.core.config (may_by x)) rights) types walkers told
+
+-- a move was made, so the run has come on
+pub walked_on : (c : RunContents) (hs : List Happening) (r : Replay) (place : ℕ) (m : Option Moved) → IfSome m (λ moved. ComesOn c hs place moved r) → IsSome m → (gs : List Happening) × HasWalked c gs r
+walked_on c hs r place None on some = absurd (cc some)
+walked_on c hs r place (Some moved) on some = (hs ++ on.happened ∷ [], on.walked)

@@ -1,5 +1,5 @@
 -- What the core does for a domain on its list.
-use Rattle.std.proofs.Common.{◌≡◌, ◌≢◌, ◌≤◌, ℕ, ◌+◌, List, ◌∷◌, ◌++◌, length, Option, Some, ap, sym, ◌∙◌, subst, Bor}
+use Rattle.std.proofs.Common.{◌≡◌, ◌≢◌, ◌≤◌, ℕ, ◌+◌, List, ◌∷◌, ◌++◌, length, Option, Some, None, ap, sym, ◌∙◌, subst, Bor}
 use Rattle.std.specs.Prelude.{slice_get}
 use Rattle.std.proofs.lemmas.List.{length-map}
 use Rattle.gt_handles.specs.declared.handles.Handle.{Handle}
@@ -23,8 +23,9 @@ use Rattle.gt_script.specs.declared.tasks.RunActionBy.TheVariants.{Do}
 use Rattle.gt_script.specs.Lists.{RunTask}
 use Rattle.gt_host.specs.Naming.{AreNamed}
 use Rattle.gt_host.specs.Runs.{Named, SaysRequest, answer_in}
-use Rattle.gt_explore_replay.specs.Orders.{given_up}
+use Rattle.gt_explore_replay.specs.Orders.{did, given_up}
 use Rattle.gt_explore_replay.specs.Walking.{AnswersLine, ClosesCall, IsClosedFrom, WalksTo, tasks_left_of}
+use Rattle.gt_explore_replay.specs.declared.replay.Moved.TheVariants as moves
 use Rattle.gt_explore_replay.specs.declared.walker.OpenTask.{OpenTask}
 use Rattle.gt_explore_replay.specs.declared.walker.OpenTask.TheVariants as doing
 use Rattle.gt_explore_replay.specs.declared.walker.Walker.{Walker}
@@ -54,31 +55,33 @@ AsksSo v call request = (named : List Named) → AreNamed v.labels named → Say
 
 pub line_open : (s : Setting) (types : List (List ℕ)) (old new : CoreState) (v : Walker) (task : RunTask) (call : Bor ScriptCall) (request : Request) (lost : Option Handle) (b : Begun)
     → slice_get (tasks_left_of v) v.next ≡ Some task → task.deed ≡ Do call.now → v.doing ≡ doing.Nothing → AsksSo v call.now request → lost ≡ given_up request → b ≡ begun.Open → BeginsSo s old new v request b
-    → WalksTo s types old v new (record v { next = v.next + 1; doing = doing.Line task.line call lost })
+    → WalksTo s types old v (moves.Began None) new (record v { next = v.next + 1; doing = doing.Line task.line call lost })
 line_open s types old new v task call request lost b at does idle asks gives is told = λ h stands.
     let so = told h stands in (
       Begin v.dom request,
       begun_element v.dom request b,
       so.0,
       so.1,
+      (v.dom, request, ap (λ (x : Begun). did (Begin v.dom request) (begun_element v.dom request x)) is),
       begins_open types v task call request lost (begun_element v.dom request b) at does idle asks gives (ap (λ (x : Begun). answer_in (begun_element v.dom request x)) is),
     )
 
 pub line_done : (s : Setting) (types : List (List ℕ)) (old new : CoreState) (v w : Walker) (task : RunTask) (call : Bor ScriptCall) (request : Request) (lost : Option Handle) (b : Begun) (answer : Answer)
     → slice_get (tasks_left_of v) v.next ≡ Some task → task.deed ≡ Do call.now → v.doing ≡ doing.Nothing → AsksSo v call.now request → lost ≡ given_up request → b ≡ begun.Done answer → BeginsSo s old new v request b
-    → AnswersLine types task.line call.now lost answer (record v { next = v.next + 1 }) w → WalksTo s types old v new w
+    → AnswersLine types task.line call.now lost answer (record v { next = v.next + 1 }) w → WalksTo s types old v (moves.Began (Some answer)) new w
 line_done s types old new v w task call request lost b answer at does idle asks gives is told a = λ h stands.
     let so = told h stands in (
       Begin v.dom request,
       begun_element v.dom request b,
       so.0,
       so.1,
+      (v.dom, request, ap (λ (x : Begun). did (Begin v.dom request) (begun_element v.dom request x)) is),
       begins_done types v w task call request lost (begun_element v.dom request b) answer at does idle asks gives (ap (λ (x : Begun). answer_in (begun_element v.dom request x)) is) a,
     )
 
 pub back_open : (s : Setting) (types : List (List ℕ)) (old new : CoreState) (v w : Walker) (before after : List Handle) (handle : Handle) (b : Begun)
     → length v.tasks.items ≤ v.next → v.doing ≡ doing.Nothing → v.held.items ≡ before ++ handle ∷ after
-    → w ≡ record v { doing = doing.GivesBack; held = w.held } → w.held.items ≡ before ++ after → b ≡ begun.Open → BeginsSo s old new v (Release handle) b → WalksTo s types old v new w
+    → w ≡ record v { doing = doing.GivesBack; held = w.held } → w.held.items ≡ before ++ after → b ≡ begun.Open → BeginsSo s old new v (Release handle) b → WalksTo s types old v (moves.Began None) new w
 back_open s types old new v w before after handle b all idle holds same left is told = λ h stands.
     let so = told h stands in
     let end : length (tasks_left_of v) ≤ v.next = simp length-map all in (
@@ -86,13 +89,14 @@ back_open s types old new v w before after handle b all idle holds same left is 
       begun_element v.dom (Release handle) b,
       so.0,
       so.1,
+      (v.dom, Release handle, ap (λ (x : Begun). did (Begin v.dom (Release handle)) (begun_element v.dom (Release handle) x)) is),
       gives_open types v w before after handle (begun_element v.dom (Release handle) b) all idle holds (ap (λ (x : Begun). answer_in (begun_element v.dom (Release handle) x)) is)
           (ap (λ (u : Walker). u.dom) same) (ap (λ (u : Walker). u.labels) same) (ap (λ (u : Walker). u.tasks.items) same) (ap (λ (u : Walker). u.next) same) (ap (λ (u : Walker). u.doing) same) left (ap (λ (u : Walker). u.text.items) same) end,
     )
 
 pub back_done : (s : Setting) (types : List (List ℕ)) (old new : CoreState) (v w : Walker) (before after : List Handle) (handle : Handle) (b : Begun) (answer : Answer)
     → length v.tasks.items ≤ v.next → v.doing ≡ doing.Nothing → v.held.items ≡ before ++ handle ∷ after
-    → w ≡ record v { held = w.held } → w.held.items ≡ before ++ after → b ≡ begun.Done answer → BeginsSo s old new v (Release handle) b → WalksTo s types old v new w
+    → w ≡ record v { held = w.held } → w.held.items ≡ before ++ after → b ≡ begun.Done answer → BeginsSo s old new v (Release handle) b → WalksTo s types old v (moves.Began (Some answer)) new w
 back_done s types old new v w before after handle b answer all idle holds same left is told = λ h stands.
     let so = told h stands in
     let end : length (tasks_left_of v) ≤ v.next = simp length-map all in (
@@ -100,18 +104,19 @@ back_done s types old new v w before after handle b answer all idle holds same l
       begun_element v.dom (Release handle) b,
       so.0,
       so.1,
+      (v.dom, Release handle, ap (λ (x : Begun). did (Begin v.dom (Release handle)) (begun_element v.dom (Release handle) x)) is),
       gives_done types v w before after handle (begun_element v.dom (Release handle) b) answer all idle holds (ap (λ (x : Begun). answer_in (begun_element v.dom (Release handle) x)) is)
           (ap (λ (u : Walker). u.dom) same) (ap (λ (u : Walker). u.labels) same) (ap (λ (u : Walker). u.tasks.items) same) (ap (λ (u : Walker). u.next) same) (ap (λ (u : Walker). u.doing) same ∙ idle) left (ap (λ (u : Walker). u.text.items) same) end,
     )
 
 pub step_open : (s : Setting) (types : List (List ℕ)) (old new : CoreState) (v : Walker) (t : Ticked) (step : Step) (seen : Observation)
-    → v.doing ≢ doing.Nothing → t ≡ ticked.Step step seen → TicksSo s old new v t → WalksTo s types old v new v
+    → v.doing ≢ doing.Nothing → t ≡ ticked.Step step seen → TicksSo s old new v t → WalksTo s types old v (moves.Stepped step seen None) new v
 step_open s types old new v t step seen busy is told = λ h stands.
     let so = told h stands in
-    (Tick v.dom, ticked_element v.dom t, so.0, so.1, ticks_open types v (ticked_element v.dom t) busy (ap (λ (x : Ticked). answer_in (ticked_element v.dom x)) is))
+    (Tick v.dom, ticked_element v.dom t, so.0, so.1, (v.dom, ap (λ (x : Ticked). did (Tick v.dom) (ticked_element v.dom x)) is), ticks_open types v (ticked_element v.dom t) busy (ap (λ (x : Ticked). answer_in (ticked_element v.dom x)) is))
 
 pub step_done : (s : Setting) (types : List (List ℕ)) (old new : CoreState) (v w : Walker) (t : Ticked) (step : Step) (seen : Observation) (answer : Answer)
-    → t ≡ ticked.Done step seen answer → TicksSo s old new v t → ClosesCall types answer v w → WalksTo s types old v new w
+    → t ≡ ticked.Done step seen answer → TicksSo s old new v t → ClosesCall types answer v w → WalksTo s types old v (moves.Stepped step seen (Some answer)) new w
 step_done s types old new v w t step seen answer is told closed = λ h stands.
     let so = told h stands in
-    (Tick v.dom, ticked_element v.dom t, so.0, so.1, ticks_done types v w (ticked_element v.dom t) answer (ap (λ (x : Ticked). answer_in (ticked_element v.dom x)) is) closed)
+    (Tick v.dom, ticked_element v.dom t, so.0, so.1, (v.dom, ap (λ (x : Ticked). did (Tick v.dom) (ticked_element v.dom x)) is), ticks_done types v w (ticked_element v.dom t) answer (ap (λ (x : Ticked). answer_in (ticked_element v.dom x)) is) closed)

@@ -1,12 +1,18 @@
 -- The point of a domain on its list, and the result of its moves.
 use Rattle.std.specs.Prelude.{◌≡◌, ◌≢◌, ◌++◌, ◌≤◌, ℕ, true, false, List, [], ◌∷◌, length, drop, map, All, AllPairs}
 use Rattle.std.specs.Prelude.{Option, Some, None, slice_get, get_or}
+use Rattle.std.specs.Option.{option_map}
 use Rattle.gt_explore_replay.specs.Prelude.{domain_of, DomainConfig, Handle, History, Setting, Legal, MayDo, grown}
 use Rattle.gt_explore_replay.specs.Prelude.{history_after, CoreStands, setting_in, CoreState, Answer, Element, Event}
 use Rattle.gt_explore_replay.specs.Prelude.{ScriptCall, type_names, RunContents, list_of, RunTask, AreNamed, setting_of_script}
 use Rattle.gt_explore_replay.specs.Prelude.{answer_line, may_by, Named, handle_given, label_given, with_name, Replay, OpenTask}
 use Rattle.gt_explore_replay.specs.Prelude.{Nothing, Line, GivesBack, Walker}
+use Rattle.gt_explore_replay.specs.Prelude.{Begin, DomId, Moved, Request, Tick}
+use Rattle.gt_core.specs.declared.trace.Element.TheVariants.{Item as Did}
+use Rattle.gt_core.specs.declared.trace.ItemEvent.TheVariants.{Began as BeganCall, Stepped as SteppedCall}
+use Rattle.gt_explore_replay.specs.declared.replay.Moved.TheVariants.{Began, Passed, Raised, Stepped}
 use Rattle.gt_explore_replay.specs.Orders.{Happening, did, doer, own_happenings, events_in, trace_in, IsRaisedBefore}
+use Rattle.gt_explore_replay.specs.Orders.{passed, raised}
 use Rattle.gt_explore_replay.specs.Orders.{FlagsAreRaised}
 use Rattle.gt_explore_replay.specs.Orders.{CallGoesOn, Prints, FollowsList, held_after}
 
@@ -40,10 +46,22 @@ pub record Moves (types : List (List ℕ)) (v : Walker) (x : Happening) (w : Wal
       → (before : List ℕ) × Continues types v named v.doing (x ∷ more) before
       × (v.text.items ++ before ≡ w.text.items ++ rest))
 
--- an event of the core did what it may, the core's state represents the history with it, and by it the domain moved
-abbrev pub WalksTo : Setting → List (List ℕ) → CoreState → Walker → CoreState → Walker → Type 0
-WalksTo s types old v new w = (h : History) → CoreStands s h old
-    → (e : Event) × (x : Element) × MayDo s h e x × CoreStands s (grown h x) new × Moves types v (did e x) w
+-- the move shows this happening: a flag that was raised or passed, the beginning of a call, or its step, with what the
+-- step saw; and the answer of the call, if it has one
+abbrev pub IsShownBy : Moved → Happening → Type 0
+IsShownBy Raised x = (dom : DomId) × (flag : ℕ) × (x ≡ raised dom flag)
+IsShownBy Passed x = (dom : DomId) × (flag : ℕ) × (x ≡ passed dom flag)
+IsShownBy (Began answer) x = (dom : DomId) × (request : Request)
+    × (x ≡ did (Begin dom request) (Did (record { actor = dom; happened = BeganCall request; answer = answer })))
+IsShownBy (Stepped step seen answer) x = (dom : DomId)
+    × (x ≡ did (Tick dom) (Did (record { actor = dom; happened = SteppedCall step seen; answer = answer })))
+
+-- an event of the core did what it may, as this move shows, the core's state represents the history with it, and by it
+-- the domain moved
+abbrev pub WalksTo : Setting → List (List ℕ) → CoreState → Walker → Moved → CoreState → Walker → Type 0
+WalksTo s types old v moved new w = (h : History) → CoreStands s h old
+    → (e : Event) × (x : Element) × MayDo s h e x × CoreStands s (grown h x) new × IsShownBy moved (did e x)
+    × Moves types v (did e x) w
 
 -- the call of a line has its answer, which is printed, and its label and the handles follow it
 pub record AnswersLine (types : List (List ℕ)) (line : ℕ) (call : ScriptCall) (lost : Option Handle) (answer : Answer)
@@ -105,6 +123,9 @@ pub record HasWalked (c : RunContents) (hs : List Happening) (r : Replay) : Type
   pub apart : HaveOwnIds c.head.domains
   pub followed : (at : ℕ) (w : Walker) → slice_get r.walkers.items at ≡ Some w → HasFollowed c hs w
 
--- one more thing has happened
-abbrev pub ComesOn : RunContents → List Happening → Replay → Type 0
-ComesOn c hs r = (x : Happening) × HasWalked c (hs ++ x ∷ []) r
+-- one more thing has happened, by the domain at this position, and this move shows it
+pub record ComesOn (c : RunContents) (hs : List Happening) (place : ℕ) (moved : Moved) (r : Replay) : Type 0 where
+  pub happened : Happening
+  pub shown : IsShownBy moved happened
+  pub own_move : option_map (λ d. d.id) (slice_get c.head.domains place) ≡ Some (doer happened)
+  pub walked : HasWalked c (hs ++ happened ∷ []) r

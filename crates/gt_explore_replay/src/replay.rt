@@ -11,22 +11,24 @@ ghost use Rattle.gt_explore_replay.specs.Orders.{Happening, MayGive};
 ghost use Rattle.gt_explore_replay.specs.Walking.{StartsWalk};
 
 use crate::walker::Walker;
-use gt_core::{Core, Observation, Step};
+use gt_core::{Answer, Core, Observation, Step};
 use gt_host::{ScriptPolicy, core_of};
 use gt_script::{RunAction, RunScript};
 use gt_script_lines::Text;
 use gt_types::{DomainConfig, Memory};
 use std::alloc::{AllocError, Global};
 
-/// The kind of a move.
-#[derive(Clone, Copy, Debug, PartialEq, Eq)]
+/// A move of a domain.
+#[derive(Debug, Drop)]
 pub enum Moved {
-    /// A flag was raised, or passed.
-    Flag,
-    /// A call began.
-    Began,
-    /// A call made this step, with this observation.
-    Stepped(Step, Observation),
+    /// It raised a flag.
+    Raised,
+    /// It passed a flag that was raised.
+    Passed,
+    /// It began a call or a release, which has this answer if it was answered at once.
+    Began(Option<Answer>),
+    /// Its call made this step, with this observation, and has this answer if it ended.
+    Stepped(Step, Observation, Option<Answer>),
 }
 
 /// The next move: that of the domain at this position among the script's domains. At the end of its list it releases the
@@ -144,14 +146,14 @@ impl<'s, 'a> Replay<'s, 'a> {
         self.told.as_slice()
     }
 
-    /// Makes the next move of a domain. Returns its kind, or None if the domain has no move: it is at its end, or
+    /// Makes the next move of a domain. Returns the move, or None if the domain has none: it is at its end, or
     /// awaits a flag that is not raised. The replay cannot be used after None, or after an error.
     ///
     /// # Errors
     /// `Memory` if an allocation fails.
     pub fn advance(&mut self, turn: Turn) -> Result<Option<Moved>, Memory>
         ensures walks { (c : RunContents) (hs : List Happening) → HasWalked c hs self.old →
-            IfOk result (λ m. IsSome m → ComesOn c hs self.new) }
+            IfOk result (λ m. IfSome m (λ moved. ComesOn c hs turn.place moved self.new)) }
         ensures abreast { (c : RunContents) (hs : List Happening) (ks : List Course) (x : Happening) (k j : Course) →
             IsAbreast c hs ks self.old → slice_get ks turn.place ≡ Some k →
             CourseLeads (type_names c.head) k turn.choice x j → CanComeNext (setting_of_script c.head) hs x →
@@ -172,13 +174,15 @@ impl<'s, 'a> Replay<'s, 'a> {
             RunAction::Do(call) => walker.begin(self.alloc, &mut self.core, types, task, call),
             RunAction::Tell(flag) => {
                 if raise(&mut self.told, *flag) {
-                    return Ok(Some(walker.skip()));
+                    walker.skip();
+                    return Ok(Some(Moved::Raised));
                 }
                 Ok(None)
             }
             RunAction::Await(flag) => {
                 if is_raised(self.told.as_slice(), *flag) {
-                    return Ok(Some(walker.skip()));
+                    walker.skip();
+                    return Ok(Some(Moved::Passed));
                 }
                 Ok(None)
             }

@@ -157,12 +157,11 @@ impl<'s, 'a> Walker<'s, 'a> {
     }
 
     // Skips its next line, which raises or awaits a flag.
-    pub(crate) fn skip(&mut self) -> Moved
+    pub(crate) fn skip(&mut self)
         requires { self.old.next < length self.old.tasks.items }
         ensures { self.new ≡ record self.old { next = self.old.next + 1 } }
     {
         self.next += 1;
-        Moved::Flag
     }
 
     /// Returns its next task, or None at the end of its list.
@@ -180,7 +179,7 @@ impl<'s, 'a> Walker<'s, 'a> {
 }
 
 impl<'s, 'a> Walker<'s, 'a> {
-    ghost use Rattle.std.specs.Prelude.{◌≡◌, ◌≢◌, ◌<◌, ◌≤◌, ℕ, List, length, slice_get, IsTrue, IsSome, IfOk, Some};
+    ghost use Rattle.std.specs.Prelude.{◌≡◌, ◌≢◌, ◌<◌, ◌≤◌, ℕ, List, length, slice_get, IsTrue, IfOk, IfSome, Some};
     ghost use Rattle.gt_core.specs.Standing.{setting_in};
     ghost use Rattle.gt_host.specs.Rights.{may_by};
     ghost use Rattle.gt_script.specs.declared.tasks.RunActionBy.TheVariants as deeds;
@@ -220,8 +219,8 @@ impl<'s, 'a> Walker<'s, 'a> {
         requires room { self.old.next < length self.old.tasks.items }
         requires does { task.now.deed ≡ deeds.Do call.now }
         requires idle { self.old.doing ≡ doing.Nothing }
-        ensures makes { IfOk result (λ m. IsSome m → WalksTo (setting_in may_by core.old) types.now
-            core.old.state self.old core.new.state self.new) }
+        ensures makes { IfOk result (λ m. IfSome m (λ moved. WalksTo (setting_in may_by core.old) types.now
+            core.old.state self.old moved core.new.state self.new)) }
         ensures does { IfOk result (λ m. BeginsLine (setting_in may_by core.old) types.now core.old.state
             self.old task.now call.entry m core.new.state self.new) }
         ensures config { core.new.config ≡ core.old.config }
@@ -236,12 +235,12 @@ impl<'s, 'a> Walker<'s, 'a> {
                 self.next += 1;
                 let line = task.line;
                 self.doing = OpenTask::Line { line, call, gone };
-                Ok(Some(Moved::Began))
+                Ok(Some(Moved::Began(None)))
             }
             Begun::Done(answer) => {
                 self.next += 1;
                 self.answer(alloc, types, task.line, call, gone, &answer)?;
-                Ok(Some(Moved::Began))
+                Ok(Some(Moved::Began(Some(answer))))
             }
             Begun::Busy | Begun::NoDomain => Ok(None),
         }
@@ -255,9 +254,9 @@ impl<'s, 'a> Walker<'s, 'a> {
     ) -> Result<Option<Moved>, Memory>
         requires end { length self.old.tasks.items ≤ self.old.next }
         requires idle { self.old.doing ≡ doing.Nothing }
-        ensures makes { (types : List (List ℕ)) → IfOk result (λ m. IsSome m
-            → WalksTo (setting_in may_by core.old) types
-            core.old.state self.old core.new.state self.new) }
+        ensures makes { (types : List (List ℕ)) → IfOk result (λ m. IfSome m (λ moved.
+            WalksTo (setting_in may_by core.old) types
+            core.old.state self.old moved core.new.state self.new)) }
         ensures does { IfOk result (λ m. GivesBackAt (setting_in may_by core.old) core.old.state
             self.old choice m core.new.state self.new) }
         ensures config { core.new.config ≡ core.old.config }
@@ -271,9 +270,9 @@ impl<'s, 'a> Walker<'s, 'a> {
         match begun {
             Begun::Open => {
                 self.doing = OpenTask::GivesBack;
-                return Ok(Some(Moved::Began));
+                return Ok(Some(Moved::Began(None)));
             }
-            Begun::Done(_) => return Ok(Some(Moved::Began)),
+            Begun::Done(answer) => return Ok(Some(Moved::Began(Some(answer)))),
             Begun::Busy => return Ok(None),
             Begun::NoDomain => return Ok(None),
         }
@@ -305,8 +304,8 @@ impl<'s, 'a> Walker<'s, 'a> {
         types: &[Text],
     ) -> Result<Option<Moved>, Memory>
         requires { self.old.doing ≢ doing.Nothing }
-        ensures makes { IfOk result (λ m. IsSome m → WalksTo (setting_in may_by core.old) types.now
-            core.old.state self.old core.new.state self.new) }
+        ensures makes { IfOk result (λ m. IfSome m (λ moved. WalksTo (setting_in may_by core.old) types.now
+            core.old.state self.old moved core.new.state self.new)) }
         ensures does { IfOk result (λ m. TicksOpen (setting_in may_by core.old) types.now core.old.state
             self.old m core.new.state self.new) }
         ensures config { core.new.config ≡ core.old.config }
@@ -314,11 +313,11 @@ impl<'s, 'a> Walker<'s, 'a> {
     {
         let ticked = core.tick(self.dom)?;
         match ticked {
-            Ticked::Step(step, seen) => Ok(Some(Moved::Stepped(step, seen))),
+            Ticked::Step(step, seen) => Ok(Some(Moved::Stepped(step, seen, None))),
             Ticked::Done(step, seen, answer) => {
                 let closed = self.close(alloc, types, &answer)?;
                 if closed {
-                    Ok(Some(Moved::Stepped(step, seen)))
+                    Ok(Some(Moved::Stepped(step, seen, Some(answer))))
                 } else {
                     Ok(None)
                 }

@@ -1,7 +1,7 @@
 use Rattle.std.proofs.Common.{ℕ, List}
 use Rattle.gt_script.specs.RunScripts.{RunTells}
 use Rattle.gt_text.specs.Laws.{of_input}
-use Rattle.gt_explore.specs.Exploring.{Explored}
+use Rattle.gt_explore.specs.Writing.{Explored}
 use Rattle.gt_explore.proofs.Explored.{explored_unread}
 use Rattle.gt_explore.proofs.exploring.explore.Goals as goal
 

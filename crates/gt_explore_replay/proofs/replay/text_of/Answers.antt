@@ -1,6 +1,7 @@
 use Rattle.std.proofs.Common.{rules, ◌≡◌, [], ◌<◌, ◌≤◌, length, arith, false}
 use Rattle.std.specs.Prelude.{is_some, IsSome}
 use Rattle.gt_script.specs.RunContents.{run_told}
+use Rattle.gt_explore_replay.proofs.Coming.{walked_on}
 use Rattle.gt_explore_replay.proofs.Ending.{some_order}
 use Rattle.gt_explore_replay.proofs.Following.{follows_first, follows_more, follows_over, follows_turn, not_both}
 use Rattle.gt_explore_replay.proofs.replay.text_of.Goals as goal
@@ -13,10 +14,10 @@ turns-init c = record {
 
 pub turns-preserved : goal.turns-preserved
 turns-preserved c =
-    let on = c.in_ok-moved.ensures.walks (run_told c.args.script.now) c.turns.invariant.walked.0 c.turns.invariant.walked.1 (search rules) in
+    let on = c.in_ok-moved.ensures.walks (run_told c.args.script.now) c.turns.invariant.walked.0 c.turns.invariant.walked.1 in
     let within : c.turns.turn-index < length c.args.turns.now = c.turns-test.true in
     record {
-      walked = (_, on.1);
+      walked = walked_on (run_told c.args.script.now) c.turns.invariant.walked.0 _ _ c.in_ok-moved.moved on (search rules);
       follows =
           follows_more (run_told c.args.script.now) c.args.script.now.flags c.args.turns.now c.turns.turn-index _ _ _ _ within
           (c.in_ok-moved.ensures.abreast (run_told c.args.script.now)) c.turns.invariant.follows;

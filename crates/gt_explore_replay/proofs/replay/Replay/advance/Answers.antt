@@ -59,7 +59,7 @@ returns-in-Do-clause-walks c = λ k hs come.
     c.begin.ensures.config c.begin.ensures.rights refl refl refl c.begin.ensures.makes
 
 pub returns-then-raise-clause-walks : goal.returns-then-raise-clause-walks
-returns-then-raise-clause-walks c = λ k hs come some.
+returns-then-raise-clause-walks c = λ k hs come.
     let within : c.args.turn.place < length c.args.self.now.walkers.items = search rules in
     let v : Walker = c.index_mut-walker.result.now in
     comes_raised k hs c.args.self.now _ c.args.turn.place c.in-Tell.flag v c.skip.new.self come
@@ -69,7 +69,7 @@ returns-then-raise-clause-walks c = λ k hs come some.
     refl refl refl (c.raise.ensures.raised c.if-raise.true)
 
 pub returns-then-is_raised-clause-walks : goal.returns-then-is_raised-clause-walks
-returns-then-is_raised-clause-walks c = λ k hs come some.
+returns-then-is_raised-clause-walks c = λ k hs come.
     let within : c.args.turn.place < length c.args.self.now.walkers.items = search rules in
     let v : Walker = c.index_mut-walker.result.now in
     comes_passed k hs c.args.self.now _ c.args.turn.place c.in-Await.flag v c.skip-then-is_raised.new.self come

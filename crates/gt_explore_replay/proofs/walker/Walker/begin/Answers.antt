@@ -4,13 +4,13 @@ use Rattle.gt_explore_replay.proofs.Making.{line_done, line_open}
 use Rattle.gt_explore_replay.proofs.walker.Walker.begin.Goals as goal
 
 pub returns-in-Open-clause-makes : goal.returns-in-Open-clause-makes
-returns-in-Open-clause-makes c = λ some.
+returns-in-Open-clause-makes c =
     line_open _ c.args.types.now _ _ c.args.self.now c.args.task.now c.args.call c.request_of-request.result c.given_up-gone.result c.in_ok-begun.begun
     c.requires.next c.requires.does c.requires.idle (λ named names. (c.as_slice.result, c.as_slice.ensures.value ∙ c.in_ok-bytes.ensures, c.request_of-request.ensures.says named names))
     c.given_up-gone.ensures c.in-Open.is c.in_ok-begun.ensures.stands
 
 pub returns-in-Done-clause-makes : goal.returns-in-Done-clause-makes
-returns-in-Done-clause-makes c = λ some.
+returns-in-Done-clause-makes c =
     line_done _ c.args.types.now _ _ c.args.self.now _ c.args.task.now c.args.call c.request_of-request.result c.given_up-gone.result c.in_ok-begun.begun c.in-Done.answer
     c.requires.next c.requires.does c.requires.idle (λ named names. (c.as_slice.result, c.as_slice.ensures.value ∙ c.in_ok-bytes.ensures, c.request_of-request.ensures.says named names))
     c.given_up-gone.ensures c.in-Done.is c.in_ok-begun.ensures.stands c.in_ok-answer-in-Done.ensures

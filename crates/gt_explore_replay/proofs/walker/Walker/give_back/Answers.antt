@@ -6,7 +6,7 @@ use Rattle.gt_explore_replay.proofs.Places.{around}
 use Rattle.gt_explore_replay.proofs.walker.Walker.give_back.Goals as goal
 
 pub returns-in-Open-clause-makes : goal.returns-in-Open-clause-makes
-returns-in-Open-clause-makes c = λ types some.
+returns-in-Open-clause-makes c = λ types.
     let within : c.args.choice < length c.args.self.now.held.items = search rules in
     back_open _ types _ _ c.args.self.now _ (take c.args.choice c.args.self.now.held.items) (drop (suc c.args.choice) c.args.self.now.held.items) c.remove-handle.result c.in_ok-begun.begun
     c.requires.end c.requires.idle (around c.args.self.now.held.items c.args.choice c.remove-handle.result within c.remove-handle.ensures.value)
@@ -20,7 +20,7 @@ returns-in-Open-clause-does c =
     c.in_ok-begun.ensures.stands (given_open c.args.choice c.args.self.now _ c.in_ok-begun.begun _ c.in-Open.is refl refl c.remove-handle.ensures.items)
 
 pub returns-in-Done-clause-makes : goal.returns-in-Done-clause-makes
-returns-in-Done-clause-makes c = λ types some.
+returns-in-Done-clause-makes c = λ types.
     let within : c.args.choice < length c.args.self.now.held.items = search rules in
     back_done _ types _ _ c.args.self.now _ (take c.args.choice c.args.self.now.held.items) (drop (suc c.args.choice) c.args.self.now.held.items) c.remove-handle.result c.in_ok-begun.begun _
     c.requires.end c.requires.idle (around c.args.self.now.held.items c.args.choice c.remove-handle.result within c.remove-handle.ensures.value)

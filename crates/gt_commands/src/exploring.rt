@@ -1,0 +1,83 @@
+//! Plans of `explore`.
+ghost use Rattle.std.specs.Prelude.{◌≡◌};
+ghost use Rattle.std.specs.Option.{option_map};
+ghost use Rattle.gt_commands.specs.Commands.{asked_by_some, explore_for, explore_with, formed_of, one_sought, sought_told};
+
+use crate::invocation::{Exploration, Format, Invocation, SearchOptions};
+use crate::values::{ExploreForm, formed, sought_of};
+
+// Plans what is asked for about the texts, or the question whether a given text is one of them, but not both.
+fn explore_for<'a>(
+    sought: Option<Exploration<'a>>,
+    given: Option<&'a str>,
+    options: SearchOptions<'a>,
+) -> Option<Invocation<'a>>
+    ensures { asked_by_some result ≡ explore_for (option_map sought_told sought.entry)
+        (option_map (λ v. v.now) given.entry) options.entry.format options.entry.states
+        (option_map (λ v. v.now) options.entry.file) }
+{
+    match (sought, given) {
+        (None, None) => Some(Invocation::Explore {
+            asked: Exploration::Texts,
+            options,
+        }),
+        (Some(asked), None) => Some(Invocation::Explore { asked, options }),
+        (None, Some(given)) => Some(Invocation::ExploreHas { given, options }),
+        (Some(_), Some(_)) => None,
+    }
+}
+
+/// Plans what is asked for about the texts from values, each of which has to be one that its option takes.
+pub(crate) fn explore_with<'a>(
+    sought: Option<(Option<Exploration<'a>>, Format)>,
+    given: Option<&'a str>,
+    states: Option<usize>,
+    file: Option<&'a str>,
+) -> Option<Invocation<'a>>
+    ensures { asked_by_some result
+        ≡ explore_with (option_map (λ p. (option_map sought_told p.0, p.1)) sought.entry)
+        (option_map (λ v. v.now) given.entry) states (option_map (λ v. v.now) file.entry) }
+{
+    match (sought, states) {
+        (Some((sought, format)), Some(states)) => explore_for(
+            sought,
+            given,
+            SearchOptions {
+                states,
+                format,
+                file,
+            },
+        ),
+        _ => None,
+    }
+}
+
+/// Returns what is asked for in the form of a value, if both were read and go together.
+pub(crate) fn formed_of<'a>(
+    sought: Option<Option<Exploration<'a>>>,
+    form: Option<ExploreForm>,
+) -> Option<(Option<Exploration<'a>>, Format)>
+    ensures { option_map (λ p. (option_map sought_told p.0, p.1)) result
+        ≡ formed_of (option_map (option_map sought_told) sought.entry) form }
+{
+    match (sought, form) {
+        (Some(sought), Some(form)) => formed(form, sought),
+        _ => None,
+    }
+}
+
+/// Returns what is asked for about the texts, if each of these values was read and there is at most one of them. The
+/// outer result is None if not.
+pub(crate) fn one_sought<'a>(
+    claim: Option<Option<Exploration<'a>>>,
+    witness: Option<Option<Exploration<'a>>>,
+    trace: Option<Option<Exploration<'a>>>,
+) -> Option<Option<Exploration<'a>>>
+    ensures { option_map (option_map sought_told) result ≡ one_sought (option_map (option_map sought_told) claim.entry)
+        (option_map (option_map sought_told) witness.entry) (option_map (option_map sought_told) trace.entry) }
+{
+    match (claim, witness, trace) {
+        (Some(claim), Some(witness), Some(trace)) => sought_of(claim, witness, trace),
+        _ => None,
+    }
+}

@@ -1,0 +1,51 @@
+-- What `explore` writes for a script, by the result.
+use Rattle.std.specs.Prelude.{◌≡◌, ℕ, List, Option, Some, Result, Ok, Err}
+use Rattle.std.specs.Io.KnownBytes.{Appends, Keeps}
+use Rattle.gt_policy.specs.declared.fault.TokenFault as policy
+use Rattle.gt_script.specs.Blocks.{block_fault_shown}
+use Rattle.gt_script.specs.RunContents.{RunContents}
+use Rattle.gt_script.specs.Script.{Wrong, in_script, in_policy}
+use Rattle.gt_text.specs.Streams.{AppendsBeginning}
+use Rattle.gt_host.specs.declared.fault.PlayFault.TheVariants.{Memory, Read, Write, Script, Policy}
+use Rattle.gt_explore_verdict.specs.declared.judging.Verdict.{Verdict}
+use Rattle.gt_explore.specs.AsObjects.{IsMadeOfObjects}
+use Rattle.gt_explore.specs.Exploring.{IsMadeBy}
+use Rattle.gt_explore.specs.declared.exploring.ExploreFormat.{ExploreFormat}
+use Rattle.gt_explore.specs.declared.exploring.ExploreFormat.TheVariants.{Json, Text}
+use Rattle.gt_explore.specs.declared.exploring.ExploreOptions.{ExploreOptions}
+use Rattle.gt_explore.specs.declared.exploring.ExploreRequest.{ExploreRequest}
+use Rattle.gt_explore.specs.declared.fault.ExploreFault.{ExploreFault}
+use Rattle.gt_explore.specs.declared.fault.ExploreFault.TheVariants.{Play, Texts}
+
+-- the output for a script and the verdict, by the format and the request
+abbrev pub IsMadeAs : RunContents → ExploreFormat → ℕ → ExploreRequest → List ℕ → Verdict → Type 0
+IsMadeAs c Text limit request = IsMadeBy c request
+IsMadeAs c Json limit request = IsMadeOfObjects c limit request
+
+abbrev pub IsMade : RunContents → ExploreOptions → List ℕ → Verdict → Type 0
+IsMade c asked text verdict = IsMadeAs c asked.format asked.states asked.request text verdict
+
+-- what was written for a script, by the result
+abbrev pub Explores : RunContents → ExploreOptions → Option (List ℕ) → Option (List ℕ) → Result Verdict ExploreFault → Type 0
+Explores c asked old new (Ok verdict) = (text : List ℕ) × IsMade c asked text verdict × Appends old new text
+Explores c asked old new (Err (Texts fault)) = Keeps old new
+Explores c asked old new (Err (Play Write)) =
+    (text : List ℕ) × (verdict : Verdict) × IsMade c asked text verdict × AppendsBeginning old new text
+Explores c asked old new (Err (Play Memory)) = ⊥
+Explores c asked old new (Err (Play Read)) = ⊥
+Explores c asked old new (Err (Play (Script fault))) = ⊥
+Explores c asked old new (Err (Play (Policy fault))) = ⊥
+
+-- what was written for bytes that mean this: at Ok a whole text of the script, after a failed write a prefix of one,
+-- and otherwise nothing; a fault of the script is its first
+abbrev pub Explored : ExploreOptions → (Result RunContents Wrong → Type 0) → Option (List ℕ) → Option (List ℕ)
+    → Result Verdict ExploreFault → Type 0
+Explored asked Told old new (Ok verdict) = (c : RunContents) × Told (Ok c) × Explores c asked old new (Ok verdict)
+Explored asked Told old new (Err (Texts fault)) = Keeps old new
+Explored asked Told old new (Err (Play Write)) =
+    (c : RunContents) × Told (Ok c) × Explores c asked old new (Err (Play Write))
+Explored asked Told old new (Err (Play Memory)) = Keeps old new
+Explored asked Told old new (Err (Play Read)) = Keeps old new
+Explored asked Told old new (Err (Play (Script fault))) = Told (Err (in_script fault)) × Keeps old new
+Explored asked Told old new (Err (Play (Policy fault))) =
+    (g : policy.TokenFault) × (block_fault_shown fault ≡ Some g) × Told (Err (in_policy g)) × Keeps old new

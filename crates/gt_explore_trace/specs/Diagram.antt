@@ -1,0 +1,56 @@
+-- Sequence diagrams of mermaid: each domain and its table are participants, and a step is a message to a table.
+use Rattle.std.specs.Prelude.{ℕ, List, ◌++◌, codes, decimal}
+use Rattle.std.specs.List.{flat_map}
+use Rattle.gt_types.specs.declared.DomId.{DomId}
+use Rattle.gt_types.specs.declared.config.DomainConfig.{DomainConfig}
+use Rattle.gt_calls.specs.declared.action.Step.{Step}
+use Rattle.gt_calls.specs.declared.action.Step.TheVariants as steps
+use Rattle.gt_explore_replay.specs.declared.replay.Moved.{Moved}
+use Rattle.gt_explore_replay.specs.declared.replay.Moved.TheVariants.{Began, Passed, Raised, Stepped}
+
+-- the domain whose table or frames a step of this domain touches; of a copy, those that it writes
+abbrev pub owner_of : DomId → Step → DomId
+owner_of dom (steps.LookHeader owner) = owner
+owner_of dom (steps.LookControl owner gref) = owner
+owner_of dom (steps.LookBody owner gref half) = owner
+owner_of dom (steps.Pin p) = p.dom
+owner_of dom (steps.Unpin p holder) = p.dom
+owner_of dom (steps.StoreBody gref half word) = dom
+owner_of dom (steps.Exchange gref looked change) = dom
+owner_of dom (steps.StoreHeader version frames) = dom
+owner_of dom (steps.Read owner frame off len) = owner
+owner_of dom (steps.Write owner frame off len) = owner
+owner_of dom (steps.Copy from to len) = to.frame.owner
+
+-- a note over this domain
+unfoldable pub note_text : DomId → List ℕ
+note_text dom = codes "    Note over D" ++ decimal dom.0 ++ codes ": "
+
+-- a message of this domain to the table of that one
+unfoldable pub message_text : DomId → DomId → List ℕ
+message_text dom owner = codes "    D" ++ decimal dom.0 ++ codes "->>T" ++ decimal owner.0 ++ codes ": "
+
+-- what is before the words of a move of this domain
+abbrev pub arrow_text : DomId → Moved → List ℕ
+arrow_text dom Raised = note_text dom
+arrow_text dom Passed = note_text dom
+arrow_text dom (Began answer) = note_text dom
+arrow_text dom (Stepped step seen answer) = message_text dom (owner_of dom step)
+
+-- the name of the participant of this letter and this domain, and what it is
+unfoldable pub participant_name : List ℕ → DomId → List ℕ
+participant_name letter dom = codes "    participant " ++ letter ++ decimal dom.0
+
+unfoldable pub participant_kind : List ℕ → DomId → List ℕ
+participant_kind kind dom = codes " as " ++ kind ++ codes " " ++ decimal dom.0 ++ codes "\n"
+
+unfoldable pub one_participant : List ℕ → List ℕ → DomId → List ℕ
+one_participant letter kind dom = participant_name letter dom ++ participant_kind kind dom
+
+-- a domain and its table, as participants
+unfoldable pub participant_text : DomainConfig → List ℕ
+participant_text d = one_participant (codes "D") (codes "domain") d.id ++ one_participant (codes "T") (codes "table") d.id
+
+-- the participants of a diagram
+abbrev pub participants_text : List DomainConfig → List ℕ
+participants_text domains = flat_map participant_text domains
