@@ -50,11 +50,15 @@ refuses are among the edits.
 | \`gt_explore_replay\` | 15 | 15 | 0 | 0 |
 | \`gt_explore_moves\` | 15 | 15 | 0 | 0 |
 | \`gt_explore\` | 11 | 11 | 0 | 0 |
-| \`gt_neverallow\` | 11 | 11 | 0 | 0 |
-| all | 72 | 67 | 5 | 0 |
+| \`gt_commands\` | 12 | 12 | 0 | 0 |
+| \`gt_neverallow\` | 15 | 14 | 0 | 1 |
+| all | 88 | 82 | 5 | 1 |
 
 Of the bodies that a test refuses, one passed all tests at first: a search that gives up at its limit and forgets the
 turn that it is trying. \`test_explore_search\` now compares how many texts are found within each number of states.
+
+By nothing: in \`gt_neverallow\` the example of a breach is a target that is forbidden, granted or not. No clause speaks
+of the example, which is only shown, and the stored examples of \`cases_program\` are the same with this body.
 END
   for crate in $(crates); do
     for folder in must-fail wrong-bodies; do
