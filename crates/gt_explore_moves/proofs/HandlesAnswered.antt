@@ -1,5 +1,5 @@
 -- Each handle that a course has was answered to its domain, and what a line asks fits its types.
-use Rattle.std.proofs.Common.{◌≡◌, ℕ, refl, List, [], ◌∷◌, Option, Some, None, sym, ap, ◌∙◌, subst, inl, Bor}
+use Rattle.std.proofs.Common.{◌≡◌, ℕ, refl, List, ◌∷◌, Option, Some, None, sym, ap, ◌∙◌, subst, inl, Bor}
 use Rattle.hex.specs.Hex.{IsBytes}
 use Rattle.gt_types.specs.declared.DomId.{DomId}
 use Rattle.gt_types.specs.declared.GrantRef.{GrantRef}

@@ -1,9 +1,8 @@
 -- What one state shows is shown by one that is the same.
-use Rattle.std.proofs.Common.{◌≡◌, ◌+◌, ◌<◌, ◌≤◌, ℕ, zero, suc, refl, List, [], ◌∷◌, ◌++◌, length, take, drop, get_or}
+use Rattle.std.proofs.Common.{◌≡◌, ◌+◌, ◌≤◌, ℕ, zero, suc, refl, List, [], ◌∷◌, length, drop}
 use Rattle.std.proofs.Common.{Option}
 use Rattle.std.proofs.Common.{Bool, Some, sym, ap, ◌∙◌, subst}
 use Rattle.std.specs.Prelude.{slice_get}
-use Rattle.std.proofs.lemmas.List.{take_more}
 use Rattle.std.proofs.lemmas.Option.{none-some, same_Some}
 use Rattle.gt_core.specs.History.{History, Setting, maps_answered_at, open_call}
 use Rattle.gt_host.specs.Playing.{setting_of_script}

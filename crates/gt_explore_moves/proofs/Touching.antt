@@ -58,7 +58,6 @@ use Rattle.gt_core.specs.Swapping.{reads_frames}
 use Rattle.gt_core.specs.Swapping.{stores_header, writes_frames}
 use Rattle.gt_core.specs.declared.trace.Answer.{Answer}
 use Rattle.gt_core.specs.declared.trace.Item.{Item}
-use Rattle.gt_core.specs.declared.trace.ItemEvent.{ItemEvent}
 use Rattle.gt_core.specs.declared.trace.ItemEvent.TheVariants.{Stepped}
 use Rattle.gt_core.proofs.Steps.Unpin.{loses-mapping}
 use Rattle.gt_core.proofs.Swapping.{Releases, keeps-elsewhere, steps-apart-in}

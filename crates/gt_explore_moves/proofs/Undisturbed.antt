@@ -19,7 +19,6 @@ use Rattle.gt_calls.specs.declared.action.Step.TheVariants as steps
 use Rattle.gt_calls.specs.declared.action.Step.TheVariants.{Unpin}
 use Rattle.gt_calls.specs.declared.held.HeldPin.{HeldPin}
 use Rattle.gt_calls.specs.declared.judging.TheConstants.{SERIAL_LIMIT}
-use Rattle.gt_calls.specs.declared.request.OpenRequest.{OpenRequest}
 use Rattle.gt_calls.specs.declared.request.PinHolder.TheVariants.{Mapping as ByHandle}
 use Rattle.gt_calls.specs.declared.request.Request.{Request}
 use Rattle.gt_calls.specs.declared.request.Request.TheVariants as requests
@@ -72,7 +71,6 @@ use Rattle.gt_explore_moves.specs.declared.scene.SearchState.{SearchState}
 use Rattle.gt_explore_moves.specs.declared.touches.NextMove.{NextMove}
 use Rattle.gt_explore_moves.specs.declared.touches.NextMove.TheVariants.{Awaits, Free, Makes}
 use Rattle.gt_explore_moves.specs.declared.touches.Touch.{Touch}
-use Rattle.gt_explore_moves.specs.declared.touches.Touch.TheVariants.{Entry}
 use Rattle.gt_explore_moves.proofs.CourseMoves.{course-moves, ends-done}
 use Rattle.gt_explore_moves.proofs.HandlesAnswered.{after-dom, back-dom}
 use Rattle.gt_explore_moves.proofs.LineBegins.{tasks-short}
