@@ -106,8 +106,15 @@ flags() {
 # The flags of a command, in one line.
 all_flags() { flags "$1" | cut -d $'\x1f' -f 1 | sed -e 's/^/--/' -e 's/^--verbose$/--verbose -v/' | tr '\n' ' ' | sed 's/ $//'; }
 
-# The values of an option: those that its help names, as `text|json`, and of --find the rules.
-values_of() { if [ "$1" = find ]; then rules; else values "$2"; fi; }
+# The values of an option: those that its help names, as `text|json`, of --find the rules, and of --format of `explore` the
+# three that its text names.
+values_of() {
+  case "$1$2" in
+    find*) rules ;;
+    "format <FORM>") printf 'text json mermaid' ;;
+    *) values "$2" ;;
+  esac
+}
 values() { printf '%s' "$1" | sed -n 's/^ <\(.*|.*\)>$/\1/p' | tr '|' ' '; }
 
 # Whether the value of an option is the name of a file.

@@ -301,9 +301,12 @@ function check_values(command) {
     if (("script" in given) && !is_number(given["script"], 65535)) refuse_option("script", "the number of a domain, below 65536")
   } else if (command == "explore") {
     if (("witness" in given) && given["witness"] != "all" && !is_number(given["witness"], 0)) refuse_option("witness", "a number or all")
+    if (("trace" in given) && !is_number(given["trace"], 0)) refuse_option("trace", "a number")
     if (("states" in given) && !is_number(given["states"], 0)) refuse_option("states", "a number")
-    if (("find" in given) + ("never" in given) + ("always" in given) + ("has" in given) + ("witness" in given) > 1)
-      refuse("only one of --find, --never, --always, --has and --witness can be given", plain)
+    if (!is_format() && given["format"] != "mermaid") refuse_option("format", "text, json or mermaid")
+    if (!is_format() && !("trace" in given)) refuse("--format mermaid is only for --trace", plain)
+    if (("find" in given) + ("never" in given) + ("always" in given) + ("has" in given) + ("witness" in given) + ("trace" in given) > 1)
+      refuse("only one of --find, --never, --always, --has, --witness and --trace can be given", plain)
   } else if (command == "check" && ("script" in given) && ("never" in given)) {
     refuse("only one of --script and --never can be given", plain)
   }
@@ -313,7 +316,7 @@ function check_values(command) {
     given["FILE"] = given["SOURCE"]
     place["FILE"] = place["SOURCE"]
   }
-  if (!is_format()) refuse_option("format", "text or json")
+  if (command != "explore" && !is_format()) refuse_option("format", "text or json")
 }
 
 function is_format() { return !("format" in given) || given["format"] == "text" || given["format"] == "json" }

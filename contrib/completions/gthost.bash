@@ -22,7 +22,9 @@ _gthost() {
     "explore --always") mapfile -t COMPREPLY < <(compgen -W "" -- "$word"); return ;;
     "explore --has") mapfile -t COMPREPLY < <(compgen -f -- "$word"); return ;;
     "explore --witness") mapfile -t COMPREPLY < <(compgen -W "N all" -- "$word"); return ;;
+    "explore --trace") mapfile -t COMPREPLY < <(compgen -W "" -- "$word"); return ;;
     "explore --states") mapfile -t COMPREPLY < <(compgen -W "" -- "$word"); return ;;
+    "explore --format") mapfile -t COMPREPLY < <(compgen -W "text json mermaid" -- "$word"); return ;;
     "policy --format") mapfile -t COMPREPLY < <(compgen -W "text json" -- "$word"); return ;;
     "check --never") mapfile -t COMPREPLY < <(compgen -f -- "$word"); return ;;
     "check --format") mapfile -t COMPREPLY < <(compgen -W "text json" -- "$word"); return ;;
@@ -33,7 +35,7 @@ _gthost() {
   case "${COMP_WORDS[1]}" in
     play) words="--audit --verbose -v --format --help" ;;
     run) words="--audit --verbose -v --format --help" ;;
-    explore) words="--verbose -v --find --never --always --has --witness --states --help" ;;
+    explore) words="--verbose -v --find --never --always --has --witness --trace --states --format --help" ;;
     policy) words="--verbose -v --format --help" ;;
     rules) words="--verbose -v --help" ;;
     check) words="--script --verbose -v --never --format --help" ;;

@@ -7,7 +7,7 @@
 #![tactic(auto)]
 
 use anyhow::bail;
-use gt_explore::{ExploreOptions, ExploreRequest, explore};
+use gt_explore::{ExploreFormat, ExploreOptions, ExploreRequest, explore};
 use gt_host::play;
 use std::alloc::Global;
 use std::fs;
@@ -29,6 +29,7 @@ fn explored(alloc: Global, script: &[u8], witness: Option<usize>) -> anyhow::Res
     let asked = ExploreOptions {
         request,
         states: LIMIT,
+        format: ExploreFormat::Text,
     };
     match explore(alloc, &asked, &mut reader, &mut out) {
         Ok(_) => Ok(out),

@@ -19,7 +19,7 @@ use Rattle.gt_commands.specs.Commands.{to_check_never, to_explain, to_explain_ea
 use Rattle.gt_commands.specs.Commands.{to_tell_entries, for_help, for_version, nothing, asked_by_plan, refusals}
 use Rattle.gt_commands.specs.Commands.{request_in_words, request_by, asked_of, asked_of_none, mode_of, read, usage_of}
 use Rattle.gt_commands.specs.Commands.{Sought}
-use Rattle.gt_commands.specs.Commands.{play_with, run_with, list_with, explore_by, explore_for, explore_with, check_with}
+use Rattle.gt_commands.specs.Commands.{play_with, run_with, list_with, explore_for, explore_with, check_with}
 use Rattle.gt_commands.specs.Commands.{why_with}
 use Rattle.gt_commands.specs.Commands.{entries_with}
 use Rattle.gt_commands.specs.Leading.{command_first, first_or, flag_behind, help_first, is_help, is_verbose}
@@ -39,6 +39,7 @@ use Rattle.gt_json_commands.specs.AsJson.{Promise}
 use Rattle.gt_program.specs.Formats.{CheckedAs, RanAs}
 use Rattle.gt_run.specs.declared.fault.RunFault.{RunFault}
 use Rattle.gt_program.specs.Obeying.{AnswersVerdict, IsSearched, Searches, Seeks, verdict_outcome}
+use Rattle.gt_program.specs.Formats.{explore_format}
 use Rattle.gt_explore_verdict.specs.declared.judging.Verdict.{Verdict}
 use Rattle.gt_explore_verdict.specs.declared.judging.Verdict.TheVariants.{Holds, Fails, Undecided}
 use Rattle.gt_explore.specs.declared.exploring.ExploreOptions.{ExploreOptions as Searched}
@@ -142,16 +143,18 @@ with_text None D bytes old new outcome is done = tt
 with_text (Some all) D bytes old new outcome is done = subst (λ (b : List ℕ). OrNothing (D b) old new outcome) is done
 
 -- a text was sought among those of a script
-seeks_given : (asked : Searched) (text : List ℕ) (states : ℕ) (input : List ℕ) (old new : Option (List ℕ)) (r : Ending) → IsGiven text asked.request → asked.states ≡ states
-    → Does (Searches asked) input old new r → Does (SeeksText text states) input old new r
-seeks_given asked text states input old new r given same (inl does) = inl (asked, given, same, does)
-seeks_given asked text states input old new r given same (inr unopened) = inr unopened
+seeks_given : (asked : Searched) (text : List ℕ) (format : Format) (states : ℕ) (input : List ℕ) (old new : Option (List ℕ)) (r : Ending) → IsGiven text asked.request
+    → asked.format ≡ explore_format format → asked.states ≡ states
+    → Does (Searches asked) input old new r → Does (SeeksText text format states) input old new r
+seeks_given asked text format states input old new r given form same (inl does) = inl (asked, given, form, same, does)
+seeks_given asked text format states input old new r given form same (inr unopened) = inr unopened
 
-pub found_so : (asked : Searched) (text : List ℕ) (states : ℕ) (known old new : Option (List ℕ)) (outcome : Outcome) → IsGiven text asked.request → asked.states ≡ states
-    → Works (Searches asked) Unknown known old new outcome → Works (SeeksText text states) Unknown known old new outcome
-found_so asked text states None old new outcome given same works = tt
-found_so asked text states (Some bytes) old new outcome given same (r, is, inl does) = (r, is, inl (seeks_given asked text states bytes old new r given same does))
-found_so asked text states (Some bytes) old new outcome given same (r, is, inr none) = (r, is, inr none)
+pub found_so : (asked : Searched) (text : List ℕ) (format : Format) (states : ℕ) (known old new : Option (List ℕ)) (outcome : Outcome) → IsGiven text asked.request
+    → asked.format ≡ explore_format format → asked.states ≡ states
+    → Works (Searches asked) Unknown known old new outcome → Works (SeeksText text format states) Unknown known old new outcome
+found_so asked text format states None old new outcome given form same works = tt
+found_so asked text format states (Some bytes) old new outcome given form same (r, is, inl does) = (r, is, inl (seeks_given asked text format states bytes old new r given form same does))
+found_so asked text format states (Some bytes) old new outcome given form same (r, is, inr none) = (r, is, inr none)
 
 -- what was asked for was done
 pub done : (request : Request) (file : List ℕ → Option (List ℕ)) (input old new : Option (List ℕ)) (p : Invocation) (outcome : Outcome) → asked_by_plan p ≡ request
@@ -169,8 +172,8 @@ wrong_one failed kind other old new outcome fits is memory help version =
 abbrev pub FailedFor : Request → Outcome → Type 0
 FailedFor (to_play audited verbose format name) failed = failed ≡ No
 FailedFor (to_run audited verbose format name) failed = failed ≡ No
-FailedFor (to_explore sought states name) failed = failed ≡ Unknown
-FailedFor (to_find_text given states name) failed = failed ≡ Unknown
+FailedFor (to_explore sought format states name) failed = failed ≡ Unknown
+FailedFor (to_find_text given format states name) failed = failed ≡ Unknown
 FailedFor (to_list verbose format name) failed = failed ≡ No
 FailedFor (to_tell_rules name) failed = failed ≡ Unknown
 FailedFor (to_check script format name more) failed = failed ≡ Unknown
@@ -208,9 +211,9 @@ out_of_memory : (request : Request) (failed : Outcome) (file : List ℕ → Opti
     → Obeys request file input old new outcome
 out_of_memory (to_play audited verbose format name) failed file input old new outcome for is kept = no_memory (Plays format audited) No (known_text file input name) old new outcome (is ∙ for) kept
 out_of_memory (to_run audited verbose format name) failed file input old new outcome for is kept = no_memory (RunsDomains format audited) No (known_text file input name) old new outcome (is ∙ for) kept
-out_of_memory (to_explore sought states name) failed file input old new outcome for is kept = no_memory (Seeks sought states) Unknown (known_text file input name) old new outcome (is ∙ for) kept
-out_of_memory (to_find_text given states name) failed file input old new outcome for is kept =
-    nothing_done (file given) (λ text. Works (SeeksText text states) Unknown (known_text file input name)) old new outcome (is ∙ for) kept
+out_of_memory (to_explore sought format states name) failed file input old new outcome for is kept = no_memory (Seeks sought format states) Unknown (known_text file input name) old new outcome (is ∙ for) kept
+out_of_memory (to_find_text given format states name) failed file input old new outcome for is kept =
+    nothing_done (file given) (λ text. Works (SeeksText text format states) Unknown (known_text file input name)) old new outcome (is ∙ for) kept
 out_of_memory (to_list verbose format name) failed file input old new outcome for is kept = no_memory (Lists format) No (known_text file input name) old new outcome (is ∙ for) kept
 out_of_memory (to_tell_rules name) failed file input old new outcome for is kept = inr (is ∙ for)
 out_of_memory (to_check script format name more) failed file input old new outcome for is kept =
@@ -243,20 +246,16 @@ module _ (failed : Outcome) where
   failed_list None verbose file is = inr is
   failed_list (Some f) verbose file is = is
 
-  failed_explore_for : (claim scripts : Option Sought) (given : Option (List ℕ)) (states : ℕ) (file : Option (List ℕ)) → failed ≡ Unknown → FailedFor (explore_for claim scripts given states file) failed
-  failed_explore_for None None None states file is = is
-  failed_explore_for (Some claim) None None states file is = is
-  failed_explore_for None (Some scripts) None states file is = is
-  failed_explore_for (Some claim) (Some scripts) None states file is = inl is
-  failed_explore_for None None (Some given) states file is = is
-  failed_explore_for (Some claim) scripts (Some given) states file is = inl is
-  failed_explore_for None (Some scripts) (Some given) states file is = inl is
+  failed_explore_for : (sought : Option Sought) (given : Option (List ℕ)) (f : Format) (states : ℕ) (file : Option (List ℕ)) → failed ≡ Unknown → FailedFor (explore_for sought given f states file) failed
+  failed_explore_for None None f states file is = is
+  failed_explore_for (Some sought) None f states file is = is
+  failed_explore_for None (Some given) f states file is = is
+  failed_explore_for (Some sought) (Some given) f states file is = inl is
 
-  failed_explore : (claim scripts : Option (Option Sought)) (given : Option (List ℕ)) (states : Option ℕ) (file : Option (List ℕ)) → failed ≡ Unknown → FailedFor (explore_with claim scripts given states file) failed
-  failed_explore None scripts given states file is = inl is
-  failed_explore (Some claim) None given states file is = inl is
-  failed_explore (Some claim) (Some scripts) given None file is = inl is
-  failed_explore (Some claim) (Some scripts) given (Some states) file is = failed_explore_for claim scripts given states file is
+  failed_explore : (sought : Option (Option Sought × Format)) (given : Option (List ℕ)) (states : Option ℕ) (file : Option (List ℕ)) → failed ≡ Unknown → FailedFor (explore_with sought given states file) failed
+  failed_explore None given states file is = inl is
+  failed_explore (Some sought) given None file is = inl is
+  failed_explore (Some sought) given (Some states) file is = failed_explore_for sought.0 given sought.1 states file is
 
   failed_check : (f : Option Format) (script : Bool) (never file : Option (List ℕ)) (more : List (Option (List ℕ))) → failed ≡ Unknown → FailedFor (check_with f script never file more) failed
   failed_check None script never file more is = inl is
@@ -281,7 +280,7 @@ module _ (failed : Outcome) where
   failed_read : (mode : Mode) (value : List ℕ → Option (List ℕ)) → failed ≡ failed_mode mode → FailedFor (read mode value) failed
   failed_read modes.Play value is = failed_play _ _ _ _ is
   failed_read modes.Run value is = failed_run _ _ _ _ is
-  failed_read modes.Explore value is = failed_explore _ _ _ _ _ is
+  failed_read modes.Explore value is = failed_explore _ _ _ _ is
   failed_read modes.Policy value is = failed_list _ _ _ is
   failed_read modes.Rules value is = is
   failed_read modes.Check value is = failed_check _ _ _ _ _ is
@@ -400,10 +399,10 @@ refused (to_play audited verbose format name) file input old new error failed ou
 refused (to_play audited verbose format name) file input old new error failed outcome for (inr none) fits = absurd none
 refused (to_run audited verbose format name) file input old new error failed outcome for (inl memory) fits = by_memory (to_run audited verbose format name) file input old new error failed outcome for memory fits
 refused (to_run audited verbose format name) file input old new error failed outcome for (inr none) fits = absurd none
-refused (to_explore sought states name) file input old new error failed outcome for (inl memory) fits = by_memory (to_explore sought states name) file input old new error failed outcome for memory fits
-refused (to_explore sought states name) file input old new error failed outcome for (inr none) fits = absurd none
-refused (to_find_text given states name) file input old new error failed outcome for (inl memory) fits = by_memory (to_find_text given states name) file input old new error failed outcome for memory fits
-refused (to_find_text given states name) file input old new error failed outcome for (inr none) fits = absurd none
+refused (to_explore sought format states name) file input old new error failed outcome for (inl memory) fits = by_memory (to_explore sought format states name) file input old new error failed outcome for memory fits
+refused (to_explore sought format states name) file input old new error failed outcome for (inr none) fits = absurd none
+refused (to_find_text given format states name) file input old new error failed outcome for (inl memory) fits = by_memory (to_find_text given format states name) file input old new error failed outcome for memory fits
+refused (to_find_text given format states name) file input old new error failed outcome for (inr none) fits = absurd none
 refused (to_list verbose format name) file input old new error failed outcome for (inl memory) fits = by_memory (to_list verbose format name) file input old new error failed outcome for memory fits
 refused (to_list verbose format name) file input old new error failed outcome for (inr none) fits = absurd none
 refused (to_tell_rules name) file input old new error failed outcome for (inl memory) fits = by_memory (to_tell_rules name) file input old new error failed outcome for memory fits
@@ -474,16 +473,16 @@ pub of_number : (version : ℕ) (hex every : Bool) (one script : Option ℕ) (fo
 of_number version hex every one script format known old new outcome is works = subst (λ (n : Option ℕ). Works (AnswersDump version hex every n format) Unknown known old new outcome) is works
 
 -- a script was explored as it was asked
-seeks_asked : (asked : Searched) (sought : Sought) (states : ℕ) (input : List ℕ) (old new : Option (List ℕ)) (r : Ending) → IsSearched sought states asked
-    → Does (Searches asked) input old new r → Does (Seeks sought states) input old new r
-seeks_asked asked sought states input old new r is (inl does) = inl (asked, is, does)
-seeks_asked asked sought states input old new r is (inr unopened) = inr unopened
+seeks_asked : (asked : Searched) (sought : Sought) (format : Format) (states : ℕ) (input : List ℕ) (old new : Option (List ℕ)) (r : Ending) → IsSearched sought format states asked
+    → Does (Searches asked) input old new r → Does (Seeks sought format states) input old new r
+seeks_asked asked sought format states input old new r is (inl does) = inl (asked, is, does)
+seeks_asked asked sought format states input old new r is (inr unopened) = inr unopened
 
-pub sought_so : (asked : Searched) (sought : Sought) (states : ℕ) (known old new : Option (List ℕ)) (outcome : Outcome) → IsSearched sought states asked
-    → Works (Searches asked) Unknown known old new outcome → Works (Seeks sought states) Unknown known old new outcome
-sought_so asked sought states None old new outcome asks works = tt
-sought_so asked sought states (Some bytes) old new outcome asks (r, is, inl does) = (r, is, inl (seeks_asked asked sought states bytes old new r asks does))
-sought_so asked sought states (Some bytes) old new outcome asks (r, is, inr none) = (r, is, inr none)
+pub sought_so : (asked : Searched) (sought : Sought) (format : Format) (states : ℕ) (known old new : Option (List ℕ)) (outcome : Outcome) → IsSearched sought format states asked
+    → Works (Searches asked) Unknown known old new outcome → Works (Seeks sought format states) Unknown known old new outcome
+sought_so asked sought format states None old new outcome asks works = tt
+sought_so asked sought format states (Some bytes) old new outcome asks (r, is, inl does) = (r, is, inl (seeks_asked asked sought format states bytes old new r asks does))
+sought_so asked sought format states (Some bytes) old new outcome asks (r, is, inr none) = (r, is, inr none)
 
 -- the work is the one that was asked for
 pub for_work : (known old new : Option (List ℕ)) (work other : Work) (r : Ending) → work ≡ other → OfInput known (λ input. Performs other input old new r) → OfInput known (λ input. Performs work input old new r)

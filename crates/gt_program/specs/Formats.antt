@@ -6,6 +6,8 @@ use Rattle.gt_checks.specs.Checking.{Checked}
 use Rattle.gt_checks.specs.Scripts.{CheckedScript}
 use Rattle.gt_json_commands.specs.AsJson.{Promise, ListedAsJson, PlayedAsJson, RanAsJson, ToldAsJson}
 use Rattle.gt_commands.specs.declared.invocation.Format.TheVariants.{Text, Json}
+use Rattle.gt_explore.specs.declared.exploring.ExploreFormat.{ExploreFormat}
+use Rattle.gt_explore.specs.declared.exploring.ExploreFormat.TheVariants as explored
 use Rattle.gt_entries.specs.Dumps.{Told}
 use Rattle.gt_entries.specs.declared.fault.DumpFault.{DumpFault}
 use Rattle.gt_host.specs.Playing.{Played}
@@ -36,6 +38,11 @@ Relays text (Ok done) old new (Ok sent) = Appends old new text
 Relays text (Ok done) old new (Err fault) = (fault ≡ runs.Play plays.Write) × AppendsBeginning old new text
 Relays text (Err why) old new (Ok sent) = ⊥
 Relays text (Err why) old new (Err fault) = ((fault ≡ runs.Play plays.Memory) ⊎ (fault ≡ why)) × Keeps old new
+
+-- the format of an exploration
+abbrev pub explore_format : Format → ExploreFormat
+explore_format Text = explored.Text
+explore_format Json = explored.Json
 
 -- the output of `policy`
 abbrev pub ListedAs : Format → List ℕ → Promise ListingFault

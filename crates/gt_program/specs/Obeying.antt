@@ -5,7 +5,7 @@ use Rattle.std.specs.Borrow.{Bor}
 use Rattle.gt_program.specs.Prelude.{Keeps, option_map, ErrorKind, DisplayHelp, DisplayVersion, OutOfMemory}
 use Rattle.gt_program.specs.Prelude.{perm_asked, source_asked, target_asked, WhyQuestion, Explained, why_fault_text, Request, to_play}
 use Rattle.gt_program.specs.Prelude.{to_explore, Explored, explore_fault_text, RunTells, Searched, ExploreRequest, Sought, all_texts, a_claim}
-use Rattle.gt_program.specs.Prelude.{one_script, all_scripts, Holds, Fails, Undecided, Verdict}
+use Rattle.gt_program.specs.Prelude.{one_script, one_trace, one_diagram, all_scripts, Holds, Fails, Undecided, Verdict}
 use Rattle.gt_program.specs.Prelude.{to_check_never, to_find_text, breach_fault_text, type_of, lines, words, CheckKind}
 use Rattle.gt_program.specs.Prelude.{CheckedNever, Appends, AppendsBeginning}
 use Rattle.gt_program.specs.declared.checking.CheckKind.TheVariants as checks
@@ -15,7 +15,7 @@ use Rattle.gt_program.specs.Prelude.{to_tell_entries, for_help}
 use Rattle.gt_program.specs.Prelude.{for_version, nothing, dump_fault_text, DumpOptions, read_word, play_fault_text}
 use Rattle.gt_program.specs.Prelude.{run_fault_text, listing_fault_text, Format, Failure, Mode, Outcome, Work}
 use Rattle.gt_program.specs.Prelude.{mode_of, No, Unknown, Yes}
-use Rattle.gt_program.specs.Formats.{CheckedAs, ListedAs, PlayedAs, RanAs, ToldAs}
+use Rattle.gt_program.specs.Formats.{CheckedAs, ListedAs, PlayedAs, RanAs, ToldAs, explore_format}
 use Rattle.gt_program.specs.declared.failure.Failure.TheVariants as failures
 use Rattle.gt_program.specs.declared.commands.Work.TheVariants as works
 use Rattle.gt_commands.specs.declared.invocation.Mode.TheVariants as modes
@@ -251,10 +251,13 @@ IsRequestFor sought (requests.Decide claim expression) = sought ≡ a_claim clai
 IsRequestFor sought (requests.Has given) = ⊥
 IsRequestFor sought (requests.Witness number) = sought ≡ one_script number
 IsRequestFor sought requests.Witnesses = sought ≡ all_scripts
+IsRequestFor sought (requests.Trace number) = sought ≡ one_trace number
+IsRequestFor sought (requests.Diagram number) = sought ≡ one_diagram number
 
 -- the options for the texts of a script
-abbrev pub IsSearched : Sought → ℕ → Searched → Type 0
-IsSearched sought states asked = IsRequestFor sought asked.request × (asked.states ≡ states)
+abbrev pub IsSearched : Sought → Format → ℕ → Searched → Type 0
+IsSearched sought format states asked =
+    IsRequestFor sought asked.request × (asked.format ≡ explore_format format) × (asked.states ≡ states)
 
 -- a question of these names is answered
 abbrev pub AnswersQuestion : List ℕ → Option (List ℕ) → Option (List ℕ) → Option (List ℕ) → Doing
@@ -267,9 +270,9 @@ AnswersDump version hex every script format input old new r =
     (asked : DumpOptions) × IsAsked version hex every script asked × AnswersEntries format asked input old new r
 
 -- a script is explored with these options
-abbrev pub Seeks : Sought → ℕ → Doing
-Seeks sought states input old new r =
-    (asked : Searched) × IsSearched sought states asked × Searches asked input old new r
+abbrev pub Seeks : Sought → Format → ℕ → Doing
+Seeks sought format states input old new r =
+    (asked : Searched) × IsSearched sought format states asked × Searches asked input old new r
 
 -- the worse of two outcomes
 abbrev pub worse : Outcome → Outcome → Outcome
@@ -317,16 +320,19 @@ IsGiven text (requests.Decide claim expression) = ⊥
 IsGiven text (requests.Has given) = given.now ≡ text
 IsGiven text (requests.Witness number) = ⊥
 IsGiven text requests.Witnesses = ⊥
+IsGiven text (requests.Trace number) = ⊥
+IsGiven text (requests.Diagram number) = ⊥
 
 -- a text is sought among those of a script, up to so many states
-abbrev pub SeeksText : List ℕ → ℕ → Doing
-SeeksText text states input old new r =
-    (asked : Searched) × IsGiven text asked.request × (asked.states ≡ states) × Searches asked input old new r
+abbrev pub SeeksText : List ℕ → Format → ℕ → Doing
+SeeksText text format states input old new r =
+    (asked : Searched) × IsGiven text asked.request × (asked.format ≡ explore_format format) × (asked.states ≡ states)
+    × Searches asked input old new r
 
 -- the text of a file is sought among those of a script
-abbrev pub FindsText : List ℕ → ℕ → (List ℕ → Option (List ℕ)) → Option (List ℕ) → Option (List ℕ) → Deed
-FindsText given states file input name =
-    WithFile (file given) (λ text. Works (SeeksText text states) Unknown (known_text file input name))
+abbrev pub FindsText : List ℕ → Format → ℕ → (List ℕ → Option (List ℕ)) → Option (List ℕ) → Option (List ℕ) → Deed
+FindsText given format states file input name =
+    WithFile (file given) (λ text. Works (SeeksText text format states) Unknown (known_text file input name))
 
 -- ---- questions, one on each line of the standard input
 
@@ -375,10 +381,10 @@ Obeys (to_play audited verbose format name) file input old new outcome =
     Works (Plays format audited) No (known_text file input name) old new outcome
 Obeys (to_run audited verbose format name) file input old new outcome =
     Works (RunsDomains format audited) No (known_text file input name) old new outcome
-Obeys (to_explore sought states name) file input old new outcome =
-    Works (Seeks sought states) Unknown (known_text file input name) old new outcome
-Obeys (to_find_text given states name) file input old new outcome =
-    FindsText given states file input name old new outcome
+Obeys (to_explore sought format states name) file input old new outcome =
+    Works (Seeks sought format states) Unknown (known_text file input name) old new outcome
+Obeys (to_find_text given format states name) file input old new outcome =
+    FindsText given format states file input name old new outcome
 Obeys (to_list verbose format name) file input old new outcome =
     Works (Lists format) No (known_text file input name) old new outcome
 Obeys (to_tell_rules name) file input old new outcome = (outcome ≡ Yes) ⊎ (outcome ≡ Unknown)

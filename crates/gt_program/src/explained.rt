@@ -2,7 +2,7 @@
 ghost use Rattle.gt_text.specs.Streams.{OfInput};
 ghost use Rattle.gt_checks.specs.Breaking.{CheckedNever};
 ghost use Rattle.gt_checks.specs.Explaining.{Explained};
-ghost use Rattle.gt_explore.specs.Exploring.{Explored};
+ghost use Rattle.gt_explore.specs.Writing.{Explored};
 ghost use Rattle.gt_script.specs.RunScripts.{RunTells};
 ghost use Rattle.gt_program.specs.Formats.{CheckedAs, ListedAs, ToldAs};
 

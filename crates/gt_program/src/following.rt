@@ -7,6 +7,7 @@ ghost use Rattle.gt_program.specs.Obeying.{Works, shown_name};
 
 use crate::checking::{check_files, check_never_files};
 use crate::commands::{Context, Work, run_asked, work_asked};
+use crate::formats::explore_format;
 use crate::given::find_text;
 use crate::obeying::shown_name;
 use crate::outcome::Outcome;
@@ -14,7 +15,7 @@ use crate::questions::answer_each;
 use crate::reasons::Reasons;
 use crate::rules::tell_rules;
 use crate::texts::TextSource;
-use gt_commands::{EntriesOptions, Exploration, Format, Invocation, ScriptOptions};
+use gt_commands::{EntriesOptions, Exploration, Format, Invocation, ScriptOptions, SearchOptions};
 use gt_entries::DumpOptions;
 use gt_explore::{ExploreOptions, ExploreRequest};
 use gt_policy_check::WhyQuestion;
@@ -42,6 +43,8 @@ fn request_of<'w>(asked: Exploration<'w>) -> ExploreRequest<'w>
         Exploration::Decide { claim, expression } => ExploreRequest::Decide { claim, expression },
         Exploration::Witness(number) => ExploreRequest::Witness(number),
         Exploration::Witnesses => ExploreRequest::Witnesses,
+        Exploration::Trace(number) => ExploreRequest::Trace(number),
+        Exploration::Diagram(number) => ExploreRequest::Diagram(number),
     }
 }
 
@@ -49,18 +52,20 @@ fn request_of<'w>(asked: Exploration<'w>) -> ExploreRequest<'w>
 fn explore<'a, R, T: TextSource, W: Write, E: Eprint>(
     context: &Context<R, T, E>,
     asked: Exploration<'a>,
-    states: usize,
-    file: Option<&'a str>,
+    options: SearchOptions<'a>,
     out: &mut W,
     reasons: &mut Reasons<'a>,
 ) -> Outcome
-    ensures { Works (Seeks (sought_told asked.entry) states) Outcome.Unknown
-        (known_input (T.file context.now.texts.now) (T.input context.now.texts.now) file.entry)
+    ensures { Works (Seeks (sought_told asked.entry) options.entry.format options.entry.states) Outcome.Unknown
+        (known_input (T.file context.now.texts.now) (T.input context.now.texts.now) options.entry.file)
         (W.contents out.old) (W.contents out.new) result }
 {
-    let request = request_of(asked);
-    let asked = ExploreOptions { request, states };
-    work_asked(context, Work::Explore { asked }, file, out, reasons)
+    let asked = ExploreOptions {
+        request: request_of(asked),
+        states: options.states,
+        format: explore_format(options.format),
+    };
+    work_asked(context, Work::Explore { asked }, options.file, out, reasons)
 }
 
 // Answers a question.
@@ -139,16 +144,10 @@ pub(crate) fn follow<'a, R: Threads + Wait + Sync, T: TextSource, W: Write, E: E
     match invocation {
         Invocation::Play(options) => play(context, options, out, reasons),
         Invocation::Run(options) => run_asked(context, options, out, reasons),
-        Invocation::Explore {
-            asked,
-            states,
-            file,
-        } => explore(context, asked, states, file, out, reasons),
-        Invocation::ExploreHas {
-            given,
-            states,
-            file,
-        } => find_text(context, given, states, file, out, reasons),
+        Invocation::Explore { asked, options } => explore(context, asked, options, out, reasons),
+        Invocation::ExploreHas { given, options } => {
+            find_text(context, given, options, out, reasons)
+        }
         Invocation::Policy { format, file, .. } => {
             work_asked(context, Work::List { format }, file, out, reasons)
         }

@@ -1,13 +1,14 @@
 //! Commands in the two formats of their output.
-ghost use Rattle.std.specs.Prelude.{is_some};
+ghost use Rattle.std.specs.Prelude.{◌≡◌, is_some};
 ghost use Rattle.gt_text.specs.Streams.{OfInput};
-ghost use Rattle.gt_program.specs.Formats.{CheckedAs, ListedAs, PlayedAs, RanAs, ToldAs};
+ghost use Rattle.gt_program.specs.Formats.{CheckedAs, ListedAs, PlayedAs, RanAs, ToldAs, explore_format};
 
 use crate::checking::ReportSettings;
 use gt_audit::SharedLog;
 use gt_checks::{check, check_script};
 use gt_commands::Format;
 use gt_entries::{DumpFault, DumpOptions, entries};
+use gt_explore::ExploreFormat;
 use gt_host::{PlayFault, play};
 use gt_json_commands::{entries_json, play_json, policy_json, run_json};
 use gt_order::run;
@@ -71,6 +72,16 @@ pub(crate) fn run_as<R: Threads + Wait + Sync, I: Read, W: Write, G: Gate + Sync
             settings.log,
             settings.gate,
         ),
+    }
+}
+
+/// Returns the format of an exploration.
+pub(crate) fn explore_format(format: Format) -> ExploreFormat
+    ensures { result ≡ explore_format format }
+{
+    match format {
+        Format::Text => ExploreFormat::Text,
+        Format::Json => ExploreFormat::Json,
     }
 }
 

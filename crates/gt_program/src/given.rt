@@ -7,9 +7,11 @@ ghost use Rattle.gt_program.specs.declared.outcome.Outcome.TheVariants.{Unknown}
 use crate::commands::{Context, Work, fail, work_asked};
 use crate::copying::CopyingReader;
 use crate::failure::Failure;
+use crate::formats::explore_format;
 use crate::outcome::Outcome;
 use crate::reasons::Reasons;
 use crate::texts::{TextSource, read_fault};
+use gt_commands::SearchOptions;
 use gt_explore::{ExploreOptions, ExploreRequest};
 use gt_text::{ReadFault, read_text};
 use gt_types::LONGEST_TEXT;
@@ -91,35 +93,37 @@ pub(crate) fn read_given<'a, R, T: TextSource, E: Eprint>(
 fn find_bytes<'a, R, T: TextSource, W: Write, E: Eprint>(
     context: &Context<R, T, E>,
     text: &[u8],
-    states: usize,
-    file: Option<&'a str>,
+    options: SearchOptions<'a>,
     out: &mut W,
     reasons: &mut Reasons<'a>,
 ) -> Outcome
-    ensures { Works (SeeksText text.now states) Unknown
-        (known_input (T.file context.now.texts.now) (T.input context.now.texts.now) file.entry)
+    ensures { Works (SeeksText text.now options.entry.format options.entry.states) Unknown
+        (known_input (T.file context.now.texts.now) (T.input context.now.texts.now) options.entry.file)
         (W.contents out.old) (W.contents out.new) result }
 {
-    let request = ExploreRequest::Has(text);
-    let asked = ExploreOptions { request, states };
-    reasons.begin(file);
-    work_asked(context, Work::Explore { asked }, file, out, reasons)
+    let asked = ExploreOptions {
+        request: ExploreRequest::Has(text),
+        states: options.states,
+        format: explore_format(options.format),
+    };
+    reasons.begin(options.file);
+    work_asked(context, Work::Explore { asked }, options.file, out, reasons)
 }
 
 /// Decides whether the text of a file is one of those of a script.
 pub(crate) fn find_text<'a, R, T: TextSource, W: Write, E: Eprint>(
     context: &Context<R, T, E>,
     given: &'a str,
-    states: usize,
-    file: Option<&'a str>,
+    options: SearchOptions<'a>,
     out: &mut W,
     reasons: &mut Reasons<'a>,
 ) -> Outcome
-    ensures { FindsText given.entry.now states (T.file context.now.texts.now) (T.input context.now.texts.now)
-        (option_map (λ f. f.now) file.entry) (W.contents out.old) (W.contents out.new) result }
+    ensures { FindsText given.entry.now options.entry.format options.entry.states (T.file context.now.texts.now)
+        (T.input context.now.texts.now) (option_map (λ f. f.now) options.entry.file)
+        (W.contents out.old) (W.contents out.new) result }
 {
     match read_given(context, given, reasons) {
-        Some(text) => find_bytes(context, text.as_slice(), states, file, out, reasons),
+        Some(text) => find_bytes(context, text.as_slice(), options, out, reasons),
         None => Outcome::Unknown,
     }
 }

@@ -1,5 +1,5 @@
 use Rattle.std.proofs.Common.{ℕ, List}
-use Rattle.gt_explore.specs.Exploring.{Explored}
+use Rattle.gt_explore.specs.Writing.{Explored}
 use Rattle.gt_script.specs.RunScripts.{RunTells}
 use Rattle.gt_checks.specs.Explaining.{Explained}
 use Rattle.gt_program.proofs.Obeyed.{answered_input, for_work, verdict_input}

@@ -6,5 +6,5 @@ use Rattle.gt_program.proofs.given.find_bytes.Goals as goal
 
 pub returns : goal.returns
 returns g c =
-    let asked : ExploreOptions = record { request = requests.Has c.args.text; states = c.args.states } in
-    found_so asked c.args.text.now c.args.states _ _ _ _ refl refl c.work_asked.ensures
+    let asked : ExploreOptions = record { request = requests.Has c.args.text; states = c.args.options.states; format = c.explore_format.result } in
+    found_so asked c.args.text.now c.args.options.format c.args.options.states _ _ _ _ refl c.explore_format.ensures refl c.work_asked.ensures
