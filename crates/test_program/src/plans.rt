@@ -1,7 +1,8 @@
 //! Command lines, and their plans.
 use crate::words::words_of;
 use gt_commands::{
-    CheckedFiles, EntriesOptions, Exploration, Format, Invocation, MoreFiles, ScriptOptions, plan,
+    CheckedFiles, EntriesOptions, Exploration, Format, Invocation, MoreFiles, ScriptOptions,
+    SearchOptions, plan,
 };
 use gt_explore_verdict::Claim;
 use std::test::Fail;
@@ -25,6 +26,12 @@ const PLAIN: ScriptOptions<'static> = ScriptOptions {
     file: None,
 };
 
+const SEARCH: SearchOptions<'static> = SearchOptions {
+    states: 100_000,
+    format: Format::Text,
+    file: None,
+};
+
 const FILES: CheckedFiles<'static> = CheckedFiles {
     format: Format::Text,
     file: None,
@@ -38,7 +45,7 @@ const DUMP: EntriesOptions = EntriesOptions {
     script: None,
 };
 
-const PLANS: [(&str, Invocation<'static>); 41] = [
+const PLANS: [(&str, Invocation<'static>); 43] = [
     ("gthost play", Invocation::Play(PLAIN)),
     (
         "gthost play first.gt",
@@ -319,8 +326,7 @@ const PLANS: [(&str, Invocation<'static>); 41] = [
         "gthost explore",
         Invocation::Explore {
             asked: Exploration::Texts,
-            states: 100_000,
-            file: None,
+            options: SEARCH,
         },
     ),
     (
@@ -330,8 +336,11 @@ const PLANS: [(&str, Invocation<'static>); 41] = [
                 claim: Claim::Find,
                 expression: "N18",
             },
-            states: 500,
-            file: Some("a.gt"),
+            options: SearchOptions {
+                states: 500,
+                file: Some("a.gt"),
+                ..SEARCH
+            },
         },
     ),
     (
@@ -341,16 +350,20 @@ const PLANS: [(&str, Invocation<'static>); 41] = [
                 claim: Claim::Never,
                 expression: "12=N19",
             },
-            states: 100_000,
-            file: Some("a.gt"),
+            options: SearchOptions {
+                file: Some("a.gt"),
+                ..SEARCH
+            },
         },
     ),
     (
         "gthost explore --has seen.text --states 9",
         Invocation::ExploreHas {
             given: "seen.text",
-            states: 9,
-            file: None,
+            options: SearchOptions {
+                states: 9,
+                ..SEARCH
+            },
         },
     ),
     (
@@ -367,16 +380,38 @@ const PLANS: [(&str, Invocation<'static>); 41] = [
         "gthost explore a.gt --witness=3",
         Invocation::Explore {
             asked: Exploration::Witness(3),
-            states: 100_000,
-            file: Some("a.gt"),
+            options: SearchOptions {
+                file: Some("a.gt"),
+                ..SEARCH
+            },
         },
     ),
     (
         "gthost explore --states=18446744073709551615 --witness +0",
         Invocation::Explore {
             asked: Exploration::Witness(0),
-            states: usize::MAX,
-            file: None,
+            options: SearchOptions {
+                states: usize::MAX,
+                ..SEARCH
+            },
+        },
+    ),
+    (
+        "gthost explore --trace 2 --format json a.gt",
+        Invocation::Explore {
+            asked: Exploration::Trace(2),
+            options: SearchOptions {
+                format: Format::Json,
+                file: Some("a.gt"),
+                ..SEARCH
+            },
+        },
+    ),
+    (
+        "gthost explore --format=mermaid --trace=1",
+        Invocation::Explore {
+            asked: Exploration::Diagram(1),
+            options: SEARCH,
         },
     ),
 ];
@@ -395,7 +430,7 @@ fn a_line_is_planned_as_it_asks(rt: HostRuntime) -> Result<(), Fail> {
 }
 
 // Lines without a plan, and whether they are faults.
-const REFUSED: [(&str, bool); 54] = [
+const REFUSED: [(&str, bool); 58] = [
     ("gthost --help", false),
     ("gthost --version", false),
     ("gthost -h", false),
@@ -447,6 +482,10 @@ const REFUSED: [(&str, bool); 54] = [
     ("gthost explore --find N19 --witness 1", true),
     ("gthost explore --witness one", true),
     ("gthost explore --witness=-1", true),
+    ("gthost explore --trace one", true),
+    ("gthost explore --trace 1 --witness 1", true),
+    ("gthost explore --trace 1 --format xml", true),
+    ("gthost explore --witness 1 --format mermaid", true),
     ("gthost explore --states", true),
     ("gthost explore --states 1e5", true),
     ("gthost explore --states 18446744073709551616", true),
