@@ -88,10 +88,7 @@ const PROBED: [Row; 5] = [
         Steps(PEER, Probe(copy!(OWNER_0, FRAME_3, 4, SOURCE))),
         "H 1 5; C 1 0 100020000001; B 1 0 First 5; P 1 0 Read taken; U 1 0 Read -; ok",
     ),
-    (
-        Do(PEER, Probe(copy!(FRAME_0, FRAME_3, 4, NONE))),
-        "ok",
-    ),
+    (Do(PEER, Probe(copy!(FRAME_0, FRAME_3, 4, NONE))), "ok"),
     (Do(PEER, peek!(3, 0, 4)), "ok [0, 0, 0, 0]"),
     (Do(OWNER, REVOKE), "ok"),
 ];
