@@ -53,6 +53,22 @@ const APART: u32 = 64;
 /// The same if they are neighbours.
 const ADJACENT: u32 = 1;
 
+/// The seats of a run: those of the owner and of the middle, and those of the domains that map or do nothing.
+#[derive(Drop)]
+pub struct Seats {
+    pub owner: Seat,
+    pub middle: Seat,
+    pub others: Vec<Seat>,
+}
+
+/// The work of a run, the number of its threads, and how many rounds each makes.
+#[derive(Clone, Copy)]
+pub struct Plan {
+    pub load: Load,
+    pub threads: usize,
+    pub rounds: u32,
+}
+
 const UNUSED: Row = Row {
     entry: Entry::Invalid,
     generation: 0,
@@ -122,22 +138,27 @@ fn seats_of(alloc: Global, config: &Config) -> Result<(Words, Seat, Seat, Vec<Se
 }
 
 // Starts a run of this number of domains.
-fn start(alloc: Global, count: u16) -> Result<(Words, Seat, Seat, Vec<Seat>)>
+fn start(alloc: Global, count: u16) -> Result<(Words, Seats)>
     ensures domains { IfOk result (λ r. HasDomain r.0.layout OWNER × HasDomain r.0.layout MIDDLE) }
-    ensures owner { IfOk result (λ r. IsSeatOf r.0 r.1 × IsUnusedFrom 0 r.1.view) }
-    ensures own { IfOk result (λ r. OWNER ≡ r.1.dom) }
-    ensures middle { IfOk result (λ r. IsSeatOf r.0 r.2 × IsUnusedFrom 0 r.2.view) }
-    ensures others { IfOk result (λ r. All (λ s. IsSeatOf r.0 s) r.3.items) }
+    ensures owner { IfOk result (λ r. IsSeatOf r.0 r.1.owner × IsUnusedFrom 0 r.1.owner.view) }
+    ensures own { IfOk result (λ r. OWNER ≡ r.1.owner.dom) }
+    ensures middle { IfOk result (λ r. IsSeatOf r.0 r.1.middle × IsUnusedFrom 0 r.1.middle.view) }
+    ensures others { IfOk result (λ r. All (λ s. IsSeatOf r.0 s) r.1.others.items) }
 {
     let config = run_domains(alloc, count)?;
     if !has_domain(alloc, &config, OWNER)? || !has_domain(alloc, &config, MIDDLE)? {
         bail!("no owner, or no middle");
     }
-    let (words, owner, middle, seats) = seats_of(alloc, &config)?;
+    let (words, owner, middle, others) = seats_of(alloc, &config)?;
     if owner.dom() != OWNER {
         bail!("the first domain is not the owner");
     }
-    Ok((words, owner, middle, seats))
+    let seats = Seats {
+        owner,
+        middle,
+        others,
+    };
+    Ok((words, seats))
 }
 
 // Returns the transitive entry that leads to the shared one.
@@ -271,48 +292,108 @@ fn take_back_and_grant(words: &Words, owner: Seat, row: Row, load: Load, rounds:
     }
 }
 
+// Lets the owner and the mappers of the shared entry do their parts of the load at the same time.
+fn map_beside_owner<R: Threads + Sync>(
+    rt: &R,
+    words: &Words,
+    owner: Seat,
+    row: Row,
+    plan: Plan,
+    mappers: Vec<Mapper>,
+) -> Result<u64, AllocError>
+    requires seat { IsSeatOf words.now owner }
+    requires own { (OWNER ≡ owner.dom) × HasDomain words.now.layout OWNER }
+    requires row { last_of SHARED.0 owner.view ≡ record { generation = row.generation; entry = row.entry } }
+    requires mappers { All (λ m. CanMap words.now m.seat m.target) mappers.items }
+{
+    let (granted, mapped) = join(
+        rt,
+        || -> u32
+            requires seat { IsSeatOf words.now owner }
+            requires own { (OWNER ≡ owner.dom) × HasDomain words.now.layout OWNER }
+            requires row { last_of SHARED.0 owner.view ≡ record { generation = row.generation; entry = row.entry } }
+        { take_back_and_grant(words, owner, row, plan.load, plan.rounds) },
+        || -> Result<u64, AllocError>
+            requires { All (λ m. CanMap words.now m.seat m.target) mappers.items }
+        { map_in_threads(rt, words, mappers, plan.rounds) },
+    );
+    Ok(mapped?.saturating_add(u64::from(granted)))
+}
+
+// Each thread maps an entry of its own, at this distance from the next one.
+fn run_apart<R: Threads + Sync>(
+    rt: &R,
+    alloc: Global,
+    words: &Words,
+    seats: Seats,
+    plan: Plan,
+    stride: u32,
+) -> Result<u64, AllocError>
+    requires domain { HasDomain words.now.layout OWNER }
+    requires owner { IsSeatOf words.now seats.owner × IsUnusedFrom 0 seats.owner.view }
+    requires others { All (λ s. IsSeatOf words.now s) seats.others.items }
+    requires stride { (0 < stride) × (stride < 256) }
+{
+    let mappers = grant_each(
+        alloc,
+        words,
+        seats.owner,
+        seats.others,
+        plan.threads,
+        stride,
+    )?;
+    map_in_threads(rt, words, mappers, plan.rounds)
+}
+
+// Threads map one entry, which the owner may take back and grant again beside them.
+fn run_shared<R: Threads + Sync>(
+    rt: &R,
+    alloc: Global,
+    words: &Words,
+    seats: Seats,
+    plan: Plan,
+) -> Result<u64>
+    requires domains { HasDomain words.now.layout OWNER × HasDomain words.now.layout MIDDLE }
+    requires owner { IsSeatOf words.now seats.owner × IsUnusedFrom 0 seats.owner.view }
+    requires own { OWNER ≡ seats.owner.dom }
+    requires middle { IsSeatOf words.now seats.middle × IsUnusedFrom 0 seats.middle.view }
+    requires others { All (λ s. IsSeatOf words.now s) seats.others.items }
+{
+    let Seats {
+        mut owner,
+        middle,
+        others,
+    } = seats;
+    let mut row = UNUSED;
+    if !publish(words, &mut owner, SHARED, &mut row, page(MIDDLE)) {
+        bail!("the shared entry can't be granted");
+    }
+    if plan.load == Load::One {
+        let mappers = pass_on(alloc, words, middle, others, plan.threads)?;
+        return Ok(map_in_threads(rt, words, mappers, plan.rounds)?);
+    }
+    let mappers = pass_on(alloc, words, middle, others, plan.threads.saturating_sub(1))?;
+    Ok(map_beside_owner(rt, words, owner, row, plan, mappers)?)
+}
+
 /// Runs a load in this number of threads of a run of this number of domains, with this number of rounds per thread.
 /// Returns the number of rounds of all threads.
 pub(crate) fn run<R: Threads + Sync>(
     rt: &R,
     alloc: Global,
-    load: Load,
-    threads: usize,
-    rounds: u32,
+    plan: Plan,
     domains: u16,
 ) -> Result<u64> {
-    if threads == 0 || threads > MOST {
+    if plan.threads == 0 || plan.threads > MOST {
         bail!("threads: 1 to {MOST}");
     }
     if domains < FEWEST {
         bail!("domains: {FEWEST} at least");
     }
-    let (words, mut owner, middle, seats) = start(alloc, domains)?;
-    let shared = &words;
-    if load == Load::Apart || load == Load::Adjacent {
-        let stride = if load == Load::Apart { APART } else { ADJACENT };
-        let mappers = grant_each(alloc, &words, owner, seats, threads, stride)?;
-        return Ok(map_in_threads(rt, &words, mappers, rounds)?);
+    let (words, seats) = start(alloc, domains)?;
+    match plan.load {
+        Load::Apart => Ok(run_apart(rt, alloc, &words, seats, plan, APART)?),
+        Load::Adjacent => Ok(run_apart(rt, alloc, &words, seats, plan, ADJACENT)?),
+        Load::One | Load::Grants | Load::Withdrawals => run_shared(rt, alloc, &words, seats, plan),
     }
-    let mut row = UNUSED;
-    if !publish(&words, &mut owner, SHARED, &mut row, page(MIDDLE)) {
-        bail!("the shared entry can't be granted");
-    }
-    if load == Load::One {
-        let mappers = pass_on(alloc, &words, middle, seats, threads)?;
-        return Ok(map_in_threads(rt, &words, mappers, rounds)?);
-    }
-    let mappers = pass_on(alloc, &words, middle, seats, threads - 1)?;
-    let (granted, mapped) = join(
-        rt,
-        || -> u32
-            requires seat { IsSeatOf shared.now owner }
-            requires own { (OWNER ≡ owner.dom) × HasDomain shared.now.layout OWNER }
-            requires row { last_of SHARED.0 owner.view ≡ record { generation = row.generation; entry = row.entry } }
-        { take_back_and_grant(shared, owner, row, load, rounds) },
-        || -> Result<u64, AllocError>
-            requires { All (λ m. CanMap shared.now m.seat m.target) mappers.items }
-        { map_in_threads(rt, shared, mappers, rounds) },
-    );
-    Ok(mapped?.saturating_add(u64::from(granted)))
 }

@@ -15,7 +15,7 @@ mod loads;
 mod mapper;
 mod owner;
 
-use crate::loads::{FEWEST, Load, run};
+use crate::loads::{FEWEST, Load, Plan, run};
 use anyhow::{Result, bail};
 use std::env;
 
@@ -45,7 +45,12 @@ fn main(rt: HostRuntime) -> Result<()> {
     };
     let threads = threads.as_str().parse::<usize>()?;
     let rounds = rounds.as_str().parse::<u32>()?;
-    let done = run(&rt, rt.alloc(), load, threads, rounds, domains)?;
+    let plan = Plan {
+        load,
+        threads,
+        rounds,
+    };
+    let done = run(&rt, rt.alloc(), plan, domains)?;
     println!(rt; "{} {threads} {done}", name.as_str())?;
     Ok(())
 }
