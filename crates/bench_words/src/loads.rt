@@ -320,7 +320,7 @@ fn map_beside_owner<R: Threads + Sync>(
     Ok(mapped?.saturating_add(u64::from(granted)))
 }
 
-// Each thread maps an entry of its own, at this distance from the next one.
+// Each thread maps its own entry, at this distance from the next one.
 fn run_apart<R: Threads + Sync>(
     rt: &R,
     alloc: Global,

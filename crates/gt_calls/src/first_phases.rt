@@ -217,7 +217,7 @@ pub(crate) fn by_routes(source: &AccessPath, dest: &AccessPath) -> CallPins
     }
 }
 
-// Releases the pins of a copy where it would make its access.
+// Skips the access of a copy: the pins are released next.
 pub(crate) fn pass_access(phase: &mut Phase)
     ensures { phase.new ≡ unaccessed phase.old }
 {

@@ -103,7 +103,7 @@ impl<P: Drop> PartIndex<P> {
     /// Returns copies of the parts with these numbers.
     ///
     /// # Errors
-    /// `Memory`, or `States` if there is no part with one of the numbers.
+    /// `Memory`, or `States` if a number has no part.
     pub fn copies<S: TransitionSystem<Part = P>>(
         &self,
         space: &S,

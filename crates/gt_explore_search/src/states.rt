@@ -38,7 +38,7 @@ impl<P: Drop> StateIndex<P> {
     /// Returns the state with this number.
     ///
     /// # Errors
-    /// `Memory`, or `States` if there is no such state.
+    /// `Memory`, or `States` if the number has no state.
     pub fn state<S: TransitionSystem<Part = P>>(
         &self,
         space: &S,

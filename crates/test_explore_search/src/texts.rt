@@ -41,7 +41,7 @@ fn one_state_less_is_too_few(rt: HostRuntime) -> Result<(), Fail> {
     Ok(())
 }
 
-// What a search finds that gives up at a number of states: so many texts, and so many states on the way to the last.
+// The limit of a search in states, how many texts it finds, and how many states were on the way to the last one.
 const WITHIN: [(usize, usize, usize); 5] = [(8, 6, 3), (7, 5, 2), (5, 2, 3), (4, 1, 5), (3, 0, 4)];
 
 // Within fewer states some of the six texts are found, and each that is found is one of them.
