@@ -152,30 +152,34 @@ fn plainly_asked(request: Request<'_>) -> OpenRequest
     }
 }
 
-/// Returns what the call keeps of a request.
-///
-/// # Errors
-///
-/// The answer at the beginning of the call, if it is answered there. It can be Ok.
+/// What the rules at the beginning of a call leave of it.
+pub enum Judged<T> {
+    /// No rule applies, and there is something left to do.
+    Open(T),
+    /// The call is answered at once, with Ok or by the first rule that applies.
+    Answered(CallResult),
+}
+
+/// Checks the rules at the beginning of a call. An open call keeps what is needed of its request.
 pub fn judge_request<P: Allows>(
     known: &CallerState<'_, P>,
     caller: DomId,
     request: Request<'_>,
-) -> Result<OpenRequest, CallResult>
+) -> Judged<OpenRequest>
     ensures judged { result ≡ judged_as (asked request.entry) (begun_of (knows P.may known.now) caller request.entry) }
     ensures said { begun_of (knows P.may known.now) caller request.entry ≡ None
         → SpellsItsEntry known.now.header request.entry }
 {
     if let Request::GrantBytes { gref, bytes } = request {
         return match judge_bytes(known.header, own_entry(known, gref), gref, bytes) {
-            Ok(entry) => Ok(OpenRequest::Grant { gref, entry }),
-            Err(denial) => Err(CallResult::Refused(denial)),
+            Ok(entry) => Judged::Open(OpenRequest::Grant { gref, entry }),
+            Err(denial) => Judged::Answered(CallResult::Refused(denial)),
         };
     }
     let asked = plainly_asked(request);
     match judge_beginning(known, caller, asked) {
-        Some(verdict) => Err(verdict),
-        None => Ok(asked),
+        Some(verdict) => Judged::Answered(verdict),
+        None => Judged::Open(asked),
     }
 }
 

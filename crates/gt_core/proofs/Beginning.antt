@@ -14,13 +14,14 @@ use Rattle.gt_core.proofs.Words.{FitsAsked, PhaseStands, OpenAgrees, CallAgrees,
 use Rattle.gt_core.proofs.Words.{StateAgrees, DomainsStand, OpensAs, numbered, misses, ◌^◌, SpellsItsEntry, first_phase, IsAt}
 use Rattle.gt_core.proofs.Words.{pins_by_call, steps_to_come, asks_memory, WantsMemory, IsOpenCall, answer_of}
 use Rattle.gt_core.proofs.Words.{cond_both}
-use Rattle.gt_core.proofs.Words.{StartOpen, Ok}
+use Rattle.gt_core.proofs.Words.{StartOpen}
 use Rattle.gt_core.{specs.Standing.IsMapping, proofs.AgreementKept.KeepsEntries, proofs.AgreementKept.known-same}
 use Rattle.gt_core.{proofs.AgreementKept.open_call-own, proofs.AgreementKept.stood-own, proofs.AgreementKept.given-none}
 use Rattle.gt_core.{proofs.AgreementKept.quiet-stands, proofs.Steps.Observers.KeepsKnown}
 use Rattle.gt_core.{proofs.Steps.Observers.kept-known}
 use Rattle.gt_core.{proofs.Steps.Observers.kept-legs, proofs.Rows.has_id, proofs.Rows.found, proofs.Rows.not-found}
 use Rattle.gt_core.{proofs.Rows.state_of-set}
+use Rattle.gt_calls.specs.declared.asking.Judged.TheVariants as judgeds
 use Rattle.gt_calls.specs.declared.request.Request.TheVariants as requests
 
 -- beginnings
@@ -194,13 +195,13 @@ begin-answers s h domains dom at x request v y e p here idle op st = let a = agr
 
 pub begin-opened : (s : Setting) (h : History) (domains : List State) (dom : DomId) (at : ℕ) (x : State) (request : Request) (o : OpenCall)
     → FitsAsked o.call.request → position (has_id dom.0) domains ≡ Some at → x ≡ get_or domains at x → is_some x.underway ≡ false
-    → OpensAs (knowledge_of s.domains s.first_generation s.may x.own x.header x.mappings) dom request (Ok o) → DomainsStand s h domains
+    → OpensAs (knowledge_of s.domains s.first_generation s.may x.own x.header x.mappings) dom request (judgeds.Open o) → DomainsStand s h domains
     → (domain_of s.domains dom ≢ None) × IsRight s h (began dom request None) × DomainsStand s (began dom request None ∷ h) (set domains at (with_open_call o (kept_by o.call.request (bytes_given_by request)) x))
 begin-opened s h domains dom at x request o fits p here idle op st =
     let a = agrees-found s h domains dom at x p here st in
     let f = found domains dom.0 at x p ∙ ap (λ (y : State). Some y) (sym here) in
     let places = position-Some (has_id dom.0) domains at x p in
-    let both = subst (λ (d : DomId). OpensAs (knowledge_of s.domains s.first_generation s.may x.own x.header x.mappings) d request (Ok o) → state_of domains d.0 ≡ Some x
+    let both = subst (λ (d : DomId). OpensAs (knowledge_of s.domains s.first_generation s.may x.own x.header x.mappings) d request (judgeds.Open o) → state_of domains d.0 ≡ Some x
     → ((k : ℕ) → k < at → has_id d.0 (get_or domains k x) ≡ false)
     → IsRight s h (began d request None) × DomainsStand s (began d request None ∷ h) (set domains at (with_open_call o (kept_by o.call.request (bytes_given_by request)) x))) a.1
     (λ op g apart. let b = begin-opens s h x request o fits a.2 (closed-from x.underway idle) op in (
@@ -221,7 +222,7 @@ tick-idle s h domains dom at x p here closed st = let a = agrees-found s h domai
 -- a beginning that may fail with Memory
 pub begin-wants : (s : Setting) (h : History) (domains : List State) (dom : DomId) (at : ℕ) (x : State) (request : Request) (o : OpenCall)
     → asks_memory o.call.request ≡ true → position (has_id dom.0) domains ≡ Some at → x ≡ get_or domains at x → is_some x.underway ≡ false
-    → OpensAs (knowledge_of s.domains s.first_generation s.may x.own x.header x.mappings) dom request (Ok o) → DomainsStand s h domains → WantsMemory s h dom request
+    → OpensAs (knowledge_of s.domains s.first_generation s.may x.own x.header x.mappings) dom request (judgeds.Open o) → DomainsStand s h domains → WantsMemory s h dom request
 begin-wants s h domains dom at x request o asks p here idle op st =
     let a = agrees-found s h domains dom at x p here st in (
       ap asks_memory (sym op.asks) ∙ asks,

@@ -1,6 +1,5 @@
 -- What a core does when it begins a call or makes its next step, and when it may fail with Memory.
-use Rattle.std.specs.Prelude.{◌≡◌, ◌≢◌, ◌≤◌, ℕ, Bool, true, List, [], Option, Some, None, Result}
-use Rattle.std.specs.Prelude.{Ok, Err}
+use Rattle.std.specs.Prelude.{◌≡◌, ◌≢◌, ◌≤◌, ℕ, Bool, true, List, [], Option, Some, None}
 use Rattle.gt_core.specs.Prelude.{domain_of, DomId, TypeId, Perms, IsWithinLimits, IsFirstFault, StartFault}
 use Rattle.gt_core.specs.Prelude.{ConfigFault, NoMemory, Config, Request, OpenRequest, asked, begun_of, SpellsItsEntry, CallResult}
 use Rattle.gt_core.specs.Prelude.{Granted, Given, KeptPin, Refused, CallValue, Frames, SizeTold, VersionTold, Observation, Action}
@@ -11,6 +10,8 @@ use Rattle.gt_core.specs.Prelude.{OpenCall, Begun, BegunOpen, BegunDone, BegunBu
 use Rattle.gt_core.specs.Prelude.{TickedDone, TickedIdle, TickedNoDomain, Machine}
 use Rattle.gt_core.specs.Prelude.{CallerKnowledge, knowledge_of, begun, path, GoesOnWith, first_phase, action_at, Rests}
 use Rattle.gt_core.specs.Prelude.{IsAt, pins_by_call, most_steps, steps_to_come}
+use Rattle.gt_calls.specs.declared.asking.Judged.{Judged}
+use Rattle.gt_calls.specs.declared.asking.Judged.TheVariants as judgeds
 use Rattle.gt_core.specs.declared.trace.Bytes.{Bytes}
 use Rattle.gt_core.specs.Effects.{with_underway, with_mapping, Adds}
 use Rattle.gt_core.specs.Accesses.{IsWriting}
@@ -32,9 +33,9 @@ pub record IsOpenCall (k : CallerKnowledge) (dom : DomId) (request : Request) (o
   pub few : steps_to_come o.call ≤ most_steps (asked request)
 
 -- the start of a call: an answer, or a first step
-abbrev pub OpensAs : CallerKnowledge → DomId → Request → Result OpenCall CallResult → Type 0
-OpensAs k dom request (Err verdict) = begun_of k dom request ≡ Some verdict
-OpensAs k dom request (Ok o) = IsOpenCall k dom request o
+abbrev pub OpensAs : CallerKnowledge → DomId → Request → Judged OpenCall → Type 0
+OpensAs k dom request (judgeds.Answered verdict) = begun_of k dom request ≡ Some verdict
+OpensAs k dom request (judgeds.Open o) = IsOpenCall k dom request o
 
 -- the answer with this value
 abbrev pub answer_with : CallValue → Answer

@@ -31,29 +31,29 @@ use crate::state::{DomainState, find};
 use crate::trace::{Answer, Bytes};
 use crate::underway::OpenCall;
 use gt_calls::{
-    Action, Call, CallResult, CallStart, CallValue, CallerState, Observation, Request, Step,
-    asked_fits,
+    Action, Call, CallResult, CallStart, CallValue, CallerState, Judged, Observation, Request,
+    Step, asked_fits,
 };
 use gt_frames::{FrameName, Frames};
 use gt_roster::Roster;
 use gt_types::{Allows, Config, DomId, GrantRef, Memory, StartFault};
 use std::alloc::Global;
 
-// Opens a call, with its first step. An error is the answer at its beginning.
+// Opens a call, with its first step, or answers it at its beginning.
 fn open_call<P: Allows>(
     known: &CallerState<'_, P>,
     dom: DomId,
     request: Request<'_>,
-) -> Result<OpenCall, CallResult>
+) -> Judged<OpenCall>
     ensures { OpensAs (knows P.may known.now) dom request.entry result }
 {
     match Call::begin(dom, request, known) {
-        CallStart::Done(verdict) => Err(verdict),
+        CallStart::Done(verdict) => Judged::Answered(verdict),
         CallStart::Open(first) => {
             let mut call = first;
             match call.next(known, Observation::Nothing) {
-                Action::Step(step) => Ok(OpenCall { call, step }),
-                Action::Done(verdict) => Err(verdict),
+                Action::Step(step) => Judged::Open(OpenCall { call, step }),
+                Action::Done(verdict) => Judged::Answered(verdict),
             }
         }
     }
@@ -117,7 +117,7 @@ impl<P: Allows> Machine<P> {
         }
     }
 
-    fn open_at(&self, at: usize, dom: DomId, request: Request<'_>) -> Result<OpenCall, CallResult>
+    fn open_at(&self, at: usize, dom: DomId, request: Request<'_>) -> Judged<OpenCall>
         requires { at < length self.now.domains.items }
         ensures { (d : State) → slice_get self.now.domains.items at ≡ Some d →
             OpensAs (known_by P.may self.now d) dom request.entry result }
@@ -147,13 +147,13 @@ impl<P: Allows> Machine<P> {
             return Ok(Begun::Busy);
         }
         match self.open_at(at, dom, request) {
-            Ok(open) => {
+            Judged::Open(open) => {
                 asked_fits(open.call.request);
                 let alloc = self.alloc;
                 self.domains[at].begin(alloc, open, given_by(request))?;
                 Ok(Begun::Open)
             }
-            Err(verdict) => Ok(Begun::Done(answer_of(verdict))),
+            Judged::Answered(verdict) => Ok(Begun::Done(answer_of(verdict))),
         }
     }
 

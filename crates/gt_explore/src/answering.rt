@@ -187,25 +187,30 @@ fn verdict_told(
     }
 }
 
+// A claim, and the judgement of the texts that were found.
+struct JudgedClaim {
+    claim: Claim,
+    judgement: Judgement,
+}
+
 // Returns the output for a claim, by whether each text satisfies the conditions, and by the judgement.
 fn claim_told(
     alloc: Global,
     source: &[u8],
     script: &RunScript,
     found: &FoundTexts,
-    claim: Claim,
     met: &[bool],
-    judgement: Judgement,
+    claimed: JudgedClaim,
 ) -> Result<Vec<u8>, TextsFault>
     requires fits { CanConfigure (contents_told script.now.head) }
     requires many { length met.now ≡ length found.now.texts.items }
-    ensures { IfOk result (λ text. TellsClaimBy (run_told script.now) claim (found_told found.now)
-        met.now judgement text.items) }
+    ensures { IfOk result (λ text. TellsClaimBy (run_told script.now) claimed.entry.claim (found_told found.now)
+        met.now claimed.entry.judgement text.items) }
 {
-    match claim {
+    match claimed.claim {
         Claim::Find => texts_told(alloc, found, met),
-        Claim::Never => verdict_told(alloc, source, script, found, judgement),
-        Claim::Always => verdict_told(alloc, source, script, found, judgement),
+        Claim::Never => verdict_told(alloc, source, script, found, claimed.judgement),
+        Claim::Always => verdict_told(alloc, source, script, found, claimed.judgement),
     }
 }
 
@@ -226,15 +231,8 @@ fn claim_made(
 {
     let met = satisfied(alloc, conditions, found.texts.as_slice())?;
     let judgement = judge(claim, met.as_slice(), found.whole);
-    let text = claim_told(
-        alloc,
-        source,
-        script,
-        found,
-        claim,
-        met.as_slice(),
-        judgement,
-    )?;
+    let claimed = JudgedClaim { claim, judgement };
+    let text = claim_told(alloc, source, script, found, met.as_slice(), claimed)?;
     let verdict = judgement.verdict;
     Ok(ExploreOutput { text, verdict })
 }

@@ -65,6 +65,10 @@ abbrev pub store_letters : BodyWord → List ℕ
 store_letters First = codes "S0"
 store_letters Second = codes "S1"
 
+-- a load of a word of an entry, by its letters
+abbrev pub look_text : TraceForm → List ℕ → DomId → GrantRef → List ℕ
+look_text form letters dom gref = move_part form letters ++ entry_part form dom gref
+
 -- the letter of an access to bytes, and its kind
 abbrev pub access_start : TraceForm → List ℕ → List ℕ
 access_start form access = move_part form (codes "A") ++ value_part form (codes "access") access
@@ -91,9 +95,8 @@ copy_text form from to len =
 unfoldable pub step_text : TraceForm → DomId → Step → List ℕ
 step_text form dom (steps.LookHeader owner) =
     move_part form (codes "H") ++ number_part form (codes "owner") (decimal owner.0)
-step_text form dom (steps.LookControl owner gref) = move_part form (codes "C") ++ entry_part form owner gref
-step_text form dom (steps.LookBody owner gref half) =
-    move_part form (look_letters half) ++ entry_part form owner gref
+step_text form dom (steps.LookControl owner gref) = look_text form (codes "C") owner gref
+step_text form dom (steps.LookBody owner gref half) = look_text form (look_letters half) owner gref
 step_text form dom (steps.Pin p) = move_part form (codes "P") ++ pin_part form p ++ word_part form (codes "from") p.word
 step_text form dom (steps.Unpin p holder) = move_part form (codes "U") ++ pin_part form p
 step_text form dom (steps.StoreBody gref half word) =

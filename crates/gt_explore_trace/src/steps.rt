@@ -1,7 +1,7 @@
 //! The facts of a step of a call, and of what it saw.
 ghost use Rattle.std.specs.Prelude.{◌≡◌, ◌++◌, OnOk, codes};
 ghost use Rattle.gt_explore_trace.specs.Steps.{access_start, change_name, copy_text, dir_name, entry_part, exchange_text};
-ghost use Rattle.gt_explore_trace.specs.Steps.{from_part, header_text, look_letters, pin_part, range_part, seen_part};
+ghost use Rattle.gt_explore_trace.specs.Steps.{from_part, header_text, look_letters, look_text, pin_part, range_part, seen_part};
 ghost use Rattle.gt_explore_trace.specs.Steps.{step_text, store_letters, taken_part, to_part};
 
 use crate::facts::{TraceForm, push_move_part, push_number_part, push_value_part, push_word_part};
@@ -109,6 +109,20 @@ fn store_letters(half: BodyWord) -> &'static str
     }
 }
 
+// Appends a load of a word of an entry, by its letters.
+fn push_look(
+    out: &mut Vec<u8>,
+    form: TraceForm,
+    letters: &str,
+    dom: DomId,
+    gref: GrantRef,
+) -> Result<(), AllocError>
+    ensures { OnOk result (out.new.items ≡ out.old.items ++ look_text form letters.now dom gref) }
+{
+    push_move_part(out, form, letters)?;
+    push_entry(out, form, dom, gref)
+}
+
 // Appends the letter of an access to bytes, and its kind.
 fn push_access(out: &mut Vec<u8>, form: TraceForm, access: &str) -> Result<(), AllocError>
     ensures { OnOk result (out.new.items ≡ out.old.items ++ access_start form access.now) }
@@ -186,18 +200,12 @@ pub fn push_step(
             push_move_part(out, form, "H")?;
             push_number_part(out, form, "owner", owner.0)
         }
-        Step::LookControl { dom: owner, gref } => {
-            push_move_part(out, form, "C")?;
-            push_entry(out, form, owner, gref)
-        }
+        Step::LookControl { dom: owner, gref } => push_look(out, form, "C", owner, gref),
         Step::LookBody {
             dom: owner,
             gref,
             half,
-        } => {
-            push_move_part(out, form, look_letters(half))?;
-            push_entry(out, form, owner, gref)
-        }
+        } => push_look(out, form, look_letters(half), owner, gref),
         Step::Pin { held } => {
             push_move_part(out, form, "P")?;
             push_pin(out, form, held)?;

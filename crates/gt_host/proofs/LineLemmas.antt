@@ -30,8 +30,6 @@ use Rattle.gt_host.specs.declared.audit.AuditRecords.{AuditRecords}
 use Rattle.gt_host.specs.declared.kept.PlayState.{PlayState}
 use Rattle.gt_host.specs.declared.labels.Labels.{Labels}
 use Rattle.gt_host.specs.declared.open_calls.OpenCalls.{OpenCalls}
-use Rattle.gt_host.specs.declared.outcome.LineOutcome.{LineOutcome}
-use Rattle.gt_host.specs.declared.outcome.LineOutcome.TheVariants.{Answered, Busy as IsBusy}
 use Rattle.gt_audit.specs.declared.record.Hypercall.{Hypercall}
 use Rattle.gt_host.specs.Naming.{AreNamed}
 use Rattle.gt_host.specs.OpenCalls.{call_in, told_in}
@@ -102,13 +100,13 @@ lined s audit p line domains kept come = record {
 
 -- `do ID CALL`
 
-pub do_answered : (s : Setting) (audit : Bool) (types : List (List ℕ)) (st : ScriptStep) (call : ScriptCall) (p : Progress) (old new : CoreState) (kept next : PlayState) (before after : List ℕ) (request : Request) (said : LineOutcome) (a : Answer) (told : Option Hypercall)
-    → SaysRequest p.named st.dom call request → said ≡ Answered a → HasPlayed s audit p old kept → HasCalled s (history_of p) st.dom request new said
+pub do_answered : (s : Setting) (audit : Bool) (types : List (List ℕ)) (st : ScriptStep) (call : ScriptCall) (p : Progress) (old new : CoreState) (kept next : PlayState) (before after : List ℕ) (request : Request) (said : Option Answer) (a : Answer) (told : Option Hypercall)
+    → SaysRequest p.named st.dom call request → said ≡ Some a → HasPlayed s audit p old kept → HasCalled s (history_of p) st.dom request new said
     → (kept.audit.is_on ≡ true → IsAbout s old st.dom request told) → AddsRecord kept next st.dom told a
     → AreNamed next.labels (named_after p.named st.dom st a) → next.calls ≡ kept.calls → after ≡ before ++ answer_line types st.line st.dom a
     → (q : Progress) × DoLine types st call p q × HasPlayed s audit q new next × IsAppended p.text q.text before after
 do_answered s audit types st call p old new kept next before after request said a told asks is come made about adds names same line =
-    let made_so = subst (λ (o : LineOutcome). HasCalled s (history_of p) st.dom request new o) is made in
+    let made_so = subst (λ (o : Option Answer). HasCalled s (history_of p) st.dom request new o) is made in
     let events : List Event = call_events st.dom request made_so.ticks in
     let ends = made_so.comes.3 in
     let first : made_so.trace ≡ Did made_so.comes.0 ∷ made_so.comes.1 = made_so.comes.2 in
@@ -116,8 +114,8 @@ do_answered s audit types st call p old new kept next before after request said 
     let left : (n : ℕ) → open_call (history_after (history_of p) made_so.trace) n ≡ open_call (history_of p) n = λ n.
     subst (λ (l : List Element). open_call (history_after (history_of p) l) n ≡ open_call (history_of p) n) (sym first)
     (answered_leaves s (history_of p) st.dom request made_so.ticks made_so.comes.0 made_so.comes.1 ends.before ends.last a (sym first ∙ ends.order) ends.answers legal n) in (
-      progress_after types (with_events p events made_so.trace) st (Answered a),
-      (request, asks, made_so.ticks, made_so.trace, Answered a, made_so.length_of, made_so.comes, refl),
+      progress_after types (with_events p events made_so.trace) st (Some a),
+      (request, asks, made_so.ticks, made_so.trace, Some a, made_so.length_of, made_so.comes, refl),
       came s audit p events made_so.trace (named_after p.named st.dom st a) p.open_steps (p.text ++ answer_line types st.line st.dom a) old new kept next come made_so.happens
           (record { names = names; calls = λ n. ap (λ (c : OpenCalls). call_in c n) same ∙ come.keeps.calls n })
           (λ n. come.knows n ∙ ap is_some (sym (left n))) adds.is_on
@@ -127,14 +125,14 @@ do_answered s audit types st call p old new kept next before after request said 
       (answer_line types st.line st.dom a, refl, line),
     )
 
-pub do_busy : (s : Setting) (audit : Bool) (types : List (List ℕ)) (st : ScriptStep) (call : ScriptCall) (p : Progress) (old new : CoreState) (kept : PlayState) (before after : List ℕ) (request : Request) (said : LineOutcome)
-    → SaysRequest p.named st.dom call request → said ≡ IsBusy → HasPlayed s audit p old kept → HasCalled s (history_of p) st.dom request new said → after ≡ before ++ busy_line st.line st.dom
+pub do_busy : (s : Setting) (audit : Bool) (types : List (List ℕ)) (st : ScriptStep) (call : ScriptCall) (p : Progress) (old new : CoreState) (kept : PlayState) (before after : List ℕ) (request : Request) (said : Option Answer)
+    → SaysRequest p.named st.dom call request → said ≡ None → HasPlayed s audit p old kept → HasCalled s (history_of p) st.dom request new said → after ≡ before ++ busy_line st.line st.dom
     → (q : Progress) × DoLine types st call p q × HasPlayed s audit q new kept × IsAppended p.text q.text before after
 do_busy s audit types st call p old new kept before after request said asks is come made line =
-    let made_so = subst (λ (o : LineOutcome). HasCalled s (history_of p) st.dom request new o) is made in
+    let made_so = subst (λ (o : Option Answer). HasCalled s (history_of p) st.dom request new o) is made in
     let events : List Event = call_events st.dom request made_so.ticks in (
-      progress_after types (with_events p events made_so.trace) st IsBusy,
-      (request, asks, made_so.ticks, made_so.trace, IsBusy, made_so.length_of, made_so.comes, refl),
+      progress_after types (with_events p events made_so.trace) st None,
+      (request, asks, made_so.ticks, made_so.trace, None, made_so.length_of, made_so.comes, refl),
       came s audit p events made_so.trace p.named p.open_steps (p.text ++ busy_line st.line st.dom) old new kept kept come made_so.happens
           (record { names = come.keeps.names; calls = come.keeps.calls })
           (λ n. come.knows n ∙ ap (λ (l : List Element). is_some (open_call (history_after (history_of p) l) n)) (sym made_so.comes)) refl

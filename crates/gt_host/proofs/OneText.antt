@@ -9,8 +9,8 @@ use Rattle.std.proofs.lemmas.List.{append-nil, length-replicate}
 use Rattle.gt_types.specs.declared.DomId.{DomId}
 use Rattle.gt_types.specs.declared.GrantRef.{GrantRef}
 use Rattle.gt_script_lines.specs.declared.calls.ScriptCall.{ScriptCall}
-use Rattle.gt_script_lines.specs.declared.calls.ScriptAction.{ScriptAction}
-use Rattle.gt_script_lines.specs.declared.calls.ScriptAction.TheVariants as actions
+use Rattle.gt_script.specs.declared.script.ScriptAction.{ScriptAction}
+use Rattle.gt_script.specs.declared.script.ScriptAction.TheVariants as actions
 use Rattle.gt_script.specs.Contents.{Contents, type_names}
 use Rattle.gt_script.specs.Script.{TellsScript, Wrong}
 use Rattle.gt_script.specs.declared.script.ScriptStep.{ScriptStep}
@@ -28,13 +28,11 @@ use Rattle.gt_core.specs.declared.core_state.EntryView.{EntryView}
 use Rattle.gt_core.specs.Alike.{told_part, SameEvent, SameElement, IsOfKnown, IsRun, AreAlike}
 use Rattle.gt_text.specs.Streams.{AppendsBeginning}
 use Rattle.gt_text.specs.Laws.{begins_longer}
-use Rattle.gt_host.specs.declared.outcome.LineOutcome.{LineOutcome}
-use Rattle.gt_host.specs.declared.outcome.LineOutcome.TheVariants.{Answered, Busy}
 use Rattle.gt_host.specs.Printing.{answer_text, answer_line, call_text, busy_line, idle_line}
 use Rattle.gt_host.specs.Showing.{show_line}
 use Rattle.gt_host.specs.Playing.{IsLegalRunOf, setting_of_script, play_text, audited_text, BeginsRun, BeginsEvery}
 use Rattle.gt_host.specs.Playing.{Played}
-use Rattle.gt_host.specs.Runs.{Progress, AnswerNothing, EndsWith, EndsAsOutcome, TicksComeTo, answer_in, call_events}
+use Rattle.gt_host.specs.Runs.{Progress, AnswerNothing, EndsWith, EndsAsCall, TicksComeTo, answer_in, call_events}
 use Rattle.gt_host.specs.Runs.{at_start, history_of, with_events, with_line, with_step_of, answered, progress_after}
 use Rattle.gt_host.specs.Runs.{after_item, progress_begun, after_ticks, DoLine, BeginLine, TickLine, ShowLine}
 use Rattle.gt_host.specs.Runs.{RunsLine, PlayLeadsTo, open_lines}
@@ -151,9 +149,9 @@ with-answer t types p q dom s a b e one other w =
 
 -- a whole call
 
-call-legal : (t : Setting) (types : List (List ℕ)) (p : Progress) (s : ScriptStep) (o : LineOutcome) → Legal t (progress_after types p s o).events (progress_after types p s o).trace → Legal t p.events p.trace
-call-legal t types p s (Answered a) legal = legal
-call-legal t types p s Busy legal = legal
+call-legal : (t : Setting) (types : List (List ℕ)) (p : Progress) (s : ScriptStep) (o : Option Answer) → Legal t (progress_after types p s o).events (progress_after types p s o).trace → Legal t p.events p.trace
+call-legal t types p s (Some a) legal = legal
+call-legal t types p s None legal = legal
 
 -- the domains' calls of one line, in runs that have come to these points
 record Calls (t : Setting) (p q : Progress) (d : DomId) (one other : Request) (n m : ℕ) (xs ys : List Element) : Type 0 where
@@ -186,9 +184,9 @@ swapped-calls t p q d one other n m xs ys c =
       lawful = c.legal;
     }
 
-calls-together : StaysAlike → (t : Setting) (types : List (List ℕ)) (s : ScriptStep) (p q : Progress) (one other : Request) (n m : ℕ) (xs ys : List Element) (o r : LineOutcome) → Calls t p q s.dom one other n m xs ys
-    → EndsAsOutcome xs o → EndsAsOutcome ys r → Together t (progress_after types (with_events p (call_events s.dom one n) xs) s o) (progress_after types (with_events q (call_events s.dom other m) ys) s r)
-calls-together law t types s p q one other n m xs ys (Answered a) (Answered b) c (i, more, first, x) (j, rest, second, y) =
+calls-together : StaysAlike → (t : Setting) (types : List (List ℕ)) (s : ScriptStep) (p q : Progress) (one other : Request) (n m : ℕ) (xs ys : List Element) (o r : Option Answer) → Calls t p q s.dom one other n m xs ys
+    → EndsAsCall xs o → EndsAsCall ys r → Together t (progress_after types (with_events p (call_events s.dom one n) xs) s o) (progress_after types (with_events q (call_events s.dom other m) ys) s r)
+calls-together law t types s p q one other n m xs ys (Some a) (Some b) c (i, more, first, x) (j, rest, second, y) =
     let d = s.dom in
     let j1 = subst (λ (l : List Element). LegalAfter t (history_of p) (call_events d one n) l) x.order (piece t p (call_events d one n) xs c.together.legal c.legal) in
     let j2 = subst (λ (l : List Element). LegalAfter t (history_of q) (call_events d other m) l) y.order (piece t q (call_events d other m) ys c.together.lawful c.lawful) in
@@ -201,10 +199,10 @@ calls-together law t types s p q one other n m xs ys (Answered a) (Answered b) c
     (with-events t p q (call_events d one n) (call_events d other m) xs ys c.together c.legal c.lawful
     (subst (λ (l : List Element). AreAlike t (history_after (history_of p) l) (history_after (history_of q) ys)) (sym x.order)
     (subst (λ (l : List Element). AreAlike t (history_after (history_of p) (x.before ++ x.last ∷ [])) (history_after (history_of q) l)) (sym y.order) same.1)))
-calls-together law t types s p q one other n m xs ys (Answered a) Busy c (i, more, first, x) y = absurd (busy-first law t p q s.dom one other n m xs ys more i c first y)
-calls-together law t types s p q one other n m xs ys Busy (Answered b) c x (j, rest, second, y) =
+calls-together law t types s p q one other n m xs ys (Some a) None c (i, more, first, x) y = absurd (busy-first law t p q s.dom one other n m xs ys more i c first y)
+calls-together law t types s p q one other n m xs ys None (Some b) c x (j, rest, second, y) =
     absurd (busy-first law t q p s.dom other one m n ys xs rest j (swapped-calls t p q s.dom one other n m xs ys c) second x)
-calls-together law t types s p q one other n m xs ys Busy Busy c x y =
+calls-together law t types s p q one other n m xs ys None None c x y =
     with-line t (with_events p (call_events s.dom one n) xs) (with_events q (call_events s.dom other m) ys) (busy_line s.line s.dom) (busy_line s.line s.dom) refl
     (with-events t p q (call_events s.dom one n) (call_events s.dom other m) xs ys c.together c.legal c.lawful
     (subst (λ (l : List Element). AreAlike t (history_after (history_of p) l) (history_after (history_of q) ys)) (sym x)
@@ -433,9 +431,9 @@ grows-none text = ([], sym (append-nil text))
 grows-both : (a b c : List ℕ) → Grows a b → Grows b c → Grows a c
 grows-both a b c (x, e) (y, f) = (x ++ y, f ∙ ap (λ (l : List ℕ). l ++ y) e ∙ append_assoc a x y)
 
-call-grows : (types : List (List ℕ)) (p : Progress) (s : ScriptStep) (o : LineOutcome) → Grows p.text (progress_after types p s o).text
-call-grows types p s (Answered a) = (answer_line types s.line s.dom a, refl)
-call-grows types p s Busy = (busy_line s.line s.dom, refl)
+call-grows : (types : List (List ℕ)) (p : Progress) (s : ScriptStep) (o : Option Answer) → Grows p.text (progress_after types p s o).text
+call-grows types p s (Some a) = (answer_line types s.line s.dom a, refl)
+call-grows types p s None = (busy_line s.line s.dom, refl)
 
 item-grows : (types : List (List ℕ)) (p : Progress) (s : ScriptStep) (a : Option Answer) → Grows p.text (after_item types p s a).text
 item-grows types p s None = grows-none p.text

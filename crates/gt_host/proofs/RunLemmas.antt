@@ -25,8 +25,7 @@ use Rattle.gt_core.specs.declared.core_state.Begun.{Begun}
 use Rattle.gt_core.specs.declared.core_state.Begun.TheVariants as begun
 use Rattle.gt_core.specs.declared.core_state.Ticked.{Ticked}
 use Rattle.gt_core.specs.declared.core_state.Ticked.TheVariants as ticked
-use Rattle.gt_host.specs.declared.outcome.LineOutcome.TheVariants.{Answered, Busy}
-use Rattle.gt_host.specs.Runs.{answer_in, AnswerNothing, EndsWith, EndsAsOutcome}
+use Rattle.gt_host.specs.Runs.{answer_in, AnswerNothing, EndsWith, EndsAsCall}
 use Rattle.gt_host.specs.Ticking.{HasHappened, HasCalled, TicksTo}
 
 -- the setting of a core is that of one with the same domains and rights
@@ -134,7 +133,7 @@ tick_none s h dom most count new all u = record {
 
 -- a call that is answered at once
 pub call_done : (s : Setting) (h : History) (dom : DomId) (request : Request) (said : Begun) (answer : Answer) (new : CoreState) → said ≡ begun.Done answer
-    → MayDo s h (Begin dom request) (begun_element dom request said) × CoreStands s (grown h (begun_element dom request said)) new → HasCalled s h dom request new (Answered answer)
+    → MayDo s h (Begin dom request) (begun_element dom request said) × CoreStands s (grown h (begun_element dom request said)) new → HasCalled s h dom request new (Some answer)
 call_done s h dom request said answer new is told = record {
   ticks = 0;
   trace = begun_element dom request said ∷ [];
@@ -150,7 +149,7 @@ call_done s h dom request said answer new is told = record {
 
 -- a call that does not begin
 pub call_busy : (s : Setting) (h : History) (dom : DomId) (request : Request) (said : Begun) (new : CoreState) → said ≡ begun.Busy
-    → MayDo s h (Begin dom request) (begun_element dom request said) × CoreStands s (grown h (begun_element dom request said)) new → HasCalled s h dom request new Busy
+    → MayDo s h (Begin dom request) (begun_element dom request said) × CoreStands s (grown h (begun_element dom request said)) new → HasCalled s h dom request new None
 call_busy s h dom request said new is told = record {
   ticks = 0;
   trace = begun_element dom request said ∷ [];
@@ -159,7 +158,7 @@ call_busy s h dom request said new is told = record {
   happens = happens_one s h (Begin dom request) (begun_element dom request said) new told;
 }
 
-comes_after : (i : Item) (trace : List Element) (answer : Answer) → i.answer ≡ None → EndsWith trace answer → EndsAsOutcome (Did i ∷ trace) (Answered answer)
+comes_after : (i : Item) (trace : List Element) (answer : Answer) → i.answer ≡ None → EndsWith trace answer → EndsAsCall (Did i ∷ trace) (Some answer)
 comes_after i trace answer none ends = (
   i,
   trace,
@@ -175,7 +174,7 @@ comes_after i trace answer none ends = (
 
 -- a call that began, and then its ticks
 call_with_ticks : (s : Setting) (h : History) (dom : DomId) (most : ℕ) (request : Request) (i : Item) (mid new : CoreState) (answer : Answer) → i.answer ≡ None
-    → MayDo s h (Begin dom request) (Did i) × CoreStands s (i ∷ h) mid → TicksTo s (i ∷ h) dom most new (Some answer) → HasCalled s h dom request new (Answered answer)
+    → MayDo s h (Begin dom request) (Did i) × CoreStands s (i ∷ h) mid → TicksTo s (i ∷ h) dom most new (Some answer) → HasCalled s h dom request new (Some answer)
 call_with_ticks s h dom most request i mid new answer none told t = record {
   ticks = t.ticks;
   trace = Did i ∷ t.trace;
@@ -185,7 +184,7 @@ call_with_ticks s h dom most request i mid new answer none told t = record {
 }
 
 pub call_ticked : (s t : Setting) (h : History) (dom : DomId) (most : ℕ) (request : Request) (began : Begun) (mid new : CoreState) (answer : Answer) (said : Option Answer) → t ≡ s → domain_of s.domains dom ≢ None → (began ≡ begun.Open) ⊎ (began ≡ begun.NoDomain)
-    → MayDo s h (Begin dom request) (begun_element dom request began) × CoreStands s (grown h (begun_element dom request began)) mid → ((g : History) → CoreStands t g mid → TicksTo t g dom most new said) → said ≡ Some answer → HasCalled s h dom request new (Answered answer)
+    → MayDo s h (Begin dom request) (begun_element dom request began) × CoreStands s (grown h (begun_element dom request began)) mid → ((g : History) → CoreStands t g mid → TicksTo t g dom most new said) → said ≡ Some answer → HasCalled s h dom request new (Some answer)
 call_ticked s t h dom most request began mid new answer said same configured (inl open_now) told ticks is =
     let known = subst (λ (q : Setting). (g : History) → CoreStands q g mid → TicksTo q g dom most new said) same ticks in
     let told_so = subst (λ (b : Begun). MayDo s h (Begin dom request) (begun_element dom request b) × CoreStands s (grown h (begun_element dom request b)) mid) open_now told in

@@ -23,11 +23,9 @@ pub use Rattle.gt_core.specs.declared.trace.Item.{Item}
 pub use Rattle.gt_handles.specs.declared.handles.Handle.{Handle}
 pub use Rattle.gt_host.specs.declared.fault.PlayFault.{PlayFault}
 pub use Rattle.gt_host.specs.declared.fault.PlayFault.TheVariants.{Memory, Policy, Read, Script, Write}
-pub use Rattle.gt_host.specs.declared.outcome.LineOutcome.{LineOutcome}
-pub use Rattle.gt_host.specs.declared.outcome.LineOutcome.TheVariants.{Answered, Busy}
 pub use Rattle.gt_host.specs.declared.rights.ScriptPolicy.{ScriptPolicy}
 pub use Rattle.gt_script_lines.specs.Hexadecimal.{hex_bytes}
-pub use Rattle.gt_script_lines.specs.declared.calls.ScriptAction.{ScriptAction}
+pub use Rattle.gt_script.specs.declared.script.ScriptAction.{ScriptAction}
 pub use Rattle.gt_script_lines.specs.declared.calls.ScriptCall.{ScriptCall}
 pub use Rattle.gt_script.specs.Blocks.{block_fault_shown}
 pub use Rattle.gt_script.specs.Contents.{Contents, first_gen, type_names}

@@ -3,9 +3,9 @@ use Rattle.std.specs.Prelude.{◌≡◌, ◌≤◌, ℕ, ◌+◌, ◌-◌, ◌^�
 use Rattle.std.specs.Prelude.{Some, None, unwrap_or, is_some, if◌then◌else◌}
 use Rattle.gt_host.specs.Prelude.{Bor, bytes_eq, DomId, GrantRef, DomainConfig, hex_bytes, ScriptCall, ScriptAction}
 use Rattle.gt_host.specs.Prelude.{ScriptStep, Handle, Request, Answer, Mapped, Event, Begin, Tick, Item, Element}
-use Rattle.gt_host.specs.Prelude.{History, Setting, open_call, history_after, shown_at, LineOutcome, Answered, Busy}
+use Rattle.gt_host.specs.Prelude.{History, Setting, open_call, history_after, shown_at}
 use Rattle.gt_script_lines.specs.declared.calls.ScriptCall.TheVariants as calls
-use Rattle.gt_script_lines.specs.declared.calls.ScriptAction.TheVariants as actions
+use Rattle.gt_script.specs.declared.script.ScriptAction.TheVariants as actions
 use Rattle.gt_calls.specs.declared.request.Request.TheVariants as requests
 use Rattle.gt_core.specs.declared.trace.Element.TheVariants as elements
 use Rattle.gt_host.specs.Printing.{answer_line, busy_line, idle_line, open_line}
@@ -154,12 +154,12 @@ pub record EndsWith (trace : List Element) (answer : Answer) : Type 0 where
   pub quiet : AnswerNothing before
   pub answers : answer_in last ≡ Some answer
 
--- The outcome of a call, by the elements of its beginning and its ticks: it begins, and continues up to its
--- answer; one that its domain can't begin has no tick.
-abbrev pub EndsAsOutcome : List Element → LineOutcome → Type 0
-EndsAsOutcome trace (Answered answer) =
+-- What comes of a call, by the elements of its beginning and its ticks: it begins, and continues up to its
+-- answer; one that its domain can't begin, since another is open, has no tick and no answer.
+abbrev pub EndsAsCall : List Element → Option Answer → Type 0
+EndsAsCall trace (Some answer) =
     (first : Item) × (more : List Element) × (trace ≡ elements.Item first ∷ more) × EndsWith trace answer
-EndsAsOutcome trace Busy = trace ≡ elements.Busy ∷ []
+EndsAsCall trace None = trace ≡ elements.Busy ∷ []
 
 -- the outcome of at most `most` ticks of a domain: the last one answers its call, or all `most` are made without an
 -- answer
@@ -208,10 +208,10 @@ abbrev pub answered : List (List ℕ) → Progress → DomId → ScriptStep → 
 answered types p dom s answer =
     record p { named = named_after p.named dom s answer; text = p.text ++ answer_line types s.line dom answer }
 
--- the progress after a call with this outcome
-abbrev pub progress_after : List (List ℕ) → Progress → ScriptStep → LineOutcome → Progress
-progress_after types p s (Answered answer) = answered types p s.dom s answer
-progress_after types p s Busy = with_line p (busy_line s.line s.dom)
+-- the progress after a call with this answer, or after one that its domain can't begin
+abbrev pub progress_after : List (List ℕ) → Progress → ScriptStep → Option Answer → Progress
+progress_after types p s (Some answer) = answered types p s.dom s answer
+progress_after types p s None = with_line p (busy_line s.line s.dom)
 
 -- the progress after a call began, and was not answered or answered at once
 abbrev pub after_item : List (List ℕ) → Progress → ScriptStep → Option Answer → Progress
@@ -234,9 +234,9 @@ after_ticks types p dom begun None = p
 abbrev pub DoLine : List (List ℕ) → ScriptStep → ScriptCall → Progress → Progress → Type 0
 DoLine types s call p q =
     (request : Request) × SaysRequest p.named s.dom call request
-    × (ticks : ℕ) × (trace : List Element) × (outcome : LineOutcome) × (length trace ≡ 1 + ticks)
-    × EndsAsOutcome trace outcome
-    × (q ≡ progress_after types (with_events p (call_events s.dom request ticks) trace) s outcome)
+    × (ticks : ℕ) × (trace : List Element) × (answer : Option Answer) × (length trace ≡ 1 + ticks)
+    × EndsAsCall trace answer
+    × (q ≡ progress_after types (with_events p (call_events s.dom request ticks) trace) s answer)
 
 -- the line `begin ID CALL`
 abbrev pub BeginLine : List (List ℕ) → ScriptStep → ScriptCall → Progress → Progress → Type 0

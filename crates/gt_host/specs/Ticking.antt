@@ -12,11 +12,10 @@ use Rattle.gt_core.specs.declared.trace.Event.{Event}
 use Rattle.gt_core.specs.declared.trace.Event.TheVariants.{Tick}
 use Rattle.gt_core.specs.declared.trace.Element.{Element}
 use Rattle.gt_host.specs.declared.kept.PlayState.{PlayState}
-use Rattle.gt_host.specs.declared.outcome.LineOutcome.{LineOutcome}
 use Rattle.gt_host.specs.Naming.{AreNamed}
 use Rattle.gt_host.specs.OpenCalls.{call_in}
 use Rattle.gt_host.specs.Recording.{IsAudited}
-use Rattle.gt_host.specs.Runs.{Progress, EndsAsOutcome, TicksComeTo, KnowsOpen, call_events, history_of}
+use Rattle.gt_host.specs.Runs.{Progress, EndsAsCall, TicksComeTo, KnowsOpen, call_events, history_of}
 
 -- the events did what they may after the history, and the core stands for the result
 pub record HasHappened (s : Setting) (h : History) (events : List Event) (trace : List Element)
@@ -24,13 +23,13 @@ pub record HasHappened (s : Setting) (h : History) (events : List Event) (trace 
   pub legal : LegalAfter s h events trace
   pub stands : CoreStands s (history_after h trace) core
 
--- a call has this outcome, by its beginning and some ticks
+-- a call has this answer, by its beginning and some ticks; or none, if its domain has another one open
 pub record HasCalled (s : Setting) (h : History) (dom : DomId) (request : Request) (core : CoreState)
-    (outcome : LineOutcome) : Type 0 where
+    (answer : Option Answer) : Type 0 where
   pub ticks : ℕ
   pub trace : List Element
   pub length_of : length trace ≡ 1 + ticks
-  pub comes : EndsAsOutcome trace outcome
+  pub comes : EndsAsCall trace answer
   pub happens : HasHappened s h (call_events dom request ticks) trace core
 
 -- at most `most` ticks of a domain have this outcome

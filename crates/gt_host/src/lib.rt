@@ -21,7 +21,6 @@ mod kept;
 mod labels;
 mod laws;
 mod open_calls;
-mod outcome;
 mod playing;
 mod rights;
 mod run;

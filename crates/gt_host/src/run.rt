@@ -18,12 +18,11 @@ use crate::answers::{push_answer_line, push_busy_line, push_idle_line};
 use crate::fault::StepsFault;
 use crate::kept::PlayState;
 use crate::labels::Labels;
-use crate::outcome::LineOutcome;
 use crate::showing::push_show_line;
 use gt_calls::MAX_STEPS;
 use gt_core::{Answer, Begun, Core, Request, Ticked};
-use gt_script::ScriptStep;
-use gt_script_lines::{ScriptAction, ScriptCall, Text, hex_bytes};
+use gt_script::{ScriptAction, ScriptStep};
+use gt_script_lines::{ScriptCall, Text, hex_bytes};
 use gt_types::{Allows, DomId, Memory};
 use std::alloc::{AllocError, Global};
 
@@ -148,21 +147,27 @@ pub fn name_mapping<'a>(
     }
 }
 
-// Handles the answer of the call that this step began: names its mapping, and appends the line.
-fn answer_call<'a>(
+// A domain's call that has its answer, and the step that began it.
+struct AnsweredStep<'b, 'a> {
+    dom: DomId,
+    step: &'b ScriptStep<'a>,
+    answer: &'b Answer,
+}
+
+// Names the mapping of an answered call, and appends the line.
+fn answer_call<'b, 'a>(
     alloc: Global,
     labels: &mut Labels<'a>,
     types: &[Text<'a>],
-    dom: DomId,
-    step: &ScriptStep<'a>,
-    answer: &Answer,
+    at: AnsweredStep<'b, 'a>,
     out: &mut Vec<u8>,
 ) -> Result<(), AllocError>
-    ensures named { OnOk result (NamesMapping labels.old labels.new dom step.now answer.now) }
-    ensures line { OnOk result (out.new.items ≡ out.old.items ++ answer_line types.now step.now.line dom answer.now) }
+    ensures named { OnOk result (NamesMapping labels.old labels.new at.entry.dom at.entry.step.now at.entry.answer.now) }
+    ensures line { OnOk result (out.new.items
+        ≡ out.old.items ++ answer_line types.now at.entry.step.now.line at.entry.dom at.entry.answer.now) }
 {
-    name_mapping(labels, dom, label_in(&step.action), answer)?;
-    push_answer_line(alloc, out, types, step.line, dom, answer)
+    name_mapping(labels, at.dom, label_in(&at.step.action), at.answer)?;
+    push_answer_line(alloc, out, types, at.step.line, at.dom, at.answer)
 }
 
 // Ticks a domain at most `most` times, up to the answer of its call.
@@ -184,12 +189,12 @@ fn tick_up_to<P: Allows>(
     Ok(None)
 }
 
-// Runs a call from its beginning to its answer.
+// Runs a call from its beginning to its answer; None if the domain has another call open.
 fn run_call<P: Allows>(
     core: &mut Core<P>,
     dom: DomId,
     request: Request<'_>,
-) -> Result<LineOutcome, Memory>
+) -> Result<Option<Answer>, Memory>
     requires { IsReadyToCall (setting_in P.may core.old) dom core.old.state }
     ensures calls { (h : History) → CoreStands (setting_in P.may core.old) h core.old.state →
         IfOk result (HasCalled (setting_in P.may core.old) h dom request.entry core.new.state) }
@@ -197,74 +202,90 @@ fn run_call<P: Allows>(
     ensures rights { core.new.rights ≡ core.old.rights }
 {
     match core.begin(dom, request)? {
-        Begun::Done(answer) => Ok(LineOutcome::Answered(answer)),
-        Begun::Busy => Ok(LineOutcome::Busy),
+        Begun::Done(answer) => Ok(Some(answer)),
+        Begun::Busy => Ok(None),
         Begun::Open | Begun::NoDomain => match tick_up_to(core, dom, MAX_STEPS)? {
-            Some(answer) => Ok(LineOutcome::Answered(answer)),
+            Some(answer) => Ok(Some(answer)),
             None => unreachable!(),
         },
     }
 }
 
-// Runs a line `do ID CALL`, whose call has these bytes.
+// The call of a line, and the bytes that it gives.
+struct GivenCall<'b, 'a> {
+    call: &'b ScriptCall<'a>,
+    bytes: &'b [u8],
+}
+
+// Runs a line `do ID CALL`.
 fn run_do<'b, 'a, P: Allows>(
     core: &mut Core<P>,
     kept: &mut PlayState<'b, 'a>,
     types: &[Text<'a>],
     step: &ScriptStep<'a>,
-    call: &ScriptCall<'a>,
-    bytes: &[u8],
+    given: GivenCall<'_, 'a>,
     out: &mut Vec<u8>,
 ) -> Result<(), StepsFault>
     requires ready { IsReadyToCall (setting_in P.may core.old) step.now.dom core.old.state }
-    requires said { bytes.now ≡ bytes_in_call call.now }
-    ensures leads { OnOk result (Leads (setting_in P.may core.old) (DoLine types.now step.now call.now)
+    requires said { given.entry.bytes.now ≡ bytes_in_call given.entry.call.now }
+    ensures leads { OnOk result (Leads (setting_in P.may core.old) (DoLine types.now step.now given.entry.call.now)
         core.old.state core.new.state kept.old kept.new out.old.items out.new.items) }
     ensures config { core.new.config ≡ core.old.config }
     ensures rights { core.new.rights ≡ core.old.rights }
     ensures errors { IfErr result (λ e. e ≡ faults.Memory) }
 {
-    let request = request_of(&kept.labels, step.dom, bytes, call);
-    let told = kept.audit.about(core, step.dom, request);
-    match run_call(core, step.dom, request)? {
-        LineOutcome::Answered(answer) => {
-            kept.audit.record(step.dom, told, &answer)?;
+    let dom = step.dom;
+    let request = request_of(&kept.labels, dom, given.bytes, given.call);
+    let told = kept.audit.about(core, dom, request);
+    match run_call(core, dom, request)? {
+        Some(answer) => {
+            kept.audit.record(dom, told, &answer)?;
+            let at = AnsweredStep {
+                dom,
+                step,
+                answer: &answer,
+            };
             let alloc = kept.alloc;
-            answer_call(alloc, &mut kept.labels, types, step.dom, step, &answer, out)?;
+            answer_call(alloc, &mut kept.labels, types, at, out)?;
         }
-        LineOutcome::Busy => push_busy_line(out, step.line, step.dom)?,
+        None => push_busy_line(out, step.line, dom)?,
     }
     Ok(())
 }
 
-// Runs a line `begin ID CALL`, whose call has these bytes.
+// Runs a line `begin ID CALL`.
 fn run_begin<'b, 'a, P: Allows>(
     core: &mut Core<P>,
     kept: &mut PlayState<'b, 'a>,
     types: &[Text<'a>],
     step: &'b ScriptStep<'a>,
-    call: &ScriptCall<'a>,
-    bytes: &[u8],
+    given: GivenCall<'_, 'a>,
     out: &mut Vec<u8>,
 ) -> Result<(), StepsFault>
     requires known { domain_of core.old.config.domains.items step.now.dom ≢ None }
-    requires said { bytes.now ≡ bytes_in_call call.now }
-    ensures leads { OnOk result (Leads (setting_in P.may core.old) (BeginLine types.now step.now call.now)
+    requires said { given.entry.bytes.now ≡ bytes_in_call given.entry.call.now }
+    ensures leads { OnOk result (Leads (setting_in P.may core.old) (BeginLine types.now step.now given.entry.call.now)
         core.old.state core.new.state kept.old kept.new out.old.items out.new.items) }
     ensures config { core.new.config ≡ core.old.config }
     ensures rights { core.new.rights ≡ core.old.rights }
     ensures errors { IfErr result (λ e. e ≡ faults.Memory) }
 {
-    let request = request_of(&kept.labels, step.dom, bytes, call);
-    let told = kept.audit.about(core, step.dom, request);
-    match core.begin(step.dom, request)? {
+    let dom = step.dom;
+    let request = request_of(&kept.labels, dom, given.bytes, given.call);
+    let told = kept.audit.about(core, dom, request);
+    match core.begin(dom, request)? {
         Begun::Done(answer) => {
-            kept.audit.record(step.dom, told, &answer)?;
+            kept.audit.record(dom, told, &answer)?;
+            let at = AnsweredStep {
+                dom,
+                step,
+                answer: &answer,
+            };
             let alloc = kept.alloc;
-            answer_call(alloc, &mut kept.labels, types, step.dom, step, &answer, out)?;
+            answer_call(alloc, &mut kept.labels, types, at, out)?;
         }
-        Begun::Busy => push_busy_line(out, step.line, step.dom)?,
-        Begun::Open | Begun::NoDomain => kept.calls.begin(step.dom, step, told)?,
+        Begun::Busy => push_busy_line(out, step.line, dom)?,
+        Begun::Open | Begun::NoDomain => kept.calls.begin(dom, step, told)?,
     }
     Ok(())
 }
@@ -293,15 +314,12 @@ fn run_ticks<'b, 'a, P: Allows>(
     if let Some(answer) = tick_up_to(core, step.dom, most)? {
         kept.calls.end(step.dom);
         kept.audit.record(step.dom, begun.told, &answer)?;
-        answer_call(
-            kept.alloc,
-            &mut kept.labels,
-            types,
-            step.dom,
-            begun.step,
-            &answer,
-            out,
-        )?;
+        let at = AnsweredStep {
+            dom: step.dom,
+            step: begun.step,
+            answer: &answer,
+        };
+        answer_call(kept.alloc, &mut kept.labels, types, at, out)?;
     }
     Ok(())
 }
@@ -326,11 +344,19 @@ pub fn run_step<'b, 'a, P: Allows>(
     match &step.action {
         ScriptAction::Do(call) => {
             let bytes = call_bytes(kept.alloc, call)?;
-            run_do(core, kept, types, step, call, bytes.as_slice(), out)
+            let given = GivenCall {
+                call,
+                bytes: bytes.as_slice(),
+            };
+            run_do(core, kept, types, step, given, out)
         }
         ScriptAction::Begin(call) => {
             let bytes = call_bytes(kept.alloc, call)?;
-            run_begin(core, kept, types, step, call, bytes.as_slice(), out)
+            let given = GivenCall {
+                call,
+                bytes: bytes.as_slice(),
+            };
+            run_begin(core, kept, types, step, given, out)
         }
         ScriptAction::Tick(most) => run_ticks(core, kept, types, step, *most, out),
         ScriptAction::Show(gref) => {

@@ -235,7 +235,7 @@ pub fn mode_reason(alloc: Global, line: &str) -> Result<Reason, AllocError> {
         match read_line(words.as_slice()) {
             Some(
                 ScriptLine::Body {
-                    asks: BodyLine::Signal(_),
+                    asks: BodyLine::Tell(_) | BodyLine::Await(_),
                     ..
                 },
             ) => " is a line for gthost run",

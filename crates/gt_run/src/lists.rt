@@ -32,6 +32,7 @@ pub struct DomainPart<'s, 'a> {
 /// The job of a domain's thread: its part, on a monitor, with a record of its calls if there is a log.
 #[derive(Drop)]
 pub struct ThreadJob<'s, 'a, P: Allows> {
+    pub alloc: Global,
     pub part: DomainPart<'s, 'a>,
     pub monitor: &'s Monitor<P>,
     pub log: Option<&'s SharedLog>,

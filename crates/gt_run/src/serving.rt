@@ -54,7 +54,6 @@ fn granted_fits(call: &ScriptCall<'_>)
 // Makes the call of a line. A map that is answered Ok gives its handle to its label.
 fn make_call<'a, R: Wait, P: Allows>(
     rt: &R,
-    alloc: Global,
     domain: &mut RunningDomain<'_, P>,
     labels: &mut Labels<'a>,
     duty: &ThreadJob<'_, 'a, P>,
@@ -66,7 +65,7 @@ fn make_call<'a, R: Wait, P: Allows>(
         (Makes P.may duty.now call.now domain.old.domain domain.new.domain labels.old labels.new) }
 {
     granted_fits(call);
-    let bytes = call_bytes(alloc, call)?;
+    let bytes = call_bytes(duty.alloc, call)?;
     let dom = duty.part.dom;
     let answer = domain.ask(rt, request_of(labels, dom, bytes.as_slice(), call));
     name_mapping(labels, dom, label_given(call), &answer)?;
@@ -83,7 +82,6 @@ struct CallLine<'b, 'a> {
 // Makes the call of a line, pushes its record, and returns the line that it prints.
 fn call_line<'a, R: Wait, P: Allows>(
     rt: &R,
-    alloc: Global,
     domain: &mut RunningDomain<'_, P>,
     labels: &mut Labels<'a>,
     teller: &mut Option<TrailLogger<'_>>,
@@ -95,11 +93,11 @@ fn call_line<'a, R: Wait, P: Allows>(
     ensures calls { IfOk result (λ text. Calls P.may duty.now at.entry.line at.entry.call.now
         domain.old.domain domain.new.domain labels.old labels.new teller.old teller.new text.items) }
 {
-    let answer = make_call(rt, alloc, domain, labels, duty, at.call);
+    let answer = make_call(rt, domain, labels, duty, at.call);
     tell_next(rt, teller, domain.trail());
-    let mut text = Vec::new(alloc);
+    let mut text = Vec::new(duty.alloc);
     push_answer_line(
-        alloc,
+        duty.alloc,
         &mut text,
         duty.part.types,
         at.line,
@@ -162,7 +160,6 @@ fn has_passed<R: Wait, P: Allows, G: Gate>(
 // other domains may wait for a flag of this one. Nothing is written after that line.
 fn serve<'a, R: Wait, P: Allows, G: Gate>(
     rt: &R,
-    alloc: Global,
     domain: &mut RunningDomain<'_, P>,
     duty: ThreadJob<'_, 'a, P>,
     teller: &mut Option<TrailLogger<'_>>,
@@ -175,6 +172,7 @@ fn serve<'a, R: Wait, P: Allows, G: Gate>(
     ensures same { IsSameStand domain.old domain.new }
     ensures served { Serves P.may duty.entry domain.old.domain result text.new.items domain.new.domain teller.new }
 {
+    let alloc = duty.alloc;
     let mut labels = Labels::new(alloc);
     let mut whole = true;
     let dom = duty.part.dom;
@@ -184,7 +182,7 @@ fn serve<'a, R: Wait, P: Allows, G: Gate>(
                 RunAction::Do(call) => {
                     let line = task.line;
                     let at = CallLine { line, call };
-                    let printed = call_line(rt, alloc, domain, &mut labels, teller, &duty, at);
+                    let printed = call_line(rt, domain, &mut labels, teller, &duty, at);
                     whole = has_appended(text, whole, printed);
                 }
                 RunAction::Tell(flag) => {
@@ -206,7 +204,6 @@ fn serve<'a, R: Wait, P: Allows, G: Gate>(
 /// line.
 pub fn work<'a, R: Wait, P: Allows, G: Gate>(
     rt: &R,
-    alloc: Global,
     domain: RunningDomain<'_, P>,
     duty: ThreadJob<'_, 'a, P>,
     gate: &G,
@@ -216,7 +213,7 @@ pub fn work<'a, R: Wait, P: Allows, G: Gate>(
     ensures { IsOutputOf P.may duty.entry result }
 {
     let mut domain = domain;
-    let types = duty.part.types;
+    let (alloc, types) = (duty.alloc, duty.part.types);
     let mut text = Vec::new(alloc);
     if !*start.wait(rt) {
         return Output {
@@ -228,7 +225,7 @@ pub fn work<'a, R: Wait, P: Allows, G: Gate>(
         };
     }
     let mut teller = teller_for(alloc, duty.log, duty.part.dom);
-    let whole = serve(rt, alloc, &mut domain, duty, &mut teller, gate, &mut text);
+    let whole = serve(rt, &mut domain, duty, &mut teller, gate, &mut text);
     let left = domain.finish();
     let (audit, lost) = match teller {
         Some(teller) => (teller.audit(alloc, types), teller.lost(&left)),

@@ -128,13 +128,23 @@ fn start_each<'s, 'a, E, R: Wait + Sync, P: Allows + Sync, G: Gate + Sync>(
         let Some(domain) = rest.next() else {
             unreachable!()
         };
-        let duty = ThreadJob { part, monitor, log };
+        let duty = ThreadJob {
+            alloc,
+            part,
+            monitor,
+            log,
+        };
         match scope.spawn_with(
-            ThreadJob { part, monitor, log },
+            ThreadJob {
+                alloc,
+                part,
+                monitor,
+                log,
+            },
             move || -> Output
                 requires { IsReady P.may duty.monitor.now duty.part.dom domain }
                 ensures { IsOutputOf P.may duty.entry result }
-            { work(rt, alloc, domain, duty, gate, start) },
+            { work(rt, domain, duty, gate, start) },
         ) {
             Ok(handle) => {
                 if let Err(error) = handles.push(handle) {

@@ -11,10 +11,11 @@ use Rattle.gt_types.specs.declared.limits.TheConstants.{LAST_GENERATION}
 use Rattle.gt_script_lines.specs.Words.{words}
 use Rattle.gt_script_lines.specs.Numbers.{decimal_value, decimal_number, below}
 use Rattle.gt_script_lines.specs.Fields.{◌>>=◌, generation_word}
-use Rattle.gt_script_lines.specs.Lines.{triple_of, wear_of, domain_line_of, body_of, line_of, body_line_of}
+use Rattle.gt_script_lines.specs.Body.{body_line_of}
+use Rattle.gt_script_lines.specs.Lines.{triple_of, wear_of, domain_line_of, body_of, line_of}
 use Rattle.gt_script.specs.Laws.{lines_said, wear_in}
 use Rattle.gt_script_lines.specs.declared.numbers.Number.{Number}
-use Rattle.gt_script_lines.specs.declared.lines.BodyLine.{BodyLine}
+use Rattle.gt_script_lines.specs.declared.body.BodyLine.{BodyLine}
 use Rattle.gt_script_lines.specs.declared.lines.TripleLine.{TripleLine}
 use Rattle.gt_script_lines.specs.declared.lines.DomainLine.{DomainLine}
 use Rattle.gt_script_lines.specs.declared.lines.ScriptLine.{ScriptLine}

@@ -10,9 +10,8 @@ use Rattle.gt_policy.specs.declared.fault.TokenFault as policy
 use Rattle.gt_script.specs.Blocks.{opening, closing, Means, IsFaultyBlock}
 use Rattle.gt_script.specs.Types.{with_type_name}
 use Rattle.gt_script.specs.Contents.{Contents, empty, with_policy}
-use Rattle.gt_script_lines.specs.declared.calls.ScriptAction.TheVariants as actions
-use Rattle.gt_script_lines.specs.declared.lines.BodyLine.TheVariants as bodies
-use Rattle.gt_script_lines.specs.declared.signals.FlagLine.TheVariants as signals
+use Rattle.gt_script.specs.declared.script.ScriptAction.TheVariants as actions
+use Rattle.gt_script_lines.specs.declared.body.BodyLine.TheVariants as bodies
 use Rattle.gt_script.specs.declared.tasks.RunActionBy.TheVariants as runs
 use Rattle.gt_script_lines.specs.declared.lines.ScriptLine.TheVariants as line
 
@@ -91,17 +90,21 @@ configured domains number = do
 
 -- what a line of the body is for `play`: an action
 unfoldable pub play_action_in : BodyLine → Option ScriptAction
-play_action_in (bodies.Action a) = Some a
-play_action_in (bodies.Signal s) = None
+play_action_in (bodies.Do call) = Some (actions.Do call)
+play_action_in (bodies.Begin call) = Some (actions.Begin call)
+play_action_in (bodies.Tick most) = Some (actions.Tick most)
+play_action_in (bodies.Show gref) = Some (actions.Show gref)
+play_action_in (bodies.Tell flag) = None
+play_action_in (bodies.Await flag) = None
 
 -- what a line of the body is for `run`: a whole call, or a flag that is raised or awaited
 unfoldable pub run_action_in : BodyLine → Option NamedRunAction
-run_action_in (bodies.Action (actions.Do call)) = Some (runs.Do call)
-run_action_in (bodies.Action (actions.Begin call)) = None
-run_action_in (bodies.Action (actions.Tick count)) = None
-run_action_in (bodies.Action (actions.Show gref)) = None
-run_action_in (bodies.Signal (signals.Tell flag)) = Some (runs.Tell flag)
-run_action_in (bodies.Signal (signals.Await flag)) = Some (runs.Await flag)
+run_action_in (bodies.Do call) = Some (runs.Do call)
+run_action_in (bodies.Begin call) = None
+run_action_in (bodies.Tick most) = None
+run_action_in (bodies.Show gref) = None
+run_action_in (bodies.Tell flag) = Some (runs.Tell flag)
+run_action_in (bodies.Await flag) = Some (runs.Await flag)
 
 -- the contents after a line, or the fault `mode`
 abbrev pub or_mode : Option Contents → Result Contents ScriptFaultKind

@@ -25,9 +25,9 @@ mod tasks;
 mod types;
 
 pub use faults::{BlockFault, ScriptError, ScriptFault, ScriptFaultKind};
-pub use gt_script_lines::{ScriptAction, ScriptCall, Text, hex_bytes};
+pub use gt_script_lines::{ScriptCall, Text, hex_bytes};
 pub use laws::{every_fault_is_reported, every_text_tells_one_thing};
 pub use parsing::parse;
 pub use run_script::{RunScript, parse_run};
-pub use script::{Script, ScriptStep};
+pub use script::{Script, ScriptAction, ScriptStep};
 pub use tasks::{RunAction, RunActionBy, RunTask, RunTaskBy};

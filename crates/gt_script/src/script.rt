@@ -10,13 +10,25 @@ use crate::tasks::{NamedRunTask, RunActionBy};
 use crate::types::TypeNames;
 use gt_policy::Policy;
 use gt_script_lines::{
-    BodyLine, DomainLine, FlagLine, Number, ScriptAction, ScriptLine, Text, TripleLine, line_words,
-    read_line,
+    BodyLine, DomainLine, Number, ScriptCall, ScriptLine, Text, TripleLine, line_words, read_line,
 };
-use gt_types::{DomId, DomainConfig, Triple, TypeId};
+use gt_types::{DomId, DomainConfig, GrantRef, Triple, TypeId};
 use std::alloc::{AllocError, Global};
 use std::marker::Model;
 use std::mem;
+
+/// What a line of the body is for `play`.
+#[derive(Debug, Drop)]
+pub enum ScriptAction<'a> {
+    /// `do ID CALL`: makes the call from its beginning to its answer.
+    Do(ScriptCall<'a>),
+    /// `begin ID CALL`: begins the call.
+    Begin(ScriptCall<'a>),
+    /// `tick ID N`: makes up to N steps, 1 to 100,000, of the open call of the domain.
+    Tick(u32),
+    /// `show ID REF`: prints a line about the entry, and changes nothing.
+    Show(GrantRef),
+}
 
 /// A line of the body for `play`, with its number and its domain.
 #[derive(Debug, Drop)]
@@ -113,8 +125,11 @@ fn play_action_in<'a>(asks: BodyLine<'a>) -> Option<ScriptAction<'a>>
     ensures { result ≡ play_action_in asks.entry }
 {
     match asks {
-        BodyLine::Action(action) => Some(action),
-        BodyLine::Signal(_) => None,
+        BodyLine::Do(call) => Some(ScriptAction::Do(call)),
+        BodyLine::Begin(call) => Some(ScriptAction::Begin(call)),
+        BodyLine::Tick(most) => Some(ScriptAction::Tick(most)),
+        BodyLine::Show(gref) => Some(ScriptAction::Show(gref)),
+        BodyLine::Tell(_) | BodyLine::Await(_) => None,
     }
 }
 
@@ -124,11 +139,10 @@ fn run_action_in<'a>(asks: BodyLine<'a>) -> Option<RunActionBy<'a, Text<'a>>>
     ensures { result ≡ run_action_in asks.entry }
 {
     match asks {
-        BodyLine::Action(ScriptAction::Do(call)) => Some(RunActionBy::Do(call)),
-        BodyLine::Action(ScriptAction::Begin(_) | ScriptAction::Tick(_) | ScriptAction::Show(_)) =>
-            None,
-        BodyLine::Signal(FlagLine::Tell(flag)) => Some(RunActionBy::Tell(flag)),
-        BodyLine::Signal(FlagLine::Await(flag)) => Some(RunActionBy::Await(flag)),
+        BodyLine::Do(call) => Some(RunActionBy::Do(call)),
+        BodyLine::Begin(_) | BodyLine::Tick(_) | BodyLine::Show(_) => None,
+        BodyLine::Tell(flag) => Some(RunActionBy::Tell(flag)),
+        BodyLine::Await(flag) => Some(RunActionBy::Await(flag)),
     }
 }
 

@@ -5,9 +5,7 @@ ghost use Rattle.gt_policy_check.specs.Check.{error_lines};
 use crate::warning::{column_number, push_warning};
 use gt_policy_check::{Finding, FindingKind, push_hint, said_of};
 use gt_reasons::column_of;
-use gt_script_lines::{
-    BodyLine, Number, ScriptAction, ScriptCall, ScriptLine, line_words, read_line,
-};
+use gt_script_lines::{BodyLine, Number, ScriptCall, ScriptLine, line_words, read_line};
 use gt_text::text_of;
 use std::alloc::{AllocError, Global};
 
@@ -33,8 +31,7 @@ fn label_of<'t>(call: &ScriptCall<'t>) -> Option<(&'t [u8], bool)> {
 // Returns the label in a line of a domain.
 fn labelled<'t>(id: Number, asks: &BodyLine<'t>) -> Option<Label<'t>> {
     let call = match asks {
-        BodyLine::Action(ScriptAction::Do(call)) => call,
-        BodyLine::Action(ScriptAction::Begin(call)) => call,
+        BodyLine::Do(call) | BodyLine::Begin(call) => call,
         _ => return None,
     };
     let (name, is_mapped) = label_of(call)?;

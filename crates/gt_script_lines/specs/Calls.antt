@@ -8,12 +8,10 @@ use Rattle.gt_types.specs.declared.GrantRef.{GrantRef}
 use Rattle.gt_entry.specs.declared.entry.Entry.{Entry}
 use Rattle.gt_entry.specs.declared.entry.Entry.TheVariants as entries
 use Rattle.gt_script_lines.specs.Fields.{◌>>=◌, u16_word, u32_word, u64_word, reference_word, domain_word, mode_word}
-use Rattle.gt_script_lines.specs.Fields.{flags_word, tick_word, label_word, text_where}
+use Rattle.gt_script_lines.specs.Fields.{flags_word, label_word, text_where}
 use Rattle.gt_script_lines.specs.Hexadecimal.{hex_word}
 use Rattle.gt_script_lines.specs.declared.calls.ScriptCall.{ScriptCall}
 use Rattle.gt_script_lines.specs.declared.calls.ScriptCall.TheVariants as calls
-use Rattle.gt_script_lines.specs.declared.calls.ScriptAction.{ScriptAction}
-use Rattle.gt_script_lines.specs.declared.calls.ScriptAction.TheVariants as actions
 
 -- a page: DOM MODE FRAME
 unfoldable pub page_of : List (List ℕ) → Option Entry
@@ -189,17 +187,3 @@ access_of word args = if bytes_eq word (codes "map") then map_of args
 unfoldable pub call_line_of : List (List ℕ) → Option ScriptCall
 call_line_of [] = None
 call_line_of (word ∷ args) = option_or (table_of word args) (access_of word args)
-
--- the word after `tick` and its domain: N
-unfoldable pub tick_of : List (List ℕ) → Option ScriptAction
-tick_of (count ∷ []) = do
-  n ← tick_word count
-  Some (actions.Tick n)
-tick_of _ = None
-
--- an action, by the first word of a line and the words after its domain
-unfoldable pub action_of : List ℕ → List (List ℕ) → Option ScriptAction
-action_of word args = if bytes_eq word (codes "do") then option_map actions.Do (call_line_of args)
-    else (if bytes_eq word (codes "begin") then option_map actions.Begin (call_line_of args)
-    else (if bytes_eq word (codes "tick") then tick_of args
-    else (if bytes_eq word (codes "show") then option_map actions.Show (only_reference args) else None)))

@@ -1,7 +1,7 @@
+pub mod Body
 pub mod Calls
 pub mod Fields
 pub mod Hexadecimal
 pub mod Lines
 pub mod Numbers
-pub mod Signals
 pub mod Words

@@ -5,10 +5,7 @@ use Rattle.std.specs.Str.{bytes_eq}
 use Rattle.gt_types.specs.Names.{permission_of}
 use Rattle.gt_script_lines.specs.Numbers.{decimal_number}
 use Rattle.gt_script_lines.specs.Fields.{◌>>=◌, name_word, text_where, generation_word, type_word}
-use Rattle.gt_script_lines.specs.Calls.{action_of}
-use Rattle.gt_script_lines.specs.Signals.{is_signal_word, signal_of}
-use Rattle.gt_script_lines.specs.declared.lines.BodyLine.{BodyLine}
-use Rattle.gt_script_lines.specs.declared.lines.BodyLine.TheVariants as bodies
+use Rattle.gt_script_lines.specs.Body.{body_line_of}
 use Rattle.gt_script_lines.specs.declared.lines.TripleLine.{TripleLine}
 use Rattle.gt_script_lines.specs.declared.lines.DomainLine.{DomainLine}
 use Rattle.gt_script_lines.specs.declared.lines.ScriptLine.{ScriptLine}
@@ -38,11 +35,6 @@ domain_line_of (id ∷ label ∷ frames ∷ table_frames ∷ version ∷ []) = d
   v ← decimal_number version
   Some (record { id = i; type_name = t; frames = f; table_frames = n; version = v })
 domain_line_of _ = None
-
--- the rest of a line of the body, by its first word and the words after its domain
-unfoldable pub body_line_of : List ℕ → List (List ℕ) → Option BodyLine
-body_line_of word args = if is_signal_word word then option_map bodies.Signal (signal_of word args)
-    else option_map bodies.Action (action_of word args)
 
 -- a line of the body: its first word, then ID and the rest
 unfoldable pub body_of : List ℕ → List (List ℕ) → Option ScriptLine

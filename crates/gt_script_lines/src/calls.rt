@@ -3,11 +3,8 @@ ghost use Rattle.std.specs.Prelude.{◌≡◌, ◌≤◌, map};
 ghost use Rattle.gt_script_lines.specs.Calls.{page_of, sub_of, via_of, entry_of_kind, grant_of, map_of, unmap_of, load_of};
 ghost use Rattle.gt_script_lines.specs.Calls.{store_of, peek_of, poke_of, copy_end_of, grant_flag, copy_of, grant_bytes_of};
 ghost use Rattle.gt_script_lines.specs.Calls.{only_reference, only_number, only_domain, table_of, access_of, call_line_of};
-ghost use Rattle.gt_script_lines.specs.Calls.{tick_of, action_of};
 
-use crate::fields::{
-    domain, flags, is_word, label, mode, reference, tick_count, u16_of, u32_of, u64_of,
-};
+use crate::fields::{domain, flags, is_word, label, mode, reference, u16_of, u32_of, u64_of};
 use crate::hexadecimal::hex_text;
 use crate::texts::Text;
 use gt_entry::Entry;
@@ -103,19 +100,6 @@ pub enum ScriptCall<'a> {
     GetVersion {
         dom: DomId,
     },
-}
-
-/// An action of a line of the body.
-#[derive(Debug, Drop)]
-pub enum ScriptAction<'a> {
-    /// `do ID CALL`: makes the call from its beginning to its answer.
-    Do(ScriptCall<'a>),
-    /// `begin ID CALL`: begins the call.
-    Begin(ScriptCall<'a>),
-    /// `tick ID N`: makes up to N steps, 1 to 100,000, of the open call of the domain.
-    Tick(u32),
-    /// `show ID REF`: prints a line about the entry, and changes nothing.
-    Show(GrantRef),
 }
 
 #[tactic(auto, unfolding(crate::specs::Calls::page_of))]
@@ -337,8 +321,9 @@ fn read_copy<'a>(args: &[&'a [u8]]) -> Option<ScriptCall<'a>>
 }
 
 // Reads a reference, if it is the only word.
+/// Reads a reference, if it is the only word.
 #[tactic(auto, unfolding(crate::specs::Calls::only_reference))]
-fn only_reference(args: &[&[u8]]) -> Option<GrantRef>
+pub fn only_reference(args: &[&[u8]]) -> Option<GrantRef>
     ensures { result ≡ only_reference (map (λ word. word.now) args.now) }
 {
     match args {
@@ -439,37 +424,14 @@ fn read_access_call<'a>(word: &[u8], args: &[&'a [u8]]) -> Option<ScriptCall<'a>
     }
 }
 
+/// Reads a call: its word and its arguments; None if they are not one.
 #[tactic(auto, unfolding(crate::specs::Calls::call_line_of))]
-fn read_call<'a>(words: &[&'a [u8]]) -> Option<ScriptCall<'a>>
+pub fn read_call<'a>(words: &[&'a [u8]]) -> Option<ScriptCall<'a>>
     ensures { result ≡ call_line_of (map (λ word. word.now) words.now) }
 {
     let (word, args) = words.split_first()?;
     match read_table_call(word, args) {
         Some(call) => Some(call),
         None => read_access_call(word, args),
-    }
-}
-
-#[tactic(auto, unfolding(crate::specs::Calls::tick_of))]
-fn read_tick<'a>(args: &[&'a [u8]]) -> Option<ScriptAction<'a>>
-    ensures { result ≡ tick_of (map (λ word. word.now) args.now) }
-{
-    match args {
-        [count] => Some(ScriptAction::Tick(tick_count(count)?)),
-        _ => None,
-    }
-}
-
-/// Reads an action by the first word of a line and the words after its domain; None if they are not one.
-#[tactic(auto, unfolding(crate::specs::Calls::action_of))]
-pub fn read_action<'a>(word: &[u8], args: &[&'a [u8]]) -> Option<ScriptAction<'a>>
-    ensures { result ≡ action_of word.now (map (λ word. word.now) args.now) }
-{
-    match word {
-        b"do" => Some(ScriptAction::Do(read_call(args)?)),
-        b"begin" => Some(ScriptAction::Begin(read_call(args)?)),
-        b"tick" => read_tick(args),
-        b"show" => Some(ScriptAction::Show(only_reference(args)?)),
-        _ => None,
     }
 }

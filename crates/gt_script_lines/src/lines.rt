@@ -1,11 +1,10 @@
 //! The meaning of a line.
 ghost use Rattle.std.specs.Prelude.{◌≡◌, map};
-ghost use Rattle.gt_script_lines.specs.Lines.{triple_of, wear_of, domain_line_of, body_line_of, body_of, line_of};
+ghost use Rattle.gt_script_lines.specs.Lines.{triple_of, wear_of, domain_line_of, body_of, line_of};
 
-use crate::calls::{ScriptAction, read_action};
+use crate::body::{BodyLine, read_body_line};
 use crate::fields::{generation, is_word, label_type, name};
 use crate::numbers::{Number, decimal};
-use crate::signals::{FlagLine, is_signal_word, read_signal};
 use crate::texts::Text;
 use gt_types::Perms;
 
@@ -25,15 +24,6 @@ pub struct DomainLine<'a> {
     pub frames: Number,
     pub table_frames: Number,
     pub version: Number,
-}
-
-/// A line of the body, after its domain.
-#[derive(Debug, Drop)]
-pub enum BodyLine<'a> {
-    /// `do`, `begin`, `tick` or `show`.
-    Action(ScriptAction<'a>),
-    /// `tell` or `await`.
-    Signal(FlagLine<'a>),
 }
 
 /// A line of a script.
@@ -87,17 +77,6 @@ fn read_domain<'a>(args: &[&'a [u8]]) -> Option<DomainLine<'a>>
     }
 }
 
-#[tactic(auto, unfolding(crate::specs::Lines::body_line_of))]
-fn read_asked<'a>(word: &[u8], args: &[&'a [u8]]) -> Option<BodyLine<'a>>
-    ensures { result ≡ body_line_of word.now (map (λ word. word.now) args.now) }
-{
-    if is_signal_word(word) {
-        Some(BodyLine::Signal(read_signal(word, args)?))
-    } else {
-        Some(BodyLine::Action(read_action(word, args)?))
-    }
-}
-
 #[tactic(auto, unfolding(crate::specs::Lines::body_of))]
 fn read_body<'a>(word: &[u8], args: &[&'a [u8]]) -> Option<ScriptLine<'a>>
     ensures { result ≡ body_of word.now (map (λ word. word.now) args.now) }
@@ -105,7 +84,7 @@ fn read_body<'a>(word: &[u8], args: &[&'a [u8]]) -> Option<ScriptLine<'a>>
     match args {
         [id, rest @ ..] => Some(ScriptLine::Body {
             id: decimal(id)?,
-            asks: read_asked(word, rest)?,
+            asks: read_body_line(word, rest)?,
         }),
         _ => None,
     }

@@ -7,12 +7,12 @@ use Rattle.gt_explore.proofs.answering.claim_told.Goals as goal
 
 pub returns-in-Find : goal.returns-in-Find
 returns-in-Find c =
-    subst (λ (k : Claim). IfOk c.texts_told.result (λ t. TellsClaimBy (run_told c.args.script.now) k (found_told c.args.found.now) c.args.met.now c.args.judgement t.items)) (sym c.in-Find.is) c.texts_told.ensures
+    subst (λ (k : Claim). IfOk c.texts_told.result (λ t. TellsClaimBy (run_told c.args.script.now) k (found_told c.args.found.now) c.args.met.now c.args.claimed.judgement t.items)) (sym c.in-Find.is) c.texts_told.ensures
 
 pub returns-in-Never : goal.returns-in-Never
 returns-in-Never c =
-    subst (λ (k : Claim). IfOk c.verdict_told.result (λ t. TellsClaimBy (run_told c.args.script.now) k (found_told c.args.found.now) c.args.met.now c.args.judgement t.items)) (sym c.in-Never.is) c.verdict_told.ensures
+    subst (λ (k : Claim). IfOk c.verdict_told.result (λ t. TellsClaimBy (run_told c.args.script.now) k (found_told c.args.found.now) c.args.met.now c.args.claimed.judgement t.items)) (sym c.in-Never.is) c.verdict_told.ensures
 
 pub returns-in-Always : goal.returns-in-Always
 returns-in-Always c =
-    subst (λ (k : Claim). IfOk c.verdict_told-in-Always.result (λ t. TellsClaimBy (run_told c.args.script.now) k (found_told c.args.found.now) c.args.met.now c.args.judgement t.items)) (sym c.in-Always.is) c.verdict_told-in-Always.ensures
+    subst (λ (k : Claim). IfOk c.verdict_told-in-Always.result (λ t. TellsClaimBy (run_told c.args.script.now) k (found_told c.args.found.now) c.args.met.now c.args.claimed.judgement t.items)) (sym c.in-Always.is) c.verdict_told-in-Always.ensures
