@@ -26,9 +26,10 @@ abbrev pub dir_name : Dir → List ℕ
 dir_name Read = codes "read"
 dir_name Write = codes "write"
 
--- a pin: its entry, and whether it is for reading or for writing
-abbrev pub pin_part : TraceForm → HeldPin → List ℕ
-pin_part form p = entry_part form p.dom p.gref ++ value_part form (codes "pin") (dir_name p.dir)
+-- a step that takes or drops a pin, by its letter: the entry, and whether the pin is for reading or for writing
+abbrev pub pin_text : TraceForm → List ℕ → HeldPin → List ℕ
+pin_text form letter p =
+    move_part form letter ++ entry_part form p.dom p.gref ++ value_part form (codes "pin") (dir_name p.dir)
 
 abbrev pub change_name : EntryChange → List ℕ
 change_name (Publish entry) = codes "publish"
@@ -97,8 +98,8 @@ step_text form dom (steps.LookHeader owner) =
     move_part form (codes "H") ++ number_part form (codes "owner") (decimal owner.0)
 step_text form dom (steps.LookControl owner gref) = look_text form (codes "C") owner gref
 step_text form dom (steps.LookBody owner gref half) = look_text form (look_letters half) owner gref
-step_text form dom (steps.Pin p) = move_part form (codes "P") ++ pin_part form p ++ word_part form (codes "from") p.word
-step_text form dom (steps.Unpin p holder) = move_part form (codes "U") ++ pin_part form p
+step_text form dom (steps.Pin p) = pin_text form (codes "P") p ++ word_part form (codes "from") p.word
+step_text form dom (steps.Unpin p holder) = pin_text form (codes "U") p
 step_text form dom (steps.StoreBody gref half word) =
     move_part form (store_letters half) ++ entry_part form dom gref ++ word_part form (codes "word") word
 step_text form dom (steps.Exchange gref looked change) = exchange_text form dom gref looked change

@@ -1,7 +1,7 @@
 //! The facts of a step of a call, and of what it saw.
 ghost use Rattle.std.specs.Prelude.{◌≡◌, ◌++◌, OnOk, codes};
 ghost use Rattle.gt_explore_trace.specs.Steps.{access_start, change_name, copy_text, dir_name, entry_part, exchange_text};
-ghost use Rattle.gt_explore_trace.specs.Steps.{from_part, header_text, look_letters, look_text, pin_part, range_part, seen_part};
+ghost use Rattle.gt_explore_trace.specs.Steps.{from_part, header_text, look_letters, look_text, pin_text, range_part, seen_part};
 ghost use Rattle.gt_explore_trace.specs.Steps.{step_text, store_letters, taken_part, to_part};
 
 use crate::facts::{TraceForm, push_move_part, push_number_part, push_value_part, push_word_part};
@@ -33,10 +33,16 @@ fn dir_name(dir: Dir) -> &'static str
     }
 }
 
-// Appends a pin.
-fn push_pin(out: &mut Vec<u8>, form: TraceForm, pin: HeldPin) -> Result<(), AllocError>
-    ensures { OnOk result (out.new.items ≡ out.old.items ++ pin_part form pin) }
+// Appends a step that takes or drops a pin, by its letter.
+fn push_pin(
+    out: &mut Vec<u8>,
+    form: TraceForm,
+    letter: &str,
+    pin: HeldPin,
+) -> Result<(), AllocError>
+    ensures { OnOk result (out.new.items ≡ out.old.items ++ pin_text form letter.now pin) }
 {
+    push_move_part(out, form, letter)?;
     push_entry(out, form, pin.dom, pin.gref)?;
     push_value_part(out, form, "pin", dir_name(pin.dir))
 }
@@ -207,14 +213,10 @@ pub fn push_step(
             half,
         } => push_look(out, form, look_letters(half), owner, gref),
         Step::Pin { held } => {
-            push_move_part(out, form, "P")?;
-            push_pin(out, form, held)?;
+            push_pin(out, form, "P", held)?;
             push_word_part(alloc, out, form, "from", held.word)
         }
-        Step::Unpin { held, .. } => {
-            push_move_part(out, form, "U")?;
-            push_pin(out, form, held)
-        }
+        Step::Unpin { held, .. } => push_pin(out, form, "U", held),
         Step::StoreBody { gref, half, word } => {
             push_move_part(out, form, store_letters(half))?;
             push_entry(out, form, dom, gref)?;
