@@ -136,6 +136,18 @@ fn with_copy(source: End, dest: End, len: u16, flags: u16, rest: Packed) -> Pack
     }
 }
 
+// Packs a call about the caller's own table, and the number that it asks for.
+#[inline(always)]
+fn with_number(asked: CallKind, number: u32, bare: Packed) -> Packed
+    ensures { result ≡ record bare { asked = asked; source = number } }
+{
+    Packed {
+        asked,
+        source: u64::from(number),
+        ..bare
+    }
+}
+
 #[inline(always)]
 fn with_call(call: Hypercall, rest: Packed) -> Packed
     ensures { HasCall call rest result }
@@ -181,16 +193,8 @@ fn with_call(call: Hypercall, rest: Packed) -> Packed
             dom: dom.0,
             ..bare
         },
-        Hypercall::SetVersion { version } => Packed {
-            asked: CallKind::SetVersion,
-            source: u64::from(version),
-            ..bare
-        },
-        Hypercall::SetupTable { frames } => Packed {
-            asked: CallKind::SetupTable,
-            source: u64::from(frames),
-            ..bare
-        },
+        Hypercall::SetVersion { version } => with_number(CallKind::SetVersion, version, bare),
+        Hypercall::SetupTable { frames } => with_number(CallKind::SetupTable, frames, bare),
     }
 }
 
