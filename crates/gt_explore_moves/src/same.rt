@@ -16,27 +16,11 @@ use gt_calls::{
 };
 use gt_types::{Denial, Facts};
 
-fn same_asked(one: OpenRequest, other: OpenRequest) -> bool
+// Whether two accesses to bytes are the same.
+fn same_access(one: OpenRequest, other: OpenRequest) -> bool
     ensures { IsTrue result → other ≡ one }
 {
     match (one, other) {
-        (OpenRequest::Grant { gref, entry }, OpenRequest::Grant { gref: g, entry: e }) => {
-            gref == g && entry == e
-        }
-        (OpenRequest::Revoke { gref }, OpenRequest::Revoke { gref: g })
-        | (OpenRequest::Withdraw { gref }, OpenRequest::Withdraw { gref: g })
-        | (OpenRequest::Demote { gref }, OpenRequest::Demote { gref: g })
-        | (OpenRequest::Promote { gref }, OpenRequest::Promote { gref: g }) => gref == g,
-        (
-            OpenRequest::Map { dom, gref, flags },
-            OpenRequest::Map {
-                dom: d,
-                gref: g,
-                flags: f,
-            },
-        ) => dom == d && gref == g && flags == f,
-        (OpenRequest::Unmap { handle }, OpenRequest::Unmap { handle: h })
-        | (OpenRequest::Release { handle }, OpenRequest::Release { handle: h }) => handle == h,
         (
             OpenRequest::Load { handle, off, len },
             OpenRequest::Load {
@@ -71,12 +55,37 @@ fn same_asked(one: OpenRequest, other: OpenRequest) -> bool
         ) => frame == f && off == o && len == l,
         (OpenRequest::Copy(args), OpenRequest::Copy(a))
         | (OpenRequest::Probe(args), OpenRequest::Probe(a)) => args == a,
+        _ => false,
+    }
+}
+
+fn same_asked(one: OpenRequest, other: OpenRequest) -> bool
+    ensures { IsTrue result → other ≡ one }
+{
+    match (one, other) {
+        (OpenRequest::Grant { gref, entry }, OpenRequest::Grant { gref: g, entry: e }) => {
+            gref == g && entry == e
+        }
+        (OpenRequest::Revoke { gref }, OpenRequest::Revoke { gref: g })
+        | (OpenRequest::Withdraw { gref }, OpenRequest::Withdraw { gref: g })
+        | (OpenRequest::Demote { gref }, OpenRequest::Demote { gref: g })
+        | (OpenRequest::Promote { gref }, OpenRequest::Promote { gref: g }) => gref == g,
+        (
+            OpenRequest::Map { dom, gref, flags },
+            OpenRequest::Map {
+                dom: d,
+                gref: g,
+                flags: f,
+            },
+        ) => dom == d && gref == g && flags == f,
+        (OpenRequest::Unmap { handle }, OpenRequest::Unmap { handle: h })
+        | (OpenRequest::Release { handle }, OpenRequest::Release { handle: h }) => handle == h,
         (OpenRequest::SetVersion { version }, OpenRequest::SetVersion { version: v }) => version
             == v,
         (OpenRequest::SetupTable { frames }, OpenRequest::SetupTable { frames: f }) => frames == f,
         (OpenRequest::QuerySize { dom }, OpenRequest::QuerySize { dom: d })
         | (OpenRequest::GetVersion { dom }, OpenRequest::GetVersion { dom: d }) => dom == d,
-        _ => false,
+        _ => same_access(one, other),
     }
 }
 
