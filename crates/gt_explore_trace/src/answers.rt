@@ -1,48 +1,15 @@
 //! The answers of calls.
 ghost use Rattle.std.specs.Prelude.{◌≡◌, ◌++◌, OnOk};
 ghost use Rattle.std.specs.Option.{option_map};
-ghost use Rattle.gt_host.specs.Printing.{answer_text, bytes_text};
 ghost use Rattle.gt_explore_trace.specs.Lines.{answer_member, answer_of, answer_part};
 
 use gt_core::Answer;
 use gt_explore_replay::Moved;
+use gt_host::push_answer;
 use gt_json::push_quoted;
 use gt_script_lines::Text;
-use gt_text::{push_denial, push_frames, push_size, push_text, push_version};
+use gt_text::push_text;
 use std::alloc::{AllocError, Global};
-
-fn push_bytes(alloc: Global, out: &mut Vec<u8>, bytes: &[u8]) -> Result<(), AllocError>
-    ensures { OnOk result (out.new.items ≡ out.old.items ++ bytes_text bytes.now) }
-{
-    if bytes.is_empty() {
-        return Ok(());
-    }
-    push_text(out, " ")?;
-    let digits = hex::encode(alloc, bytes)?;
-    push_text(out, digits.as_str())
-}
-
-/// Appends an answer, as `play` prints it.
-pub fn push_answer(
-    alloc: Global,
-    out: &mut Vec<u8>,
-    names: &[Text],
-    answer: &Answer,
-) -> Result<(), AllocError>
-    ensures { OnOk result (out.new.items ≡ out.old.items ++ answer_text names.now answer.now) }
-{
-    match answer {
-        Answer::Done | Answer::Mapped(_) => push_text(out, "ok"),
-        Answer::Bytes(answered) => {
-            push_text(out, "ok")?;
-            push_bytes(alloc, out, answered.bytes.as_slice())
-        }
-        Answer::Frames(frames) => push_frames(out, *frames),
-        Answer::Size(size) => push_size(out, *size),
-        Answer::Version(version) => push_version(out, *version),
-        Answer::Denied(denial) => push_denial(out, names, *denial),
-    }
-}
 
 /// Returns the answer of the call that ended by a move, if one did.
 pub fn answer_of(moved: &Moved) -> Option<&Answer>

@@ -4,7 +4,7 @@ ghost use Rattle.std.specs.Option.{option_map};
 ghost use Rattle.gt_script.specs.RunContents.{run_told};
 ghost use Rattle.gt_explore_trace.specs.Lines.{line_value, line_word, move_words, step_members, step_words, trace_told};
 
-use crate::answers::{answer_of, push_answer, push_answer_member, push_answer_part};
+use crate::answers::{answer_of, push_answer_member, push_answer_part};
 use crate::diagram::{push_arrow, push_note};
 use crate::facts::{TraceForm, push_move_part, push_value_part};
 use crate::moves::TracedMove;
@@ -13,6 +13,7 @@ use crate::places::task_of;
 use crate::steps::{push_seen, push_step};
 use gt_core::Answer;
 use gt_explore_replay::Moved;
+use gt_host::push_answer;
 use gt_script::{RunScript, RunTask};
 use gt_script_lines::Text;
 use gt_text::{push_number, push_text};

@@ -20,7 +20,9 @@ fn push_bytes(alloc: Global, out: &mut Vec<u8>, bytes: &[u8]) -> Result<(), Allo
     push_text(out, digits.as_str())
 }
 
-fn push_answer(
+/// Appends an answer without its line: `ok`, the value that it has, or the rule, the status and the facts of a refusal.
+/// `names` has the names of the types by their numbers. After an Err, part of it may have been appended.
+pub fn push_answer(
     alloc: Global,
     out: &mut Vec<u8>,
     names: &[Text],

@@ -26,7 +26,7 @@ mod rights;
 mod run;
 mod showing;
 
-pub use answers::push_answer_line;
+pub use answers::{push_answer, push_answer_line};
 pub use fault::PlayFault;
 pub use labels::Labels;
 pub use laws::{every_beginning_is_of_the_text, every_script_prints_one_text};
