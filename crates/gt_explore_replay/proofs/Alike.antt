@@ -24,7 +24,7 @@ use Rattle.gt_core.specs.declared.trace.ItemEvent.TheVariants.{Began, Stepped}
 use Rattle.gt_core.specs.declared.trace.Item.{Item}
 use Rattle.gt_core.proofs.AlikeRuns.{does-alike, alike-grows}
 use Rattle.gt_script_lines.specs.declared.calls.ScriptCall.{ScriptCall}
-use Rattle.gt_script.specs.declared.script.ScriptAction.TheVariants as actions
+use Rattle.gt_script.specs.declared.actions.ScriptAction.TheVariants as actions
 use Rattle.gt_host.specs.Runs.{Named, SaysRequest, answer_in, handle_given, label_given, with_name}
 use Rattle.gt_host.proofs.AlikeLemmas.{bare_names, NamesGiven, AnswerGiven, asks-same, asks-known, named-same}
 use Rattle.gt_host.proofs.AlikeLemmas.{named-given}

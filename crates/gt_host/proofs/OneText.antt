@@ -9,8 +9,8 @@ use Rattle.std.proofs.lemmas.List.{append-nil, length-replicate}
 use Rattle.gt_types.specs.declared.DomId.{DomId}
 use Rattle.gt_types.specs.declared.GrantRef.{GrantRef}
 use Rattle.gt_script_lines.specs.declared.calls.ScriptCall.{ScriptCall}
-use Rattle.gt_script.specs.declared.script.ScriptAction.{ScriptAction}
-use Rattle.gt_script.specs.declared.script.ScriptAction.TheVariants as actions
+use Rattle.gt_script.specs.declared.actions.ScriptAction.{ScriptAction}
+use Rattle.gt_script.specs.declared.actions.ScriptAction.TheVariants as actions
 use Rattle.gt_script.specs.Contents.{Contents, type_names}
 use Rattle.gt_script.specs.Script.{TellsScript, Wrong}
 use Rattle.gt_script.specs.declared.script.ScriptStep.{ScriptStep}

@@ -25,7 +25,7 @@ pub use Rattle.gt_host.specs.declared.fault.PlayFault.{PlayFault}
 pub use Rattle.gt_host.specs.declared.fault.PlayFault.TheVariants.{Memory, Policy, Read, Script, Write}
 pub use Rattle.gt_host.specs.declared.rights.ScriptPolicy.{ScriptPolicy}
 pub use Rattle.gt_script_lines.specs.Hexadecimal.{hex_bytes}
-pub use Rattle.gt_script.specs.declared.script.ScriptAction.{ScriptAction}
+pub use Rattle.gt_script.specs.declared.actions.ScriptAction.{ScriptAction}
 pub use Rattle.gt_script_lines.specs.declared.calls.ScriptCall.{ScriptCall}
 pub use Rattle.gt_script.specs.Blocks.{block_fault_shown}
 pub use Rattle.gt_script.specs.Contents.{Contents, first_gen, type_names}

@@ -5,7 +5,7 @@ use Rattle.gt_host.specs.Prelude.{Bor, bytes_eq, DomId, GrantRef, DomainConfig, 
 use Rattle.gt_host.specs.Prelude.{ScriptStep, Handle, Request, Answer, Mapped, Event, Begin, Tick, Item, Element}
 use Rattle.gt_host.specs.Prelude.{History, Setting, open_call, history_after, shown_at}
 use Rattle.gt_script_lines.specs.declared.calls.ScriptCall.TheVariants as calls
-use Rattle.gt_script.specs.declared.script.ScriptAction.TheVariants as actions
+use Rattle.gt_script.specs.declared.actions.ScriptAction.TheVariants as actions
 use Rattle.gt_calls.specs.declared.request.Request.TheVariants as requests
 use Rattle.gt_core.specs.declared.trace.Element.TheVariants as elements
 use Rattle.gt_host.specs.Printing.{answer_line, busy_line, idle_line, open_line}

@@ -31,7 +31,7 @@ use Rattle.gt_script.specs.Laws.{lines_said, triple_in, wear_in, domain_in, step
 use Rattle.gt_script.specs.Laws.{asks_for}
 use Rattle.gt_script.specs.Laws.{is_for, IsLine}
 use Rattle.gt_script_lines.specs.declared.numbers.Number.{Number}
-use Rattle.gt_script.specs.declared.script.ScriptAction.{ScriptAction}
+use Rattle.gt_script.specs.declared.actions.ScriptAction.{ScriptAction}
 use Rattle.gt_script_lines.specs.declared.lines.TripleLine.{TripleLine}
 use Rattle.gt_script_lines.specs.declared.lines.DomainLine.{DomainLine}
 use Rattle.gt_script_lines.specs.declared.lines.ScriptLine.{ScriptLine}

@@ -3,7 +3,7 @@ pub use Rattle.gt_script_lines.specs.Fields.{◌>>=◌}
 pub use Rattle.gt_script_lines.specs.Lines.{line_of}
 pub use Rattle.gt_script_lines.specs.Numbers.{number_below}
 pub use Rattle.gt_script_lines.specs.Words.{words}
-pub use Rattle.gt_script.specs.declared.script.ScriptAction.{ScriptAction}
+pub use Rattle.gt_script.specs.declared.actions.ScriptAction.{ScriptAction}
 pub use Rattle.gt_script_lines.specs.declared.body.BodyLine.{BodyLine}
 pub use Rattle.gt_script_lines.specs.declared.lines.DomainLine.{DomainLine}
 pub use Rattle.gt_script_lines.specs.declared.lines.ScriptLine.{ScriptLine}

@@ -10,7 +10,7 @@ use Rattle.gt_policy.specs.declared.fault.TokenFault as policy
 use Rattle.gt_script.specs.Blocks.{opening, closing, Means, IsFaultyBlock}
 use Rattle.gt_script.specs.Types.{with_type_name}
 use Rattle.gt_script.specs.Contents.{Contents, empty, with_policy}
-use Rattle.gt_script.specs.declared.script.ScriptAction.TheVariants as actions
+use Rattle.gt_script.specs.declared.actions.ScriptAction.TheVariants as actions
 use Rattle.gt_script_lines.specs.declared.body.BodyLine.TheVariants as bodies
 use Rattle.gt_script.specs.declared.tasks.RunActionBy.TheVariants as runs
 use Rattle.gt_script_lines.specs.declared.lines.ScriptLine.TheVariants as line

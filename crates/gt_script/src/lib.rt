@@ -12,6 +12,7 @@
 //! `gt_script_lines` and `indexmap` (the names of flags).
 #![tactic(auto)]
 
+mod actions;
 mod blocks;
 mod command;
 mod faults;
@@ -24,10 +25,11 @@ mod stuck;
 mod tasks;
 mod types;
 
+pub use actions::ScriptAction;
 pub use faults::{BlockFault, ScriptError, ScriptFault, ScriptFaultKind};
 pub use gt_script_lines::{ScriptCall, Text, hex_bytes};
 pub use laws::{every_fault_is_reported, every_text_tells_one_thing};
 pub use parsing::parse;
 pub use run_script::{RunScript, parse_run};
-pub use script::{Script, ScriptAction, ScriptStep};
+pub use script::{Script, ScriptStep};
 pub use tasks::{RunAction, RunActionBy, RunTask, RunTaskBy};

@@ -1,34 +1,22 @@
 //! A script: the contents of its lines, in order.
 ghost use Rattle.std.specs.Prelude.{◌≡◌, ◌≤◌, ◌<◌, ◌+◌, ◌^◌, length, map, IfOk};
 ghost use Rattle.gt_types.specs.Config.{is_taken};
-ghost use Rattle.gt_script.specs.Script.{domain_written, configured, play_action_in, run_action_in};
+ghost use Rattle.gt_script.specs.Script.{domain_written, configured};
 ghost use Rattle.gt_script.specs.Contents.{contents_told};
 
+use crate::actions::{ScriptAction, play_action_in, run_action_in};
 use crate::command::ScriptCommand;
 use crate::faults::{ScriptError, ScriptFault, ScriptFaultKind};
-use crate::tasks::{NamedRunTask, RunActionBy};
+use crate::tasks::NamedRunTask;
 use crate::types::TypeNames;
 use gt_policy::Policy;
 use gt_script_lines::{
-    BodyLine, DomainLine, Number, ScriptCall, ScriptLine, Text, TripleLine, line_words, read_line,
+    BodyLine, DomainLine, Number, ScriptLine, Text, TripleLine, line_words, read_line,
 };
-use gt_types::{DomId, DomainConfig, GrantRef, Triple, TypeId};
+use gt_types::{DomId, DomainConfig, Triple, TypeId};
 use std::alloc::{AllocError, Global};
 use std::marker::Model;
 use std::mem;
-
-/// What a line of the body is for `play`.
-#[derive(Debug, Drop)]
-pub enum ScriptAction<'a> {
-    /// `do ID CALL`: makes the call from its beginning to its answer.
-    Do(ScriptCall<'a>),
-    /// `begin ID CALL`: begins the call.
-    Begin(ScriptCall<'a>),
-    /// `tick ID N`: makes up to N steps, 1 to 100,000, of the open call of the domain.
-    Tick(u32),
-    /// `show ID REF`: prints a line about the entry, and changes nothing.
-    Show(GrantRef),
-}
 
 /// A line of the body for `play`, with its number and its domain.
 #[derive(Debug, Drop)]
@@ -116,33 +104,6 @@ fn configured(domains: &[DomainConfig], number: Number) -> Option<DomId>
         Some(dom)
     } else {
         None
-    }
-}
-
-// Returns what a line of the body is for `play`: an action.
-#[tactic(auto, unfolding(crate::specs::Script::play_action_in))]
-fn play_action_in<'a>(asks: BodyLine<'a>) -> Option<ScriptAction<'a>>
-    ensures { result ≡ play_action_in asks.entry }
-{
-    match asks {
-        BodyLine::Do(call) => Some(ScriptAction::Do(call)),
-        BodyLine::Begin(call) => Some(ScriptAction::Begin(call)),
-        BodyLine::Tick(most) => Some(ScriptAction::Tick(most)),
-        BodyLine::Show(gref) => Some(ScriptAction::Show(gref)),
-        BodyLine::Tell(_) | BodyLine::Await(_) => None,
-    }
-}
-
-// Returns what a line of the body is for `run`: a whole call, or a flag that is raised or awaited.
-#[tactic(auto, unfolding(crate::specs::Script::run_action_in))]
-fn run_action_in<'a>(asks: BodyLine<'a>) -> Option<RunActionBy<'a, Text<'a>>>
-    ensures { result ≡ run_action_in asks.entry }
-{
-    match asks {
-        BodyLine::Do(call) => Some(RunActionBy::Do(call)),
-        BodyLine::Begin(_) | BodyLine::Tick(_) | BodyLine::Show(_) => None,
-        BodyLine::Tell(flag) => Some(RunActionBy::Tell(flag)),
-        BodyLine::Await(flag) => Some(RunActionBy::Await(flag)),
     }
 }
 

@@ -1,6 +1,6 @@
 use Rattle.std.proofs.Common.{subst, sym, OnOk}
 use Rattle.gt_core.specs.Acting.{setting_of}
-use Rattle.gt_script.specs.declared.script.ScriptAction.{ScriptAction}
+use Rattle.gt_script.specs.declared.actions.ScriptAction.{ScriptAction}
 use Rattle.gt_host.specs.Runs.{RunsLine}
 use Rattle.gt_host.specs.Ticking.{Leads}
 use Rattle.gt_host.proofs.LineLemmas.{shows}

@@ -1,0 +1,80 @@
+#!/usr/bin/env python3
+"""Measures the way of a line of a script: the functions, files and crates of this repository that run for it, and the
+types through which its call and its answer pass.
+
+A function runs for the line if it is called more often than in the same script without the line. The program is built
+without optimization, by the kit's own compiler, in a copy of the repository, so that each function is there under its
+name; instances of a generic function count once. Callgrind counts the calls. A change of type is a function of the way
+whose result has another type than the value that it takes: WALKS lists them, and each must run for the line and name
+its type.
+
+usage: tools/walks.py [PROGRAM]    PROGRAM: built so before (`rt run --backend rattle --opt-level 0 -- --help`)
+"""
+import glob, os, re, subprocess, sys, tempfile
+
+TOP = os.path.dirname(os.path.dirname(os.path.abspath(__file__)))
+
+HEAD = """triple b_t a_t map_read
+triple b_t a_t map_write
+triple a_t b_t copy
+domain 1 u:r:a_t 8 1 1
+domain 2 u:r:b_t 8 1 1
+do 1 grant 0 page 2 rw 5
+"""
+
+# A line, the command, the changes of type up to the first step, and those from the last result to the line's answer:
+# each is the type and the function that returns it.
+WALKS = [
+    (
+        "do 2 map h 1 0 rw",
+        "play",
+        [
+            ("ScriptCall", "gt_script_lines::calls::read_map"),
+            ("BodyLine", "gt_script_lines::body::read_body_line"),
+            ("ScriptLine", "gt_script_lines::lines::read_line"),
+            ("ScriptAction", "gt_script::script::play_action_in"),
+            ("Script", "gt_script::script::Script::with_step"),
+            ("Request", "gt_host::run::request_of"),
+            ("OpenRequest", "gt_calls::asking::judge_request"),
+            ("CallStart", "gt_calls::call::Call::begin"),
+            ("Action", "gt_calls::call::Call::next"),
+        ],
+        [
+            ("Answer", "gt_core::state::DomainState::add_mapping"),
+            ("Ticked", "gt_core::machine::ticked_as"),
+            ("Answer", "gt_host::run::tick_up_to"),
+        ],
+    ),
+    (
+        "do 2 copy gref 1 0 0 frame self 3 0 4",
+        "run",
+        [],
+        [],
+    ),
+]
+
+
+def calls_of(program, command, script):
+    """Returns how often each function is called when the command runs this script."""
+    with tempfile.TemporaryDirectory() as room:
+        file, counts = f"{room}/script.gt", f"{room}/counts"
+        with open(file, "w", encoding="utf-8") as it:
+            it.write(script)
+        valgrind = ["valgrind", "--tool=callgrind", f"--callgrind-out-file={counts}"]
+        subprocess.run([*valgrind, program, command, file], check=True, capture_output=True)
+        return counted(counts)
+
+
+def counted(file):
+    """Reads the calls of each function from what callgrind wrote."""
+    names, found, called = {}, {}, None
+    with open(file, encoding="utf-8", errors="replace") as lines:
+        for line in lines:
+            told = re.match(r"(fn|cfn)=\((\d+)\)(?: (.*))?", line)
+            if told:
+                if told[3]:
+                    names[told[2]] = told[3].strip()
+                called = names[told[2]] if told[1] == "cfn" else None
+            elif line.startswith("calls=") and called:
+                found[called] = found.get(called, 0) + int(line[6:].split()[0])
+    return found
