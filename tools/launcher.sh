@@ -213,7 +213,8 @@ if [ "$runs" -eq 1 ]; then
 else
   # Each crate below the program once, each after those below it, in each lane some of them.
   sed 's|.*/crates/\([a-z_]*\) .*|\1|' "$work/libs" >"$work/proved"
-  awk -v name=gthost -f "$top/tools/order.awk" "$top/crates.txt" "$top/docs/GATE.md" | sed '/^gthost /d' >"$work/below"
+  awk -v name=gthost -f "$top/tools/order.awk" "$top/crates.txt" "$top/docs/GATE.md" |
+    cut -d ' ' -f 2- | sed '/^gthost /d' >"$work/below"
   [ "$(sort "$work/proved")" = "$(cut -d ' ' -f 1 "$work/below" | sort)" ] || wrong 'other crates than those below the program'
   awk 'NR == FNR { for (i = 2; i <= NF; i++) below[$1] = below[$1] " " $i; next }
     { n = split(below[$1], parts, " "); for (i = 1; i <= n; i++) if (!(parts[i] in done)) exit 1; done[$1] = 1 }' \
@@ -236,12 +237,16 @@ anew; STUB=fails; try 'an open goal' 1 build; has 'an open goal' err 'a goal is 
 STUB=full; try 'a full disk' 1 build; has 'a full disk' err 'the disk is full.*log: '; lines 'a full disk' 2
 STUB=good; try 'once it is mended' 0 build; try 'the program then' 3 play x
 
+# At first only the crates that have none below them can be proved.
+at_once="$(awk -v name=gthost -f "$top/tools/order.awk" "$top/crates.txt" "$top/docs/GATE.md" | grep -c '^[0-9]* [a-z_]*$')"
+if [ "$at_once" -gt "$runs" ]; then at_once="$runs"; fi
+
 # Signals: the build ends with its children, the status is the signal's, and the next run builds.
 for signal in INT TERM HUP; do
   anew; STUB=slow; tried=$((tried + 1)); rm -f "$work/children"
   env --default-signal="$signal" "$checkout/gthost" build >"$work/out" 2>"$work/err" </dev/null &
   launcher=$! status=0
-  until [ -e "$work/children" ] && [ "$(wc -l <"$work/children")" -eq "$runs" ]; do sleep 0.1; done
+  until [ -e "$work/children" ] && [ "$(wc -l <"$work/children")" -eq "$at_once" ]; do sleep 0.1; done
   kill -s "$signal" "$launcher"
   wait "$launcher" || status=$?
   [ "$status" -eq $((128 + $(kill -l "$signal"))) ] || wrong "$signal: status $status"

@@ -1,5 +1,6 @@
-# The order in which a build proves the crates below a program: a line for each, with the crates just below it, and first
-# those with the longest chain of crates above them. What each crate costs is read from the table of docs/GATE.md.
+# The order in which a build proves the crates below a program: a line for each, first those with the longest chain of
+# crates up to the program. It has the seconds of that chain, the crate, and the crates just below it. What each crate
+# costs is read from the table of docs/GATE.md.
 #
 # usage: awk -v name=gthost -f tools/order.awk crates.txt docs/GATE.md
 function add_below(crate,    parts, n, i) {
@@ -31,5 +32,5 @@ FILENAME ~ /crates.txt$/ && /^[a-z]/ {
 /^\| [a-z_]+ \| [0-9]+ \|/ { if ($2 in cost) cost[$2] = $4 }
 END {
   add_below(name)
-  for (crate in is_below) printf "%06d %s%s\n", chain(crate), crate, below[crate] | "sort -rn | cut -d ' ' -f 2-"
+  for (crate in is_below) printf "%d %s%s\n", chain(crate), crate, below[crate] | "sort -rn"
 }
