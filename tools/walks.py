@@ -78,3 +78,65 @@ def counted(file):
             elif line.startswith("calls=") and called:
                 found[called] = found.get(called, 0) + int(line[6:].split()[0])
     return found
+
+
+def sources():
+    """Returns the source file of each module of the repository's crates, by its path (`gt_calls::call`)."""
+    found = {}
+    for file in glob.glob(f"{TOP}/crates/*/src/**/*.rt", recursive=True):
+        crate, inside = re.fullmatch(r".*/crates/(\w+)/src/(.*)\.rt", file).groups()
+        parts = [it for it in inside.split("/") if it not in ("lib", "main", "mod")]
+        found["::".join([crate, *parts])] = file
+    return found
+
+
+def file_of(function, modules):
+    """Returns the file of a function: that of the longest module in its path."""
+    parts = function.split("::")
+    while parts and "::".join(parts) not in modules:
+        parts.pop()
+    return modules.get("::".join(parts))
+
+
+def result_of(function, modules):
+    """Returns the result type of a function, as its source has it."""
+    with open(file_of(function, modules), encoding="utf-8") as it:
+        text = it.read()
+    head = re.search(rf"\bfn {function.rpartition('::')[2]}\b.*?(?=\n\s*(?:ensures|requires|\{{))", text, re.S)
+    return head[0].rpartition("->")[2] if head and "->" in head[0] else ""
+
+
+def walk(program, line, command, modules):
+    """Returns the functions of the repository that run for this line."""
+    before, after = calls_of(program, command, HEAD), calls_of(program, command, f"{HEAD}{line}\n")
+    ours = {it.partition("::")[0] for it in modules}
+    return {it for it in after if it.partition("::")[0] in ours and after[it] > before.get(it, 0)}
+
+
+def main(words):
+    modules = sources()
+    wrong = 0
+    with tempfile.TemporaryDirectory() as room:
+        program = words[0] if words else built(room)
+        for line, command, there, back in WALKS:
+            ran = walk(program, line, command, modules)
+            for kind, function in [*there, *back]:
+                if function not in ran or not re.search(rf"\b{kind}\b", result_of(function, modules)):
+                    print(f"walks: {function} does not run for `{line}`, or does not return {kind}", file=sys.stderr)
+                    wrong = 1
+            files = {file_of(it, modules) for it in ran}
+            crates = {it.partition("::")[0] for it in ran}
+            print(f"| `{line}`, `{command}` | {len(ran)} | {len(files)} | {len(crates)} | {len(there)} | {len(back)} |")
+    return wrong
+
+
+def built(room):
+    """Builds the program without optimization in a copy of the repository, and returns its path."""
+    subprocess.run(f"cd '{TOP}' && tar -c --exclude=out crates.txt HANDLES crates | tar -x -C '{room}'", shell=True, check=True)
+    folder = f"{room}/crates/gthost"
+    subprocess.run(["rt", "run", "--backend", "rattle", "--opt-level", "0", "--", "--help"], cwd=folder, check=True, stdout=sys.stderr)
+    return f"{folder}/out/gthost"
+
+
+if __name__ == "__main__":
+    sys.exit(main(sys.argv[1:]))
