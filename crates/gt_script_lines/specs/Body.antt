@@ -17,11 +17,14 @@ unfoldable pub flag_of : List (List ℕ) → Option (List ℕ)
 flag_of (flag ∷ []) = text_where label_word flag
 flag_of _ = None
 
+-- a line about a flag, by its first word and the words after its domain
+unfoldable pub flag_line_of : List ℕ → List (List ℕ) → Option BodyLine
+flag_line_of word args = if bytes_eq word (codes "tell") then option_map Tell (flag_of args)
+    else (if bytes_eq word (codes "await") then option_map Await (flag_of args) else None)
+
 -- a line of the body, by its first word and the words after its domain
 unfoldable pub body_line_of : List ℕ → List (List ℕ) → Option BodyLine
 body_line_of word args = if bytes_eq word (codes "do") then option_map Do (call_line_of args)
     else (if bytes_eq word (codes "begin") then option_map Begin (call_line_of args)
     else (if bytes_eq word (codes "tick") then option_map Tick (tick_of args)
-    else (if bytes_eq word (codes "show") then option_map Show (only_reference args)
-    else (if bytes_eq word (codes "tell") then option_map Tell (flag_of args)
-    else (if bytes_eq word (codes "await") then option_map Await (flag_of args) else None)))))
+    else (if bytes_eq word (codes "show") then option_map Show (only_reference args) else flag_line_of word args)))

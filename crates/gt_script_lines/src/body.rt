@@ -1,6 +1,6 @@
 //! The lines of the body, after their domain.
 ghost use Rattle.std.specs.Prelude.{◌≡◌, map};
-ghost use Rattle.gt_script_lines.specs.Body.{tick_of, flag_of, body_line_of};
+ghost use Rattle.gt_script_lines.specs.Body.{tick_of, flag_of, flag_line_of, body_line_of};
 
 use crate::calls::{ScriptCall, only_reference, read_call};
 use crate::fields::{label, tick_count};
@@ -44,6 +44,17 @@ fn read_flag<'a>(args: &[&'a [u8]]) -> Option<Text<'a>>
     }
 }
 
+#[tactic(auto, unfolding(crate::specs::Body::flag_line_of))]
+fn read_flag_line<'a>(word: &[u8], args: &[&'a [u8]]) -> Option<BodyLine<'a>>
+    ensures { result ≡ flag_line_of word.now (map (λ word. word.now) args.now) }
+{
+    match word {
+        b"tell" => Some(BodyLine::Tell(read_flag(args)?)),
+        b"await" => Some(BodyLine::Await(read_flag(args)?)),
+        _ => None,
+    }
+}
+
 /// Reads a line of the body by its first word and the words after its domain; None if they are not one.
 #[tactic(auto, unfolding(crate::specs::Body::body_line_of))]
 pub fn read_body_line<'a>(word: &[u8], args: &[&'a [u8]]) -> Option<BodyLine<'a>>
@@ -54,8 +65,6 @@ pub fn read_body_line<'a>(word: &[u8], args: &[&'a [u8]]) -> Option<BodyLine<'a>
         b"begin" => Some(BodyLine::Begin(read_call(args)?)),
         b"tick" => Some(BodyLine::Tick(read_tick(args)?)),
         b"show" => Some(BodyLine::Show(only_reference(args)?)),
-        b"tell" => Some(BodyLine::Tell(read_flag(args)?)),
-        b"await" => Some(BodyLine::Await(read_flag(args)?)),
-        _ => None,
+        _ => read_flag_line(word, args),
     }
 }
