@@ -188,6 +188,7 @@ fn verdict_told(
 }
 
 // A claim, and the judgement of the texts that were found.
+#[derive(Drop)]
 struct JudgedClaim {
     claim: Claim,
     judgement: Judgement,

@@ -148,6 +148,7 @@ pub fn name_mapping<'a>(
 }
 
 // A domain's call that has its answer, and the step that began it.
+#[derive(Drop)]
 struct AnsweredStep<'b, 'a> {
     dom: DomId,
     step: &'b ScriptStep<'a>,
@@ -212,6 +213,7 @@ fn run_call<P: Allows>(
 }
 
 // The call of a line, and the bytes that it gives.
+#[derive(Drop)]
 struct GivenCall<'b, 'a> {
     call: &'b ScriptCall<'a>,
     bytes: &'b [u8],
