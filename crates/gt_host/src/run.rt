@@ -229,7 +229,7 @@ fn run_do<'b, 'a, P: Allows>(
     out: &mut Vec<u8>,
 ) -> Result<(), StepsFault>
     requires ready { IsReadyToCall (setting_in P.may core.old) step.now.dom core.old.state }
-    requires said { given.entry.bytes.now ≡ bytes_in_call given.entry.call.now }
+    requires said { given.bytes.now ≡ bytes_in_call given.call.now }
     ensures leads { OnOk result (Leads (setting_in P.may core.old) (DoLine types.now step.now given.entry.call.now)
         core.old.state core.new.state kept.old kept.new out.old.items out.new.items) }
     ensures config { core.new.config ≡ core.old.config }
@@ -265,7 +265,7 @@ fn run_begin<'b, 'a, P: Allows>(
     out: &mut Vec<u8>,
 ) -> Result<(), StepsFault>
     requires known { domain_of core.old.config.domains.items step.now.dom ≢ None }
-    requires said { given.entry.bytes.now ≡ bytes_in_call given.entry.call.now }
+    requires said { given.bytes.now ≡ bytes_in_call given.call.now }
     ensures leads { OnOk result (Leads (setting_in P.may core.old) (BeginLine types.now step.now given.entry.call.now)
         core.old.state core.new.state kept.old kept.new out.old.items out.new.items) }
     ensures config { core.new.config ≡ core.old.config }
