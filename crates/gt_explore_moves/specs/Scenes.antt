@@ -7,6 +7,7 @@ use Rattle.gt_explore_moves.specs.Prelude.{IsSettingOf, PagesShow, TablesShow}
 use Rattle.gt_explore_moves.specs.Calls.{ShowsCalls}
 use Rattle.gt_explore_moves.specs.Ends.{tasks_at}
 use Rattle.gt_explore_moves.specs.Starting.{Grows}
+use Rattle.gt_explore_moves.specs.Transitive.{AllOfScript, lists_grant_via}
 use Rattle.gt_explore_moves.specs.declared.actor.Actor.{Actor}
 use Rattle.gt_explore_moves.specs.declared.scene.SearchContext.{SearchContext}
 use Rattle.gt_explore_moves.specs.declared.scene.SearchState.{SearchState}
@@ -21,6 +22,7 @@ pub record IsSceneOf (c : RunContents) (scene : SearchContext) : Type 0 where
       ≡ map (λ d. list_of c.tasks d.id) c.head.domains
   pub flags : scene.flags ≡ c.flags
   pub numbered : AreNumbered c.flags c.tasks
+  pub vias : scene.vias ≡ lists_grant_via scene.lists.items
 
 -- the domain of a course was given each handle that its labels name, and each that it has
 pub record WasAnsweredAll (h : History) (k : Course) : Type 0 where
@@ -37,6 +39,7 @@ pub record SceneShows (c : RunContents) (scene : SearchContext) (hs : List Happe
   pub tables : TablesShow (setting_of_script c.head) (history_in hs) w.ground.tables.items
   pub pages : PagesShow (history_in hs) w.ground.pages.items
   pub like : IsLikeReached (setting_of_script c.head) (history_in hs)
+  pub asked : AllOfScript scene.vias (history_in hs)
   pub flags : length w.told.items ≡ c.flags
   pub told : (flag : ℕ) → IsRaisedBefore (length hs) flag hs → slice_get w.told.items flag ≡ Some true
   pub heard : (flag : ℕ) → slice_get w.told.items flag ≡ Some true → IsRaisedBefore (length hs) flag hs

@@ -1,13 +1,18 @@
 //! The context of a search, and its states.
 ghost use Rattle.std.specs.Prelude.{◌≡◌, false, replicate, map, length, All, IfOk};
+ghost use Rattle.std.specs.Borrow.{Bor};
+ghost use Rattle.std.specs.List.{list_any};
 ghost use Rattle.gt_host.specs.Playing.{setting_of_script};
 ghost use Rattle.gt_script.specs.Contents.{contents_told};
+ghost use Rattle.gt_script.specs.Lists.{RunTask};
 ghost use Rattle.gt_script.specs.RunScripts.{CanConfigure, list_of};
 ghost use Rattle.gt_explore_moves.specs.Copies.{IsFirstActor};
+ghost use Rattle.gt_explore_moves.specs.Transitive.{grants_via, lists_grant_via};
 ghost use Rattle.gt_types.specs.Config.{IsWithinLimits};
 ghost use Rattle.gt_explore_state.specs.Shows.{IsSettingOf};
 
 use crate::actor::Actor;
+use crate::touches::grants_via;
 use gt_explore_search::SearchFault;
 use gt_explore_state::SparseState;
 use gt_host::ScriptPolicy;
@@ -28,6 +33,8 @@ pub struct SearchContext<'s, 'a> {
     pub lists: Vec<Vec<&'s RunTask<'a>>>,
     /// The number of flags.
     pub flags: usize,
+    /// A task may grant a transitive entry.
+    pub vias: bool,
 }
 
 /// A state: all that decides how a run can continue, without the answers so far.
@@ -72,6 +79,20 @@ fn lists_of<'s, 'a>(
     Ok(lists)
 }
 
+// Returns whether a task of this list may grant a transitive entry.
+fn list_grants_via<'a>(list: &[&RunTask<'a>]) -> bool
+    ensures { result ≡ list_any (λ (t : Bor RunTask). grants_via t.now) list.now }
+{
+    list.iter().any(|task| grants_via(*task))
+}
+
+// Returns whether a task of these lists may grant a transitive entry.
+fn lists_grant_via<'a>(lists: &[Vec<&RunTask<'a>>]) -> bool
+    ensures { result ≡ lists_grant_via lists.now }
+{
+    lists.iter().any(|list| list_grants_via(list.as_slice()))
+}
+
 // Makes this number of domains before the first tasks of their lists.
 fn first_actors<'a>(alloc: Global, count: usize) -> Result<Vec<Actor<'a>>, AllocError>
     ensures many { IfOk result (λ actors. length actors.items ≡ count) }
@@ -112,6 +133,7 @@ impl<'s, 'a> SearchContext<'s, 'a> {
     {
         let head = script.head();
         let lists = lists_of(alloc, script, head.domains())?;
+        let vias = lists_grant_via(lists.as_slice());
         Ok(SearchContext {
             alloc,
             roster: roster_of(alloc, head)?,
@@ -119,6 +141,7 @@ impl<'s, 'a> SearchContext<'s, 'a> {
             types: head.type_names(alloc)?,
             lists,
             flags: script.flags(),
+            vias,
         })
     }
 
