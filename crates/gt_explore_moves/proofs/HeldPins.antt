@@ -282,24 +282,24 @@ IsNoProbe (Probe c) = ⊥
 IsNoProbe r = Unit {0}
 
 any-touch : (d : DomId) (r : OpenRequest) → IsNoProbe r → RequestTouches (λ touch. Unit {0}) (any_use r) d r
-any-touch d (Grant gref entry) no = (tt, λ none. absurd (true≢false none))
-any-touch d (Map dom gref flags) no = ((tt, tt), ((λ is t f. tt), (λ is t f. tt)))
-any-touch d (Load handle off len) no = refl
-any-touch d (Store handle off len) no = refl
-any-touch d (Copy c) no = (
+any-touch d (Grant gref entry) unprobed = (tt, λ none. absurd (true≢false none))
+any-touch d (Map dom gref flags) unprobed = ((tt, tt), ((λ is t f. tt), (λ is t f. tt)))
+any-touch d (Load handle off len) unprobed = refl
+any-touch d (Store handle off len) unprobed = refl
+any-touch d (Copy c) unprobed = (
   refl,
   ((λ granted. ((tt, tt), (λ f. tt))), (λ own. tt)),
   ((λ granted. ((tt, tt), (λ f. tt))), (λ own. tt)),
 )
-any-touch d (Probe c) no = absurd no
-any-touch d r no = tt
+any-touch d (Probe c) unprobed = absurd unprobed
+any-touch d r unprobed = tt
 
-module _ (s : Setting) (h : History) (d : DomId) (r : OpenRequest) (no : IsNoProbe r) where
+module _ (s : Setting) (h : History) (d : DomId) (r : OpenRequest) (unprobed : IsNoProbe r) where
   facts-of : (vs : List Observation) (action : Action) → steps_of (known_at s h d) d r vs ≡ Some action
       → IsActionOf (λ touch. Unit {0}) (any_use r) (known_at s h d) d r
       (held_along (steps_of (known_at s h d) d r) [] vs) action
   facts-of vs action e = each-step (λ touch. Unit {0}) (any_use r) (known_at s h d) d (λ p. Unit {0})
-      (λ handle p found. (tt, (λ is. tt), (λ is. tt))) r (any-touch d r no)
+      (λ handle p found. (tt, (λ is. tt), (λ is. tt))) r (any-touch d r unprobed)
       (λ copy p dom ro dom2 gref take via. ((tt, tt), (λ f. tt), (λ f. tt))) vs action
       (took-any (steps_of (known_at s h d) d r) vs) e
 
@@ -381,8 +381,8 @@ module _ (vias : Bool) (s : Setting) where
         × ((answer : Answer) → a ≡ Some answer → legs_then ≡ [])
 
     plain-pin : (p : HeldPin) → z ≡ PinStep p → v ≡ Taken → PinRead p → IsPlain p
-    plain-pin p pins took (body, second, read) no =
-        ap is_via read ∙ via-shown s h p.dom.0 p.gref.0 p.word body second word ∙ entries p.dom.0 p.gref.0 no
+    plain-pin p pins took (body, second, read) none =
+        ap is_via read ∙ via-shown s h p.dom.0 p.gref.0 p.word body second word ∙ entries p.dom.0 p.gref.0 none
       where
         sees : exchange_sees (word_at s h p.dom.0 p.gref.0) p.word ≡ Taken
         sees = ap (λ (x : Step). seen_by s h d x) (sym pins) ∙ sym right.sees ∙ took
@@ -395,7 +395,7 @@ module _ (vias : Bool) (s : Setting) where
           by false e f = absurd (cc)
 
     -- the pins of a call that takes pins
-    module _ (r : OpenRequest) (same : c.request ≡ r) (no : IsNoProbe r)
+    module _ (r : OpenRequest) (same : c.request ≡ r) (unprobed : IsNoProbe r)
         (path-same : steps_of (known_at s h d) d r ≡ pins_path d r)
         (holds : HoldsPins (legs_at h d.0) d r (values c)) where
       opened : (begun (known_at s h d) d r ≡ None)
@@ -414,7 +414,7 @@ module _ (vias : Bool) (s : Setting) where
 
       facts : StepFacts (known_at s h d) r held_now z
       facts = subst (λ (f : Continuation). StepFacts (known_at s h d) r (held_along f [] (values c)) z) path-same
-          (step-facts s h d r no (values c) z opened.1)
+          (step-facts s h d r unprobed (values c) z opened.1)
 
       held-so : held_along (pins_path d r) [] (values c ++ v ∷ []) ≡ held_then
       held-so = held-more (pins_path d r) [] (values c) v
@@ -457,7 +457,7 @@ module _ (vias : Bool) (s : Setting) where
       ends-so answer is = record {
         verdict = end.0;
         over = subst (λ (l : List HeldPin). EndFacts r l end.0) (so-held ∙ held-so)
-            (end-facts s h d r no (values c ++ v ∷ []) end.0 (so ∙ end.1));
+            (end-facts s h d r unprobed (values c ++ v ∷ []) end.0 (so ∙ end.1));
         refused = end.2;
         gives = end.3;
       } where
@@ -489,7 +489,7 @@ module _ (vias : Bool) (s : Setting) where
     copy-unmapped : (x : CopyArgs) (answer : Answer) (handle : Handle) → GivesValue s h d (Copy x) (Some z) answer
         → answer ≡ Mapped handle → ⊥
     copy-unmapped x answer handle gives is =
-        let no : Mapped handle ≡ AnswerDone =
+        let never : Mapped handle ≡ AnswerDone =
         subst (λ (b : Answer). GivesValue s h d (Copy x) (Some z) b) is gives in absurd (cc)
 
     after-copy : (x : CopyArgs) → c.request ≡ Copy x → HoldsPins (legs_at h d.0) d (Copy x) (values c) → After (Copy x)
@@ -536,7 +536,7 @@ module _ (vias : Bool) (s : Setting) where
         by : ((denial : Denial) × (answer ≡ Denied denial)) ⊎ ((handle : Handle) × (answer ≡ Mapped handle))
             → legs_then ≡ []
         by (inl (denial, e)) = none-held (Map dom gref flags) same tt (map-same h d dom gref flags) holds
-            (λ handle f. let no : Denied denial ≡ Mapped handle =
+            (λ handle f. let never : Denied denial ≡ Mapped handle =
             sym e ∙ same_Some answer (Mapped handle) (sym is ∙ f) in absurd (cc))
             (denied-over denial end.verdict (held_then (Map dom gref flags) same tt (map-same h d dom gref flags) holds) end.over
             (ap refusal_of (sym e) ∙ end.refused))
@@ -551,10 +551,10 @@ module _ (vias : Bool) (s : Setting) where
     -- a call that takes no pins
     unpinned-legs : (r : OpenRequest) → c.request ≡ r → IsNoProbe r → ((held : List HeldPin) → IsPinning r held → ⊥)
         → legs_then ≡ legs_at h d.0
-    unpinned-legs r same no none = by z v (step-facts s h d r no (values c) z opened.1) where
-      opened : (begun (known_at s h d) d r ≡ None)
+    unpinned-legs r same unprobed none = by z v (step-facts s h d r unprobed (values c) z steps.1) where
+      steps : (begun (known_at s h d) d r ≡ None)
           × (steps_of (known_at s h d) d r (values c) ≡ Some (Makes z))
-      opened = path-opened (known_at s h d) d r (values c) z
+      steps = path-opened (known_at s h d) d r (values c) z
           (ap (λ (q : OpenRequest). path (known_at s h d) d q (values c)) (sym same) ∙ right.continues)
 
       by : (y : Step) (w : Observation)
@@ -682,9 +682,9 @@ module _ (vias : Bool) (s : Setting) where
     both : IsOfScript vias c.request × CallHolds (legs_at h d.0) d c.request (values c)
     both = subst (CallSound (legs_at h d.0) d) is (sound.calls d)
 
-    opened : (begun (known_at s h d) d c.request ≡ None)
+    open-path : (begun (known_at s h d) d c.request ≡ None)
         × (steps_of (known_at s h d) d c.request (values c) ≡ Some (Makes z))
-    opened = path-opened (known_at s h d) d c.request (values c) z next
+    open-path = path-opened (known_at s h d) d c.request (values c) z next
 
     leg-released : (r : OpenRequest) (vs : List Observation) (p : HeldPin) (n : ℕ)
         → CallHolds (legs_at h d.0) d r vs
@@ -701,7 +701,7 @@ module _ (vias : Bool) (s : Setting) where
 
     -- it releases the pin that it names, if it releases one
     pub releases-own : Releases h d z
-    releases-own = by z (step-facts s h d c.request (no-probe c.request both.0) (values c) z opened.1) where
+    releases-own = by z (step-facts s h d c.request (no-probe c.request both.0) (values c) z open-path.1) where
       by : (y : Step) → StepFacts (known_at s h d) c.request
           (held_along (steps_of (known_at s h d) d c.request) [] (values c)) y → Releases h d y
       by (Unpin p (ByHandle handle)) f = unmaps-release h d p handle f

@@ -264,12 +264,12 @@ module _ (A : Touch → Type 0) (uses : MappingUse) where
     by None = touch
     by (Some answer) = tt
 
-  copy-unmapped : (s : Setting) (h : History) (d : DomId) (c : CopyArgs) (z : Step) (giving : Bool)
+  copy-unmapped : (s : Setting) (h : History) (d : DomId) (c : CopyArgs) (z : Step) (gives : Bool)
       (verdict : Option CallResult) (against : Option Denial) (handle : Handle)
-      → AnsweredBy s h d (Copy c) (Some z) giving verdict (Some (Mapped handle)) against → ⊥
-  copy-unmapped s h d c z giving None against handle by = by
-  copy-unmapped s h d c z giving (Some verdict) against handle by =
-      let no : Mapped handle ≡ AnswerDone = by.2 in absurd (cc)
+      → AnsweredBy s h d (Copy c) (Some z) gives verdict (Some (Mapped handle)) against → ⊥
+  copy-unmapped s h d c z gives None against handle by = by
+  copy-unmapped s h d c z gives (Some verdict) against handle by =
+      let never : Mapped handle ≡ AnswerDone = by.2 in absurd (cc)
 
   -- a step of a call touches only such
   module _ (s : Setting) (h : History) (d : DomId) (y : Step) (seen : Observation) (a : Option Answer) (c : Underway)
