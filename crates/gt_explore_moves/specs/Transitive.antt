@@ -1,8 +1,5 @@
 -- Transitive entries: which lines of a script may grant one, and which calls.
-use Rattle.std.specs.Prelude.{◌≡◌, Bool, true, false, List, [], ◌∷◌}
-use Rattle.std.specs.List.{list_any}
-use Rattle.std.specs.Global.{Vec}
-use Rattle.std.specs.Borrow.{Bor}
+use Rattle.std.specs.Prelude.{◌≡◌, Bool, true, false, [], ◌∷◌}
 use Rattle.gt_entry.specs.declared.entry.Entry.{Entry}
 use Rattle.gt_entry.specs.declared.entry.Entry.TheVariants.{Invalid, Page, Sub, Via}
 use Rattle.gt_calls.specs.Asking.{asked}
@@ -36,10 +33,6 @@ deed_grants_via deed = false
 
 abbrev pub grants_via : RunTask → Bool
 grants_via t = deed_grants_via t.deed
-
--- a task of these lists may grant one
-abbrev pub lists_grant_via : List (Vec (Bor RunTask)) → Bool
-lists_grant_via lists = list_any (λ list. list_any (λ (t : Bor RunTask). grants_via t.now) list.items) lists
 
 -- a request of a script: it is no probe, and grants no transitive entry unless the script may
 abbrev pub IsOfScript : Bool → OpenRequest → Type 0

@@ -1,18 +1,14 @@
 //! The context of a search, and its states.
 ghost use Rattle.std.specs.Prelude.{◌≡◌, false, replicate, map, length, All, IfOk};
-ghost use Rattle.std.specs.Borrow.{Bor};
-ghost use Rattle.std.specs.List.{list_any};
 ghost use Rattle.gt_host.specs.Playing.{setting_of_script};
 ghost use Rattle.gt_script.specs.Contents.{contents_told};
-ghost use Rattle.gt_script.specs.Lists.{RunTask};
 ghost use Rattle.gt_script.specs.RunScripts.{CanConfigure, list_of};
 ghost use Rattle.gt_explore_moves.specs.Copies.{IsFirstActor};
-ghost use Rattle.gt_explore_moves.specs.Transitive.{grants_via, lists_grant_via};
 ghost use Rattle.gt_types.specs.Config.{IsWithinLimits};
 ghost use Rattle.gt_explore_state.specs.Shows.{IsSettingOf};
 
 use crate::actor::Actor;
-use crate::touches::grants_via;
+use crate::touches::any_grants_via;
 use gt_explore_search::SearchFault;
 use gt_explore_state::SparseState;
 use gt_host::ScriptPolicy;
@@ -79,20 +75,6 @@ fn lists_of<'s, 'a>(
     Ok(lists)
 }
 
-// Returns whether a task of this list may grant a transitive entry.
-fn list_grants_via<'a>(list: &[&RunTask<'a>]) -> bool
-    ensures { result ≡ list_any (λ (t : Bor RunTask). grants_via t.now) list.now }
-{
-    list.iter().any(|task| grants_via(*task))
-}
-
-// Returns whether a task of these lists may grant a transitive entry.
-fn lists_grant_via<'a>(lists: &[Vec<&RunTask<'a>>]) -> bool
-    ensures { result ≡ lists_grant_via lists.now }
-{
-    lists.iter().any(|list| list_grants_via(list.as_slice()))
-}
-
 // Makes this number of domains before the first tasks of their lists.
 fn first_actors<'a>(alloc: Global, count: usize) -> Result<Vec<Actor<'a>>, AllocError>
     ensures many { IfOk result (λ actors. length actors.items ≡ count) }
@@ -133,7 +115,7 @@ impl<'s, 'a> SearchContext<'s, 'a> {
     {
         let head = script.head();
         let lists = lists_of(alloc, script, head.domains())?;
-        let vias = lists_grant_via(lists.as_slice());
+        let vias = any_grants_via(script.tasks());
         Ok(SearchContext {
             alloc,
             roster: roster_of(alloc, head)?,

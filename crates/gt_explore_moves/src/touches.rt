@@ -356,12 +356,19 @@ fn call_grants_via(call: &ScriptCall<'_>) -> bool
     }
 }
 
-/// Returns whether a task may grant a transitive entry.
-pub fn grants_via(task: &RunTask<'_>) -> bool
+// Returns whether a task may grant a transitive entry.
+fn grants_via(task: &RunTask<'_>) -> bool
     ensures { result ≡ grants_via task.now }
 {
     match &task.deed {
         RunAction::Do(call) => call_grants_via(call),
         _ => false,
     }
+}
+
+/// Returns whether one of these tasks may grant a transitive entry.
+pub fn any_grants_via(tasks: &[RunTask<'_>]) -> bool
+    ensures { result ≡ list_any grants_via tasks.now }
+{
+    tasks.iter().any(|task| grants_via(task))
 }
