@@ -1,9 +1,9 @@
 -- Along a legal history each open call holds the pins that its path took, and no pin is on a transitive entry unless a
 -- call may grant one.
-use Rattle.std.proofs.Common.{◌≡◌, ℕ, zero, suc, refl, Bool, true, false, cond, List, [], ◌∷◌, ◌++◌, ◌+◌, length, map}
+use Rattle.std.proofs.Common.{◌≡◌, ℕ, suc, refl, Bool, true, false, cond, List, [], ◌∷◌, ◌++◌, ◌+◌, length}
 use Rattle.std.proofs.Common.{Option, Some, None, sym, ap, ◌∙◌, subst, append-nil, arith, ◌⊎◌, inl, inr}
 use Rattle.std.specs.Prelude.{◌==◌, ◌*◌, ◌%◌, ◌/◌}
-use Rattle.std.proofs.lemmas.Bool.{eqb-true, false≢true, true≢false}
+use Rattle.std.proofs.lemmas.Bool.{eqb-true, true≢false}
 use Rattle.std.proofs.lemmas.Bool.Decides.{nat_tests}
 use Rattle.std.proofs.lemmas.List.{length-append, map-append}
 use Rattle.std.proofs.lemmas.Option.{none-some, same_Some}
@@ -13,7 +13,6 @@ use Rattle.gt_types.specs.declared.GrantRef.{GrantRef}
 use Rattle.gt_types.specs.declared.denial.Denial.{Denial}
 use Rattle.gt_handles.specs.declared.handles.Handle.{Handle}
 use Rattle.gt_entry.specs.Entries.{with_ro}
-use Rattle.gt_entry.specs.Changes.{changed_entry}
 use Rattle.gt_entry.specs.Spelling.{control_with, entry_of}
 use Rattle.gt_entry.specs.Words.{control_of, control_word, flag, kind_bits, kind_of}
 use Rattle.gt_entry.specs.declared.change.EntryChange.{EntryChange}
@@ -43,10 +42,10 @@ use Rattle.gt_calls.specs.declared.request.PinHolder.TheVariants.{Mapping as ByH
 use Rattle.gt_calls.specs.declared.request.Request.{Request}
 use Rattle.gt_core.specs.FirstRule.{refusal_in, stood}
 use Rattle.gt_core.specs.History.{History, Setting, Underway, by_leg, change_at, change_of, changed_entry_of, entry_at}
-use Rattle.gt_core.specs.History.{gather, holder_after, is_pin_on, known_at, legs_at, live, mapping_of, mappings_at}
+use Rattle.gt_core.specs.History.{gather, holder_after, known_at, legs_at, live}
 use Rattle.gt_core.specs.History.{exchange_sees, generation_at, open_call, reads_at, seen_by, underway_after, values}
 use Rattle.gt_core.specs.History.{without, word_at, writes_at}
-use Rattle.gt_core.specs.Legal.{AnsweredBy, BeginsRight, GivesValue, IsLegalHistory, IsRight, StepsRight, StepsRightIn}
+use Rattle.gt_core.specs.Legal.{AnsweredBy, GivesValue, IsLegalHistory, IsRight, StepsRight, StepsRightIn}
 use Rattle.gt_core.specs.Legal.{gives_back, next_in, refusal_of, verdict_in}
 use Rattle.gt_core.specs.Phases.{numbered}
 use Rattle.gt_core.specs.declared.trace.Answer.{Answer}
@@ -55,13 +54,12 @@ use Rattle.gt_core.specs.declared.trace.Item.{Item}
 use Rattle.gt_core.specs.declared.trace.ItemEvent.{ItemEvent}
 use Rattle.gt_core.specs.declared.trace.ItemEvent.TheVariants.{Began, Stepped}
 use Rattle.gt_core.proofs.AgreementKept.{open_call-other, open_call-own}
-use Rattle.gt_core.proofs.Steps.Observers.{exchanged-entry, other-pins, stepped, unpinned-live, unpins}
+use Rattle.gt_core.proofs.Steps.Observers.{exchanged-entry, other-pins, stepped, unpinned-live}
 use Rattle.gt_core.proofs.Steps.Pin.{leg-grows, map-legs}
 use Rattle.gt_core.proofs.Steps.Unpin.{leg-left, loses-leg, mapping-legs}
 use Rattle.gt_core.proofs.Swapping.{Releases}
 use Rattle.gt_explore_moves.specs.Transitive.{AllOfScript, BeginsOfScript, IsOfScript, is_via}
 use Rattle.gt_explore_moves.specs.declared.touches.MappingUse.{MappingUse}
-use Rattle.gt_explore_moves.specs.declared.touches.Touch.{Touch}
 use Rattle.gt_explore_moves.proofs.PathSteps.{TakesOf, TookOf, after_action, after_step, held-more, held_along}
 use Rattle.gt_explore_moves.proofs.PathSteps.{took-any, took-more}
 use Rattle.gt_explore_moves.proofs.Touching.{EndFacts, IsActionOf, IsPinning, PinRead, RequestTouches, StepFacts}

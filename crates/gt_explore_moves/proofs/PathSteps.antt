@@ -1,15 +1,12 @@
 -- What holds for each action of a call's path, by the pins that the call holds there.
 use Rattle.std.proofs.Common.{◌≡◌, ℕ, zero, suc, refl, Bool, true, false, cond, List, [], ◌∷◌, ◌++◌, length}
-use Rattle.std.proofs.Common.{Option, Some, None, sym, ap, ◌∙◌, subst}
+use Rattle.std.proofs.Common.{Option, Some, None, sym, subst}
 use Rattle.std.specs.Prelude.{◌==◌, nat_lt}
 use Rattle.std.proofs.lemmas.Option.{none-some, same_Some}
 use Rattle.gt_types.specs.declared.DomId.{DomId}
 use Rattle.gt_types.specs.declared.GrantRef.{GrantRef}
 use Rattle.gt_types.specs.declared.denial.Denial.{Denial}
 use Rattle.gt_types.specs.declared.denial.Rule.{Rule}
-use Rattle.gt_types.specs.declared.copies.CopyArgs.{CopyArgs}
-use Rattle.gt_types.specs.Copies.{is_dest_granted, is_source_granted}
-use Rattle.gt_types.specs.declared.Dir.TheVariants.{Read as ToRead, Write as ToWrite}
 use Rattle.gt_entry.specs.declared.change.BodyWord.{BodyWord}
 use Rattle.gt_entry.specs.declared.change.BodyWord.TheVariants.{First as FirstHalf, Second as SecondHalf}
 use Rattle.gt_entry.specs.declared.change.EntryChange.{EntryChange}
@@ -18,12 +15,11 @@ use Rattle.gt_entry.specs.declared.entry.Entry.TheVariants as entries
 use Rattle.gt_entry.specs.declared.entry.Entry.{Entry as TableEntry}
 use Rattle.gt_entry.specs.Words.{control_of, header_of}
 use Rattle.gt_entry.specs.declared.control.EntryKind.TheVariants.{Sub as KindSub}
-use Rattle.gt_calls.specs.Holding.{held_by}
-use Rattle.gt_calls.specs.Path.{AfterPin, AfterRefusal, Continuation, accesses, after_first, beyond, asks}
-use Rattle.gt_calls.specs.Path.{at_first_look, by_mapping, copies, dest_pair, end_leg}
+use Rattle.gt_calls.specs.Path.{AfterPin, AfterRefusal, Continuation, after_first, beyond}
+use Rattle.gt_calls.specs.Path.{at_first_look, by_mapping}
 use Rattle.gt_calls.specs.Path.{ended, exchanges, exchanges_once, give_back, grant_path, held_of, is_stopped, last_step}
-use Rattle.gt_calls.specs.Path.{leg, looks, makes, place_of, reaches, reads_body, refused_holding, second_leg}
-use Rattle.gt_calls.specs.Path.{rule_of_try, source_pair, to_dest, tries, try_pin, turn, turns, unless_refused}
+use Rattle.gt_calls.specs.Path.{leg, looks, makes, reaches, reads_body, refused_holding, second_leg}
+use Rattle.gt_calls.specs.Path.{rule_of_try, tries, try_pin, turn, turns, unless_refused}
 use Rattle.gt_calls.specs.Rules.{CallerKnowledge, first_body, first_look, is_kind, size_of, via_judged}
 use Rattle.gt_calls.specs.declared.action.Action.{Action}
 use Rattle.gt_calls.specs.declared.action.Action.TheVariants.{Step as Makes, Done}
@@ -32,10 +28,9 @@ use Rattle.gt_calls.specs.declared.action.CallResult.TheVariants.{Granted, Refus
 use Rattle.gt_calls.specs.declared.action.Observation.{Observation}
 use Rattle.gt_calls.specs.declared.action.Observation.TheVariants.{Missed, Nothing, Taken, Word}
 use Rattle.gt_calls.specs.declared.action.Step.{Step}
-use Rattle.gt_calls.specs.declared.action.Step.TheVariants.{Copy as CopyBytes, Exchange, LookBody, LookControl}
+use Rattle.gt_calls.specs.declared.action.Step.TheVariants.{Exchange, LookBody, LookControl}
 use Rattle.gt_calls.specs.declared.action.Step.TheVariants.{LookHeader}
 use Rattle.gt_calls.specs.declared.action.Step.TheVariants.{Pin as PinStep, StoreBody, Unpin}
-use Rattle.gt_calls.specs.declared.call.HeaderQuery.{HeaderQuery}
 use Rattle.gt_calls.specs.declared.held.AccessPath.{AccessPath}
 use Rattle.gt_calls.specs.declared.held.AccessPath.TheVariants.{Own, Direct, Through}
 use Rattle.gt_calls.specs.declared.held.HeldPin.{HeldPin}

@@ -24,7 +24,6 @@ use Rattle.gt_calls.specs.declared.action.Step.{Step}
 use Rattle.gt_calls.specs.declared.action.Step.TheVariants.{Pin as PinStep, Unpin}
 use Rattle.gt_calls.specs.declared.held.HeldPin.{HeldPin}
 use Rattle.gt_calls.specs.declared.request.PinHolder.{PinHolder}
-use Rattle.gt_calls.specs.declared.request.PinHolder.TheVariants.{Mapping as ByHandle, Leg as ByLeg}
 use Rattle.gt_calls.specs.declared.request.Request.{Request}
 use Rattle.gt_calls.specs.declared.request.Request.TheVariants as requests
 use Rattle.gt_core.specs.History.{History, Setting, Pin, Underway, gather, holder_after, known_at, live}
@@ -417,10 +416,10 @@ module _ (A : Touch → Type 0) (uses : MappingUse) where
       → IsSound uses.vias s (history_in hs)
       → Within (hs ++ did e y ∷ []) (actor_of e) tasks × HappeningTouches A uses.vias hs (did e y)
   did-within s hs e y tasks touch may left past sound =
-    let it = event-within s (history_in hs) e y touch may past sound in (
-    record { tasks_touch = left; past = subst (λ h. HistoryWithin h (actor_of e)) (sym (history_did hs e y)) it.0 },
-    it.1,
-  )
+      let it = event-within s (history_in hs) e y touch may past sound in (
+        record { tasks_touch = left; past = subst (λ h. HistoryWithin h (actor_of e)) (sym (history_did hs e y)) it.0 },
+        it.1,
+      )
 
   -- a domain whose course goes on by a happening
   abbrev GoesWithin : List Happening → Happening → Course → Type 0
