@@ -113,6 +113,7 @@ first-shows c scene w many first tables pages told none is = record {
   tables = tables scene.roster (setting_of_script c.head) is.setting is.limits refl;
   pages = pages;
   like = subst (λ (s : Setting). IsLikeReached s []) same (like-starts scene.roster (may_in c.head) is.limits);
+  asked = tt;
   flags = told ∙ is.flags;
   told = λ flag before. absurd (no-place before.0 before.2);
   heard = λ flag is. absurd (none flag is);

@@ -11,6 +11,7 @@ pub mod FlagLines
 pub mod GivingBack
 pub mod GoingOn
 pub mod HandlesAnswered
+pub mod HeldPins
 pub mod Joining
 pub mod LeftAlike
 pub mod LikeCore
@@ -22,6 +23,7 @@ pub mod NextSerial
 pub mod OneLess
 pub mod OpenAlong
 pub mod OthersStay
+pub mod PathSteps
 pub mod Placing
 pub mod Renaming
 pub mod SameStep
@@ -33,5 +35,6 @@ pub mod StepOrEnd
 pub mod Touching
 pub mod Undisturbed
 pub mod Unlabelled
+pub mod ViaTasks
 pub mod Ways
 pub mod Within

@@ -58,6 +58,8 @@ use Rattle.gt_explore_state.proofs.Fitting.{beginnings-change-nothing}
 use Rattle.gt_explore_moves.proofs.HandlesAnswered.{after-dom, back-answered, back-dom, but-answered, left-answered}
 use Rattle.gt_explore_moves.proofs.HandlesAnswered.{line-answered}
 use Rattle.gt_explore_moves.proofs.MappingFound.{get-at}
+use Rattle.gt_explore_moves.proofs.ViaTasks.{said-of-script, task-vias}
+use Rattle.gt_explore_moves.specs.Transitive.{BeginsOfScript, IsOfScript, call_grants_via, deed_grants_via}
 use Rattle.gt_explore_replay.proofs.Whole.{raised_or}
 use Rattle.gt_explore_moves.proofs.StateComesOn.{comes-event, comes-quiet, domain-at, of-run, raised-here, raised-still, table-at, task-below}
 use Rattle.gt_explore_moves.proofs.StateComesOn.{task-own}
@@ -101,6 +103,10 @@ step-known : (h : History) (d actor : DomId) (x : ItemEvent) (answer : Option An
     → HappensKnown h (record { actor = actor; happened = x; answer = answer }) × AsksFit x
 step-known h d actor (Began q) answer m = absurd m.1
 step-known h d actor (Stepped z seen) answer m = (tt, tt)
+
+step-of-script : (vias : Bool) (d actor : DomId) (x : ItemEvent) (answer : Option Answer) → IsItemOf (Tick d) (record { actor = actor; happened = x; answer = answer }) → BeginsOfScript vias x
+step-of-script vias d actor (Began q) answer m = absurd m.1
+step-of-script vias d actor (Stepped z seen) answer m = tt
 
 -- the contracts of what a domain does, at this state
 
@@ -189,12 +195,12 @@ module _ (c : RunContents) (scene : SearchContext) (hs : List Happening) (ks : L
   Comes new led x j = Grows led k.text j.text × SceneShows c scene (hs ++ x ∷ []) (slice_set ks place j) new
 
   -- a call began
-  begun-to : (new : SearchState) (led : TurnResult) (q : Request) (answer : Option Answer) (j : Course) → BeginsRight s h (beginning k.dom q answer) q → HappensKnown h (beginning k.dom q answer) → FitsAsked (asked q) → j.dom ≡ k.dom → WasAnsweredAll (beginning k.dom q answer ∷ h) j
+  begun-to : (new : SearchState) (led : TurnResult) (q : Request) (answer : Option Answer) (j : Course) → BeginsRight s h (beginning k.dom q answer) q → HappensKnown h (beginning k.dom q answer) → FitsAsked (asked q) → IsOfScript scene.vias (asked q) → j.dom ≡ k.dom → WasAnsweredAll (beginning k.dom q answer ∷ h) j
       → MovesAsRun s (beginning k.dom q answer ∷ h) tasks a k j old new place led → Comes new led (did (Begin k.dom q) (Did (beginning k.dom q answer))) j
-  begun-to new led q answer j right asks fits dom answered moved = let i = beginning k.dom q answer in
+  begun-to new led q answer j right asks fits said dom answered moved = let i = beginning k.dom q answer in
       let same = beginnings-change-nothing s h i q old.ground.tables.items old.ground.pages.items is.setting.apart refl in (
         moved.grows,
-        comes-event c scene hs ks old place k a is shows at there new (Begin k.dom q) i j moved.actor refl right asks fits moved.becomes dom moved.shows answered
+        comes-event c scene hs ks old place k a is shows at there new (Begin k.dom q) i j moved.actor refl right asks fits said moved.becomes dom moved.shows answered
             (subst (λ g. TablesShow s (i ∷ h) g.tables.items) (sym moved.ground) (same.0 shows.tables))
             (subst (λ g. PagesShow (i ∷ h) g.pages.items) (sym moved.ground) (same.1 shows.pages))
             moved.told,
@@ -236,6 +242,7 @@ module _ (c : RunContents) (scene : SearchContext) (hs : List Happening) (ks : L
         let q = deed.0 in let e = deed.1 in let says = deed.2 in
         begins {P = Comes new led x j} q e (subst (λ (z : Happening). CanComeNext s hs z) deed.3 may) (λ i e-is same right.
         let answer = i.answer in let one = beginning k.dom q answer in
+        let of-script : call_grants_via call ≡ true → scene.vias ≡ true = λ grants. task-vias c scene is place a.next task here (ap deed_grants_via does ∙ grants) in
         let table = table-at c scene hs ks old place k a is shows at there in
         let next : IsNextCall k task left call = record { rest = rest.0; next = task-next task here; dom = task-own c scene hs ks old place k a is shows at there a.next task here; deed = does } in
         let moved = meets s h k left a q table.0 answer there table.1 show table.2 next says right in
@@ -244,7 +251,7 @@ module _ (c : RunContents) (scene : SearchContext) (hs : List Happening) (ks : L
         ∙ sym (deed.4 ∙ ap (λ (z : Element). course_after (type_names c.head) task.line call (given_up q) (record k { tasks = left }) (answer_in z)) e-is) in
         let dom : j.dom ≡ k.dom = ap (λ (z : Course). z.dom) (sym after) ∙ after-dom scene.types.items task.line call (given_up q) (record k { tasks = left }) answer in
         let answered = subst (WasAnsweredAll (one ∷ h)) after (line-answered scene.types.items task.line call (given_up q) h (record k { tasks = left }) one answer (left-answered h k left known) refl refl) in
-        let came = begun-to new led q answer j right (asks_answered h k.named k.dom call q known.named says) (fits k.named k.dom q says) dom answered
+        let came = begun-to new led q answer j right (asks_answered h k.named k.dom call q known.named says) (fits k.named k.dom q says) (said-of-script scene.vias k.named k.dom call q says of-script) dom answered
         (subst (λ (z : Course). MovesAsRun s (one ∷ h) tasks a k z old new place led) after moved) in
         subst (λ (z : Happening). Comes new led z j) (sym (deed.3 ∙ ap (λ (z : Element). did (Begin k.dom q) z) (e-is ∙ ap (λ (z : Item). Did z) same))) came)
 
@@ -262,7 +269,7 @@ module _ (c : RunContents) (scene : SearchContext) (hs : List Happening) (ks : L
         let after : back_after (held_but k choice) answer ≡ j = sym (gives.4 ∙ ap (λ (z : Element). back_after (held_but k choice) (answer_in z)) e-is) in
         let dom : j.dom ≡ k.dom = ap (λ (z : Course). z.dom) (sym after) ∙ back-dom (held_but k choice) answer in
         let answered = subst (WasAnsweredAll (one ∷ h)) after (back-answered h (held_but k choice) one answer (but-answered h k choice known)) in
-        let came = begun-to new led q answer j right (inl (held_here h k.dom.0 choice k.held handle gives.2 known.held)) tt dom answered
+        let came = begun-to new led q answer j right (inl (held_here h k.dom.0 choice k.held handle gives.2 known.held)) tt tt dom answered
         (subst (λ (z : Course). MovesAsRun s (one ∷ h) tasks a k z old new place led) after moved) in
         subst (λ (z : Happening). Comes new led z j) (sym (gives.3 ∙ ap (λ (z : Element). did (Begin k.dom q) z) (e-is ∙ ap (λ (z : Item). Did z) same))) came)
 
@@ -382,7 +389,7 @@ module _ (c : RunContents) (scene : SearchContext) (hs : List Happening) (ks : L
       let fits = step-known h k.dom i.actor i.happened i.answer of in (
         moved.grows,
         subst (λ (z : Happening). SceneShows c scene (hs ++ z ∷ []) (slice_set ks place j) new) (sym (led-so.1.0 ∙ ap (λ (z : Element). did (Tick k.dom) z) e-is))
-            (comes-event c scene hs ks old place k a is shows at there new (Tick k.dom) i j moved.actor of.0 right fits.0 fits.1 moved.becomes to.1 moved.shows to.2 moved.tables moved.pages moved.told),
+            (comes-event c scene hs ks old place k a is shows at there new (Tick k.dom) i j moved.actor of.0 right fits.0 fits.1 (step-of-script scene.vias k.dom i.actor i.happened i.answer of) moved.becomes to.1 moved.shows to.2 moved.tables moved.pages moved.told),
       ))
 
 -- the moves

@@ -59,6 +59,7 @@ shows-again c scene hs ks w v same show = record {
   tables = tables-shown-again (setting_of_script c.head) (history_in hs) w.ground.tables.items v.ground.tables.items same.tables show.tables;
   pages = pages-shown-again (history_in hs) w.ground.pages.items v.ground.pages.items same.pages show.pages;
   like = show.like;
+  asked = show.asked;
   flags = ap (λ (l : List Bool). length l) same.told ∙ show.flags;
   told = λ flag before. ap (λ (l : List Bool). slice_get l flag) same.told ∙ show.told flag before;
   heard = λ flag is. show.heard flag (ap (λ (l : List Bool). slice_get l flag) (sym same.told) ∙ is);

@@ -38,6 +38,7 @@ use Rattle.gt_explore_moves.specs.Scenes.{IsSceneOf, SceneShows, WasAnsweredAll}
 use Rattle.gt_explore_moves.specs.declared.actor.Actor.{Actor}
 use Rattle.gt_explore_moves.specs.declared.scene.SearchContext.{SearchContext}
 use Rattle.gt_explore_moves.specs.declared.scene.SearchState.{SearchState}
+use Rattle.gt_explore_moves.specs.Transitive.{AllOfScript, BeginsOfScript}
 use Rattle.gt_explore_moves.proofs.OthersStay.{others-stay}
 use Rattle.gt_explore_state.specs.Likeness.{AsksFit, IsLikeReached}
 use Rattle.gt_explore_state.specs.Shows.{PagesShow, TableShows, TablesShow}
@@ -150,11 +151,11 @@ module _ (c : RunContents) (scene : SearchContext) (hs : List Happening) (ks : L
       → new.actors.items ≡ slice_set old.actors.items place b → history_in (hs ++ x ∷ []) ≡ g → j.dom ≡ k.dom → ShowsCalls s g (tasks_at scene place) j b → WasAnsweredAll g j
       → ((tasks : List RunTask) (u : Course) (z : Actor) → u.dom.0 ≢ k.dom.0 → ShowsCalls s h tasks u z → ShowsCalls s g tasks u z)
       → ((u : Course) → WasAnsweredAll h u → WasAnsweredAll g u)
-      → TablesShow s g new.ground.tables.items → PagesShow g new.ground.pages.items → IsLikeReached s g → length new.told.items ≡ c.flags
+      → TablesShow s g new.ground.tables.items → PagesShow g new.ground.pages.items → IsLikeReached s g → AllOfScript scene.vias g → length new.told.items ≡ c.flags
       → ((flag : ℕ) → IsRaisedBefore (length (hs ++ x ∷ [])) flag (hs ++ x ∷ []) → slice_get new.told.items flag ≡ Some true)
       → ((flag : ℕ) → slice_get new.told.items flag ≡ Some true → IsRaisedBefore (length (hs ++ x ∷ [])) flag (hs ++ x ∷ []))
       → SceneShows c scene (hs ++ x ∷ []) (slice_set ks place j) new
-  comes-so new x j b g becomes history dom calls answered others kept tables pages like flags told heard = record {
+  comes-so new x j b g becomes history dom calls answered others kept tables pages like asked flags told heard = record {
     domains = map_set (λ (u : Course). u.dom) ks place k j at dom ∙ shows.domains;
     many = ap (λ (l : List Actor). length l) becomes ∙ length-set old.actors.items place b ∙ shows.many ∙ sym (length-set ks place j);
     each = λ i u z here standing.
@@ -164,6 +165,7 @@ module _ (c : RunContents) (scene : SearchContext) (hs : List Happening) (ks : L
     tables = subst (λ (l : History). TablesShow s l new.ground.tables.items) (sym history) tables;
     pages = subst (λ (l : History). PagesShow l new.ground.pages.items) (sym history) pages;
     like = subst (IsLikeReached s) (sym history) like;
+    asked = subst (AllOfScript scene.vias) (sym history) asked;
     flags = flags;
     told = told;
     heard = heard;
@@ -184,16 +186,17 @@ module _ (c : RunContents) (scene : SearchContext) (hs : List Happening) (ks : L
 
   -- by an event, which did this
   pub comes-event : (new : SearchState) (e : Event) (i : Item) (j : Course) (b : Actor)
-      → i.actor ≡ k.dom → IsRight s h i → HappensKnown h i → AsksFit i.happened
+      → i.actor ≡ k.dom → IsRight s h i → HappensKnown h i → AsksFit i.happened → BeginsOfScript scene.vias i.happened
       → new.actors.items ≡ slice_set old.actors.items place b → j.dom ≡ k.dom → ShowsCalls s (i ∷ h) (tasks_at scene place) j b → WasAnsweredAll (i ∷ h) j
       → TablesShow s (i ∷ h) new.ground.tables.items → PagesShow (i ∷ h) new.ground.pages.items → new.told ≡ old.told
       → SceneShows c scene (hs ++ did e (Did i) ∷ []) (slice_set ks place j) new
-  comes-event new e i j b own right known fits becomes dom calls answered tables pages told =
+  comes-event new e i j b own right known fits said becomes dom calls answered tables pages told =
       comes-so new (did e (Did i)) j b (i ∷ h) becomes (history_did hs e (Did i)) dom calls answered
       (λ tasks u z other show. others-stay s h tasks u z i (ne_eqb i.actor.0 u.dom.0 (λ same. other (sym same ∙ ap (λ (d : DomId). d.0) own))) show)
       (λ u was. record { named = names_grown h (Did i) u.named was.named; held = held_grown h (Did i) u.dom.0 u.held was.held })
       tables pages
       (like-goes-on s h i shows.like (subst (λ (d : DomId). domain_of c.head.domains d ≢ None) (sym own) of-run) right known fits)
+      (said, shows.asked)
       (ap (λ w. length w.items) told ∙ shows.flags)
       (λ flag before. ap (λ w. slice_get w.items flag) told ∙ elim (raised_or hs (did e (Did i)) flag before) [
         | inl was ↦ shows.told flag was
@@ -215,4 +218,4 @@ module _ (c : RunContents) (scene : SearchContext) (hs : List Happening) (ks : L
       comes-so new x j b h becomes (history_quiet hs x quiet) dom calls answered (λ tasks u z other show. show) (λ u was. was)
       (subst (λ g. TablesShow s h g.tables.items) (sym ground) shows.tables)
       (subst (λ g. PagesShow h g.pages.items) (sym ground) shows.pages)
-      shows.like (many ∙ shows.flags) told heard
+      shows.like shows.asked (many ∙ shows.flags) told heard

@@ -1,37 +1,33 @@
 -- What the steps of a call touch is what its request names, and what a next move doesn't meet is apart from it.
-use Rattle.std.proofs.Common.{◌≡◌, ◌⊎◌, inl, inr, ℕ, zero, suc, refl, Bool, true, false, cond, List, [], ◌∷◌, ◌++◌}
+use Rattle.std.proofs.Common.{◌≡◌, ◌⊎◌, inl, inr, ℕ, refl, Bool, true, false, cond, List, [], ◌∷◌, ◌++◌, length}
 use Rattle.std.proofs.Common.{Option, Some, None, sym, ap, ◌∙◌, subst, append-nil, arith}
-use Rattle.std.specs.Prelude.{◌==◌, ◌&&◌, ◌||◌, nat_lt}
+use Rattle.std.specs.Prelude.{◌==◌, ◌&&◌, ◌||◌}
 use Rattle.std.proofs.lemmas.Bool.{and_parts, eqb-true, false≢true}
 use Rattle.std.proofs.lemmas.Option.{none-some}
+use Rattle.gt_types.specs.Copies.{is_dest_granted, is_source_granted}
 use Rattle.gt_types.specs.Names.{resolved}
+use Rattle.gt_types.specs.declared.Dir.TheVariants.{Read as ToRead, Write as ToWrite}
 use Rattle.gt_types.specs.declared.DomId.{DomId}
 use Rattle.gt_types.specs.declared.GrantRef.{GrantRef}
-use Rattle.gt_types.specs.declared.denial.Denial.{Denial}
-use Rattle.gt_types.specs.declared.denial.Rule.{Rule}
-use Rattle.gt_entry.specs.declared.change.BodyWord.{BodyWord}
-use Rattle.gt_entry.specs.declared.change.BodyWord.TheVariants.{First as FirstHalf, Second as SecondHalf}
-use Rattle.gt_entry.specs.declared.change.EntryChange.{EntryChange}
+use Rattle.gt_types.specs.declared.copies.CopyArgs.{CopyArgs}
 use Rattle.gt_entry.specs.declared.change.EntryChange.TheVariants.{Demote as ToReadOnly, Promote as ToWritable}
-use Rattle.gt_entry.specs.declared.change.EntryChange.TheVariants.{Revoke as ToInvalid, Withdraw as ToWithdrawn}
+use Rattle.gt_entry.specs.declared.change.EntryChange.TheVariants.{Publish, Revoke as ToInvalid}
+use Rattle.gt_entry.specs.declared.change.EntryChange.TheVariants.{Withdraw as ToWithdrawn}
 use Rattle.gt_entry.specs.declared.entry.Entry.TheVariants as entries
 use Rattle.gt_entry.specs.declared.entry.Entry.{Entry as TableEntry}
-use Rattle.gt_entry.specs.Words.{control_of, header_of}
-use Rattle.gt_entry.specs.declared.control.EntryKind.TheVariants.{Sub as KindSub}
+use Rattle.gt_entry.specs.Spelling.{entry_of}
+use Rattle.gt_entry.specs.Words.{control_of}
 use Rattle.gt_handles.specs.declared.handles.Handle.{Handle}
 use Rattle.gt_calls.specs.Asking.{asked}
-use Rattle.gt_calls.specs.Path.{AfterPin, AfterRefusal, Continuation, after_beginning, after_first, asks}
-use Rattle.gt_calls.specs.Path.{at_first_look, by_mapping}
-use Rattle.gt_calls.specs.Path.{ended, exchanges, exchanges_once, grant_path, held_of, is_stopped, last_step, leg}
-use Rattle.gt_calls.specs.Path.{looks, makes, map_leg, path, reads_body}
-use Rattle.gt_calls.specs.Path.{rule_of_try, steps_of, tries, try_pin, turn, turns}
-use Rattle.gt_calls.specs.Resting.{GivesUp}
-use Rattle.gt_calls.specs.Rules.{CallerKnowledge, begun, first_body, first_look, is_kind, size_of}
+use Rattle.gt_calls.specs.Holding.{frame_by, held_by, owner_by}
+use Rattle.gt_calls.specs.Path.{accesses, after_beginning, asks, copies, dest_pair, end_leg, ended, give_back, gref_of}
+use Rattle.gt_calls.specs.Path.{map_leg, path, place_of, refused_holding, second_leg, source_pair, steps_of, to_dest}
+use Rattle.gt_calls.specs.Rules.{CallerKnowledge, begun}
+use Rattle.gt_calls.specs.declared.action.Action.{Action}
 use Rattle.gt_calls.specs.declared.action.Action.TheVariants.{Step as Makes, Done}
 use Rattle.gt_calls.specs.declared.action.CallResult.{CallResult}
-use Rattle.gt_calls.specs.declared.action.CallResult.TheVariants.{Granted}
+use Rattle.gt_calls.specs.declared.action.CallResult.TheVariants.{Granted, Mapped as KeptPin, Refused}
 use Rattle.gt_calls.specs.declared.action.Observation.{Observation}
-use Rattle.gt_calls.specs.declared.action.Observation.TheVariants.{Missed, Nothing, Taken, Word}
 use Rattle.gt_calls.specs.declared.action.Step.{Step}
 use Rattle.gt_calls.specs.declared.action.Step.TheVariants.{Copy as CopyBytes, Exchange, LookBody, LookControl}
 use Rattle.gt_calls.specs.declared.action.Step.TheVariants.{LookHeader}
@@ -40,6 +36,8 @@ use Rattle.gt_calls.specs.declared.action.Step.TheVariants.{Unpin}
 use Rattle.gt_calls.specs.declared.action.Step.TheVariants.{Write as WriteBytes}
 use Rattle.gt_calls.specs.declared.call.HeaderQuery.{HeaderQuery}
 use Rattle.gt_calls.specs.declared.call.HeaderQuery.TheVariants as queries
+use Rattle.gt_calls.specs.declared.held.AccessPath.{AccessPath}
+use Rattle.gt_calls.specs.declared.held.AccessPath.TheVariants.{Own, Direct, Through}
 use Rattle.gt_calls.specs.declared.held.HeldPin.{HeldPin}
 use Rattle.gt_calls.specs.declared.leg.Leg.{Leg}
 use Rattle.gt_calls.specs.declared.leg.TheConstants.{MORE_TRIES}
@@ -67,9 +65,10 @@ use Rattle.gt_script_lines.specs.declared.calls.ScriptCall.TheVariants as calls
 use Rattle.gt_script.specs.Lists.{RunAction, RunTask}
 use Rattle.gt_script.specs.declared.tasks.RunActionBy.TheVariants.{Await, Do, Tell}
 use Rattle.gt_explore_moves.specs.Touches.{is_access, is_load, is_on, is_store, is_write, meets, meets_bytes}
-use Rattle.gt_explore_moves.specs.Touches.{meets_call}
+use Rattle.gt_explore_moves.specs.Touches.{meets_call, meets_dest, meets_reads, meets_source, meets_writes}
 use Rattle.gt_explore_moves.specs.Touches.{meets_leg, meets_mapping, meets_task, next_accesses, next_writes, reads_at}
 use Rattle.gt_explore_moves.specs.Touches.{step_meets, writes_at}
+use Rattle.gt_explore_moves.specs.Transitive.{grants_via, is_via}
 use Rattle.gt_explore_moves.specs.declared.touches.MappingUse.{MappingUse}
 use Rattle.gt_explore_moves.specs.Renaming.{step_under}
 use Rattle.gt_explore_moves.specs.declared.touches.NextMove.{NextMove}
@@ -77,134 +76,9 @@ use Rattle.gt_explore_moves.specs.declared.touches.NextMove.TheVariants as next
 use Rattle.gt_explore_moves.specs.declared.touches.Touch.{Touch}
 use Rattle.gt_explore_moves.specs.declared.touches.Touch.TheVariants.{Entry, LooksHeader, Raises, Reads, StoresHeader}
 use Rattle.gt_explore_moves.specs.declared.touches.Touch.TheVariants.{Writes}
-
--- the steps of a path
-
-module _ (G : Step → Type 0) where
-  -- each step of the path is such
-  abbrev pub EachStep : Continuation → Type 0
-  EachStep cont = (vs : List Observation) (step : Step) → cont vs ≡ Some (Makes step) → G step
-
-  done-not : (verdict : CallResult) (step : Step) → Some (Done verdict) ≡ Some (Makes step) → G step
-  done-not verdict step e = absurd (cc)
-
-  none-not : (step : Step) → None ≡ Some (Makes step) → G step
-  none-not step e = absurd (none-some (Makes step) e)
-
-  one-step : (one step : Step) → G one → Some (Makes one) ≡ Some (Makes step) → G step
-  one-step one step good e = let same : one ≡ step = cc in subst G same good
-
-  each-ended : (verdict : CallResult) → EachStep (ended verdict)
-  each-ended verdict [] step e = done-not verdict step e
-  each-ended verdict (v ∷ vs) step e = none-not step e
-
-  each-makes : (one : Step) (follows : Continuation) → G one → EachStep follows → EachStep (makes one follows)
-  each-makes one follows good more [] step e = one-step one step good e
-  each-makes one follows good more (Nothing ∷ vs) step e = more vs step e
-  each-makes one follows good more (v ∷ vs) step e = none-not step e
-
-  each-looks : (one : Step) (follows : ℕ → Continuation) → G one → ((w : ℕ) → EachStep (follows w))
-      → EachStep (looks one follows)
-  each-looks one follows good more [] step e = one-step one step good e
-  each-looks one follows good more (Word w ∷ vs) step e = more w vs step e
-  each-looks one follows good more (v ∷ vs) step e = none-not step e
-
-  each-if : (b : Bool) (one other : Continuation) → EachStep one → EachStep other → EachStep (cond b one other)
-  each-if true one other first second = first
-  each-if false one other first second = second
-
-  each-exchanges : (one : Step) (looked : ℕ) (taken : Continuation) (missed : ℕ → Continuation) → G one
-      → EachStep taken → ((w : ℕ) → EachStep (missed w)) → EachStep (exchanges one looked taken missed)
-  each-exchanges one looked taken missed good first second [] step e = one-step one step good e
-  each-exchanges one looked taken missed good first second (Taken ∷ vs) step e = first vs step e
-  each-exchanges one looked taken missed good first second (Missed w ∷ vs) step e = by (w == looked) e where
-    by : (b : Bool) → cond b None (missed w vs) ≡ Some (Makes step) → G step
-    by true f = none-not step f
-    by false f = second w vs step f
-  each-exchanges one looked taken missed good first second (v ∷ vs) step e = none-not step e
-
-  -- the steps of a leg
-  pub record LegIs (l : Leg) : Type 0 where
-    pub header : G (LookHeader l.dom)
-    pub control : G (LookControl l.dom l.gref)
-    pub body : (half : BodyWord) → G (LookBody l.dom l.gref half)
-    pub pin : (p : HeldPin) → p.dom ≡ l.dom → p.gref ≡ l.gref → G (PinStep p)
-
-  module _ (l : Leg) (is : LegIs l) (refused : AfterRefusal) (pinned : AfterPin)
-      (no : (denial : Denial) → EachStep (refused denial)) (yes : (p : HeldPin) → EachStep (pinned p)) where
-    each-last : (p : HeldPin) (rule : Option Rule) (missed : ℕ → Continuation) → p.dom ≡ l.dom → p.gref ≡ l.gref
-        → ((w : ℕ) → EachStep (missed w)) → EachStep (last_step l p rule refused missed pinned)
-    each-last p None missed dom gref more =
-        each-exchanges (PinStep p) p.word (pinned p) missed (is.pin p dom gref) (yes p) more
-    each-last p (Some rule) missed dom gref more = each-looks (LookControl l.dom l.gref) _ is.control (λ found.
-        each-if (found == p.word) _ _ (no _) (more found))
-
-    each-body : (word : ℕ) (missed : ℕ → Continuation) → ((w : ℕ) → EachStep (missed w))
-        → EachStep (reads_body l word refused missed pinned)
-    each-body word missed more = each-looks (LookBody l.dom l.gref FirstHalf) _ (is.body FirstHalf) (λ body.
-        each-if (is_kind (control_of word).kind KindSub) _ _
-        (each-looks (LookBody l.dom l.gref SecondHalf) _ (is.body SecondHalf) (λ second.
-        each-last (held_of l word body second) (rule_of_try l word body second) missed refl refl more))
-        (each-last (held_of l word body 0) (rule_of_try l word body 0) missed refl refl more))
-
-    each-first : (word : ℕ) (rule : Option Rule) (missed : ℕ → Continuation) → ((w : ℕ) → EachStep (missed w))
-        → EachStep (at_first_look l word rule refused (reads_body l word refused missed pinned))
-    each-first word None missed more = each-body word missed more
-    each-first word (Some rule) missed more = no _
-
-    each-try : (missed : ℕ → Continuation) → ((w : ℕ) → EachStep (missed w))
-        → EachStep (try_pin l refused missed pinned)
-    each-try missed more = each-looks (LookControl l.dom l.gref) _ is.control (λ word.
-        each-first word (first_look l (control_of word)) missed more)
-
-    each-tries : (more : ℕ) → EachStep (tries l more refused pinned)
-    unfolding tries
-    each-tries zero = each-try _ (λ found. no _)
-    each-tries (suc more) = each-try _ (λ found. each-tries more)
-
-    each-leg : EachStep (leg l refused pinned)
-    each-leg = each-looks (LookHeader l.dom) _ is.header (λ word.
-        each-if (nat_lt l.gref.0 (size_of (header_of word))) _ _ (each-tries MORE_TRIES) (no _))
-
-  -- an owner's changes
-  module _ (d : DomId) (gref : GrantRef) (control : G (LookControl d gref))
-      (exchange : (looked : ℕ) (change : EntryChange) → G (Exchange gref looked change)) where
-    each-turn : (change : EntryChange) (missed : ℕ → Continuation) → ((w : ℕ) → EachStep (missed w))
-        → EachStep (turn change d gref missed)
-    each-turn change missed more = each-looks (LookControl d gref) _ control (λ word.
-        each-if (is_stopped change (control_of word)) _ _ (each-ended _)
-        (each-exchanges (Exchange gref word change) word _ missed (exchange word change) (each-ended Granted) more))
-
-    each-turns : (change : EntryChange) (more : ℕ) → EachStep (turns change d gref more)
-    unfolding turns
-    each-turns change zero = each-turn change _ (λ found. each-ended _)
-    each-turns change (suc more) = each-turn change _ (λ found. each-turns change more)
-
-    each-once : (looked : ℕ) (change : EntryChange) → EachStep (exchanges_once d gref looked change)
-    each-once looked change =
-        each-exchanges (Exchange gref looked change) looked _ _ (exchange looked change) (each-ended Granted)
-        (λ found. each-ended _)
-
-    each-grant : (k : CallerKnowledge) (entry : TableEntry) → ((half : BodyWord) (w : ℕ) → G (StoreBody gref half w))
-        → EachStep (grant_path k d gref entry)
-    each-grant k entry store = each-makes (StoreBody gref FirstHalf (first_body entry)) _ (store FirstHalf _) (by entry)
-      where
-        by : (e : TableEntry) → EachStep (after_first k d gref e)
-        by (entries.Sub dom ro frame off len) =
-            each-makes (StoreBody gref SecondHalf _) _ (store SecondHalf _) (each-once _ _)
-        by entries.Invalid = each-once _ _
-        by (entries.Page dom ro frame) = each-once _ _
-        by (entries.Via dom ro dom2 r) = each-once _ _
-
-  each-mapped : (found : Option HeldPin) (step : HeldPin → Step) → ((m : HeldPin) → found ≡ Some m → G (step m))
-      → EachStep (by_mapping found step)
-  each-mapped None step good = each-ended _
-  each-mapped (Some m) step good = each-makes (step m) _ (good m refl) (each-ended Granted)
-
-  each-after : (verdict : Option CallResult) (steps : Continuation) → EachStep steps
-      → EachStep (after_beginning verdict steps)
-  each-after None steps each = each
-  each-after (Some verdict) steps each = each-ended verdict
+use Rattle.gt_explore_moves.proofs.PathSteps.{Each, GivesWell, IsPinOf, LegIs, each-ended, each-given, each-grant}
+use Rattle.gt_explore_moves.proofs.PathSteps.{each-leg, each-looks, each-makes, each-mapped, each-once, each-reached}
+use Rattle.gt_explore_moves.proofs.PathSteps.{each-turns}
 
 -- touches
 
@@ -222,9 +96,27 @@ abbrev pub PinTouches : (Touch → Type 0) → MappingUse → HeldPin → Type 0
 PinTouches A uses p = A (Entry p.dom p.gref) × (uses.loads ≡ true → A (Reads p.dom (frame_of p.entry)))
     × (uses.stores ≡ true → A (Writes p.dom (frame_of p.entry)))
 
--- what a request of this domain may touch is such
+-- what the ends of a copy touch is such: for an end that a reference names, also each frame of the entry's owner
+abbrev pub SourceTouches : (Touch → Type 0) → DomId → CopyArgs → Type 0
+SourceTouches A d c =
+    (is_source_granted c ≡ true → LegTouches A (resolved d c.source.domid) (gref_of c.source.ptr)
+    × ((f : ℕ) → A (Reads (resolved d c.source.domid) f)))
+    × (is_source_granted c ≡ false → A (Reads d c.source.ptr))
+
+abbrev pub DestTouches : (Touch → Type 0) → DomId → CopyArgs → Type 0
+DestTouches A d c =
+    (is_dest_granted c ≡ true → LegTouches A (resolved d c.dest.domid) (gref_of c.dest.ptr)
+    × ((f : ℕ) → A (Writes (resolved d c.dest.domid) f)))
+    × (is_dest_granted c ≡ false → A (Writes d c.dest.ptr))
+
+-- an entry is not transitive, unless the script may grant such entries
+abbrev pub IsNoVia : MappingUse → TableEntry → Type 0
+IsNoVia uses entry = uses.vias ≡ false → is_via entry ≡ false
+
+-- what a request of this domain may touch is such; if the script may grant a transitive entry, nothing is claimed of a
+-- copy
 abbrev pub RequestTouches : (Touch → Type 0) → MappingUse → DomId → OpenRequest → Type 0
-RequestTouches A uses d (Grant gref entry) = A (Entry d gref)
+RequestTouches A uses d (Grant gref entry) = A (Entry d gref) × IsNoVia uses entry
 RequestTouches A uses d (Revoke gref) = A (Entry d gref)
 RequestTouches A uses d (Withdraw gref) = A (Entry d gref)
 RequestTouches A uses d (Demote gref) = A (Entry d gref)
@@ -236,7 +128,7 @@ RequestTouches A uses d (Load handle off len) = uses.loads ≡ true
 RequestTouches A uses d (Store handle off len) = uses.stores ≡ true
 RequestTouches A uses d (Peek frame off len) = A (Reads d frame)
 RequestTouches A uses d (Poke frame off len) = A (Writes d frame)
-RequestTouches A uses d (Copy c) = ⊥
+RequestTouches A uses d (Copy c) = (uses.vias ≡ false) × SourceTouches A d c × DestTouches A d c
 RequestTouches A uses d (Probe c) = ⊥
 RequestTouches A uses d (SetVersion version) = A (StoresHeader d)
 RequestTouches A uses d (SetupTable frames) = A (StoresHeader d)
@@ -258,93 +150,220 @@ StepTouches A d (WriteBytes dom frame off len) = A (Writes dom frame)
 StepTouches A d (CopyBytes from to len) =
     A (Reads from.frame.owner from.frame.number) × A (Writes to.frame.owner to.frame.number)
 
--- an unpin is that of a mapping
-abbrev pub UnmapsOnly : CallerKnowledge → Step → Type 0
-UnmapsOnly k (Unpin p (ByHandle handle)) = k.mapping handle ≡ Some p
-UnmapsOnly k (Unpin p (ByLeg number)) = ⊥
-UnmapsOnly k step = Unit {0}
+-- a pin of this request may be used so as a mapping
+abbrev pub MapsBytes : (Touch → Type 0) → MappingUse → OpenRequest → Type 0
+MapsBytes A uses (Map dom gref flags) = BytesTouch A uses
+MapsBytes A uses r = Unit {0}
 
--- a pin may be used so
-abbrev pub PinsBytes : (Touch → Type 0) → MappingUse → Step → Type 0
-PinsBytes A uses (PinStep p) = BytesTouch A uses
-PinsBytes A uses step = Unit {0}
+abbrev pub PinsBytes : (Touch → Type 0) → MappingUse → OpenRequest → Step → Type 0
+PinsBytes A uses r (PinStep p) = MapsBytes A uses r
+PinsBytes A uses r step = Unit {0}
 
-module _ (A : Touch → Type 0) (uses : MappingUse) (k : CallerKnowledge) (d : DomId)
+-- only a map and a copy take pins: a map one
+abbrev pub IsPinning : OpenRequest → List HeldPin → Type 0
+IsPinning (Map dom gref flags) held = held ≡ []
+IsPinning (Copy c) held = Unit {0}
+IsPinning r held = ⊥
+
+-- the pin has the entry that its word and two body words encode
+abbrev pub PinRead : HeldPin → Type 0
+PinRead p = (body : ℕ) × (second : ℕ) × (p.entry ≡ entry_of (control_of p.word) body second)
+
+-- what a step of a request is, by what the caller knows and by the pins that its call holds: an unpin releases the pin
+-- of a mapping, or the call's last one; only a grant publishes an entry
+abbrev pub StepFacts : CallerKnowledge → OpenRequest → List HeldPin → Step → Type 0
+StepFacts k r held (PinStep p) = IsPinning r held × PinRead p
+StepFacts k r held (Unpin p (ByHandle handle)) = k.mapping handle ≡ Some p
+StepFacts k r held (Unpin p (ByLeg number)) =
+    IsPinning r held × ((others : List HeldPin) × (held ≡ p ∷ others) × (number ≡ length others))
+StepFacts k r held (Exchange gref looked (Publish entry)) = r ≡ Grant gref entry
+StepFacts k r held step = Unit {0}
+
+-- at its end a call holds no pin but that of a mapping
+abbrev pub EndFacts : OpenRequest → List HeldPin → CallResult → Type 0
+EndFacts (Map dom gref flags) held (KeptPin p) = held ≡ p ∷ []
+EndFacts r held verdict = held ≡ []
+
+-- what holds for an action of a call
+abbrev pub IsActionOf : (Touch → Type 0) → MappingUse → CallerKnowledge → DomId → OpenRequest → List HeldPin → Action
+    → Type 0
+IsActionOf A uses k d r held (Makes step) =
+    StepTouches A d step × PinsBytes A uses r step × StepFacts k r held step
+IsActionOf A uses k d r held (Done verdict) = EndFacts r held verdict
+
+-- the request is a copy
+abbrev pub IsCopy : OpenRequest → Type 0
+IsCopy (Copy c) = Unit {0}
+IsCopy r = ⊥
+
+module _ (A : Touch → Type 0) (uses : MappingUse) (k : CallerKnowledge) (d : DomId) (L : HeldPin → Type 0)
     (mapped : (handle : Handle) (p : HeldPin) → k.mapping handle ≡ Some p → PinTouches A uses p) where
-  abbrev Good : Step → Type 0
-  Good step = StepTouches A d step × UnmapsOnly k step × PinsBytes A uses step
+  abbrev One : OpenRequest → List HeldPin → Action → Type 0
+  One r held action = IsActionOf A uses k d r held action
 
-  leg-is : (l : Leg) → LegTouches A l.dom l.gref → BytesTouch A uses → LegIs Good l
-  leg-is l touches bytes = record {
+  -- each of these pins is on such an entry
+  abbrev AllOn : List HeldPin → Type 0
+  AllOn [] = Unit {0}
+  AllOn (p ∷ ps) = A (Entry p.dom p.gref) × AllOn ps
+
+  -- what a transitive entry leads to is such, if such a pin was taken on it
+  abbrev pub Beyond : Type 0
+  Beyond = (p : HeldPin) (dom : DomId) (ro : Bool) (dom2 : DomId) (gref : GrantRef) → L p
+      → p.entry ≡ entries.Via dom ro dom2 gref
+      → LegTouches A dom2 gref × ((f : ℕ) → A (Reads dom2 f)) × ((f : ℕ) → A (Writes dom2 f))
+
+  pin-on : (l : Leg) (p : HeldPin) → IsPinOf l p → A (Entry l.dom l.gref) → A (Entry p.dom p.gref)
+  pin-on l p of touch = subst (λ (q : HeldPin). A (Entry q.dom q.gref)) (sym of.2) touch
+
+  pin-dom : (l : Leg) (p : HeldPin) → IsPinOf l p → l.dom ≡ p.dom
+  pin-dom l p of = sym (ap (λ (q : HeldPin). q.dom) of.2)
+
+  pin-read : (l : Leg) (p : HeldPin) → IsPinOf l p → PinRead p
+  pin-read l p of = (of.0, of.1, ap (λ (q : HeldPin). q.entry) of.2)
+
+  leg-is : (r : OpenRequest) (held : List HeldPin) (l : Leg) → LegTouches A l.dom l.gref → IsPinning r held
+      → MapsBytes A uses r → LegIs L (One r) held l
+  leg-is r held l touches pinning bytes = record {
     header = (touches.0, tt, tt);
     control = (touches.1, tt, tt);
     body = λ half. (touches.1, tt, tt);
-    pin = λ p dom gref. (
-      subst (λ x. A (Entry x p.gref)) (sym dom) (subst (λ x. A (Entry l.dom x)) (sym gref) touches.1),
-      tt,
-      bytes,
-    );
+    pin = λ p of. (pin-on l p of touches.1, bytes, (pinning, pin-read l p of));
   }
 
-  each-asked : (question : HeaderQuery) (dom : DomId) → A (LooksHeader dom) → EachStep Good (asks dom question)
-  each-asked question dom touches = each-looks Good (LookHeader dom) _ (touches, tt, tt) (λ word. each-ended Good _)
+  each-asked : (r : OpenRequest) (question : HeaderQuery) (dom : DomId)
+      → ((verdict : CallResult) → One r [] (Done verdict)) → A (LooksHeader dom)
+      → Each L (One r) [] (asks dom question)
+  each-asked r question dom ends touches = each-looks L (One r) [] (LookHeader dom) _ (touches, tt, tt)
+      (λ word. each-ended L (One r) [] _ (ends _))
 
-  each-step : (request : OpenRequest) → RequestTouches A uses d request → EachStep Good (steps_of k d request)
-  each-step (Grant gref entry) t = each-grant Good d gref (t, tt, tt) (λ looked change. (t, tt, tt)) k entry
-      (λ half w. (t, tt, tt))
-  each-step (Revoke gref) t = each-once Good d gref (t, tt, tt) (λ looked change. (t, tt, tt)) _ ToInvalid
-  each-step (Withdraw gref) t = each-turns Good d gref (t, tt, tt) (λ looked change. (t, tt, tt)) ToWithdrawn MORE_TRIES
-  each-step (Demote gref) t = each-turns Good d gref (t, tt, tt) (λ looked change. (t, tt, tt)) ToReadOnly MORE_TRIES
-  each-step (Promote gref) t = each-turns Good d gref (t, tt, tt) (λ looked change. (t, tt, tt)) ToWritable MORE_TRIES
-  each-step (Map dom gref flags) t = each-leg Good (map_leg k d dom gref flags) (leg-is
-      (map_leg k d dom gref flags) t.0 t.1) _ _
-      (λ denial. each-ended Good _) (λ p. each-ended Good _)
-  each-step (Unmap handle) t = each-mapped Good (k.mapping handle) _ (λ m found. ((mapped handle m found).0, found, tt))
-  each-step (Release handle) t = each-mapped Good (k.mapping handle) _ (λ m found. ((mapped handle m found).0, found, tt))
-  each-step (Load handle off len) t = each-mapped Good (k.mapping handle) _
-      (λ m found. ((mapped handle m found).1 t, tt, tt))
-  each-step (Store handle off len) t = each-mapped Good (k.mapping handle) _
-      (λ m found. ((mapped handle m found).2 t, tt, tt))
-  each-step (Peek frame off len) t = each-makes Good (ReadBytes d frame off len) _ (t, tt, tt) (each-ended Good Granted)
-  each-step (Poke frame off len) t = each-makes Good (WriteBytes d frame off len) _ (t, tt, tt)
-      (each-ended Good Granted)
-  each-step (Copy c) t = absurd t
-  each-step (Probe c) t = absurd t
-  each-step (SetVersion version) t = each-makes Good (StoreHeader version k.header.frames) _ (t, tt, tt)
-      (each-ended Good Granted)
-  each-step (SetupTable frames) t = each-makes Good (StoreHeader k.header.version frames) _ (t, tt, tt)
-      (each-ended Good _)
-  each-step (QuerySize dom) t = each-asked queries.Size (resolved d dom) t
-  each-step (GetVersion dom) t = each-asked queries.Version (resolved d dom) t
+  module _ (c : CopyArgs) (from : SourceTouches A d c) (to : DestTouches A d c) (beyond-on : Beyond) where
+    gives-well : (held : List HeldPin) → AllOn held → (verdict : CallResult) → GivesWell L (One (Copy c)) held verdict
+    gives-well [] on verdict = refl
+    gives-well (p ∷ ps) on verdict = ((on.0, tt, (tt, (ps, refl, refl))), gives-well ps on.1 verdict)
 
-  -- each step of a call touches only what its request names
-  pub path-touches : (request : OpenRequest) → RequestTouches A uses d request → EachStep Good (path k d request)
-  path-touches request t = each-after Good (begun k d request) (steps_of k d request) (each-step request t)
+    each-access : (source dest : AccessPath) → AllOn (held_by dest ++ held_by source)
+        → A (Reads (owner_by d source) (frame_by c.source.ptr source))
+        → A (Writes (owner_by d dest) (frame_by c.dest.ptr dest))
+        → Each L (One (Copy c)) (held_by dest ++ held_by source) (accesses d c source dest)
+    each-access source dest on reads writes = each-makes L (One (Copy c)) (held_by dest ++ held_by source)
+        (CopyBytes (place_of d c.source source) (place_of d c.dest dest) c.len)
+        (give_back (held_by dest ++ held_by source) Granted) ((reads, writes), tt, tt)
+        (each-given L (One (Copy c)) (held_by dest ++ held_by source) Granted
+        (gives-well (held_by dest ++ held_by source) on Granted))
 
--- a step that drops a mapping names its pin
-abbrev NamesPin : CallerKnowledge → Step → Type 0
-NamesPin k (Unpin q (ByHandle b)) = k.mapping b ≡ Some q
-NamesPin k step = Unit {0}
+    abbrev source_leg : Leg
+    source_leg = end_leg k d c.source ToRead c.len
 
--- the pin that an unmap or a release gives up
-pub drop-found : (k : CallerKnowledge) (d : DomId) (r : OpenRequest) (handle : Handle) (vs : List Observation)
-    (p : HeldPin) (a : Handle)
-    → GivesUp r handle → path k d r vs ≡ Some (Makes (Unpin p (ByHandle a))) → k.mapping a ≡ Some p
-drop-found k d r handle vs p a (inl is) e =
-    each-after (NamesPin k) (begun k d (Unmap handle)) _
-    (each-mapped (NamesPin k) (k.mapping handle) _ (λ m found. found))
-    vs (Unpin p (ByHandle a)) (ap (λ (q : OpenRequest). path k d q vs) (sym is) ∙ e)
-drop-found k d r handle vs p a (inr is) e =
-    each-after (NamesPin k) (begun k d (Release handle)) _
-    (each-mapped (NamesPin k) (k.mapping handle) _ (λ m found. found))
-    vs (Unpin p (ByHandle a)) (ap (λ (q : OpenRequest). path k d q vs) (sym is) ∙ e)
+    abbrev dest_leg : Leg
+    dest_leg = end_leg k d c.dest ToWrite c.len
+
+    each-dest : (source : AccessPath) → AllOn (held_by source)
+        → A (Reads (owner_by d source) (frame_by c.source.ptr source))
+        → Each L (One (Copy c)) (held_by source) (to_dest k d c source)
+    each-dest source on reads = each-reached L (One (Copy c)) k dest_leg (dest_pair d source) (held_by source)
+        (accesses d c source) (is_dest_granted c)
+        (λ granted. leg-is (Copy c) (held_by source) dest_leg (to.0 granted).0 tt tt)
+        (λ verdict. gives-well (held_by source) on verdict)
+        (λ own. each-access source Own on reads (to.1 own))
+        (λ granted p of take. each-access source (Direct p) (pin-on dest_leg p of (to.0 granted).0.1, on) reads
+        (subst (λ (t : DomId). A (Writes t (frame_of p.entry))) (pin-dom dest_leg p of)
+        ((to.0 granted).1 (frame_of p.entry))))
+        (λ granted p of take dom ro dom2 gref via.
+        let there = beyond-on p dom ro dom2 gref take via in
+        let second = second_leg k dest_leg dom2 gref in
+        let first-on = pin-on dest_leg p of (to.0 granted).0.1 in record {
+          leg_is = leg-is (Copy c) (p ∷ held_by source) second there.0 tt tt;
+          gives = λ verdict. gives-well (p ∷ held_by source) (first-on, on) verdict;
+          on = λ q of-second taken. each-access source (Through p q)
+              (pin-on second q of-second there.0.1, (first-on, on)) reads
+              (subst (λ (t : DomId). A (Writes t (frame_of q.entry))) (pin-dom second q of-second)
+              (there.2 (frame_of q.entry)));
+        })
+
+    each-copy : Each L (One (Copy c)) [] (copies k d c)
+    each-copy = each-reached L (One (Copy c)) k source_leg (source_pair d c) [] (to_dest k d c) (is_source_granted c)
+        (λ granted. leg-is (Copy c) [] source_leg (from.0 granted).0 tt tt)
+        (λ verdict. gives-well [] tt verdict)
+        (λ own. each-dest Own tt (from.1 own))
+        (λ granted p of take. each-dest (Direct p) (pin-on source_leg p of (from.0 granted).0.1, tt)
+        (subst (λ (t : DomId). A (Reads t (frame_of p.entry))) (pin-dom source_leg p of)
+        ((from.0 granted).1 (frame_of p.entry))))
+        (λ granted p of take dom ro dom2 gref via.
+        let there = beyond-on p dom ro dom2 gref take via in
+        let second = second_leg k source_leg dom2 gref in
+        let first-on = pin-on source_leg p of (from.0 granted).0.1 in record {
+          leg_is = leg-is (Copy c) (p ∷ []) second there.0 tt tt;
+          gives = λ verdict. gives-well (p ∷ []) (first-on, tt) verdict;
+          on = λ q of-second taken. each-dest (Through p q) (pin-on second q of-second there.0.1, (first-on, tt))
+              (subst (λ (t : DomId). A (Reads t (frame_of q.entry))) (pin-dom second q of-second)
+              (there.1 (frame_of q.entry)));
+        })
+
+  -- each action of a call touches only what its request names
+  pub each-step : (r : OpenRequest) → RequestTouches A uses d r → (IsCopy r → Beyond)
+      → Each L (One r) [] (steps_of k d r)
+  each-step (Grant gref entry) t beyond-on = each-grant L (One (Grant gref entry)) [] (λ verdict. refl) k d gref entry
+      (λ half w. (t.0, tt, tt)) (λ looked. (t.0, tt, refl))
+  each-step (Revoke gref) t beyond-on = each-once L (One (Revoke gref)) [] (λ verdict. refl) d gref ToInvalid
+      (λ looked. (t, tt, tt)) _
+  each-step (Withdraw gref) t beyond-on = each-turns L (One (Withdraw gref)) [] (λ verdict. refl) d gref ToWithdrawn
+      (λ looked. (t, tt, tt)) (t, tt, tt) MORE_TRIES
+  each-step (Demote gref) t beyond-on = each-turns L (One (Demote gref)) [] (λ verdict. refl) d gref ToReadOnly
+      (λ looked. (t, tt, tt)) (t, tt, tt) MORE_TRIES
+  each-step (Promote gref) t beyond-on = each-turns L (One (Promote gref)) [] (λ verdict. refl) d gref ToWritable
+      (λ looked. (t, tt, tt)) (t, tt, tt) MORE_TRIES
+  each-step (Map dom gref flags) t beyond-on = each-leg L (One (Map dom gref flags)) [] (map_leg k d dom gref flags)
+      (leg-is (Map dom gref flags) [] (map_leg k d dom gref flags) t.0 refl t.1) (refused_holding [])
+      (λ p. ended (KeptPin p)) (λ denial. each-ended L (One (Map dom gref flags)) [] (Refused denial) refl)
+      (λ p of take. each-ended L (One (Map dom gref flags)) (p ∷ []) (KeptPin p) refl)
+  each-step (Unmap handle) t beyond-on = each-mapped L (One (Unmap handle)) (k.mapping handle)
+      (λ m. Unpin m (ByHandle handle)) (λ verdict. refl) (λ m found. ((mapped handle m found).0, tt, found))
+      (λ m. refl)
+  each-step (Release handle) t beyond-on = each-mapped L (One (Release handle)) (k.mapping handle)
+      (λ m. Unpin m (ByHandle handle)) (λ verdict. refl) (λ m found. ((mapped handle m found).0, tt, found))
+      (λ m. refl)
+  each-step (Load handle off len) t beyond-on = each-mapped L (One (Load handle off len)) (k.mapping handle)
+      (λ m. ReadBytes m.dom (frame_of m.entry) off len) (λ verdict. refl)
+      (λ m found. ((mapped handle m found).1 t, tt, tt)) (λ m. refl)
+  each-step (Store handle off len) t beyond-on = each-mapped L (One (Store handle off len)) (k.mapping handle)
+      (λ m. WriteBytes m.dom (frame_of m.entry) off len) (λ verdict. refl)
+      (λ m found. ((mapped handle m found).2 t, tt, tt)) (λ m. refl)
+  each-step (Peek frame off len) t beyond-on = each-makes L (One (Peek frame off len)) []
+      (ReadBytes d frame off len) _ (t, tt, tt) (each-ended L (One (Peek frame off len)) [] Granted refl)
+  each-step (Poke frame off len) t beyond-on = each-makes L (One (Poke frame off len)) []
+      (WriteBytes d frame off len) _ (t, tt, tt) (each-ended L (One (Poke frame off len)) [] Granted refl)
+  each-step (Copy c) t beyond-on = each-copy c t.1 t.2 (beyond-on tt)
+  each-step (Probe c) t beyond-on = absurd t
+  each-step (SetVersion version) t beyond-on = each-makes L (One (SetVersion version)) []
+      (StoreHeader version k.header.frames) _ (t, tt, tt) (each-ended L (One (SetVersion version)) [] Granted refl)
+  each-step (SetupTable frames) t beyond-on = each-makes L (One (SetupTable frames)) []
+      (StoreHeader k.header.version frames) _ (t, tt, tt) (each-ended L (One (SetupTable frames)) [] _ refl)
+  each-step (QuerySize dom) t beyond-on =
+      each-asked (QuerySize dom) queries.Size (resolved d dom) (λ verdict. refl) t
+  each-step (GetVersion dom) t beyond-on =
+      each-asked (GetVersion dom) queries.Version (resolved d dom) (λ verdict. refl) t
+
+-- a call that makes a step was not answered at its beginning
+
+not-ended : (verdict : CallResult) (vs : List Observation) (step : Step) → ended verdict vs ≡ Some (Makes step) → ⊥
+not-ended verdict [] step e = absurd (cc)
+not-ended verdict (v ∷ vs) step e = none-some (Makes step) e
+
+pub path-opened : (k : CallerKnowledge) (d : DomId) (r : OpenRequest) (vs : List Observation) (step : Step)
+    → path k d r vs ≡ Some (Makes step) → (begun k d r ≡ None) × (steps_of k d r vs ≡ Some (Makes step))
+path-opened k d r vs step e = by (begun k d r) refl e where
+  by : (verdict : Option CallResult) → begun k d r ≡ verdict
+      → after_beginning verdict (steps_of k d r) vs ≡ Some (Makes step)
+      → (begun k d r ≡ None) × (steps_of k d r vs ≡ Some (Makes step))
+  by None is f = (is, f)
+  by (Some verdict) is f = absurd (not-ended verdict vs step f)
 
 -- calls of scripts
 
 -- what a call may touch is such
 abbrev pub CallTouches : (Touch → Type 0) → MappingUse → DomId → ScriptCall → Type 0
-CallTouches A uses d (calls.Grant gref entry) = A (Entry d gref)
-CallTouches A uses d (calls.GrantBytes gref hex) = A (Entry d gref)
+CallTouches A uses d (calls.Grant gref entry) = A (Entry d gref) × IsNoVia uses entry
+CallTouches A uses d (calls.GrantBytes gref hex) = A (Entry d gref) × (uses.vias ≡ true)
 CallTouches A uses d (calls.Revoke gref) = A (Entry d gref)
 CallTouches A uses d (calls.Withdraw gref) = A (Entry d gref)
 CallTouches A uses d (calls.Demote gref) = A (Entry d gref)
@@ -355,7 +374,7 @@ CallTouches A uses d (calls.Load label off len) = uses.loads ≡ true
 CallTouches A uses d (calls.Store label off hex) = uses.stores ≡ true
 CallTouches A uses d (calls.Peek frame off len) = A (Reads d frame)
 CallTouches A uses d (calls.Poke frame off hex) = A (Writes d frame)
-CallTouches A uses d (calls.Copy c) = ⊥
+CallTouches A uses d (calls.Copy c) = (uses.vias ≡ false) × SourceTouches A d c × DestTouches A d c
 CallTouches A uses d (calls.SetVersion version) = A (StoresHeader d)
 CallTouches A uses d (calls.SetupTable frames) = A (StoresHeader d)
 CallTouches A uses d (calls.QuerySize dom) = A (LooksHeader (resolved d dom))
@@ -369,7 +388,7 @@ said-touches A uses named d call q (bytes, hex, is) t = subst (λ r. RequestTouc
     (by call t) where
       by : (c : ScriptCall) → CallTouches A uses d c → RequestTouches A uses d (asked (request_of named d bytes c))
       by (calls.Grant gref entry) t = t
-      by (calls.GrantBytes gref hex) t = t
+      by (calls.GrantBytes gref hex) t = (t.0, λ none. absurd (false≢true (sym none ∙ t.1)))
       by (calls.Revoke gref) t = t
       by (calls.Withdraw gref) t = t
       by (calls.Demote gref) t = t
@@ -402,6 +421,10 @@ TasksTouch A uses d (t ∷ ts) = DeedTouches A uses d t.deed × TasksTouch A use
 -- the next move does not meet it
 abbrev pub Unmet : NextMove → Touch → Type 0
 Unmet move touch = meets move touch ≡ false
+
+not-true : (b : Bool) → (b ≡ true → ⊥) → b ≡ false
+not-true true none = absurd (none refl)
+not-true false none = refl
 
 or-parts : (a b : Bool) → (a || b) ≡ false → (a ≡ false) × (b ≡ false)
 or-parts false false e = (refl, refl)
@@ -452,23 +475,81 @@ unmet-mapping uses move p e =
       (λ is. if-used uses.stores (meets move (Writes p.dom (frame_of p.entry))) both.1 is),
     )
 
--- the uses that a call makes of mappings are among these
+no-frame-written : (z : Step) (t f : ℕ) → writes_frames z t ≡ false → writes_at z t f ≡ false
+no-frame-written (WriteBytes dom frame off len) t f e = ap (λ x. x && (frame == f)) e
+no-frame-written (CopyBytes from to len) t f e = ap (λ x. x && (to.frame.number == f)) e
+no-frame-written z t f e = refl
+
+no-frame-read : (z : Step) (t f : ℕ) → reads_frames z t ≡ false → reads_at z t f ≡ false
+no-frame-read (ReadBytes dom frame off len) t f e = ap (λ x. x && (frame == f)) e
+no-frame-read (CopyBytes from to len) t f e = ap (λ x. x && (from.frame.number == f)) e
+no-frame-read z t f e = refl
+
+both-false : (a b : Bool) → a ≡ false → b ≡ false → (a || b) ≡ false
+both-false a b e f = ap (λ x. x || b) e ∙ f
+
+unmet-frames-read : (move : NextMove) (t : DomId) → meets_reads move t ≡ false → (f : ℕ) → Unmet move (Reads t f)
+unmet-frames-read (next.Makes d z) t e f = no-frame-written z t.0 f e
+unmet-frames-read (next.Awaits flag) t e f = refl
+unmet-frames-read next.Free t e f = refl
+
+unmet-frames-written : (move : NextMove) (t : DomId) → meets_writes move t ≡ false → (f : ℕ)
+    → Unmet move (Writes t f)
+unmet-frames-written (next.Makes d z) t e f =
+    let both = or-parts (reads_frames z t.0) (writes_frames z t.0) e in
+    both-false (reads_at z t.0 f) (writes_at z t.0 f) (no-frame-read z t.0 f both.0) (no-frame-written z t.0 f both.1)
+unmet-frames-written (next.Awaits flag) t e f = refl
+unmet-frames-written next.Free t e f = refl
+
+unmet-leg : (move : NextMove) (dom : DomId) (gref : GrantRef) → meets_leg move dom gref ≡ false
+    → LegTouches (Unmet move) dom gref
+unmet-leg move dom gref e = or-parts (meets move (LooksHeader dom)) (meets move (Entry dom gref)) e
+
+unmet-source : (move : NextMove) (d : DomId) (c : CopyArgs) → meets_source move d c ≡ false
+    → SourceTouches (Unmet move) d c
+unmet-source move d c e = by (resolved d c.source.domid) (is_source_granted c) e where
+  by : (owner : DomId) (b : Bool) → cond b (meets_leg move owner (gref_of c.source.ptr) || meets_reads move owner)
+      (meets move (Reads d c.source.ptr)) ≡ false
+      → (b ≡ true → LegTouches (Unmet move) owner (gref_of c.source.ptr) × ((f : ℕ) → Unmet move (Reads owner f)))
+      × (b ≡ false → Unmet move (Reads d c.source.ptr))
+  by owner true f = let both = or-parts (meets_leg move owner (gref_of c.source.ptr)) (meets_reads move owner) f in (
+    (λ is. (unmet-leg move owner (gref_of c.source.ptr) both.0, unmet-frames-read move owner both.1)),
+    (λ is. absurd (false≢true (sym is))),
+  )
+  by owner false f = ((λ is. absurd (false≢true is)), (λ is. f))
+
+unmet-dest : (move : NextMove) (d : DomId) (c : CopyArgs) → meets_dest move d c ≡ false
+    → DestTouches (Unmet move) d c
+unmet-dest move d c e = by (resolved d c.dest.domid) (is_dest_granted c) e where
+  by : (owner : DomId) (b : Bool) → cond b (meets_leg move owner (gref_of c.dest.ptr) || meets_writes move owner)
+      (meets move (Writes d c.dest.ptr)) ≡ false
+      → (b ≡ true → LegTouches (Unmet move) owner (gref_of c.dest.ptr) × ((f : ℕ) → Unmet move (Writes owner f)))
+      × (b ≡ false → Unmet move (Writes d c.dest.ptr))
+  by owner true f = let both = or-parts (meets_leg move owner (gref_of c.dest.ptr)) (meets_writes move owner) f in (
+    (λ is. (unmet-leg move owner (gref_of c.dest.ptr) both.0, unmet-frames-written move owner both.1)),
+    (λ is. absurd (false≢true (sym is))),
+  )
+  by owner false f = ((λ is. absurd (false≢true is)), (λ is. f))
+
+-- the uses that a call makes of mappings are among these, and it grants no transitive entry unless they have some
 abbrev pub CallUses : MappingUse → ScriptCall → Type 0
+CallUses uses (calls.Grant gref entry) = IsNoVia uses entry
+CallUses uses (calls.GrantBytes gref hex) = uses.vias ≡ true
 CallUses uses (calls.Load label off len) = uses.loads ≡ true
 CallUses uses (calls.Store label off hex) = uses.stores ≡ true
 CallUses uses call = Unit {0}
 
 unmet-call : (uses : MappingUse) (move : NextMove) (d : DomId) (call : ScriptCall) → CallUses uses call
     → meets_call uses move d call ≡ false → CallTouches (Unmet move) uses d call
-unmet-call uses move d (calls.Grant gref entry) used e = e
-unmet-call uses move d (calls.GrantBytes gref hex) used e = e
+unmet-call uses move d (calls.Grant gref entry) used e = (e, used)
+unmet-call uses move d (calls.GrantBytes gref hex) used e = (e, used)
 unmet-call uses move d (calls.Revoke gref) used e = e
 unmet-call uses move d (calls.Withdraw gref) used e = e
 unmet-call uses move d (calls.Demote gref) used e = e
 unmet-call uses move d (calls.Promote gref) used e = e
 unmet-call uses move d (calls.Map label dom gref flags) used e =
     let both = or-parts (meets_leg move (resolved d dom) gref) (meets_bytes uses move) e in (
-      or-parts (meets move (LooksHeader (resolved d dom))) (meets move (Entry (resolved d dom) gref)) both.0,
+      unmet-leg move (resolved d dom) gref both.0,
       unmet-bytes uses move both.1,
     )
 unmet-call uses move d (calls.Unmap label) used e = tt
@@ -476,20 +557,27 @@ unmet-call uses move d (calls.Load label off len) used e = used
 unmet-call uses move d (calls.Store label off hex) used e = used
 unmet-call uses move d (calls.Peek frame off len) used e = e
 unmet-call uses move d (calls.Poke frame off hex) used e = e
-unmet-call uses move d (calls.Copy c) used e = false≢true (sym e)
+unmet-call uses move d (calls.Copy c) used e =
+    let both = or-parts (uses.vias || meets_source move d c) (meets_dest move d c) e in
+    let first = or-parts uses.vias (meets_source move d c) both.0 in
+    (first.0, unmet-source move d c first.1, unmet-dest move d c both.1)
 unmet-call uses move d (calls.SetVersion version) used e = e
 unmet-call uses move d (calls.SetupTable frames) used e = e
 unmet-call uses move d (calls.QuerySize dom) used e = e
 unmet-call uses move d (calls.GetVersion dom) used e = e
 
--- the uses that a task makes of mappings are among these
+-- the uses that a task makes of mappings are among these, and it grants no transitive entry unless they have some
 abbrev pub TaskUses : MappingUse → RunTask → Type 0
 TaskUses uses t = (is_load t ≡ true → uses.loads ≡ true) × (is_store t ≡ true → uses.stores ≡ true)
+    × (grants_via t ≡ true → uses.vias ≡ true)
 
 pub unmet-deed : (uses : MappingUse) (move : NextMove) (d : DomId) (t : RunTask) → t.dom ≡ d → TaskUses uses t
     → meets_task uses move t ≡ false → DeedTouches (Unmet move) uses d t.deed
 unmet-deed uses move d t own used e = subst (λ x. DeedTouches (Unmet move) uses x t.deed) own (by t.deed used e) where
   call-uses : (call : ScriptCall) → TaskUses uses (record t { deed = Do call }) → CallUses uses call
+  call-uses (calls.Grant gref entry) u = λ none. not-true (is_via entry)
+      (λ is. false≢true (sym none ∙ u.2 is))
+  call-uses (calls.GrantBytes gref hex) u = u.2 refl
   call-uses (calls.Load label off len) u = u.0 refl
   call-uses (calls.Store label off hex) u = u.1 refl
   call-uses call u = tt
@@ -515,10 +603,6 @@ meets-under d b (Unpin p (ByHandle a)) (Raises flag) = refl
 meets-under d b z touch = refl
 
 -- two steps of which one touches nothing that the other meets
-
-not-true : (b : Bool) → (b ≡ true → ⊥) → b ≡ false
-not-true true none = absurd (none refl)
-not-true false none = refl
 
 at-place : (a b t r : ℕ) → ((a == t) && (b == r)) ≡ true → (a ≡ t) × (b ≡ r)
 at-place a b t r e = let both = and_parts (a == t) (b == r) e in (eqb-true a t both.0, eqb-true b r both.1)
@@ -577,8 +661,7 @@ module _ (d e : DomId) (y z : Step) (unmet : StepTouches (λ touch. step_meets e
   apart-words t r one other = false≢true (sym (words-off t r one) ∙ on-is e z t r other)
 
   module _ (h : History) (mine : Releases h d y)
-      (theirs : (p : HeldPin) (a : Handle) → z ≡ Unpin p (ByHandle a) → Releases h e (Unpin p (ByHandle a)))
-      (whole : (p : HeldPin) (n : ℕ) → z ≡ Unpin p (ByLeg n) → (t r : ℕ) → is_on e z t r ≡ true)
+      (theirs : Releases h e z)
       (quiet : (is_access y && is_access z) ≡ false) where
     pins-first : (t r : ℕ) → on_entry e z t r ≡ true → KeepsPins h d y t r
     pins-first t r on = by y unmet mine where
@@ -589,12 +672,10 @@ module _ (d e : DomId) (y z : Step) (unmet : StepTouches (λ touch. step_meets e
       by x u releases = tt
 
     pins-second : (t r : ℕ) → on_entry d y t r ≡ true → KeepsPins h e z t r
-    pins-second t r on = by z refl where
-      by : (x : Step) → z ≡ x → KeepsPins h e x t r
-      by (Unpin p (ByHandle handle)) is = keeps-elsewhere h e p (ByHandle handle) t r (theirs p handle is)
-          (subst (λ x. is_on e x t r ≡ false) is (words-off t r on))
-      by (Unpin p (ByLeg n)) is = absurd (false≢true (sym (words-off t r on) ∙ whole p n is t r))
-      by x is = tt
+    pins-second t r on = by z theirs (words-off t r on) where
+      by : (x : Step) → Releases h e x → is_on e x t r ≡ false → KeepsPins h e x t r
+      by (Unpin p holder) releases off = keeps-elsewhere h e p holder t r releases off
+      by x releases off = tt
 
     header-first : (t : ℕ) → stores_header d y t ≡ true → looks_header z t ≡ true → ⊥
     header-first t one other = by y unmet one where
@@ -633,9 +714,6 @@ module _ (d e : DomId) (y z : Step) (unmet : StepTouches (λ touch. step_meets e
       };
       writes = λ t one other. not-both (writes-access y t one) (writes-access z t other);
     }
-
-leg-whole : (e : DomId) (z : Step) (p : HeldPin) (n : ℕ) → z ≡ Unpin p (ByLeg n) → (t r : ℕ) → is_on e z t r ≡ true
-leg-whole e z p n is t r = subst (λ x. is_on e x t r ≡ true) (sym is) refl
 
 module _ (d e : DomId) (y z : Step) (unmet : StepTouches (λ touch. step_meets e z touch ≡ false) d y)
     (both : (is_access y && is_access z) ≡ true) where
@@ -703,13 +781,12 @@ module _ (d e : DomId) (y z : Step) (unmet : StepTouches (λ touch. step_meets e
 -- so they are apart
 pub steps-apart : (s : Setting) (h : History) (i j : Item) (y z : Step) (v w : Observation)
     → (i.actor.0 == j.actor.0) ≡ false → StepTouches (λ touch. step_meets j.actor z touch ≡ false) i.actor y
-    → Releases h i.actor y
-    → ((p : HeldPin) (a : Handle) → z ≡ Unpin p (ByHandle a) → Releases h j.actor (Unpin p (ByHandle a)))
+    → Releases h i.actor y → Releases h j.actor z
     → i.happened ≡ Stepped y v → j.happened ≡ Stepped z w → AreApart s h i j
 steps-apart s h i j y z v w actors unmet mine theirs one other = by (is_access y && is_access z) refl where
   by : (b : Bool) → (is_access y && is_access z) ≡ b → AreApart s h i j
   by false quiet = steps-apart-in s h i j y z v w
-      (touch-apart-of i.actor j.actor y z unmet h mine theirs (leg-whole j.actor z) quiet actors) one other
+      (touch-apart-of i.actor j.actor y z unmet h mine theirs quiet actors) one other
   by true both =
       subst (λ x. AreApart s h (record { actor = i.actor; happened = x; answer = i.answer }) j) (sym one)
       (subst (λ x. AreApart s h (record { actor = i.actor; happened = Stepped y v; answer = i.answer })

@@ -10,22 +10,19 @@ use Rattle.gt_types.specs.declared.DomId.{DomId}
 use Rattle.gt_types.specs.declared.config.DomainConfig.{DomainConfig}
 use Rattle.gt_handles.specs.declared.handles.Handle.{Handle}
 use Rattle.gt_calls.specs.Path.{path}
-use Rattle.gt_calls.specs.Resting.{GivesUp}
 use Rattle.gt_calls.specs.Rules.{CallerKnowledge}
 use Rattle.gt_calls.specs.declared.action.Action.TheVariants as actions
 use Rattle.gt_calls.specs.declared.action.Observation.{Observation}
 use Rattle.gt_calls.specs.declared.action.Step.{Step}
 use Rattle.gt_calls.specs.declared.action.Step.TheVariants as steps
-use Rattle.gt_calls.specs.declared.action.Step.TheVariants.{Unpin}
 use Rattle.gt_calls.specs.declared.held.HeldPin.{HeldPin}
 use Rattle.gt_calls.specs.declared.judging.TheConstants.{SERIAL_LIMIT}
-use Rattle.gt_calls.specs.declared.request.PinHolder.TheVariants.{Mapping as ByHandle}
 use Rattle.gt_calls.specs.declared.request.Request.{Request}
 use Rattle.gt_calls.specs.declared.request.Request.TheVariants as requests
 use Rattle.gt_core.specs.History.{History, Setting, Underway, known_at, maps_answered_at, mappings_at, open_call}
 use Rattle.gt_core.specs.History.{values}
-use Rattle.gt_core.specs.Justified.{Justified}
-use Rattle.gt_core.specs.Legal.{IsItemOf, IsRight, MayDo, StepsRightIn, actor_of, grown}
+use Rattle.gt_core.specs.Alike.{IsRun}
+use Rattle.gt_core.specs.Legal.{IsItemOf, IsLegalHistory, IsRight, MayDo, StepsRightIn, actor_of, grown}
 use Rattle.gt_core.specs.Swapping.{AreApart, SameSeen}
 use Rattle.gt_core.specs.declared.trace.Element.{Element}
 use Rattle.gt_core.specs.declared.trace.Element.TheVariants.{Item as Did, Busy, Idle, NoDomain}
@@ -82,10 +79,13 @@ use Rattle.gt_explore_moves.proofs.SpaceMoves.{each-turn}
 use Rattle.gt_explore_moves.proofs.StateComesOn.{raised-here, raised-still, task-own}
 use Rattle.gt_explore_moves.proofs.Touching.{DeedTouches, RequestTouches, StepTouches, TasksTouch, Unmet, meets-under}
 use Rattle.gt_explore_moves.proofs.Touching.{or-false}
-use Rattle.gt_explore_moves.proofs.Touching.{PinTouches, said-touches, drop-found, steps-apart, unmaps-release}
+use Rattle.gt_explore_moves.proofs.Touching.{PinTouches, said-touches, steps-apart}
+use Rattle.gt_explore_moves.proofs.HeldPins.{IsSound, releases-own}
+use Rattle.gt_explore_moves.proofs.ViaTasks.{task-vias}
+use Rattle.gt_explore_moves.specs.Transitive.{grants_via}
 use Rattle.gt_explore_moves.proofs.Touching.{unmet-deed, unmet-mapping}
-use Rattle.gt_explore_moves.proofs.Within.{CallWithin, ElementTouches, HappeningTouches, ItemTouches, PinsTouch, Within}
-use Rattle.gt_explore_moves.proofs.Within.{course-within, others-within}
+use Rattle.gt_explore_moves.proofs.Within.{CallWithin, ElementTouches, Grew, HappeningTouches, ItemTouches, PinsTouch}
+use Rattle.gt_explore_moves.proofs.Within.{Within, course-within, grew-sound, happening-grew, others-within}
 use Rattle.gt_explore_search.specs.Ways.{EndsSoBy, GoesTo, HasEnoughTurns}
 use Rattle.gt_explore_search.proofs.Finding.{each_enough}
 
@@ -467,22 +467,22 @@ module _ (c : RunContents) where
     by (inr b) = inl b
 
   -- the step of an open call, and an item before it of another domain which touches nothing that the step meets
-  step-apart : (h : History) (i j : Item) (d : DomId) (step : Step) (u : Underway) → (i.actor.0 == j.actor.0) ≡ false
-      → ItemTouches (Unmet (Makes d step)) h i.actor i.happened → j.actor ≡ d → open_call h d.0 ≡ Some u
+  step-apart : (vias : Bool) (h : History) (i j : Item) (d : DomId) (step : Step) (u : Underway)
+      → (i.actor.0 == j.actor.0) ≡ false
+      → ItemTouches (Unmet (Makes d step)) vias h i.actor i.happened → j.actor ≡ d → open_call h d.0 ≡ Some u
       → ((z : Step) → path (known_at set h d) d u.request (values u) ≡ Some (actions.Step z)
       → (touch : Touch) → step_meets d z touch ≡ step_meets d step touch)
       → (z : Step) (w : Observation) → j.happened ≡ Stepped z w → StepsRightIn set (i ∷ h) j z w (open_call (i ∷ h) d.0)
-      → AreApart set h i j
-  step-apart h i j d step u apart touches own is meets z w did-j right =
+      → IsSound vias set h → AreApart set h i j
+  step-apart vias h i j d step u apart touches own is meets z w did-j right sound =
       by-right (open_call (i ∷ h) d.0) (open_call-other i h d.0 off ∙ is) right
     where
       off : (i.actor.0 == d.0) ≡ false
       off = ap (λ (b : DomId). i.actor.0 == b.0) (sym own) ∙ apart
 
-      by-item : (x : ItemEvent) → i.happened ≡ x → ItemTouches (Unmet (Makes d step)) h i.actor x
+      by-item : (x : ItemEvent) → i.happened ≡ x → ItemTouches (Unmet (Makes d step)) vias h i.actor x
           → path (known_at set h d) d u.request (values u) ≡ Some (actions.Step z)
-          → ((p : HeldPin) (a : Handle) → z ≡ Unpin p (ByHandle a) → Releases h j.actor (Unpin p (ByHandle a)))
-          → AreApart set h i j
+          → Releases h j.actor z → AreApart set h i j
       by-item (Began q) did-i t leads releases = began-apart set h i j q apart did-i
       by-item (Stepped y v) did-i t leads releases = steps-apart set h i j y z v w apart
           (subst (λ b. StepTouches (λ touch. step_meets b z touch ≡ false) i.actor y) (sym own)
@@ -498,13 +498,8 @@ module _ (c : RunContents) where
           ∙ ap (λ (b : DomId). path (known_at set (i ∷ h) b) b u.request (values u)) (sym own)
           ∙ ap (λ (c : Underway). path (known_at set (i ∷ h) j.actor) j.actor c.request (values c)) (sym same)
           ∙ r.continues in
-          by-item i.happened refl touches leads (λ p a unpins. subst (λ b. Releases h b (Unpin p (ByHandle a)))
-          (sym own)
-          (unmaps-release h d p a
-          (drop-found (known_at set h d) d u.request a (values u) p a
-          (subst (λ (c : Underway). GivesUp c.request a) same
-          (subst (λ x. Justified set (i ∷ h) j.actor v.request x) unpins r.justified))
-          (leads ∙ ap (λ (x : Step). Some (actions.Step x)) unpins))))
+          by-item i.happened refl touches leads
+          (subst (λ b. Releases h b z) (sym own) (releases-own vias set h sound d u is z leads))
 
   -- the next move of a domain, and what another domain does before it, of which it meets nothing
   abbrev ComesFree : List Happening → Happening → Happening → Type 0
@@ -523,18 +518,18 @@ module _ (c : RunContents) where
   begin-free hs (passed b flag) d q z may = tt
 
   -- a line of a domain that is not calling
-  line-free : (hs : List Happening) (k : Course) (move : NextMove) (t : RunTask) (ts : List RunTask) (y x : Happening)
-      (j : Course) → k.opened ≡ resting → k.tasks ≡ t ∷ ts → IsNext hs k move → HappeningTouches (Unmet move) hs y
+  line-free : (vias : Bool) (hs : List Happening) (k : Course) (move : NextMove) (t : RunTask) (ts : List RunTask) (y x : Happening)
+      (j : Course) → k.opened ≡ resting → k.tasks ≡ t ∷ ts → IsNext hs k move → HappeningTouches (Unmet move) vias hs y
       → ActionLeads (type_names c.head) k t.line ts t.deed x j → CanComeNext set (hs ++ y ∷ []) x → ComesFree hs y x
-  line-free hs k move t ts y x j rest tasks next touches leads may = by t.deed refl leads where
-    flag-free : (m : NextMove) (flag : ℕ) → t.deed ≡ Await flag → IsNext hs k m → HappeningTouches (Unmet m) hs y
+  line-free vias hs k move t ts y x j rest tasks next touches leads may = by t.deed refl leads where
+    flag-free : (m : NextMove) (flag : ℕ) → t.deed ≡ Await flag → IsNext hs k m → HappeningTouches (Unmet m) vias hs y
         → IsRaisedBefore (length (hs ++ y ∷ [])) flag (hs ++ y ∷ []) → IsRaisedBefore (length hs) flag hs
     flag-free (Makes d step) flag awaits n touch was = absurd (n.1 rest)
     flag-free Free flag awaits n touch was =
         subst (FreeLine hs) awaits (subst (FreeTasks hs) tasks n.1)
     flag-free (Awaits other) flag awaits n touch was = elim (raised_or hs y flag was) [
       | inl before ↦ before
-      | inr now ↦ absurd (false≢true (sym (subst (HappeningTouches (Unmet (Awaits other)) hs) now.1 touch)
+      | inr now ↦ absurd (false≢true (sym (subst (HappeningTouches (Unmet (Awaits other)) vias hs) now.1 touch)
           ∙ eq-eqb flag other (same-flag flag other (sym awaits ∙ ap (λ (u : RunTask). u.deed)
           (head-same (sym tasks ∙ n.3)) ∙ n.4))))
     ] where
@@ -551,39 +546,39 @@ module _ (c : RunContents) where
     by (Do call) is (q, e, says, did-is, to) = subst (ComesFree hs y) (sym did-is)
         (tt, begin-free hs y k.dom q e (subst (CanComeNext set (hs ++ y ∷ [])) did-is may))
 
-  rest-free : (hs : List Happening) (k : Course) (move : NextMove) (tasks : List RunTask) (choice : ℕ) (y x : Happening)
-      (j : Course) → k.opened ≡ resting → k.tasks ≡ tasks → IsNext hs k move → HappeningTouches (Unmet move) hs y
+  rest-free : (vias : Bool) (hs : List Happening) (k : Course) (move : NextMove) (tasks : List RunTask) (choice : ℕ) (y x : Happening)
+      (j : Course) → k.opened ≡ resting → k.tasks ≡ tasks → IsNext hs k move → HappeningTouches (Unmet move) vias hs y
       → RestLeads (type_names c.head) k tasks choice x j → CanComeNext set (hs ++ y ∷ []) x → ComesFree hs y x
-  rest-free hs k move [] choice y x j rest same next touches (handle, e, there, is, to) may =
+  rest-free vias hs k move [] choice y x j rest same next touches (handle, e, there, is, to) may =
       subst (ComesFree hs y) (sym is)
       (tt, begin-free hs y k.dom (requests.Release handle) e (subst (CanComeNext set (hs ++ y ∷ [])) is may))
-  rest-free hs k move (t ∷ ts) choice y x j rest same next touches leads may =
-      line-free hs k move t ts y x j rest same next touches leads.1 may
+  rest-free vias hs k move (t ∷ ts) choice y x j rest same next touches leads may =
+      line-free vias hs k move t ts y x j rest same next touches leads.1 may
 
   -- a step of an open call
-  tick-free : (hs : List Happening) (k : Course) (move : NextMove) (y : Happening) (z : Element) → k.opened ≢ resting
-      → IsNext hs k move → HappeningTouches (Unmet move) hs y → CanComeNext set hs y
-      → CanComeNext set (hs ++ y ∷ []) (did (Tick k.dom) z) → AreItemsApart set hs (did (Tick k.dom) z) y
-  tick-free hs k (Awaits flag) y z busy next touches first may = absurd (busy next.2)
-  tick-free hs k Free y z busy next touches first may = absurd (busy next.0)
-  tick-free hs k (Makes d step) (raised b flag) z busy next touches first may = tt
-  tick-free hs k (Makes d step) (passed b flag) z busy next touches first may = tt
-  tick-free hs k (Makes d step) (did e w) z busy (u, not-rest, own, is, same) touches first may =
+  tick-free : (vias : Bool) (hs : List Happening) (k : Course) (move : NextMove) (y : Happening) (z : Element) → k.opened ≢ resting
+      → IsNext hs k move → HappeningTouches (Unmet move) vias hs y → IsSound vias set (history_in hs)
+      → CanComeNext set hs y → CanComeNext set (hs ++ y ∷ []) (did (Tick k.dom) z) → AreItemsApart set hs (did (Tick k.dom) z) y
+  tick-free vias hs k (Awaits flag) y z busy next touches sound first may = absurd (busy next.2)
+  tick-free vias hs k Free y z busy next touches sound first may = absurd (busy next.0)
+  tick-free vias hs k (Makes d step) (raised b flag) z busy next touches sound first may = tt
+  tick-free vias hs k (Makes d step) (passed b flag) z busy next touches sound first may = tt
+  tick-free vias hs k (Makes d step) (did e w) z busy (u, not-rest, own, is, same) touches sound first may =
       λ i j did-i did-j apart. by i j apart
       (mine i e (subst (MayDo set (history_in hs) e) did-i first)
-      (subst (ElementTouches (Unmet (Makes d step)) (history_in hs) (actor_of e)) did-i touches))
+      (subst (ElementTouches (Unmet (Makes d step)) vias (history_in hs) (actor_of e)) did-i touches))
       (subst (λ l. MayDo set l (Tick k.dom) (Did j)) (history_did hs e w ∙ ap (grown (history_in hs)) did-i)
       (subst (MayDo set (history_in (hs ++ did e w ∷ [])) (Tick k.dom)) did-j may))
     where
       mine : (i : Item) (f : Event) → MayDo set (history_in hs) f (Did i)
-          → ItemTouches (Unmet (Makes d step)) (history_in hs) (actor_of f) i.happened
-          → ItemTouches (Unmet (Makes d step)) (history_in hs) i.actor i.happened
-      mine i (Begin b q) m t = subst (λ a. ItemTouches (Unmet (Makes d step)) (history_in hs) a i.happened)
+          → ItemTouches (Unmet (Makes d step)) vias (history_in hs) (actor_of f) i.happened
+          → ItemTouches (Unmet (Makes d step)) vias (history_in hs) i.actor i.happened
+      mine i (Begin b q) m t = subst (λ a. ItemTouches (Unmet (Makes d step)) vias (history_in hs) a i.happened)
           (sym m.1.0) t
-      mine i (Tick b) m t = subst (λ a. ItemTouches (Unmet (Makes d step)) (history_in hs) a i.happened) (sym m.1.0) t
+      mine i (Tick b) m t = subst (λ a. ItemTouches (Unmet (Makes d step)) vias (history_in hs) a i.happened) (sym m.1.0) t
 
       by : (i j : Item) → (i.actor.0 == j.actor.0) ≡ false
-          → ItemTouches (Unmet (Makes d step)) (history_in hs) i.actor i.happened
+          → ItemTouches (Unmet (Makes d step)) vias (history_in hs) i.actor i.happened
           → MayDo set (i ∷ history_in hs) (Tick k.dom) (Did j) → AreApart set (history_in hs) i j
       by i j apart t m = stepped j.happened m.1 m.2 where
         stepped : (x : ItemEvent) → IsItemOf (Tick k.dom) (record j { happened = x })
@@ -591,23 +586,24 @@ module _ (c : RunContents) where
             → AreApart set (history_in hs) i (record j { happened = x })
         stepped (Began q) of right = absurd of.1
         stepped (Stepped v seen) of right =
-            step-apart (history_in hs) i (record j { happened = Stepped v seen }) k.dom step u apart
-            (subst (λ b. ItemTouches (Unmet (Makes b step))
+            step-apart vias (history_in hs) i (record j { happened = Stepped v seen }) k.dom step u apart
+            (subst (λ b. ItemTouches (Unmet (Makes b step)) vias
             (history_in hs) i.actor i.happened) own t) of.0 is same v seen
             refl (subst (λ a. StepsRightIn set (i ∷ history_in hs) (record j { happened = Stepped v seen }) v seen
-            (open_call (i ∷ history_in hs) a.0)) of.0 right)
+            (open_call (i ∷ history_in hs) a.0)) of.0 right) sound
 
   -- the next move of a domain is free to come before what another domain did, of which it meets nothing
-  move-free : (hs : List Happening) (k : Course) (move : NextMove) (choice : ℕ) (y x : Happening) (j : Course)
-      → IsNext hs k move → HappeningTouches (Unmet move) hs y → CourseLeads (type_names c.head) k choice x j
+  move-free : (vias : Bool) (hs : List Happening) (k : Course) (move : NextMove) (choice : ℕ) (y x : Happening) (j : Course)
+      → IsNext hs k move → HappeningTouches (Unmet move) vias hs y → IsSound vias set (history_in hs)
+      → CourseLeads (type_names c.head) k choice x j
       → CanComeNext set hs y → CanComeNext set (hs ++ y ∷ []) x → ComesFree hs y x
-  move-free hs k move choice y x j next touches leads first may = by k.opened refl leads where
+  move-free vias hs k move choice y x j next touches sound leads first may = by k.opened refl leads where
     tick : (e : Element) → k.opened ≢ resting → x ≡ did (Tick k.dom) e → ComesFree hs y x
     tick e busy is = subst (ComesFree hs y) (sym is)
-        (tt, tick-free hs k move y e busy next touches first (subst (CanComeNext set (hs ++ y ∷ [])) is may))
+        (tt, tick-free vias hs k move y e busy next touches sound first (subst (CanComeNext set (hs ++ y ∷ [])) is may))
 
     by : (opened : Opened) → k.opened ≡ opened → OpenLeads (type_names c.head) k opened choice x j → ComesFree hs y x
-    by resting is l = rest-free hs k move k.tasks choice y x j is refl next touches l may
+    by resting is l = rest-free vias hs k move k.tasks choice y x j is refl next touches l may
     by (calling line call lost) is (none, e, did-is, to) =
         tick e (λ rest. let no : calling line call lost ≡ resting = sym is ∙ rest in cc) did-is
     by giving is (none, e, did-is, to) =
@@ -643,7 +639,8 @@ module _ (c : RunContents) where
           inr (is, it.4),
         )
 
-    module _ (p : ℕ) (k : Course) (move : NextMove) (on : inside p ≡ true) (use_at : ℕ → MappingUse) where
+    module _ (p : ℕ) (k : Course) (move : NextMove) (on : inside p ≡ true) (use_at : ℕ → MappingUse) (vias : Bool)
+        (same_vias : (e : ℕ) → (use_at e).vias ≡ vias) where
       -- what the domains outside may still touch, the next move does not meet
       abbrev OthersUnmet : List Happening → List Course → Type 0
       OthersUnmet hs ks = (e : ℕ) (l : Course) → slice_get ks e ≡ Some l → inside e ≡ false
@@ -651,10 +648,10 @@ module _ (c : RunContents) where
 
       -- what the domain does can be pulled to the front
       pull : (hs : List Happening) (ks : List Course) (us : List Turn) (ls : List Course) → AllDiffer (numbers ks)
-          → slice_get ks p ≡ Some k → IsNext hs k move → OthersUnmet hs ks → IsFirst inside p us → Goes hs ks us ls
-          → GoesFirst p k hs ks ls
-      pull hs ks [] ls differ here next unmet first goes = absurd first
-      pull hs ks (u ∷ us) ls differ here next unmet (inl same) (l, i, y, there, leads, may, goes) =
+          → slice_get ks p ≡ Some k → IsNext hs k move → OthersUnmet hs ks → Grew (Unmet move) vias set (history_in hs)
+          → IsFirst inside p us → Goes hs ks us ls → GoesFirst p k hs ks ls
+      pull hs ks [] ls differ here next unmet grew first goes = absurd first
+      pull hs ks (u ∷ us) ls differ here next unmet grew (inl same) (l, i, y, there, leads, may, goes) =
           let is : l ≡ k = same_Some l k (sym there ∙ ap (λ n. slice_get ks n) same ∙ here) in (
             u.choice,
             i,
@@ -664,11 +661,12 @@ module _ (c : RunContents) where
             may,
             subst (λ n. Goes (hs ++ y ∷ []) (slice_set ks n i) us ls) same goes,
           )
-      pull hs ks (u ∷ us) ls differ here next unmet (inr (out, first)) (l, i, y, there, leads, may, goes) =
+      pull hs ks (u ∷ us) ls differ here next unmet grew (inr (out, first)) (l, i, y, there, leads, may, goes) =
           later (pull (hs ++ y ∷ []) (slice_set ks u.place i) us ls
           (subst AllDiffer (sym (numbers-set ks u.place l i there dom.0)) differ) (get-apart ks u.place p i apart
           ∙ here)
-          (next-still hs k move y others may next) now first goes)
+          (next-still hs k move y others may next) now
+          (happening-grew (Unmet move) vias set hs y may mine.1 grew) first goes)
         where
           dom : (i.dom ≡ l.dom) × (doer y ≡ l.dom)
           dom = leads-dom (type_names c.head) l i u.choice y leads
@@ -684,9 +682,16 @@ module _ (c : RunContents) where
           others : ((doer y).0 == k.dom.0) ≡ false
           others = differs p k here apart
 
-          mine : Within (Unmet move) (use_at u.place) (hs ++ y ∷ []) i.dom i.tasks × HappeningTouches (Unmet move) hs y
-          mine = course-within (Unmet move) (use_at u.place) (type_names c.head) set hs l i u.choice y leads may
+          sound : IsSound vias set (history_in hs)
+          sound = grew-sound (Unmet move) vias set (history_in hs) grew
+
+          mine : Within (Unmet move) (use_at u.place) (hs ++ y ∷ []) i.dom i.tasks
+              × HappeningTouches (Unmet move) vias hs y
+          mine = subst (λ b. Within (Unmet move) (use_at u.place) (hs ++ y ∷ []) i.dom i.tasks
+              × HappeningTouches (Unmet move) b hs y) (same_vias u.place)
+              (course-within (Unmet move) (use_at u.place) (type_names c.head) set hs l i u.choice y leads may
               (unmet u.place l there out)
+              (subst (λ b. IsSound b set (history_in hs)) (sym (same_vias u.place)) sound))
 
           now : OthersUnmet (hs ++ y ∷ []) (slice_set ks u.place i)
           now e m at off = by (get_set ks u.place e i m at) where
@@ -700,7 +705,7 @@ module _ (c : RunContents) where
           later : GoesFirst p k (hs ++ y ∷ []) (slice_set ks u.place i) ls → GoesFirst p k hs ks ls
           later (choice, j, x, more, lead, come, way) =
               let own = leads-dom (type_names c.head) k j choice x lead in
-              let free = move-free hs k move choice y x j next mine.1 lead may come in
+              let free = move-free vias hs k move choice y x j next mine.1 sound lead may come in
               let both = swap-first set hs y x free.0 free.1
               (ap (λ (d : DomId). (doer y).0 == d.0) own.1 ∙ others) may come in (
                 choice,
@@ -853,26 +858,30 @@ module _ (c : RunContents) (scene : SearchContext) (hs : List Happening) (place 
 
   -- what the state takes for what a domain may still touch is what it may
 
-  module _ (move : NextMove) (own : (n : ℕ) (t : RunTask) → slice_get tasks n ≡ Some t → t.dom ≡ k.dom) where
+  module _ (move : NextMove) (own : (n : ℕ) (t : RunTask) → slice_get tasks n ≡ Some t → t.dom ≡ k.dom)
+      (some : (n : ℕ) (t : RunTask) → slice_get tasks n ≡ Some t → grants_via t ≡ true → scene.vias ≡ true) where
     abbrev uses : MappingUse
-    uses = use_of (tasks_unfinished scene place a)
+    uses = use_of scene.vias (tasks_unfinished scene place a)
 
     tasks-unmet : (n : ℕ) (ts : List RunTask) → ((m : ℕ) (t : RunTask) → slice_get ts m ≡ Some t → t.dom ≡ k.dom)
+        → ((m : ℕ) (t : RunTask) → slice_get ts m ≡ Some t → grants_via t ≡ true → scene.vias ≡ true)
         → (list_any is_load (drop n ts) ≡ true → uses.loads ≡ true)
         → (list_any is_store (drop n ts) ≡ true → uses.stores ≡ true)
         → list_any (meets_task uses move) (drop n ts) ≡ false → TasksTouch (Unmet move) uses k.dom (drop n ts)
-    tasks-unmet zero [] mine loads stores none = tt
-    tasks-unmet (suc n) [] mine loads stores none = tt
-    tasks-unmet zero (t ∷ ts) mine loads stores none =
+    tasks-unmet zero [] mine vias loads stores none = tt
+    tasks-unmet (suc n) [] mine vias loads stores none = tt
+    tasks-unmet zero (t ∷ ts) mine vias loads stores none =
         let both = or-false (meets_task uses move t) (list_any (meets_task uses move) ts) none in (
           unmet-deed uses move k.dom t (mine 0 t refl) (
             (λ e. loads (or-first (is_load t) (list_any is_load ts) e)),
             (λ e. stores (or-first (is_store t) (list_any is_store ts) e)),
+            vias 0 t refl,
           ) both.0,
-          tasks-unmet zero ts (λ m. mine (suc m)) (λ e. loads (or-second (is_load t) (list_any is_load ts) e))
+          tasks-unmet zero ts (λ m. mine (suc m)) (λ m. vias (suc m)) (λ e. loads (or-second (is_load t) (list_any is_load ts) e))
               (λ e. stores (or-second (is_store t) (list_any is_store ts) e)) both.1,
         )
-    tasks-unmet (suc n) (t ∷ ts) mine loads stores none = tasks-unmet n ts (λ m. mine (suc m)) loads stores none
+    tasks-unmet (suc n) (t ∷ ts) mine vias loads stores none =
+        tasks-unmet n ts (λ m. mine (suc m)) (λ m. vias (suc m)) loads stores none
 
     pins-unmet : (ls : List LabelledMapping) (ms : List (Handle × HeldPin))
         → mapping_pins ls ≡ map (λ (m : Handle × HeldPin). m.1) ms
@@ -929,7 +938,7 @@ module _ (c : RunContents) (scene : SearchContext) (hs : List Happening) (place 
         let both = or-false (list_any (λ (m : LabelledMapping). meets_mapping uses move m.held) a.mappings.items)
         (list_any (meets_task uses move) (drop (first_left a) tasks)) none in
         let left = left-unmet a.«open» (open_call h k.dom.0) show.opens
-        (tasks-unmet (first_left a) tasks own (λ e. e) (λ e. e) both.1) in
+        (tasks-unmet (first_left a) tasks own some (λ e. e) (λ e. e) both.1) in
         record {
           tasks_touch = subst (TasksTouch (Unmet move) uses k.dom) (sym show.left) left.0;
           past = record {
@@ -956,6 +965,12 @@ numbered : (c : RunContents) (ks : List Course) → map (λ (k : Course). k.dom)
 numbered c ks domains apart = subst AllDiffer (sym (numbers-as ks c.head.domains domains))
     (all-differ c.head.domains apart)
 
+-- each item of a run is right after those before it
+run-legal : (s : Setting) (h : History) → IsRun s h → IsLegalHistory s h
+unfolding IsRun IsLegalHistory
+run-legal s [] run = tt
+run-legal s (i ∷ h) run = (run.0, run-legal s h run.2)
+
 module _ (scene : SearchContext) (w : SearchState) (turns : List Turn) (members : List Bool)
     (undisturbed : AreUndisturbed scene w members) (c : RunContents) (hs : List Happening) (ks : List Course)
     (is : IsSceneOf c scene) (shows : SceneShows c scene hs ks w) where
@@ -972,11 +987,24 @@ module _ (scene : SearchContext) (w : SearchState) (turns : List Turn) (members 
 
   -- what the domain at this position does through its mappings
   abbrev use_in : Option Actor → ℕ → MappingUse
-  use_in None e = record { loads = true; stores = true }
-  use_in (Some b) e = use_of (tasks_unfinished scene e b)
+  use_in None e = record { loads = true; stores = true; vias = scene.vias }
+  use_in (Some b) e = use_of scene.vias (tasks_unfinished scene e b)
 
   abbrev use_at : ℕ → MappingUse
   use_at e = use_in (slice_get w.actors.items e) e
+
+  same-vias : (e : ℕ) → (use_at e).vias ≡ scene.vias
+  same-vias e = by (slice_get w.actors.items e) where
+    by : (o : Option Actor) → (use_in o e).vias ≡ scene.vias
+    by None = refl
+    by (Some b) = refl
+
+  -- what happened is a legal history of calls of the script
+  grew : (move : NextMove) → Grew (Unmet move) scene.vias (setting_of_script c.head) (history_in hs)
+  grew move = record {
+    legal = run-legal (setting_of_script c.head) (history_in hs) shows.like.1.first;
+    asked = shows.asked;
+  }
 
   -- a domain of the set goes first, by one of these turns
   by-first : (p : ℕ) (k : Course) (us : List Turn) (ls : List Course) → member p ≡ true → slice_get ks p ≡ Some k
@@ -986,9 +1014,10 @@ module _ (scene : SearchContext) (w : SearchState) (turns : List Turn) (members 
   by-first p k us ls on here first way =
       let a = actor-at p k here in
       let show = shows.each p k a.0 here a.1 in
-      let it = pull c member p k (next_move scene w.told.items p a.0) on use_at hs ks us ls
+      let it = pull c member p k (next_move scene w.told.items p a.0) on use_at scene.vias same-vias hs ks us ls
       (numbered c ks shows.domains is.setting.apart) here
-      (is-next c scene hs p k a.0 show w.told.items shows.heard) (others a.0 a.1) first way in (
+      (is-next c scene hs p k a.0 show w.told.items shows.heard) (others a.0 a.1)
+      (grew (next_move scene w.told.items p a.0)) first way in (
         a.0,
         a.1,
         (
@@ -999,12 +1028,12 @@ module _ (scene : SearchContext) (w : SearchState) (turns : List Turn) (members 
       )
     where
       others : (a : Actor) → slice_get w.actors.items p ≡ Some a
-          → OthersUnmet c member p k (next_move scene w.told.items p a) on use_at hs ks
+          → OthersUnmet c member p k (next_move scene w.told.items p a) on use_at scene.vias same-vias hs ks
       others a there e l at out =
           let other = actor-at e l at in
           subst (λ o. Within (Unmet (next_move scene w.told.items p a)) (use_in o e) hs l.dom l.tasks) (sym other.1)
           (is-within c scene hs e l other.0 (shows.each e l other.0 at other.1) (next_move scene w.told.items p a)
-          (task-own c scene hs ks w e l other.0 is shows at other.1)
+          (task-own c scene hs ks w e l other.0 is shows at other.1) (task-vias c scene is e)
           (undisturbed p e a other.0 there other.1 on out))
 
   going : (q : ℕ) (b : Actor) (l : Course) → slice_get w.actors.items q ≡ Some b → slice_get ks q ≡ Some l

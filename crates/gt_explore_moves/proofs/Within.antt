@@ -2,27 +2,39 @@
 use Rattle.std.proofs.Common.{◌≡◌, ℕ, refl, Bool, true, false, cond, List, [], ◌∷◌, ◌++◌}
 use Rattle.std.proofs.Common.{Option, Some, None, sym, ap, ◌∙◌, subst}
 use Rattle.std.specs.Prelude.{◌==◌, ◌&&◌, take, drop, suc}
+use Rattle.std.proofs.lemmas.Bool.{false≢true}
 use Rattle.std.proofs.lemmas.Option.{none-some, same_Some}
 use Rattle.gt_types.specs.declared.DomId.{DomId}
+use Rattle.gt_types.specs.declared.GrantRef.{GrantRef}
+use Rattle.gt_types.specs.declared.copies.CopyArgs.{CopyArgs}
+use Rattle.gt_types.specs.declared.denial.Denial.{Denial}
+use Rattle.gt_entry.specs.declared.entry.Entry.TheVariants as entries
 use Rattle.gt_handles.specs.Handles.{same_handle}
 use Rattle.gt_handles.specs.declared.handles.Handle.{Handle}
 use Rattle.gt_calls.specs.Asking.{asked}
+use Rattle.gt_calls.specs.Path.{steps_of}
+use Rattle.gt_calls.specs.Rules.{begun}
+use Rattle.gt_calls.specs.declared.action.Action.TheVariants.{Step as Makes}
+use Rattle.gt_calls.specs.declared.action.CallResult.{CallResult}
+use Rattle.gt_calls.specs.declared.request.OpenRequest.{OpenRequest}
+use Rattle.gt_calls.specs.declared.request.OpenRequest.TheVariants.{Copy, Grant, Map, Probe}
 use Rattle.gt_calls.specs.declared.action.Observation.{Observation}
 use Rattle.gt_calls.specs.declared.action.Observation.TheVariants.{Taken}
 use Rattle.gt_calls.specs.declared.action.Step.{Step}
 use Rattle.gt_calls.specs.declared.action.Step.TheVariants.{Pin as PinStep, Unpin}
 use Rattle.gt_calls.specs.declared.held.HeldPin.{HeldPin}
 use Rattle.gt_calls.specs.declared.request.PinHolder.{PinHolder}
-use Rattle.gt_calls.specs.declared.request.PinHolder.TheVariants.{Mapping as ByHandle, Leg as ByLeg}
 use Rattle.gt_calls.specs.declared.request.Request.{Request}
 use Rattle.gt_calls.specs.declared.request.Request.TheVariants as requests
 use Rattle.gt_core.specs.History.{History, Setting, Pin, Underway, gather, holder_after, known_at, live}
 use Rattle.gt_core.specs.History.{mapping_named, mapping_of}
 use Rattle.gt_core.specs.History.{mappings_at, open_call, pinned_by, underway_after, unpinned_by, values, without}
 use Rattle.gt_core.specs.History.{is_holder}
-use Rattle.gt_core.specs.Legal.{IsItemOf, IsRight, MayDo, StepsRightIn, actor_of, grown}
+use Rattle.gt_core.specs.FirstRule.{stood}
+use Rattle.gt_core.specs.Legal.{AnsweredBy, IsItemOf, IsLegalHistory, IsRight, MayDo, StepsRight, StepsRightIn}
+use Rattle.gt_core.specs.Legal.{actor_of, gives_back, grown, next_in, verdict_in}
 use Rattle.gt_core.specs.declared.trace.Answer.{Answer}
-use Rattle.gt_core.specs.declared.trace.Answer.TheVariants.{Mapped}
+use Rattle.gt_core.specs.declared.trace.Answer.TheVariants.{Done as AnswerDone, Mapped}
 use Rattle.gt_core.specs.declared.trace.Element.{Element}
 use Rattle.gt_core.specs.declared.trace.Element.TheVariants.{Item as Did, Busy, Idle, NoDomain}
 use Rattle.gt_core.specs.declared.trace.Event.{Event}
@@ -32,6 +44,7 @@ use Rattle.gt_core.specs.declared.trace.ItemEvent.{ItemEvent}
 use Rattle.gt_core.specs.declared.trace.ItemEvent.TheVariants.{Began, Stepped}
 use Rattle.gt_core.proofs.AgreementKept.{open_call-other, open_call-own}
 use Rattle.gt_core.proofs.Steps.Observers.{gather-append, other-pins}
+use Rattle.gt_core.proofs.Playing.{legal-grows}
 use Rattle.gt_core.proofs.Swapping.{Releases}
 use Rattle.gt_explore_replay.specs.Abreast.{CanComeNext, history_in}
 use Rattle.gt_explore_replay.specs.Courses.{ActionLeads, Course, CourseLeads, OpenLeads, Opened, RestLeads}
@@ -49,15 +62,17 @@ use Rattle.gt_explore_moves.specs.declared.touches.Touch.TheVariants.{Entry, Rai
 use Rattle.gt_explore_moves.proofs.HandlesAnswered.{after-dom, back-dom}
 use Rattle.gt_entry.specs.Entries.{frame_of}
 use Rattle.gt_explore_moves.specs.declared.touches.MappingUse.{MappingUse}
+use Rattle.gt_explore_moves.specs.Transitive.{AllOfScript, BeginsOfScript, IsOfScript, is_via}
+use Rattle.gt_explore_moves.proofs.HeldPins.{IsPlain, IsSound, copy-took, is-sound, releases-own}
+use Rattle.gt_explore_moves.proofs.PathSteps.{held_along, took-any}
 use Rattle.gt_explore_moves.proofs.Touching.{BytesTouch, PinTouches, PinsBytes}
-use Rattle.gt_explore_moves.proofs.Touching.{DeedTouches, RequestTouches, StepTouches, TasksTouch, UnmapsOnly}
-use Rattle.gt_explore_moves.proofs.Touching.{path-touches}
-use Rattle.gt_explore_moves.proofs.Touching.{said-touches, unmaps-release}
+use Rattle.gt_explore_moves.proofs.Touching.{DeedTouches, RequestTouches, StepFacts, StepTouches, TasksTouch}
+use Rattle.gt_explore_moves.proofs.Touching.{each-step, path-opened, said-touches}
 
-module _ (A : Touch → Type 0) where
-  -- what an item touches is such
+module _ (A : Touch → Type 0) (vias : Bool) where
+  -- what an item touches is such, and a call that begins is one of the script
   abbrev pub ItemTouches : History → DomId → ItemEvent → Type 0
-  ItemTouches h d (Began q) = Unit {0}
+  ItemTouches h d (Began q) = IsOfScript vias (asked q)
   ItemTouches h d (Stepped y seen) = StepTouches A d y × Releases h d y
 
   -- what the element touches is such
@@ -70,6 +85,37 @@ module _ (A : Touch → Type 0) where
   HappeningTouches hs (did e y) = ElementTouches (history_in hs) (actor_of e) y
   HappeningTouches hs (raised d flag) = A (Raises flag)
   HappeningTouches hs (passed d flag) = Unit {0}
+
+  -- the history is a legal one, and each call that began is of the script
+  pub record Grew (s : Setting) (h : History) : Type 0 where
+    pub legal : IsLegalHistory s h
+    pub asked : AllOfScript vias h
+
+  item-asked : (h : History) (d : DomId) (x : ItemEvent) → ItemTouches h d x → BeginsOfScript vias x
+  item-asked h d (Began q) touch = touch
+  item-asked h d (Stepped y seen) touch = tt
+
+  element-grew : (s : Setting) (h : History) (e : Event) (y : Element) → MayDo s h e y → ElementTouches h (actor_of e) y
+      → Grew s h → Grew s (grown h y)
+  element-grew s h e (Did i) may touch grew = record {
+    legal = legal-grows s h e (Did i) may grew.legal;
+    asked = (item-asked h (actor_of e) i.happened touch, grew.asked);
+  }
+  element-grew s h e Busy may touch grew = grew
+  element-grew s h e Idle may touch grew = grew
+  element-grew s h e NoDomain may touch grew = grew
+
+  pub happening-grew : (s : Setting) (hs : List Happening) (x : Happening) → CanComeNext s hs x
+      → HappeningTouches hs x → Grew s (history_in hs) → Grew s (history_in (hs ++ x ∷ []))
+  happening-grew s hs (did e y) may touch grew =
+      subst (Grew s) (sym (history_did hs e y)) (element-grew s (history_in hs) e y may touch grew)
+  happening-grew s hs (raised d flag) may touch grew =
+      subst (Grew s) (sym (history_quiet hs (raised d flag) (tells d flag))) grew
+  happening-grew s hs (passed d flag) may touch grew =
+      subst (Grew s) (sym (history_quiet hs (passed d flag) (waits d flag))) grew
+
+  pub grew-sound : (s : Setting) (h : History) → Grew s h → IsSound vias s h
+  grew-sound s h grew = is-sound vias s h grew.legal grew.asked
 
 module _ (A : Touch → Type 0) (uses : MappingUse) where
   -- the pins of these mappings are on such entries
@@ -136,18 +182,20 @@ module _ (A : Touch → Type 0) (uses : MappingUse) where
   pins-unpinned d actor (Stepped (Unpin p holder) seen) ps all = pins-less d actor.0 holder ps all
   pins-unpinned d actor x ps all = all
 
-  -- the pin that an event takes is on such an entry
-  abbrev PinnedTouches : ItemEvent → Type 0
-  PinnedTouches (Stepped (PinStep p) seen) = A (Entry p.dom p.gref) × BytesTouch A uses
-  PinnedTouches x = Unit {0}
+  -- the pin that an event takes for a mapping is on such an entry
+  abbrev PinnedTouches : ItemEvent → Option Answer → Type 0
+  PinnedTouches (Stepped (PinStep p) seen) answer =
+      (handle : Handle) → answer ≡ Some (Mapped handle) → A (Entry p.dom p.gref) × BytesTouch A uses
+  PinnedTouches x answer = Unit {0}
 
   named-touches : (p held : HeldPin) (answer : Option Answer) (n : ℕ) → held.dom ≡ p.dom → held.gref ≡ p.gref
-      → A (Entry p.dom p.gref) × BytesTouch A uses → PinsTouch (mapping_named (holder_after answer n) held)
-  named-touches p held (Some (Mapped handle)) n dom gref touch = (
+      → ((handle : Handle) → answer ≡ Some (Mapped handle) → A (Entry p.dom p.gref) × BytesTouch A uses)
+      → PinsTouch (mapping_named (holder_after answer n) held)
+  named-touches p held (Some (Mapped handle)) n dom gref touch = let it = touch handle refl in (
     (
-      subst (λ x. A (Entry x held.gref)) (sym dom) (subst (λ x. A (Entry p.dom x)) (sym gref) touch.0),
-      (λ is. touch.1.0 is held.dom (frame_of held.entry)),
-      (λ is. touch.1.1 is held.dom (frame_of held.entry)),
+      subst (λ x. A (Entry x held.gref)) (sym dom) (subst (λ x. A (Entry p.dom x)) (sym gref) it.0),
+      (λ is. it.1.0 is held.dom (frame_of held.entry)),
+      (λ is. it.1.1 is held.dom (frame_of held.entry)),
     ),
     tt,
   )
@@ -165,7 +213,7 @@ module _ (A : Touch → Type 0) (uses : MappingUse) where
       by false = tt
 
   pins-pinned : (d : ℕ) (actor : DomId) (x : ItemEvent) (answer : Option Answer) (h : History) (ps : List Pin)
-      → PinnedTouches x → PinsTouch (gather mapping_named d (pinned_by actor x answer h ps))
+      → PinnedTouches x answer → PinsTouch (gather mapping_named d (pinned_by actor x answer h ps))
   pins-pinned d actor (Stepped (PinStep p) Taken) answer h ps touch =
       pin-touches d _ (named-touches p _ answer _ refl refl touch)
   pins-pinned d actor x answer h ps touch = subst PinsTouch (sym (gather-none d)) tt
@@ -175,7 +223,7 @@ module _ (A : Touch → Type 0) (uses : MappingUse) where
   unfolding live
   live-cons i h = refl
 
-  pins-after : (i : Item) (h : History) (d : ℕ) → PinnedTouches i.happened → PinsTouch (mappings_at h d)
+  pins-after : (i : Item) (h : History) (d : ℕ) → PinnedTouches i.happened i.answer → PinsTouch (mappings_at h d)
       → PinsTouch (mappings_at (i ∷ h) d)
   pins-after i h d touch all = subst PinsTouch (sym (ap (gather mapping_named d) (live-cons i h)
       ∙ gather-append mapping_named d (unpinned_by i.actor i.happened (live h))
@@ -215,42 +263,92 @@ module _ (A : Touch → Type 0) (uses : MappingUse) where
     by None = touch
     by (Some answer) = tt
 
-  pinned-touches : (d : DomId) (y : Step) (seen : Observation) → StepTouches A d y → PinsBytes A uses y
-      → PinnedTouches (Stepped y seen)
-  pinned-touches d (PinStep p) seen touch bytes = (touch, bytes)
-  pinned-touches d y seen touch bytes = tt
+  copy-unmapped : (s : Setting) (h : History) (d : DomId) (c : CopyArgs) (z : Step) (gives : Bool)
+      (verdict : Option CallResult) (against : Option Denial) (handle : Handle)
+      → AnsweredBy s h d (Copy c) (Some z) gives verdict (Some (Mapped handle)) against → ⊥
+  copy-unmapped s h d c z gives None against handle by = by
+  copy-unmapped s h d c z gives (Some verdict) against handle by =
+      let never : Mapped handle ≡ AnswerDone = by.2 in absurd (cc)
 
-  releases-of : (s : Setting) (h : History) (d : DomId) (y : Step) → UnmapsOnly (known_at s h d) y → Releases h d y
-  releases-of s h d (Unpin p (ByHandle handle)) found = unmaps-release h d p handle found
-  releases-of s h d (Unpin p (ByLeg n)) found = absurd found
-  releases-of s h d y found = tt
-
-  stepped-within : (s : Setting) (h : History) (d : DomId) (y : Step) (seen : Observation) (a : Option Answer)
-      (c : Option Underway) → open_call h d.0 ≡ c → StepsRightIn s h (item d (Stepped y seen) a) y seen c
-      → HistoryWithin h d
-      → HistoryWithin (item d (Stepped y seen) a ∷ h) d × ItemTouches A h d (Stepped y seen)
-  stepped-within s h d y seen a None is right w = absurd right
-  stepped-within s h d y seen a (Some c) is right w = (
-    record {
-      maps = pins-after (item d (Stepped y seen) a) h d.0 (pinned-touches d y seen good.0 good.2) w.maps;
-      call = subst (CallWithin d) (sym (open_call-own (item d (Stepped y seen) a) h
-          ∙ ap (underway_after (item d (Stepped y seen) a)) is)) (by a);
-    },
-    (good.0, releases-of s h d y good.1),
-  ) where
+  -- a step of a call touches only such
+  module _ (s : Setting) (h : History) (d : DomId) (y : Step) (seen : Observation) (a : Option Answer) (c : Underway)
+      (is : open_call h d.0 ≡ Some c) (right : StepsRight s h (item d (Stepped y seen) a) y seen c)
+      (w : HistoryWithin h d) (sound : IsSound uses.vias s h) where
     touches : RequestTouches A uses d c.request
     touches = subst (CallWithin d) is w.call
 
-    good : StepTouches A d y × UnmapsOnly (known_at s h d) y × PinsBytes A uses y
-    good = path-touches A uses (known_at s h d) d (λ handle p found. pins-found
-        (mappings_at h d.0) handle p w.maps found)
-        c.request touches (values c) y right.continues
+    opened : (begun (known_at s h d) d c.request ≡ None)
+        × (steps_of (known_at s h d) d c.request (values c) ≡ Some (Makes y))
+    opened = path-opened (known_at s h d) d c.request (values c) y right.continues
 
-    by : (b : Option Answer) → CallWithin d (underway_after (item d (Stepped y seen) b) (Some c))
-    by None = touches
-    by (Some answer) = tt
+    mapped : (handle : Handle) (p : HeldPin) → (known_at s h d).mapping handle ≡ Some p → PinTouches A uses p
+    mapped handle p found = pins-found (mappings_at h d.0) handle p w.maps found
+
+    -- a copy goes through no transitive entry
+    beyond-none : uses.vias ≡ false → (p : HeldPin) (dom : DomId) (ro : Bool) (dom2 : DomId) (gref : GrantRef)
+        → IsPlain uses.vias s p → p.entry ≡ entries.Via dom ro dom2 gref → ⊥
+    beyond-none none p dom ro dom2 gref plain via = false≢true (sym (plain none) ∙ ap is_via via)
+
+    abbrev Does : OpenRequest → Type 0
+    Does r = StepTouches A d y × PinnedTouches (Stepped y seen) a
+
+    -- what a pin is used for, if it becomes a mapping
+    pinned : (r : OpenRequest) (z : Step) → c.request ≡ r → y ≡ z → StepTouches A d z → PinsBytes A uses r z
+        → StepFacts (known_at s h d) r (held_along (steps_of (known_at s h d) d r) [] (values c)) z
+        → PinnedTouches (Stepped z seen) a
+    pinned (Map dom gref flags) (PinStep p) same step touch bytes f = λ handle answer. (touch, bytes)
+    pinned (Copy x) (PinStep p) same step touch bytes f = λ handle answer. absurd
+        (copy-unmapped s h d x y (gives_back (next_in s h d c seen)) (verdict_in (next_in s h d c seen))
+        (stood s (item d (Stepped y seen) a ∷ h) d.0) handle
+        (subst (λ (r : OpenRequest). AnsweredBy s h d r (Some y) (gives_back (next_in s h d c seen))
+        (verdict_in (next_in s h d c seen)) (Some (Mapped handle)) (stood s (item d (Stepped y seen) a ∷ h) d.0)) same
+        (subst (λ (o : Option Answer). AnsweredBy s h d c.request (Some y) (gives_back (next_in s h d c seen))
+        (verdict_in (next_in s h d c seen)) o (stood s (item d (Stepped y seen) a ∷ h) d.0)) answer right.answered)))
+    pinned r (PinStep p) same step touch bytes f = absurd f.0
+    pinned r z same step touch bytes f = tt
+
+    does-so : (r : OpenRequest) → c.request ≡ r → RequestTouches A uses d r
+        → steps_of (known_at s h d) d r (values c) ≡ Some (Makes y) → Does r
+    does-so (Copy x) same t e =
+        let it = each-step A uses (known_at s h d) d (IsPlain uses.vias s) mapped (Copy x) t
+        (λ copy p dom ro dom2 gref plain via. absurd (beyond-none t.0 p dom ro dom2 gref plain via)) (values c) (Makes y)
+        (copy-took uses.vias s h sound d c is y right.continues x same) e in
+        (it.0, pinned (Copy x) y same refl it.0 it.1 it.2)
+    does-so (Probe x) same t e = absurd t
+    does-so r same t e =
+        let it = each-step A uses (known_at s h d) d (λ p. Unit {0}) mapped r t
+        (λ copy. absurd copy) (values c) (Makes y) (took-any (steps_of (known_at s h d) d r) (values c)) e in
+        (it.0, pinned r y same refl it.0 it.1 it.2)
+
+    does : Does c.request
+    does = does-so c.request refl touches opened.1
+
+    step-within : HistoryWithin (item d (Stepped y seen) a ∷ h) d × ItemTouches A uses.vias h d (Stepped y seen)
+    step-within = (
+      record {
+        maps = pins-after (item d (Stepped y seen) a) h d.0 does.1 w.maps;
+        call = subst (CallWithin d) (sym (open_call-own (item d (Stepped y seen) a) h
+            ∙ ap (underway_after (item d (Stepped y seen) a)) is)) (by a);
+      },
+      (does.0, releases-own uses.vias s h sound d c is y right.continues),
+    ) where
+      by : (b : Option Answer) → CallWithin d (underway_after (item d (Stepped y seen) b) (Some c))
+      by None = touches
+      by (Some answer) = tt
+
+  stepped-within : (s : Setting) (h : History) (d : DomId) (y : Step) (seen : Observation) (a : Option Answer)
+      (c : Option Underway) → open_call h d.0 ≡ c → StepsRightIn s h (item d (Stepped y seen) a) y seen c
+      → HistoryWithin h d → IsSound uses.vias s h
+      → HistoryWithin (item d (Stepped y seen) a ∷ h) d × ItemTouches A uses.vias h d (Stepped y seen)
+  stepped-within s h d y seen a None is right w sound = absurd right
+  stepped-within s h d y seen a (Some c) is right w sound = step-within s h d y seen a c is right w sound
 
   -- events
+
+  request-asked : (d : DomId) (r : OpenRequest) → RequestTouches A uses d r → IsOfScript uses.vias r
+  request-asked d (Grant gref entry) t = t.1
+  request-asked d (Probe c) t = absurd t
+  request-asked d r t = tt
 
   -- if the event begins a call, what that may touch is such
   abbrev pub BeginTouches : Event → Type 0
@@ -259,25 +357,25 @@ module _ (A : Touch → Type 0) (uses : MappingUse) where
 
   item-within : (s : Setting) (h : History) (e : Event) (i : Item) (x : ItemEvent) → i.happened ≡ x → BeginTouches e
       → IsItemOf e (item (actor_of e) x i.answer) → IsRight s h (item (actor_of e) x i.answer)
-      → HistoryWithin h (actor_of e)
-      → HistoryWithin (item (actor_of e) x i.answer ∷ h) (actor_of e) × ItemTouches A h (actor_of e) x
-  item-within s h (Begin d q) i (Began r) is touch of right w = (
+      → HistoryWithin h (actor_of e) → IsSound uses.vias s h
+      → HistoryWithin (item (actor_of e) x i.answer ∷ h) (actor_of e) × ItemTouches A uses.vias h (actor_of e) x
+  item-within s h (Begin d q) i (Began r) is touch of right w sound = (
     began-within h d r i.answer (subst (λ (x : ItemEvent). Asks x) (sym of.1) touch) w,
-    tt,
+    request-asked d (asked r) (subst (λ (x : ItemEvent). Asks x) (sym of.1) touch),
   ) where
     Asks : ItemEvent → Type 0
     Asks (Began p) = RequestTouches A uses d (asked p)
     Asks (Stepped y seen) = Unit {0}
-  item-within s h (Begin d q) i (Stepped y seen) is touch of right w = absurd
+  item-within s h (Begin d q) i (Stepped y seen) is touch of right w sound = absurd
       (let no : Stepped y seen ≡ Began q = of.1 in cc)
-  item-within s h (Tick d) i (Began r) is touch of right w = absurd of.1
-  item-within s h (Tick d) i (Stepped y seen) is touch of right w =
-      stepped-within s h d y seen i.answer (open_call h d.0) refl right w
+  item-within s h (Tick d) i (Began r) is touch of right w sound = absurd of.1
+  item-within s h (Tick d) i (Stepped y seen) is touch of right w sound =
+      stepped-within s h d y seen i.answer (open_call h d.0) refl right w sound
 
   pub event-within : (s : Setting) (h : History) (e : Event) (y : Element) → BeginTouches e → MayDo s h e y
-      → HistoryWithin h (actor_of e)
-      → HistoryWithin (grown h y) (actor_of e) × ElementTouches A h (actor_of e) y
-  event-within s h e (Did i) touch may w = by (of-event e may) where
+      → HistoryWithin h (actor_of e) → IsSound uses.vias s h
+      → HistoryWithin (grown h y) (actor_of e) × ElementTouches A uses.vias h (actor_of e) y
+  event-within s h e (Did i) touch may w sound = by (of-event e may) where
     of-event : (f : Event) → MayDo s h f (Did i) → IsItemOf f i × IsRight s h i
     of-event (Begin d q) m = (m.1, m.2)
     of-event (Tick d) m = (m.1, m.2)
@@ -287,16 +385,16 @@ module _ (A : Touch → Type 0) (uses : MappingUse) where
     own (Tick d) of = of.0
 
     by : IsItemOf e i × IsRight s h i
-        → HistoryWithin (i ∷ h) (actor_of e) × ElementTouches A h (actor_of e) (Did i)
+        → HistoryWithin (i ∷ h) (actor_of e) × ElementTouches A uses.vias h (actor_of e) (Did i)
     by (of, right) =
         let same : item (actor_of e) i.happened i.answer ≡ i =
         ap (λ d. item d i.happened i.answer) (sym (own e of)) in
         let it = item-within s h e i i.happened refl touch (subst (IsItemOf e) (sym same) of)
-        (subst (IsRight s h) (sym same) right) w in
+        (subst (IsRight s h) (sym same) right) w sound in
         (subst (λ x. HistoryWithin (x ∷ h) (actor_of e)) same it.0, it.1)
-  event-within s h e Busy touch may w = (w, tt)
-  event-within s h e Idle touch may w = (w, tt)
-  event-within s h e NoDomain touch may w = (w, tt)
+  event-within s h e Busy touch may w sound = (w, tt)
+  event-within s h e Idle touch may w sound = (w, tt)
+  event-within s h e NoDomain touch may w sound = (w, tt)
 
   -- courses
 
@@ -315,26 +413,29 @@ module _ (A : Touch → Type 0) (uses : MappingUse) where
 
   did-within : (s : Setting) (hs : List Happening) (e : Event) (y : Element) (tasks : List RunTask) → BeginTouches e
       → MayDo s (history_in hs) e y → TasksTouch A uses (actor_of e) tasks → HistoryWithin (history_in hs) (actor_of e)
-      → Within (hs ++ did e y ∷ []) (actor_of e) tasks × HappeningTouches A hs (did e y)
-  did-within s hs e y tasks touch may left past = let it = event-within s (history_in hs) e y touch may past in (
-    record { tasks_touch = left; past = subst (λ h. HistoryWithin h (actor_of e)) (sym (history_did hs e y)) it.0 },
-    it.1,
-  )
+      → IsSound uses.vias s (history_in hs)
+      → Within (hs ++ did e y ∷ []) (actor_of e) tasks × HappeningTouches A uses.vias hs (did e y)
+  did-within s hs e y tasks touch may left past sound =
+      let it = event-within s (history_in hs) e y touch may past sound in (
+        record { tasks_touch = left; past = subst (λ h. HistoryWithin h (actor_of e)) (sym (history_did hs e y)) it.0 },
+        it.1,
+      )
 
   -- a domain whose course goes on by a happening
   abbrev GoesWithin : List Happening → Happening → Course → Type 0
-  GoesWithin hs x j = Within (hs ++ x ∷ []) j.dom j.tasks × HappeningTouches A hs x
+  GoesWithin hs x j = Within (hs ++ x ∷ []) j.dom j.tasks × HappeningTouches A uses.vias hs x
 
   -- to a course with these tasks
   goes-to : (s : Setting) (hs : List Happening) (e : Event) (y : Element) (x : Happening) (j : Course)
       (tasks : List RunTask)
       → x ≡ did e y → j.dom ≡ actor_of e → j.tasks ≡ tasks → BeginTouches e → CanComeNext s hs x
-      → TasksTouch A uses (actor_of e) tasks → HistoryWithin (history_in hs) (actor_of e) → GoesWithin hs x j
-  goes-to s hs e y x j tasks is dom left touch may all past =
-      subst (λ z. Within (hs ++ z ∷ []) j.dom j.tasks × HappeningTouches A hs z) (sym is)
-      (subst (λ ts. Within (hs ++ did e y ∷ []) j.dom ts × HappeningTouches A hs (did e y)) (sym left)
-      (subst (λ d. Within (hs ++ did e y ∷ []) d tasks × HappeningTouches A hs (did e y)) (sym dom)
-      (did-within s hs e y tasks touch (subst (CanComeNext s hs) is may) all past)))
+      → TasksTouch A uses (actor_of e) tasks → HistoryWithin (history_in hs) (actor_of e)
+      → IsSound uses.vias s (history_in hs) → GoesWithin hs x j
+  goes-to s hs e y x j tasks is dom left touch may all past sound =
+      subst (λ z. Within (hs ++ z ∷ []) j.dom j.tasks × HappeningTouches A uses.vias hs z) (sym is)
+      (subst (λ ts. Within (hs ++ did e y ∷ []) j.dom ts × HappeningTouches A uses.vias hs (did e y)) (sym left)
+      (subst (λ d. Within (hs ++ did e y ∷ []) d tasks × HappeningTouches A uses.vias hs (did e y)) (sym dom)
+      (did-within s hs e y tasks touch (subst (CanComeNext s hs) is may) all past sound)))
 
   after-tasks : (types : List (List ℕ)) (line : ℕ) (call : ScriptCall) (lost : Option Handle) (k : Course)
       (answer : Option Answer) → (course_after types line call lost k answer).tasks ≡ k.tasks
@@ -349,49 +450,51 @@ module _ (A : Touch → Type 0) (uses : MappingUse) where
       (left : List RunTask)
       (deed : RunAction) (x : Happening) → ActionLeads types k line left deed x j → CanComeNext s hs x
       → DeedTouches A uses k.dom deed → TasksTouch A uses k.dom left → HistoryWithin (history_in hs) k.dom
-      → GoesWithin hs x j
-  line-within types s hs k j line left (Tell flag) x leads may touch all past =
-      subst (λ z. Within (hs ++ z ∷ []) j.dom j.tasks × HappeningTouches A hs z) (sym leads.0)
+      → IsSound uses.vias s (history_in hs) → GoesWithin hs x j
+  line-within types s hs k j line left (Tell flag) x leads may touch all past sound =
+      subst (λ z. Within (hs ++ z ∷ []) j.dom j.tasks × HappeningTouches A uses.vias hs z) (sym leads.0)
       (subst (λ (c : Course). Within (hs ++ raised k.dom flag ∷ []) c.dom c.tasks × A (Raises flag)) (sym leads.1)
       (quiet-within hs (raised k.dom flag) k.dom left (tells k.dom flag) all past, touch))
-  line-within types s hs k j line left (Await flag) x leads may touch all past =
-      subst (λ z. Within (hs ++ z ∷ []) j.dom j.tasks × HappeningTouches A hs z) (sym leads.0)
+  line-within types s hs k j line left (Await flag) x leads may touch all past sound =
+      subst (λ z. Within (hs ++ z ∷ []) j.dom j.tasks × HappeningTouches A uses.vias hs z) (sym leads.0)
       (subst (λ (c : Course). Within (hs ++ passed k.dom flag ∷ []) c.dom c.tasks × Unit {0}) (sym leads.1)
       (quiet-within hs (passed k.dom flag) k.dom left (waits k.dom flag) all past, tt))
-  line-within types s hs k j line left (Do call) x (q, e, says, is, to) may touch all past =
+  line-within types s hs k j line left (Do call) x (q, e, says, is, to) may touch all past sound =
       goes-to s hs (Begin k.dom q) e x j left is
       (ap (λ (c : Course). c.dom) to ∙ after-dom types line call (given_up q) (record k { tasks = left }) (answer_in e))
       (ap (λ (c : Course). c.tasks) to
       ∙ after-tasks types line call (given_up q) (record k { tasks = left }) (answer_in e))
-      (said-touches A uses k.named k.dom call q says touch) may all past
+      (said-touches A uses k.named k.dom call q says touch) may all past sound
 
   rest-within : (types : List (List ℕ)) (s : Setting) (hs : List Happening) (k j : Course) (tasks : List RunTask)
       (choice : ℕ)
       (x : Happening) → k.tasks ≡ tasks → RestLeads types k tasks choice x j → CanComeNext s hs x
-      → TasksTouch A uses k.dom tasks → HistoryWithin (history_in hs) k.dom → GoesWithin hs x j
-  rest-within types s hs k j [] choice x same (handle, e, there, is, to) may touch past =
+      → TasksTouch A uses k.dom tasks → HistoryWithin (history_in hs) k.dom → IsSound uses.vias s (history_in hs)
+      → GoesWithin hs x j
+  rest-within types s hs k j [] choice x same (handle, e, there, is, to) may touch past sound =
       goes-to s hs (Begin k.dom (requests.Release handle)) e x j [] is
       (ap (λ (c : Course). c.dom) to
       ∙ back-dom (record k { held = take choice k.held ++ drop (suc choice) k.held }) (answer_in e))
       (ap (λ (c : Course). c.tasks) to
       ∙ back-tasks (record k { held = take choice k.held ++ drop (suc choice) k.held }) (answer_in e) ∙ same)
-      tt may tt past
-  rest-within types s hs k j (t ∷ ts) choice x same leads may touch past =
-      line-within types s hs k j t.line ts t.deed x leads.1 may touch.0 touch.1 past
+      tt may tt past sound
+  rest-within types s hs k j (t ∷ ts) choice x same leads may touch past sound =
+      line-within types s hs k j t.line ts t.deed x leads.1 may touch.0 touch.1 past sound
 
   -- what a domain does touches only such, and so it stays
   pub course-within : (types : List (List ℕ)) (s : Setting) (hs : List Happening) (k j : Course) (choice : ℕ)
       (x : Happening)
-      → CourseLeads types k choice x j → CanComeNext s hs x → Within hs k.dom k.tasks → GoesWithin hs x j
-  course-within types s hs k j choice x leads may w = by k.opened leads where
+      → CourseLeads types k choice x j → CanComeNext s hs x → Within hs k.dom k.tasks
+      → IsSound uses.vias s (history_in hs) → GoesWithin hs x j
+  course-within types s hs k j choice x leads may w sound = by k.opened leads where
     by : (opened : Opened) → OpenLeads types k opened choice x j → GoesWithin hs x j
-    by resting l = rest-within types s hs k j k.tasks choice x refl l may w.tasks_touch w.past
+    by resting l = rest-within types s hs k j k.tasks choice x refl l may w.tasks_touch w.past sound
     by (calling line call lost) (none, e, is, to) = goes-to s hs (Tick k.dom) e x j k.tasks is
         (ap (λ (c : Course). c.dom) to ∙ after-dom types line call lost k (answer_in e))
-        (ap (λ (c : Course). c.tasks) to ∙ after-tasks types line call lost k (answer_in e)) tt may w.tasks_touch w.past
+        (ap (λ (c : Course). c.tasks) to ∙ after-tasks types line call lost k (answer_in e)) tt may w.tasks_touch w.past sound
     by giving (none, e, is, to) = goes-to s hs (Tick k.dom) e x j k.tasks is
         (ap (λ (c : Course). c.dom) to ∙ back-dom k (answer_in e))
-        (ap (λ (c : Course). c.tasks) to ∙ back-tasks k (answer_in e)) tt may w.tasks_touch w.past
+        (ap (λ (c : Course). c.tasks) to ∙ back-tasks k (answer_in e)) tt may w.tasks_touch w.past sound
 
   -- what another domain does leaves it so
   pub others-within : (s : Setting) (hs : List Happening) (x : Happening) (d : DomId) (tasks : List RunTask)

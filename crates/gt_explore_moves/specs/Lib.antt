@@ -13,3 +13,4 @@ pub mod Spaces
 pub mod Starting
 pub mod Ticking
 pub mod Touches
+pub mod Transitive

@@ -2,15 +2,17 @@
 use Rattle.std.specs.Prelude.{◌≡◌, ◌==◌, ◌&&◌, ◌||◌, ◌<◌, ℕ, Bool, true, false, if◌then◌else◌, List, drop, ◌⊎◌}
 use Rattle.std.specs.Prelude.{Option, Some, None, slice_get, get_or}
 use Rattle.std.specs.List.{list_any}
+use Rattle.gt_types.specs.Copies.{is_dest_granted, is_source_granted}
 use Rattle.gt_types.specs.Names.{resolved}
 use Rattle.gt_types.specs.declared.DomId.{DomId}
 use Rattle.gt_types.specs.declared.GrantRef.{GrantRef}
+use Rattle.gt_types.specs.declared.copies.CopyArgs.{CopyArgs}
 use Rattle.gt_calls.specs.declared.action.Step.{Step}
 use Rattle.gt_calls.specs.declared.action.Step.TheVariants.{Unpin, Read as ReadBytes, Write as WriteBytes}
 use Rattle.gt_calls.specs.declared.action.Step.TheVariants.{Copy as CopyBytes}
-use Rattle.gt_calls.specs.declared.request.PinHolder.TheVariants.{Mapping as ByHandle, Leg as ByLeg}
 use Rattle.gt_calls.specs.declared.held.HeldPin.{HeldPin}
-use Rattle.gt_core.specs.Swapping.{on_entry, looks_header, stores_header}
+use Rattle.gt_calls.specs.Path.{gref_of}
+use Rattle.gt_core.specs.Swapping.{on_entry, looks_header, reads_frames, stores_header, writes_frames}
 use Rattle.gt_entry.specs.Entries.{frame_of}
 use Rattle.gt_script_lines.specs.declared.calls.ScriptCall.{ScriptCall}
 use Rattle.gt_script_lines.specs.declared.calls.ScriptCall.TheVariants as calls
@@ -32,11 +34,9 @@ use Rattle.gt_explore_moves.specs.declared.touches.NextMove.TheVariants.{Makes, 
 
 -- a step and a touch
 
--- the step of domain d reads or changes the words of entry r of domain t; a copy that gives back a pin may do so on any
--- entry
+-- the step of domain d reads or changes the words of entry r of domain t
 abbrev pub is_on : DomId → Step → ℕ → ℕ → Bool
-is_on d (Unpin p (ByHandle handle)) t r = (p.dom.0 == t) && (p.gref.0 == r)
-is_on d (Unpin p (ByLeg number)) t r = true
+is_on d (Unpin p holder) t r = (p.dom.0 == t) && (p.gref.0 == r)
 is_on d step t r = on_entry d step t r
 
 -- the step reads or writes bytes; it writes bytes
@@ -79,6 +79,15 @@ meets (Awaits flag) (Raises raised) = raised == flag
 meets (Awaits flag) touch = false
 meets Free touch = false
 
+-- the next move writes to a frame of this domain; it reads or writes a frame of this domain
+abbrev pub meets_reads : NextMove → DomId → Bool
+meets_reads (Makes d z) t = writes_frames z t.0
+meets_reads next t = false
+
+abbrev pub meets_writes : NextMove → DomId → Bool
+meets_writes (Makes d z) t = reads_frames z t.0 || writes_frames z t.0
+meets_writes next t = false
+
 -- the next move writes bytes; it reads or writes bytes
 abbrev pub next_writes : NextMove → Bool
 next_writes (Makes d z) = is_write z
@@ -113,9 +122,9 @@ is_store t = by t.deed
     by (Do call) = of_call call
     by deed = false
 
--- what these tasks do through mappings
-abbrev pub use_of : List RunTask → MappingUse
-use_of ts = record { loads = list_any is_load ts; stores = list_any is_store ts }
+-- what these tasks do through mappings; a copy may go through a transitive entry if the script may grant one
+abbrev pub use_of : Bool → List RunTask → MappingUse
+use_of vias ts = record { loads = list_any is_load ts; stores = list_any is_store ts; vias = vias }
 
 -- the next move meets a frame that is used so, whichever it is
 abbrev pub meets_bytes : MappingUse → NextMove → Bool
@@ -133,6 +142,22 @@ meets_mapping uses next p =
 abbrev pub meets_leg : NextMove → DomId → GrantRef → Bool
 meets_leg next dom gref = meets next (LooksHeader dom) || meets next (Entry dom gref)
 
+-- it meets an end of a copy of domain d: the entry that names the end and each frame of the entry's owner, or the own
+-- frame that the end names
+abbrev pub meets_source : NextMove → DomId → CopyArgs → Bool
+meets_source next d c =
+    if is_source_granted c
+    then meets_leg next (resolved d c.source.domid) (gref_of c.source.ptr)
+    || meets_reads next (resolved d c.source.domid)
+    else meets next (Reads d c.source.ptr)
+
+abbrev pub meets_dest : NextMove → DomId → CopyArgs → Bool
+meets_dest next d c =
+    if is_dest_granted c
+    then meets_leg next (resolved d c.dest.domid) (gref_of c.dest.ptr)
+    || meets_writes next (resolved d c.dest.domid)
+    else meets next (Writes d c.dest.ptr)
+
 -- it meets something that the call of domain d may touch, or may touch through the mapping that it makes; what is done
 -- through other mappings is told by these
 abbrev pub meets_call : MappingUse → NextMove → DomId → ScriptCall → Bool
@@ -148,7 +173,7 @@ meets_call uses next d (calls.Load label off len) = false
 meets_call uses next d (calls.Store label off hex) = false
 meets_call uses next d (calls.Peek frame off len) = meets next (Reads d frame)
 meets_call uses next d (calls.Poke frame off hex) = meets next (Writes d frame)
-meets_call uses next d (calls.Copy c) = true
+meets_call uses next d (calls.Copy c) = uses.vias || meets_source next d c || meets_dest next d c
 meets_call uses next d (calls.SetVersion version) = meets next (StoresHeader d)
 meets_call uses next d (calls.SetupTable frames) = meets next (StoresHeader d)
 meets_call uses next d (calls.QuerySize dom) = meets next (LooksHeader (resolved d dom))
@@ -188,12 +213,12 @@ abbrev pub tasks_unfinished : SearchContext → ℕ → Actor → List RunTask
 tasks_unfinished s place a = drop (first_left a) (tasks_at s place)
 
 -- it meets something that the domain at this position may still touch: an entry on which a mapping has its pin, the
--- frame
--- of a mapping, or what a task touches that is not finished
+-- frame of a mapping, or what a task touches that is not finished
 abbrev pub may_meet : NextMove → SearchContext → ℕ → Actor → Bool
 may_meet next s place a =
-    list_any (λ (m : LabelledMapping). meets_mapping (use_of (tasks_unfinished s place a)) next m.held) a.mappings.items
-    || list_any (meets_task (use_of (tasks_unfinished s place a)) next) (tasks_unfinished s place a)
+    list_any (λ (m : LabelledMapping). meets_mapping (use_of s.vias (tasks_unfinished s place a)) next m.held)
+    a.mappings.items
+    || list_any (meets_task (use_of s.vias (tasks_unfinished s place a)) next) (tasks_unfinished s place a)
 
 -- what a domain without an open call does next: it waits, unless the flag was raised, or is free to go on
 abbrev pub next_at_rest : List Bool → Option RunTask → NextMove

@@ -2,13 +2,17 @@
 ghost use Rattle.std.specs.Prelude.{◌≡◌};
 ghost use Rattle.std.specs.List.{list_any};
 ghost use Rattle.gt_explore_moves.specs.declared.actor.LabelledMapping.{LabelledMapping};
-ghost use Rattle.gt_core.specs.Swapping.{looks_header, stores_header};
+ghost use Rattle.gt_calls.specs.Path.{gref_of};
+ghost use Rattle.gt_core.specs.Swapping.{looks_header, reads_frames, stores_header, writes_frames};
 ghost use Rattle.gt_explore_moves.specs.Touches.{is_access, is_load, is_on, is_store, is_write, meets, meets_bytes};
-ghost use Rattle.gt_explore_moves.specs.Touches.{meets_call, meets_leg, meets_mapping, meets_task, next_accesses};
+ghost use Rattle.gt_explore_moves.specs.Touches.{meets_call, meets_dest, meets_leg, meets_mapping, meets_reads};
+ghost use Rattle.gt_explore_moves.specs.Touches.{meets_source, meets_task, meets_writes, next_accesses};
 ghost use Rattle.gt_explore_moves.specs.Touches.{next_writes, reads_at, step_meets, writes_at};
+ghost use Rattle.gt_explore_moves.specs.Transitive.{call_grants_via, grants_via, is_via};
 
 use crate::actor::LabelledMapping;
-use gt_calls::{HeldPin, PinHolder, Step, resolve};
+use gt_calls::{CopyArgs, HeldPin, Step, resolve};
+use gt_entry::Entry;
 use gt_script::{RunAction, RunTask};
 use gt_script_lines::ScriptCall;
 use gt_types::{DomId, GrantRef};
@@ -30,11 +34,13 @@ pub enum Touch {
     Raises(usize),
 }
 
-/// What the tasks that a domain has not finished do through its mappings.
+/// What the tasks that a domain has not finished do through its mappings and through transitive entries.
 #[derive(Clone, Copy)]
 pub struct MappingUse {
     pub loads: bool,
     pub stores: bool,
+    /// A copy may go through a transitive entry.
+    pub vias: bool,
 }
 
 /// What a domain does next.
@@ -48,8 +54,7 @@ pub enum NextMove {
     Free,
 }
 
-// Returns whether a step of the first domain reads or changes the words of this entry. A copy that releases a pin may
-// do so on any entry.
+// Returns whether a step of the first domain reads or changes the words of this entry.
 fn is_on(dom: DomId, step: Step, owner: DomId, gref: GrantRef) -> bool
     ensures { result ≡ is_on dom step owner.0 gref.0 }
 {
@@ -60,11 +65,9 @@ fn is_on(dom: DomId, step: Step, owner: DomId, gref: GrantRef) -> bool
             gref: r,
             ..
         } => { at.0 == owner.0 && r.0 == gref.0 }
-        Step::Pin { held } => held.dom.0 == owner.0 && held.gref.0 == gref.0,
-        Step::Unpin { held, holder } => match holder {
-            PinHolder::Mapping(_) => held.dom.0 == owner.0 && held.gref.0 == gref.0,
-            PinHolder::Leg(_) => true,
-        },
+        Step::Pin { held } | Step::Unpin { held, .. } => {
+            held.dom.0 == owner.0 && held.gref.0 == gref.0
+        }
         Step::StoreBody { gref: r, .. } | Step::Exchange { gref: r, .. } => {
             dom.0 == owner.0 && r.0 == gref.0
         }
@@ -110,6 +113,28 @@ fn writes_at(step: Step, owner: DomId, number: u64) -> bool
     match step {
         Step::Write { dom, frame, .. } => dom.0 == owner.0 && frame == number,
         Step::Copy { to, .. } => to.frame.owner.0 == owner.0 && to.frame.number == number,
+        _ => false,
+    }
+}
+
+// Returns whether a step reads a frame of this domain.
+fn reads_frames(step: Step, owner: DomId) -> bool
+    ensures { result ≡ reads_frames step owner.0 }
+{
+    match step {
+        Step::Read { dom, .. } => dom.0 == owner.0,
+        Step::Copy { from, .. } => from.frame.owner.0 == owner.0,
+        _ => false,
+    }
+}
+
+// Returns whether a step writes to a frame of this domain.
+fn writes_frames(step: Step, owner: DomId) -> bool
+    ensures { result ≡ writes_frames step owner.0 }
+{
+    match step {
+        Step::Write { dom, .. } => dom.0 == owner.0,
+        Step::Copy { to, .. } => to.frame.owner.0 == owner.0,
         _ => false,
     }
 }
@@ -170,6 +195,26 @@ fn next_writes(next: NextMove) -> bool
     }
 }
 
+// Returns whether a next move writes to a frame of this domain.
+fn meets_reads(next: NextMove, owner: DomId) -> bool
+    ensures { result ≡ meets_reads next owner }
+{
+    match next {
+        NextMove::Makes(_, step) => writes_frames(step, owner),
+        _ => false,
+    }
+}
+
+// Returns whether a next move reads or writes a frame of this domain.
+fn meets_writes(next: NextMove, owner: DomId) -> bool
+    ensures { result ≡ meets_writes next owner }
+{
+    match next {
+        NextMove::Makes(_, step) => reads_frames(step, owner) || writes_frames(step, owner),
+        _ => false,
+    }
+}
+
 // Returns whether a next move meets a leg to this entry, or its header.
 fn meets_leg(next: NextMove, owner: DomId, gref: GrantRef) -> bool
     ensures { result ≡ meets_leg next owner gref }
@@ -195,6 +240,38 @@ fn meets_mapping(uses: MappingUse, next: NextMove, held: HeldPin) -> bool
         || uses.stores && meets(next, Touch::Writes(held.dom, frame))
 }
 
+// Returns the reference with this number, as a copy does: a number of more than 32 bits gives the largest one.
+fn gref_of(ptr: u64) -> GrantRef
+    ensures { result ≡ gref_of ptr }
+{
+    GrantRef(u32::try_from(ptr).unwrap_or(u32::MAX))
+}
+
+// Returns whether a next move meets the source of a copy of this other domain: the entry that names it and each frame
+// of the entry's owner, or the domain's own frame.
+fn meets_source(next: NextMove, dom: DomId, copy: CopyArgs) -> bool
+    ensures { result ≡ meets_source next dom copy }
+{
+    if copy.is_source_granted() {
+        let owner = resolve(dom, copy.source.domid);
+        meets_leg(next, owner, gref_of(copy.source.ptr)) || meets_reads(next, owner)
+    } else {
+        meets(next, Touch::Reads(dom, copy.source.ptr))
+    }
+}
+
+// Returns the same for the destination.
+fn meets_dest(next: NextMove, dom: DomId, copy: CopyArgs) -> bool
+    ensures { result ≡ meets_dest next dom copy }
+{
+    if copy.is_dest_granted() {
+        let owner = resolve(dom, copy.dest.domid);
+        meets_leg(next, owner, gref_of(copy.dest.ptr)) || meets_writes(next, owner)
+    } else {
+        meets(next, Touch::Writes(dom, copy.dest.ptr))
+    }
+}
+
 // Returns whether a next move meets something that a call of this other domain may touch, or may touch through the
 // mapping that it makes.
 fn meets_call(uses: MappingUse, next: NextMove, dom: DomId, call: &ScriptCall<'_>) -> bool
@@ -215,7 +292,9 @@ fn meets_call(uses: MappingUse, next: NextMove, dom: DomId, call: &ScriptCall<'_
         ScriptCall::Unmap { .. } | ScriptCall::Load { .. } | ScriptCall::Store { .. } => false,
         ScriptCall::Peek { frame, .. } => meets(next, Touch::Reads(dom, *frame)),
         ScriptCall::Poke { frame, .. } => meets(next, Touch::Writes(dom, *frame)),
-        ScriptCall::Copy(_) => true,
+        ScriptCall::Copy(copy) => {
+            uses.vias || meets_source(next, dom, *copy) || meets_dest(next, dom, *copy)
+        }
         ScriptCall::SetVersion { .. } | ScriptCall::SetupTable { .. } => {
             meets(next, Touch::StoresHeader(dom))
         }
@@ -257,4 +336,39 @@ pub fn any_mapping_meets(uses: MappingUse, next: NextMove, mappings: &[LabelledM
     mappings
         .iter()
         .any(|mapping| meets_mapping(uses, next, mapping.held))
+}
+
+// Returns whether an entry leads to another one.
+fn is_via(entry: Entry) -> bool
+    ensures { result ≡ is_via entry }
+{
+    matches!(entry, Entry::Via { .. })
+}
+
+// Returns whether a call may grant a transitive entry. The bytes of a grant by bytes are not looked at.
+fn call_grants_via(call: &ScriptCall<'_>) -> bool
+    ensures { result ≡ call_grants_via call.now }
+{
+    match call {
+        ScriptCall::Grant { entry, .. } => is_via(*entry),
+        ScriptCall::GrantBytes { .. } => true,
+        _ => false,
+    }
+}
+
+// Returns whether a task may grant a transitive entry.
+fn grants_via(task: &RunTask<'_>) -> bool
+    ensures { result ≡ grants_via task.now }
+{
+    match &task.deed {
+        RunAction::Do(call) => call_grants_via(call),
+        _ => false,
+    }
+}
+
+/// Returns whether one of these tasks may grant a transitive entry.
+pub fn any_grants_via(tasks: &[RunTask<'_>]) -> bool
+    ensures { result ≡ list_any grants_via tasks.now }
+{
+    tasks.iter().any(|task| grants_via(task))
 }

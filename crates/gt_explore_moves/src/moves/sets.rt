@@ -128,6 +128,7 @@ impl<'s, 'a> SearchContext<'s, 'a> {
         let uses = MappingUse {
             loads: self.tasks_load(place, first),
             stores: self.tasks_store(place, first),
+            vias: self.vias,
         };
         any_mapping_meets(uses, next, actor.mappings.as_slice())
             || self.tasks_may_meet(uses, next, place, first)

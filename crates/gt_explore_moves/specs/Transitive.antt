@@ -1,0 +1,51 @@
+-- Transitive entries: which lines of a script may grant one, and which calls.
+use Rattle.std.specs.Prelude.{◌≡◌, Bool, true, false, [], ◌∷◌}
+use Rattle.gt_entry.specs.declared.entry.Entry.{Entry}
+use Rattle.gt_entry.specs.declared.entry.Entry.TheVariants.{Invalid, Page, Sub, Via}
+use Rattle.gt_calls.specs.Asking.{asked}
+use Rattle.gt_calls.specs.declared.request.OpenRequest.{OpenRequest}
+use Rattle.gt_calls.specs.declared.request.OpenRequest.TheVariants.{Grant, Probe}
+use Rattle.gt_core.specs.History.{History}
+use Rattle.gt_core.specs.declared.trace.ItemEvent.{ItemEvent}
+use Rattle.gt_core.specs.declared.trace.ItemEvent.TheVariants.{Began, Stepped}
+use Rattle.gt_script_lines.specs.declared.calls.ScriptCall.{ScriptCall}
+use Rattle.gt_script_lines.specs.declared.calls.ScriptCall.TheVariants as calls
+use Rattle.gt_script.specs.Lists.{RunTask, RunAction}
+use Rattle.gt_script.specs.declared.tasks.RunActionBy.TheVariants.{Do}
+
+-- the entry leads to another one (grant_table.h, GTF_transitive)
+abbrev pub is_via : Entry → Bool
+is_via Invalid = false
+is_via (Page dom ro frame) = false
+is_via (Sub dom ro frame off len) = false
+is_via (Via dom ro dom2 gref) = true
+
+-- the call may grant a transitive entry; the bytes of a grant by bytes are not looked at
+abbrev pub call_grants_via : ScriptCall → Bool
+call_grants_via (calls.Grant gref entry) = is_via entry
+call_grants_via (calls.GrantBytes gref hex) = true
+call_grants_via call = false
+
+-- the action of a task may grant one; the task may
+abbrev pub deed_grants_via : RunAction → Bool
+deed_grants_via (Do call) = call_grants_via call
+deed_grants_via deed = false
+
+abbrev pub grants_via : RunTask → Bool
+grants_via t = deed_grants_via t.deed
+
+-- a request of a script: it is no probe, and grants no transitive entry unless the script may
+abbrev pub IsOfScript : Bool → OpenRequest → Type 0
+IsOfScript vias (Grant gref entry) = vias ≡ false → is_via entry ≡ false
+IsOfScript vias (Probe c) = ⊥
+IsOfScript vias request = Unit {0}
+
+-- if a call begins, its request is such
+abbrev pub BeginsOfScript : Bool → ItemEvent → Type 0
+BeginsOfScript vias (Began request) = IsOfScript vias (asked request)
+BeginsOfScript vias (Stepped step seen) = Unit {0}
+
+-- each call that began is such
+abbrev pub AllOfScript : Bool → History → Type 0
+AllOfScript vias [] = Unit {0}
+AllOfScript vias (i ∷ before) = BeginsOfScript vias i.happened × AllOfScript vias before
