@@ -1,7 +1,7 @@
 -- What comes after the walk: the defaults of flags, and what is needed.
-use Rattle.std.proofs.Common.{◌≡◌, ◌∙◌, ◌==◌, ◌+◌, ◌&&◌, ◌||◌, ℕ, Bool, true, false, true≢false, cond, not, refl, sym}
+use Rattle.std.proofs.Common.{◌≡◌, ◌∙◌, ◌+◌, ◌&&◌, ◌||◌, ℕ, Bool, true, false, true≢false, cond, not, refl, sym}
 use Rattle.std.proofs.Common.{ap, ap₂, subst, List, [], ◌∷◌, ◌++◌, Option, Some, None, codes, map, append_assoc}
-use Rattle.std.specs.Prelude.{fold, min, find, slice_get, option_and_then, option_map}
+use Rattle.std.specs.Prelude.{fold, min, find, slice_get, option_and_then}
 use Rattle.std.specs.List.{list_any}
 use Rattle.std.specs.Option.{option_map_or, option_or}
 use Rattle.std.specs.Str.{bytes_eq}
@@ -9,18 +9,17 @@ use Rattle.std.proofs.lemmas.List.Folds.{find-append, list_any-append}
 use Rattle.clap.specs.Lexer.{usize_max}
 use Rattle.clap.specs.Kinds.{Kinds, or_else}
 use Rattle.clap.specs.Facts.{explicit_source}
-use Rattle.clap.specs.Faults.{default_fault, defaults_fault, check_fault}
+use Rattle.clap.specs.Faults.{default_fault, defaults_fault}
 use Rattle.clap.specs.Takes.{is_given as is_row_given}
 use Rattle.clap.specs.Walk.{Row, Rule, Text, first_of, has_row, more_values, with_default}
 use Rattle.clap.specs.Simple.{filled_from, help_rule}
 use Rattle.clap.specs.declared.builder.value_parser.Reading.TheVariants as reading
-use Rattle.clap.specs.declared.error.kind.ErrorKind.TheVariants.{MissingRequiredArgument}
-use Rattle.clap.specs.declared.parser.matches.ValueSource.TheVariants.{CommandLine, DefaultValue}
+use Rattle.clap.specs.declared.parser.matches.ValueSource.TheVariants.{DefaultValue}
 use Rattle.gt_commands.specs.Usage.{Given, Usage, is_among, is_given, is_true, value_given, lacks}
-use Rattle.gt_commands.specs.Rules.{word_rule, flag_rule, option_rule, rules_of}
+use Rattle.gt_commands.specs.Rules.{word_rule, flag_rule, option_rule}
 use Rattle.gt_commands.proofs.Lookups as lookups
 use Rattle.gt_commands.proofs.Lookups.{built_rules, flag_built}
-use Rattle.gt_commands.proofs.Uses.{row, rows_of, at_missing}
+use Rattle.gt_commands.proofs.Uses.{rows_of, at_missing}
 
 -- the row of a flag that was not given
 abbrev default_row : Text → Row

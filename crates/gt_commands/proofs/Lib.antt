@@ -6,4 +6,5 @@ pub mod Walks
 pub mod Ends
 pub mod Lines
 pub mod Top
+pub mod Made
 pub mod Planned

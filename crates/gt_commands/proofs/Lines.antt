@@ -1,16 +1,16 @@
 -- What the parser makes of the words behind a command's name is what they give.
-use Rattle.std.proofs.Common.{◌≡◌, ◌∙◌, ◌+◌, ℕ, Bool, true, false, cond, refl, sym, ap, ap₂, subst, List, [], ◌∷◌}
+use Rattle.std.proofs.Common.{◌≡◌, ◌∙◌, ℕ, Bool, true, false, cond, refl, sym, ap, ap₂, subst, List, [], ◌∷◌}
 use Rattle.std.proofs.Common.{Option, Some, None}
 use Rattle.std.specs.Prelude.{fold}
 use Rattle.clap.specs.Kinds.{Kinds, or_else}
-use Rattle.clap.specs.Faults.{check_fault, defaults_fault, level_fault, settle_fault}
-use Rattle.clap.specs.Walk.{Row, Rule, Text, Waiting, finished, idle, nothing_held, rows_after, settled_rows}
+use Rattle.clap.specs.Faults.{check_fault, defaults_fault, level_fault}
+use Rattle.clap.specs.Walk.{Row, Rule, Text, Waiting, finished, nothing_held, rows_after}
 use Rattle.clap.specs.Walk.{with_default}
 use Rattle.clap.specs.declared.error.kind.ErrorKind.TheVariants.{MissingRequiredArgument}
-use Rattle.gt_commands.specs.Usage.{Given, Line, Usage, line_ended, gives, is_among, lacks, line, wrong}
+use Rattle.gt_commands.specs.Usage.{Given, Usage, line_ended, is_among, lacks, line}
 use Rattle.gt_commands.proofs.Lookups as lookups
 use Rattle.gt_commands.proofs.Ends.{defaults_pass, lacking_at_end}
-use Rattle.gt_commands.proofs.Uses.{Settles, Valued, rows_of}
+use Rattle.gt_commands.proofs.Uses.{Settles, rows_of}
 use Rattle.gt_commands.proofs.Walks as walks
 use Rattle.gt_commands.proofs.Words.{leaf, held}
 use Rattle.gt_commands.proofs.Wrongs.{Wrong, lacking}

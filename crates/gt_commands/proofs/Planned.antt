@@ -1,6 +1,6 @@
 -- From what the parser makes of the words to what is answered.
 use Rattle.std.proofs.Common.{◌≡◌, ◌∙◌, ◌⊎◌, ◌<◌, ◌≤◌, ◌+◌, ℕ, Bool, true, false, Result, Ok, Err, IfOk, arith, List}
-use Rattle.std.proofs.Common.{[], ◌∷◌, Option, Some, None, option_map, drop, refl, sym, ap, ap₂, subst, inl, inr}
+use Rattle.std.proofs.Common.{[], Option, Some, None, option_map, drop, refl, sym, ap, ap₂, subst, inl, inr}
 use Rattle.std.specs.Prelude.{Box}
 use Rattle.std.proofs.Common.{Global}
 use Rattle.std.specs.Box.{box_value}
@@ -19,7 +19,7 @@ use Rattle.clap.proofs.ValueTestLemmas.{accepts-Accepts, Accepts-accepts}
 use Rattle.clap.specs.declared.parser.matches.ArgMatches.{ArgMatches}
 use Rattle.clap.specs.declared.parser.matches.ArgMatches.TheViews.{out-ArgMatches, out-SubCommand}
 use Rattle.clap.specs.declared.parser.matches.SubCommand.{SubCommand}
-use Rattle.gt_commands.specs.Commands.{IsInvocationOf, IsPlanOf, Request, request_in_words, asked_by_plan}
+use Rattle.gt_commands.specs.Commands.{IsInvocationOf, IsPlanOf, Request, request_in_words}
 use Rattle.gt_commands.specs.Commands.{asked_by_some, asked_named}
 use Rattle.gt_commands.specs.Commands.{asked_with, command_name, gthost_app, mode_of, nothing, number_up_to, read}
 use Rattle.gt_commands.specs.Commands.{refusals}

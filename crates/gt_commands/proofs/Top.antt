@@ -1,5 +1,5 @@
 -- What the parser makes of a whole command line.
-use Rattle.std.proofs.Common.{◌≡◌, ◌∙◌, ◌==◌, ◌&&◌, ◌||◌, ℕ, Bool, true, false, cond, refl, sym, ap, ap₂, subst, List}
+use Rattle.std.proofs.Common.{◌≡◌, ◌∙◌, ◌==◌, ◌&&◌, ℕ, Bool, true, false, cond, refl, sym, ap, ap₂, subst, List}
 use Rattle.std.proofs.Common.{[], ◌∷◌, drop, map, Option, Some, None, option_map, codes, is_some}
 use Rattle.std.specs.Prelude.{slice_get, fold, find}
 use Rattle.std.specs.Str.{bytes_eq, chars}
@@ -13,9 +13,9 @@ use Rattle.clap.specs.Simple.{Shape, built, entered, names_of, subcommand_of}
 use Rattle.clap.specs.declared.error.kind.ErrorKind.TheVariants.{DisplayHelp, DisplayVersion}
 use Rattle.clap.proofs.WalkLemmas.{walk_stopped}
 use Rattle.clap.proofs.FaultLemmas.{stopped_fault}
-use Rattle.gt_commands.specs.Usage.{Given, Line, Word, asks_help, gives, is_true, line, long, mark, plain, short}
+use Rattle.gt_commands.specs.Usage.{Given, Line, Word, asks_help, gives, line, long, mark, plain, short}
 use Rattle.gt_commands.specs.Usage.{value_given, usage_word, wrong}
-use Rattle.gt_commands.specs.Commands.{Request, request_in_words, request_by, asked_of, asked_of_long, asked_of_none}
+use Rattle.gt_commands.specs.Commands.{Request, request_in_words, request_by, asked_of, asked_of_none}
 use Rattle.gt_commands.specs.Commands.{command_name}
 use Rattle.gt_commands.specs.Commands.{every_mode, for_help, for_version, gthost_app, mode_of, nothing, read, usage_of}
 use Rattle.gt_commands.specs.declared.invocation.Mode.{Mode}

@@ -1,19 +1,15 @@
 -- One use of a flag, of an option or of a word.
-use Rattle.std.proofs.Common.{◌≡◌, ◌∙◌, ◌==◌, ◌&&◌, ◌||◌, ℕ, Bool, true, false, true≢false, cond, refl, sym, ap, List}
+use Rattle.std.proofs.Common.{◌≡◌, ◌∙◌, ◌||◌, ℕ, Bool, true, false, true≢false, refl, sym, ap, List}
 use Rattle.std.proofs.Common.{[], ◌∷◌, ◌++◌, Option, Some, None, codes, map, append-nil}
 use Rattle.std.proofs.lemmas.List.{map-append}
-use Rattle.std.specs.Prelude.{option_map, option_and_then, find, slice_get}
-use Rattle.std.specs.List.{list_any}
 use Rattle.std.specs.Str.{bytes_eq}
-use Rattle.std.proofs.lemmas.Slice.Eq.{bytes_eq-Decides}
-use Rattle.clap.specs.Kinds.{Kinds, or_else}
 use Rattle.clap.specs.Faults.{settle_fault, use_fault}
-use Rattle.clap.specs.Walk.{Held, Row, Rule, Text, arg_by_id, at_row, first_of, has_row, more_values, settled_rows}
+use Rattle.clap.specs.Walk.{Row, Rule, Text, arg_by_id, at_row, has_row, more_values, settled_rows}
 use Rattle.clap.specs.Walk.{used, with_values, without}
 use Rattle.clap.specs.declared.builder.value_parser.Reading.TheVariants as reading
 use Rattle.clap.specs.declared.error.kind.ErrorKind.TheVariants.{ArgumentConflict, InvalidValue}
 use Rattle.clap.specs.declared.parser.matches.ValueSource.TheVariants.{CommandLine}
-use Rattle.gt_commands.specs.Usage.{Given, is_given, value_given}
+use Rattle.gt_commands.specs.Usage.{Given, is_given}
 use Rattle.gt_commands.proofs.Lookups.{one_rule, flag_built}
 use Rattle.gt_commands.proofs.Words.{held}
 

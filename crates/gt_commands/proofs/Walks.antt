@@ -1,25 +1,25 @@
 -- What the parser's walk over the words of a command comes to.
 use Rattle.std.proofs.Common.{◌≡◌, ◌∙◌, ◌==◌, ◌+◌, ◌&&◌, ◌||◌, ℕ, Bool, true, false, cond, refl, sym, ap, ap₂, subst}
 use Rattle.std.proofs.Common.{List, [], ◌∷◌, ◌++◌, Option, Some, None, codes}
-use Rattle.std.specs.Prelude.{fold, min, is_some}
+use Rattle.std.specs.Prelude.{fold, min}
 use Rattle.std.specs.Str.{bytes_eq}
 use Rattle.std.proofs.lemmas.Slice.Eq.{bytes_eq-Decides}
 use Rattle.clap.specs.Lexer.{usize_max}
 use Rattle.clap.specs.Kinds.{Kinds, or_else}
-use Rattle.clap.specs.Faults.{check_fault, defaults_fault, level_fault, long_fault, settle_fault, step_fault}
+use Rattle.clap.specs.Faults.{check_fault, defaults_fault, long_fault, settle_fault, step_fault}
 use Rattle.clap.specs.Faults.{turn_fault, use_fault, walk_fault, word_fault}
-use Rattle.clap.specs.Walk.{Held, Row, Rule, Step, Text, Waiting, Walk, after_flag, after_step, arg_by_id, arg_by_index}
-use Rattle.clap.specs.Walk.{arg_by_long, arg_by_short, finished, idle, is_pending, long_met, next, nothing_held, option}
-use Rattle.clap.specs.Walk.{plain_word, rows_after, settled, settled_rows, used, value, walk, walked, word_met}
+use Rattle.clap.specs.Walk.{Held, Row, Rule, Step, Text, Waiting, Walk, after_flag, after_step}
+use Rattle.clap.specs.Walk.{arg_by_long, finished, idle, is_pending, long_met, next, option}
+use Rattle.clap.specs.Walk.{plain_word, settled, settled_rows, used, value, walked, word_met}
 use Rattle.clap.specs.Simple.{Shape}
-use Rattle.clap.specs.declared.error.kind.ErrorKind.TheVariants.{DisplayHelp, UnknownArgument}
+use Rattle.clap.specs.declared.error.kind.ErrorKind.TheVariants.{DisplayHelp}
 use Rattle.gt_commands.specs.Usage.{Given, Line, Usage, Word, by_kind, by_long, by_value, by_word, line_ended, gives}
-use Rattle.gt_commands.specs.Usage.{asks_help, wrong, is_among, is_given, lacks, line_after_mark, usage_line_of, long}
+use Rattle.gt_commands.specs.Usage.{asks_help, wrong, is_among, is_given, line_after_mark, usage_line_of, long}
 use Rattle.gt_commands.specs.Usage.{mark}
 use Rattle.gt_commands.specs.Usage.{once, plain, short, usage_word}
 use Rattle.gt_commands.proofs.Lookups as lookups
 use Rattle.gt_commands.proofs.Lookups.{one_rule, flag_built, help_built}
-use Rattle.gt_commands.proofs.Uses.{Settles, Valued, row, rows_of, has_given, flag_used, one_used, flag_passes}
+use Rattle.gt_commands.proofs.Uses.{Settles, Valued, rows_of, has_given, flag_used, one_used, flag_passes}
 use Rattle.gt_commands.proofs.Uses.{flag_repeats, one_passes, one_repeats, given_more, nothing_settles, one_settles}
 use Rattle.gt_commands.proofs.Uses.{one_conflicts, none_is_wrong}
 use Rattle.gt_commands.proofs.Words.{leaf, held, Meets, meets}

@@ -7,7 +7,7 @@ use Rattle.clap.specs.Lexer.{long_of, short_of}
 use Rattle.clap.specs.Kinds.{Kinds, or_else}
 use Rattle.clap.specs.Faults.{flags_fault, long_fault, settle_fault, word_fault}
 use Rattle.clap.specs.Walk.{Held, Rule, Row, Step, Text, Waiting, arg_by_long, arg_by_short, bundle_met, idle}
-use Rattle.clap.specs.Walk.{long_word, next, option, plain_word, positional, reacted, subcommand_met, trailing}
+use Rattle.clap.specs.Walk.{long_word, option, plain_word, positional, reacted, subcommand_met, trailing}
 use Rattle.clap.specs.Walk.{word_met}
 use Rattle.clap.specs.Simple.{Shape}
 use Rattle.clap.specs.declared.error.kind.ErrorKind.TheVariants.{DisplayHelp, UnknownArgument}

@@ -1,6 +1,6 @@
 -- The commands of the program, and the meaning of the words of a command line.
 use Rattle.std.specs.Prelude.{◌≡◌, ◌==◌, Bool, true, false, ℕ, List, [], ◌∷◌, Option, Some, None, Result, MatchResult}
-use Rattle.std.specs.Prelude.{codes, find, if◌then◌else◌, map, option_map}
+use Rattle.std.specs.Prelude.{codes, find, fold, if◌then◌else◌, map, option_map}
 use Rattle.gt_commands.specs.Prelude.{bytes_eq, digits_value, without_leading_plus, HasKind, Kinds, on_top}
 use Rattle.gt_commands.specs.Prelude.{is_unsigned_in, App, Row, Text, first_of, new_app, with_subcommand, Error}
 use Rattle.gt_commands.specs.Prelude.{ArgumentConflict, DisplayHelp, DisplayVersion, InvalidSubcommand, InvalidValue}
@@ -13,7 +13,7 @@ use Rattle.gt_explore_verdict.specs.declared.judging.Claim.TheVariants.{Find, Ne
 use Rattle.gt_commands.specs.declared.invocation.Exploration.{Exploration}
 use Rattle.gt_commands.specs.declared.invocation.Exploration.TheVariants as explores
 use Rattle.gt_commands.specs.Rules.{command_app}
-use Rattle.gt_commands.specs.Usage.{Usage, Given, Line, gives, asks_help, wrong, Word, mark, long, short, plain}
+use Rattle.gt_commands.specs.Usage.{Usage, Line, gives, asks_help, wrong, Word, mark, long, short, plain}
 use Rattle.gt_commands.specs.Usage.{usage_word, line, is_true, value_given}
 use Rattle.gt_commands.specs.declared.invocation.Invocation.TheVariants as plans
 use Rattle.gt_commands.specs.declared.values.ExploreForm.{ExploreForm}
@@ -92,17 +92,13 @@ mode_app mode = command_app (command_name mode) (usage_of mode)
 abbrev pub with_mode : App → Mode → App
 with_mode app mode = with_subcommand app (mode_app mode).top
 
--- the commands that run a script
-abbrev pub runners_app : App
-runners_app = with_mode (with_mode (with_mode bare_app Play) Run) Explore
-
--- with the lists of what a policy allows, and of the rules
-abbrev pub listers_app : App
-listers_app = with_mode (with_mode runners_app Policy) Rules
+-- with these commands
+unfoldable pub with_modes : App → List Mode → App
+with_modes app modes = fold with_mode app modes
 
 -- gthost COMMAND; there is no command `help`
 abbrev pub gthost_app : App
-gthost_app = with_mode (with_mode (with_mode listers_app Check) Why) Entries
+gthost_app = fold with_mode bare_app every_mode
 
 -- ---- requests
 

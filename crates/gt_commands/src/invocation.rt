@@ -22,6 +22,39 @@ pub enum Mode {
     Entries,
 }
 
+/// The commands, in the order of the program's help.
+pub(crate) static MODES: [Mode; 8] = [
+    Mode::Play,
+    Mode::Run,
+    Mode::Explore,
+    Mode::Policy,
+    Mode::Rules,
+    Mode::Check,
+    Mode::Why,
+    Mode::Entries,
+];
+
+impl Mode {
+    ghost use Rattle.std.specs.Prelude.{◌≡◌};
+    ghost use Rattle.gt_commands.specs.Commands.{command_name};
+
+    /// Returns the name of the command.
+    pub(crate) fn name(self) -> &'static str
+        ensures { result.now ≡ command_name self }
+    {
+        match self {
+            Mode::Play => "play",
+            Mode::Run => "run",
+            Mode::Explore => "explore",
+            Mode::Policy => "policy",
+            Mode::Rules => "rules",
+            Mode::Check => "check",
+            Mode::Why => "why",
+            Mode::Entries => "entries",
+        }
+    }
+}
+
 /// The format of the output of a command.
 #[derive(Clone, Copy, PartialEq, Eq)]
 pub enum Format {

@@ -1,12 +1,12 @@
 //! The commands for the parser of command lines.
-ghost use Rattle.std.specs.Prelude.{◌≡◌, IfOk, false, codes};
-ghost use Rattle.clap.specs.Words.{app_of, new_app, rule_of, with_rule};
-ghost use Rattle.clap.specs.declared.builder.command.Command.TheViews.{out-Command as fields_of};
-ghost use Rattle.gt_commands.specs.Rules.{flag_rule, free_option, needed_option, word_rule};
-ghost use Rattle.gt_commands.specs.Commands.{bare_app, file_usage, gthost_app, listers_app, mode_app, runners_app};
+ghost use Rattle.std.specs.Prelude.{◌≡◌, IfOk, false};
+ghost use Rattle.clap.specs.Words.{app_of, new_app, rule_of};
+ghost use Rattle.gt_commands.specs.Rules.{IsCommand, flag_rule, free_option, free_word, needed_option, part_rule, with_parts};
+ghost use Rattle.gt_commands.specs.Commands.{bare_app, gthost_app, mode_app};
 ghost use Rattle.gt_commands.specs.declared.invocation.Mode.TheVariants as modes;
 
 use crate::help::{CHECK, ENTRIES, EXPLORE, HELP, PLAY, POLICY, RULES, RUN, WHY};
+use crate::invocation::{MODES, Mode};
 use clap::{Arg, ArgAction, Command};
 use std::alloc::{AllocError, Global};
 
@@ -23,12 +23,83 @@ What a script may say:
 A policy has at most 1048576 bytes, 256 types, 256 attributes and 65536 allow
 statements.";
 
-// Makes the FILE of a command.
-fn file_word<'a>(alloc: Global) -> Arg<'a>
-    ensures rule { rule_of result ≡ word_rule file_usage (codes "file") }
+/// A word, a flag or an option of a command, with the name that messages give its value.
+#[derive(Clone, Copy)]
+pub(crate) enum Part {
+    /// A word that may be left out.
+    Word(&'static str, &'static str),
+    Flag(&'static str),
+    /// An option that may be left out.
+    Free(&'static str, &'static str),
+    /// An option that must be given.
+    Needed(&'static str, &'static str),
+}
+
+const FILE: Part = Part::Word("file", "FILE");
+
+const VERBOSE: Part = Part::Flag("verbose");
+
+const FORMAT: Part = Part::Free("format", "text|json");
+
+// The parts of `play` and of `run`.
+static RUNNER_PARTS: [Part; 4] = [FILE, Part::Flag("audit"), VERBOSE, FORMAT];
+
+static EXPLORE_PARTS: [Part; 10] = [
+    FILE,
+    VERBOSE,
+    Part::Free("find", "EXPR"),
+    Part::Free("never", "EXPR"),
+    Part::Free("always", "EXPR"),
+    Part::Free("has", "TEXT"),
+    Part::Free("witness", "N|all"),
+    Part::Free("trace", "N"),
+    Part::Free("states", "N"),
+    Part::Free("format", "FORM"),
+];
+
+static POLICY_PARTS: [Part; 3] = [FILE, VERBOSE, FORMAT];
+
+static RULES_PARTS: [Part; 2] = [Part::Word("file", "RULE"), VERBOSE];
+
+static CHECK_PARTS: [Part; 12] = [
+    FILE,
+    Part::Word("file2", "FILE"),
+    Part::Word("file3", "FILE"),
+    Part::Word("file4", "FILE"),
+    Part::Word("file5", "FILE"),
+    Part::Word("file6", "FILE"),
+    Part::Word("file7", "FILE"),
+    Part::Word("file8", "FILE"),
+    Part::Flag("script"),
+    VERBOSE,
+    Part::Free("never", "NEVER"),
+    FORMAT,
+];
+
+static WHY_PARTS: [Part; 5] = [
+    Part::Word("source", "SOURCE"),
+    Part::Word("target", "TARGET"),
+    Part::Word("permission", "PERMISSION"),
+    FILE,
+    VERBOSE,
+];
+
+static ENTRIES_PARTS: [Part; 7] = [
+    FILE,
+    Part::Flag("hex"),
+    Part::Flag("all"),
+    VERBOSE,
+    Part::Needed("version", "1|2"),
+    Part::Free("script", "DOM"),
+    FORMAT,
+];
+
+// Makes a word that may be left out.
+fn free_word<'a>(alloc: Global, id: &'a str, name: &'a str) -> Arg<'a>
+    ensures rule { rule_of result ≡ free_word id.entry.now }
     ensures local { result.global ≡ false }
 {
-    Arg::new(alloc, "file").value_name("FILE")
+    Arg::new(alloc, id).value_name(name)
 }
 
 fn flag<'a>(alloc: Global, name: &'a str) -> Arg<'a>
@@ -54,204 +125,63 @@ fn needed_option<'a>(alloc: Global, id: &'a str, name: &'a str) -> Arg<'a>
     free_option(alloc, id, name).required(true)
 }
 
-fn format_option<'a>(alloc: Global) -> Arg<'a>
-    ensures rule { rule_of result ≡ free_option (codes "format") }
+// Makes a part of a command.
+fn arg_of<'a>(alloc: Global, part: Part) -> Arg<'a>
+    ensures rule { rule_of result ≡ part_rule part }
     ensures local { result.global ≡ false }
 {
-    free_option(alloc, "format", "text|json")
+    match part {
+        Part::Word(id, name) => free_word(alloc, id, name),
+        Part::Flag(name) => flag(alloc, name),
+        Part::Free(id, name) => free_option(alloc, id, name),
+        Part::Needed(id, name) => needed_option(alloc, id, name),
+    }
 }
 
-// Makes a word that may be left out.
-fn free_word<'a>(alloc: Global, id: &'a str, name: &'a str) -> Arg<'a>
-    ensures rule { rule_of result ≡ word_rule file_usage id.entry.now }
-    ensures local { result.global ≡ false }
-{
-    Arg::new(alloc, id).value_name(name)
-}
-
-fn play_command<'a>(alloc: Global) -> Result<Command<'a>, AllocError>
-    ensures { IfOk result (λ c. (app_of c ≡ mode_app modes.Play) × ((fields_of c).has_globals ≡ false)) }
-{
-    Command::new(alloc, "play")
-        .override_help(PLAY)
-        .arg(file_word(alloc))?
-        .arg(flag(alloc, "audit"))?
-        .arg(flag(alloc, "verbose"))?
-        .arg(format_option(alloc))
-}
-
-fn run_command<'a>(alloc: Global) -> Result<Command<'a>, AllocError>
-    ensures { IfOk result (λ c. (app_of c ≡ mode_app modes.Run) × ((fields_of c).has_globals ≡ false)) }
-{
-    Command::new(alloc, "run")
-        .override_help(RUN)
-        .arg(file_word(alloc))?
-        .arg(flag(alloc, "audit"))?
-        .arg(flag(alloc, "verbose"))?
-        .arg(format_option(alloc))
-}
-
-// Makes `explore` with FILE, `--verbose` and `--find`.
-fn explore_of_script<'a>(alloc: Global) -> Result<Command<'a>, AllocError>
-    ensures { IfOk result (λ c. (app_of c ≡ with_rule (with_rule (with_rule (new_app (codes "explore"))
-        (word_rule file_usage (codes "file"))) (flag_rule (codes "verbose"))) (free_option (codes "find")))
-        × ((fields_of c).has_globals ≡ false)) }
-{
-    Command::new(alloc, "explore")
-        .override_help(EXPLORE)
-        .arg(file_word(alloc))?
-        .arg(flag(alloc, "verbose"))?
-        .arg(free_option(alloc, "find", "EXPR"))
-}
-
-// Makes `explore` with its claims.
-fn explore_of_claims<'a>(alloc: Global) -> Result<Command<'a>, AllocError>
-    ensures { IfOk result (λ c. (app_of c ≡ with_rule (with_rule (with_rule (with_rule (with_rule (with_rule
-        (new_app (codes "explore")) (word_rule file_usage (codes "file"))) (flag_rule (codes "verbose")))
-        (free_option (codes "find"))) (free_option (codes "never"))) (free_option (codes "always")))
-        (free_option (codes "has"))) × ((fields_of c).has_globals ≡ false)) }
-{
-    explore_of_script(alloc)?
-        .arg(free_option(alloc, "never", "EXPR"))?
-        .arg(free_option(alloc, "always", "EXPR"))?
-        .arg(free_option(alloc, "has", "TEXT"))
-}
-
-fn explore_command<'a>(alloc: Global) -> Result<Command<'a>, AllocError>
-    ensures { IfOk result (λ c. (app_of c ≡ mode_app modes.Explore) × ((fields_of c).has_globals ≡ false)) }
-{
-    explore_of_claims(alloc)?
-        .arg(free_option(alloc, "witness", "N|all"))?
-        .arg(free_option(alloc, "trace", "N"))?
-        .arg(free_option(alloc, "states", "N"))?
-        .arg(free_option(alloc, "format", "FORM"))
-}
-
-fn policy_command<'a>(alloc: Global) -> Result<Command<'a>, AllocError>
-    ensures { IfOk result (λ c. (app_of c ≡ mode_app modes.Policy) × ((fields_of c).has_globals ≡ false)) }
-{
-    Command::new(alloc, "policy")
-        .override_help(POLICY)
-        .arg(file_word(alloc))?
-        .arg(flag(alloc, "verbose"))?
-        .arg(format_option(alloc))
-}
-
-fn rules_command<'a>(alloc: Global) -> Result<Command<'a>, AllocError>
-    ensures { IfOk result (λ c. (app_of c ≡ mode_app modes.Rules) × ((fields_of c).has_globals ≡ false)) }
-{
-    Command::new(alloc, "rules")
-        .override_help(RULES)
-        .arg(Arg::new(alloc, "file").value_name("RULE"))?
-        .arg(flag(alloc, "verbose"))
-}
-
-// Adds three FILEs to `check`.
-fn with_files<'a>(
+// Makes a command with these parts.
+fn command_with<'a>(
     alloc: Global,
-    command: Command<'a>,
-    first: &'a str,
-    second: &'a str,
-    third: &'a str,
+    name: &'a str,
+    help: &'a str,
+    parts: &[Part],
 ) -> Result<Command<'a>, AllocError>
-    requires { (fields_of command).has_globals ≡ false }
-    ensures { IfOk result (λ c. (app_of c ≡ with_rule (with_rule (with_rule (app_of command.entry)
-        (word_rule file_usage first.entry.now)) (word_rule file_usage second.entry.now))
-        (word_rule file_usage third.entry.now)) × ((fields_of c).has_globals ≡ false)) }
+    ensures { IfOk result (λ c. IsCommand c (with_parts (new_app name.entry.now) parts.now)) }
 {
-    command
-        .arg(free_word(alloc, first, "FILE"))?
-        .arg(free_word(alloc, second, "FILE"))?
-        .arg(free_word(alloc, third, "FILE"))
+    let mut command = Command::new(alloc, name).override_help(help);
+    'parts: for part in parts {
+        command = command.arg(arg_of(alloc, *part))?;
+    }
+    Ok(command)
 }
 
-// Makes `check` with its FILEs but the last.
-fn check_of_files<'a>(alloc: Global) -> Result<Command<'a>, AllocError>
-    ensures { IfOk result (λ c. (app_of c ≡ with_rule (with_rule (with_rule (with_rule (with_rule (with_rule (with_rule
-        (new_app (codes "check")) (word_rule file_usage (codes "file"))) (word_rule file_usage (codes "file2")))
-        (word_rule file_usage (codes "file3"))) (word_rule file_usage (codes "file4")))
-        (word_rule file_usage (codes "file5"))) (word_rule file_usage (codes "file6")))
-        (word_rule file_usage (codes "file7"))) × ((fields_of c).has_globals ≡ false)) }
-{
-    let command = Command::new(alloc, "check")
-        .override_help(CHECK)
-        .override_usage("gthost check [OPTIONS] [FILE]...")
-        .arg(file_word(alloc))?;
-    let command = with_files(alloc, command, "file2", "file3", "file4")?;
-    with_files(alloc, command, "file5", "file6", "file7")
-}
-
-// Makes `check` with its FILEs and its flags.
-fn check_with_flags<'a>(alloc: Global) -> Result<Command<'a>, AllocError>
-    ensures { IfOk result (λ c. (app_of c ≡ with_rule (with_rule (with_rule (with_rule (with_rule (with_rule (with_rule
-        (with_rule (with_rule (with_rule (new_app (codes "check")) (word_rule file_usage (codes "file")))
-        (word_rule file_usage (codes "file2"))) (word_rule file_usage (codes "file3")))
-        (word_rule file_usage (codes "file4"))) (word_rule file_usage (codes "file5")))
-        (word_rule file_usage (codes "file6"))) (word_rule file_usage (codes "file7")))
-        (word_rule file_usage (codes "file8"))) (flag_rule (codes "script"))) (flag_rule (codes "verbose")))
-        × ((fields_of c).has_globals ≡ false)) }
-{
-    check_of_files(alloc)?
-        .arg(free_word(alloc, "file8", "FILE"))?
-        .arg(flag(alloc, "script"))?
-        .arg(flag(alloc, "verbose"))
-}
-
+#[tactic(auto, unfolding(crate::specs::Rules::with_parts))]
 fn check_command<'a>(alloc: Global) -> Result<Command<'a>, AllocError>
-    ensures { IfOk result (λ c. (app_of c ≡ mode_app modes.Check) × ((fields_of c).has_globals ≡ false)) }
+    ensures { IfOk result (λ c. IsCommand c (mode_app modes.Check)) }
 {
-    check_with_flags(alloc)?
-        .arg(free_option(alloc, "never", "NEVER"))?
-        .arg(format_option(alloc))
+    let command = command_with(alloc, "check", CHECK, &CHECK_PARTS)?;
+    Ok(command.override_usage("gthost check [OPTIONS] [FILE]..."))
 }
 
-// Makes `why` with its two types.
-fn why_of_types<'a>(alloc: Global) -> Result<Command<'a>, AllocError>
-    ensures { IfOk result (λ c. (app_of c ≡ with_rule (with_rule (new_app (codes "why"))
-        (word_rule file_usage (codes "source"))) (word_rule file_usage (codes "target")))
-        × ((fields_of c).has_globals ≡ false)) }
+// Makes a command of the program.
+#[tactic(auto, unfolding(crate::specs::Rules::with_parts))]
+fn mode_command<'a>(alloc: Global, mode: Mode) -> Result<Command<'a>, AllocError>
+    ensures { IfOk result (λ c. IsCommand c (mode_app mode)) }
 {
-    Command::new(alloc, "why")
-        .override_help(WHY)
-        .arg(free_word(alloc, "source", "SOURCE"))?
-        .arg(free_word(alloc, "target", "TARGET"))
-}
-
-fn why_command<'a>(alloc: Global) -> Result<Command<'a>, AllocError>
-    ensures { IfOk result (λ c. (app_of c ≡ mode_app modes.Why) × ((fields_of c).has_globals ≡ false)) }
-{
-    why_of_types(alloc)?
-        .arg(free_word(alloc, "permission", "PERMISSION"))?
-        .arg(file_word(alloc))?
-        .arg(flag(alloc, "verbose"))
-}
-
-// Makes `entries` with FILE and its flags.
-fn entries_of_dump<'a>(alloc: Global) -> Result<Command<'a>, AllocError>
-    ensures { IfOk result (λ c. (app_of c ≡ with_rule (with_rule (with_rule (with_rule (new_app (codes "entries"))
-        (word_rule file_usage (codes "file"))) (flag_rule (codes "hex"))) (flag_rule (codes "all")))
-        (flag_rule (codes "verbose"))) × ((fields_of c).has_globals ≡ false)) }
-{
-    Command::new(alloc, "entries")
-        .override_help(ENTRIES)
-        .arg(file_word(alloc))?
-        .arg(flag(alloc, "hex"))?
-        .arg(flag(alloc, "all"))?
-        .arg(flag(alloc, "verbose"))
-}
-
-fn entries_command<'a>(alloc: Global) -> Result<Command<'a>, AllocError>
-    ensures { IfOk result (λ c. (app_of c ≡ mode_app modes.Entries) × ((fields_of c).has_globals ≡ false)) }
-{
-    entries_of_dump(alloc)?
-        .arg(needed_option(alloc, "version", "1|2"))?
-        .arg(free_option(alloc, "script", "DOM"))?
-        .arg(format_option(alloc))
+    match mode {
+        Mode::Play => command_with(alloc, "play", PLAY, &RUNNER_PARTS),
+        Mode::Run => command_with(alloc, "run", RUN, &RUNNER_PARTS),
+        Mode::Explore => command_with(alloc, "explore", EXPLORE, &EXPLORE_PARTS),
+        Mode::Policy => command_with(alloc, "policy", POLICY, &POLICY_PARTS),
+        Mode::Rules => command_with(alloc, "rules", RULES, &RULES_PARTS),
+        Mode::Check => check_command(alloc),
+        Mode::Why => command_with(alloc, "why", WHY, &WHY_PARTS),
+        Mode::Entries => command_with(alloc, "entries", ENTRIES, &ENTRIES_PARTS),
+    }
 }
 
 // Makes the program without its commands.
 fn bare_command<'a>(alloc: Global) -> Command<'a>
-    ensures { (app_of result ≡ bare_app) × ((fields_of result).has_globals ≡ false) }
+    ensures { IsCommand result bare_app }
 {
     Command::new(alloc, "gthost")
         .override_help(HELP)
@@ -260,39 +190,13 @@ fn bare_command<'a>(alloc: Global) -> Command<'a>
         .disable_help_subcommand(true)
 }
 
-// Adds the commands that run a script.
-fn runners_command<'a>(alloc: Global) -> Result<Command<'a>, AllocError>
-    ensures { IfOk result (λ c. (app_of c ≡ runners_app) × ((fields_of c).has_globals ≡ false)) }
-{
-    let play = play_command(alloc)?;
-    let run = run_command(alloc)?;
-    let explore = explore_command(alloc)?;
-    bare_command(alloc)
-        .subcommand(play)?
-        .subcommand(run)?
-        .subcommand(explore)
-}
-
-// Adds the commands that list.
-fn listers_command<'a>(alloc: Global) -> Result<Command<'a>, AllocError>
-    ensures { IfOk result (λ c. (app_of c ≡ listers_app) × ((fields_of c).has_globals ≡ false)) }
-{
-    let policy = policy_command(alloc)?;
-    let rules = rules_command(alloc)?;
-    runners_command(alloc)?
-        .subcommand(policy)?
-        .subcommand(rules)
-}
-
 /// Makes the program with its commands.
 pub(crate) fn gthost_command<'a>(alloc: Global) -> Result<Command<'a>, AllocError>
     ensures { IfOk result (λ c. app_of c ≡ gthost_app) }
 {
-    let check = check_command(alloc)?;
-    let why = why_command(alloc)?;
-    let entries = entries_command(alloc)?;
-    listers_command(alloc)?
-        .subcommand(check)?
-        .subcommand(why)?
-        .subcommand(entries)
+    let mut command = bare_command(alloc);
+    'modes: for mode in &MODES {
+        command = command.subcommand(mode_command(alloc, *mode)?)?;
+    }
+    Ok(command)
 }

@@ -1,5 +1,6 @@
 //! From the words of a command line to a plan.
-ghost use Rattle.std.specs.Prelude.{◌≡◌, IfOk, IfErr, map, drop, string_bytes};
+ghost use Rattle.std.specs.Prelude.{◌≡◌, IfOk, IfErr, map, drop, find, string_bytes};
+ghost use Rattle.std.specs.Str.{bytes_eq};
 ghost use Rattle.std.specs.Option.{option_map};
 ghost use Rattle.clap.specs.Words.{subcommand_of, rows_of, found_of, first_of, kind_of};
 ghost use Rattle.clap.specs.declared.error.kind.ErrorKind.TheVariants.{InvalidValue, OutOfMemory};
@@ -7,12 +8,12 @@ ghost use Rattle.gt_commands.specs.Files.{names_of};
 ghost use Rattle.gt_commands.specs.Usage.{is_true};
 ghost use Rattle.gt_commands.specs.Commands.{request_in_words, asked_by_some, asked_named, check_with, entries_with};
 ghost use Rattle.gt_commands.specs.Commands.{IsInvocationOf, IsPlanOf, gthost_app, list_with};
-ghost use Rattle.gt_commands.specs.Commands.{mode_of, more_files, play_with, read, run_with, why_with};
+ghost use Rattle.gt_commands.specs.Commands.{command_name, mode_of, more_files, play_with, read, run_with, why_with};
 ghost use Rattle.gt_commands.specs.declared.invocation.Mode.TheVariants as modes;
 
 use crate::exploring::{explore_with, formed_of, one_sought};
 use crate::invocation::{
-    CheckedFiles, EntriesOptions, Format, Invocation, Mode, MoreFiles, ScriptOptions,
+    CheckedFiles, EntriesOptions, Format, Invocation, MODES, Mode, MoreFiles, ScriptOptions,
 };
 use crate::line::gthost_command;
 use crate::values::{
@@ -22,29 +23,23 @@ use clap::error::ErrorKind;
 use clap::{ArgMatches, Error};
 use std::alloc::{AllocError, Global};
 
+// Returns the first of these commands that has this name.
+fn named_among(modes: &[Mode], name: &str) -> Option<Mode>
+    ensures { result ≡ find (λ mode. bytes_eq (command_name mode) name.now) modes.now }
+{
+    'modes: for mode in modes {
+        if mode.name() == name {
+            return Some(*mode);
+        }
+    }
+    None
+}
+
 /// Returns the command of this name.
 pub fn mode_of(name: &str) -> Option<Mode>
     ensures { result ≡ mode_of name.now }
 {
-    if "play" == name {
-        Some(Mode::Play)
-    } else if "run" == name {
-        Some(Mode::Run)
-    } else if "explore" == name {
-        Some(Mode::Explore)
-    } else if "policy" == name {
-        Some(Mode::Policy)
-    } else if "rules" == name {
-        Some(Mode::Rules)
-    } else if "check" == name {
-        Some(Mode::Check)
-    } else if "why" == name {
-        Some(Mode::Why)
-    } else if "entries" == name {
-        Some(Mode::Entries)
-    } else {
-        None
-    }
+    named_among(&MODES, name)
 }
 
 // Returns the value that was given under a name.
@@ -291,20 +286,18 @@ fn value_error(alloc: Global, usage: &str, message: &str) -> Result<Error, Error
     Ok(error)
 }
 
-// Returns the usage of the command of this name.
-fn usage_text(name: &str) -> &'static str {
-    let Some(mode) = mode_of(name) else {
-        return "gthost <COMMAND>";
-    };
+// Returns the usage of a command, or of the program.
+fn usage_text(mode: Option<Mode>) -> &'static str {
     match mode {
-        Mode::Play => "gthost play [OPTIONS] [FILE]",
-        Mode::Run => "gthost run [OPTIONS] [FILE]",
-        Mode::Explore => "gthost explore [OPTIONS] [FILE]",
-        Mode::Policy => "gthost policy [OPTIONS] [FILE]",
-        Mode::Rules => "gthost rules [OPTIONS] [RULE]",
-        Mode::Check => "gthost check [OPTIONS] [FILE]...",
-        Mode::Why => "gthost why [OPTIONS] [SOURCE] [TARGET] [PERMISSION] [FILE]",
-        Mode::Entries => "gthost entries [OPTIONS] --version <1|2> [FILE]",
+        Some(Mode::Play) => "gthost play [OPTIONS] [FILE]",
+        Some(Mode::Run) => "gthost run [OPTIONS] [FILE]",
+        Some(Mode::Explore) => "gthost explore [OPTIONS] [FILE]",
+        Some(Mode::Policy) => "gthost policy [OPTIONS] [FILE]",
+        Some(Mode::Rules) => "gthost rules [OPTIONS] [RULE]",
+        Some(Mode::Check) => "gthost check [OPTIONS] [FILE]...",
+        Some(Mode::Why) => "gthost why [OPTIONS] [SOURCE] [TARGET] [PERMISSION] [FILE]",
+        Some(Mode::Entries) => "gthost entries [OPTIONS] --version <1|2> [FILE]",
+        None => "gthost <COMMAND>",
     }
 }
 
@@ -332,48 +325,70 @@ fn refused_by_explore<'a>(matches: &ArgMatches<'a>) -> (&'static str, Option<&'a
     }
 }
 
-// Returns what the option takes whose value the command of this name refuses, and the value.
-fn refused_value<'a>(name: &str, matches: &ArgMatches<'a>) -> (&'static str, Option<&'a str>) {
-    let version = value_of(matches, "version");
-    let script = value_of(matches, "script");
-    if name == "explore" {
-        refused_by_explore(matches)
-    } else if name == "entries" && version_of(version).is_none() {
-        ("--version takes 1 or 2", version)
-    } else if name == "entries" && script_of(script).is_none() {
-        ("--script takes the number of a domain, below 65536", script)
-    } else if name == "check" && is_set(matches, "script") && value_of(matches, "never").is_some() {
+// Returns what `--format` takes, and its value.
+fn refused_format<'a>(matches: &ArgMatches<'a>) -> (&'static str, Option<&'a str>) {
+    ("--format takes text or json", value_of(matches, "format"))
+}
+
+// Returns what the option of `check` takes whose value is refused, and the value.
+fn refused_by_check<'a>(matches: &ArgMatches<'a>) -> (&'static str, Option<&'a str>) {
+    if is_set(matches, "script") && value_of(matches, "never").is_some() {
         ("only one of --script and --never can be given", None)
-    } else if name == "why" {
-        (
-            "why takes SOURCE, TARGET and PERMISSION, or one FILE and questions on standard input",
-            None,
-        )
     } else {
-        ("--format takes text or json", value_of(matches, "format"))
+        refused_format(matches)
     }
 }
 
-// Makes the message for a value that the command of this name refuses.
+// Returns what the option of `entries` takes whose value is refused, and the value.
+fn refused_by_entries<'a>(matches: &ArgMatches<'a>) -> (&'static str, Option<&'a str>) {
+    let version = value_of(matches, "version");
+    let script = value_of(matches, "script");
+    if version_of(version).is_none() {
+        ("--version takes 1 or 2", version)
+    } else if script_of(script).is_none() {
+        ("--script takes the number of a domain, below 65536", script)
+    } else {
+        refused_format(matches)
+    }
+}
+
+// Returns what the option takes whose value a command refuses, and the value.
+fn refused_value<'a>(
+    mode: Option<Mode>,
+    matches: &ArgMatches<'a>,
+) -> (&'static str, Option<&'a str>) {
+    match mode {
+        Some(Mode::Explore) => refused_by_explore(matches),
+        Some(Mode::Check) => refused_by_check(matches),
+        Some(Mode::Entries) => refused_by_entries(matches),
+        Some(Mode::Why) => (
+            "why takes SOURCE, TARGET and PERMISSION, or one FILE and questions on standard input",
+            None,
+        ),
+        _ => refused_format(matches),
+    }
+}
+
+// Makes the message for a value that a command refuses.
 fn value_message(
     alloc: Global,
-    name: &str,
+    mode: Option<Mode>,
     matches: &ArgMatches<'_>,
 ) -> Result<String, AllocError> {
-    let (takes, value) = refused_value(name, matches);
+    let (takes, value) = refused_value(mode, matches);
     match value {
         Some(value) => format!(in alloc; "{takes}, not '{value}'"),
         None => String::from_str(alloc, takes),
     }
 }
 
-// Makes the error for a value that the command of this name refuses.
-fn refusal(alloc: Global, name: &str, matches: &ArgMatches<'_>) -> Result<Error, Error>
+// Makes the error for a value that a command refuses.
+fn refusal(alloc: Global, mode: Option<Mode>, matches: &ArgMatches<'_>) -> Result<Error, Error>
     ensures ok { IfOk result (λ e. kind_of e ≡ InvalidValue) }
     ensures memory { IfErr result (λ e. kind_of e ≡ OutOfMemory) }
 {
-    let message = value_message(alloc, name, matches)?;
-    value_error(alloc, usage_text(name), message.as_str())
+    let message = value_message(alloc, mode, matches)?;
+    value_error(alloc, usage_text(mode), message.as_str())
 }
 
 // Returns what the command of this name asks for, or the error for a value that it does not take.
@@ -383,7 +398,7 @@ fn planned<'a>(alloc: Global, name: &str, matches: &ArgMatches<'a>) -> Result<In
 {
     match named(name, matches) {
         Some(invocation) => Ok(invocation),
-        None => match refusal(alloc, name, matches) {
+        None => match refusal(alloc, mode_of(name), matches) {
             Ok(error) => Err(error),
             Err(error) => Err(error),
         },

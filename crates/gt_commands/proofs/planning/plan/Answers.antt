@@ -1,6 +1,6 @@
 use Rattle.std.proofs.Common.{◌≡◌, ◌∙◌, ap, subst, sym, map, drop, List, [], true}
 use Rattle.std.specs.Prelude.{string_bytes}
-use Rattle.clap.specs.Kinds.{HasKind, Kinds}
+use Rattle.clap.specs.Kinds.{HasKind}
 use Rattle.clap.specs.Faults.{fault_of, is_simple_and_free}
 use Rattle.clap.specs.Words.{Text, App, app_of, found_of, is_simple, rows_of, subcommand_of, subcommand_rows_of}
 use Rattle.clap.specs.declared.error.Error.{Error}
