@@ -1,4 +1,7 @@
 //! A domain's own list of records.
+ghost use Rattle.std.specs.Prelude.{◌≡◌};
+ghost use Rattle.gt_audit.specs.Telling.{one_more_lost};
+
 use crate::pieces::Pieces;
 use crate::record::Record;
 use gt_types::Memory;
@@ -30,6 +33,14 @@ impl Model for Trail {
     } };
 
     ghost invariant = { λ t. t.len ≡ length t.pieces.records };
+}
+
+// Returns one more. The count stops at `u64::MAX`. A saturating sum would take two more instructions.
+#[inline(always)]
+fn one_more_lost(lost: u64) -> u64
+    ensures { result ≡ one_more_lost lost }
+{
+    if lost < u64::MAX { lost + 1 } else { lost }
 }
 
 impl Trail {
@@ -83,7 +94,7 @@ impl Trail {
         ensures { Tells self.old told self.new }
     {
         if self.len >= self.most || self.pieces.push(told).is_err() {
-            self.lost = self.lost.saturating_add(1);
+            self.lost = one_more_lost(self.lost);
         } else {
             self.len += 1;
         }

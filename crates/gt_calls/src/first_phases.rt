@@ -9,7 +9,7 @@ ghost use Rattle.gt_calls.specs.Machine.{load_phase, store_phase, after_store, u
 
 use crate::action::{CallResult, CallValue, Step};
 use crate::call::{HeaderQuery, Phase};
-use crate::copying::{PinPurpose, at_source, leg_to};
+use crate::copying::{EntryUse, PinPurpose, at_source, leg_to};
 use crate::held::{AccessPath, CallPins, HeldPin, NO_PINS};
 use crate::judging::{map_dir, own_entry, resolve};
 use crate::known::CallerState;
@@ -56,8 +56,12 @@ pub fn map_leg<P: Allows>(
 ) -> Leg
     ensures { result ≡ map_leg (knows P.may known.now) caller dom gref flags }
 {
-    let range = Range { off: 0, len: 0 };
-    leg_to(known, caller, dom, gref, map_dir(flags), Use::Map, range)
+    let wanted = EntryUse {
+        dir: map_dir(flags),
+        purpose: Use::Map,
+        range: Range { off: 0, len: 0 },
+    };
+    leg_to(known, caller, dom, gref, wanted)
 }
 
 fn idle_word<P: Allows>(known: &CallerState<'_, P>, gref: GrantRef) -> u64

@@ -17,6 +17,7 @@ pub mod Stepping
 pub mod OwnChanges
 pub mod AtOnce
 pub mod Told
+pub mod Positions
 pub mod Questions
 pub mod Legs
 pub mod Tries

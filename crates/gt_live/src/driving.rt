@@ -204,18 +204,26 @@ pub(crate) struct MapArgs {
     pub flags: u32,
 }
 
-// Drives a map to its end, by this leg, and returns the pin that it took, or its refusal. Requires that it is not decided at its
-// beginning.
+/// A leg, and the position of its domain.
+#[derive(Clone, Copy)]
+pub(crate) struct PlacedLeg {
+    pub leg: Leg,
+    pub at: usize,
+}
+
+// Drives a map to its end, by this leg, and returns the pin that it took, or its refusal. Requires that it is not decided
+// at its beginning.
 pub(crate) fn drive_map<P: Allows>(
     words: &Words,
     known: &CallerState<'_, P>,
     seat: &mut Seat,
     caller: DomId,
     map: MapArgs,
-    leg: &Leg,
+    placed: &PlacedLeg,
 ) -> Result<HeldPin, Denial>
     requires seat { IsSeatOf words.now seat.old }
-    requires leg { leg.now ≡ map_leg (knows P.may known.now) caller map.dom map.gref map.flags }
+    requires leg { placed.now.leg ≡ map_leg (knows P.may known.now) caller map.dom map.gref map.flags }
+    requires place { placed.now.at ≡ position_at words.now placed.now.leg.dom }
     requires unanswered { map_begun (knows P.may known.now) caller map.dom map.flags ≡ None }
     requires knows { Knows (knows P.may known.now) words.now.layout caller seat.old.view }
     ensures seat { IsSameSeat seat.old seat.new }
@@ -226,5 +234,5 @@ pub(crate) fn drive_map<P: Allows>(
         seat.old.view seat.new.view (pin_effect result) }
 {
     every_call_goes_on_by_its_phase();
-    walk_leg(words, seat, leg)
+    walk_leg_at(words, seat, &placed.leg, placed.at)
 }

@@ -1,12 +1,14 @@
 -- What an access to a frame, and a step on a flag, leave of what its seat knew.
 use Rattle.std.proofs.Common.{◌≡◌, ℕ, ◌<◌, Bool, true, false, [], ◌∷◌, refl, sym, ap, subst, arith}
-use Rattle.std.specs.Prelude.{MatchBool, Result, Ok, Err, OnOk, OnErr}
+use Rattle.std.specs.Prelude.{MatchBool}
 use Rattle.gt_frames.specs.declared.writ.Writ.{Writ}
 use Rattle.gt_types.specs.declared.Range.{Range}
 use Rattle.gt_shared_table.specs.Accesses.{TakesAccess, TakesCopy, TakesFlagStep}
 use Rattle.gt_shared_table.specs.Rule.{FrameAt}
+use Rattle.gt_shared_table.specs.Words.{HasFrame, named_at}
+use Rattle.gt_shared_table.specs.declared.table.FrameIndex.{FrameIndex}
 use Rattle.gt_word_history.specs.History.{Layout, StepHistory}
-use Rattle.gt_word_history.specs.Places.{IsSamePlace, SeatAt}
+use Rattle.gt_word_history.specs.Places.{Board, IsSamePlace, SeatAt}
 use Rattle.gt_word_history.specs.Views.{own_header, with_step}
 use Rattle.gt_word_history.specs.declared.view.FlagStep.{FlagStep}
 use Rattle.gt_word_history.specs.declared.view.FlagStep.TheVariants.{Passed}
@@ -78,27 +80,18 @@ pub passed_header : (b : Bool) (k : Layout) (f : ℕ) (v w : View) → MatchBool
 passed_header true k f v w m = ap own_header m.1
 passed_header false k f v w m = ap own_header m
 
-module _ {A E : Type 0} where
-  pub place_by : (result : Result A E) (k : Layout) (n : FrameAt) (m : FrameStep) (s t : SeatAt) → t.table ≡ s.table → OnOk result (TakesAccess k n m s.view t.view) → OnErr result (t.view ≡ s.view) → IsSamePlace s t
-  place_by (Ok r) k n m s t table ok err = same_place s t ok.0 (Frame n.0 n.1 m) table ok.1
-  place_by (Err e) k n m s t table ok err = still_place s t table err
+-- the same in the words, the frame and the view that a call names
+pub accessed_at : (b b' : Board) (f f' : FrameIndex) (m : FrameStep) (v v' w : View) → b' ≡ b → f' ≡ f → v' ≡ v → HasFrame b f' → TakesAccess b'.layout (named_at f') m v' w → AccessesFrame b.layout f.position f.number m v w
+accessed_at b b' f f' m v v' w same frame view has a =
+    subst (λ (x : View). AccessesFrame b.layout f.position f.number m x w) view
+    (subst (λ (x : FrameIndex). AccessesFrame b.layout x.position x.number m v' w) frame
+    (accesses b.layout (named_at f') m v' w has.0 (subst (λ (x : Board). TakesAccess x.layout (named_at f') m v' w) same a)))
 
-  pub header_by : (result : Result A E) (k : Layout) (n : FrameAt) (m : FrameStep) (v w : View) → OnOk result (TakesAccess k n m v w) → OnErr result (w ≡ v) → own_header w ≡ own_header v
-  header_by (Ok r) k n m v w ok err = ap own_header ok.1
-  header_by (Err e) k n m v w ok err = ap own_header err
-
-  pub step_by : (result : Result A E) (k : Layout) (n : FrameAt) (m : FrameStep) (v w : View) → n.0 < k.domains → OnOk result (TakesAccess k n m v w) → OnOk result (AccessesFrame k n.0 n.1 m v w)
-  step_by (Ok r) k n m v w l ok = accesses k n m v w l ok
-  step_by (Err e) k n m v w l ok = ok
-
-  pub place_by_copy : (result : Result A E) (k : Layout) (a b : FrameAt) (w : Writ) (range : Range) (to_off : ℕ) (s t : SeatAt) → t.table ≡ s.table → OnOk result (TakesCopy k a b w range to_off s.view t.view) → OnErr result (t.view ≡ s.view) → IsSamePlace s t
-  place_by_copy (Ok r) k a b w range to_off s t table ok err = same_place s t ok.2.0 _ table ok.2.1
-  place_by_copy (Err e) k a b w range to_off s t table ok err = still_place s t table err
-
-  pub header_by_copy : (result : Result A E) (k : Layout) (a b : FrameAt) (w : Writ) (range : Range) (to_off : ℕ) (u v : View) → OnOk result (TakesCopy k a b w range to_off u v) → OnErr result (v ≡ u) → own_header v ≡ own_header u
-  header_by_copy (Ok r) k a b w range to_off u v ok err = ap own_header ok.2.1
-  header_by_copy (Err e) k a b w range to_off u v ok err = ap own_header err
-
-  pub step_by_copy : (result : Result A E) (k : Layout) (a b : FrameAt) (w : Writ) (range : Range) (to_off : ℕ) (u v : View) → a.0 < k.domains → b.0 < k.domains → OnOk result (TakesCopy k a b w range to_off u v) → OnOk result (CopiesAt k a b w range to_off u v)
-  step_by_copy (Ok r) k a b w range to_off u v l n ok = copies k a b w range to_off u v l n ok
-  step_by_copy (Err e) k a b w range to_off u v l n ok = ok
+pub copied_at : (b b' : Board) (f f' g g' : FrameIndex) (t : Writ) (range : Range) (to_off : ℕ) (u u' v : View) → b' ≡ b → f' ≡ f → g' ≡ g → u' ≡ u → HasFrame b f' → HasFrame b g'
+    → TakesCopy b'.layout (named_at f') (named_at g') t range to_off u' v → CopiesAt b.layout (named_at f) (named_at g) t range to_off u v
+copied_at b b' f f' g g' t range to_off u u' v same from to view has_from has_to a =
+    subst (λ (x : View). CopiesAt b.layout (named_at f) (named_at g) t range to_off x v) view
+    (subst (λ (x : FrameIndex). CopiesAt b.layout (named_at x) (named_at g) t range to_off u' v) from
+    (subst (λ (x : FrameIndex). CopiesAt b.layout (named_at f') (named_at x) t range to_off u' v) to
+    (copies b.layout (named_at f') (named_at g') t range to_off u' v has_from.0 has_to.0
+    (subst (λ (x : Board). TakesCopy x.layout (named_at f') (named_at g') t range to_off u' v) same a))))

@@ -1,13 +1,14 @@
 //! Steps on the words of a domain whose position is known. Several of them look the domain up only once.
 ghost use Rattle.std.specs.Prelude.{◌≡◌, MatchResult};
 ghost use Rattle.gt_word_history.specs.Views.{last_of};
-ghost use Rattle.gt_words.specs.Conditions.{CanPin, CountsPins, HasDomain, IsEntryOf, IsSameSeat, IsSeatOf, IsWordOf};
-ghost use Rattle.gt_words.specs.Conditions.{position_at};
-ghost use Rattle.gt_words.specs.Answers.{LooksAtBody, LooksAtControl, LooksAtHeader, MissesPin, Pins};
+ghost use Rattle.gt_word_history.specs.Controls.{generation_of};
+ghost use Rattle.gt_words.specs.Conditions.{CanPin, CountsPins, HasDomain, Holds, IsEntryOf, IsSameSeat, IsSeatOf};
+ghost use Rattle.gt_words.specs.Conditions.{IsWordOf, position_at};
+ghost use Rattle.gt_words.specs.Answers.{LooksAtBody, LooksAtControl, LooksAtHeader, MissesPin, Pins, UnpinsPin};
 
 use crate::calls;
-use crate::words::{Seat, Words};
-use gt_entry::BodyWord;
+use crate::words::{Pin, Seat, Words};
+use gt_entry::{BodyWord, Control};
 use gt_types::{Dir, DomId, GrantRef};
 use gt_word_history::EntryAt;
 
@@ -100,5 +101,24 @@ impl Words {
             gref: gref.0 as usize,
         };
         calls::pin(&self.words, &mut seat.place, entry, looked, dir)
+    }
+
+    /// Releases a pin like `unpin`, of an entry of a domain at its position `at`.
+    #[inline(always)]
+    pub fn unpin_at(&self, seat: &mut Seat, pin: Pin, at: usize)
+        requires seat { IsSeatOf self.now seat.old }
+        requires place { at ≡ position_at self.now pin.dom }
+        requires entry { IsEntryOf self.now pin.dom pin.gref }
+        requires held { Holds (position_at self.now pin.dom) pin.gref.0 pin.dir (generation_of pin.word) seat.old.view }
+        ensures seat { IsSameSeat seat.old seat.new }
+        ensures fits { IsSeatOf self.now seat.new }
+        ensures step { UnpinsPin self.now pin seat.old.view seat.new.view }
+    {
+        let entry = EntryAt {
+            position: at,
+            gref: pin.gref.0 as usize,
+        };
+        let generation = u64::from(Control::unpack(pin.word).generation);
+        calls::unpin(&self.words, &mut seat.place, entry, pin.dir, generation);
     }
 }

@@ -27,80 +27,6 @@ pub enum AccessFault {
     Memory,
 }
 
-// Reads a frame of the table.
-fn read_at<R: Wait>(
-    rt: &R,
-    words: &SharedTable,
-    seat: &mut TableSeat,
-    frame: FrameIndex,
-    off: u16,
-    out: &mut [u8],
-) -> Filled
-    requires table { seat.old.table ≡ words.now.table }
-    requires inside { HasFrame words.now frame }
-    requires range { off + length out.old ≤ FRAME_SIZE }
-    ensures seat { IsSamePlace seat.old seat.new }
-    ensures step { AccessesFrame words.now.layout frame.position frame.number (access.Read off result.bytes)
-        seat.old.view seat.new.view }
-    ensures filled { (out.new ≡ result.bytes) × (length result.bytes ≡ length out.old) }
-    ensures header { own_header seat.new.view ≡ own_header seat.old.view }
-    ensures receipt { IsReadIn words.now.layout (named_at frame) off result }
-{
-    words.read_frame(rt, seat, frame, off, out)
-}
-
-// Writes to a frame of the table.
-fn write_at<'a, R: Wait>(
-    rt: &R,
-    words: &SharedTable,
-    seat: &mut TableSeat,
-    frame: FrameIndex,
-    write: FrameWrite<'_, 'a>,
-) -> Result<Written<'a>, Memory>
-    requires table { seat.old.table ≡ words.now.table }
-    requires inside { HasFrame words.now frame }
-    requires range { write.off + length write.bytes.now ≤ FRAME_SIZE }
-    requires right { IsTrue (covers write.writ.now (id_at words.now.layout.ids frame.position) frame.number write.off
-        (length write.bytes.now)) }
-    ensures seat { IsSamePlace seat.old seat.new }
-    ensures step { OnOk result (AccessesFrame words.now.layout frame.position frame.number
-        (access.Wrote (record { writ = write.entry.writ.now; off = write.entry.off; bytes = write.entry.bytes.now }))
-        seat.old.view seat.new.view) }
-    ensures header { own_header seat.new.view ≡ own_header seat.old.view }
-    ensures receipt { IfOk result (λ r. r ≡ written_in words.now.layout (named_at frame)
-        write.entry.writ.now write.entry.off write.entry.bytes.now) }
-    ensures refused { OnErr result (seat.new.view ≡ seat.old.view) }
-{
-    words.write_frame(rt, seat, frame, write)
-}
-
-// Copies between frames of the table.
-fn copy_at<R: Wait>(
-    rt: &R,
-    words: &SharedTable,
-    seat: &mut TableSeat,
-    source: FrameIndex,
-    dest: FrameIndex,
-    copy: FrameCopy<'_>,
-) -> Result<Copied, Memory>
-    requires table { seat.old.table ≡ words.now.table }
-    requires source { HasFrame words.now source }
-    requires dest { HasFrame words.now dest }
-    requires ranges { (copy.range.off + copy.range.len ≤ FRAME_SIZE)
-        × (copy.to_off + copy.range.len ≤ FRAME_SIZE) }
-    requires right { IsTrue (covers copy.writ.now (id_at words.now.layout.ids dest.position) dest.number copy.to_off
-        copy.range.len) }
-    ensures seat { IsSamePlace seat.old seat.new }
-    ensures step { OnOk result (CopiesAt words.now.layout (named_at source) (named_at dest) copy.entry.writ.now
-        copy.entry.range copy.entry.to_off seat.old.view seat.new.view) }
-    ensures header { own_header seat.new.view ≡ own_header seat.old.view }
-    ensures receipt { IfOk result (λ r. r ≡ copied_in words.now.layout (named_at source) (named_at dest)
-        copy.entry.writ.now copy.entry.range copy.entry.to_off) }
-    ensures refused { OnErr result (seat.new.view ≡ seat.old.view) }
-{
-    words.copy_frames(rt, seat, source, dest, copy)
-}
-
 impl Words {
     // Finds a frame in the table.
     #[inline(always)]
@@ -144,7 +70,7 @@ impl Words {
         ensures kept { IfNone result ((out.new ≡ out.old) × (seat.new.view ≡ seat.old.view)) }
     {
         let frame = self.frame_at(seat, name)?;
-        Some(read_at(rt, &self.words, &mut seat.place, frame, off, out))
+        Some(self.words.read_frame(rt, &mut seat.place, frame, off, out))
     }
 
     /// Writes `bytes` to a frame by this writ, starting at `off`. Waits while another seat has the frame.
@@ -175,7 +101,7 @@ impl Words {
             return Err(AccessFault::Gone);
         };
         let write = FrameWrite { writ, off, bytes };
-        match write_at(rt, &self.words, &mut seat.place, frame, write) {
+        match self.words.write_frame(rt, &mut seat.place, frame, write) {
             Ok(written) => Ok(written),
             Err(Memory) => Err(AccessFault::Memory),
         }
@@ -217,7 +143,10 @@ impl Words {
             range: Range { off: from.off, len },
             to_off: to.off,
         };
-        match copy_at(rt, &self.words, &mut seat.place, source, dest, copy) {
+        match self
+            .words
+            .copy_frames(rt, &mut seat.place, source, dest, copy)
+        {
             Ok(copied) => Ok(copied),
             Err(Memory) => Err(AccessFault::Memory),
         }

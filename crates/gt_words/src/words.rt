@@ -20,7 +20,7 @@ ghost use Rattle.gt_words.specs.Answers.{Demotes, Publishes};
 
 use crate::calls;
 use crate::start::{make_without_frames, make_words};
-use gt_entry::{BodyWord, Control, Entry, EntryChange, Header};
+use gt_entry::{BodyWord, Entry, EntryChange, Header};
 use gt_roster::Positions;
 use gt_shared_table::{SharedTable, TableSeat};
 use gt_types::{Config, Dir, DomId, GrantRef, MAX_TABLE_FRAMES, Memory, StartFault, TABLE_ENTRIES};
@@ -330,12 +330,8 @@ impl Words {
         ensures fits { IsSeatOf self.now seat.new }
         ensures step { UnpinsPin self.now pin seat.old.view seat.new.view }
     {
-        let at = EntryAt {
-            position: self.position(seat, pin.dom),
-            gref: pin.gref.0 as usize,
-        };
-        let generation = u64::from(Control::unpack(pin.word).generation);
-        calls::unpin(&self.words, &mut seat.place, at, pin.dir, generation);
+        let at = self.position(seat, pin.dom);
+        self.unpin_at(seat, pin, at);
     }
 
     /// Stores a body word of the owner's invalid entry.

@@ -1,15 +1,28 @@
 //! Map and unmap.
-ghost use Rattle.gt_words.specs.Conditions.{IsSameSeat};
+ghost use Rattle.std.specs.Prelude.{◌≡◌};
+ghost use Rattle.gt_words.specs.Conditions.{IsSameSeat, position_at};
 ghost use Rattle.gt_live.specs.Walks.{Called};
 ghost use Rattle.gt_live.specs.Driving.{Leaves};
 ghost use Rattle.gt_audit.specs.Telling.{Tells};
 
 use super::{Domain, known_with, refusal_of, tell_done};
-use crate::driving::{MapArgs, drive_map, pin_of};
+use crate::driving::{MapArgs, PlacedLeg, drive_map, pin_of};
 use crate::monitor::Monitor;
 use gt_audit::{Hypercall, Record, Reply, Trail};
 use gt_calls::{CallResult, Handle, HeldPin, Leg, judge_map, judge_release, judge_unmap, map_leg};
 use gt_types::{Allows, Denial, DomId, Facts, GrantRef, Rule};
+
+// Returns the position of a domain in the run, or the number of domains if the run does not have it. The rules look the
+// domain up too, so that this look costs nothing.
+#[inline(always)]
+fn position_of<P: Allows>(monitor: &Monitor<P>, dom: DomId) -> usize
+    ensures { result ≡ position_at monitor.now.words dom }
+{
+    match monitor.config.position(dom) {
+        Some(at) => at,
+        None => monitor.config.config().domains.len(),
+    }
+}
 
 // Records a map that was Ok. The record of a refused one is made elsewhere, so that a map that is Ok makes neither it nor
 // room for it.
@@ -104,13 +117,14 @@ impl Domain {
         &mut self,
         monitor: &Monitor<P>,
         map: MapArgs,
-        leg: &Leg,
+        placed: &PlacedLeg,
     ) -> Result<HeldPin, Denial>
         requires mine { BelongsTo P.may monitor.now self.old }
         requires unanswered { map_begun (known_on P.may monitor.now self.old) self.old.seat.dom map.dom map.flags
             ≡ None }
-        requires leg { leg.now ≡ map_leg (known_on P.may monitor.now self.old) self.old.seat.dom
+        requires leg { placed.now.leg ≡ map_leg (known_on P.may monitor.now self.old) self.old.seat.dom
             map.dom map.gref map.flags }
+        requires place { placed.now.at ≡ position_at monitor.now.words placed.now.leg.dom }
         ensures kept { IsUnsettled self.old self.new }
         ensures called { Called monitor.now.words.layout
             (path (known_on P.may monitor.now self.old) self.old.seat.dom (asks.Map map.dom map.gref map.flags))
@@ -120,7 +134,7 @@ impl Domain {
     {
         let known = known_with(monitor, &self.seat, &self.own, &self.mappings);
         let caller = self.seat.dom();
-        drive_map(&monitor.words, &known, &mut self.seat, caller, map, leg)
+        drive_map(&monitor.words, &known, &mut self.seat, caller, map, placed)
     }
 
     // Maps an entry, without a record. Its leg is built before room is made, since an allocation would make it look the
@@ -144,10 +158,12 @@ impl Domain {
         }
         let map = MapArgs { dom, gref, flags };
         let leg = self.map_leg(monitor, map);
+        let at = position_of(monitor, leg.dom);
+        let placed = PlacedLeg { leg, at };
         if self.mappings.reserve().is_err() {
             return Err(Denial::new(Rule::N26, Facts::None));
         }
-        match self.drive_map(monitor, map, &leg) {
+        match self.drive_map(monitor, map, &placed) {
             Ok(held) => Ok(self.mappings.insert(held)),
             Err(denial) => Err(denial),
         }
@@ -211,6 +227,18 @@ impl Domain {
         judge_unmap(&self.known(monitor), self.label(monitor), handle)
     }
 
+    // Returns the position of the owner of the mapping under a handle.
+    #[inline(always)]
+    fn position_under<P: Allows>(&self, monitor: &Monitor<P>, handle: Handle) -> usize
+        ensures { (p : HeldPin) → value_of self.now.mappings handle ≡ Some p
+            → result ≡ position_at monitor.now.words p.dom }
+    {
+        match self.mappings.get(handle).copied() {
+            Some(held) => position_of(monitor, held.dom),
+            None => 0,
+        }
+    }
+
     // Drops the mapping that the handle names, and releases its pin.
     #[inline(always)]
     fn drop_mapping<P: Allows>(&mut self, monitor: &Monitor<P>, handle: Handle)
@@ -222,8 +250,9 @@ impl Domain {
             self.new.mappings self.new.seat.view }
         ensures silent { self.new.trail ≡ self.old.trail }
     {
+        let at = self.position_under(monitor, handle);
         let held = self.mappings.take(handle).unwrap();
-        monitor.words.unpin(&mut self.seat, pin_of(held));
+        monitor.words.unpin_at(&mut self.seat, pin_of(held), at);
     }
 
     // Unmaps a mapping, without a record.

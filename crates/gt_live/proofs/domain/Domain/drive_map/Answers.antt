@@ -45,5 +45,5 @@ pub drive_map-requires-clause-leg : goal.drive_map-requires-clause-leg
 drive_map-requires-clause-leg g c =
     let m = c.args.monitor.now in let d = c.args.self.now in let may = g.P.Allows.may m.rights in let a = c.args.map in
     let same = c.known_with-known.ensures.known d c.deref.ensures.value refl refl in
-    subst (λ (k : CallerKnowledge). c.args.leg.now ≡ map_leg k c.dom-caller.result a.dom a.gref a.flags) (sym same)
-    (subst (λ (x : DomId). c.args.leg.now ≡ map_leg (knowledge m.config may d) x a.dom a.gref a.flags) (sym c.dom-caller.ensures) c.requires.leg)
+    subst (λ (k : CallerKnowledge). c.args.placed.now.leg ≡ map_leg k c.dom-caller.result a.dom a.gref a.flags) (sym same)
+    (subst (λ (x : DomId). c.args.placed.now.leg ≡ map_leg (knowledge m.config may d) x a.dom a.gref a.flags) (sym c.dom-caller.ensures) c.requires.leg)
