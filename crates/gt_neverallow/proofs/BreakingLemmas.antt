@@ -1,10 +1,17 @@
 -- What is forbidden to types is forbidden by the names in the statements.
 use Rattle.std.proofs.Common.{◌≡◌, ℕ, Bool, true, false, ◌&&◌, ◌||◌, not, List, [], ◌∷◌, ◌++◌, map, None, refl, sym, ap, ap₂, ◌∙◌}
-use Rattle.std.specs.Prelude.{if◌then◌else◌, filter}
-use Rattle.std.specs.List.{flat_map, list_any}
+use Rattle.std.proofs.Common.{append_assoc, subst, take, get_or, length, ◌<◌, ◌+◌}
+use Rattle.std.proofs.Math.Bool.{and_assoc}
+use Rattle.std.proofs.lemmas.Bool.{true≢false}
+use Rattle.std.proofs.lemmas.List.{append-nil, take_more}
+use Rattle.std.proofs.lemmas.List.Concat.{flat_map-append}
+use Rattle.std.proofs.lemmas.List.Folds.{list_any_at}
+use Rattle.std.proofs.lemmas.Slice.Eq.{bytes_eq-Decides}
+use Rattle.std.specs.Prelude.{if◌then◌else◌, filter, Contains}
+use Rattle.std.specs.List.{flat_map, list_any, AllZip}
 use Rattle.std.specs.Str.{bytes_eq}
 use Rattle.gt_types.specs.Names.{every_permission, permission_name}
-use Rattle.gt_policy.specs.Granting.{lists_word, set_holds, statement_grants}
+use Rattle.gt_policy.specs.Granting.{lists_word, statement_grants}
 use Rattle.gt_policy.specs.Lined.{statements_in}
 use Rattle.gt_policy.specs.Resolving.{has_grant}
 use Rattle.gt_policy.specs.Spelling.{types_in}
@@ -19,8 +26,10 @@ use Rattle.gt_policy_check.specs.Why.{types_asked}
 use Rattle.gt_policy_check.specs.declared.members.Member.{Member}
 use Rattle.gt_policy_check.proofs.CheckLemmas.{filter_all}
 use Rattle.gt_policy_check.proofs.GrantLemmas.{any_and, any_asked, any_never, any_same, by_names, held}
-use Rattle.gt_neverallow.specs.Breaking.{breaks, breaks_by, breaks_on, breaks_some, breaks_with, broken, broken_by}
-use Rattle.gt_neverallow.specs.Breaking.{chooses_self, chosen_by, forbids, forbids_source, forbids_target, is_chosen, lines_if}
+use Rattle.gt_neverallow.specs.Breaking.{breaks, breaks_by, breaks_some, breaks_with, broken, broken_by, example_text}
+use Rattle.gt_neverallow.specs.Breaking.{chooses_self, chosen_by, forbids, forbids_source, forbids_target, is_chosen, is_example}
+use Rattle.gt_neverallow.specs.Breaking.{pairs_if, shows_by, shows_some, shows_with, Adds, AreBroken, IsBreach, IsBrokenOn, Shows}
+use Rattle.gt_neverallow.specs.declared.breaking.Breach.{Breach}
 use Rattle.gt_neverallow.specs.declared.statement.Neverallow.{Neverallow}
 use Rattle.gt_neverallow.specs.declared.statement.TypeChoice.{TypeChoice}
 use Rattle.gt_neverallow.specs.declared.statement.TypeChoice.TheVariants.{But, Every, Of}
@@ -52,14 +61,22 @@ module _ (xs : List LinedStatement) (w : List ℕ) (n : Neverallow) where
   no_breach : (ts us : List (List ℕ)) → false ≡ list_any (λ s. list_any (λ t. false) us) ts
   no_breach ts us = sym (any_never (λ s. list_any (λ t. false) us) (λ s. any_never (λ t. false) (λ t. refl) us) ts)
 
+  abbrev sees : Allowance → List ℕ → Bool
+  sees a s = gives_source w (membership_of xs s) a && forbids_source w (membership_of xs s) n
+
+  abbrev meets : Allowance → List ℕ → List ℕ → Bool
+  meets a s t = reaches_by (membership_of xs s) (membership_of xs t) a && forbids_target (membership_of xs s) (membership_of xs t) n
+
+  by_target : (a : Allowance) (s t : List ℕ) → (sees a s && meets a s t) ≡ Breaks (Allow a) s t
+  by_target a s t =
+      regroup (gives_source w (membership_of xs s) a) (forbids_source w (membership_of xs s) n) (reaches_by (membership_of xs s) (membership_of xs t) a) (forbids_target (membership_of xs s) (membership_of xs t) n)
+      ∙ ap₂ (λ (u v : Bool). u && v) (by_names xs w s t a) (forbidden xs w s t n)
+
   by_source : (a : Allowance) (s : List ℕ) → breaks_by w (members_of xs None) n a (membership_of xs s) ≡ list_any (λ t. Breaks (Allow a) s t) types
   by_source a s =
-      ap (λ (v : Bool). (gives_source w (membership_of xs s) a && forbids_source w (membership_of xs s) n) && v)
-      (any_asked xs None (λ t. reaches_by (membership_of xs s) t a && forbids_target (membership_of xs s) t n))
-      ∙ sym (any_and (gives_source w (membership_of xs s) a && forbids_source w (membership_of xs s) n) (λ t. reaches_by (membership_of xs s) (membership_of xs t) a && forbids_target (membership_of xs s) (membership_of xs t) n) types)
-      ∙ any_same (λ t. (gives_source w (membership_of xs s) a && forbids_source w (membership_of xs s) n) && (reaches_by (membership_of xs s) (membership_of xs t) a && forbids_target (membership_of xs s) (membership_of xs t) n)) (λ t. Breaks (Allow a) s t)
-      (λ t. regroup (gives_source w (membership_of xs s) a) (forbids_source w (membership_of xs s) n) (reaches_by (membership_of xs s) (membership_of xs t) a) (forbids_target (membership_of xs s) (membership_of xs t) n)
-      ∙ ap₂ (λ (u v : Bool). u && v) (by_names xs w s t a) (forbidden xs w s t n)) types
+      ap (λ (v : Bool). sees a s && v) (any_asked xs None (λ t. reaches_by (membership_of xs s) t a && forbids_target (membership_of xs s) t n))
+      ∙ sym (any_and (sees a s) (λ t. meets a s t) types)
+      ∙ any_same (λ t. sees a s && meets a s t) (λ t. Breaks (Allow a) s t) (by_target a s) types
 
   breaks_asked : (x : Statement) → breaks_some w (members_of xs None) n x ≡ list_any (λ s. list_any (λ t. Breaks x s t) types) types
   breaks_asked (DeclareType v ms) = no_breach types types
@@ -73,26 +90,122 @@ module _ (xs : List LinedStatement) (w : List ℕ) (n : Neverallow) where
       ≡ list_any (λ s. list_any (λ t. Breaks x s t) (types_in (statements_in xs))) (types_in (statements_in xs))
   breaks_named x = breaks_asked x ∙ ap (λ (ts : List (List ℕ)). list_any (λ s. list_any (λ t. Breaks x s t) ts) ts) (filter_all (statements_in xs) (types_in (statements_in xs)))
 
+  module _ (text : List ℕ) where
+    abbrev Names : Statement → List ℕ → List ℕ → Bool
+    Names x s t = Breaks x s t && bytes_eq text (example_text s w t)
+
+    named_by : (a : Allowance) (s t : List ℕ) → (sees a s && (meets a s t && bytes_eq text (example_text s w t))) ≡ Names (Allow a) s t
+    named_by a s t =
+        sym (and_assoc (sees a s) (meets a s t) (bytes_eq text (example_text s w t)))
+        ∙ ap (λ (v : Bool). v && bytes_eq text (example_text s w t)) (by_target a s t)
+
+    shown_source : (a : Allowance) (s : List ℕ) → shows_by text w (members_of xs None) n a (membership_of xs s) ≡ list_any (λ t. Names (Allow a) s t) types
+    shown_source a s =
+        ap (λ (v : Bool). sees a s && v) (any_asked xs None (λ t. (reaches_by (membership_of xs s) t a && forbids_target (membership_of xs s) t n) && bytes_eq text (example_text s w t.name)))
+        ∙ sym (any_and (sees a s) (λ t. meets a s t && bytes_eq text (example_text s w t)) types)
+        ∙ any_same (λ t. sees a s && (meets a s t && bytes_eq text (example_text s w t))) (λ t. Names (Allow a) s t) (named_by a s) types
+
+    shown_asked : (x : Statement) → shows_some text w (members_of xs None) n x ≡ list_any (λ s. list_any (λ t. Names x s t) types) types
+    shown_asked (DeclareType v ms) = no_breach types types
+    shown_asked (DeclareAttribute v) = no_breach types types
+    shown_asked (GiveAttributes m ms) = no_breach types types
+    shown_asked (Allow a) =
+        any_asked xs None (λ s. shows_by text w (members_of xs None) n a s)
+        ∙ any_same (λ s. shows_by text w (members_of xs None) n a (membership_of xs s)) (λ s. list_any (λ t. Names (Allow a) s t) types) (λ s. shown_source a s) types
+
+    shown_named : (x : Statement) → shows_some text w (members_of xs None) n x
+        ≡ list_any (λ s. list_any (λ t. Names x s t) (types_in (statements_in xs))) (types_in (statements_in xs))
+    shown_named x = shown_asked x ∙ ap (λ (ts : List (List ℕ)). list_any (λ s. list_any (λ t. Names x s t) ts) ts) (filter_all (statements_in xs) (types_in (statements_in xs)))
+
 breaks_same : (xs : List LinedStatement) (n : Neverallow) (x : Statement) → breaks_with (members_of xs None) n x ≡ breaks xs n x
 breaks_same xs n x =
     any_same (λ p. breaks_some (permission_name p) (members_of xs None) n x)
     (λ p. list_any (λ s. list_any (λ t. statement_grants (statements_in xs) s t (permission_name p) x && forbids (statements_in xs) s t (permission_name p) n) (types_in (statements_in xs))) (types_in (statements_in xs)))
     (λ p. breaks_named xs (permission_name p) n x) every_permission
 
--- their lines
-one_pair : (b : Bool) (x : LinedStatement) (n : Neverallow) (ns : List Neverallow) → (lines_if b x n ++ map (λ m. (x.line, m.line)) ns) ≡ map (λ m. (x.line, m.line)) (if b then n ∷ ns else ns)
+shown_same : (xs : List LinedStatement) (n : Neverallow) (x : Statement) (text : List ℕ) → shows_with text (members_of xs None) n x ≡ is_example xs n x text
+shown_same xs n x text =
+    any_same (λ p. shows_some text (permission_name p) (members_of xs None) n x)
+    (λ p. list_any (λ s. list_any (λ t. (statement_grants (statements_in xs) s t (permission_name p) x && forbids (statements_in xs) s t (permission_name p) n) && bytes_eq text (example_text s (permission_name p) t)) (types_in (statements_in xs))) (types_in (statements_in xs)))
+    (λ p. shown_named xs (permission_name p) n text x) every_permission
+
+-- the pairs of statements
+one_pair : (b : Bool) (x : LinedStatement) (n : Neverallow) (ns : List Neverallow) → (pairs_if b x n ++ map (λ m. (x, m)) ns) ≡ map (λ m. (x, m)) (if b then n ∷ ns else ns)
 one_pair true x n ns = refl
 one_pair false x n ns = refl
 
-one_broken : (xs : List LinedStatement) (ns : List Neverallow) (x : LinedStatement) → broken_by (members_of xs None) ns x ≡ map (λ n. (x.line, n.line)) (filter (λ n. breaks xs n x.statement) ns)
+one_broken : (xs : List LinedStatement) (ns : List Neverallow) (x : LinedStatement) → broken_by (members_of xs None) ns x ≡ map (λ n. (x, n)) (filter (λ n. breaks xs n x.statement) ns)
 one_broken xs [] x = refl
 one_broken xs (n ∷ ns) x =
-    ap₂ (λ (b : Bool) (l : List (ℕ × ℕ)). lines_if b x n ++ l) (breaks_same xs n x.statement) (one_broken xs ns x)
+    ap₂ (λ (b : Bool) (l : List (LinedStatement × Neverallow)). pairs_if b x n ++ l) (breaks_same xs n x.statement) (one_broken xs ns x)
     ∙ one_pair (breaks xs n x.statement) x n (filter (λ m. breaks xs m x.statement) ns)
 
-all_same : (all : List LinedStatement) (ns : List Neverallow) (xs : List LinedStatement) → flat_map (λ x. broken_by (members_of all None) ns x) xs ≡ flat_map (λ x. map (λ n. (x.line, n.line)) (filter (λ n. breaks all n x.statement) ns)) xs
+all_same : (all : List LinedStatement) (ns : List Neverallow) (xs : List LinedStatement) → flat_map (λ x. broken_by (members_of all None) ns x) xs ≡ flat_map (λ x. map (λ n. (x, n)) (filter (λ n. breaks all n x.statement) ns)) xs
 all_same all ns [] = refl
-all_same all ns (x ∷ xs) = ap₂ (λ (k l : List (ℕ × ℕ)). k ++ l) (one_broken all ns x) (all_same all ns xs)
+all_same all ns (x ∷ xs) = ap₂ (λ (k l : List (LinedStatement × Neverallow)). k ++ l) (one_broken all ns x) (all_same all ns xs)
 
-pub broken_of : (xs : List LinedStatement) (ns : List Neverallow) (ms : List Member) (found : List (ℕ × ℕ)) → ms ≡ members_of xs None → found ≡ flat_map (λ x. broken_by ms ns x) xs → found ≡ broken xs ns
-broken_of xs ns ms found s e = e ∙ ap (λ (m : List Member). flat_map (λ x. broken_by m ns x) xs) s ∙ all_same xs ns xs
+-- the breaches of pairs of statements
+all_shown : (xs : List LinedStatement) (pairs : List (LinedStatement × Neverallow)) (found : List Breach) → AllZip (Shows (members_of xs None)) pairs found → AllZip (IsBreach xs) pairs found
+all_shown xs [] [] shown = shown
+all_shown xs [] (b ∷ found) shown = shown
+all_shown xs (p ∷ pairs) [] shown = shown
+all_shown xs (p ∷ pairs) (b ∷ found) ((one, other, names), shown) =
+    ((one, other, sym (shown_same xs p.1 p.0.statement b.example.items) ∙ names), all_shown xs pairs found shown)
+
+pub broken_of : (xs : List LinedStatement) (ns : List Neverallow) (ms : List Member) (found : List Breach) → ms ≡ members_of xs None → Adds ms (flat_map (λ x. broken_by ms ns x) xs) [] found → AreBroken xs ns found
+broken_of xs ns ms found same adds = of_members (subst (λ (m : List Member). Adds m (flat_map (λ x. broken_by m ns x) xs) [] found) same adds)
+  where
+    of_members : Adds (members_of xs None) (flat_map (λ x. broken_by (members_of xs None) ns x) xs) [] found → AreBroken xs ns found
+    of_members (more, is, shown) =
+        subst (λ (l : List Breach). AllZip (IsBreach xs) (broken xs ns) l) (sym is)
+        (subst (λ (ps : List (LinedStatement × Neverallow)). AllZip (IsBreach xs) ps more) (all_same xs ns xs) (all_shown xs (flat_map (λ x. broken_by (members_of xs None) ns x) xs) more shown))
+
+-- the items of one more element
+one_more : {X Y : Type 0} (f : X → List Y) (xs : List X) (i : ℕ) (x : X) → i < length xs → x ≡ get_or xs i x → flat_map f (take (i + 1) xs) ≡ flat_map f (take i xs) ++ f x
+one_more f xs i x within is =
+    ap (λ (l : List _). flat_map f l) (take_more xs i x within ∙ ap (λ (y : _). take i xs ++ y ∷ []) (sym is))
+    ∙ flat_map-append f (take i xs) (x ∷ []) ∙ ap (λ (l : List _). flat_map f (take i xs) ++ l) (append-nil (f x))
+
+-- breaches are added one after the other
+zip_both : {A B : Type 0} (R : A → B → Type 0) (xs us : List A) (ys vs : List B) → AllZip R xs ys → AllZip R us vs → AllZip R (xs ++ us) (ys ++ vs)
+zip_both R [] us [] vs none zipped = zipped
+zip_both R [] us (y ∷ ys) vs none zipped = absurd none
+zip_both R (x ∷ xs) us [] vs none zipped = absurd none
+zip_both R (x ∷ xs) us (y ∷ ys) vs (first, more) zipped = (first, zip_both R xs us ys vs more zipped)
+
+pub adds_none : (ms : List Member) (old new : List Breach) → new ≡ old → Adds ms [] old new
+adds_none ms old new same = ([], same ∙ sym (append-nil old), tt)
+
+pub adds_one : (ms : List Member) (x : LinedStatement) (n : Neverallow) (b : Bool) (one : Breach) (old new : List Breach) → b ≡ true → new ≡ old ++ one ∷ [] → Shows ms (x, n) one → Adds ms (pairs_if b x n) old new
+adds_one ms x n true one old new breaks is shows = (one ∷ [], is, (shows, tt))
+adds_one ms x n false one old new breaks is shows = absurd (true≢false (sym breaks))
+
+pub adds_nothing : (ms : List Member) (x : LinedStatement) (n : Neverallow) (b : Bool) (old new : List Breach) → b ≡ false → new ≡ old → Adds ms (pairs_if b x n) old new
+adds_nothing ms x n false old new breaks same = adds_none ms old new same
+adds_nothing ms x n true old new breaks same = absurd (true≢false breaks)
+
+pub adds_both : (ms : List Member) (ps qs all : List (LinedStatement × Neverallow)) (old mid new : List Breach) → all ≡ ps ++ qs → Adds ms ps old mid → Adds ms qs mid new → Adds ms all old new
+adds_both ms ps qs all old mid new is (xs, first, shown) (ys, second, told) =
+    (xs ++ ys, second ∙ ap (λ (l : List Breach). l ++ ys) first ∙ append_assoc old xs ys, subst (λ (l : List (LinedStatement × Neverallow)). AllZip (Shows ms) l (xs ++ ys)) (sym is) (zip_both (Shows ms) ps qs xs ys shown told))
+
+-- ---- an example
+
+-- one element that passes a test
+pub any_contained : {X : Type 0} (f : X → Bool) (xs : List X) (x : X) → Contains xs x → f x ≡ true → list_any f xs ≡ true
+any_contained f xs x (k, within, is) passes = list_any_at f xs k x within (subst (λ (y : _). f y ≡ true) (sym is) passes)
+
+both_true : (a b : Bool) → a ≡ true → b ≡ true → (a && b) ≡ true
+both_true true b one other = other
+both_true false b one other = one
+
+-- the names of a source, a permission and a target on which the statement is broken are an example
+pub shown_by : (text w : List ℕ) (ms : List Member) (n : Neverallow) (a : Allowance) (s t : Member) → IsBrokenOn w ms n a s t → text ≡ example_text s.name w t.name → shows_by text w ms n a s ≡ true
+shown_by text w ms n a s t (among, sees, meets) is =
+    both_true (gives_source w s a && forbids_source w s n) (list_any (λ u. (reaches_by s u a && forbids_target s u n) && bytes_eq text (example_text s.name w u.name)) ms) sees
+    (any_contained (λ u. (reaches_by s u a && forbids_target s u n) && bytes_eq text (example_text s.name w u.name)) ms t among
+    (both_true (reaches_by s t a && forbids_target s t n) (bytes_eq text (example_text s.name w t.name)) meets ((bytes_eq-Decides text (example_text s.name w t.name)).1 is)))
+
+-- breaches are added for one more item of a list
+pub adds_more : {X : Type 0} (ms : List Member) (f : X → List (LinedStatement × Neverallow)) (xs : List X) (i : ℕ) (x : X) (old mid new : List Breach) → i < length xs → x ≡ get_or xs i x → Adds ms (flat_map f (take i xs)) old mid → Adds ms (f x) mid new
+    → Adds ms (flat_map f (take (i + 1) xs)) old new
+adds_more ms f xs i x old mid new within is before added = adds_both ms (flat_map f (take i xs)) (f x) (flat_map f (take (i + 1) xs)) old mid new (one_more f xs i x within is) before added

@@ -1,5 +1,5 @@
 -- Steps of the parser of neverallow statements.
-use Rattle.std.proofs.Common.{◌≡◌, ℕ, Bool, List, [], ◌∷◌, ◌++◌, Option, None, Some, Result, Ok, Err, refl, subst}
+use Rattle.std.proofs.Common.{◌≡◌, ℕ, Bool, List, [], ◌∷◌, ◌++◌, None, Some, Result, Ok, Err, refl, subst}
 use Rattle.gt_policy.specs.Grammar.{Lexemes, LexerState, at, set_of}
 use Rattle.gt_policy_text.specs.Lexing.{behind}
 use Rattle.gt_policy_text.specs.declared.lexer.Token.{Token}

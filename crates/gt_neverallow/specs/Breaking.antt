@@ -1,7 +1,7 @@
 -- Which allow statements of a policy break which neverallow statements.
-use Rattle.std.specs.Prelude.{◌≡◌, ℕ, Bool, true, false, not, ◌&&◌, ◌||◌, List, [], ◌∷◌, map, filter, Option, Some, Ok, Err}
-use Rattle.std.specs.Prelude.{if◌then◌else◌}
-use Rattle.std.specs.List.{flat_map, list_any}
+use Rattle.std.specs.Prelude.{◌≡◌, ℕ, Bool, true, false, not, ◌&&◌, ◌||◌, List, [], ◌∷◌, ◌++◌, map, filter, Some, Ok, Err}
+use Rattle.std.specs.Prelude.{if◌then◌else◌, codes, Contains}
+use Rattle.std.specs.List.{flat_map, list_any, AllZip}
 use Rattle.std.specs.Str.{bytes_eq}
 use Rattle.gt_types.specs.Names.{every_permission, permission_name}
 use Rattle.gt_policy.specs.Allowing.{Meaning}
@@ -59,19 +59,39 @@ breaks xs n x = list_any
     && forbids (statements_in xs) s t (permission_name p) n) (types_in (statements_in xs)))
     (types_in (statements_in xs))) every_permission
 
--- the lines of each statement of the policy that breaks a neverallow statement, with the line of that one
-abbrev pub broken : List LinedStatement → List Neverallow → List (ℕ × ℕ)
-broken xs ns = flat_map (λ x. map (λ n. (x.line, n.line)) (filter (λ n. breaks xs n x.statement) ns)) xs
+-- the names in the example of a breach
+abbrev pub example_text : List ℕ → List ℕ → List ℕ → List ℕ
+example_text source permission target = source ++ codes " " ++ permission ++ codes " " ++ target
 
--- the two lines of each breach
-abbrev pub lines_of : List Breach → List (ℕ × ℕ)
-lines_of found = map (λ b. (b.allowed, b.forbidden)) found
+-- the text is an example: it names a declared source, a permission and a declared target, of which the statement grants
+-- what the neverallow statement forbids
+abbrev pub is_example : List LinedStatement → Neverallow → Statement → List ℕ → Bool
+is_example xs n x text = list_any
+    (λ p. list_any
+    (λ s. list_any
+    (λ t. (statement_grants (statements_in xs) s t (permission_name p) x
+    && forbids (statements_in xs) s t (permission_name p) n)
+    && bytes_eq text (example_text s (permission_name p) t)) (types_in (statements_in xs)))
+    (types_in (statements_in xs))) every_permission
+
+-- each statement of the policy with each neverallow statement that it breaks, in the order of the policy
+abbrev pub broken : List LinedStatement → List Neverallow → List (LinedStatement × Neverallow)
+broken xs ns = flat_map (λ x. map (λ n. (x, n)) (filter (λ n. breaks xs n x.statement) ns)) xs
+
+-- the breach has the lines of these two statements, and an example
+abbrev pub IsBreach : List LinedStatement → LinedStatement × Neverallow → Breach → Type 0
+IsBreach xs p b =
+    (b.allowed ≡ p.0.line) × (b.forbidden ≡ p.1.line) × (is_example xs p.1 p.0.statement b.example.items ≡ true)
+
+-- there is one breach for each statement that breaks a neverallow statement, and for each one that it breaks
+abbrev pub AreBroken : List LinedStatement → List Neverallow → List Breach → Type 0
+AreBroken xs ns found = AllZip (IsBreach xs) (broken xs ns) found
 
 -- the breaches of a policy by a text of neverallow statements
 abbrev pub AreBreaches : List ℕ → List ℕ → List Breach → Type 0
 AreBreaches policy never found =
     (m : Meaning) × (xs : List LinedStatement) × (ns : List Neverallow) × Says policy (Ok m) × IsLined policy xs
-    × NeverSays xs never (Ok ns) × (lines_of found ≡ broken xs ns)
+    × NeverSays xs never (Ok ns) × AreBroken xs ns found
 
 -- why there is no answer: the first fault of the policy, or of the text of neverallow statements for that policy; a
 -- fault that shows nothing is a failed allocation
@@ -111,9 +131,39 @@ breaks_some w members n (Allow a) = list_any (λ s. breaks_by w members n a s) m
 abbrev pub breaks_with : List Member → Neverallow → Statement → Bool
 breaks_with members n x = list_any (λ p. breaks_some (permission_name p) members n x) every_permission
 
--- the lines of the statement and of each neverallow statement that it breaks
-abbrev pub lines_if : Bool → LinedStatement → Neverallow → List (ℕ × ℕ)
-lines_if b x n = if b then (x.line, n.line) ∷ [] else []
+-- a target on which the statement grants the source the permission though it is forbidden
+abbrev pub IsBrokenOn : List ℕ → List Member → Neverallow → Allowance → Member → Member → Type 0
+IsBrokenOn w members n a s t =
+    Contains members t × ((gives_source w s a && forbids_source w s n) ≡ true)
+    × ((reaches_by s t a && forbids_target s t n) ≡ true)
 
-abbrev pub broken_by : List Member → List Neverallow → LinedStatement → List (ℕ × ℕ)
-broken_by members ns x = flat_map (λ n. lines_if (breaks_with members n x.statement) x n) ns
+-- the text is an example for the source and the permission
+abbrev pub shows_by : List ℕ → List ℕ → List Member → Neverallow → Allowance → Member → Bool
+shows_by text w members n a s =
+    (gives_source w s a && forbids_source w s n)
+    && list_any (λ t. (reaches_by s t a && forbids_target s t n) && bytes_eq text (example_text s.name w t.name)) members
+
+abbrev pub shows_some : List ℕ → List ℕ → List Member → Neverallow → Statement → Bool
+shows_some text w members n (DeclareType v ms) = false
+shows_some text w members n (DeclareAttribute v) = false
+shows_some text w members n (GiveAttributes m ms) = false
+shows_some text w members n (Allow a) = list_any (λ s. shows_by text w members n a s) members
+
+abbrev pub shows_with : List ℕ → List Member → Neverallow → Statement → Bool
+shows_with text members n x = list_any (λ p. shows_some text (permission_name p) members n x) every_permission
+
+-- the statement with each neverallow statement that it breaks
+abbrev pub pairs_if : Bool → LinedStatement → Neverallow → List (LinedStatement × Neverallow)
+pairs_if b x n = if b then (x, n) ∷ [] else []
+
+abbrev pub broken_by : List Member → List Neverallow → LinedStatement → List (LinedStatement × Neverallow)
+broken_by members ns x = flat_map (λ n. pairs_if (breaks_with members n x.statement) x n) ns
+
+-- the breach has the lines of these two statements, and an example
+abbrev pub Shows : List Member → LinedStatement × Neverallow → Breach → Type 0
+Shows members p b =
+    (b.allowed ≡ p.0.line) × (b.forbidden ≡ p.1.line) × (shows_with b.example.items members p.1 p.0.statement ≡ true)
+
+-- a breach is added for each of these pairs
+abbrev pub Adds : List Member → List (LinedStatement × Neverallow) → List Breach → List Breach → Type 0
+Adds members pairs old new = (more : List Breach) × (new ≡ old ++ more) × AllZip (Shows members) pairs more

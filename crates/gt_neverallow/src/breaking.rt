@@ -1,17 +1,14 @@
 //! Which allow statements of a policy break which `neverallow` statements.
-ghost use Rattle.std.specs.Prelude.{◌≡◌, ◌++◌, IfOk, IfErr, OnOk};
+ghost use Rattle.std.specs.Prelude.{[], IfOk, IfErr, OnOk};
 ghost use Rattle.std.specs.List.{flat_map};
-ghost use Rattle.gt_neverallow.specs.Breaking.{AreBreaches, IsNeverFault, broken, broken_by, lines_if, lines_of};
-ghost use Rattle.gt_neverallow.specs.Breaking.{breaks_with};
+ghost use Rattle.gt_neverallow.specs.Breaking.{Adds, AreBreaches, AreBroken, IsNeverFault, breaks_with, broken_by, pairs_if};
 
+use crate::example::breach_example;
 use crate::fault::NeverFault;
-use crate::forbidding::{breaks, forbids_source, forbids_target};
 use crate::reading::read_nevers;
 use crate::statement::Neverallow;
-use gt_policy::{Allowance, LinedStatement, PolicyFault, PolicyFaultKind, Statement};
-use gt_policy_check::{Member, gives_source, members_of, reaches, read_policy};
-use gt_text::push_text;
-use gt_types::Perms;
+use gt_policy::{LinedStatement, PolicyFault, PolicyFaultKind};
+use gt_policy_check::{Member, members_of, read_policy};
 use std::alloc::{AllocError, Global};
 
 /// An allow statement that grants what a `neverallow` statement forbids.
@@ -25,79 +22,6 @@ pub struct Breach {
     pub example: Vec<u8>,
 }
 
-// Returns a target of the source on which the permission is granted and forbidden.
-fn target_of<'m, 'a>(
-    never: &Neverallow,
-    allowed: &Allowance,
-    source: &Member,
-    members: &'m [Member<'a>],
-) -> Option<&'m Member<'a>> {
-    for target in members {
-        if reaches(allowed, source, target) && forbids_target(never, source, target) {
-            return Some(target);
-        }
-    }
-    None
-}
-
-// Appends the names of a source, a permission and a target, if the permission is granted and forbidden.
-fn push_example(
-    out: &mut Vec<u8>,
-    never: &Neverallow,
-    allowed: &Allowance,
-    source: &Member,
-    members: &[Member],
-    perm: &str,
-) -> Result<(), AllocError> {
-    if !gives_source(allowed, source, perm) || !forbids_source(never, source, perm) {
-        return Ok(());
-    }
-    let Some(target) = target_of(never, allowed, source, members) else {
-        return Ok(());
-    };
-    push_text(out, source.name.as_str())?;
-    push_text(out, " ")?;
-    push_text(out, perm)?;
-    push_text(out, " ")?;
-    push_text(out, target.name.as_str())
-}
-
-// Returns the first example for a permission, or an empty one.
-fn example_for(
-    alloc: Global,
-    never: &Neverallow,
-    allowed: &Allowance,
-    members: &[Member],
-    perm: &str,
-) -> Result<Vec<u8>, AllocError> {
-    let mut out = Vec::new(alloc);
-    for source in members {
-        if out.is_empty() {
-            push_example(&mut out, never, allowed, source, members, perm)?;
-        }
-    }
-    Ok(out)
-}
-
-// Returns the first example.
-fn example(
-    alloc: Global,
-    never: &Neverallow,
-    statement: &Statement,
-    members: &[Member],
-) -> Result<Vec<u8>, AllocError> {
-    let mut out = Vec::new(alloc);
-    let Statement::Allow(allowed) = statement else {
-        return Ok(out);
-    };
-    for perm in Perms::EVERY {
-        if out.is_empty() {
-            out = example_for(alloc, never, allowed, members, perm.name())?;
-        }
-    }
-    Ok(out)
-}
-
 // Adds a breach, if the statement breaks the `neverallow` statement.
 fn push_if_broken(
     alloc: Global,
@@ -106,11 +30,11 @@ fn push_if_broken(
     stated: &LinedStatement,
     members: &[Member],
 ) -> Result<(), AllocError>
-    ensures { OnOk result (lines_of found.new.items ≡ lines_of found.old.items
-        ++ lines_if (breaks_with members.now never.now stated.now.statement) stated.now never.now) }
+    ensures { OnOk result (Adds members.now
+        (pairs_if (breaks_with members.now never.now stated.now.statement) stated.now never.now)
+        found.old.items found.new.items) }
 {
-    if breaks(never, &stated.statement, members) {
-        let example = example(alloc, never, &stated.statement, members)?;
+    if let Some(example) = breach_example(alloc, never, &stated.statement, members)? {
         found.push(Breach {
             allowed: stated.line,
             forbidden: never.line,
@@ -128,8 +52,8 @@ fn push_broken(
     stated: &LinedStatement,
     members: &[Member],
 ) -> Result<(), AllocError>
-    ensures { OnOk result (lines_of found.new.items ≡ lines_of found.old.items
-        ++ broken_by members.now nevers.now stated.now) }
+    ensures { OnOk result (Adds members.now (broken_by members.now nevers.now stated.now)
+        found.old.items found.new.items) }
 {
     'nevers: for never in nevers {
         push_if_broken(alloc, found, never, stated, members)?;
@@ -144,8 +68,8 @@ fn all_broken(
     nevers: &[Neverallow],
     members: &[Member],
 ) -> Result<Vec<Breach>, AllocError>
-    ensures { IfOk result (λ found. lines_of found.items
-        ≡ flat_map (λ x. broken_by members.now nevers.now x) statements.now) }
+    ensures { IfOk result (λ found. Adds members.now (flat_map (λ x. broken_by members.now nevers.now x) statements.now)
+        [] found.items) }
 {
     let mut found = Vec::new(alloc);
     'statements: for stated in statements {
@@ -160,7 +84,7 @@ fn breaches_of(
     statements: &[LinedStatement],
     nevers: &[Neverallow],
 ) -> Result<Vec<Breach>, AllocError>
-    ensures { IfOk result (λ found. lines_of found.items ≡ broken statements.now nevers.now) }
+    ensures { IfOk result (λ found. AreBroken statements.now nevers.now found.items) }
 {
     let members = members_of(alloc, statements, None)?;
     let found = all_broken(alloc, statements, nevers, members.as_slice())?;

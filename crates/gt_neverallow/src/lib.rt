@@ -6,14 +6,15 @@
 //! JSON.
 //!
 //! It is proved that the pairs are exactly those for which some source, target and permission are granted by the one
-//! and forbidden by the other. They have the order of the policy. An error is the first fault of the policy or of
-//! the other text.
+//! and forbidden by the other, and that the example of a pair is such a source, permission and target. The pairs have
+//! the order of the policy. An error is the first fault of the policy or of the other text.
 //!
 //! It uses `gt_policy` and `gt_policy_text` (statements and tokens), `gt_policy_check` (types, what a statement grants,
 //! findings), `gt_types` (permissions) and `gt_text` (text).
 #![tactic(auto)]
 
 mod breaking;
+mod example;
 mod fault;
 mod forbidding;
 mod names;

@@ -1,5 +1,5 @@
 use Rattle.std.proofs.Common.{false, sym, ap, subst, ◌∙◌}
-use Rattle.gt_policy.specs.Grammar.{Lexemes, LexerState, set_of}
+use Rattle.gt_policy.specs.Grammar.{Lexemes, set_of}
 use Rattle.gt_neverallow.specs.Reading.{Reads}
 use Rattle.gt_neverallow.proofs.ReadingLemmas.{set_behind}
 use Rattle.gt_neverallow.proofs.parser.set.Goals as goal

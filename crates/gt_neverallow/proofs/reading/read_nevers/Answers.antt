@@ -1,4 +1,3 @@
-use Rattle.std.proofs.Common.{arith}
 use Rattle.std.specs.List.{flat_map}
 use Rattle.gt_neverallow.specs.Naming.{named_with, names_of, undeclared}
 use Rattle.gt_neverallow.proofs.NamingLemmas.{named_err, named_ok, says_faulty, says_long, says_read}
