@@ -45,7 +45,7 @@ const DUMP: EntriesOptions = EntriesOptions {
     script: None,
 };
 
-const PLANS: [(&str, Invocation<'static>); 43] = [
+static PLANS: [(&str, Invocation<'static>); 43] = [
     ("gthost play", Invocation::Play(PLAIN)),
     (
         "gthost play first.gt",
@@ -419,10 +419,10 @@ const PLANS: [(&str, Invocation<'static>); 43] = [
 #[test]
 fn a_line_is_planned_as_it_asks(rt: HostRuntime) -> Result<(), Fail> {
     let alloc = rt.alloc();
-    for (line, wanted) in PLANS {
+    for (line, wanted) in PLANS.iter() {
         let words = words_of(alloc, line)?;
         match plan(alloc, words.as_slice()) {
-            Ok(invocation) => assert!(rt; invocation == wanted),
+            Ok(invocation) => assert!(rt; invocation == *wanted),
             Err(_) => assert!(rt; false),
         }
     }
@@ -430,7 +430,7 @@ fn a_line_is_planned_as_it_asks(rt: HostRuntime) -> Result<(), Fail> {
 }
 
 // Lines without a plan, and whether they are faults.
-const REFUSED: [(&str, bool); 58] = [
+static REFUSED: [(&str, bool); 58] = [
     ("gthost --help", false),
     ("gthost --version", false),
     ("gthost -h", false),
@@ -494,11 +494,11 @@ const REFUSED: [(&str, bool); 58] = [
 #[test]
 fn help_is_no_fault(rt: HostRuntime) -> Result<(), Fail> {
     let alloc = rt.alloc();
-    for (line, is_fault) in REFUSED {
+    for (line, is_fault) in REFUSED.iter() {
         let words = words_of(alloc, line)?;
         match plan(alloc, words.as_slice()) {
             Ok(_) => assert!(rt; false),
-            Err(error) => assert_eq!(rt; error.use_stderr(), is_fault),
+            Err(error) => assert_eq!(rt; error.use_stderr(), *is_fault),
         }
     }
     Ok(())

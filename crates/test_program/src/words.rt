@@ -13,7 +13,7 @@ pub(crate) fn words_of(alloc: Global, line: &str) -> Result<Vec<String>, AllocEr
 }
 
 // Lines, and the same with their long flags.
-const SPELLED: [(&str, &str); 5] = [
+static SPELLED: [(&str, &str); 5] = [
     ("gthost play -v a.gt", "gthost play --verbose a.gt"),
     ("gthost -v run -v", "gthost --verbose run --verbose"),
     ("gthost play -v -- -v", "gthost play --verbose -- -v"),
@@ -24,7 +24,7 @@ const SPELLED: [(&str, &str); 5] = [
 #[test]
 fn a_letter_is_a_long_flag_before_the_mark(rt: HostRuntime) -> Result<(), Fail> {
     let alloc = rt.alloc();
-    for (line, wanted) in SPELLED {
+    for (line, wanted) in SPELLED.iter() {
         let words = words_of(alloc, line)?;
         let wanted = words_of(alloc, wanted)?;
         let spelled = with_long_flags(alloc, words.as_slice())?;
@@ -34,7 +34,7 @@ fn a_letter_is_a_long_flag_before_the_mark(rt: HostRuntime) -> Result<(), Fail> 
 }
 
 // Lines, the same with the command before its flags, and the word where the command is expected.
-const LED: [(&str, &str, &str); 8] = [
+static LED: [(&str, &str, &str); 8] = [
     ("gthost -v play a.gt", "gthost play -v a.gt", "play"),
     (
         "gthost --verbose why a b copy",
@@ -52,12 +52,12 @@ const LED: [(&str, &str, &str); 8] = [
 #[test]
 fn a_command_comes_before_its_flags(rt: HostRuntime) -> Result<(), Fail> {
     let alloc = rt.alloc();
-    for (line, wanted, leading) in LED {
+    for (line, wanted, leading) in LED.iter() {
         let words = words_of(alloc, line)?;
         let wanted = words_of(alloc, wanted)?;
         let first = command_first(alloc, words.as_slice())?;
         assert!(rt; first == wanted);
-        assert_eq!(rt; leading_word(words.as_slice()), Some(leading));
+        assert_eq!(rt; leading_word(words.as_slice()), Some(*leading));
     }
     Ok(())
 }
