@@ -4,13 +4,13 @@ types through which its call and its answer pass.
 
 A function runs for the line if it is called more often than in the same script without the line. The program is built
 without optimization, by the kit's own compiler, in a copy of the repository, so that each function is there under its
-name; instances of a generic function count once. Callgrind counts the calls. A change of type is a function of the way
+name; instances of a generic function count once, closures and drops not at all. Callgrind counts the calls. A change of type is a function of the way
 whose result has another type than the value that it takes: WALKS lists them, and each must run for the line and name
 its type.
 
 usage: tools/walks.py [PROGRAM]    PROGRAM: built so before (`rt run --backend rattle --opt-level 0 -- --help`)
 """
-import glob, os, re, subprocess, sys, tempfile
+import functools, glob, os, re, subprocess, sys, tempfile
 
 TOP = os.path.dirname(os.path.dirname(os.path.abspath(__file__)))
 
@@ -22,17 +22,18 @@ domain 2 u:r:b_t 8 1 1
 do 1 grant 0 page 2 rw 5
 """
 
-# A line, the command, the changes of type up to the first step, and those from the last result to the line's answer:
-# each is the type and the function that returns it.
+# A line, the command, the lines of the script before it, the changes of type up to the first step, and those from the
+# last result to the line's answer: each is the type and the function that returns it.
 WALKS = [
     (
         "do 2 map h 1 0 rw",
         "play",
+        HEAD,
         [
             ("ScriptCall", "gt_script_lines::calls::read_map"),
             ("BodyLine", "gt_script_lines::body::read_body_line"),
             ("ScriptLine", "gt_script_lines::lines::read_line"),
-            ("ScriptAction", "gt_script::script::play_action_in"),
+            ("ScriptAction", "gt_script::actions::play_action_in"),
             ("Script", "gt_script::script::Script::with_step"),
             ("Request", "gt_host::run::request_of"),
             ("OpenRequest", "gt_calls::asking::judge_request"),
@@ -40,7 +41,7 @@ WALKS = [
             ("Action", "gt_calls::call::Call::next"),
         ],
         [
-            ("Answer", "gt_core::state::DomainState::add_mapping"),
+            ("Answer", "gt_core::kept::Machine::settle"),
             ("Ticked", "gt_core::machine::ticked_as"),
             ("Answer", "gt_host::run::tick_up_to"),
         ],
@@ -48,8 +49,24 @@ WALKS = [
     (
         "do 2 copy gref 1 0 0 frame self 3 0 4",
         "run",
-        [],
-        [],
+        f"{HEAD}tell 1 granted\nawait 2 granted\n",
+        [
+            ("End", "gt_script_lines::calls::read_end"),
+            ("ScriptCall", "gt_script_lines::calls::read_copy"),
+            ("BodyLine", "gt_script_lines::body::read_body_line"),
+            ("ScriptLine", "gt_script_lines::lines::read_line"),
+            ("RunActionBy", "gt_script::actions::run_action_in"),
+            ("Script", "gt_script::script::Script::with_order"),
+            ("RunAction", "gt_script::tasks::deed_of"),
+            ("RunTask", "gt_script::tasks::task_of"),
+            ("Request", "gt_host::run::request_of"),
+            ("Leg", "gt_calls::copying::end_leg"),
+        ],
+        [
+            ("AccessFault", "gt_words::words::Words::copy_frames"),
+            ("Denial", "gt_live::domain::copies::copy_through"),
+            ("Answer", "gt_run::running::copied"),
+        ],
     ),
 ]
 
@@ -73,7 +90,8 @@ def counted(file):
             told = re.match(r"(fn|cfn)=\((\d+)\)(?: (.*))?", line)
             if told:
                 if told[3]:
-                    names[told[2]] = told[3].strip()
+                    # without the types of a generic function, and without callgrind's count of recursions
+                    names[told[2]] = re.sub(r"(::<[^>]*>)+|'\d+$", "", told[3].strip())
                 called = names[told[2]] if told[1] == "cfn" else None
             elif line.startswith("calls=") and called:
                 found[called] = found.get(called, 0) + int(line[6:].split()[0])
@@ -91,26 +109,38 @@ def sources():
 
 
 def file_of(function, modules):
-    """Returns the file of a function: that of the longest module in its path."""
-    parts = function.split("::")
-    while parts and "::".join(parts) not in modules:
-        parts.pop()
-    return modules.get("::".join(parts))
+    """Returns the file of a function: that of its module, or the one in its crate that has it in an `impl` of its type."""
+    *path, name = function.split("::")
+    while path and "::".join(path) not in modules:
+        path.pop()
+    near = modules.get("::".join(path))
+    crate, kind = function.split("::")[0], function.split("::")[-2]
+    for file in [near, *(modules[it] for it in sorted(modules) if it.split("::")[0] == crate)]:
+        text = text_of(file) if file else ""
+        if re.search(rf"\bfn {name}\b", text) and (kind[0].islower() or re.search(rf"\bimpl\b.*\b{kind}\b", text)):
+            return file
+    return near
+
+
+@functools.lru_cache(None)
+def text_of(file):
+    with open(file, encoding="utf-8") as it:
+        return it.read()
 
 
 def result_of(function, modules):
     """Returns the result type of a function, as its source has it."""
-    with open(file_of(function, modules), encoding="utf-8") as it:
-        text = it.read()
-    head = re.search(rf"\bfn {function.rpartition('::')[2]}\b.*?(?=\n\s*(?:ensures|requires|\{{))", text, re.S)
+    name, text = function.rpartition("::")[2], text_of(file_of(function, modules))
+    head = re.search(rf"\bfn {name}\b.*?(?=\n\s*(?:ensures|requires|\{{))", text, re.S)
     return head[0].rpartition("->")[2] if head and "->" in head[0] else ""
 
 
-def walk(program, line, command, modules):
-    """Returns the functions of the repository that run for this line."""
-    before, after = calls_of(program, command, HEAD), calls_of(program, command, f"{HEAD}{line}\n")
+def walk(program, line, command, head, modules):
+    """Returns the functions of the repository that run for this line after these."""
+    before, after = calls_of(program, command, head), calls_of(program, command, f"{head}{line}\n")
     ours = {it.partition("::")[0] for it in modules}
-    return {it for it in after if it.partition("::")[0] in ours and after[it] > before.get(it, 0)}
+    is_counted = lambda it: it.partition("::")[0] in ours and not re.search(r"Destruct|::drop\b|::fn::", it)
+    return {it for it in after if is_counted(it) and after[it] > before.get(it, 0)}
 
 
 def main(words):
@@ -118,8 +148,8 @@ def main(words):
     wrong = 0
     with tempfile.TemporaryDirectory() as room:
         program = words[0] if words else built(room)
-        for line, command, there, back in WALKS:
-            ran = walk(program, line, command, modules)
+        for line, command, head, there, back in WALKS:
+            ran = walk(program, line, command, head, modules)
             for kind, function in [*there, *back]:
                 if function not in ran or not re.search(rf"\b{kind}\b", result_of(function, modules)):
                     print(f"walks: {function} does not run for `{line}`, or does not return {kind}", file=sys.stderr)
