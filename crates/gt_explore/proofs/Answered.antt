@@ -12,17 +12,16 @@ use Rattle.std.proofs.lemmas.Option.{none-some, same_Some, get_or_from_slice_get
 use Rattle.std.proofs.lemmas.Slice.Eq.{bytes_eq-Decides}
 use Rattle.gt_explore_replay.specs.Orders.{MayGive}
 use Rattle.gt_explore_search.specs.declared.exploring.FoundText.{FoundText}
-use Rattle.gt_explore_verdict.proofs.Judged.{judged_means}
 use Rattle.gt_explore_verdict.specs.Expressions.{Asked}
-use Rattle.gt_explore_verdict.specs.Judging.{Means, judged, verdict_at}
+use Rattle.gt_explore_verdict.specs.Judging.{judged, verdict_at}
 use Rattle.gt_explore_verdict.specs.declared.judging.Claim.{Claim}
 use Rattle.gt_explore_verdict.specs.declared.judging.Judgement.{Judgement}
 use Rattle.gt_explore_verdict.specs.declared.judging.Verdict.{Verdict}
 use Rattle.gt_explore_verdict.specs.declared.judging.Claim.TheVariants.{Find}
 use Rattle.gt_script.specs.RunContents.{RunContents}
 use Rattle.gt_explore.specs.Adding.{IsTextAmong, texts_of_orders}
-use Rattle.gt_explore.specs.Exploring.{AreConditions, AreTextsOf, DecidesClaim, IsMadeBy, MeansGiven, TellsClaim, TellsClaimBy}
-use Rattle.gt_explore.specs.Exploring.{TellsVerdict, TellsWitnesses, place_of, satisfied}
+use Rattle.gt_explore.specs.Exploring.{AreTextsOf, MeansGiven, TellsBy, TellsClaim, TellsClaimBy, TellsVerdict}
+use Rattle.gt_explore.specs.Exploring.{TellsWitnesses, place_of, satisfied}
 use Rattle.gt_explore.specs.Telling.{Found, counterexample_comment, found_told, witness_comment}
 use Rattle.gt_explore.specs.Witness.{ShowsAfter}
 use Rattle.gt_explore.specs.declared.answering.ExploreOutput.{ExploreOutput}
@@ -131,15 +130,7 @@ tells_by c claim cs f met other j text is also judges told =
     subst (λ (k : Judgement). TellsClaimBy c claim f (satisfied cs f) k text) (judges ∙ ap (λ (m : List Bool). judged claim m f.whole) also)
     (subst (λ (m : List Bool). TellsClaimBy c claim f m j text) is told)
 
--- a claim is decided
-pub decides : (c : RunContents) (claim : Claim) (e : List ℕ) (cs : List Asked) (f : Found) (r : Result ExploreOutput TextsFault) → AreTextsOf c f → AreConditions c e cs
-    → IfOk r (λ made. made.verdict ≡ (judged claim (satisfied cs f) f.whole).verdict) → IfOk r (λ made. TellsClaim c claim cs f made.text.items)
-    → IfOk r (λ made. DecidesClaim c claim e made.text.items made.verdict)
-decides c claim e cs f (Err fault) are has v told = tt
-decides c claim e cs f (Ok made) are has v told =
-    (f, cs, are, has, v, subst (λ (w : Verdict). Means (MayGive c) claim cs w) (sym v) (judged_means (MayGive c) claim cs f.texts f.whole are.possible are.whole), told)
-
 -- what was made answers the request
-pub made_so : (c : RunContents) (asked request : ExploreRequest) (r : Result ExploreOutput TextsFault) → asked ≡ request → IfOk r (λ made. IsMadeBy c request made.text.items made.verdict)
-    → IfOk r (λ made. IsMadeBy c asked made.text.items made.verdict)
-made_so c asked request r is made = subst (λ (q : ExploreRequest). IfOk r (λ m. IsMadeBy c q m.text.items m.verdict)) (sym is) made
+pub made_so : (c : RunContents) (conditions : List Asked) (f : Found) (asked request : ExploreRequest) (r : Result ExploreOutput TextsFault) → asked ≡ request
+    → IfOk r (λ made. TellsBy c request conditions f made.text.items made.verdict) → IfOk r (λ made. TellsBy c asked conditions f made.text.items made.verdict)
+made_so c conditions f asked request r is made = subst (λ (q : ExploreRequest). IfOk r (λ m. TellsBy c q conditions f m.text.items m.verdict)) (sym is) made

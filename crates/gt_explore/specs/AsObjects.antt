@@ -8,7 +8,7 @@ use Rattle.gt_explore_verdict.specs.Judging.{Means, judged, verdict_at}
 use Rattle.gt_explore_verdict.specs.declared.judging.Claim.{Claim}
 use Rattle.gt_explore_verdict.specs.declared.judging.Claim.TheVariants.{Find, Never, Always}
 use Rattle.gt_explore_verdict.specs.declared.judging.Verdict.{Verdict}
-use Rattle.gt_explore.specs.Exploring.{AreConditions, AreTextsOf, GivesDiagram, MeansGiven, place_of, satisfied, verdict_of_all}
+use Rattle.gt_explore.specs.Exploring.{GivesDiagram, MeansGiven, place_of, satisfied, verdict_of_all}
 use Rattle.gt_explore.specs.Objects.{ShowsText, ShowsTexts, summary}
 use Rattle.gt_explore.specs.Telling.{Found}
 use Rattle.gt_explore.specs.Tracing.{TracesText}
@@ -19,11 +19,12 @@ use Rattle.gt_explore.specs.declared.exploring.ExploreRequest.TheVariants as req
 abbrev pub Showing : Type 1
 Showing = Found → Verdict → List ℕ → Type 0
 
--- an output that shows these objects and the last one, for texts that the script may give
-abbrev pub Shows : RunContents → ℕ → Showing → List ℕ → Verdict → Type 0
-Shows c limit Objects text verdict =
-    (f : Found) × (objects : List ℕ) × AreTextsOf c f × Objects f verdict objects
-    × (text ≡ objects ++ summary f limit verdict)
+-- the output shows these objects and the last one
+pub record ShowsObjects (limit : ℕ) (Objects : Found → Verdict → List ℕ → Type 0) (f : Found) (text : List ℕ)
+    (verdict : Verdict) : Type 0 where
+  pub objects : List ℕ
+  pub shown : Objects f verdict objects
+  pub ended : text ≡ objects ++ summary f limit verdict
 
 -- all texts, with scripts for `play` or without
 abbrev pub ShowsAll : RunContents → Bool → Showing
@@ -41,11 +42,10 @@ abbrev pub ShowsClaimed : RunContents → Claim → List Asked → Found → Lis
 ShowsClaimed c claim conditions f objects =
     ShowsClaimedBy c.head claim (satisfied conditions f) f (judged claim (satisfied conditions f) f.whole).shown_by objects
 
--- a claim on the conditions of an expression is decided
-abbrev pub ShowsClaim : RunContents → Claim → List ℕ → Showing
-ShowsClaim c claim expression f verdict objects =
-    (conditions : List Asked) × AreConditions c expression conditions
-    × (verdict ≡ (judged claim (satisfied conditions f) f.whole).verdict) × Means (MayGive c) claim conditions verdict
+-- a claim on these conditions is decided
+abbrev pub ShowsClaim : RunContents → Claim → List Asked → Showing
+ShowsClaim c claim conditions f verdict objects =
+    (verdict ≡ (judged claim (satisfied conditions f) f.whole).verdict) × Means (MayGive c) claim conditions verdict
     × ShowsClaimed c claim conditions f objects
 
 -- a text that was asked about
@@ -63,12 +63,12 @@ ShowsWitness c number f verdict objects =
 abbrev pub ShowsTrace : RunContents → ℕ → Showing
 ShowsTrace c number f verdict objects = TracesText c f number objects × (verdict ≡ verdict_of_all f.whole)
 
--- the output for a script and the verdict, by the request
-abbrev pub IsMadeOfObjects : RunContents → ℕ → ExploreRequest → List ℕ → Verdict → Type 0
-IsMadeOfObjects c limit requests.Texts = Shows c limit (ShowsAll c false)
-IsMadeOfObjects c limit (requests.Decide claim expression) = Shows c limit (ShowsClaim c claim expression.now)
-IsMadeOfObjects c limit (requests.Has given) = Shows c limit (ShowsGiven c given.now)
-IsMadeOfObjects c limit (requests.Witness number) = Shows c limit (ShowsWitness c number)
-IsMadeOfObjects c limit requests.Witnesses = Shows c limit (ShowsAll c true)
-IsMadeOfObjects c limit (requests.Trace number) = Shows c limit (ShowsTrace c number)
-IsMadeOfObjects c limit (requests.Diagram number) = GivesDiagram c number
+-- the output and the verdict, by the request
+abbrev pub ShowsBy : RunContents → ℕ → ExploreRequest → List Asked → Found → List ℕ → Verdict → Type 0
+ShowsBy c limit requests.Texts conditions = ShowsObjects limit (ShowsAll c false)
+ShowsBy c limit (requests.Decide claim expression) conditions = ShowsObjects limit (ShowsClaim c claim conditions)
+ShowsBy c limit (requests.Has given) conditions = ShowsObjects limit (ShowsGiven c given.now)
+ShowsBy c limit (requests.Witness number) conditions = ShowsObjects limit (ShowsWitness c number)
+ShowsBy c limit requests.Witnesses conditions = ShowsObjects limit (ShowsAll c true)
+ShowsBy c limit (requests.Trace number) conditions = ShowsObjects limit (ShowsTrace c number)
+ShowsBy c limit (requests.Diagram number) conditions = GivesDiagram c number

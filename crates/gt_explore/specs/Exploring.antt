@@ -1,17 +1,11 @@
 -- The output of `explore` for a script.
 use Rattle.std.specs.Prelude.{◌≡◌, ◌+◌, ◌++◌, ◌&&◌, ℕ, Bool, true, false, List, [], ◌∷◌, All, length, map, Option, Some}
-use Rattle.std.specs.Prelude.{None, Result, Ok, Err, codes, decimal, if◌then◌else◌, is_some, slice_get}
+use Rattle.std.specs.Prelude.{None, Ok, codes, decimal, if◌then◌else◌, is_some, slice_get}
 use Rattle.std.specs.List.{list_all, list_any, position}
 use Rattle.std.specs.Str.{bytes_eq}
-use Rattle.std.specs.Io.KnownBytes.{Appends, Keeps}
-use Rattle.gt_policy.specs.declared.fault.TokenFault as policy
-use Rattle.gt_script.specs.Blocks.{block_fault_shown}
 use Rattle.gt_script.specs.Lists.{RunAction}
 use Rattle.gt_script.specs.RunContents.{RunContents}
-use Rattle.gt_script.specs.Script.{Wrong, in_script, in_policy}
 use Rattle.gt_script.specs.declared.tasks.RunActionBy.TheVariants.{Do, Tell, Await}
-use Rattle.gt_text.specs.Streams.{AppendsBeginning}
-use Rattle.gt_host.specs.declared.fault.PlayFault.TheVariants.{Memory, Read, Write, Script, Policy}
 use Rattle.gt_explore_replay.specs.Orders.{MayGive}
 use Rattle.gt_explore_verdict.specs.Expressions.{Answers, Asked, conditions_in, of_all, of_domain, of_line}
 use Rattle.gt_explore_verdict.specs.Judging.{Means, judged, verdict_at}
@@ -25,11 +19,8 @@ use Rattle.gt_explore.specs.Adding.{AreDifferentTexts, IsTextAmong}
 use Rattle.gt_explore.specs.Telling.{Found, counterexample_comment, heading, states_line, texts_told, witness_comment}
 use Rattle.gt_explore.specs.Tracing.{IsDiagram, IsTrace}
 use Rattle.gt_explore.specs.Witness.{IsWitness, ShowsAfter}
-use Rattle.gt_explore.specs.declared.exploring.ExploreOptions.{ExploreOptions}
 use Rattle.gt_explore.specs.declared.exploring.ExploreRequest.{ExploreRequest}
 use Rattle.gt_explore.specs.declared.exploring.ExploreRequest.TheVariants as requests
-use Rattle.gt_explore.specs.declared.fault.ExploreFault.{ExploreFault}
-use Rattle.gt_explore.specs.declared.fault.ExploreFault.TheVariants.{Play, Texts}
 
 -- these are texts that a script may give, each of them once, and all of them if the search is over
 pub record AreTextsOf (c : RunContents) (f : Found) : Type 0 where
@@ -110,50 +101,57 @@ TellsWitnesses c f before (text ∷ texts) out =
     (script : List ℕ) × (rest : List ℕ) × (out ≡ witness_comment f (before + 1) ++ (script ++ rest))
     × ShowsAfter c.head [] script text × TellsWitnesses c f (before + 1) texts rest
 
--- the texts that a script may give, each under its number
-abbrev pub GivesTexts : RunContents → List ℕ → Verdict → Type 0
-GivesTexts c text verdict =
-    (f : Found) × AreTextsOf c f × (text ≡ texts_told f (satisfied [] f)) × (verdict ≡ verdict_of_all f.whole)
+-- the conditions that a request states: those of the expression of a claim
+abbrev pub AreAsked : RunContents → ExploreRequest → List Asked → Type 0
+AreAsked c requests.Texts conditions = Unit {0}
+AreAsked c (requests.Decide claim expression) conditions = AreConditions c expression.now conditions
+AreAsked c (requests.Has given) conditions = Unit {0}
+AreAsked c (requests.Witness number) conditions = Unit {0}
+AreAsked c requests.Witnesses conditions = Unit {0}
+AreAsked c (requests.Trace number) conditions = Unit {0}
+AreAsked c (requests.Diagram number) conditions = Unit {0}
 
--- a claim on the conditions of an expression is decided
-abbrev pub DecidesClaim : RunContents → Claim → List ℕ → List ℕ → Verdict → Type 0
-DecidesClaim c claim expression text verdict =
-    (f : Found) × (conditions : List Asked) × AreTextsOf c f × AreConditions c expression conditions
-    × (verdict ≡ (judged claim (satisfied conditions f) f.whole).verdict) × Means (MayGive c) claim conditions verdict
-    × TellsClaim c claim conditions f text
+-- ---- the output and the verdict, for the texts that were found
+
+-- the texts, each under its number
+abbrev pub GivesTexts : Found → List ℕ → Verdict → Type 0
+GivesTexts f text verdict = (text ≡ texts_told f (satisfied [] f)) × (verdict ≡ verdict_of_all f.whole)
+
+-- a claim on these conditions is decided
+pub record DecidesClaim (c : RunContents) (claim : Claim) (conditions : List Asked) (f : Found) (text : List ℕ)
+    (verdict : Verdict) : Type 0 where
+  pub is : verdict ≡ (judged claim (satisfied conditions f) f.whole).verdict
+  pub means : Means (MayGive c) claim conditions verdict
+  pub tells : TellsClaim c claim conditions f text
 
 -- the number of a text that the script may give
-abbrev pub NumbersText : RunContents → List ℕ → List ℕ → Verdict → Type 0
-NumbersText c given text verdict =
-    (f : Found) × AreTextsOf c f × (verdict ≡ verdict_at Find (is_some (place_of given f.texts)) f.whole)
-    × MeansGiven c given verdict × (text ≡ number_told f (place_of given f.texts))
+pub record NumbersText (c : RunContents) (given : List ℕ) (f : Found) (text : List ℕ) (verdict : Verdict) : Type 0 where
+  pub is : verdict ≡ verdict_at Find (is_some (place_of given f.texts)) f.whole
+  pub means : MeansGiven c given verdict
+  pub tells : text ≡ number_told f (place_of given f.texts)
 
 -- a script for `play` that gives the answers of the text of a number, if one was found
-abbrev pub GivesWitness : RunContents → ℕ → List ℕ → Verdict → Type 0
-GivesWitness c number text verdict =
-    (f : Found) × AreTextsOf c f × IsWitness c.head f.texts number text × (verdict ≡ verdict_of_all f.whole)
+abbrev pub GivesWitness : RunContents → ℕ → Found → List ℕ → Verdict → Type 0
+GivesWitness c number f text verdict = IsWitness c.head f.texts number text × (verdict ≡ verdict_of_all f.whole)
 
 -- such a script for each text
-abbrev pub GivesWitnesses : RunContents → List ℕ → Verdict → Type 0
-GivesWitnesses c text verdict =
-    (f : Found) × AreTextsOf c f × TellsWitnesses c f 0 f.texts text × (verdict ≡ verdict_of_all f.whole)
+abbrev pub GivesWitnesses : RunContents → Found → List ℕ → Verdict → Type 0
+GivesWitnesses c f text verdict = TellsWitnesses c f 0 f.texts text × (verdict ≡ verdict_of_all f.whole)
 
 -- the moves of an order that gives the text of a number
-abbrev pub GivesTrace : RunContents → ℕ → List ℕ → Verdict → Type 0
-GivesTrace c number text verdict =
-    (f : Found) × AreTextsOf c f × IsTrace c f number text × (verdict ≡ verdict_of_all f.whole)
+abbrev pub GivesTrace : RunContents → ℕ → Found → List ℕ → Verdict → Type 0
+GivesTrace c number f text verdict = IsTrace c f number text × (verdict ≡ verdict_of_all f.whole)
 
 -- the moves of such an order as a sequence diagram
-abbrev pub GivesDiagram : RunContents → ℕ → List ℕ → Verdict → Type 0
-GivesDiagram c number text verdict =
-    (f : Found) × AreTextsOf c f × IsDiagram c f number text × (verdict ≡ verdict_of_all f.whole)
+abbrev pub GivesDiagram : RunContents → ℕ → Found → List ℕ → Verdict → Type 0
+GivesDiagram c number f text verdict = IsDiagram c f number text × (verdict ≡ verdict_of_all f.whole)
 
--- the output for a script and the verdict, by the request
-abbrev pub IsMadeBy : RunContents → ExploreRequest → List ℕ → Verdict → Type 0
-IsMadeBy c requests.Texts text verdict = GivesTexts c text verdict
-IsMadeBy c (requests.Decide claim expression) text verdict = DecidesClaim c claim expression.now text verdict
-IsMadeBy c (requests.Has given) text verdict = NumbersText c given.now text verdict
-IsMadeBy c (requests.Witness number) text verdict = GivesWitness c number text verdict
-IsMadeBy c requests.Witnesses text verdict = GivesWitnesses c text verdict
-IsMadeBy c (requests.Trace number) text verdict = GivesTrace c number text verdict
-IsMadeBy c (requests.Diagram number) text verdict = GivesDiagram c number text verdict
+-- the output and the verdict, by the request
+abbrev pub TellsBy : RunContents → ExploreRequest → List Asked → Found → List ℕ → Verdict → Type 0
+TellsBy c requests.Texts conditions = GivesTexts
+TellsBy c (requests.Decide claim expression) conditions = DecidesClaim c claim conditions
+TellsBy c (requests.Has given) conditions = NumbersText c given.now
+TellsBy c (requests.Witness number) conditions = GivesWitness c number
+TellsBy c requests.Witnesses conditions = GivesWitnesses c
+TellsBy c (requests.Trace number) conditions = GivesTrace c number
+TellsBy c (requests.Diagram number) conditions = GivesDiagram c number

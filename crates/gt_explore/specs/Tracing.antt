@@ -7,7 +7,7 @@ use Rattle.gt_explore_trace.specs.Moves.{GivesText}
 use Rattle.gt_explore_trace.specs.declared.facts.TraceForm.TheVariants.{Json, Mermaid, Text}
 use Rattle.gt_explore_trace.specs.declared.moves.TracedMove.{TracedMove}
 use Rattle.gt_explore.specs.Objects.{text_object}
-use Rattle.gt_explore.specs.Telling.{Found, heading, states_line, states_told}
+use Rattle.gt_explore.specs.Telling.{Found, heading, states_line}
 use Rattle.gt_explore.specs.Witness.{IsTextNumbered}
 
 -- the moves are those of an order of the script that gives the text of this number, and the output is this of them

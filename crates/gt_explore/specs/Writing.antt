@@ -8,8 +8,10 @@ use Rattle.gt_script.specs.Script.{Wrong, in_script, in_policy}
 use Rattle.gt_text.specs.Streams.{AppendsBeginning}
 use Rattle.gt_host.specs.declared.fault.PlayFault.TheVariants.{Memory, Read, Write, Script, Policy}
 use Rattle.gt_explore_verdict.specs.declared.judging.Verdict.{Verdict}
-use Rattle.gt_explore.specs.AsObjects.{IsMadeOfObjects}
-use Rattle.gt_explore.specs.Exploring.{IsMadeBy}
+use Rattle.gt_explore_verdict.specs.Expressions.{Asked}
+use Rattle.gt_explore.specs.AsObjects.{ShowsBy}
+use Rattle.gt_explore.specs.Exploring.{AreAsked, AreTextsOf, TellsBy}
+use Rattle.gt_explore.specs.Telling.{Found}
 use Rattle.gt_explore.specs.declared.exploring.ExploreFormat.{ExploreFormat}
 use Rattle.gt_explore.specs.declared.exploring.ExploreFormat.TheVariants.{Json, Text}
 use Rattle.gt_explore.specs.declared.exploring.ExploreOptions.{ExploreOptions}
@@ -17,13 +19,18 @@ use Rattle.gt_explore.specs.declared.exploring.ExploreRequest.{ExploreRequest}
 use Rattle.gt_explore.specs.declared.fault.ExploreFault.{ExploreFault}
 use Rattle.gt_explore.specs.declared.fault.ExploreFault.TheVariants.{Play, Texts}
 
--- the output for a script and the verdict, by the format and the request
-abbrev pub IsMadeAs : RunContents → ExploreFormat → ℕ → ExploreRequest → List ℕ → Verdict → Type 0
-IsMadeAs c Text limit request = IsMadeBy c request
-IsMadeAs c Json limit request = IsMadeOfObjects c limit request
+-- the output and the verdict, by the format and the request
+abbrev pub ShownAs : RunContents → ExploreFormat → ℕ → ExploreRequest → List Asked → Found → List ℕ → Verdict → Type 0
+ShownAs c Text limit request = TellsBy c request
+ShownAs c Json limit request = ShowsBy c limit request
 
-abbrev pub IsMade : RunContents → ExploreOptions → List ℕ → Verdict → Type 0
-IsMade c asked text verdict = IsMadeAs c asked.format asked.states asked.request text verdict
+-- the output for a script and the verdict: what is shown of texts that it may give
+pub record IsMade (c : RunContents) (asked : ExploreOptions) (text : List ℕ) (verdict : Verdict) : Type 0 where
+  pub found : Found
+  pub texts : AreTextsOf c found
+  pub conditions : List Asked
+  pub read : AreAsked c asked.request conditions
+  pub shown : ShownAs c asked.format asked.states asked.request conditions found text verdict
 
 -- what was written for a script, by the result
 abbrev pub Explores : RunContents → ExploreOptions → Option (List ℕ) → Option (List ℕ) → Result Verdict ExploreFault → Type 0

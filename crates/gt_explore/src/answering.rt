@@ -4,25 +4,22 @@ ghost use Rattle.std.specs.List.{position};
 ghost use Rattle.std.specs.Option.{option_map};
 ghost use Rattle.std.specs.Str.{bytes_eq};
 ghost use Rattle.gt_script.specs.Contents.{contents_told};
-ghost use Rattle.gt_script.specs.RunContents.{run_told};
+ghost use Rattle.gt_script.specs.RunContents.{RunContents, run_told};
 ghost use Rattle.gt_script.specs.RunScripts.{CanConfigure};
-ghost use Rattle.gt_script.specs.Stuck.{AreNumbered};
 ghost use Rattle.gt_explore_verdict.specs.Expressions.{told};
 ghost use Rattle.gt_explore.specs.Adding.{texts_of_orders};
-ghost use Rattle.gt_explore_verdict.specs.Judging.{judged, verdict_at};
+ghost use Rattle.gt_explore_verdict.specs.Judging.{verdict_at};
 ghost use Rattle.gt_explore_verdict.specs.declared.judging.Claim.TheVariants.{Find};
 ghost use Rattle.gt_explore_verdict.specs.declared.judging.Verdict.{Verdict};
-ghost use Rattle.gt_explore.specs.Exploring.{DecidesClaim, GivesDiagram, GivesTexts, GivesTrace, GivesWitness};
-ghost use Rattle.gt_explore.specs.Exploring.{GivesWitnesses, IsMadeBy};
-ghost use Rattle.gt_explore.specs.Exploring.{NumbersText};
-ghost use Rattle.gt_explore.specs.Exploring.{TellsClaim, TellsClaimBy, TellsVerdict, TellsWitnesses};
-ghost use Rattle.gt_explore.specs.Exploring.{satisfied as satisfied_in};
+ghost use Rattle.gt_explore.specs.Exploring.{AreTextsOf, DecidesClaim, GivesDiagram, GivesTexts, GivesTrace};
+ghost use Rattle.gt_explore.specs.Exploring.{GivesWitness, GivesWitnesses, NumbersText};
+ghost use Rattle.gt_explore.specs.Exploring.{TellsBy, TellsClaimBy, TellsVerdict, TellsWitnesses};
 ghost use Rattle.gt_explore.specs.Exploring.{verdict_of_all};
 ghost use Rattle.gt_explore.specs.Telling.{found_told, texts_told};
 ghost use Rattle.gt_explore.specs.Witness.{IsWitness, SaysUnplayable, ShowsAfter};
 
 use crate::checked::gives_answers;
-use crate::conditions::{conditions_for, satisfied};
+use crate::conditions::satisfied;
 use crate::exploring::ExploreRequest;
 use crate::fault::TextsFault;
 use crate::leaving::may_not_unmap;
@@ -30,7 +27,7 @@ use crate::telling::{
     push_counterexample, push_found_texts, push_place, push_unplayable, push_verdict,
     push_witness_comment,
 };
-use crate::texts::{FoundTexts, texts_within};
+use crate::texts::FoundTexts;
 use crate::tracing::{diagram_of, trace_of};
 use crate::witness::witness_of;
 use gt_explore_search::FoundText;
@@ -224,11 +221,10 @@ fn claim_made(
     claim: Claim,
     conditions: &[Condition<'_>],
 ) -> Result<ExploreOutput, TextsFault>
-    requires { CanConfigure (contents_told script.now.head) }
-    ensures verdict { IfOk result (λ made. made.verdict
-        ≡ (judged claim (satisfied_in (map told conditions.now) (found_told found.now)) found.now.whole).verdict) }
-    ensures text { IfOk result (λ made. TellsClaim (run_told script.now) claim (map told conditions.now)
-        (found_told found.now) made.text.items) }
+    requires fits { CanConfigure (contents_told script.now.head) }
+    requires texts { AreTextsOf (run_told script.now) (found_told found.now) }
+    ensures { IfOk result (λ made. DecidesClaim (run_told script.now) claim (map told conditions.now)
+        (found_told found.now) made.text.items made.verdict) }
 {
     let met = satisfied(alloc, conditions, found.texts.as_slice())?;
     let judgement = judge(claim, met.as_slice(), found.whole);
@@ -238,34 +234,13 @@ fn claim_made(
     Ok(ExploreOutput { text, verdict })
 }
 
-// Decides a claim on the conditions of an expression.
-fn decided(
-    alloc: Global,
-    source: &[u8],
-    script: &RunScript,
-    states: usize,
-    claim: Claim,
-    expression: &str,
-) -> Result<ExploreOutput, TextsFault>
-    requires fits { CanConfigure (contents_told script.now.head) }
-    requires numbered { AreNumbered script.now.flags script.now.tasks }
-    ensures { IfOk result (λ made. DecidesClaim (run_told script.now) claim expression.now made.text.items made.verdict) }
-{
-    let conditions = conditions_for(alloc, script, expression)?;
-    let found = texts_within(alloc, script, states)?;
-    claim_made(alloc, source, script, &found, claim, conditions.as_slice())
-}
-
 // Returns all texts that were found.
-fn all_texts(alloc: Global, script: &RunScript, states: usize) -> Result<ExploreOutput, TextsFault>
-    requires fits { CanConfigure (contents_told script.now.head) }
-    requires numbered { AreNumbered script.now.flags script.now.tasks }
-    ensures { IfOk result (λ made. GivesTexts (run_told script.now) made.text.items made.verdict) }
+fn all_texts(alloc: Global, found: &FoundTexts) -> Result<ExploreOutput, TextsFault>
+    ensures { IfOk result (λ made. GivesTexts (found_told found.now) made.text.items made.verdict) }
 {
-    let found = texts_within(alloc, script, states)?;
     let none: Vec<Condition> = Vec::new(alloc);
     let met = satisfied(alloc, none.as_slice(), found.texts.as_slice())?;
-    let text = texts_told(alloc, &found, met.as_slice())?;
+    let text = texts_told(alloc, found, met.as_slice())?;
     let verdict = verdict_of_all(found.whole);
     Ok(ExploreOutput { text, verdict })
 }
@@ -288,21 +263,14 @@ pub fn verdict_on(place: Option<usize>, whole: bool) -> Verdict
 }
 
 // Returns the number of this text, if it was found.
-fn number_of(
-    alloc: Global,
-    script: &RunScript,
-    states: usize,
-    given: &[u8],
-) -> Result<ExploreOutput, TextsFault>
-    requires fits { CanConfigure (contents_told script.now.head) }
-    requires numbered { AreNumbered script.now.flags script.now.tasks }
-    ensures { IfOk result (λ made. NumbersText (run_told script.now) given.now made.text.items made.verdict) }
+fn number_of(alloc: Global, found: &FoundTexts, given: &[u8]) -> Result<ExploreOutput, TextsFault>
+    ensures { (c : RunContents) → AreTextsOf c (found_told found.now) →
+        IfOk result (λ made. NumbersText c given.now (found_told found.now) made.text.items made.verdict) }
 {
-    let found = texts_within(alloc, script, states)?;
     let place = place_of(found.texts.as_slice(), given);
     let verdict = verdict_on(place, found.whole);
     let mut text = Vec::new(alloc);
-    push_place(&mut text, &found, place)?;
+    push_place(&mut text, found, place)?;
     Ok(ExploreOutput { text, verdict })
 }
 
@@ -333,15 +301,14 @@ fn witness(
     alloc: Global,
     source: &[u8],
     script: &RunScript,
-    states: usize,
+    found: &FoundTexts,
     number: usize,
 ) -> Result<ExploreOutput, TextsFault>
-    requires fits { CanConfigure (contents_told script.now.head) }
-    requires numbered { AreNumbered script.now.flags script.now.tasks }
-    ensures { IfOk result (λ made. GivesWitness (run_told script.now) number made.text.items made.verdict) }
+    requires { CanConfigure (contents_told script.now.head) }
+    ensures { IfOk result (λ made. GivesWitness (run_told script.now) number (found_told found.now) made.text.items
+        made.verdict) }
 {
-    let found = texts_within(alloc, script, states)?;
-    let text = script_numbered(alloc, source, script, &found, number)?;
+    let text = script_numbered(alloc, source, script, found, number)?;
     let verdict = verdict_of_all(found.whole);
     Ok(ExploreOutput { text, verdict })
 }
@@ -374,15 +341,14 @@ fn witnesses(
     alloc: Global,
     source: &[u8],
     script: &RunScript,
-    states: usize,
+    found: &FoundTexts,
 ) -> Result<ExploreOutput, TextsFault>
-    requires fits { CanConfigure (contents_told script.now.head) }
-    requires numbered { AreNumbered script.now.flags script.now.tasks }
-    ensures { IfOk result (λ made. GivesWitnesses (run_told script.now) made.text.items made.verdict) }
+    requires { CanConfigure (contents_told script.now.head) }
+    ensures { IfOk result (λ made. GivesWitnesses (run_told script.now) (found_told found.now) made.text.items
+        made.verdict) }
 {
-    let found = texts_within(alloc, script, states)?;
     let mut text = Vec::new(alloc);
-    push_witnesses(alloc, &mut text, source, script, &found)?;
+    push_witnesses(alloc, &mut text, source, script, found)?;
     let verdict = verdict_of_all(found.whole);
     Ok(ExploreOutput { text, verdict })
 }
@@ -391,15 +357,14 @@ fn witnesses(
 fn trace(
     alloc: Global,
     script: &RunScript,
-    states: usize,
+    found: &FoundTexts,
     number: usize,
 ) -> Result<ExploreOutput, TextsFault>
-    requires fits { CanConfigure (contents_told script.now.head) }
-    requires numbered { AreNumbered script.now.flags script.now.tasks }
-    ensures { IfOk result (λ made. GivesTrace (run_told script.now) number made.text.items made.verdict) }
+    requires { CanConfigure (contents_told script.now.head) }
+    ensures { IfOk result (λ made. GivesTrace (run_told script.now) number (found_told found.now) made.text.items
+        made.verdict) }
 {
-    let found = texts_within(alloc, script, states)?;
-    let text = trace_of(alloc, script, &found, number)?;
+    let text = trace_of(alloc, script, found, number)?;
     let verdict = verdict_of_all(found.whole);
     Ok(ExploreOutput { text, verdict })
 }
@@ -407,47 +372,48 @@ fn trace(
 /// Returns the moves that lead to the text of this number as a sequence diagram.
 ///
 /// # Errors
-/// A fault of the search, that no text has this number, or `Memory`.
+/// `Witness` if no text has this number, `Astray` if the order of the text does not lead to it, and `Memory`.
 pub fn diagram(
     alloc: Global,
     script: &RunScript,
-    states: usize,
+    found: &FoundTexts,
     number: usize,
 ) -> Result<ExploreOutput, TextsFault>
-    requires fits { CanConfigure (contents_told script.now.head) }
-    requires numbered { AreNumbered script.now.flags script.now.tasks }
-    ensures { IfOk result (λ made. GivesDiagram (run_told script.now) number made.text.items made.verdict) }
+    requires { CanConfigure (contents_told script.now.head) }
+    ensures { IfOk result (λ made. GivesDiagram (run_told script.now) number (found_told found.now) made.text.items
+        made.verdict) }
 {
-    let found = texts_within(alloc, script, states)?;
-    let text = diagram_of(alloc, script, &found, number)?;
+    let text = diagram_of(alloc, script, found, number)?;
     let verdict = verdict_of_all(found.whole);
     Ok(ExploreOutput { text, verdict })
 }
 
-/// Returns the answer to a request about a script.
+/// Answers a request about a script by the texts that were found. A claim is one on these conditions.
 ///
 /// # Errors
-/// A fault of the search or of the expression, that no text has the number of the witness or of the trace, or `Memory`.
-pub fn made_of(
+/// That no text has the number of the witness or of the trace, that an order does not give its text, and `Memory`.
+pub fn answer_in_text(
     alloc: Global,
     request: ExploreRequest<'_>,
-    states: usize,
     source: &[u8],
     script: &RunScript,
+    found: &FoundTexts,
+    conditions: &[Condition<'_>],
 ) -> Result<ExploreOutput, TextsFault>
     requires fits { CanConfigure (contents_told script.now.head) }
-    requires numbered { AreNumbered script.now.flags script.now.tasks }
-    ensures { IfOk result (λ made. IsMadeBy (run_told script.now) request.entry made.text.items made.verdict) }
+    requires texts { AreTextsOf (run_told script.now) (found_told found.now) }
+    ensures { IfOk result (λ made. TellsBy (run_told script.now) request.entry (map told conditions.now)
+        (found_told found.now) made.text.items made.verdict) }
 {
     match request {
-        ExploreRequest::Texts => all_texts(alloc, script, states),
-        ExploreRequest::Decide { claim, expression } => {
-            decided(alloc, source, script, states, claim, expression)
+        ExploreRequest::Texts => all_texts(alloc, found),
+        ExploreRequest::Decide { claim, .. } => {
+            claim_made(alloc, source, script, found, claim, conditions)
         }
-        ExploreRequest::Has(text) => number_of(alloc, script, states, text),
-        ExploreRequest::Witness(number) => witness(alloc, source, script, states, number),
-        ExploreRequest::Witnesses => witnesses(alloc, source, script, states),
-        ExploreRequest::Trace(number) => trace(alloc, script, states, number),
-        ExploreRequest::Diagram(number) => diagram(alloc, script, states, number),
+        ExploreRequest::Has(text) => number_of(alloc, found, text),
+        ExploreRequest::Witness(number) => witness(alloc, source, script, found, number),
+        ExploreRequest::Witnesses => witnesses(alloc, source, script, found),
+        ExploreRequest::Trace(number) => trace(alloc, script, found, number),
+        ExploreRequest::Diagram(number) => diagram(alloc, script, found, number),
     }
 }

@@ -6,8 +6,9 @@ ghost use Rattle.gt_script.specs.RunContents.{run_told};
 ghost use Rattle.gt_explore_verdict.specs.Expressions.{place_told, told};
 ghost use Rattle.gt_explore_verdict.specs.Satisfying.{satisfies};
 ghost use Rattle.gt_explore.specs.Adding.{texts_of_orders};
-ghost use Rattle.gt_explore.specs.Exploring.{AreConditions, is_askable, is_call};
+ghost use Rattle.gt_explore.specs.Exploring.{AreAsked, AreConditions, is_askable, is_call};
 
+use crate::exploring::ExploreRequest;
 use crate::fault::TextsFault;
 use gt_explore_search::FoundText;
 use gt_explore_verdict::{
@@ -115,6 +116,22 @@ pub fn conditions_for<'e>(
     let conditions = conditions_of(alloc, expression)?;
     check_places(alloc, script, conditions.as_slice())?;
     Ok(conditions)
+}
+
+/// Reads the conditions of a request. Only a claim has any.
+pub fn conditions_asked<'e>(
+    alloc: Global,
+    script: &RunScript,
+    request: ExploreRequest<'e>,
+) -> Result<Vec<Condition<'e>>, TextsFault>
+    ensures { IfOk result (λ cs. AreAsked (run_told script.now) request.entry (map told cs.items)) }
+{
+    match request {
+        ExploreRequest::Decide { expression, .. } => conditions_for(alloc, script, expression),
+        ExploreRequest::Texts | ExploreRequest::Has(_) => Ok(Vec::new(alloc)),
+        ExploreRequest::Witness(_) | ExploreRequest::Witnesses => Ok(Vec::new(alloc)),
+        ExploreRequest::Trace(_) | ExploreRequest::Diagram(_) => Ok(Vec::new(alloc)),
+    }
 }
 
 /// Returns for each text whether it satisfies these conditions.

@@ -6,12 +6,17 @@ ghost use Rattle.gt_script.specs.RunScripts.{CanConfigure, RunTells};
 ghost use Rattle.gt_text.specs.Streams.{ConsumesAtMost, OfInput};
 ghost use Rattle.gt_text.specs.declared.streams.TheConstants.{READ_LIMIT};
 ghost use Rattle.gt_script.specs.Stuck.{AreNumbered};
-ghost use Rattle.gt_explore.specs.Writing.{Explored, Explores, IsMade};
+ghost use Rattle.gt_explore_verdict.specs.Expressions.{told};
+ghost use Rattle.gt_explore.specs.Exploring.{AreTextsOf};
+ghost use Rattle.gt_explore.specs.Telling.{found_told};
+ghost use Rattle.gt_explore.specs.Writing.{Explored, Explores, IsMade, ShownAs};
 
-use crate::answering::{ExploreOutput, made_of};
+use crate::answering::{ExploreOutput, answer_in_text};
+use crate::conditions::conditions_asked;
 use crate::fault::{ExploreFault, TextsFault};
-use crate::json::made_of_objects;
-use gt_explore_verdict::{Claim, Verdict};
+use crate::json::ObjectWriter;
+use crate::texts::{FoundTexts, texts_found};
+use gt_explore_verdict::{Claim, Condition, Verdict};
 use gt_host::PlayFault;
 use gt_script::{RunScript, parse_run};
 use gt_text::{read_text, write_text};
@@ -39,7 +44,7 @@ pub enum ExploreRequest<'w> {
 }
 
 /// The format of the output of `explore`.
-#[derive(Clone, Copy, Debug, PartialEq, Eq)]
+#[derive(Clone, Copy)]
 pub enum ExploreFormat {
     /// Lines of text, and scripts for `play`.
     Text,
@@ -57,7 +62,42 @@ pub struct ExploreOptions<'w> {
     pub format: ExploreFormat,
 }
 
-// Returns the answer to a request about a script, in its format.
+// Answers a request by the texts that were found, in its format.
+fn answered(
+    alloc: Global,
+    asked: &ExploreOptions,
+    source: &[u8],
+    script: &RunScript,
+    found: &FoundTexts,
+    conditions: &[Condition<'_>],
+) -> Result<ExploreOutput, TextsFault>
+    requires fits { CanConfigure (contents_told script.now.head) }
+    requires texts { AreTextsOf (run_told script.now) (found_told found.now) }
+    ensures { IfOk result (λ made. ShownAs (run_told script.now) asked.now.format asked.now.states asked.now.request
+        (map told conditions.now) (found_told found.now) made.text.items made.verdict) }
+{
+    match asked.format {
+        ExploreFormat::Text => answer_in_text(
+            alloc,
+            asked.request,
+            source,
+            script,
+            found,
+            conditions,
+        ),
+        ExploreFormat::Json => {
+            let writer = ObjectWriter {
+                alloc,
+                source,
+                script,
+                found,
+            };
+            writer.answer(asked.request, asked.states, conditions)
+        }
+    }
+}
+
+// Finds the texts of a script, and answers a request by them.
 fn made_as(
     alloc: Global,
     asked: &ExploreOptions,
@@ -68,10 +108,10 @@ fn made_as(
     requires numbered { AreNumbered script.now.flags script.now.tasks }
     ensures { IfOk result (λ made. IsMade (run_told script.now) asked.now made.text.items made.verdict) }
 {
-    match asked.format {
-        ExploreFormat::Text => made_of(alloc, asked.request, asked.states, source, script),
-        ExploreFormat::Json => made_of_objects(alloc, asked.request, asked.states, source, script),
-    }
+    let conditions = conditions_asked(alloc, script, asked.request)?;
+    let found = texts_found(alloc, script, asked.states)?;
+    let made = answered(alloc, asked, source, script, &found, conditions.as_slice())?;
+    Ok(made)
 }
 
 // Explores a script that was parsed.

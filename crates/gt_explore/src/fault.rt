@@ -8,7 +8,7 @@ use std::error::Error;
 use std::fmt;
 
 /// The reason that the texts of a script were not found. It prints as one line, without a line end.
-#[derive(Clone, Copy, Debug, PartialEq, Eq)]
+#[derive(Clone, Copy, Debug)]
 pub enum TextsFault {
     /// An allocation failed.
     Memory,

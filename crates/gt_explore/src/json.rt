@@ -1,41 +1,52 @@
 //! The answer to a request about a script as JSON.
-ghost use Rattle.std.specs.Prelude.{◌≡◌, ◌+◌, ◌++◌, ℕ, List, IfOk, OnOk, Some, length, map};
-ghost use Rattle.gt_script.specs.Contents.{contents_told};
-ghost use Rattle.gt_script.specs.RunContents.{run_told};
-ghost use Rattle.gt_script.specs.RunScripts.{CanConfigure};
-ghost use Rattle.gt_script.specs.Stuck.{AreNumbered};
-ghost use Rattle.gt_explore.specs.AsObjects.{IsMadeOfObjects, Shows, ShowsAll, ShowsClaim, ShowsGiven, ShowsTrace};
-ghost use Rattle.gt_explore.specs.AsObjects.{ShowsWitness};
-ghost use Rattle.gt_explore.specs.Exploring.{GivesDiagram};
+ghost use Rattle.std.specs.Prelude.{◌≡◌, ◌++◌, IfOk};
 ghost use Rattle.gt_explore.specs.Objects.{summary};
 ghost use Rattle.gt_explore.specs.Telling.{found_told};
 
 use crate::answering::{ExploreOutput, diagram, place_of, script_of, verdict_of_all, verdict_on};
-use crate::conditions::{conditions_for, satisfied};
+use crate::conditions::satisfied;
 use crate::exploring::ExploreRequest;
 use crate::fault::TextsFault;
 use crate::objects::{push_summary, push_text_object, push_witness_object};
-use crate::texts::{FoundTexts, texts_within};
+use crate::texts::FoundTexts;
 use crate::tracing::trace_objects;
 use gt_explore_search::FoundText;
 use gt_explore_verdict::{Claim, Condition, Verdict, judge};
 use gt_script::RunScript;
 use std::alloc::{AllocError, Global};
 
-// The texts that were found for a script, and what their objects need.
+/// The texts that were found for a script, and what their objects need.
 #[derive(Drop)]
-struct ObjectWriter<'x, 'a> {
-    alloc: Global,
-    source: &'x [u8],
-    script: &'x RunScript<'a>,
-    found: &'x FoundTexts,
+pub struct ObjectWriter<'x, 'a> {
+    pub alloc: Global,
+    pub source: &'x [u8],
+    pub script: &'x RunScript<'a>,
+    pub found: &'x FoundTexts,
+}
+
+// Ends an output with the last object.
+fn ended(
+    mut text: Vec<u8>,
+    found: &FoundTexts,
+    limit: usize,
+    verdict: Verdict,
+) -> Result<ExploreOutput, AllocError>
+    ensures { IfOk result (λ made. (made.verdict ≡ verdict)
+        × (made.text.items ≡ text.items ++ summary (found_told found.now) limit verdict)) }
+{
+    push_summary(&mut text, found, limit, verdict)?;
+    Ok(ExploreOutput { text, verdict })
 }
 
 impl ObjectWriter<'_, '_> {
-    ghost use Rattle.std.specs.Prelude.{◌≡◌, ◌++◌, ℕ, List, OnOk, length};
+    ghost use Rattle.std.specs.Prelude.{◌≡◌, ◌++◌, ℕ, List, IfOk, OnOk, false, length, map};
     ghost use Rattle.gt_script.specs.Contents.{contents_told};
+    ghost use Rattle.gt_script.specs.RunContents.{run_told};
     ghost use Rattle.gt_script.specs.RunScripts.{CanConfigure};
-    ghost use Rattle.gt_explore.specs.AsObjects.{ShowsClaimedBy};
+    ghost use Rattle.gt_explore_verdict.specs.Expressions.{told};
+    ghost use Rattle.gt_explore.specs.AsObjects.{ShowsAll, ShowsBy, ShowsClaim, ShowsClaimedBy, ShowsGiven, ShowsObjects};
+    ghost use Rattle.gt_explore.specs.AsObjects.{ShowsTrace, ShowsWitness};
+    ghost use Rattle.gt_explore.specs.Exploring.{AreTextsOf};
     ghost use Rattle.gt_explore.specs.Adding.{texts_of_orders};
     ghost use Rattle.gt_explore.specs.Objects.{IsObject, IsObjectIf, ShowsText, ShowsTexts};
     ghost use Rattle.gt_explore.specs.Telling.{found_told};
@@ -150,177 +161,106 @@ impl ObjectWriter<'_, '_> {
             Claim::Always => self.push_text(out, true, shown_by),
         }
     }
-}
 
-// Ends an output with the last object.
-fn ended(
-    mut text: Vec<u8>,
-    found: &FoundTexts,
-    limit: usize,
-    verdict: Verdict,
-) -> Result<ExploreOutput, AllocError>
-    ensures { IfOk result (λ made. (made.verdict ≡ verdict)
-        × (made.text.items ≡ text.items ++ summary (found_told found.now) limit verdict)) }
-{
-    push_summary(&mut text, found, limit, verdict)?;
-    Ok(ExploreOutput { text, verdict })
-}
-
-// Shows all texts, with scripts for `play` or without.
-fn all_objects(
-    alloc: Global,
-    source: &[u8],
-    script: &RunScript,
-    limit: usize,
-    scripts: bool,
-) -> Result<ExploreOutput, TextsFault>
-    requires fits { CanConfigure (contents_told script.now.head) }
-    requires numbered { AreNumbered script.now.flags script.now.tasks }
-    ensures { IfOk result (λ made. Shows (run_told script.now) limit (ShowsAll (run_told script.now) scripts)
-        made.text.items made.verdict) }
-{
-    let found = texts_within(alloc, script, limit)?;
-    let none: Vec<Condition> = Vec::new(alloc);
-    let met = satisfied(alloc, none.as_slice(), found.texts.as_slice())?;
-    let writer = ObjectWriter {
-        alloc,
-        source,
-        script,
-        found: &found,
-    };
-    let mut text = Vec::new(alloc);
-    writer.push_texts(&mut text, scripts, met.as_slice())?;
-    Ok(ended(text, &found, limit, verdict_of_all(found.whole))?)
-}
-
-// Decides a claim on the conditions of an expression.
-fn claim_objects(
-    alloc: Global,
-    source: &[u8],
-    script: &RunScript,
-    limit: usize,
-    claim: Claim,
-    expression: &str,
-) -> Result<ExploreOutput, TextsFault>
-    requires fits { CanConfigure (contents_told script.now.head) }
-    requires numbered { AreNumbered script.now.flags script.now.tasks }
-    ensures { IfOk result (λ made. Shows (run_told script.now) limit
-        (ShowsClaim (run_told script.now) claim expression.now) made.text.items made.verdict) }
-{
-    let conditions = conditions_for(alloc, script, expression)?;
-    let found = texts_within(alloc, script, limit)?;
-    let met = satisfied(alloc, conditions.as_slice(), found.texts.as_slice())?;
-    let judgement = judge(claim, met.as_slice(), found.whole);
-    let writer = ObjectWriter {
-        alloc,
-        source,
-        script,
-        found: &found,
-    };
-    let mut text = Vec::new(alloc);
-    writer.push_claimed(&mut text, claim, met.as_slice(), judgement.shown_by)?;
-    Ok(ended(text, &found, limit, judgement.verdict)?)
-}
-
-// Shows this text, if it was found.
-fn given_object(
-    alloc: Global,
-    source: &[u8],
-    script: &RunScript,
-    limit: usize,
-    given: &[u8],
-) -> Result<ExploreOutput, TextsFault>
-    requires fits { CanConfigure (contents_told script.now.head) }
-    requires numbered { AreNumbered script.now.flags script.now.tasks }
-    ensures { IfOk result (λ made. Shows (run_told script.now) limit (ShowsGiven (run_told script.now) given.now)
-        made.text.items made.verdict) }
-{
-    let found = texts_within(alloc, script, limit)?;
-    let place = place_of(found.texts.as_slice(), given);
-    let writer = ObjectWriter {
-        alloc,
-        source,
-        script,
-        found: &found,
-    };
-    let mut text = Vec::new(alloc);
-    writer.push_text(&mut text, false, place)?;
-    Ok(ended(text, &found, limit, verdict_on(place, found.whole))?)
-}
-
-// Shows the text of this number, with a script for `play`.
-fn witness_object(
-    alloc: Global,
-    source: &[u8],
-    script: &RunScript,
-    limit: usize,
-    number: usize,
-) -> Result<ExploreOutput, TextsFault>
-    requires fits { CanConfigure (contents_told script.now.head) }
-    requires numbered { AreNumbered script.now.flags script.now.tasks }
-    ensures { IfOk result (λ made. Shows (run_told script.now) limit (ShowsWitness (run_told script.now) number)
-        made.text.items made.verdict) }
-{
-    let Some(at) = number.checked_sub(1) else {
-        return Err(TextsFault::Witness);
-    };
-    let found = texts_within(alloc, script, limit)?;
-    if at >= found.texts.len() {
-        return Err(TextsFault::Witness);
+    // Shows all texts, with scripts for `play` or without.
+    fn all(&self, limit: usize, scripts: bool) -> Result<ExploreOutput, TextsFault>
+        requires { CanConfigure (contents_told self.now.script.now.head) }
+        ensures { IfOk result (λ made. ShowsObjects limit (ShowsAll (run_told self.now.script.now) scripts)
+            (found_told self.now.found.now) made.text.items made.verdict) }
+    {
+        let none: Vec<Condition> = Vec::new(self.alloc);
+        let met = satisfied(self.alloc, none.as_slice(), self.found.texts.as_slice())?;
+        let mut text = Vec::new(self.alloc);
+        self.push_texts(&mut text, scripts, met.as_slice())?;
+        Ok(ended(text, self.found, limit, verdict_of_all(self.found.whole))?)
     }
-    let writer = ObjectWriter {
-        alloc,
-        source,
-        script,
-        found: &found,
-    };
-    let mut text = Vec::new(alloc);
-    writer.push_text(&mut text, true, Some(at))?;
-    Ok(ended(text, &found, limit, verdict_of_all(found.whole))?)
-}
 
-// Shows the text of this number, and the moves that lead to it.
-fn traced_objects(
-    alloc: Global,
-    script: &RunScript,
-    limit: usize,
-    number: usize,
-) -> Result<ExploreOutput, TextsFault>
-    requires fits { CanConfigure (contents_told script.now.head) }
-    requires numbered { AreNumbered script.now.flags script.now.tasks }
-    ensures { IfOk result (λ made. Shows (run_told script.now) limit (ShowsTrace (run_told script.now) number)
-        made.text.items made.verdict) }
-{
-    let found = texts_within(alloc, script, limit)?;
-    let text = trace_objects(alloc, script, &found, number)?;
-    Ok(ended(text, &found, limit, verdict_of_all(found.whole))?)
-}
+    // Decides a claim on these conditions.
+    fn decided(
+        &self,
+        limit: usize,
+        claim: Claim,
+        conditions: &[Condition<'_>],
+    ) -> Result<ExploreOutput, TextsFault>
+        requires fits { CanConfigure (contents_told self.now.script.now.head) }
+        requires texts { AreTextsOf (run_told self.now.script.now) (found_told self.now.found.now) }
+        ensures { IfOk result (λ made. ShowsObjects limit
+            (ShowsClaim (run_told self.now.script.now) claim (map told conditions.now))
+            (found_told self.now.found.now) made.text.items made.verdict) }
+    {
+        let met = satisfied(self.alloc, conditions, self.found.texts.as_slice())?;
+        let judgement = judge(claim, met.as_slice(), self.found.whole);
+        let mut text = Vec::new(self.alloc);
+        self.push_claimed(&mut text, claim, met.as_slice(), judgement.shown_by)?;
+        Ok(ended(text, self.found, limit, judgement.verdict)?)
+    }
 
-/// Returns the answer to a request about a script as JSON. A sequence diagram is no JSON, and is returned as it is.
-///
-/// # Errors
-/// As those of `made_of`.
-pub fn made_of_objects(
-    alloc: Global,
-    request: ExploreRequest<'_>,
-    limit: usize,
-    source: &[u8],
-    script: &RunScript,
-) -> Result<ExploreOutput, TextsFault>
-    requires fits { CanConfigure (contents_told script.now.head) }
-    requires numbered { AreNumbered script.now.flags script.now.tasks }
-    ensures { IfOk result (λ made. IsMadeOfObjects (run_told script.now) limit request.entry made.text.items
-        made.verdict) }
-{
-    match request {
-        ExploreRequest::Texts => all_objects(alloc, source, script, limit, false),
-        ExploreRequest::Decide { claim, expression } => {
-            claim_objects(alloc, source, script, limit, claim, expression)
+    // Shows this text, if it was found.
+    fn given(&self, limit: usize, given: &[u8]) -> Result<ExploreOutput, TextsFault>
+        requires fits { CanConfigure (contents_told self.now.script.now.head) }
+        requires texts { AreTextsOf (run_told self.now.script.now) (found_told self.now.found.now) }
+        ensures { IfOk result (λ made. ShowsObjects limit (ShowsGiven (run_told self.now.script.now) given.now)
+            (found_told self.now.found.now) made.text.items made.verdict) }
+    {
+        let place = place_of(self.found.texts.as_slice(), given);
+        let mut text = Vec::new(self.alloc);
+        self.push_text(&mut text, false, place)?;
+        Ok(ended(text, self.found, limit, verdict_on(place, self.found.whole))?)
+    }
+
+    // Shows the text of this number, with a script for `play`.
+    fn witness(&self, limit: usize, number: usize) -> Result<ExploreOutput, TextsFault>
+        requires { CanConfigure (contents_told self.now.script.now.head) }
+        ensures { IfOk result (λ made. ShowsObjects limit (ShowsWitness (run_told self.now.script.now) number)
+            (found_told self.now.found.now) made.text.items made.verdict) }
+    {
+        let Some(at) = number.checked_sub(1) else {
+            return Err(TextsFault::Witness);
+        };
+        if at >= self.found.texts.len() {
+            return Err(TextsFault::Witness);
         }
-        ExploreRequest::Has(given) => given_object(alloc, source, script, limit, given),
-        ExploreRequest::Witness(number) => witness_object(alloc, source, script, limit, number),
-        ExploreRequest::Witnesses => all_objects(alloc, source, script, limit, true),
-        ExploreRequest::Trace(number) => traced_objects(alloc, script, limit, number),
-        ExploreRequest::Diagram(number) => diagram(alloc, script, limit, number),
+        let mut text = Vec::new(self.alloc);
+        self.push_text(&mut text, true, Some(at))?;
+        Ok(ended(text, self.found, limit, verdict_of_all(self.found.whole))?)
+    }
+
+    // Shows the text of this number, and the moves that lead to it.
+    fn traced(&self, limit: usize, number: usize) -> Result<ExploreOutput, TextsFault>
+        requires { CanConfigure (contents_told self.now.script.now.head) }
+        ensures { IfOk result (λ made. ShowsObjects limit (ShowsTrace (run_told self.now.script.now) number)
+            (found_told self.now.found.now) made.text.items made.verdict) }
+    {
+        let text = trace_objects(self.alloc, self.script, self.found, number)?;
+        Ok(ended(text, self.found, limit, verdict_of_all(self.found.whole))?)
+    }
+
+    /// Answers a request as JSON. A claim is one on these conditions. A sequence diagram is no JSON, and is returned as
+    /// it is.
+    ///
+    /// # Errors
+    /// As those of `answer_in_text`.
+    pub fn answer(
+        &self,
+        request: ExploreRequest<'_>,
+        limit: usize,
+        conditions: &[Condition<'_>],
+    ) -> Result<ExploreOutput, TextsFault>
+        requires fits { CanConfigure (contents_told self.now.script.now.head) }
+        requires texts { AreTextsOf (run_told self.now.script.now) (found_told self.now.found.now) }
+        ensures { IfOk result (λ made. ShowsBy (run_told self.now.script.now) limit request.entry
+            (map told conditions.now) (found_told self.now.found.now) made.text.items made.verdict) }
+    {
+        match request {
+            ExploreRequest::Texts => self.all(limit, false),
+            ExploreRequest::Decide { claim, .. } => self.decided(limit, claim, conditions),
+            ExploreRequest::Has(given) => self.given(limit, given),
+            ExploreRequest::Witness(number) => self.witness(limit, number),
+            ExploreRequest::Witnesses => self.all(limit, true),
+            ExploreRequest::Trace(number) => self.traced(limit, number),
+            ExploreRequest::Diagram(number) => {
+                diagram(self.alloc, self.script, self.found, number)
+            }
+        }
     }
 }

@@ -9,6 +9,8 @@ ghost use Rattle.gt_explore_replay.specs.Orders.{MayGive};
 ghost use Rattle.gt_explore_search.specs.declared.exploring.FoundText.{FoundText};
 ghost use Rattle.gt_explore.specs.Adding.{AddsOrder, AreAscending, AreDifferentTexts, IsTextAmong, last_compared};
 ghost use Rattle.gt_explore.specs.Adding.{texts_of_orders};
+ghost use Rattle.gt_explore.specs.Exploring.{AreTextsOf};
+ghost use Rattle.gt_explore.specs.Telling.{found_told};
 
 use crate::fault::TextsFault;
 use gt_explore_moves::search_within;
@@ -126,6 +128,20 @@ pub fn texts_within(
         whole,
         depth,
     })
+}
+
+/// Returns what [`texts_within`] does. A caller's goals are smaller by its one clause.
+pub(crate) fn texts_found(
+    alloc: Global,
+    script: &RunScript,
+    limit: usize,
+) -> Result<FoundTexts, TextsFault>
+    requires fits { CanConfigure (contents_told script.now.head) }
+    requires numbered { AreNumbered script.now.flags script.now.tasks }
+    ensures { IfOk result (λ all. AreTextsOf (run_told script.now) (found_told all)) }
+{
+    let all = texts_within(alloc, script, limit)?;
+    Ok(all)
 }
 
 /// Returns the texts that a script may give, if the search meets at most `limit` states. These are all of them if the

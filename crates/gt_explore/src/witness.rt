@@ -23,15 +23,14 @@ fn body_of(tasks: &[RunTask]) -> usize {
     }
 }
 
-// Appends the lines before the body.
-fn push_head(out: &mut Vec<u8>, lines: &[&str], body: usize) -> Result<(), AllocError> {
-    for (at, line) in lines.iter().enumerate() {
-        if at + 1 < body {
-            push_text(out, line)?;
-            push_text(out, "\n")?;
-        }
+// Returns the lines before the body.
+fn head_of(alloc: Global, lines: &[&str], body: usize) -> Result<Vec<u8>, AllocError> {
+    let mut out = Vec::new(alloc);
+    for line in lines.iter().take(body.saturating_sub(1)) {
+        push_text(&mut out, line)?;
+        push_text(&mut out, "\n")?;
     }
-    Ok(())
+    Ok(out)
 }
 
 // Appends the line of a call, as a line that only begins it, with this name for its label.
@@ -105,6 +104,26 @@ struct WitnessScript<'d, 't, 'a> {
 }
 
 impl<'d, 't, 'a> WitnessScript<'d, 't, 'a> {
+    // Begins a script with the lines before the body of this one.
+    fn new(alloc: Global, source: &'t str, script: &'d RunScript<'a>) -> Result<Self, TextsFault> {
+        let head = script.head();
+        let domains = head.domains();
+        let lines = text_lines(alloc, source)?;
+        let out = head_of(alloc, lines.as_slice(), body_of(script.tasks()))?;
+        let rights = ScriptPolicy::of(alloc, head)?;
+        let skips = vec![in alloc; false; domains.len()]?;
+        Ok(WitnessScript {
+            alloc,
+            out,
+            lines,
+            domains,
+            rights,
+            names: WitnessNames::new(alloc),
+            skips,
+            keeps: None,
+        })
+    }
+
     // Returns whether the policy lets a domain unmap an entry of this owner.
     fn may_unmap(&self, dom: DomId, owner: DomId) -> bool {
         let Some(source) = type_of(self.domains, dom) else {
@@ -198,6 +217,14 @@ impl<'d, 't, 'a> WitnessScript<'d, 't, 'a> {
         }
         Ok(())
     }
+
+    // Makes these turns.
+    fn make_turns(&mut self, run: &mut Replay<'_, 'a>, turns: &[Turn]) -> Result<(), TextsFault> {
+        for turn in turns {
+            self.make_turn(run, *turn)?;
+        }
+        Ok(())
+    }
 }
 
 // Returns the bytes of a name, if there is one.
@@ -237,25 +264,9 @@ pub fn witness_of<'s, 'a>(
 ) -> Result<PlayScript, TextsFault>
     requires { CanConfigure (contents_told script.now.head) }
 {
-    let head = script.head();
-    let domains = head.domains();
-    let lines = text_lines(alloc, source)?;
-    let mut out = Vec::new(alloc);
-    push_head(&mut out, lines.as_slice(), body_of(script.tasks()))?;
-    let mut witness = WitnessScript {
-        alloc,
-        out,
-        lines,
-        domains,
-        rights: ScriptPolicy::of(alloc, head)?,
-        names: WitnessNames::new(alloc),
-        skips: vec![in alloc; false; domains.len()]?,
-        keeps: None,
-    };
     let mut run = Replay::new(alloc, script)?;
-    for turn in turns {
-        witness.make_turn(&mut run, *turn)?;
-    }
+    let mut witness = WitnessScript::new(alloc, source, script)?;
+    witness.make_turns(&mut run, turns)?;
     Ok(PlayScript {
         lines: witness.out,
         keeps: witness.keeps,

@@ -1,16 +1,10 @@
 use Rattle.std.proofs.Common.{◌≡◌, ◌∙◌, [], Bool, List, ap}
-use Rattle.gt_script.specs.RunContents.{run_told}
-use Rattle.gt_explore.specs.Exploring.{AreTextsOf, satisfied}
+use Rattle.gt_explore.specs.Exploring.{satisfied}
 use Rattle.gt_explore.specs.Telling.{found_told, texts_told}
 use Rattle.gt_explore.proofs.answering.all_texts.Goals as goal
 
 pub returns : goal.returns
 returns c =
-    let are : AreTextsOf (run_told c.args.script.now) (found_told c.in_ok-found.found) = record {
-      possible = c.in_ok-found.ensures.possible;
-      whole = λ all text may. c.in_ok-found.ensures.whole text c.requires.numbered may all;
-      apart = c.in_ok-found.ensures.apart;
-    } in
-    let f = found_told c.in_ok-found.found in
+    let f = found_told c.args.found.now in
     let met : c.in_ok-met.met.items ≡ satisfied [] f = rw (c.as_slice-2.ensures.value, c.as_slice.ensures.value, c.new-none.ensures.items) at c.in_ok-met.ensures in
-    (f, are, c.in_ok-text.ensures ∙ ap (λ (m : List Bool). texts_told f m) (c.as_slice-3.ensures.value ∙ met), c.verdict_of_all-verdict.ensures)
+    (c.in_ok-text.ensures ∙ ap (λ (m : List Bool). texts_told f m) (c.as_slice-3.ensures.value ∙ met), c.verdict_of_all-verdict.ensures)

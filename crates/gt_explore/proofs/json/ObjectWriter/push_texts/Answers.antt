@@ -1,4 +1,4 @@
-use Rattle.std.proofs.Common.{◌≡◌, ◌<◌, ◌∙◌, ◌+◌, ◌++◌, ℕ, List, [], ap, arith, false, get_or, length, refl, subst, sym}
+use Rattle.std.proofs.Common.{◌<◌, ◌∙◌, ◌+◌, ◌++◌, ℕ, List, [], ap, arith, false, get_or, length, refl, subst, sym}
 use Rattle.std.proofs.lemmas.List.{append-nil, get_or_default}
 use Rattle.gt_explore_search.specs.declared.exploring.FoundText.{FoundText}
 use Rattle.gt_script.specs.Contents.{contents_told}

@@ -1,0 +1,8 @@
+use Rattle.gt_explore.proofs.texts.texts_found.Goals as goal
+
+pub returns : goal.returns
+returns c = record {
+  possible = c.in_ok-all.ensures.possible;
+  whole = λ all text may. c.in_ok-all.ensures.whole text c.requires.numbered may all;
+  apart = c.in_ok-all.ensures.apart;
+}
