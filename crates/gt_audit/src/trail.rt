@@ -35,12 +35,14 @@ impl Model for Trail {
     ghost invariant = { λ t. t.len ≡ length t.pieces.records };
 }
 
-// Returns one more. The count stops at `u64::MAX`. A saturating sum would take two more instructions.
+// Counts one more, up to `u64::MAX`. A saturating sum would take two more instructions.
 #[inline(always)]
-fn one_more_lost(lost: u64) -> u64
-    ensures { result ≡ one_more_lost lost }
+fn count_lost(lost: &mut u64)
+    ensures { lost.new ≡ one_more_lost lost.old }
 {
-    if lost < u64::MAX { lost + 1 } else { lost }
+    if *lost < u64::MAX {
+        *lost += 1;
+    }
 }
 
 impl Trail {
@@ -94,7 +96,7 @@ impl Trail {
         ensures { Tells self.old told self.new }
     {
         if self.len >= self.most || self.pieces.push(told).is_err() {
-            self.lost = one_more_lost(self.lost);
+            count_lost(&mut self.lost);
         } else {
             self.len += 1;
         }

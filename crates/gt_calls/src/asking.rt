@@ -10,7 +10,7 @@ use crate::action::CallResult;
 use crate::judging::{
     judge_change, judge_copy, judge_grant, judge_load, judge_map, judge_own_access, judge_probe,
     judge_query, judge_release, judge_revoke, judge_setup, judge_store, judge_unmap, judge_version,
-    label_of, own_entry,
+    label_of, own_entry, owner_label,
 };
 use crate::known::{CallerState, OwnerEntry};
 use crate::request::{OpenRequest, Request};
@@ -52,7 +52,8 @@ fn judge_beginning<P: Allows>(
         }
         OpenRequest::Unmap { handle } => {
             let source = label_of(known.config, caller);
-            judge_unmap(known, source, handle)
+            let target = owner_label(known.config, known.mappings.get(handle).copied());
+            judge_unmap(known, source, target, handle)
         }
         OpenRequest::Release { handle } => judge_release(known.mappings, handle),
         OpenRequest::Load { handle, off, len } => {

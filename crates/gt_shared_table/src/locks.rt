@@ -87,8 +87,28 @@ fn take_awaited(cells: &Cells, seat: &mut CellSeat, slot: FrameSlot) -> bool
     await_word::<Brand>(cells, seat, slot) == 0
 }
 
-// Takes the frame of a slot. Waits while another seat has it. A seat that waited takes the frame with the mark that
-// others may wait too, so the next wakes when it frees the frame.
+// Takes the frame of a slot that another seat has, or had just now. Waits until that frees it. A seat that waited takes
+// the frame with the mark that others may wait too, so the next wakes when it frees the frame.
+#[cold]
+#[inline(never)]
+fn lock_awaited<R: Wait>(rt: &R, cells: &Cells, seat: &mut CellSeat, slot: FrameSlot)
+    requires mine { seat.old.table_id ≡ cells.now.table_id }
+    requires slot { IsSlotOf (places_of cells.now.key) cells.now.table_id slot }
+    ensures seat { (seat.new.table_id ≡ seat.old.table_id) × (seat.new.id ≡ seat.old.id) }
+    ensures took { Took (layout_of cells.now.key) slot seat.old.me seat.new.me }
+{
+    'tries: for _try in rt.forever() {
+        if take_awaited(cells, seat, slot) {
+            return;
+        }
+        cells.park(rt, slot.lock, AWAITED as u32);
+    }
+    unreachable!()
+}
+
+// Takes the frame of a slot. Waits while another seat has it. Most frames are free, so the one exchange that takes such
+// a frame is inlined.
+#[inline(always)]
 pub(crate) fn lock<R: Wait>(rt: &R, cells: &Cells, seat: &mut CellSeat, slot: FrameSlot)
     requires mine { seat.old.table_id ≡ cells.now.table_id }
     requires slot { IsSlotOf (places_of cells.now.key) cells.now.table_id slot }
@@ -98,11 +118,5 @@ pub(crate) fn lock<R: Wait>(rt: &R, cells: &Cells, seat: &mut CellSeat, slot: Fr
     if try_lock(cells, seat, slot) {
         return;
     }
-    'tries: for _try in rt.forever() {
-        if take_awaited(cells, seat, slot) {
-            return;
-        }
-        cells.park(rt, slot.lock, AWAITED as u32);
-    }
-    unreachable!()
+    lock_awaited(rt, cells, seat, slot)
 }

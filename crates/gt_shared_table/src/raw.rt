@@ -13,7 +13,7 @@ ghost use Rattle.gt_shared_table.specs.Words.{IsAlone};
 use crate::rule::{CellSeat, Cells, OfKind, Tells, TellsAll, TellsStore};
 use gt_entry::{BodyWord, pin_unit};
 use gt_types::Dir;
-use gt_word_history::{DOMAIN_ROWS, DOMAIN_WORDS, ENTRY_WORDS, EntryAt, Purpose};
+use gt_word_history::{DOMAIN_WORDS, ENTRY_WORDS, EntryAt, Purpose};
 
 // Returns the index of a body word among the words of its entry.
 fn index_of(half: BodyWord) -> usize
@@ -45,7 +45,7 @@ pub(crate) fn load_control_word<J: OfKind>(
 {
     cells.load::<Tells<J>>(
         seat,
-        (entry.position * DOMAIN_ROWS + (entry.gref + 1)) * ENTRY_WORDS,
+        entry.position * DOMAIN_WORDS + entry.gref * ENTRY_WORDS + ENTRY_WORDS,
     )
 }
 
@@ -70,7 +70,7 @@ pub(crate) fn load_body_word<J: OfKind>(
 {
     cells.load::<Tells<J>>(
         seat,
-        (entry.position * DOMAIN_ROWS + (entry.gref + 1)) * ENTRY_WORDS + index_of(half),
+        entry.position * DOMAIN_WORDS + entry.gref * ENTRY_WORDS + ENTRY_WORDS + index_of(half),
     )
 }
 
@@ -96,7 +96,7 @@ pub(crate) fn store_body_word<J: OfKind>(
 {
     cells.store::<TellsStore<J>>(
         seat,
-        (entry.position * DOMAIN_ROWS + (entry.gref + 1)) * ENTRY_WORDS + index_of(half),
+        entry.position * DOMAIN_WORDS + entry.gref * ENTRY_WORDS + ENTRY_WORDS + index_of(half),
         new,
     )
 }
@@ -124,7 +124,7 @@ pub(crate) fn exchange_word<J: OfKind>(
     let _ = purpose;
     cells.compare_exchange::<Tells<J>>(
         seat,
-        (entry.position * DOMAIN_ROWS + (entry.gref + 1)) * ENTRY_WORDS,
+        entry.position * DOMAIN_WORDS + entry.gref * ENTRY_WORDS + ENTRY_WORDS,
         old,
         new,
     )
@@ -153,7 +153,7 @@ pub(crate) fn subtract_from_word<J: OfKind>(
     let _ = generation;
     cells.fetch_sub::<Tells<J>>(
         seat,
-        (entry.position * DOMAIN_ROWS + (entry.gref + 1)) * ENTRY_WORDS,
+        entry.position * DOMAIN_WORDS + entry.gref * ENTRY_WORDS + ENTRY_WORDS,
         pin_unit(dir),
     )
 }

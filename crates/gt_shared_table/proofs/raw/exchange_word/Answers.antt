@@ -7,8 +7,8 @@ use Rattle.gt_shared_table.proofs.raw.exchange_word.Goals as goal
 
 pub compare_exchange-requires : goal.compare_exchange-requires
 compare_exchange-requires g c = let t = c.requires.table in let wide = t.1 in let inside = c.requires.inside in let k = c.requires.kind in let b = c.args.cells.now in let e = c.args.entry in
-    let same : place e.position e.gref 0 ≡ (e.position * 8193 + (e.gref + 1)) * 8 = omega arith in (
+    let same : place e.position e.gref 0 ≡ e.position * 65544 + e.gref * 8 + 8 = omega arith in (
       t.0,
       omega arith,
-      moved (places_of b.key) g.J.OfKind.kind (λ n. either (n == c.args.old) c.args.new n) (place e.position e.gref 0) ((e.position * 8193 + (e.gref + 1)) * 8) b.table_id.slots c.args.seat.now.id c.args.seat.now.me c.args.old c.args.new c.requires.alone same (omega arith) k.0 k.1 k.2 c.requires.may,
+      moved (places_of b.key) g.J.OfKind.kind (λ n. either (n == c.args.old) c.args.new n) (place e.position e.gref 0) (e.position * 65544 + e.gref * 8 + 8) b.table_id.slots c.args.seat.now.id c.args.seat.now.me c.args.old c.args.new c.requires.alone same (omega arith) k.0 k.1 k.2 c.requires.may,
     )

@@ -7,8 +7,8 @@ use Rattle.gt_shared_table.proofs.raw.store_body_word.Goals as goal
 
 pub store-requires : goal.store-requires
 store-requires g c = let t = c.requires.table in let wide = t.1 in let inside = c.requires.inside in let k = c.requires.kind in let b = c.args.cells.now in let e = c.args.entry in let i = c.index_of.ensures in let index = i.index in let few = i.inside in
-    let same : place e.position e.gref (half_index c.args.half) ≡ (e.position * 8193 + (e.gref + 1)) * 8 + c.index_of.result = omega arith in (
+    let same : place e.position e.gref (half_index c.args.half) ≡ e.position * 65544 + e.gref * 8 + 8 + c.index_of.result = omega arith in (
       t.0,
       omega arith,
-      moved_store (places_of b.key) g.J.OfKind.kind (λ _. c.args.new) (place e.position e.gref (half_index c.args.half)) ((e.position * 8193 + (e.gref + 1)) * 8 + c.index_of.result) b.table_id.slots c.args.seat.now.id c.args.seat.now.me c.args.new 0 c.requires.alone same (omega arith) k.0 k.1 k.2 c.requires.may,
+      moved_store (places_of b.key) g.J.OfKind.kind (λ _. c.args.new) (place e.position e.gref (half_index c.args.half)) (e.position * 65544 + e.gref * 8 + 8 + c.index_of.result) b.table_id.slots c.args.seat.now.id c.args.seat.now.me c.args.new 0 c.requires.alone same (omega arith) k.0 k.1 k.2 c.requires.may,
     )

@@ -1,5 +1,5 @@
 use Rattle.std.proofs.Common.{◌≡◌}
-use Rattle.gt_shared_table.proofs.locks.lock.Given as goal
+use Rattle.gt_shared_table.proofs.locks.lock_awaited.Given as goal
 
 abbrev pub invariant-tries : goal.invariant-tries
 invariant-tries g l =
