@@ -256,7 +256,7 @@ impl<P: Drop> Explorer<P> {
         }
         let line = self.line(turn.place, led)?;
         let met = self.states.len();
-        let state = self.states.number(space, world)?;
+        let state = self.states.number(space, world, visit.state)?;
         if state == met {
             return Ok(Some(self.visit(space, state)?));
         }
@@ -396,7 +396,7 @@ impl<P: Drop> Explorer<P> {
             SearchStarts ways self.old → OnOk result (SearchFinishes ways self.new) }
     {
         let world = space.start()?;
-        let state = self.states.number(space, world)?;
+        let state = self.states.number(space, world, 0)?;
         let first = self.visit(space, state)?;
         self.walk(space, first)
     }

@@ -1,5 +1,5 @@
 //! The parts of the states that a search has met, each kept once.
-ghost use Rattle.std.specs.Prelude.{◌≡◌, slice_get, IfOk, IfSome, OnOk};
+ghost use Rattle.std.specs.Prelude.{◌≡◌, slice_get, IfOk, IfSome, IsTrue, OnOk};
 ghost use Rattle.std.specs.Option.{option_map};
 ghost use Rattle.gt_explore_search.specs.Parts.{Extends, HasNumber, IsCopyOf, Pairwise};
 
@@ -14,6 +14,14 @@ pub struct PartIndex<P> {
     alloc: Global,
     digests: HashMap<u64, Vec<u32>>,
     kept: Vec<P>,
+}
+
+// Returns the number at this index, if there is one.
+fn number_at(numbers: Option<&Vec<u32>>, at: usize) -> Option<u32> {
+    match numbers {
+        Some(numbers) => numbers.get(at).copied(),
+        None => None,
+    }
 }
 
 impl<P: Drop> PartIndex<P> {
@@ -33,16 +41,24 @@ impl<P: Drop> PartIndex<P> {
         self.kept.get(number as usize)
     }
 
+    // Returns whether the part with this number is the same.
+    fn is_part<S: TransitionSystem<Part = P>>(&self, space: &S, number: u32, part: &P) -> bool
+        ensures { IsTrue result → HasNumber (S.parts space.now) self.now.kept.items part.now number }
+    {
+        match self.part(number) {
+            Some(other) => space.is_same(part, other),
+            None => false,
+        }
+    }
+
     // Returns the number of the part with this digest that is the same.
     fn find<S: TransitionSystem<Part = P>>(&self, space: &S, digest: u64, part: &P) -> Option<u32>
         ensures { IfSome result (HasNumber (S.parts space.now) self.now.kept.items part.now) }
     {
         let numbers = self.digests.get(&digest)?;
         'numbers: for number in numbers.as_slice() {
-            if let Some(other) = self.part(*number) {
-                if space.is_same(part, other) {
-                    return Some(*number);
-                }
+            if self.is_part(space, *number, part) {
+                return Some(*number);
             }
         }
         None
@@ -80,7 +96,26 @@ impl<P: Drop> PartIndex<P> {
         Ok(number)
     }
 
-    /// Returns the numbers of these parts.
+    // Returns the number of a part. If it is the same as the part with the number `last`, it needs no digest.
+    fn number_near<S: TransitionSystem<Part = P>>(
+        &mut self,
+        space: &S,
+        part: &P,
+        last: Option<u32>,
+    ) -> Result<u32, SearchFault>
+        ensures number { IfOk result (HasNumber (S.parts space.now) self.new.kept.items part.now) }
+        ensures grows { OnOk result (Extends self.old.kept.items self.new.kept.items) }
+    {
+        if let Some(number) = last {
+            if self.is_part(space, number, part) {
+                return Ok(number);
+            }
+        }
+        self.number(space, part)
+    }
+
+    /// Returns the numbers of these parts. The parts with the numbers `last` are likely to be the same, each as the
+    /// part at its index.
     ///
     /// # Errors
     /// `Memory`, or `States` if there are too many parts for numbers of 32 bits.
@@ -88,6 +123,7 @@ impl<P: Drop> PartIndex<P> {
         &mut self,
         space: &S,
         parts: &[P],
+        last: Option<&Vec<u32>>,
     ) -> Result<Vec<u32>, SearchFault>
         ensures numbers { IfOk result (λ numbers.
             Pairwise (HasNumber (S.parts space.now) self.new.kept.items) parts.now numbers.items) }
@@ -95,7 +131,8 @@ impl<P: Drop> PartIndex<P> {
     {
         let mut numbers = Vec::with_capacity(self.alloc, parts.len())?;
         'parts: for part in parts {
-            numbers.push(self.number(space, part)?)?;
+            let near = number_at(last, numbers.len());
+            numbers.push(self.number_near(space, part, near)?)?;
         }
         Ok(numbers)
     }

@@ -54,7 +54,8 @@ impl<P: Drop> StateIndex<P> {
         Ok(space.join(parts)?)
     }
 
-    /// Returns the number of a state, which is the next one if the state is new.
+    /// Returns the number of a state, which is the next one if the state is new. Its parts are first compared with
+    /// those of the state with the number `last`, from which a turn may have led to it.
     ///
     /// # Errors
     /// `Memory`, or `States` if there are too many parts.
@@ -62,6 +63,7 @@ impl<P: Drop> StateIndex<P> {
         &mut self,
         space: &S,
         state: S::State,
+        last: usize,
     ) -> Result<usize, SearchFault>
         ensures grows { OnOk result (Extends self.old.parts.kept.items self.new.parts.kept.items) }
         ensures number { (all : List P) → Extends self.new.parts.kept.items all → IfOk result (λ n. (k : Vec ℕ)
@@ -69,7 +71,8 @@ impl<P: Drop> StateIndex<P> {
             × IsNumbered (by_numbers (S.ways space.now) (S.parts space.now) all) self.old.met.keys k n self.new.met.keys) }
     {
         let parts = space.split(state)?;
-        let numbers = self.parts.numbers(space, parts.as_slice())?;
+        let near = self.met.get_index(last);
+        let numbers = self.parts.numbers(space, parts.as_slice(), near)?;
         let (number, _) = self.met.insert_full(numbers)?;
         Ok(number)
     }

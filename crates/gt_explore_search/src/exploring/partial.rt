@@ -60,7 +60,7 @@ impl<P: Drop> Explorer<P> {
             SearchStarts ways self.old → IfOk result (λ left. IfNone left (SearchFinishes ways self.new)) }
     {
         let world = space.start()?;
-        let state = self.states.number(space, world)?;
+        let state = self.states.number(space, world, 0)?;
         let first = self.visit(space, state)?;
         self.walk_within(space, first, limit)
     }
@@ -80,7 +80,7 @@ impl<P: Drop> Explorer<P> {
             return Ok(());
         }
         let line = self.line(turn.place, led)?;
-        let state = self.states.number(space, world)?;
+        let state = self.states.number(space, world, 0)?;
         let Some(node) = self.node_of(state) else {
             return Ok(());
         };

@@ -8,7 +8,7 @@ parts-init g c = record { numbers = subst (λ (l : List ℕ). Pairwise (HasNumbe
 
 pub parts-preserved : goal.parts-preserved
 parts-preserved g c = record {
-  numbers = number-step (g.S.TransitionSystem.parts c.args.space.now) c.parts.self.kept.items c.number.new.self.kept.items c.args.parts.now c.parts.numbers.items c.push.new.self.items c.parts.part-index c.part-item.result c.in_ok-number.field-0 c.parts-test.true
-      c.parts.invariant.numbers c.part-item.is c.in_ok-number.ensures.number c.in_ok-number.ensures.grows c.in_ok-push.ensures.items;
-  grows = extends-on c.args.self.now.kept.items c.parts.self.kept.items c.number.new.self.kept.items c.parts.invariant.grows c.in_ok-number.ensures.grows;
+  numbers = number-step (g.S.TransitionSystem.parts c.args.space.now) c.parts.self.kept.items c.number_near.new.self.kept.items c.args.parts.now c.parts.numbers.items c.push.new.self.items c.parts.part-index c.part-item.result c.in_ok-number_near.field-0 c.parts-test.true
+      c.parts.invariant.numbers c.part-item.is c.in_ok-number_near.ensures.number c.in_ok-number_near.ensures.grows c.in_ok-push.ensures.items;
+  grows = extends-on c.args.self.now.kept.items c.parts.self.kept.items c.number_near.new.self.kept.items c.parts.invariant.grows c.in_ok-number_near.ensures.grows;
 }
