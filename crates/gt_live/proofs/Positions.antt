@@ -4,10 +4,12 @@ use Rattle.std.proofs.Common.{subst, arith}
 use Rattle.std.proofs.lemmas.List.{length-map}
 use Rattle.std.specs.Prelude.{◌==◌, position, unwrap_or}
 use Rattle.std.specs.List.{position_or_len}
+use Rattle.std.specs.Option.{IsSome}
 use Rattle.gt_types.specs.declared.DomId.{DomId}
 use Rattle.gt_types.specs.declared.config.Config.{Config}
 use Rattle.gt_types.specs.declared.config.DomainConfig.{DomainConfig}
 use Rattle.gt_word_history.specs.Rule.{Layout, layout_of, position_in}
+use Rattle.gt_words.specs.Conditions.{HasDomain}
 
 abbrev is_number : ℕ → DomId → Bool
 is_number d x = x.0 == d
@@ -44,3 +46,14 @@ found-nowhere k c dom run none =
     let here : position_in ids dom ≡ length ids = ap (λ (o : Option ℕ). unwrap_or o (length ids)) (by-number c.domains.items dom.0 ∙ none) in
     subst (λ (l : Layout). length c.domains.items ≡ position_in l.ids dom) (sym run)
     (sym (length-map c.domains.items (λ (x : DomainConfig). x.id)) ∙ sym here)
+
+-- a domain of the run is found
+pub some-there : (k : Layout) (c : Config) (dom : DomId) → k ≡ layout_of c → HasDomain k dom → IsSome (position (has_number dom.0) c.domains.items)
+some-there k c dom run has = by (position (has_number dom.0) c.domains.items) refl
+  where
+    by : (o : Option ℕ) → position (has_number dom.0) c.domains.items ≡ o → IsSome o
+    by None none =
+        let at = found-nowhere k c dom run none in
+        let count : length k.ids ≡ length c.domains.items = ap (λ (l : Layout). length l.ids) run ∙ length-map c.domains.items (λ (x : DomainConfig). x.id) in
+        absurd (omega (arith, at, count, has))
+    by (Some at) is = refl

@@ -10,10 +10,10 @@ use crate::driving::{MapArgs, PlacedLeg, drive_map, pin_of};
 use crate::monitor::Monitor;
 use gt_audit::{Hypercall, Record, Reply, Trail};
 use gt_calls::{CallResult, Handle, HeldPin, Leg, judge_map, judge_release, judge_unmap, map_leg};
-use gt_types::{Allows, Denial, DomId, Facts, GrantRef, Rule};
+use gt_types::{Allows, Denial, DomId, Facts, GrantRef, Rule, TypeId};
 
-// Returns the position of a domain in the run, or the number of domains if the run does not have it. The rules look the
-// domain up too, so that this look costs nothing.
+// Returns the position of a domain in the run, or the number of domains if the run does not have it. A map looks its
+// owner up by the rules too, so that this look costs nothing.
 #[inline(always)]
 fn position_of<P: Allows>(monitor: &Monitor<P>, dom: DomId) -> usize
     ensures { result ≡ position_at monitor.now.words dom }
@@ -88,7 +88,7 @@ impl Domain {
     ghost use Rattle.gt_live.specs.Maps.{pin_effect, pin_verdict};
     ghost use Rattle.gt_calls.specs.Path.{map_leg, path};
     ghost use Rattle.gt_calls.specs.declared.request.Request.{Request};
-    ghost use Rattle.gt_calls.specs.Rules.{map_begun, unmap_begun};
+    ghost use Rattle.gt_calls.specs.Rules.{map_begun, owner_label, unmap_begun};
     ghost use Rattle.gt_calls.specs.declared.request.OpenRequest.TheVariants as asks;
     ghost use Rattle.gt_live.specs.Domains.{known_on, verdict_of};
     ghost use Rattle.std.specs.Option.{IsSome};
@@ -177,6 +177,7 @@ impl Domain {
     /// The first rule that applies: N1, N2, N5 or N8 at the beginning; N9 with the header's word; N10 to N13, N16, N17
     /// or N18 with the entry's word. N26 if no rule applies at the beginning and the mapping cannot be allocated.
     /// Mappings and pins are unchanged.
+    #[inline(always)]
     pub fn map<P: Allows>(
         &mut self,
         monitor: &Monitor<P>,
@@ -219,24 +220,40 @@ impl Domain {
         judge_map(&self.known(monitor), caller, label, dom, flags)
     }
 
-    // Returns the result of an unmap, if it is decided at its beginning.
-    fn judge_unmap<P: Allows>(&self, monitor: &Monitor<P>, handle: Handle) -> Option<CallResult>
+    // Returns the label of the owner of the mapping under a handle.
+    #[inline(always)]
+    fn owner_label<P: Allows>(&self, monitor: &Monitor<P>, handle: Handle) -> TypeId
         requires mine { BelongsTo P.may monitor.now self.now }
-        ensures { result ≡ unmap_begun (known_on P.may monitor.now self.now) self.now.seat.dom handle }
+        ensures { result ≡ owner_label monitor.now.config.domains.items (value_of self.now.mappings handle) }
     {
-        judge_unmap(&self.known(monitor), self.label(monitor), handle)
+        match self.mappings.get(handle).copied() {
+            Some(held) => monitor.config.domain(held.dom).unwrap().label,
+            None => TypeId(0),
+        }
     }
 
     // Returns the position of the owner of the mapping under a handle.
     #[inline(always)]
     fn position_under<P: Allows>(&self, monitor: &Monitor<P>, handle: Handle) -> usize
+        requires mine { BelongsTo P.may monitor.now self.now }
         ensures { (p : HeldPin) → value_of self.now.mappings handle ≡ Some p
             → result ≡ position_at monitor.now.words p.dom }
     {
         match self.mappings.get(handle).copied() {
-            Some(held) => position_of(monitor, held.dom),
+            Some(held) => monitor.config.position(held.dom).unwrap(),
             None => 0,
         }
+    }
+
+    // Returns the result of an unmap, if it is decided at its beginning. The owner of a mapping is of the run, so its label
+    // is found without a test.
+    fn judge_unmap<P: Allows>(&self, monitor: &Monitor<P>, handle: Handle) -> Option<CallResult>
+        requires mine { BelongsTo P.may monitor.now self.now }
+        ensures { result ≡ unmap_begun (known_on P.may monitor.now self.now) self.now.seat.dom handle }
+    {
+        let source = self.label(monitor);
+        let target = self.owner_label(monitor, handle);
+        judge_unmap(&self.known(monitor), source, target, handle)
     }
 
     // Drops the mapping that the handle names, and releases its pin.
@@ -333,6 +350,7 @@ impl Domain {
     ///
     /// # Errors
     /// N6 or N5. Mappings and pins are unchanged.
+    #[inline(always)]
     pub fn unmap<P: Allows>(&mut self, monitor: &Monitor<P>, handle: Handle) -> Result<(), Denial>
         requires mine { BelongsTo P.may monitor.now self.old }
         ensures mine { BelongsTo P.may monitor.now self.new }
