@@ -10,7 +10,7 @@ use std::alloc::{AllocError, Global};
 use std::io::{self, ErrorKind, Write};
 
 /// All rules, in the order of their numbers.
-const RULES: [Rule; 26] = [
+static RULES: [Rule; 26] = [
     Rule::N1,
     Rule::N2,
     Rule::N3,
@@ -189,9 +189,9 @@ fn write_rules<W: Write>(
     width: Option<usize>,
 ) -> io::Result<bool> {
     let mut is_any = false;
-    for rule in RULES {
-        if name.is_none_or(|name| is_named(rule, name)) {
-            write_rule(alloc, out, rule, width)?;
+    for rule in RULES.iter() {
+        if name.is_none_or(|name| is_named(*rule, name)) {
+            write_rule(alloc, out, *rule, width)?;
             is_any = true;
         }
     }
