@@ -202,27 +202,8 @@ impl<'s, 'a> SearchContext<'s, 'a> {
             && !matches!(self.next_move(told, place, actor), NextMove::Awaits(_))
     }
 
-    // Returns a domain that can move, and whose next move no other domain can disturb, as the beginning of a call. If a
-    // copy may go through a transitive entry, none is known.
-    fn free_domain(&self, world: &SearchState<'a>) -> Option<usize> {
-        let told = world.told.as_slice();
-        for (place, actor) in world.actors.as_slice().iter().enumerate() {
-            if !self.vias && !self.is_done(place, actor) {
-                if let NextMove::Free = self.next_move(told, place, actor) {
-                    return Some(place);
-                }
-            }
-        }
-        None
-    }
-
     // Returns the smallest of the sets that grow from a domain that can move.
     pub(super) fn smallest_set(&self, world: &SearchState<'a>) -> Result<Vec<bool>, AllocError> {
-        if let Some(place) = self.free_domain(world) {
-            let mut inside = vec![in self.alloc; false; world.actors.len()]?;
-            put_in(&mut inside, place);
-            return Ok(inside);
-        }
         let told = world.told.as_slice();
         let mut smallest = Vec::new(self.alloc);
         let mut size = usize::MAX;
