@@ -1,7 +1,7 @@
 //! The loads, and their run.
 use crate::audit::Extent;
 use crate::parts::{Accesses, Moves, Part, Spread, Worker, page, work};
-use anyhow::{Result, bail};
+use crate::stops::Stop;
 use gt_allow::AllowTable;
 use gt_entry::Entry;
 use gt_policy::Policy;
@@ -140,9 +140,9 @@ fn workers<D: Calls + Drop>(
     mut domains: Vec<D>,
     load: Load,
     threads: u32,
-) -> Result<Vec<Worker<D>>> {
+) -> Result<Vec<Worker<D>>, Stop> {
     if domains.len() < 6 {
-        bail!("fewer than six domains");
+        return Err(Stop::FewDomains);
     }
     let mut owner = domains.remove(0);
     let mut middle = domains.remove(0);
@@ -157,7 +157,7 @@ fn workers<D: Calls + Drop>(
         },
     };
     if !grant_each(&mut owner, &mut middle, load, spread) {
-        bail!("an entry can't be granted");
+        return Err(Stop::NotGranted);
     }
     let mut workers = Vec::new(alloc);
     if let Some(part) = owners_part(load, spread) {
@@ -194,9 +194,26 @@ fn run_workers<D: Calls + Send + Drop, R: Threads + Wait + Sync>(
 }
 
 // Returns the rights by the policy.
-fn rights(alloc: Global) -> Result<AllowTable> {
-    let policy = Policy::parse(alloc, POLICY)?;
-    Ok(AllowTable::compile(alloc, &policy)?)
+fn rights(alloc: Global) -> Result<AllowTable, Stop> {
+    let Ok(policy) = Policy::parse(alloc, POLICY) else {
+        return Err(Stop::Policy);
+    };
+    match AllowTable::compile(alloc, &policy) {
+        Ok(table) => Ok(table),
+        Err(_) => Err(Stop::Memory),
+    }
+}
+
+// Runs a load on these domains. Returns the number of rounds of all threads.
+fn run_on<D: Calls + Send + Drop, R: Threads + Wait + Sync>(
+    rt: &R,
+    alloc: Global,
+    domains: Vec<D>,
+    load: Load,
+    extent: Extent,
+) -> Result<u64, Stop> {
+    let workers = workers(alloc, domains, load, extent.threads)?;
+    Ok(run_workers(rt, alloc, workers, extent)?)
 }
 
 /// Runs a load. Returns the number of rounds of all threads.
@@ -205,19 +222,15 @@ pub(crate) fn run<R: Threads + Wait + Sync>(
     alloc: Global,
     load: Load,
     extent: Extent,
-) -> Result<u64> {
+) -> Result<u64, Stop> {
     let version = if matches!(load, Load::Bytes(..)) {
         2
     } else {
         1
     };
+    let rights = rights(alloc)?;
     let config = run_domains(alloc, extent.domains, version)?;
-    let (monitor, domains) = start_run(alloc, config, rights(alloc)?)?;
-    let workers = workers(
-        alloc,
-        all_running(alloc, &monitor, domains)?,
-        load,
-        extent.threads,
-    )?;
-    Ok(run_workers(rt, alloc, workers, extent)?)
+    let (monitor, domains) = start_run(alloc, config, rights)?;
+    let domains = all_running(alloc, &monitor, domains)?;
+    run_on(rt, alloc, domains, load, extent)
 }

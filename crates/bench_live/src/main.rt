@@ -23,6 +23,7 @@
 mod audit;
 mod loads;
 mod parts;
+mod stops;
 
 use crate::audit::{Audit, Extent};
 use crate::loads::{FEWEST, Load, MOST, run};
@@ -105,7 +106,11 @@ fn extent_of(words: &[String]) -> Result<Extent> {
 // Runs the load that the words name. Returns the number of rounds of its threads.
 fn run_named<R: Threads + Wait + Sync>(rt: &R, alloc: Global, words: &[String]) -> Result<u64> {
     let load = load_of(word_at(words, 1, ""))?;
-    run(rt, alloc, load, extent_of(words)?)
+    let extent = extent_of(words)?;
+    match run(rt, alloc, load, extent) {
+        Ok(done) => Ok(done),
+        Err(stop) => bail!("{}", stop.text()),
+    }
 }
 
 fn main(rt: HostRuntime) -> Result<()> {

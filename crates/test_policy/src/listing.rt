@@ -2,6 +2,7 @@
 use crate::texts::{GUESTS, TAKEN_OUT, declarations};
 use gt_policy_list::{ListingFault, policy};
 use std::alloc::Global;
+use std::io::{Read, Write};
 use std::process::Abort;
 use std::test::Fail;
 use test_failing::{FailingReader, FailingWriter};
@@ -13,10 +14,19 @@ domU_t dom0_t copy\n\
 domU_t domU_t map_read\n\
 domU_t domU_t copy\n";
 
+// Lists a policy. A caller that takes the result apart costs less proof without the contract of `policy`.
+fn list<R: Read, W: Write>(
+    alloc: Global,
+    reader: &mut R,
+    writer: &mut W,
+) -> Result<(), ListingFault> {
+    policy(alloc, reader, writer)
+}
+
 // Returns the listing of a text, and the fault as it prints, if there is one.
 fn listed(alloc: Global, mut text: &[u8]) -> Result<String, Fail> {
     let mut writer = Vec::new(alloc);
-    let mut out = match policy(alloc, &mut text, &mut writer) {
+    let mut out = match list(alloc, &mut text, &mut writer) {
         Ok(()) => String::new(alloc),
         Err(fault) => fault.to_string(alloc)?,
     };
@@ -32,7 +42,7 @@ fn every_beginning_is_listed_or_refused(rt: HostRuntime) -> Result<(), Fail> {
     for length in 0..GUESTS.len() {
         let mut reader = &GUESTS.as_bytes()[..length];
         let mut writer = Vec::new(rt.alloc());
-        let is_told = match policy(rt.alloc(), &mut reader, &mut writer) {
+        let is_told = match list(rt.alloc(), &mut reader, &mut writer) {
             Ok(()) if length + 1 == GUESTS.len() => writer.as_slice() == GUESTS_LINES.as_bytes(),
             Ok(()) | Err(ListingFault::Policy(_)) => writer.is_empty(),
             Err(_) => false,
@@ -44,7 +54,7 @@ fn every_beginning_is_listed_or_refused(rt: HostRuntime) -> Result<(), Fail> {
 
 // A prefix, the text after it and how often it is repeated, and the listing or the fault: too many bytes are reported
 // before bad ones.
-const MANY: [(&str, &[u8], usize, &str); 7] = [
+static MANY: [(&str, &[u8], usize, &str); 7] = [
     ("type a;", b"allow a a:c d;\n", 65_536, ""),
     (
         "type a;",
@@ -62,37 +72,39 @@ const MANY: [(&str, &[u8], usize, &str); 7] = [
 #[test]
 fn takes_the_most_statements_and_bytes(rt: HostRuntime) -> Result<(), Fail> {
     let alloc = rt.alloc();
-    for (head, each, count, wanted) in MANY {
+    for (head, each, count, wanted) in MANY.iter() {
         let mut text = head.as_bytes().to_vec(alloc)?;
-        for _ in 0..count {
+        for _ in 0..*count {
             text.extend_from_slice(each)?;
         }
         let lines = listed(alloc, text.as_slice())?;
-        assert_eq!(rt; lines.as_str(), wanted, "{count}");
+        assert_eq!(rt; lines.as_str(), *wanted, "{count}");
     }
     Ok(())
 }
 
-// The text follows 256 declarations, one per line.
+// A word of declarations, the text that follows 256 of them, one per line, and the listing or the fault.
+static DECLARED: [(&str, &str, &str); 6] = [
+    ("type", "", ""),
+    ("type", "type n256;", "line 257: policy limit"),
+    ("type", "type n255;", "line 257: policy twice n255"),
+    ("attribute", "", ""),
+    ("attribute", "attribute n256;", "line 257: policy limit"),
+    (
+        "attribute",
+        "attribute n255;",
+        "line 257: policy twice n255",
+    ),
+];
+
 #[test]
 fn takes_256_types_and_256_attributes(rt: HostRuntime) -> Result<(), Fail> {
     let alloc = rt.alloc();
-    for (word, behind, wanted) in [
-        ("type", "", ""),
-        ("type", "type n256;", "line 257: policy limit"),
-        ("type", "type n255;", "line 257: policy twice n255"),
-        ("attribute", "", ""),
-        ("attribute", "attribute n256;", "line 257: policy limit"),
-        (
-            "attribute",
-            "attribute n255;",
-            "line 257: policy twice n255",
-        ),
-    ] {
+    for (word, behind, wanted) in DECLARED.iter() {
         let most = declarations(alloc, word, 256)?;
         let text = format!(in alloc; "{most}{behind}")?;
         let lines = listed(alloc, text.as_bytes())?;
-        assert_eq!(rt; lines.as_str(), wanted, "{behind}");
+        assert_eq!(rt; lines.as_str(), *wanted, "{behind}");
     }
     Ok(())
 }
@@ -102,7 +114,7 @@ fn a_reader_that_fails(rt: HostRuntime) -> Result<(), Fail> {
     for left in 0..GUESTS.len() {
         let mut reader = FailingReader::new(GUESTS.as_bytes(), left);
         let mut writer = Vec::new(rt.alloc());
-        let outcome = policy(rt.alloc(), &mut reader, &mut writer);
+        let outcome = list(rt.alloc(), &mut reader, &mut writer);
         let is_told = matches!(outcome, Err(ListingFault::Read)) && writer.is_empty();
         assert!(rt; is_told, "after {left} bytes");
     }
@@ -113,7 +125,7 @@ fn a_reader_that_fails(rt: HostRuntime) -> Result<(), Fail> {
 fn a_writer_that_fails(rt: HostRuntime) -> Result<(), Fail> {
     for left in 0..GUESTS_LINES.len() + 1 {
         let mut writer = FailingWriter::new(Vec::new(rt.alloc()), left);
-        let outcome = policy(rt.alloc(), &mut GUESTS.as_bytes(), &mut writer);
+        let outcome = list(rt.alloc(), &mut GUESTS.as_bytes(), &mut writer);
         let is_beginning = writer.taken.as_slice() == &GUESTS_LINES.as_bytes()[..left];
         let is_told = matches!(outcome, Err(ListingFault::Write)) && is_beginning;
         assert!(rt; is_told, "after {left} bytes");
@@ -135,7 +147,7 @@ fn refused_at_most_once(
         Err(_) => Vec::with_capacity(alloc, 4096)?,
     };
     let mut writer = FailingWriter::new(taken, 4096);
-    match policy(alloc, &mut reader, &mut writer) {
+    match list(alloc, &mut reader, &mut writer) {
         Ok(()) => assert_eq!(rt; writer.taken.as_slice(), lines.as_bytes()),
         Err(fault) => {
             assert!(rt; matches!(fault, ListingFault::Memory));

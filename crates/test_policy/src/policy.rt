@@ -4,6 +4,7 @@ use bitflags::Flags;
 use gt_policy::{Policy, PolicyFaultKind};
 use gt_types::{Allows, Perms, TypeId};
 use std::alloc::{AllocError, Global};
+use std::process::Abort;
 use std::test::Fail;
 
 // A prefix is a policy if a statement has just ended, and otherwise has one fault.
@@ -45,16 +46,20 @@ const NAMES_OF_GUESTS: &str =
 const NAMES_OF_MANY: &str =
     "256 Some(\"n0\") Some(\"n1\") Some(\"n2\") Some(\"n255\") None None None None None";
 
+// Compares them with a text.
+fn names_are(rt: &impl Abort, alloc: Global, text: &str, wanted: &str) -> Result<(), Fail> {
+    let policy = Policy::parse(alloc, text)?;
+    let said = names_said(alloc, &policy)?;
+    assert_eq!(rt; said.as_str(), wanted);
+    Ok(())
+}
+
 #[test]
 fn tells_types_by_number_and_name(rt: HostRuntime) -> Result<(), Fail> {
     let alloc = rt.alloc();
     let many = declarations(alloc, "type", 256)?;
-    for (text, wanted) in [(GUESTS, NAMES_OF_GUESTS), (many.as_str(), NAMES_OF_MANY)] {
-        let policy = Policy::parse(alloc, text)?;
-        let said = names_said(alloc, &policy)?;
-        assert_eq!(rt; said.as_str(), wanted);
-    }
-    Ok(())
+    names_are(&rt, alloc, GUESTS, NAMES_OF_GUESTS)?;
+    names_are(&rt, alloc, many.as_str(), NAMES_OF_MANY)
 }
 
 #[test]
@@ -73,21 +78,21 @@ type domU_t, domain;\n\
 allow { domain -dom0_t } domain:grant { map_read copy };\n\
 allow dom0_t self:grant query;\n";
 
+// Returns what a source may do to a target.
+fn rights_on(policy: &Policy, source: u16, target: u16) -> Perms {
+    policy.row(TypeId(source)).on(TypeId(target))
+}
+
 #[test]
 fn says_what_a_source_may_do(rt: HostRuntime) -> Result<(), Fail> {
-    let alloc = rt.alloc();
-    let policy = Policy::parse(alloc, COPY_AND_QUERY)?;
-    for (source, target, wanted) in [
-        (0, 0, Perms::QUERY),
-        (0, 1, Perms::empty()),
-        (1, 0, Perms::MAP_READ | Perms::COPY),
-        (1, 1, Perms::MAP_READ | Perms::COPY),
-        (1, 2, Perms::empty()),
-        (300, 0, Perms::empty()),
-    ] {
-        let row = policy.row(TypeId(source));
-        assert_eq!(rt; row.on(TypeId(target)), wanted, "{source} {target}");
-    }
+    let policy = Policy::parse(rt.alloc(), COPY_AND_QUERY)?;
+    let both = Perms::MAP_READ | Perms::COPY;
+    assert_eq!(rt; rights_on(&policy, 0, 0), Perms::QUERY);
+    assert_eq!(rt; rights_on(&policy, 0, 1), Perms::empty());
+    assert_eq!(rt; rights_on(&policy, 1, 0), both);
+    assert_eq!(rt; rights_on(&policy, 1, 1), both);
+    assert_eq!(rt; rights_on(&policy, 1, 2), Perms::empty());
+    assert_eq!(rt; rights_on(&policy, 300, 0), Perms::empty());
     Ok(())
 }
 

@@ -4,6 +4,7 @@ use bitflags::Flags;
 use gt_allow::AllowTable;
 use gt_policy::Policy;
 use gt_types::{Allows, Perms, Triple, Triples, TypeId};
+use std::alloc::{AllocError, Global};
 use std::test::Fail;
 
 const ONE_STATEMENT: &str = "type a_t; type b_t; allow b_t a_t:grant map_read;\n";
@@ -52,56 +53,65 @@ fn compared(policy: &Policy, table: &AllowTable, types: u16) -> (u32, u32) {
     (allowed, other)
 }
 
+// Policies, each with the number of triples that it allows.
+static POLICIES: [(&str, u32); 8] = [
+    (TAKEN_OUT, 3),
+    (ONE_STATEMENT, 1),
+    (GUESTS, 4),
+    (DOM0_TAKEN_FIRST, 4),
+    (THREE_DOMAINS, 48),
+    (SPLIT_DRIVER, 22),
+    (OF_ANOTHER_CLASS, 0),
+    ("", 0),
+];
+
 // Compares them on every triple of the types, and of one undeclared type.
 #[test]
 fn a_table_answers_as_the_walk(rt: HostRuntime) -> Result<(), Fail> {
     let alloc = rt.alloc();
-    for (text, triples) in [
-        (TAKEN_OUT, 3),
-        (ONE_STATEMENT, 1),
-        (GUESTS, 4),
-        (DOM0_TAKEN_FIRST, 4),
-        (THREE_DOMAINS, 48),
-        (SPLIT_DRIVER, 22),
-        (OF_ANOTHER_CLASS, 0),
-        ("", 0),
-    ] {
+    for (text, triples) in POLICIES.iter() {
         let policy = Policy::parse(alloc, text)?;
         let table = AllowTable::compile(alloc, &policy)?;
         let told = compared(&policy, &table, policy.count().wrapping_add(1));
-        assert_eq!(rt; told, (triples, 0), "{text}");
+        assert_eq!(rt; told, (*triples, 0), "{text}");
     }
     Ok(())
+}
+
+// Returns the answers of the walk, of the table, and of a list that has this question, to the question for these
+// permissions.
+fn answers_for(
+    alloc: Global,
+    policy: &Policy,
+    table: &AllowTable,
+    perm: Perms,
+) -> Result<[bool; 3], AllocError> {
+    let a = TypeId(0);
+    let triple = Triple {
+        source: a,
+        target: a,
+        perm,
+    };
+    let triples = Triples {
+        allowed: vec![in alloc; triple]?,
+    };
+    Ok([
+        policy.allows(a, a, perm),
+        table.allows(a, a, perm),
+        triples.allows(a, a, perm),
+    ])
 }
 
 // A question for several permissions, or for none, is answered no in all three forms.
 #[test]
 fn several_permissions_are_none(rt: HostRuntime) -> Result<(), Fail> {
     let alloc = rt.alloc();
-    let a = TypeId(0);
     let policy = Policy::parse(alloc, "type a_t; allow a_t a_t:grant *;")?;
     let table = AllowTable::compile(alloc, &policy)?;
-    for (perm, wanted) in [
-        (Perms::COPY, true),
-        (Perms::empty(), false),
-        (Perms::MAP_READ | Perms::MAP_WRITE, false),
-        (Perms::all(), false),
-    ] {
-        let triples = Triples {
-            allowed: vec![in alloc;
-                Triple {
-                    source: a,
-                    target: a,
-                    perm
-                },
-            ]?,
-        };
-        let answers = (
-            policy.allows(a, a, perm),
-            table.allows(a, a, perm),
-            triples.allows(a, a, perm),
-        );
-        assert_eq!(rt; answers, (wanted, wanted, wanted), "{}", perm.bits());
-    }
+    let several = Perms::MAP_READ | Perms::MAP_WRITE;
+    assert_eq!(rt; answers_for(alloc, &policy, &table, Perms::COPY)?, [true; 3]);
+    assert_eq!(rt; answers_for(alloc, &policy, &table, Perms::empty())?, [false; 3]);
+    assert_eq!(rt; answers_for(alloc, &policy, &table, several)?, [false; 3]);
+    assert_eq!(rt; answers_for(alloc, &policy, &table, Perms::all())?, [false; 3]);
     Ok(())
 }
