@@ -42,6 +42,7 @@ fn named<'a>(verbose: bool, file: Option<&'a str>) -> Option<&'a str> {
 fn fault_reason(
     alloc: Global,
     file: &str,
+    is_line: bool,
     input: &KeptInput,
     fault: &PlayFault,
 ) -> Result<Vec<u8>, AllocError> {
@@ -52,7 +53,7 @@ fn fault_reason(
     match fault {
         PlayFault::Script(fault) => push_script_reason(alloc, &mut said, file, bytes, fault)?,
         PlayFault::Policy(fault) => push_block_reason(alloc, &mut said, file, bytes, fault)?,
-        PlayFault::Read => push_read_reason(&mut said, file, input.fault())?,
+        PlayFault::Read => push_unread(&mut said, file, is_line, input.fault())?,
         PlayFault::Memory | PlayFault::Write => {}
     }
     Ok(said)
@@ -99,6 +100,16 @@ pub(crate) fn read_words<'w>(said: &'w [u8]) -> &'w [u8] {
     }
 }
 
+// Appends why a file was not read: in the words of the system, or shorter in a line of its own.
+fn push_unread(
+    out: &mut Vec<u8>,
+    file: &str,
+    is_line: bool,
+    words: &[u8],
+) -> Result<(), AllocError> {
+    push_read_reason(out, file, if is_line { read_words(words) } else { words })
+}
+
 // Returns the reason for which a file was not opened.
 fn unread(
     alloc: Global,
@@ -108,12 +119,7 @@ fn unread(
 ) -> Result<Vec<u8>, AllocError> {
     let mut said = Vec::new(alloc);
     let words = format!(in alloc; "{error}")?;
-    let words = words.as_bytes();
-    push_read_reason(
-        &mut said,
-        file,
-        if is_line { read_words(words) } else { words },
-    )?;
+    push_unread(&mut said, file, is_line, words.as_bytes())?;
     Ok(said)
 }
 
@@ -132,14 +138,7 @@ fn listing_reason(
     match fault {
         ListingFault::Utf8 { line } => push_utf8_reason(alloc, &mut said, file, bytes, *line)?,
         ListingFault::Policy(fault) => push_policy_reason(alloc, &mut said, file, bytes, fault)?,
-        ListingFault::Read => {
-            let words = input.fault();
-            push_read_reason(
-                &mut said,
-                file,
-                if is_line { read_words(words) } else { words },
-            )?;
-        }
+        ListingFault::Read => push_unread(&mut said, file, is_line, input.fault())?,
         ListingFault::Memory | ListingFault::Write => {}
     }
     Ok(said)
@@ -287,7 +286,7 @@ impl<'a> Reasons<'a> {
         if let Some(file) = self.file {
             let said = match ending {
                 Ok(()) => play_refusals(self.alloc, file, input),
-                Err(fault) => fault_reason(self.alloc, file, input, fault),
+                Err(fault) => fault_reason(self.alloc, file, self.is_line, input, fault),
             };
             self.add(said);
         }
@@ -305,7 +304,13 @@ impl<'a> Reasons<'a> {
         };
         let said = match ending {
             Ok(()) => run_refusals(self.alloc, file, input, text),
-            Err(RunFault::Play(fault)) => fault_reason(self.alloc, file, input, fault),
+            Err(RunFault::Play(fault)) => fault_reason(
+                self.alloc,
+                file,
+                self.is_line,
+                input,
+                fault,
+            ),
             Err(RunFault::Thread) => return,
         };
         self.add(said);
@@ -394,7 +399,7 @@ impl<'a> Reasons<'a> {
             return;
         };
         let said = match fault {
-            ExploreFault::Play(fault) => fault_reason(self.alloc, file, input, fault),
+            ExploreFault::Play(fault) => fault_reason(self.alloc, file, self.is_line, input, fault),
             ExploreFault::Texts(fault) => texts_reason(self.alloc, file, states, *fault),
         };
         self.add(said);
