@@ -10,9 +10,9 @@ use crate::action::CallResult;
 use crate::judging::{
     judge_change, judge_copy, judge_grant, judge_load, judge_map, judge_own_access, judge_probe,
     judge_query, judge_release, judge_revoke, judge_setup, judge_store, judge_unmap, judge_version,
-    label_of, own_entry, owner_label,
+    label_of, owner_label,
 };
-use crate::known::{CallerState, OwnerEntry};
+use crate::known::{CallerState, OwnerEntry, own_entry};
 use crate::request::{OpenRequest, Request};
 use gt_entry::{Entry, EntryChange, Header, decode};
 use gt_types::{Allows, Denial, DomId, Facts, GrantRef, LAST_GENERATION, Rule};
