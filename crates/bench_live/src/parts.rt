@@ -116,14 +116,20 @@ fn withdraw_and_grant<D: Calls>(owner: &mut D, spread: Spread, rounds: u32) -> u
     done
 }
 
-// Maps an entry and unmaps it, this number of times, each time with as many tries as it takes.
-fn map_and_unmap<D: Calls>(domain: &mut D, gref: u32, rounds: u32) -> u32 {
+// Maps an entry and unmaps it, this number of times, each time with as many tries as it takes. If the mapping stays, maps
+// it once and returns 1, or 0 if that was refused. It is the one place that maps, so that the compiler inlines the call, as
+// it does in the programs in C.
+fn map_and_unmap<D: Calls>(domain: &mut D, gref: u32, flags: u32, stays: bool, rounds: u32) -> u32 {
     let mut done = 0;
     'rounds: for _ in 0..u64::MAX {
         if done >= rounds {
             break;
         }
-        if domain.map(OWNER.0, gref, READ_ONLY).is_ok() && domain.unmap().is_ok() {
+        let mapped = domain.map(OWNER.0, gref, flags).is_ok();
+        if stays {
+            return u32::from(mapped);
+        }
+        if mapped && domain.unmap().is_ok() {
             done += 1;
         }
     }
@@ -139,7 +145,7 @@ fn map_and_take<D: Calls>(alloc: Global, domain: &mut D, gref: u32, rounds: u32)
         if left == 0 {
             break;
         }
-        let part = map_and_unmap(domain, gref, left.min(BEFORE_TAKEN));
+        let part = map_and_unmap(domain, gref, READ_ONLY, false, left.min(BEFORE_TAKEN));
         taken = domain.take_records(taken);
         done = done.saturating_add(part);
     }
@@ -217,7 +223,7 @@ fn move_bytes<R: Wait, D: Calls>(
         return 0;
     };
     let maps = !matches!(moves, Moves::Copies | Moves::Forwards);
-    if maps && domain.map(OWNER.0, gref, WRITABLE).is_err() {
+    if maps && map_and_unmap(domain, gref, WRITABLE, true, 1) == 0 {
         return 0;
     }
     let copy = copy_of(accesses);
@@ -241,7 +247,7 @@ pub(crate) fn work<R: Wait, D: Calls + Drop>(
         Part::Maps(gref) if matches!(audit, Audit::Taken) => map_and_take(
             alloc, domain, gref, rounds,
         ),
-        Part::Maps(gref) => map_and_unmap(domain, gref, rounds),
+        Part::Maps(gref) => map_and_unmap(domain, gref, READ_ONLY, false, rounds),
         Part::Grants(spread) => revoke_and_grant(domain, spread, rounds),
         Part::Withdraws(spread) => withdraw_and_grant(domain, spread, rounds),
         Part::Moves(accesses) => move_bytes(rt, alloc, domain, accesses, rounds),

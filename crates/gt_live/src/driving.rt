@@ -213,6 +213,7 @@ pub(crate) struct PlacedLeg {
 
 // Drives a map to its end, by this leg, and returns the pin that it took, or its refusal. Requires that it is not decided
 // at its beginning.
+#[inline(always)]
 pub(crate) fn drive_map<P: Allows>(
     words: &Words,
     known: &CallerState<'_, P>,

@@ -15,7 +15,7 @@ ghost use Rattle.gt_words.specs.Frames.{copying_at, index_of, writing_at};
 use crate::words::{Seat, Words};
 use gt_frames::{Copied, Filled, Writ, Written};
 use gt_shared_table::{FrameCopy, FrameIndex, FrameWrite, SharedTable, TableSeat};
-use gt_types::{FrameName, Memory, Range, Spot};
+use gt_types::{DomId, FrameName, Memory, Range, Spot};
 use std::sync::Wait;
 
 /// Why an access was not made. No frame has changed, and no step was made.
@@ -28,6 +28,21 @@ pub enum AccessFault {
 }
 
 impl Words {
+    // Finds the position of the owner of a frame. The seat's own is known, so the domain looked up last stays that of the
+    // entries that the seat steps on.
+    #[inline(always)]
+    fn owner_position(&self, seat: &mut Seat, owner: DomId) -> usize
+        requires { IsSeatOf self.now seat.old }
+        ensures position { result ≡ position_at self.now owner }
+        ensures seat { seat.new ≡ seat.old }
+    {
+        let _ = &self.words;
+        if owner.0 == seat.dom.0 {
+            return seat.position;
+        }
+        self.position(seat, owner)
+    }
+
     // Finds a frame in the table.
     #[inline(always)]
     fn frame_at(&self, seat: &mut Seat, name: FrameName) -> Option<FrameIndex>
@@ -38,7 +53,7 @@ impl Words {
         ensures none { IfNone result (KeepsFrame self.now name → ⊥) }
     {
         let frame = FrameIndex {
-            position: self.position(seat, name.owner),
+            position: self.owner_position(seat, name.owner),
             number: name.number,
         };
         if self.words.has_frame(frame) {

@@ -217,7 +217,6 @@ impl<'m, P: Allows> TestDomain<'m, P> {
         version(self.domain.get_version(self.monitor, dom))
     }
 
-    #[inline(always)]
     fn unmap_handle(&mut self, handle: Handle) -> Result<(), Denial> {
         self.domain.unmap(self.monitor, handle)
     }
@@ -236,7 +235,6 @@ impl<'m, P: Allows> TestDomain<'m, P> {
         self.domain.load(rt, self.monitor, handle, off, len)
     }
 
-    #[inline(always)]
     fn store_to<R: Wait>(
         &mut self,
         rt: &R,
@@ -256,7 +254,6 @@ impl<'m, P: Allows> TestDomain<'m, P> {
     }
 }
 
-// The calls that are timed are inlined where they are made, as those of the programs in C that they are compared with.
 impl<'m, P: Allows> Calls for TestDomain<'m, P> {
     fn grant(&mut self, gref: u32, entry: &Entry) -> Result<(), Denial> {
         self.domain.grant(self.monitor, GrantRef(gref), entry)
@@ -278,7 +275,6 @@ impl<'m, P: Allows> Calls for TestDomain<'m, P> {
         self.domain.promote(self.monitor, GrantRef(gref))
     }
 
-    #[inline(always)]
     fn map(&mut self, dom: u16, gref: u32, flags: u32) -> Result<(), Denial> {
         let answer = self
             .domain
@@ -292,7 +288,6 @@ impl<'m, P: Allows> Calls for TestDomain<'m, P> {
         }
     }
 
-    #[inline(always)]
     fn unmap(&mut self) -> Result<(), Denial> {
         let handle = self.last;
         self.unmap_handle(handle)
@@ -303,7 +298,6 @@ impl<'m, P: Allows> Calls for TestDomain<'m, P> {
         self.load_from(rt, handle, off, len)
     }
 
-    #[inline(always)]
     fn load_into<R: Wait>(&mut self, rt: &R, off: u16, buffer: &mut [u8]) -> Result<(), Denial> {
         let handle = self.last;
         plain(self.domain.load_into(rt, self.monitor, handle, off, buffer))
@@ -319,13 +313,11 @@ impl<'m, P: Allows> Calls for TestDomain<'m, P> {
         plain(self.domain.peek_into(rt, self.monitor, frame, off, buffer))
     }
 
-    #[inline(always)]
     fn store<R: Wait>(&mut self, rt: &R, off: u16, bytes: &[u8]) -> Result<(), Denial> {
         let handle = self.last;
         self.store_to(rt, handle, off, bytes)
     }
 
-    #[inline(always)]
     fn copy<R: Wait>(&mut self, rt: &R, copy: &CopyArgs) -> Result<(), Denial> {
         plain(self.domain.copy(rt, self.monitor, copy))
     }

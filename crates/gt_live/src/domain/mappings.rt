@@ -177,7 +177,6 @@ impl Domain {
     /// The first rule that applies: N1, N2, N5 or N8 at the beginning; N9 with the header's word; N10 to N13, N16, N17
     /// or N18 with the entry's word. N26 if no rule applies at the beginning and the mapping cannot be allocated.
     /// Mappings and pins are unchanged.
-    #[inline(always)]
     pub fn map<P: Allows>(
         &mut self,
         monitor: &Monitor<P>,
@@ -207,6 +206,7 @@ impl Domain {
     }
 
     // Returns the result of a map, if it is decided at its beginning.
+    #[inline(always)]
     fn judge_map<P: Allows>(
         &self,
         monitor: &Monitor<P>,
@@ -246,7 +246,8 @@ impl Domain {
     }
 
     // Returns the result of an unmap, if it is decided at its beginning. The owner of a mapping is of the run, so its label
-    // is found without a test.
+    // is there.
+    #[inline(always)]
     fn judge_unmap<P: Allows>(&self, monitor: &Monitor<P>, handle: Handle) -> Option<CallResult>
         requires mine { BelongsTo P.may monitor.now self.now }
         ensures { result ≡ unmap_begun (known_on P.may monitor.now self.now) self.now.seat.dom handle }
@@ -350,7 +351,6 @@ impl Domain {
     ///
     /// # Errors
     /// N6 or N5. Mappings and pins are unchanged.
-    #[inline(always)]
     pub fn unmap<P: Allows>(&mut self, monitor: &Monitor<P>, handle: Handle) -> Result<(), Denial>
         requires mine { BelongsTo P.may monitor.now self.old }
         ensures mine { BelongsTo P.may monitor.now self.new }
