@@ -536,11 +536,13 @@ module _ (vias : Bool) (s : Setting) where
         by (inl (denial, e)) = none-held (Map dom gref flags) same tt (map-same h d dom gref flags) holds
             (λ handle f. let never : Denied denial ≡ Mapped handle =
             sym e ∙ same_Some answer (Mapped handle) (sym is ∙ f) in absurd (cc))
-            (denied-over denial end.verdict (held_then (Map dom gref flags) same tt (map-same h d dom gref flags) holds) end.over
+            (denied-over denial end.verdict
+            (held_then (Map dom gref flags) same tt (map-same h d dom gref flags) holds) end.over
             (ap refusal_of (sym e) ∙ end.refused))
         by (inr (handle, e)) = subst (λ (b : Option Answer). legs_at (stepped d z v b ∷ h) d.0 ≡ [])
             (sym (is ∙ ap Some e))
-            (mapped-legs handle z v (subst (λ (b : Answer). GivesValue s h d (Map dom gref flags) (Some z) b) e end.gives)
+            (mapped-legs handle z v
+            (subst (λ (b : Answer). GivesValue s h d (Map dom gref flags) (Some z) b) e end.gives)
             (facts (Map dom gref flags) same tt (map-same h d dom gref flags) holds))
 
       after-map : After (Map dom gref flags)
@@ -578,7 +580,8 @@ module _ (vias : Bool) (s : Setting) where
           → CallSound legs_then d (underway_after (record { actor = d; happened = Stepped z v; answer = b }) (Some c))
       by None is after = (
         plain,
-        subst (CallHolds legs_then d c.request) (sym (map-append (λ (x : Step × Observation). x.1) c.steps ((z, v) ∷ [])))
+        subst (CallHolds legs_then d c.request)
+            (sym (map-append (λ (x : Step × Observation). x.1) c.steps ((z, v) ∷ [])))
             (after.0 is),
       )
       by (Some answer) is after = after.1 answer is

@@ -213,21 +213,25 @@ module _ (L : HeldPin → Type 0) (G : List HeldPin → Action → Type 0) where
       by : (verdict : Option CallResult) → Each (p ∷ held) (unless_refused verdict (p ∷ held)
           (leg (second_leg k l dom2 gref) (refused_holding (p ∷ held)) (λ q. reached (Through p q))))
       by None = each-leg (p ∷ held) (second_leg k l dom2 gref) is.leg_is (refused_holding (p ∷ held))
-          (λ q. reached (Through p q)) (λ denial. each-given (p ∷ held) (Refused denial) (is.gives (Refused denial))) is.on
+          (λ q. reached (Through p q))
+          (λ denial. each-given (p ∷ held) (Refused denial) (is.gives (Refused denial))) is.on
       by (Some verdict) = each-given (p ∷ held) verdict (is.gives verdict)
     each-beyond p entries.Invalid direct second = direct
     each-beyond p (entries.Page dom ro frame) direct second = direct
     each-beyond p (entries.Sub dom ro frame off len) direct second = direct
 
-    pub each-reached : (granted : Bool) → (granted ≡ true → LegIs held l) → ((verdict : CallResult) → GivesWell held verdict)
+    pub each-reached : (granted : Bool) → (granted ≡ true → LegIs held l)
+        → ((verdict : CallResult) → GivesWell held verdict)
         → (granted ≡ false → Each held (reached Own))
         → (granted ≡ true → (p : HeldPin) → IsPinOf l p → L p → Each (p ∷ held) (reached (Direct p)))
-        → (granted ≡ true → (p : HeldPin) → IsPinOf l p → L p → (dom : DomId) (ro : Bool) (dom2 : DomId) (gref : GrantRef)
+        → (granted ≡ true → (p : HeldPin) → IsPinOf l p → L p
+        → (dom : DomId) (ro : Bool) (dom2 : DomId) (gref : GrantRef)
         → p.entry ≡ entries.Via dom ro dom2 gref → SecondIs k l held p dom2 gref reached)
         → Each held (reaches k granted l pair held reached)
     each-reached false is gives own direct second = own refl
     each-reached true is gives own direct second = each-leg held l (is refl) (refused_holding held)
-        (λ p. beyond k l pair held reached p p.entry) (λ denial. each-given held (Refused denial) (gives (Refused denial)))
+        (λ p. beyond k l pair held reached p p.entry)
+        (λ denial. each-given held (Refused denial) (gives (Refused denial)))
         (λ p of take. each-beyond p p.entry (direct refl p of take) (second refl p of take))
 
   -- an owner's changes
@@ -265,7 +269,8 @@ module _ (L : HeldPin → Type 0) (G : List HeldPin → Action → Type 0) where
       by (entries.Page dom ro frame) x = each-once held ends d gref (Publish (entries.Page dom ro frame)) x _
       by (entries.Via dom ro dom2 r) x = each-once held ends d gref (Publish (entries.Via dom ro dom2 r)) x _
 
-  pub each-mapped : (found : Option HeldPin) (step : HeldPin → Step) (ends : (verdict : CallResult) → G [] (Done verdict))
+  pub each-mapped : (found : Option HeldPin) (step : HeldPin → Step)
+      (ends : (verdict : CallResult) → G [] (Done verdict))
       → ((m : HeldPin) → found ≡ Some m → G [] (Makes (step m)))
       → ((m : HeldPin) → after_step (step m) Nothing [] ≡ []) → Each [] (by_mapping found step)
   each-mapped None step ends good kept = each-ended [] _ (ends _)

@@ -518,8 +518,8 @@ module _ (c : RunContents) where
   begin-free hs (passed b flag) d q z may = tt
 
   -- a line of a domain that is not calling
-  line-free : (vias : Bool) (hs : List Happening) (k : Course) (move : NextMove) (t : RunTask) (ts : List RunTask) (y x : Happening)
-      (j : Course) → k.opened ≡ resting → k.tasks ≡ t ∷ ts → IsNext hs k move → HappeningTouches (Unmet move) vias hs y
+  line-free : (vias : Bool) (hs : List Happening) (k : Course) (move : NextMove) (t : RunTask) (ts : List RunTask)
+      (y x : Happening) (j : Course) → k.opened ≡ resting → k.tasks ≡ t ∷ ts → IsNext hs k move → HappeningTouches (Unmet move) vias hs y
       → ActionLeads (type_names c.head) k t.line ts t.deed x j → CanComeNext set (hs ++ y ∷ []) x → ComesFree hs y x
   line-free vias hs k move t ts y x j rest tasks next touches leads may = by t.deed refl leads where
     flag-free : (m : NextMove) (flag : ℕ) → t.deed ≡ Await flag → IsNext hs k m → HappeningTouches (Unmet m) vias hs y
@@ -546,8 +546,8 @@ module _ (c : RunContents) where
     by (Do call) is (q, e, says, did-is, to) = subst (ComesFree hs y) (sym did-is)
         (tt, begin-free hs y k.dom q e (subst (CanComeNext set (hs ++ y ∷ [])) did-is may))
 
-  rest-free : (vias : Bool) (hs : List Happening) (k : Course) (move : NextMove) (tasks : List RunTask) (choice : ℕ) (y x : Happening)
-      (j : Course) → k.opened ≡ resting → k.tasks ≡ tasks → IsNext hs k move → HappeningTouches (Unmet move) vias hs y
+  rest-free : (vias : Bool) (hs : List Happening) (k : Course) (move : NextMove) (tasks : List RunTask) (choice : ℕ)
+      (y x : Happening) (j : Course) → k.opened ≡ resting → k.tasks ≡ tasks → IsNext hs k move → HappeningTouches (Unmet move) vias hs y
       → RestLeads (type_names c.head) k tasks choice x j → CanComeNext set (hs ++ y ∷ []) x → ComesFree hs y x
   rest-free vias hs k move [] choice y x j rest same next touches (handle, e, there, is, to) may =
       subst (ComesFree hs y) (sym is)
@@ -556,9 +556,11 @@ module _ (c : RunContents) where
       line-free vias hs k move t ts y x j rest same next touches leads.1 may
 
   -- a step of an open call
-  tick-free : (vias : Bool) (hs : List Happening) (k : Course) (move : NextMove) (y : Happening) (z : Element) → k.opened ≢ resting
+  tick-free : (vias : Bool) (hs : List Happening) (k : Course) (move : NextMove) (y : Happening) (z : Element)
+      → k.opened ≢ resting
       → IsNext hs k move → HappeningTouches (Unmet move) vias hs y → IsSound vias set (history_in hs)
-      → CanComeNext set hs y → CanComeNext set (hs ++ y ∷ []) (did (Tick k.dom) z) → AreItemsApart set hs (did (Tick k.dom) z) y
+      → CanComeNext set hs y → CanComeNext set (hs ++ y ∷ []) (did (Tick k.dom) z)
+      → AreItemsApart set hs (did (Tick k.dom) z) y
   tick-free vias hs k (Awaits flag) y z busy next touches sound first may = absurd (busy next.2)
   tick-free vias hs k Free y z busy next touches sound first may = absurd (busy next.0)
   tick-free vias hs k (Makes d step) (raised b flag) z busy next touches sound first may = tt
@@ -575,7 +577,8 @@ module _ (c : RunContents) where
           → ItemTouches (Unmet (Makes d step)) vias (history_in hs) i.actor i.happened
       mine i (Begin b q) m t = subst (λ a. ItemTouches (Unmet (Makes d step)) vias (history_in hs) a i.happened)
           (sym m.1.0) t
-      mine i (Tick b) m t = subst (λ a. ItemTouches (Unmet (Makes d step)) vias (history_in hs) a i.happened) (sym m.1.0) t
+      mine i (Tick b) m t = subst (λ a. ItemTouches (Unmet (Makes d step)) vias (history_in hs) a i.happened)
+          (sym m.1.0) t
 
       by : (i j : Item) → (i.actor.0 == j.actor.0) ≡ false
           → ItemTouches (Unmet (Makes d step)) vias (history_in hs) i.actor i.happened
@@ -593,7 +596,8 @@ module _ (c : RunContents) where
             (open_call (i ∷ history_in hs) a.0)) of.0 right) sound
 
   -- the next move of a domain is free to come before what another domain did, of which it meets nothing
-  move-free : (vias : Bool) (hs : List Happening) (k : Course) (move : NextMove) (choice : ℕ) (y x : Happening) (j : Course)
+  move-free : (vias : Bool) (hs : List Happening) (k : Course) (move : NextMove) (choice : ℕ) (y x : Happening)
+      (j : Course)
       → IsNext hs k move → HappeningTouches (Unmet move) vias hs y → IsSound vias set (history_in hs)
       → CourseLeads (type_names c.head) k choice x j
       → CanComeNext set hs y → CanComeNext set (hs ++ y ∷ []) x → ComesFree hs y x
@@ -877,7 +881,8 @@ module _ (c : RunContents) (scene : SearchContext) (hs : List Happening) (place 
             (λ e. stores (or-first (is_store t) (list_any is_store ts) e)),
             vias 0 t refl,
           ) both.0,
-          tasks-unmet zero ts (λ m. mine (suc m)) (λ m. vias (suc m)) (λ e. loads (or-second (is_load t) (list_any is_load ts) e))
+          tasks-unmet zero ts (λ m. mine (suc m)) (λ m. vias (suc m))
+              (λ e. loads (or-second (is_load t) (list_any is_load ts) e))
               (λ e. stores (or-second (is_store t) (list_any is_store ts) e)) both.1,
         )
     tasks-unmet (suc n) (t ∷ ts) mine vias loads stores none =

@@ -311,7 +311,8 @@ module _ (A : Touch → Type 0) (uses : MappingUse) where
         → steps_of (known_at s h d) d r (values c) ≡ Some (Makes y) → Does r
     does-so (Copy x) same t e =
         let it = each-step A uses (known_at s h d) d (IsPlain uses.vias s) mapped (Copy x) t
-        (λ copy p dom ro dom2 gref plain via. absurd (beyond-none t.0 p dom ro dom2 gref plain via)) (values c) (Makes y)
+        (λ copy p dom ro dom2 gref plain via. absurd (beyond-none t.0 p dom ro dom2 gref plain via))
+        (values c) (Makes y)
         (copy-took uses.vias s h sound d c is y right.continues x same) e in
         (it.0, pinned (Copy x) y same refl it.0 it.1 it.2)
     does-so (Probe x) same t e = absurd t
@@ -491,7 +492,8 @@ module _ (A : Touch → Type 0) (uses : MappingUse) where
     by resting l = rest-within types s hs k j k.tasks choice x refl l may w.tasks_touch w.past sound
     by (calling line call lost) (none, e, is, to) = goes-to s hs (Tick k.dom) e x j k.tasks is
         (ap (λ (c : Course). c.dom) to ∙ after-dom types line call lost k (answer_in e))
-        (ap (λ (c : Course). c.tasks) to ∙ after-tasks types line call lost k (answer_in e)) tt may w.tasks_touch w.past sound
+        (ap (λ (c : Course). c.tasks) to ∙ after-tasks types line call lost k (answer_in e)) tt may w.tasks_touch
+        w.past sound
     by giving (none, e, is, to) = goes-to s hs (Tick k.dom) e x j k.tasks is
         (ap (λ (c : Course). c.dom) to ∙ back-dom k (answer_in e))
         (ap (λ (c : Course). c.tasks) to ∙ back-tasks k (answer_in e)) tt may w.tasks_touch w.past sound
