@@ -109,9 +109,18 @@ fn several_permissions_are_none(rt: HostRuntime) -> Result<(), Fail> {
     let policy = Policy::parse(alloc, "type a_t; allow a_t a_t:grant *;")?;
     let table = AllowTable::compile(alloc, &policy)?;
     let several = Perms::MAP_READ | Perms::MAP_WRITE;
-    assert_eq!(rt; answers_for(alloc, &policy, &table, Perms::COPY)?, [true; 3]);
-    assert_eq!(rt; answers_for(alloc, &policy, &table, Perms::empty())?, [false; 3]);
+    assert_eq!(rt;
+        answers_for(alloc, &policy, &table, Perms::COPY)?,
+        [true; 3]
+    );
+    assert_eq!(rt;
+        answers_for(alloc, &policy, &table, Perms::empty())?,
+        [false; 3]
+    );
     assert_eq!(rt; answers_for(alloc, &policy, &table, several)?, [false; 3]);
-    assert_eq!(rt; answers_for(alloc, &policy, &table, Perms::all())?, [false; 3]);
+    assert_eq!(rt;
+        answers_for(alloc, &policy, &table, Perms::all())?,
+        [false; 3]
+    );
     Ok(())
 }
