@@ -147,11 +147,11 @@ class Draws:
         expression = drawn_expression(rng, texts)
         holds = [satisfies(text, expression) for text in texts]
         found = "".join(f"text {at + 1} of {len(texts)}\n{text}" for at, text in enumerate(texts) if holds[at])
-        done = self.run("explore", "--states", STATES, "--find", expression, text=script)
+        done = self.run("explore", "--states", STATES, f"--find={expression}", text=script)
         self.want(done.returncode == (not any(holds)), f"--find '{expression}' has status {done.returncode}")
         self.want(done.stdout.decode() == f"{found}states {states}\n", f"--find '{expression}' prints other texts")
         for claim, against in (("--never", True), ("--always", False)):
-            done = self.run("explore", "--states", STATES, claim, expression, text=script)
+            done = self.run("explore", "--states", STATES, f"{claim}={expression}", text=script)
             first = holds.index(against) + 1 if against in holds else 0
             self.want(done.returncode == (first > 0), f"{claim} '{expression}' has status {done.returncode}")
             start = f"# does not hold: text {first} of {len(texts)}\n" if first else f"holds\nstates {states}\n"
