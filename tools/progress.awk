@@ -1,6 +1,6 @@
 # How far a build is: `12 of 36 crates, about 20 min more`. What each crate costs is read from the table of docs/GATE.md.
 # The estimate is the time of the crates that are left, on this number of lanes and at least that of the longest chain
-# of them (seven tenths of it in several lanes, where its crates have two jobs or more), times how much slower than that
+# of them (less a sixth in several lanes, where its last crates have several jobs), times how much slower than that
 # this build was so far. Crates under way do not count, so an early estimate would be far too high: ten minutes more are
 # taken to have gone as estimated.
 #
@@ -43,7 +43,7 @@ function chain(crate, done,    parts, n, i, longest, below) {
 function left(done,    crate, sum, longest) {
   split("", chains)
   for (crate in is_below) if (!(crate in done)) sum += cost[crate]
-  longest = chain(name, done) * (lanes > 1 ? 0.7 : 1)
+  longest = chain(name, done) * (lanes > 1 ? 0.84 : 1)
   return sum / lanes > longest ? sum / lanes : longest
 }
 
