@@ -4,8 +4,7 @@ use gt_types::TABLE_ENTRIES;
 /// The words from one entry to the next. Three of them are used, so neighbours share no cache line.
 pub const ENTRY_WORDS: usize = 8;
 
-/// The rows of `ENTRY_WORDS` words of a domain: one for its header, and one for each entry. A step adds up rows and
-/// multiplies once, so that a loop on one entry keeps one number for its index.
+/// The rows of `ENTRY_WORDS` words of a domain: one for its header, and one for each entry.
 pub const DOMAIN_ROWS: usize = TABLE_ENTRIES as usize + 1;
 
 /// The words of a domain.
