@@ -202,8 +202,8 @@ fn claim_told(
 ) -> Result<Vec<u8>, TextsFault>
     requires fits { CanConfigure (contents_told script.now.head) }
     requires many { length met.now ≡ length found.now.texts.items }
-    ensures { IfOk result (λ text. TellsClaimBy (run_told script.now) claimed.entry.claim (found_told found.now)
-        met.now claimed.entry.judgement text.items) }
+    ensures { IfOk result (λ text. TellsClaimBy (run_told script.now) claimed.claim (found_told found.now)
+        met.now claimed.judgement text.items) }
 {
     match claimed.claim {
         Claim::Find => texts_told(alloc, found, met),
