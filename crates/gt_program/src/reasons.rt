@@ -100,7 +100,7 @@ pub(crate) fn read_words<'w>(said: &'w [u8]) -> &'w [u8] {
     }
 }
 
-// Appends why a file was not read: in the words of the system, or shorter in a line of its own.
+// Appends why a file was not read: in the words of the system, or in fewer words if the reason is a separate line.
 fn push_unread(
     out: &mut Vec<u8>,
     file: &str,
