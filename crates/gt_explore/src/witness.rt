@@ -4,7 +4,8 @@ ghost use Rattle.gt_script.specs.RunScripts.{CanConfigure};
 
 use crate::fault::TextsFault;
 use crate::naming::WitnessNames;
-use gt_explore_replay::{Replay, Turn, Walker};
+use gt_explore_replay::{Replay, Walker};
+use gt_explore_search::Turn;
 use gt_host::ScriptPolicy;
 use gt_script::{RunAction, RunScript, RunTask};
 use gt_script_lines::{line_words, text_lines};

@@ -9,7 +9,7 @@ use Rattle.gt_host.specs.Playing.{setting_of_script}
 use Rattle.gt_explore_replay.specs.Abreast.{history_in}
 use Rattle.gt_explore_replay.specs.Courses.{AllCoursesEnd, Course, CourseEnds}
 use Rattle.gt_explore_replay.specs.Orders.{Happening}
-use Rattle.gt_explore_replay.specs.declared.replay.Turn.{Turn}
+use Rattle.gt_explore_search.specs.declared.spaces.Turn.{Turn}
 use Rattle.gt_explore_replay.proofs.Following.{there_is}
 use Rattle.gt_script.specs.Contents.{type_names}
 use Rattle.gt_script.specs.RunContents.{RunContents}

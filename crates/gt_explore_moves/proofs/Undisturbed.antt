@@ -41,7 +41,7 @@ use Rattle.gt_explore_replay.specs.Courses.{AllCoursesEnd, Course, CourseEnds, C
 use Rattle.gt_explore_replay.specs.Courses.{OpenLeads}
 use Rattle.gt_explore_replay.specs.Courses.{RestLeads, calling, giving, resting}
 use Rattle.gt_explore_replay.specs.Orders.{Happening, did, raised, passed, doer, IsRaisedBefore}
-use Rattle.gt_explore_replay.specs.declared.replay.Turn.{Turn}
+use Rattle.gt_explore_search.specs.declared.spaces.Turn.{Turn}
 use Rattle.gt_explore_replay.proofs.Coming.{IsQuiet, tells, waits}
 use Rattle.gt_explore_replay.proofs.Following.{there_is}
 use Rattle.gt_explore_replay.proofs.Places.{drop_here, get_set}

@@ -13,7 +13,7 @@ use Rattle.gt_host.specs.Playing.{setting_of_script}
 use Rattle.gt_explore_replay.specs.Abreast.{CanComeNext}
 use Rattle.gt_explore_replay.specs.Courses.{AllCoursesEnd, Course, IsTurnedBy, TurnsLead, courses_text, first_courses}
 use Rattle.gt_explore_replay.specs.Orders.{Happening, did, raised, passed, events_in, trace_in, IsOrderOf}
-use Rattle.gt_explore_replay.specs.declared.replay.Turn.{Turn}
+use Rattle.gt_explore_search.specs.declared.spaces.Turn.{Turn}
 use Rattle.gt_explore_replay.proofs.Places.{get_left}
 use Rattle.gt_explore_replay.proofs.Turning.{at-length, has-turns}
 use Rattle.gt_script.specs.Contents.{type_names}

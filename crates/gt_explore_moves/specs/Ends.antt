@@ -3,7 +3,7 @@ use Rattle.std.specs.Prelude.{◌≡◌, ◌++◌, ◌&&◌, ◌==◌, not, nat_
 use Rattle.std.specs.Prelude.{map}
 use Rattle.std.specs.Prelude.{is_some, true, false, Some, slice_get, get_or}
 use Rattle.std.specs.List.{range_with_len}
-use Rattle.gt_explore_replay.specs.declared.replay.Turn.{Turn}
+use Rattle.gt_explore_search.specs.declared.spaces.Turn.{Turn}
 use Rattle.gt_script.specs.Lists.{RunTask}
 use Rattle.gt_explore_moves.specs.declared.actor.Actor.{Actor}
 use Rattle.gt_explore_moves.specs.declared.scene.SearchContext.{SearchContext}

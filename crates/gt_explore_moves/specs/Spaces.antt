@@ -6,7 +6,7 @@ use Rattle.gt_host.specs.Playing.{setting_of_script}
 use Rattle.gt_explore_replay.specs.Abreast.{CanComeNext}
 use Rattle.gt_explore_replay.specs.Courses.{AllCoursesEnd, Course, CourseLeads, first_courses}
 use Rattle.gt_explore_replay.specs.Orders.{Happening, MayGive}
-use Rattle.gt_explore_replay.specs.declared.replay.Turn.{Turn}
+use Rattle.gt_explore_search.specs.declared.spaces.Turn.{Turn}
 use Rattle.gt_script.specs.Contents.{type_names}
 use Rattle.gt_script.specs.RunContents.{RunContents}
 use Rattle.gt_explore_moves.specs.Scenes.{IsSceneOf, SceneShows}

@@ -18,7 +18,7 @@ use Rattle.gt_script_lines.specs.declared.calls.ScriptCall.{ScriptCall}
 use Rattle.gt_script_lines.specs.declared.calls.ScriptCall.TheVariants as calls
 use Rattle.gt_script.specs.Lists.{RunTask, RunAction}
 use Rattle.gt_script.specs.declared.tasks.RunActionBy.TheVariants.{Await, Do, Tell}
-use Rattle.gt_explore_replay.specs.declared.replay.Turn.{Turn}
+use Rattle.gt_explore_search.specs.declared.spaces.Turn.{Turn}
 use Rattle.gt_explore_moves.specs.Ends.{choices_in, is_done, tasks_at, turns_by, turns_from}
 use Rattle.gt_explore_moves.specs.declared.actor.Actor.{Actor}
 use Rattle.gt_explore_moves.specs.declared.actor.ActorCall.{ActorCall}

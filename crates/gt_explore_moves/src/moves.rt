@@ -23,8 +23,7 @@ use gt_calls::{
 };
 use gt_core::{Answer, Bytes, answer_of};
 use gt_entry::Entry;
-use gt_explore_replay::Turn;
-use gt_explore_search::{SearchFault, TurnResult};
+use gt_explore_search::{SearchFault, Turn, TurnResult};
 use gt_explore_state::{SparseState, SparseTable};
 use gt_host::{ScriptPolicy, call_bytes, label_given, push_answer_line, request_of};
 use gt_script::{RunAction, RunTask};

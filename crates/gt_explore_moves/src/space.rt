@@ -10,8 +10,7 @@ ghost use Rattle.gt_explore_moves.specs.declared.scene.SearchState.{SearchState}
 use crate::parts::StatePart;
 use crate::same::same_parts;
 use crate::scene::{SearchContext, SearchState};
-use gt_explore_replay::Turn;
-use gt_explore_search::{SearchFault, TransitionSystem, TurnResult};
+use gt_explore_search::{SearchFault, TransitionSystem, Turn, TurnResult};
 use std::alloc::AllocError;
 
 impl<'s> TransitionSystem for SearchContext<'s, 's> {

@@ -31,7 +31,7 @@ use Rattle.gt_explore_replay.specs.Courses.{AllCoursesEnd, courses_text, first_c
 use Rattle.gt_explore_replay.specs.Abreast.{IsDoingSo, WereAnswered, WalksAbreast, CanComeNext, IsAbreast}
 use Rattle.gt_explore_replay.specs.declared.replay.Moved.{Moved}
 use Rattle.gt_explore_replay.specs.declared.replay.Replay.{Replay}
-use Rattle.gt_explore_replay.specs.declared.replay.Turn.{Turn}
+use Rattle.gt_explore_search.specs.declared.spaces.Turn.{Turn}
 use Rattle.gt_explore_replay.specs.declared.walker.OpenTask.{OpenTask}
 use Rattle.gt_explore_replay.specs.declared.walker.OpenTask.TheVariants as doing
 use Rattle.gt_explore_replay.specs.declared.walker.Walker.{Walker}

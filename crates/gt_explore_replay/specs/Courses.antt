@@ -6,7 +6,7 @@ use Rattle.std.specs.List.{flat_map}
 use Rattle.gt_explore_replay.specs.Prelude.{DomId, Handle, Request, Release, Answer, Element, Begin, Tick}
 use Rattle.gt_explore_replay.specs.Prelude.{type_names, RunContents, list_of, RunAction, Do, Tell, Await, RunTask, answer_line, Named}
 use Rattle.gt_explore_replay.specs.Prelude.{SaysRequest, handle_given, label_given, with_name, ScriptCall, answer_in}
-use Rattle.gt_explore_replay.specs.declared.replay.Turn.{Turn}
+use Rattle.gt_explore_search.specs.declared.spaces.Turn.{Turn}
 use Rattle.gt_explore_replay.specs.Orders.{Happening, did, raised, passed, given_up, held_after, IsOrderOf}
 
 -- what a domain has open on its course: nothing; the call of a line, which drops the mapping of this handle if it is

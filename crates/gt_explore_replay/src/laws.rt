@@ -5,7 +5,7 @@ ghost use Rattle.gt_explore_replay.specs.Courses.{IsTurnedBy};
 ghost use Rattle.gt_explore_replay.specs.Orders.{Happening, IsOrderOf};
 ghost use Rattle.gt_explore_replay.specs.Releasing.{ReleasesAreOk};
 ghost use Rattle.gt_explore_replay.specs.Walking.{HaveOwnIds};
-ghost use Rattle.gt_explore_replay.specs.declared.replay.Turn.{Turn};
+ghost use Rattle.gt_explore_search.specs.declared.spaces.Turn.{Turn};
 
 /// States that each order of a script's run has turns, if no two of its domains have the same number: by these turns
 /// its domains move from the first lines of their lists to the ends, and print its text.

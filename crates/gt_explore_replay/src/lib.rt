@@ -16,5 +16,5 @@ mod replay;
 mod walker;
 
 pub use laws::{every_order_has_turns, every_release_is_ok};
-pub use replay::{Moved, Replay, Turn, text_of};
+pub use replay::{Moved, Replay, text_of};
 pub use walker::Walker;

@@ -12,6 +12,7 @@ ghost use Rattle.gt_explore_replay.specs.Walking.{StartsWalk};
 
 use crate::walker::Walker;
 use gt_core::{Answer, Core, Observation, Step};
+use gt_explore_search::Turn;
 use gt_host::{ScriptPolicy, core_of};
 use gt_script::{RunAction, RunScript};
 use gt_script_lines::Text;
@@ -29,14 +30,6 @@ pub enum Moved {
     Began(Option<Answer>),
     /// Its call made this step, with this observation, and has this answer if it ended.
     Stepped(Step, Observation, Option<Answer>),
-}
-
-/// The next move: that of the domain at this position among the script's domains. At the end of its list it releases the
-/// mapping at the index `choice` of those that it has. Elsewhere `choice` is ignored.
-#[derive(Clone, Copy, Debug, PartialEq, Eq)]
-pub struct Turn {
-    pub place: usize,
-    pub choice: usize,
 }
 
 /// A run of a script, in one order.

@@ -11,7 +11,7 @@ use Rattle.gt_explore_search.specs.declared.exploring.ReachedList.{ReachedList}
 use Rattle.gt_explore_search.specs.declared.exploring.Explorer.{Explorer}
 use Rattle.gt_explore_search.specs.declared.exploring.Node.{Node}
 use Rattle.gt_explore_search.specs.declared.exploring.OpenNode.{OpenNode}
-use Rattle.gt_explore_replay.specs.declared.replay.Turn.{Turn}
+use Rattle.gt_explore_search.specs.declared.spaces.Turn.{Turn}
 use Rattle.gt_explore_search.specs.declared.suffixes.AnswerLists.{AnswerLists}
 use Rattle.std.specs.Global.{Vec}
 use Rattle.gt_explore_search.proofs.Growing.{get_kept, no_more, node_on}

@@ -13,7 +13,7 @@ use Rattle.gt_explore_search.specs.declared.exploring.Explorer.{Explorer}
 use Rattle.gt_explore_search.specs.declared.exploring.Node.{Node}
 use Rattle.gt_explore_search.specs.declared.exploring.FirstTurn.{FirstTurn}
 use Rattle.gt_explore_search.specs.declared.exploring.OpenNode.{OpenNode}
-use Rattle.gt_explore_replay.specs.declared.replay.Turn.{Turn}
+use Rattle.gt_explore_search.specs.declared.spaces.Turn.{Turn}
 use Rattle.gt_explore_search.specs.declared.suffixes.AnswerLine.{AnswerLine}
 use Rattle.gt_explore_search.specs.declared.suffixes.AnswerLists.{AnswerLists}
 use Rattle.gt_explore_search.proofs.Listing.{rest_kept, list_grown, line_kept}

@@ -5,7 +5,7 @@ use Rattle.std.proofs.lemmas.List.{append-nil, take_more}
 use Rattle.std.proofs.lemmas.Option.{same_Some}
 use Rattle.std.specs.Global.{Vec}
 use Rattle.std.specs.List.{list_any, position_or_len}
-use Rattle.gt_explore_replay.specs.declared.replay.Turn.{Turn}
+use Rattle.gt_explore_search.specs.declared.spaces.Turn.{Turn}
 use Rattle.gt_explore_search.specs.Exploring.{IsNumbered}
 use Rattle.gt_explore_search.specs.Parts.{Extends, HasNumber, HasNumbers, IsCopyOf, IsJoined, IsStateAt, Pairwise, Splitting}
 use Rattle.gt_explore_search.specs.Parts.{by_numbers}

@@ -21,7 +21,7 @@ use Rattle.gt_explore_search.specs.declared.exploring.OpenNode.{OpenNode}
 use Rattle.gt_explore_search.specs.declared.exploring.FirstTurn.{FirstTurn}
 use Rattle.gt_explore_search.specs.declared.spaces.TurnResult.{TurnResult}
 use Rattle.gt_explore_search.specs.declared.spaces.TurnResult.TheVariants as leds
-use Rattle.gt_explore_replay.specs.declared.replay.Turn.{Turn}
+use Rattle.gt_explore_search.specs.declared.spaces.Turn.{Turn}
 use Rattle.gt_explore_search.specs.declared.states.StateIndex.{StateIndex}
 use Rattle.gt_explore_search.specs.declared.suffixes.AnswerLine.{AnswerLine}
 use Rattle.gt_explore_search.specs.declared.suffixes.AnswerLists.{AnswerLists}

@@ -1,7 +1,7 @@
 -- The knowledge of a search about the states that it has met.
 use Rattle.std.specs.Prelude.{◌≡◌, ◌⊎◌, ◌++◌, ◌<◌, ℕ, List, [], ◌∷◌, map, length, Option, Some, slice_get, IfSome}
 use Rattle.std.specs.Global.{Vec}
-use Rattle.gt_explore_replay.specs.declared.replay.Turn.{Turn}
+use Rattle.gt_explore_search.specs.declared.spaces.Turn.{Turn}
 use Rattle.gt_explore_search.specs.Lists.{HasListAt, AreWhole, GrowsInto, IsEmptyList, HasItsLine, line_by, rest_by}
 use Rattle.gt_explore_search.specs.Parts.{Extends}
 use Rattle.gt_explore_search.specs.Ways.{Ways, GoesTo, HasEnoughTurns, IsShownSo, PrintsTo, ShowsFirst, only_at, text_at, text_led}

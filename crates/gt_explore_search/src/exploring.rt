@@ -6,10 +6,9 @@ ghost use Rattle.gt_explore_search.specs.Parts.{by_numbers};
 
 use crate::fault::SearchFault;
 use crate::sharing::{NextNode, next_of, same_lists, turn_to};
-use crate::spaces::{TransitionSystem, TurnResult};
+use crate::spaces::{TransitionSystem, Turn, TurnResult};
 use crate::states::StateIndex;
 use crate::suffixes::{AnswerLine, AnswerLists};
-use gt_explore_replay::Turn;
 use indexmap::IndexSet;
 use std::alloc::{AllocError, Global};
 use std::rc::Rc;

@@ -7,7 +7,7 @@
 //! proved for every space that keeps the promises of `TransitionSystem`. That each text found is a run's is not proved
 //! here: replay its turns.
 //!
-//! It uses `gt_explore_replay` (turns) and `gt_types`.
+//! It knows no script: `gt_explore_moves` gives it the runs of one.
 #![tactic(auto)]
 
 mod exploring;
@@ -20,4 +20,4 @@ mod suffixes;
 
 pub use exploring::{FoundText, PartialResult, SearchResult, search, search_within};
 pub use fault::SearchFault;
-pub use spaces::{TransitionSystem, TurnResult};
+pub use spaces::{TransitionSystem, Turn, TurnResult};

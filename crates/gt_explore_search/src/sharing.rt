@@ -2,7 +2,7 @@
 ghost use Rattle.std.specs.Prelude.{◌≡◌, IsTrue, map};
 
 use crate::exploring::{FirstTurn, ReachedList};
-use gt_explore_replay::Turn;
+use crate::spaces::Turn;
 
 /// The turn by which a state leads to a node whose ends are its own, each at the same index.
 #[derive(Clone, Copy)]

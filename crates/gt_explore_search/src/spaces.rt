@@ -4,8 +4,15 @@ ghost use Rattle.gt_explore_search.specs.Parts.{Pairwise, Splitting};
 ghost use Rattle.gt_explore_search.specs.Ways.{Ways, HasEnoughTurns, IsShownSo, MayEnd, MovesTo, ShowsFirst};
 
 use crate::fault::SearchFault;
-use gt_explore_replay::Turn;
 use std::alloc::AllocError;
+
+/// A turn: the next move of the domain at this position among the domains. Where it has several moves, `choice` is the
+/// index of this one. At the end of its list a script's domain releases the mapping at that index.
+#[derive(Clone, Copy, Debug, PartialEq, Eq)]
+pub struct Turn {
+    pub place: usize,
+    pub choice: usize,
+}
 
 /// The result of a turn.
 #[derive(Drop)]

@@ -5,7 +5,8 @@ ghost use Rattle.gt_script.specs.RunContents.{run_told};
 ghost use Rattle.gt_script.specs.RunScripts.{CanConfigure};
 ghost use Rattle.gt_explore_trace.specs.Moves.{GivesText};
 
-use gt_explore_replay::{Moved, Replay, Turn};
+use gt_explore_replay::{Moved, Replay};
+use gt_explore_search::Turn;
 use gt_script::RunScript;
 use gt_types::{DomId, Memory};
 use std::alloc::Global;

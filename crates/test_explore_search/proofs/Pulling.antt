@@ -1,7 +1,7 @@
 -- The first counter's next step can be made first.
 use Rattle.std.proofs.Common.{◌≡◌, ◌<◌, ◌≤◌, ◌⊎◌, ℕ, List, [], ◌∷◌, refl, sym, ap, subst, arith, inl, inr, slice_get}
 use Rattle.std.proofs.Common.{Some}
-use Rattle.gt_explore_replay.specs.declared.replay.Turn.{Turn}
+use Rattle.gt_explore_search.specs.declared.spaces.Turn.{Turn}
 use Rattle.gt_explore_search.specs.Ways.{GoesTo, EndsSoBy, HasEnoughTurns}
 use Rattle.test_explore_search.specs.Apart.{Spot, CountsOn, apart_ways, first_on, second_on, first_turn, second_turn}
 use Rattle.test_explore_search.specs.declared.apart.Apart.{Apart}

@@ -1,7 +1,7 @@
 -- The runs of two counters.
 use Rattle.std.specs.Prelude.{◌≡◌, ◌⊎◌, ◌++◌, ◌<◌, ◌+◌, ℕ, zero, suc, List, [], ◌∷◌, refl}
 use mathlib.Core.Path.{◌∙◌}
-use Rattle.gt_explore_replay.specs.declared.replay.Turn.{Turn}
+use Rattle.gt_explore_search.specs.declared.spaces.Turn.{Turn}
 use Rattle.gt_explore_search.specs.Parts.{Splitting}
 use Rattle.gt_explore_search.specs.Ways.{Ways}
 use Rattle.test_explore_search.specs.declared.counters.Counters.{Counters}

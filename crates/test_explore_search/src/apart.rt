@@ -5,8 +5,7 @@ ghost use Rattle.gt_explore_search.specs.Ways.{IsShownSo};
 ghost use Rattle.test_explore_search.specs.Apart.{apart_parts, apart_ways};
 ghost use Rattle.test_explore_search.specs.declared.apart.Place.{Place};
 
-use gt_explore_replay::Turn;
-use gt_explore_search::{SearchFault, TransitionSystem, TurnResult};
+use gt_explore_search::{SearchFault, TransitionSystem, Turn, TurnResult};
 use std::alloc::{AllocError, Global};
 
 /// Two counters that count up to a limit, and print their values.

@@ -5,7 +5,7 @@ ghost use Rattle.gt_explore_moves.specs.Ends.{choices};
 use super::flags::is_set;
 use crate::actor::Actor;
 use crate::scene::{SearchContext, SearchState};
-use gt_explore_replay::Turn;
+use gt_explore_search::Turn;
 use std::alloc::AllocError;
 
 // Appends this number of moves of a domain, each with its own choice.

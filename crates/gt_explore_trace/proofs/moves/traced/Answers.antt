@@ -1,7 +1,7 @@
 use Rattle.std.proofs.Common.{◌++◌, ◌∷◌, [], List, get_or, subst, sym}
 use Rattle.gt_script.specs.RunContents.{run_told}
 use Rattle.gt_explore_replay.specs.Orders.{doer}
-use Rattle.gt_explore_replay.specs.declared.replay.Turn.{Turn}
+use Rattle.gt_explore_search.specs.declared.spaces.Turn.{Turn}
 use Rattle.gt_explore_trace.specs.Moves.{AreMovesOf}
 use Rattle.gt_explore_trace.specs.declared.moves.TracedMove.{TracedMove}
 use Rattle.gt_explore_trace.proofs.OneMore.{mover, moves_more}

@@ -1,6 +1,6 @@
 use Rattle.std.proofs.Common.{◌≡◌, ◌∙◌, List, [], ◌∷◌, ◌++◌, ap}
 use Rattle.test_explore_search.specs.Apart.{apart_ways, first_turn, second_turn}
-use Rattle.gt_explore_replay.specs.declared.replay.Turn.{Turn}
+use Rattle.gt_explore_search.specs.declared.spaces.Turn.{Turn}
 use Rattle.test_explore_search.proofs.Pulling.{first-enough, second-enough}
 use Rattle.test_explore_search.proofs.apart.ApartTransitionSystem.turns.Goals.{then-state-self+in_ok-push, else-state-self+in_ok-push-2}
 use Rattle.test_explore_search.proofs.apart.ApartTransitionSystem.turns.Goals as goal
