@@ -34,12 +34,11 @@ use Rattle.std.proofs.lemmas.Slice.Eq.{bytes_eq-Decides}
 use Rattle.gt_commands.specs.declared.invocation.Invocation.{Invocation}
 use Rattle.gt_entries.specs.declared.asked.DumpOptions.{DumpOptions}
 use Rattle.gt_commands.specs.declared.invocation.Format.{Format}
-use Rattle.gt_policy_list.specs.declared.fault.ListingFault.{ListingFault}
-use Rattle.gt_json_commands.specs.AsJson.{Promise}
-use Rattle.gt_program.specs.Formats.{CheckedAs, RanAs}
+use Rattle.gt_fault_reports.specs.Formats.{RanAs}
+use Rattle.gt_fault_reports.specs.Names.{shown_name}
 use Rattle.gt_run.specs.declared.fault.RunFault.{RunFault}
 use Rattle.gt_program.specs.Obeying.{AnswersVerdict, IsSearched, Searches, Seeks, verdict_outcome}
-use Rattle.gt_program.specs.Formats.{explore_format}
+use Rattle.gt_program.specs.Obeying.{explore_format}
 use Rattle.gt_explore_verdict.specs.declared.judging.Verdict.{Verdict}
 use Rattle.gt_explore_verdict.specs.declared.judging.Verdict.TheVariants.{Holds, Fails, Undecided}
 use Rattle.gt_explore_answers.specs.declared.asking.ExploreOptions.{ExploreOptions as Searched}
@@ -50,7 +49,7 @@ use Rattle.std.specs.Str.Lines.{lines}
 use Rattle.gt_program.specs.Obeying.{AnswersQuestion, Checks, Does, Doing, Ending, Explains, FitsKind, IsAsked}
 use Rattle.gt_program.specs.Obeying.{IsQuestion}
 use Rattle.gt_program.specs.Obeying.{Lists, Obeys, Performs, Plays, RunsDomains, AnswersDump, AnswersEntries, Works}
-use Rattle.gt_program.specs.Obeying.{known_text, shown_name, answer_of, failed_command, failed_mode, failed_word, first_word}
+use Rattle.gt_program.specs.Obeying.{known_text, answer_of, failed_command, failed_mode, failed_word, first_word}
 use Rattle.gt_program.specs.Obeying.{outcome_of, Answers, ChecksFiles, IsHelped}
 use Rattle.gt_program.specs.declared.outcome.Outcome.{Outcome}
 use Rattle.gt_program.specs.declared.outcome.Outcome.TheVariants.{No, Unknown, Yes}
@@ -103,16 +102,6 @@ as_planned p same file input old new outcome is obeys = subst (λ (q : Invocatio
 pub ran_as_asked : (format : Format) (logged audited : Bool) (known old new : Option (List ℕ)) (r : Result (Unit {0}) RunFault) → audited ≡ logged → OfInput known (λ input. RanAs format logged input old new r)
     → OfInput known (λ input. RanAs format audited input old new r)
 ran_as_asked format logged audited known old new r is ran = subst (λ (b : Bool). OfInput known (λ input. RanAs format b input old new r)) (sym is) ran
-
--- what was written in the format that was asked for
-pub in_format : {F : Type 0} (Wrote : Format → List ℕ → Promise F) (format other : Format) (known old new : Option (List ℕ)) (r : Result (Unit {0}) F) → format ≡ other → OfInput known (λ input. Wrote other input old new r)
-    → OfInput known (λ input. Wrote format input old new r)
-in_format Wrote format other known old new r is wrote = subst (λ (f : Format). OfInput known (λ input. Wrote f input old new r)) (sym is) wrote
-
--- a policy was checked or a script, as was asked for
-pub checked_as_asked : (checked script : Bool) (known old new : Option (List ℕ)) (r : Result Bool ListingFault) → script ≡ checked → OfInput known (λ input. CheckedAs checked input old new r)
-    → OfInput known (λ input. CheckedAs script input old new r)
-checked_as_asked checked script known old new r is does = subst (λ (b : Bool). OfInput known (λ input. CheckedAs b input old new r)) (sym is) does
 
 -- no memory was there before the text was read
 pub unread_run : (format : Format) (audited : Bool) (known old : Option (List ℕ)) → OfInput known (λ input. RunsDomains format audited input old old (Err failures.Memory))

@@ -9,13 +9,17 @@ use Rattle.gt_program.specs.Prelude.{one_script, one_trace, one_diagram, all_scr
 use Rattle.gt_program.specs.Prelude.{to_check_never, to_find_text, breach_fault_text, type_of, lines, words, CheckKind}
 use Rattle.gt_program.specs.Prelude.{CheckedNever, Appends, AppendsBeginning}
 use Rattle.gt_program.specs.declared.checking.CheckKind.TheVariants as checks
+use Rattle.gt_commands.specs.declared.invocation.Format.TheVariants.{Text, Json}
+use Rattle.gt_explore_answers.specs.declared.asking.ExploreFormat.{ExploreFormat}
+use Rattle.gt_explore_answers.specs.declared.asking.ExploreFormat.TheVariants as explored
 use Rattle.gt_explore_answers.specs.declared.asking.ExploreRequest.TheVariants as requests
 use Rattle.gt_program.specs.Prelude.{to_run, to_list, to_tell_rules, to_check, to_explain, to_explain_each}
 use Rattle.gt_program.specs.Prelude.{to_tell_entries, for_help}
 use Rattle.gt_program.specs.Prelude.{for_version, nothing, dump_fault_text, DumpOptions, read_word, play_fault_text}
 use Rattle.gt_program.specs.Prelude.{run_fault_text, listing_fault_text, Format, Failure, Mode, Outcome, Work}
 use Rattle.gt_program.specs.Prelude.{mode_of, No, Unknown, Yes}
-use Rattle.gt_program.specs.Formats.{CheckedAs, ListedAs, PlayedAs, RanAs, ToldAs, explore_format}
+use Rattle.gt_fault_reports.specs.Formats.{CheckedAs, ListedAs, PlayedAs, RanAs, ToldAs}
+use Rattle.gt_fault_reports.specs.Names.{shown_name}
 use Rattle.gt_program.specs.declared.failure.Failure.TheVariants as failures
 use Rattle.gt_program.specs.declared.commands.Work.TheVariants as works
 use Rattle.gt_commands.specs.declared.invocation.Mode.TheVariants as modes
@@ -201,11 +205,6 @@ known_text file input (Some name) = file name
 abbrev pub known_input : (List ℕ → Option (List ℕ)) → Option (List ℕ) → Option (Bor (List ℕ)) → Option (List ℕ)
 known_input file input name = known_text file input (option_map (λ f. f.now) name)
 
--- the name with which lines begin
-abbrev pub shown_name : Option (List ℕ) → List ℕ
-shown_name None = codes "<stdin>"
-shown_name (Some name) = name
-
 -- help or the version: it was written, or not
 abbrev pub IsHelped : Outcome → Type 0
 IsHelped outcome = (outcome ≡ Yes) ⊎ (outcome ≡ No)
@@ -253,6 +252,11 @@ IsRequestFor sought (requests.Witness number) = sought ≡ one_script number
 IsRequestFor sought requests.Witnesses = sought ≡ all_scripts
 IsRequestFor sought (requests.Trace number) = sought ≡ one_trace number
 IsRequestFor sought (requests.Diagram number) = sought ≡ one_diagram number
+
+-- the format of an exploration
+abbrev pub explore_format : Format → ExploreFormat
+explore_format Text = explored.Text
+explore_format Json = explored.Json
 
 -- the options for the texts of a script
 abbrev pub IsSearched : Sought → Format → ℕ → Searched → Type 0

@@ -7,16 +7,16 @@ ghost use Rattle.gt_program.specs.Obeying.{known_input, Checks, ChecksAll, Check
 ghost use Rattle.gt_program.specs.Obeying.{WithFile, Works, kind_checked};
 
 use crate::commands::{Context, Work, fail, work_asked};
-use crate::explained::{check_explained, check_never_explained};
 use crate::failure::Failure;
 use crate::given::read_given;
-use crate::obeying::shown_name;
 use crate::outcome::{Outcome, worse};
-use crate::reasons::Reasons;
 use crate::style::Style;
 use crate::texts::TextSource;
 use gt_checks::NeverText;
 use gt_commands::{CheckedFiles, Format};
+use gt_fault_reports::{
+    Reasons, ReportSettings, check_explained, check_never_explained, shown_name,
+};
 use gt_policy_check::ReportForm;
 use gt_policy_list::policy_text;
 use std::alloc::Global;
@@ -31,13 +31,6 @@ pub enum CheckKind<'w> {
     Script,
     /// A policy, against `neverallow` statements.
     Never(NeverText<'w>),
-}
-
-/// How the findings of a text are reported: the name with which their lines begin, and their form.
-#[derive(Clone, Copy)]
-pub struct ReportSettings<'w> {
-    pub file: &'w str,
-    pub form: ReportForm,
 }
 
 // Returns what is checked by `check`.

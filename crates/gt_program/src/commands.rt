@@ -4,20 +4,21 @@ ghost use Rattle.gt_text.specs.Streams.{OfInput};
 ghost use Rattle.gt_program.specs.Obeying.{failed_work, known_input, Does, Performs, RunsDomains, Works};
 ghost use Rattle.gt_program.specs.declared.outcome.Outcome.TheVariants.{No};
 
-use crate::checking::{CheckKind, ReportSettings, perform_check};
-use crate::explained::{entries_explained, explore_explained, list_with_reasons, why_explained};
+use crate::checking::{CheckKind, perform_check};
+use crate::exploring::explore_explained;
 use crate::failure::Failure;
-use crate::formats::RunSettings;
 use crate::obeying::report;
 use crate::outcome::{Outcome, outcome_of};
-use crate::reasons::Reasons;
 use crate::style::Style;
 use crate::texts::{TextSource, read_fault};
-use crate::told::{play_with_reasons, run_with_reasons};
 use gt_audit::SharedLog;
 use gt_commands::{Format, ScriptOptions};
 use gt_entries::DumpOptions;
-use gt_explore::ExploreOptions as Searched;
+use gt_explore_answers::ExploreOptions as Searched;
+use gt_fault_reports::{
+    Reasons, ReportSettings, RunSettings, entries_explained, list_with_reasons, play_with_reasons,
+    run_with_reasons, why_explained,
+};
 use gt_policy_check::WhyQuestion;
 use gt_run::FlagGate;
 use std::alloc::Global;

@@ -1,58 +1,19 @@
 //! Texts of further files, which a command compares with its own.
-ghost use Rattle.std.specs.Prelude.{◌≡◌, ◌≤◌, length, IfOk, IfSome};
+ghost use Rattle.std.specs.Prelude.{◌≡◌, IfOk, IfSome};
 ghost use Rattle.std.specs.Option.{option_map};
 ghost use Rattle.gt_program.specs.Obeying.{known_input, FindsText, SeeksText, Works};
 ghost use Rattle.gt_program.specs.declared.outcome.Outcome.TheVariants.{Unknown};
 
 use crate::commands::{Context, Work, fail, work_asked};
-use crate::copying::CopyingReader;
+use crate::exploring::explore_format;
 use crate::failure::Failure;
-use crate::formats::explore_format;
 use crate::outcome::Outcome;
-use crate::reasons::Reasons;
 use crate::texts::{TextSource, read_fault};
 use gt_commands::SearchOptions;
-use gt_explore::{ExploreOptions, ExploreRequest};
-use gt_text::{ReadFault, read_text};
-use gt_types::LONGEST_TEXT;
-use std::alloc::Global;
-use std::io::{Read, Write};
-
-// Returns the bytes, unless they are more than a text may have.
-fn whole(bytes: Vec<u8>) -> Result<Vec<u8>, ReadFault>
-    ensures { IfOk result (λ all. (all ≡ bytes) × (length all.items ≤ LONGEST_TEXT)) }
-{
-    if bytes.len() > LONGEST_TEXT {
-        return Err(ReadFault::Read);
-    }
-    Ok(bytes)
-}
-
-// Reads a whole text.
-fn read_up_to_limit<R: Read>(alloc: Global, reader: &mut R) -> Result<Vec<u8>, ReadFault>
-    ensures { IfOk result (λ bytes. IfSome (R.remaining reader.old) (λ all. bytes.items ≡ all)) }
-{
-    match read_text(alloc, reader) {
-        Ok(bytes) => whole(bytes),
-        Err(fault) => Err(fault),
-    }
-}
-
-/// Reads a whole text, of at most 1,048,576 bytes, and adds the reason of a fault.
-pub(crate) fn read_whole<R: Read>(
-    alloc: Global,
-    reader: &mut R,
-    reasons: &mut Reasons,
-) -> Result<Vec<u8>, ReadFault>
-    ensures { IfOk result (λ bytes. IfSome (R.remaining reader.old) (λ all. bytes.items ≡ all)) }
-{
-    let mut input = CopyingReader::new(alloc, reader);
-    let ending = read_up_to_limit(alloc, &mut input);
-    if let Err(fault) = &ending {
-        reasons.add_given(&input.kept, *fault);
-    }
-    ending
-}
+use gt_explore_answers::{ExploreOptions, ExploreRequest};
+use gt_fault_reports::{Reasons, read_whole};
+use gt_text::ReadFault;
+use std::io::Write;
 
 // Reads the whole text of the named file.
 fn read_named<R, T: TextSource, E>(

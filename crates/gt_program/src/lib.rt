@@ -14,24 +14,19 @@
 
 mod checking;
 mod commands;
-mod copying;
-mod explained;
+mod exploring;
 mod failure;
 mod following;
-mod formats;
 mod given;
-mod given_reasons;
 mod obeying;
 mod outcome;
 mod questions;
-mod reasons;
 mod rules;
 mod style;
 mod system;
 mod texts;
-mod told;
 
-pub use checking::{CheckKind, ReportSettings};
+pub use checking::CheckKind;
 pub use commands::{Context, Work};
 pub use failure::Failure;
 pub use obeying::{obey, obey_read};

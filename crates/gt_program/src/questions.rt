@@ -12,10 +12,9 @@ ghost use Rattle.gt_program.specs.declared.outcome.Outcome.TheVariants.{Unknown}
 
 use crate::commands::{Context, Work, fail, work_asked};
 use crate::failure::Failure;
-use crate::given::read_whole;
 use crate::outcome::{Outcome, worse};
-use crate::reasons::Reasons;
 use crate::texts::TextSource;
+use gt_fault_reports::{Reasons, read_whole};
 use gt_policy_check::WhyQuestion;
 use gt_policy_list::ListingFault;
 use gt_script_lines::{line_words, text_lines};

@@ -1,5 +1,5 @@
 use Rattle.std.proofs.Common.{ℕ, List}
-use Rattle.gt_program.specs.Formats.{CheckedAs}
+use Rattle.gt_fault_reports.specs.Formats.{CheckedAs}
 use Rattle.gt_program.proofs.Obeyed.{answered_input}
 use Rattle.gt_program.proofs.checking.perform_plain.Goals as goal
 

@@ -1,17 +1,16 @@
 //! Commands in the two formats of their output.
-ghost use Rattle.std.specs.Prelude.{◌≡◌, is_some};
+ghost use Rattle.std.specs.Prelude.{is_some};
 ghost use Rattle.gt_text.specs.Streams.{OfInput};
-ghost use Rattle.gt_program.specs.Formats.{CheckedAs, ListedAs, PlayedAs, RanAs, ToldAs, explore_format};
+ghost use Rattle.gt_fault_reports.specs.Formats.{CheckedAs, ListedAs, PlayedAs, RanAs, ToldAs};
 
-use crate::checking::ReportSettings;
 use gt_audit::SharedLog;
 use gt_checks::{check, check_script};
 use gt_commands::Format;
 use gt_entries::{DumpFault, DumpOptions, entries};
-use gt_explore::ExploreFormat;
 use gt_host::{PlayFault, play};
 use gt_json_commands::{entries_json, play_json, policy_json, run_json};
 use gt_order::run;
+use gt_policy_check::ReportForm;
 use gt_policy_list::{ListingFault, policy};
 use gt_run::{Gate, RunFault};
 use std::alloc::Global;
@@ -38,7 +37,7 @@ pub(crate) fn play_as<R: Read, W: Write>(
 
 /// The settings of a run: its threads, with a log or without, its gate, and the format of its output.
 #[derive(Drop)]
-pub(crate) struct RunSettings<'r, R, G> {
+pub struct RunSettings<'r, R, G> {
     pub rt: &'r R,
     pub alloc: Global,
     pub format: Format,
@@ -75,16 +74,6 @@ pub(crate) fn run_as<R: Threads + Wait + Sync, I: Read, W: Write, G: Gate + Sync
     }
 }
 
-/// Returns the format of an exploration.
-pub(crate) fn explore_format(format: Format) -> ExploreFormat
-    ensures { result ≡ explore_format format }
-{
-    match format {
-        Format::Text => ExploreFormat::Text,
-        Format::Json => ExploreFormat::Json,
-    }
-}
-
 /// Lists what the policy of a reader allows.
 pub(crate) fn list_as<R: Read, W: Write>(
     alloc: Global,
@@ -116,6 +105,13 @@ pub(crate) fn entries_as<R: Read, W: Write>(
         Format::Text => entries(alloc, asked, reader, out),
         Format::Json => entries_json(alloc, asked, reader, out),
     }
+}
+
+/// How the findings of a text are reported: the name with which their lines begin, and their form.
+#[derive(Clone, Copy)]
+pub struct ReportSettings<'w> {
+    pub file: &'w str,
+    pub form: ReportForm,
 }
 
 /// Checks the policy of a reader, or its script.

@@ -1,11 +1,11 @@
 //! The reasons that are printed after the line of a fault, or as that line.
 use crate::copying::KeptInput;
 use crate::given_reasons::{given_reason, never_reason, question_reason, text_reason};
-use crate::obeying::shown_name;
+use crate::names::shown_name;
 use gt_checks::{BreachFault, WhyFault};
 use gt_commands::Invocation;
 use gt_entries::{DumpFault, DumpLook, DumpOptions, look_of};
-use gt_explore::{ExploreFault, TextsFault};
+use gt_explore_answers::{ExploreFault, TextsFault};
 use gt_host::{PlayFault, play};
 use gt_policy_check::WhyQuestion;
 use gt_policy_list::ListingFault;
@@ -20,7 +20,7 @@ use std::io;
 
 /// The reasons of a command, collected only if it asks for them, or if its faults are explained in any case.
 #[derive(Drop)]
-pub(crate) struct Reasons<'a> {
+pub struct Reasons<'a> {
     alloc: Global,
     // The name with which their lines begin, if they are asked for.
     file: Option<&'a str>,
@@ -242,7 +242,7 @@ fn texts_reason(
 
 impl<'a> Reasons<'a> {
     /// Makes an empty collection of the reasons of this command.
-    pub(crate) fn of(alloc: Global, invocation: &Invocation<'a>) -> Reasons<'a> {
+    pub fn of(alloc: Global, invocation: &Invocation<'a>) -> Reasons<'a> {
         let (is_line, file) = match invocation {
             Invocation::Play(options) => (false, named(options.verbose, options.file)),
             Invocation::Run(options) => (false, named(options.verbose, options.file)),
@@ -265,7 +265,7 @@ impl<'a> Reasons<'a> {
     }
 
     /// Begins the reasons of a further file.
-    pub(crate) fn begin(&mut self, file: Option<&'a str>) {
+    pub fn begin(&mut self, file: Option<&'a str>) {
         self.file = Some(shown_name(file));
     }
 
@@ -317,7 +317,7 @@ impl<'a> Reasons<'a> {
     }
 
     /// Adds the reason for which the file was not opened.
-    pub(crate) fn add_unread(&mut self, error: &io::Error) {
+    pub fn add_unread(&mut self, error: &io::Error) {
         if let Some(file) = self.file {
             let said = unread(self.alloc, file, self.is_line, error);
             self.add(said);
@@ -348,7 +348,7 @@ impl<'a> Reasons<'a> {
     }
 
     /// Adds the reason for which bytes are not a text.
-    pub(crate) fn add_text(&mut self, bytes: &[u8], fault: &ListingFault) {
+    pub fn add_text(&mut self, bytes: &[u8], fault: &ListingFault) {
         if let Some(file) = self.file {
             let said = text_reason(self.alloc, file, bytes, fault);
             self.add(said);
@@ -356,7 +356,7 @@ impl<'a> Reasons<'a> {
     }
 
     /// Adds that a line of this number of the standard input is not a question.
-    pub(crate) fn add_no_question(&mut self, number: usize) {
+    pub fn add_no_question(&mut self, number: usize) {
         let said = question_reason(self.alloc, number);
         self.add(said);
     }
@@ -394,7 +394,7 @@ impl<'a> Reasons<'a> {
     }
 
     /// Adds the reason for which the script that was read was not explored, up to a number of states.
-    pub(crate) fn add_explore(&mut self, input: &KeptInput, states: usize, fault: &ExploreFault) {
+    pub fn add_explore(&mut self, input: &KeptInput, states: usize, fault: &ExploreFault) {
         let Some(file) = self.file else {
             return;
         };
@@ -406,7 +406,7 @@ impl<'a> Reasons<'a> {
     }
 
     /// Prints the reason of a fault as its line, if that is how it is printed, and returns whether it was.
-    pub(crate) fn tell_line<E: Eprint>(&mut self, err: &E) -> bool {
+    pub fn tell_line<E: Eprint>(&mut self, err: &E) -> bool {
         if !self.is_line || self.text.is_empty() {
             return false;
         }
@@ -420,7 +420,7 @@ impl<'a> Reasons<'a> {
     }
 
     /// Prints them.
-    pub(crate) fn tell<E: Eprint>(&self, err: &E) {
+    pub fn tell<E: Eprint>(&self, err: &E) {
         if self.text.is_empty() {
             return;
         }

@@ -4,7 +4,7 @@ use std::io::{self, Read, Write};
 
 /// The bytes that were read, as far as they could be allocated, and the reason of the last failed read.
 #[derive(Drop)]
-pub(crate) struct KeptInput {
+pub struct KeptInput {
     bytes: Vec<u8>,
     is_whole: bool,
     fault: Vec<u8>,
@@ -47,15 +47,16 @@ impl KeptInput {
 
 /// A reader with the bytes that were read from it.
 #[derive(Drop)]
-pub(crate) struct CopyingReader<R> {
-    inner: R,
-    pub(crate) kept: KeptInput,
+pub struct CopyingReader<R> {
+    pub inner: R,
+    pub kept: KeptInput,
 }
 
 impl<R> CopyingReader<R> {
     ghost use Rattle.std.specs.Prelude.{◌≡◌};
 
-    pub(crate) fn new(alloc: Global, inner: R) -> CopyingReader<R>
+    /// Returns a copying reader over this one, of which nothing was read yet.
+    pub fn new(alloc: Global, inner: R) -> CopyingReader<R>
         ensures { result.inner ≡ inner }
     {
         CopyingReader {

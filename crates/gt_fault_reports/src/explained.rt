@@ -2,45 +2,21 @@
 ghost use Rattle.gt_text.specs.Streams.{OfInput};
 ghost use Rattle.gt_checks.specs.Breaking.{CheckedNever};
 ghost use Rattle.gt_checks.specs.Explaining.{Explained};
-ghost use Rattle.gt_explore.specs.Writing.{Explored};
-ghost use Rattle.gt_script.specs.RunScripts.{RunTells};
-ghost use Rattle.gt_program.specs.Formats.{CheckedAs, ListedAs, ToldAs};
+ghost use Rattle.gt_fault_reports.specs.Formats.{CheckedAs, ListedAs, ToldAs};
 
-use crate::checking::ReportSettings;
 use crate::copying::CopyingReader;
-use crate::formats::{check_as, entries_as, list_as};
+use crate::formats::{ReportSettings, check_as, entries_as, list_as};
 use crate::reasons::Reasons;
 use gt_checks::{BreachFault, NeverText, WhyFault, check_never, why};
 use gt_commands::Format;
 use gt_entries::{DumpFault, DumpOptions};
-use gt_explore::{ExploreFault, ExploreOptions as Searched, explore};
-use gt_explore_verdict::Verdict;
 use gt_policy_check::WhyQuestion;
 use gt_policy_list::ListingFault;
 use std::alloc::Global;
 use std::io::{Read, Write};
 
-/// Answers a request on the texts that the script of a reader may give, and adds the reason of a fault.
-pub(crate) fn explore_explained<R: Read, W: Write>(
-    alloc: Global,
-    asked: &Searched,
-    reader: &mut R,
-    out: &mut W,
-    reasons: &mut Reasons,
-) -> Result<Verdict, ExploreFault>
-    ensures { OfInput (R.remaining reader.old) (λ input.
-        Explored asked.now (RunTells input) (W.contents out.old) (W.contents out.new) result) }
-{
-    let mut input = CopyingReader::new(alloc, reader);
-    let ending = explore(alloc, asked, &mut input, out);
-    if let Err(fault) = &ending {
-        reasons.add_explore(&input.kept, asked.states, fault);
-    }
-    ending
-}
-
 /// Lists what the policy of a reader allows, and adds the reason of a fault, if it is asked for.
-pub(crate) fn list_with_reasons<R: Read, W: Write>(
+pub fn list_with_reasons<R: Read, W: Write>(
     alloc: Global,
     format: Format,
     reader: &mut R,
@@ -62,7 +38,7 @@ pub(crate) fn list_with_reasons<R: Read, W: Write>(
 }
 
 /// Checks the policy of a reader, or its script, and adds the reason of a fault.
-pub(crate) fn check_explained<R: Read, W: Write>(
+pub fn check_explained<R: Read, W: Write>(
     alloc: Global,
     script: bool,
     report: ReportSettings,
@@ -82,7 +58,7 @@ pub(crate) fn check_explained<R: Read, W: Write>(
 }
 
 /// Checks the policy of a reader against `neverallow` statements, and adds the reason of a fault.
-pub(crate) fn check_never_explained<R: Read, W: Write>(
+pub fn check_never_explained<R: Read, W: Write>(
     alloc: Global,
     never: NeverText,
     report: ReportSettings,
@@ -102,7 +78,7 @@ pub(crate) fn check_never_explained<R: Read, W: Write>(
 }
 
 /// Answers a question about the policy of a reader, and adds the reason of a fault.
-pub(crate) fn why_explained<R: Read, W: Write>(
+pub fn why_explained<R: Read, W: Write>(
     alloc: Global,
     file: &str,
     question: &WhyQuestion,
@@ -122,7 +98,7 @@ pub(crate) fn why_explained<R: Read, W: Write>(
 }
 
 /// Prints the entries of the dump of a reader, and adds the reason of a fault, or that it looks like no table.
-pub(crate) fn entries_explained<R: Read, W: Write>(
+pub fn entries_explained<R: Read, W: Write>(
     alloc: Global,
     format: Format,
     asked: DumpOptions,

@@ -1,7 +1,7 @@
 //! Plays and runs of scripts, with their reasons.
 ghost use Rattle.std.specs.Prelude.{is_some};
 ghost use Rattle.gt_text.specs.Streams.{OfInput};
-ghost use Rattle.gt_program.specs.Formats.{PlayedAs, RanAs, Relays};
+ghost use Rattle.gt_fault_reports.specs.Formats.{PlayedAs, RanAs, Relays};
 
 use crate::copying::CopyingReader;
 use crate::formats::{RunSettings, play_as, run_as};
@@ -16,7 +16,7 @@ use std::sync::Wait;
 use std::thread::Threads;
 
 /// Plays the script of a reader, and adds the reasons, if they are asked for.
-pub(crate) fn play_with_reasons<R: Read, W: Write>(
+pub fn play_with_reasons<R: Read, W: Write>(
     alloc: Global,
     format: Format,
     audit: bool,
@@ -53,7 +53,7 @@ fn relay<W: Write>(text: &[u8], ending: Result<(), RunFault>, out: &mut W) -> Re
 
 /// Runs the script of a reader, its domains in threads, and adds the reasons, if they are asked for. In that case the
 /// text is kept in memory and written at the end, since a second run may print another.
-pub(crate) fn run_with_reasons<R: Threads + Wait + Sync, I: Read, W: Write, G: Gate + Sync>(
+pub fn run_with_reasons<R: Threads + Wait + Sync, I: Read, W: Write, G: Gate + Sync>(
     settings: &RunSettings<R, G>,
     reader: &mut I,
     out: &mut W,

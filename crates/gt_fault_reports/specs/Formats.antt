@@ -1,14 +1,13 @@
 -- The output of a command in a format.
 use Rattle.std.specs.Prelude.{◌≡◌, ◌⊎◌, ℕ, Bool, true, false, List, Option, Result, Ok, Err}
 use Rattle.std.specs.Io.KnownBytes.{Appends, Keeps}
-use Rattle.gt_program.specs.Prelude.{DumpOptions, Format, RunTells}
 use Rattle.gt_checks.specs.Checking.{Checked}
 use Rattle.gt_checks.specs.Scripts.{CheckedScript}
 use Rattle.gt_json_commands.specs.AsJson.{Promise, ListedAsJson, PlayedAsJson, RanAsJson, ToldAsJson}
+use Rattle.gt_commands.specs.declared.invocation.Format.{Format}
 use Rattle.gt_commands.specs.declared.invocation.Format.TheVariants.{Text, Json}
-use Rattle.gt_explore_answers.specs.declared.asking.ExploreFormat.{ExploreFormat}
-use Rattle.gt_explore_answers.specs.declared.asking.ExploreFormat.TheVariants as explored
 use Rattle.gt_entries.specs.Dumps.{Told}
+use Rattle.gt_entries.specs.declared.asked.DumpOptions.{DumpOptions}
 use Rattle.gt_entries.specs.declared.fault.DumpFault.{DumpFault}
 use Rattle.gt_host.specs.Playing.{Played}
 use Rattle.gt_host.specs.declared.fault.PlayFault.{PlayFault}
@@ -16,6 +15,7 @@ use Rattle.gt_policy_list.specs.Writing.{Listed}
 use Rattle.gt_policy_list.specs.declared.fault.ListingFault.{ListingFault}
 use Rattle.gt_order.specs.Running.{RanInOrder}
 use Rattle.gt_run.specs.declared.fault.RunFault.{RunFault}
+use Rattle.gt_script.specs.RunScripts.{RunTells}
 use Rattle.gt_script.specs.Script.{TellsScript}
 use Rattle.gt_text.specs.Streams.{AppendsBeginning}
 use Rattle.gt_host.specs.declared.fault.PlayFault.TheVariants as plays
@@ -38,11 +38,6 @@ Relays text (Ok done) old new (Ok sent) = Appends old new text
 Relays text (Ok done) old new (Err fault) = (fault ≡ runs.Play plays.Write) × AppendsBeginning old new text
 Relays text (Err why) old new (Ok sent) = ⊥
 Relays text (Err why) old new (Err fault) = ((fault ≡ runs.Play plays.Memory) ⊎ (fault ≡ why)) × Keeps old new
-
--- the format of an exploration
-abbrev pub explore_format : Format → ExploreFormat
-explore_format Text = explored.Text
-explore_format Json = explored.Json
 
 -- the output of `policy`
 abbrev pub ListedAs : Format → List ℕ → Promise ListingFault

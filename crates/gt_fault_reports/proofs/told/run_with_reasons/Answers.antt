@@ -1,5 +1,5 @@
-use Rattle.gt_program.proofs.RelayLemmas.{relayed}
-use Rattle.gt_program.proofs.told.run_with_reasons.Goals as goal
+use Rattle.gt_fault_reports.proofs.RelayLemmas.{relayed}
+use Rattle.gt_fault_reports.proofs.told.run_with_reasons.Goals as goal
 
 pub returns : goal.returns
 returns g c =
