@@ -1,8 +1,8 @@
-//! The commands of gthost over a reader and a writer, in the two formats of their output, with the reasons of their faults.
+//! The commands of gthost over a reader and a writer, as text or as JSON, with the reasons of their faults.
 //!
-//! [`play_with_reasons`], [`run_with_reasons`] and [`list_with_reasons`] add reasons if they are asked for, and
-//! [`check_explained`], [`check_never_explained`], [`why_explained`] and [`entries_explained`] add that of a fault in any
-//! case. [`Reasons`] collects them, and prints them after the line of a fault or as that line. To give a reason, a
+//! [`play_with_reasons`], [`run_with_reasons`] and [`list_with_reasons`] add reasons if they are asked for.
+//! [`check_explained`], [`check_never_explained`], [`why_explained`] and [`entries_explained`] add that of a fault in
+//! any case. [`Reasons`] collects them, and prints them after the line of a fault or as that line. To give a reason, a
 //! command reads through a [`CopyingReader`], which keeps what it read. [`read_whole`] reads a further text.
 //!
 //! It is proved that the output and the result are those of the command itself, with reasons or without. The texts of

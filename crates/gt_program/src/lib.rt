@@ -12,25 +12,12 @@
 //! tested.
 #![tactic(auto)]
 
-mod checking;
-mod commands;
 mod exploring;
-mod failure;
 mod following;
-mod given;
 mod obeying;
-mod outcome;
-mod questions;
 mod rules;
-mod style;
 mod system;
-mod texts;
 
-pub use checking::CheckKind;
-pub use commands::{Context, Work};
-pub use failure::Failure;
+pub use gt_file_commands::{Context, Outcome, Style, TextSource};
 pub use obeying::{obey, obey_read};
-pub use outcome::{Outcome, outcome_of};
-pub use style::Style;
 pub use system::{System, run};
-pub use texts::TextSource;
